@@ -1,0 +1,3 @@
+pub mod LayoutLemmas
+pub mod LinesLemmas
+pub mod OutputLemmas

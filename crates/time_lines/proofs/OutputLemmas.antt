@@ -1,0 +1,24 @@
+-- Answers, line by line.
+use Rattle.std.proofs.Common.{◌≡◌, ℕ, List, [], ◌∷◌, ◌++◌, refl, sym, ap, ◌∙◌, subst, append_assoc, Option, Result, Ok, Err, OnOk}
+use Rattle.std.specs.Io.KnownBytes.{Appends}
+use Rattle.time_lines.specs.Output.{IsAnswer, AreAnswers, WithLineFeed, Writes}
+use Rattle.time_lines.proofs.LinesLemmas.{Appends-more}
+
+-- an answered line more is written
+pub AreAnswers-more : (lines others all : List (List ℕ)) (line written more : List ℕ) → lines ≡ line ∷ others → WithLineFeed (IsAnswer line) more → ((text : List ℕ) → AreAnswers lines text → AreAnswers all (written ++ text)) → (text : List ℕ) → AreAnswers others text → AreAnswers all ((written ++ more) ++ text)
+AreAnswers-more lines others all line written more cut answered before text after =
+    let answer = answered.0 in
+    let here : AreAnswers (line ∷ others) (answer ++ 10 ∷ text) = (answer, text, answered.1, after, refl) in
+    let joined : written ++ (answer ++ 10 ∷ text) ≡ (written ++ more) ++ text =
+    sym (append_assoc written more text ∙ ap (λ t. written ++ t) (ap (λ t. t ++ text) answered.2 ∙ append_assoc answer (10 ∷ []) text)) in
+    subst (AreAnswers all) joined (before (answer ++ 10 ∷ text) (subst (λ ls. AreAnswers ls (answer ++ 10 ∷ text)) (sym cut) here))
+
+-- LF is written behind a text
+pub Writes-line_feed : {E : Type 0} (r : Result (Unit {0}) E) (P : List ℕ → Type 0) (a b c : Option (List ℕ)) → Writes P a b → OnOk r (Appends b c (10 ∷ [])) → OnOk r (Writes (WithLineFeed P) a c)
+Writes-line_feed (Ok u) P a b c w more = (w.0 ++ 10 ∷ [], (w.0, w.1, refl), Appends-more a b c w.0 (10 ∷ []) w.2 more)
+Writes-line_feed (Err e) P a b c w more = tt
+
+-- a text is written
+pub Writes-text : {E : Type 0} (r : Result (Unit {0}) E) (P : List ℕ → Type 0) (a b : Option (List ℕ)) (text : List ℕ) → P text → OnOk r (Appends a b text) → OnOk r (Writes P a b)
+Writes-text (Ok u) P a b text holds more = (text, holds, more)
+Writes-text (Err e) P a b text holds more = tt

@@ -1,0 +1,24 @@
+-- How numbers and values are laid out.
+use Rattle.std.specs.Prelude.{ℕ, zero, suc, ◌+◌, ◌/◌, ◌%◌, List, [], ◌∷◌, ◌++◌, codes, ℤ, pos, Bool, if◌then◌else◌, int_lt, nat_lt, unsigned_abs}
+use Rattle.std.specs.Fmt.{decimal}
+
+-- the last k decimal digits of n, in front of a text
+unfoldable pub digits_before : ℕ → ℕ → List ℕ → List ℕ
+digits_before zero n text = text
+digits_before (suc k) n text = digits_before k (n / 10) ((48 + n % 10) ∷ text)
+
+-- the last k decimal digits of n
+unfoldable pub fixed : ℕ → ℕ → List ℕ
+fixed k n = digits_before k n []
+
+-- a minus, where one is asked
+abbrev pub minus_if : Bool → List ℕ
+minus_if is_negative = if is_negative then codes "-" else []
+
+-- four digits, or as many as there are past 9999
+abbrev pub four_digits : ℕ → List ℕ
+four_digits n = if nat_lt n 10000 then fixed 4 n else decimal n
+
+-- a year, with four digits at least
+abbrev pub year_text : ℤ → List ℕ
+year_text y = minus_if (int_lt y (pos 0)) ++ four_digits (unsigned_abs y)

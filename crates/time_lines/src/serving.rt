@@ -1,0 +1,126 @@
+//! Answers whole inputs.
+ghost use Rattle.std.specs.Prelude.{◌≡◌, OnOk, IfOk, IfSome};
+ghost use Rattle.time_lines.specs.Output.{IsAnswer, WithLineFeed, Writes, WritesAnswers};
+
+use crate::answers::write_answer;
+use crate::cuts::first_line;
+use arrayvec::ArrayVec;
+use std::alloc::{Allocator, Global};
+use std::io;
+use std::io::{Read, Write};
+
+/// Why the program stopped before its end.
+#[derive(Clone, Copy, Debug, PartialEq, Eq)]
+pub enum Stop {
+    /// A read failed, or the reads of [`serve`] didn't meet the end.
+    Unread,
+    /// The input buffer's growth was refused.
+    Memory,
+    /// A write failed.
+    Unwritten,
+}
+
+impl Stop {
+    /// The exit status: 1 after a failed write, and else 2.
+    pub fn status(&self) -> u8
+        ensures unwritten { self.now ≡ Stop.Unwritten → result ≡ 1 }
+        ensures unread { self.now ≡ Stop.Unread → result ≡ 2 }
+        ensures memory { self.now ≡ Stop.Memory → result ≡ 2 }
+    {
+        match self {
+            Stop::Unread | Stop::Memory => 2,
+            Stop::Unwritten => 1,
+        }
+    }
+}
+
+/// Writes the answer to a line and LF, piece by piece.
+fn write_pieces<W: Write>(line: &[u8], out: &mut W) -> io::Result<()>
+    ensures { OnOk result (Writes (WithLineFeed (IsAnswer line.now)) (W.contents out.old) (W.contents out.new)) }
+{
+    write_answer(line, out)?;
+    out.write_all(b"\n")
+}
+
+/// More bytes than any answer of the library has, with its LF.
+const LONGEST: usize = 128;
+
+/// Writes the answer to a line and LF by one write. An error's name could have any length, so what is
+/// longer than the buffer goes out piece by piece.
+fn write_line<W: Write>(line: &[u8], out: &mut W) -> io::Result<()>
+    ensures { OnOk result (Writes (WithLineFeed (IsAnswer line.now)) (W.contents out.old) (W.contents out.new)) }
+{
+    let mut buffer = ArrayVec::<u8, LONGEST>::new();
+    match write_pieces(line, &mut buffer) {
+        Ok(()) => out.write_all(buffer.as_slice()),
+        Err(_) => write_pieces(line, out),
+    }
+}
+
+/// Writes the answer to each line of the input, and takes no memory.
+///
+/// Lines end with LF; a last line without LF counts, and nothing after a last LF does. After an
+/// `Err`, that of a write, nothing is said of how much was written.
+pub fn run<W: Write>(input: &[u8], out: &mut W) -> Result<(), io::Error>
+    ensures { OnOk result (WritesAnswers (W.contents out.old) (W.contents out.new) input.now) }
+{
+    let mut rest = input;
+    while !rest.is_empty() {
+        let (line, after) = first_line(rest);
+        write_line(line, out)?;
+        rest = after;
+    }
+    Ok(())
+}
+
+const MOST_READS: u64 = 4294967296;
+
+/// All that the reader has left, each read tried once.
+fn read_all<R: Read, A: Allocator>(alloc: A, input: &mut R) -> Result<Vec<u8, A>, Stop>
+    ensures all { IfOk result (λ text. IfSome (R.remaining input.old) (λ bytes. text.items ≡ bytes)) }
+{
+    let mut text = Vec::new(alloc);
+    let mut piece = [0u8; 65536];
+    for _ in 0..MOST_READS {
+        match input.read(&mut piece) {
+            Ok(0) => return Ok(text),
+            Ok(n) => text
+                .extend_from_slice(&piece[..n])
+                .map_err(|_| Stop::Memory)?,
+            Err(_) => return Err(Stop::Unread),
+        }
+    }
+    Err(Stop::Unread)
+}
+
+/// Reads the input to its end, with 4294967296 reads at most, and writes the answer to each of its
+/// lines.
+///
+/// A failed read is not tried again, whatever its error. After [`Stop::Unread`] or [`Stop::Memory`]
+/// nothing was written.
+pub fn serve<R: Read, W: Write>(alloc: Global, input: &mut R, out: &mut W) -> Result<(), Stop>
+    ensures ok { OnOk result (IfSome (R.remaining input.old)
+        (λ bytes. WritesAnswers (W.contents out.old) (W.contents out.new) bytes)) }
+    ensures unread { result ≡ Err Stop.Unread → out.new ≡ out.old }
+    ensures memory { result ≡ Err Stop.Memory → out.new ≡ out.old }
+{
+    serve_in(alloc, input, out)
+}
+
+/// The same with any allocator.
+pub(crate) fn serve_in<R: Read, W: Write, A: Allocator>(
+    alloc: A,
+    input: &mut R,
+    out: &mut W,
+) -> Result<(), Stop>
+    ensures ok { OnOk result (IfSome (R.remaining input.old)
+        (λ bytes. WritesAnswers (W.contents out.old) (W.contents out.new) bytes)) }
+    ensures unread { result ≡ Err Stop.Unread → out.new ≡ out.old }
+    ensures memory { result ≡ Err Stop.Memory → out.new ≡ out.old }
+{
+    let text = read_all(alloc, input)?;
+    match run(text.as_slice(), out) {
+        Ok(()) => Ok(()),
+        Err(_) => Err(Stop::Unwritten),
+    }
+}

@@ -1,0 +1,36 @@
+-- An exact format and a resolution that is one have one outcome.
+use Rattle.std.proofs.Common.{◌≡◌, ◌≢◌, ℕ, List, [], refl, sym, ap, ◌∙◌, subst, inl, inr, ⊎_elim, Result, Ok, Err}
+use Rattle.std.specs.Prelude.{◌⊎◌}
+use Rattle.time_values.specs.Refusal.{Refusal, trailing}
+use Rattle.time_record.specs.Record.{Record}
+use Rattle.time_parsing.specs.Outcome.{IsWhole, IsOutcome, IsExact, OneResolution, OneOutcome}
+
+module _ (R : List ℕ → Record → List ℕ → Record → Type 0) (F : List ℕ → Record → Refusal → Type 0) (exact : IsExact R F) where
+  -- a text that is read whole is not refused
+  whole_or_refused : (b : List ℕ) (r p : Record) (e : Refusal) → R b r [] p → IsWhole R F b r (Err e) → ⊥
+  whole_or_refused b r p e read refused =
+      ⊎_elim (λ here. exact.not_both b r [] p e read here) (λ w. w.3 (exact.one_rest b r w.0 [] w.1 p w.2 read)) refused
+
+  one_refusal : (b : List ℕ) (r : Record) (e f : Refusal) → IsWhole R F b r (Err e) → IsWhole R F b r (Err f) → e ≡ f
+  one_refusal b r e f u v =
+      ⊎_elim
+      (λ here. ⊎_elim (λ there. exact.one_refusal b r e f here there) (λ w. absurd (exact.not_both b r w.0 w.1 e w.2 here)) v)
+      (λ w. ⊎_elim (λ there. absurd (exact.not_both b r w.0 w.1 f w.2 there)) (λ z. w.4 ∙ sym z.4) v) u
+
+  same_record : (b : List ℕ) (r p q : Record) → R b r [] p → R b r [] q → p ≡ q
+  same_record b r p q u v = exact.one_record b r [] [] p q u v
+
+  pub one_outcome : {V : Type 0} (resolves : Record → Result V Refusal → Type 0) → OneResolution resolves → OneOutcome resolves R F
+  one_outcome {V} resolves one b r (Ok v) (Ok w) x y =
+      one y.0 (Ok v) (Ok w) (subst (λ (p : Record). resolves p (Ok v)) (same_record b r x.0 y.0 x.1 y.1) x.2) y.2
+  one_outcome {V} resolves one b r (Ok v) (Err e) x y =
+      ⊎_elim (λ refused. absurd (whole_or_refused b r x.0 e x.1 refused))
+      (λ z. one z.0 (Ok v) (Err e) (subst (λ (p : Record). resolves p (Ok v)) (same_record b r x.0 z.0 x.1 z.1) x.2) z.2) y
+  one_outcome {V} resolves one b r (Err e) (Ok v) x y =
+      ⊎_elim (λ refused. absurd (whole_or_refused b r y.0 e y.1 refused))
+      (λ z. one y.0 (Err e) (Ok v) (subst (λ (p : Record). resolves p (Err e)) (same_record b r z.0 y.0 z.1 y.1) z.2) y.2) x
+  one_outcome {V} resolves one b r (Err e) (Err f) x y =
+      ⊎_elim
+      (λ here. ⊎_elim (λ there. ap Err (one_refusal b r e f here there)) (λ z. absurd (whole_or_refused b r z.0 e z.1 here)) y)
+      (λ w. ⊎_elim (λ there. absurd (whole_or_refused b r w.0 f w.1 there))
+      (λ z. one z.0 (Err e) (Err f) (subst (λ (p : Record). resolves p (Err e)) (same_record b r w.0 z.0 w.1 z.1) w.2) z.2) y) x

@@ -1,0 +1,34 @@
+use Rattle.std.proofs.Common.{◌≡◌, ◌<◌, ◌≤◌, ℕ, Option, Some, None, IfSome, true, arith, subst}
+use Rattle.time_readers.proofs.Keeping.{HasForm-in_places}
+use Rattle.time_parsing.proofs.rfc3339.Rfc3339Parsable.parse_into.Goals as goal
+
+pub put_date-requires-clause-year : goal.put_date-requires-clause-year
+put_date-requires-clause-year c = (HasForm-in_places true c.args.input.now c.in-Ok.found.0.now c.in-Ok.found.1 c.in-Ok.ensures).year
+
+pub put_date-requires-clause-month : goal.put_date-requires-clause-month
+put_date-requires-clause-month c = (HasForm-in_places true c.args.input.now c.in-Ok.found.0.now c.in-Ok.found.1 c.in-Ok.ensures).month
+
+pub put_date-requires-clause-day : goal.put_date-requires-clause-day
+put_date-requires-clause-day c = (HasForm-in_places true c.args.input.now c.in-Ok.found.0.now c.in-Ok.found.1 c.in-Ok.ensures).day
+
+pub put_time-requires-clause-hour : goal.put_time-requires-clause-hour
+put_time-requires-clause-hour c = (HasForm-in_places true c.args.input.now c.in-Ok.found.0.now c.in-Ok.found.1 c.in-Ok.ensures).hour.1
+
+pub put_time-requires-clause-minute : goal.put_time-requires-clause-minute
+put_time-requires-clause-minute c = (HasForm-in_places true c.args.input.now c.in-Ok.found.0.now c.in-Ok.found.1 c.in-Ok.ensures).minute.1
+
+pub put_time-requires-clause-second : goal.put_time-requires-clause-second
+put_time-requires-clause-second c = (HasForm-in_places true c.args.input.now c.in-Ok.found.0.now c.in-Ok.found.1 c.in-Ok.ensures).second.1
+
+pub put_offset-requires-clause-hour : goal.put_offset-requires-clause-hour
+put_offset-requires-clause-hour c = (HasForm-in_places true c.args.input.now c.in-Ok.found.0.now c.in-Ok.found.1 c.in-Ok.ensures).offset_hour
+
+pub put_offset-requires-clause-minute : goal.put_offset-requires-clause-minute
+put_offset-requires-clause-minute c = (HasForm-in_places true c.args.input.now c.in-Ok.found.0.now c.in-Ok.found.1 c.in-Ok.ensures).offset_minute.1
+
+below_second : (o : Option ℕ) → IfSome o (λ v. v ≤ 999999999) → (v : ℕ) → o ≡ Some v → v < 1000000000
+below_second o h v e = let k : v ≤ 999999999 = subst (λ (x : Option ℕ). IfSome x (λ v. v ≤ 999999999)) e h in omega arith
+
+pub put_time-requires-clause-subsecond : goal.put_time-requires-clause-subsecond
+put_time-requires-clause-subsecond c =
+    below_second c.in-Ok.found.1.subsecond (HasForm-in_places true c.args.input.now c.in-Ok.found.0.now c.in-Ok.found.1 c.in-Ok.ensures).subsecond

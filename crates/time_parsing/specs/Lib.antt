@@ -1,0 +1,3 @@
+pub mod Outcome
+pub mod Rfc3339
+pub mod Rfc3339Laws

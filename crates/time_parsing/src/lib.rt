@@ -1,0 +1,8 @@
+//! Parses whole texts into date-time values.
+#![tactic(auto)]
+
+mod parsable;
+mod rfc3339;
+
+pub use parsable::Parsable;
+pub use rfc3339::Rfc3339;

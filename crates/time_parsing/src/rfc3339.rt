@@ -1,0 +1,129 @@
+//! The format of RFC 3339, section 5.6.
+ghost use Rattle.std.specs.Prelude.{◌≡◌, ◌<◌, ◌≤◌, unsigned_abs};
+ghost use Rattle.std.specs.Option.{ForSome};
+ghost use Rattle.std.specs.Int.{IsInRange};
+ghost use Rattle.time_values.specs.Month.{month_number};
+ghost use Rattle.time_values.specs.declared.month.Month.{Month as Month_};
+ghost use Rattle.time_parsing.specs.Rfc3339.{signed, with_date, with_time, with_offset};
+
+use crate::Parsable;
+use std::convert::TryFrom;
+use std::num::NonZero;
+use time_readers::rfc3339::{Numbers, place_fault, read};
+use time_record::Parsed;
+use time_values::error::Parse;
+use time_values::{Month, OffsetDateTime};
+
+/// The format of RFC 3339, as `1985-04-12T23:20:50.52Z`.
+///
+/// Any one byte may stand between the date and the time, and `Z` may be a small letter.
+#[derive(Clone, Copy, Debug, PartialEq, Eq)]
+pub struct Rfc3339;
+
+/// The number with the sign that stood before it.
+#[inline]
+fn with_sign(is_negative: bool, value: u8) -> i8
+    requires { value ≤ 59 }
+    ensures value { result ≡ signed is_negative value }
+    ensures size { unsigned_abs result ≡ value }
+{
+    let value = value as i8;
+    if is_negative { -value } else { value }
+}
+
+/// The month of a number from 1 to 12.
+fn month(number: u8) -> Month
+    requires { IsInRange 1 12 number }
+    ensures { month_number result ≡ number }
+{
+    match NonZero::<u8>::new(number) {
+        Some(number) => match Month::from_number(number) {
+            Ok(month) => month,
+            Err(_) => unreachable!(),
+        },
+        None => unreachable!(),
+    }
+}
+
+/// Puts year, month and day.
+fn put_date(numbers: Numbers, parsed: &mut Parsed)
+    requires year { numbers.year ≤ 9999 }
+    requires month { IsInRange 1 12 numbers.month }
+    requires day { IsInRange 1 31 numbers.day }
+    ensures { (m : Month_) × (month_number m ≡ numbers.month)
+        × (parsed.new ≡ with_date numbers m parsed.old) }
+{
+    let month = month(numbers.month);
+    let Some(day) = NonZero::<u8>::new(numbers.day) else {
+        unreachable!()
+    };
+    parsed.set_year(i32::from(numbers.year));
+    parsed.set_month(month);
+    parsed.set_day(day);
+}
+
+/// Puts hour, minute, second and, where it stands, the fraction of the second.
+fn put_time(numbers: Numbers, parsed: &mut Parsed)
+    requires hour { numbers.hour ≤ 23 }
+    requires minute { numbers.minute ≤ 59 }
+    requires second { numbers.second ≤ 60 }
+    requires subsecond { ForSome numbers.subsecond (λ v. v < 1_000_000_000) }
+    ensures { parsed.new ≡ with_time numbers parsed.old }
+{
+    parsed.set_hour_24(numbers.hour);
+    parsed.set_minute(numbers.minute);
+    parsed.set_second(numbers.second);
+    if let Some(subsecond) = numbers.subsecond {
+        parsed.set_subsecond(subsecond);
+    }
+}
+
+/// Puts the offset, and forgets the sign that an offset hour of a description had left.
+fn put_offset(numbers: Numbers, parsed: &mut Parsed)
+    requires hour { numbers.offset_hour ≤ 23 }
+    requires minute { numbers.offset_minute ≤ 59 }
+    ensures { parsed.new ≡ with_offset numbers parsed.old }
+{
+    let is_negative = numbers.offset_is_negative;
+    parsed.forget_offset_sign();
+    parsed.set_offset_hour(with_sign(is_negative, numbers.offset_hour));
+    parsed.set_offset_minute_signed(with_sign(is_negative, numbers.offset_minute));
+    if numbers.is_utc {
+        parsed.set_offset_second_signed(0);
+    }
+}
+
+impl Parsable for Rfc3339 {
+    ghost use Rattle.time_parsing.specs.Rfc3339.{Reads, Refuses};
+
+    ghost reads = { λ _. Reads };
+
+    ghost refuses = { λ _. Refuses };
+
+    fn parse_into<'a>(&self, input: &'a [u8], parsed: &mut Parsed) -> Result<&'a [u8], Parse> {
+        match read::<true>(input) {
+            Ok(found) => {
+                put_date(found.1, parsed);
+                put_time(found.1, parsed);
+                put_offset(found.1, parsed);
+                Ok(found.0)
+            }
+            Err(place) => Err(place_fault(place).into()),
+        }
+    }
+
+    fn parse_offset_date_time(
+        &self,
+        input: &[u8],
+        defaults: Option<Parsed>,
+    ) -> Result<OffsetDateTime, Parse> {
+        match self.parse_internal(input, defaults) {
+            Ok(parsed) => Ok(OffsetDateTime::try_from(parsed)?),
+            Err(e) => Err(e),
+        }
+    }
+
+    ghost use Rattle.time_parsing.specs.Rfc3339Laws.{rfc3339_exact};
+
+    ghost exact = { λ _. rfc3339_exact };
+}

@@ -1,0 +1,9 @@
+pub mod CutLemmas
+pub mod Runs
+pub mod PaddedRuns
+pub mod Walking
+pub mod Zulu
+pub mod Fractions
+pub mod Keeping
+pub mod OneReading
+pub mod OneForm

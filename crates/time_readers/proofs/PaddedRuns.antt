@@ -1,0 +1,82 @@
+-- Runs of digits under a padding.
+use Rattle.std.proofs.Common.{◌≡◌, ℕ, zero, suc, ◌+◌, ◌-◌, ◌^◌, ◌<◌, ◌≤◌, ◌⊎◌, List, ◌∷◌, ◌++◌, replicate, refl, ap, sym, ◌∙◌, inl, inr, arith, subst, append_assoc, Option, Some, None, MatchOption}
+use Rattle.time_readers.specs.declared.Padding.{Padding}
+use Rattle.time_readers.specs.declared.Padding.TheVariants as padding
+use Rattle.time_readers.specs.Cuts.{Cut, NoCut}
+use Rattle.time_readers.specs.Digits.{NoSpaceFirst, IsDigitRun, IsSpacedRun, IsPaddedRun, IsDigitRunUpTo, IsPaddedRunUpTo}
+use Rattle.time_readers.proofs.Runs.{IsDigitRun-unique, IsDigitRun-below, pow-mono}
+
+no_space : (x y : List ℕ) → x ≡ 32 ∷ y → NoSpaceFirst x → ⊥
+no_space x y e h = subst NoSpaceFirst e h refl
+
+-- Two paddings of one text are one, from `done` spaces on.
+one_padding : (k j : ℕ) (x y : List ℕ) (done most : ℕ) → replicate k 32 ++ x ≡ replicate j 32 ++ y → done + k ≤ most → done + j ≤ most → (done + k ≡ most) ⊎ NoSpaceFirst x → (done + j ≡ most) ⊎ NoSpaceFirst y → (k ≡ j) × (x ≡ y)
+one_padding zero zero x y n m e lk lj ek ej = (refl, e)
+one_padding zero (suc j) x y n m e lk lj (inl all) ej = absurd (omega arith)
+one_padding zero (suc j) x y n m e lk lj (inr ends) ej = absurd (no_space x (replicate j 32 ++ y) e ends)
+one_padding (suc k) zero x y n m e lk lj ek (inl all) = absurd (omega arith)
+one_padding (suc k) zero x y n m e lk lj ek (inr ends) = absurd (no_space y (replicate k 32 ++ x) (sym e) ends)
+one_padding (suc k) (suc j) x y n m e lk lj ek ej =
+    let tails : replicate k 32 ++ x ≡ replicate j 32 ++ y = cc in
+    let ek' : ((n + 1) + k ≡ m) ⊎ NoSpaceFirst x = elim ek [ inl q ↦ inl (omega arith) | inr q ↦ inr q ] in
+    let ej' : ((n + 1) + j ≡ m) ⊎ NoSpaceFirst y = elim ej [ inl q ↦ inl (omega arith) | inr q ↦ inr q ] in
+    let is = one_padding k j x y (n + 1) m tails (omega arith) (omega arith) ek' ej' in
+    (ap suc is.0, is.1)
+
+-- the spaces of a padded text are as many as stand there
+spaces_same : (least most : ℕ) (s tail text rest : List ℕ) (k v : ℕ) → s ≡ replicate k 32 ++ tail → k ≤ least - 1 → (k ≡ least - 1) ⊎ NoSpaceFirst tail → s ≡ text ++ rest → (run : IsSpacedRun least most text rest v) → (k ≡ run.spaces) × (tail ≡ run.digits ++ rest)
+spaces_same least most s tail text rest k v cut few all e run =
+    let whole : s ≡ replicate run.spaces 32 ++ (run.digits ++ rest) = e ∙ ap (λ t. t ++ rest) run.cut ∙ append_assoc (replicate run.spaces 32) run.digits rest in
+    let here : (0 + k ≡ least - 1) ⊎ NoSpaceFirst tail = elim all [ inl q ↦ inl (omega arith) | inr q ↦ inr q ] in
+    let there : (0 + run.spaces ≡ least - 1) ⊎ NoSpaceFirst (run.digits ++ rest) = elim run.all [ inl q ↦ inl (omega arith) | inr q ↦ inr q ] in
+    one_padding k run.spaces tail (run.digits ++ rest) 0 (least - 1) (sym cut ∙ whole) (omega arith) (omega (arith, run.few)) here there
+
+spaced_cut : (greatest least most k : ℕ) (s tail rest : List ℕ) (v : ℕ) → s ≡ replicate k 32 ++ tail → k ≤ least - 1 → (k ≡ least - 1) ⊎ NoSpaceFirst tail → Cut (IsDigitRunUpTo greatest (least - k) (most - k)) tail rest v → Cut (IsPaddedRunUpTo greatest padding.Space least most) s rest v
+spaced_cut greatest least most k s tail rest v cut few all found = (
+  replicate k 32 ++ found.0,
+  cut ∙ ap (λ t. replicate k 32 ++ t) found.1 ∙ sym (append_assoc (replicate k 32) found.0 rest),
+  (
+    record {
+      spaces = k;
+      digits = found.0;
+      cut = refl;
+      few = few;
+      all = elim all [ inl q ↦ inl q | inr q ↦ inr (subst NoSpaceFirst found.1 q) ];
+      run = found.2.0;
+    },
+    found.2.1,
+  ),
+)
+
+spaced_none : (greatest least most k : ℕ) (s tail : List ℕ) → s ≡ replicate k 32 ++ tail → k ≤ least - 1 → (k ≡ least - 1) ⊎ NoSpaceFirst tail → NoCut (IsDigitRunUpTo greatest (least - k) (most - k)) tail → NoCut (IsPaddedRunUpTo greatest padding.Space least most) s
+spaced_none greatest least most k s tail cut few all none text rest v e (run, small) =
+    let same = spaces_same least most s tail text rest k v cut few all e run in
+    none run.digits rest v same.1 (subst (λ n. IsDigitRun (least - n) (most - n) run.digits rest v) (sym same.0) run.run, small)
+
+-- the answer on what follows the spaces is the answer on the text
+pub after_spaces : {A : Type 0} (item : A → List ℕ) (value : A → ℕ) (greatest least most k : ℕ) (s tail : List ℕ) (answer : Option A) → s ≡ replicate k 32 ++ tail → k ≤ least - 1 → (k ≡ least - 1) ⊎ NoSpaceFirst tail → MatchOption answer (NoCut (IsDigitRunUpTo greatest (least - k) (most - k)) tail) (λ p. Cut (IsDigitRunUpTo greatest (least - k) (most - k)) tail (item p) (value p)) → MatchOption answer (NoCut (IsPaddedRunUpTo greatest padding.Space least most) s) (λ p. Cut (IsPaddedRunUpTo greatest padding.Space least most) s (item p) (value p))
+after_spaces item value greatest least most k s tail None cut few all none = spaced_none greatest least most k s tail cut few all none
+after_spaces item value greatest least most k s tail (Some p) cut few all found = spaced_cut greatest least most k s tail (item p) (value p) cut few all found
+
+IsSpacedRun-unique : (least most : ℕ) (a b x y : List ℕ) (v w : ℕ) → IsSpacedRun least most a x v → IsSpacedRun least most b y w → a ++ x ≡ b ++ y → (x ≡ y) × (v ≡ w)
+IsSpacedRun-unique least most a b x y v w p q e =
+    let whole : a ++ x ≡ replicate p.spaces 32 ++ (p.digits ++ x) = ap (λ t. t ++ x) p.cut ∙ append_assoc (replicate p.spaces 32) p.digits x in
+    let same = spaces_same least most (a ++ x) (p.digits ++ x) b y p.spaces w whole p.few p.all e q in
+    let run = subst (λ n. IsDigitRun (least - n) (most - n) p.digits x v) same.0 p.run in
+    let is = IsDigitRun-unique (least - q.spaces) (least - q.spaces) (most - q.spaces) p.digits q.digits x y v w run q.run same.1 in
+    (is.1, is.2)
+
+-- at most one cut of a text is a run under the padding
+pub IsPaddedRun-unique : (padding : Padding) (least most : ℕ) (a b x y : List ℕ) (v w : ℕ) → IsPaddedRun padding least most a x v → IsPaddedRun padding least most b y w → a ++ x ≡ b ++ y → (x ≡ y) × (v ≡ w)
+IsPaddedRun-unique padding.Space least most a b x y v w p q e = IsSpacedRun-unique least most a b x y v w p q e
+IsPaddedRun-unique padding.Zero least most a b x y v w p q e = let is = IsDigitRun-unique least least most a b x y v w p q e in (is.1, is.2)
+IsPaddedRun-unique padding.None least most a b x y v w p q e = let is = IsDigitRun-unique 1 1 most a b x y v w p q e in (is.1, is.2)
+
+-- a run of so many places has at most so many values
+pub IsPaddedRun-below : (padding : Padding) (least most : ℕ) (text rest : List ℕ) (v : ℕ) → IsPaddedRun padding least most text rest v → v < 10 ^ most
+IsPaddedRun-below padding.Space least most text rest v p =
+    let below = IsDigitRun-below (least - p.spaces) (most - p.spaces) p.digits rest v p.run in
+    let wide = pow-mono (most - p.spaces) most (omega arith) in
+    omega arith
+IsPaddedRun-below padding.Zero least most text rest v p = IsDigitRun-below least most text rest v p
+IsPaddedRun-below padding.None least most text rest v p = IsDigitRun-below 1 most text rest v p

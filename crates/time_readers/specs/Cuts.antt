@@ -1,0 +1,14 @@
+-- What a reader answers of its input: a text that stands first, what follows it, and a value.
+use Rattle.std.specs.Prelude.{◌≡◌, ℕ, List, ◌++◌}
+
+-- the input begins with a text that spells the value, and the rest follows it
+abbrev pub Cut : {V : Type 0} → (List ℕ → List ℕ → V → Type 0) → List ℕ → List ℕ → V → Type 0
+Cut S input rest v = (text : List ℕ) × (input ≡ text ++ rest) × S text rest v
+
+-- no beginning of the input spells a value
+abbrev pub NoCut : {V : Type 0} → (List ℕ → List ℕ → V → Type 0) → List ℕ → Type 0
+NoCut {V} S input = (text rest : List ℕ) (v : V) → input ≡ text ++ rest → S text rest v → ⊥
+
+-- for one input at most one cut spells a value
+abbrev pub AtMostOneCut : {V : Type 0} → (List ℕ → List ℕ → V → Type 0) → Type 0
+AtMostOneCut {V} S = (input x y : List ℕ) (v w : V) → Cut S input x v → Cut S input y w → (x ≡ y) × (v ≡ w)

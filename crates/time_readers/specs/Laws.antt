@@ -1,0 +1,22 @@
+-- Laws of the definitions, each proved by the function of module `laws` that has it as its contract.
+use Rattle.std.specs.Prelude.{◌≡◌, ℕ, List, Bool}
+use Rattle.time_readers.specs.declared.Padding.{Padding}
+use Rattle.time_readers.specs.Cuts.{AtMostOneCut}
+use Rattle.time_readers.specs.Digits.{IsDigitRun, IsPaddedRun}
+use Rattle.time_readers.specs.declared.rfc3339.Numbers.{Numbers}
+use Rattle.time_readers.specs.declared.rfc3339.Place.{Place}
+use Rattle.time_readers.specs.Rfc3339.{HasForm, FailsAt}
+
+-- for one input at most one cut is a run of digits
+abbrev pub OneDigitRun : Type 0
+OneDigitRun = (least most : ℕ) → AtMostOneCut (IsDigitRun least most)
+
+-- for one input at most one cut is a run of digits under the padding
+abbrev pub OnePaddedRun : Type 0
+OnePaddedRun = (padding : Padding) (least most : ℕ) → AtMostOneCut (IsPaddedRun padding least most)
+
+-- the bytes have one reading by the places of RFC 3339 or one first place that doesn't stand, and never both
+pub record OneForm (ranged : Bool) (bytes : List ℕ) : Type 0 where
+  pub one_reading : (x y : List ℕ) (n m : Numbers) → HasForm ranged bytes x n → HasForm ranged bytes y m → (x ≡ y) × (n ≡ m)
+  pub one_place : (p q : Place) → FailsAt ranged bytes p → FailsAt ranged bytes q → p ≡ q
+  pub never_both : (x : List ℕ) (n : Numbers) (p : Place) → HasForm ranged bytes x n → ¬ FailsAt ranged bytes p

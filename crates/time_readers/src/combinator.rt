@@ -1,0 +1,291 @@
+//! Readers of signs, digits and single bytes.
+//!
+//! Each answers the unread rest and the value exactly where its input begins with such a text, and `None`
+//! else. A run of digits takes as many as it may, and nothing goes back.
+ghost use Rattle.std.specs.Prelude.{◌≡◌, ◌-◌, ◌^◌, ◌≤◌, ◌⊎◌, ℕ, List, ◌++◌, MatchOption, IsTrue, ◌↔◌, length, drop, replicate};
+ghost use Rattle.time_readers.specs.Cuts.{Cut, NoCut};
+ghost use Rattle.time_readers.specs.Digits.{IsDigit, AllDigits, NoDigitFirst, NoSpaceFirst, IsDigitRun, IsDigitRunUpTo, IsPaddedRunUpTo, IsFraction};
+ghost use Rattle.time_readers.specs.Bytes.{IsByte, IsByteIgnoringCase, IsDigitByte, IsSign};
+
+use crate::{Integer, Padding, ParsedItem, Sign};
+
+// How many nanoseconds a one counts so many places after the point of a second.
+const NANOSECONDS_OF_PLACE: [u32; 10] = [
+    1_000_000_000,
+    100_000_000,
+    10_000_000,
+    1_000_000,
+    100_000,
+    10_000,
+    1_000,
+    100,
+    10,
+    1,
+];
+
+/// Reads a sign, `-` or `+`.
+#[inline]
+pub fn sign(input: &[u8]) -> Option<ParsedItem<'_, Sign>>
+    ensures { MatchOption result
+        (NoCut IsSign input.now)
+        (λ p. Cut IsSign input.now p.0.now p.1) }
+{
+    match input {
+        [b'-', rest @ ..] => Some(ParsedItem(rest, Sign::Negative)),
+        [b'+', rest @ ..] => Some(ParsedItem(rest, Sign::Positive)),
+        _ => None,
+    }
+}
+
+/// Reads `N` to `M` digits, as many as stand there, and answers their decimal value. `None` also where
+/// the value is greater than the greatest number of `T`.
+#[inline]
+pub fn n_to_m_digits<const N: u8, const M: u8, T: Integer>(
+    input: &[u8],
+) -> Option<ParsedItem<'_, T>>
+    requires least { 1 ≤ N }
+    requires ordered { N ≤ M }
+    requires most { M ≤ T.MAX_NUM_DIGITS }
+    ensures { MatchOption result
+        (NoCut (IsDigitRunUpTo T.greatest N M) input.now)
+        (λ p. Cut (IsDigitRunUpTo T.greatest N M) input.now p.0.now (T.value p.1)) }
+{
+    digit_run(input, usize::from(N), usize::from(M))
+}
+
+/// Reads one or two digits, as many as stand there, and answers their decimal value.
+#[inline]
+pub fn one_or_two_digits(input: &[u8]) -> Option<ParsedItem<'_, u8>>
+    ensures { MatchOption result
+        (NoCut (IsDigitRun 1 2) input.now)
+        (λ p. Cut (IsDigitRun 1 2) input.now p.0.now p.1) }
+{
+    match input {
+        [a @ b'0'..=b'9', b @ b'0'..=b'9', rest @ ..] => {
+            Some(ParsedItem(rest, 10 * (*a - b'0') + (*b - b'0')))
+        }
+        [a @ b'0'..=b'9', rest @ ..] => Some(ParsedItem(rest, *a - b'0')),
+        _ => None,
+    }
+}
+
+/// Reads exactly two digits, and answers their decimal value.
+#[inline]
+pub(crate) fn two_digits(input: &[u8]) -> Option<ParsedItem<'_, u8>>
+    ensures { MatchOption result
+        (NoCut (IsDigitRun 2 2) input.now)
+        (λ p. Cut (IsDigitRun 2 2) input.now p.0.now p.1) }
+{
+    match input {
+        [a @ b'0'..=b'9', b @ b'0'..=b'9', rest @ ..] => {
+            Some(ParsedItem(rest, 10 * (*a - b'0') + (*b - b'0')))
+        }
+        _ => None,
+    }
+}
+
+/// Reads exactly four digits, and answers their decimal value.
+#[inline]
+pub(crate) fn four_digits(input: &[u8]) -> Option<ParsedItem<'_, u16>>
+    ensures { MatchOption result
+        (NoCut (IsDigitRun 4 4) input.now)
+        (λ p. Cut (IsDigitRun 4 4) input.now p.0.now p.1) }
+{
+    match input {
+        [
+            a @ b'0'..=b'9',
+            b @ b'0'..=b'9',
+            c @ b'0'..=b'9',
+            d @ b'0'..=b'9',
+            rest @ ..,
+        ] => {
+            let high = u16::from(10 * (*a - b'0') + (*b - b'0'));
+            let low = u16::from(10 * (*c - b'0') + (*d - b'0'));
+            Some(ParsedItem(rest, 100 * high + low))
+        }
+        _ => None,
+    }
+}
+
+/// Reads exactly `N` digits, 1 to 9 of them, and answers their decimal value.
+#[inline]
+pub fn exactly_n_digits<const N: u8>(input: &[u8]) -> Option<ParsedItem<'_, u32>>
+    requires least { 1 ≤ N }
+    requires most { N ≤ 9 }
+    ensures { MatchOption result
+        (NoCut (IsDigitRun N N) input.now)
+        (λ p. Cut (IsDigitRun N N) input.now p.0.now p.1) }
+{
+    digit_run(input, usize::from(N), usize::from(N))
+}
+
+/// Reads exactly `N` digits under the padding: with [`Padding::None`] 1 to `N` digits, with
+/// [`Padding::Zero`] `N` digits, and with [`Padding::Space`] up to `N - 1` spaces and digits in the places
+/// left. `None` also where the value is greater than the greatest number of `T`.
+#[inline]
+pub fn exactly_n_digits_padded<const N: u8, T: Integer>(
+    input: &[u8],
+    padding: Padding,
+) -> Option<ParsedItem<'_, T>>
+    requires least { 1 ≤ N }
+    requires most { N ≤ T.MAX_NUM_DIGITS }
+    ensures { MatchOption result
+        (NoCut (IsPaddedRunUpTo T.greatest padding N N) input.now)
+        (λ p. Cut (IsPaddedRunUpTo T.greatest padding N N) input.now p.0.now (T.value p.1)) }
+{
+    n_to_m_digits_padded::<N, N, T>(input, padding)
+}
+
+/// Reads `N` to `M` digits under the padding: with [`Padding::None`] 1 to `M` digits, with
+/// [`Padding::Zero`] `N` to `M` digits, and with [`Padding::Space`] spaces, as many as stand there and at
+/// most `N - 1`, and digits in the places left, `N` to `M` places in all. `None` also where the value is
+/// greater than the greatest number of `T`.
+#[inline]
+pub fn n_to_m_digits_padded<const N: u8, const M: u8, T: Integer>(
+    input: &[u8],
+    padding: Padding,
+) -> Option<ParsedItem<'_, T>>
+    requires least { 1 ≤ N }
+    requires ordered { N ≤ M }
+    requires most { M ≤ T.MAX_NUM_DIGITS }
+    ensures { MatchOption result
+        (NoCut (IsPaddedRunUpTo T.greatest padding N M) input.now)
+        (λ p. Cut (IsPaddedRunUpTo T.greatest padding N M) input.now p.0.now (T.value p.1)) }
+{
+    let least = usize::from(N);
+    let most = usize::from(M);
+    match padding {
+        Padding::None => digit_run(input, 1, most),
+        Padding::Space => {
+            let spaces = leading_spaces(input, least - 1);
+            digit_run(&input[spaces..], least - spaces, most - spaces)
+        }
+        Padding::Zero => digit_run(input, least, most),
+    }
+}
+
+/// Reads one digit, and answers its byte.
+#[inline]
+pub fn any_digit(input: &[u8]) -> Option<ParsedItem<'_, u8>>
+    ensures { MatchOption result
+        (NoCut IsDigitByte input.now)
+        (λ p. Cut IsDigitByte input.now p.0.now p.1) }
+{
+    match input {
+        [digit @ b'0'..=b'9', rest @ ..] => Some(ParsedItem(rest, *digit)),
+        _ => None,
+    }
+}
+
+/// Reads the byte `C`.
+#[inline]
+pub fn ascii_char<const C: u8>(input: &[u8]) -> Option<ParsedItem<'_, ()>>
+    ensures { MatchOption result
+        (NoCut (IsByte C) input.now)
+        (λ p. Cut (IsByte C) input.now p.0.now p.1) }
+{
+    match input {
+        [first, rest @ ..] if *first == C => Some(ParsedItem(rest, ())),
+        _ => None,
+    }
+}
+
+/// Reads the byte `C`, in either case where it is an ASCII letter.
+#[inline]
+pub fn ascii_char_ignore_case<const C: u8>(input: &[u8]) -> Option<ParsedItem<'_, ()>>
+    ensures { MatchOption result
+        (NoCut (IsByteIgnoringCase C) input.now)
+        (λ p. Cut (IsByteIgnoringCase C) input.now p.0.now p.1) }
+{
+    match input {
+        [first, rest @ ..] if first.eq_ignore_ascii_case(&C) => Some(ParsedItem(rest, ())),
+        _ => None,
+    }
+}
+
+#[inline]
+fn is_digit(byte: u8) -> bool
+    ensures { IsTrue result ↔ IsDigit byte }
+{
+    byte >= b'0' && byte <= b'9'
+}
+
+// How many nanoseconds a one counts so many places after the point of a second.
+#[inline]
+fn nanoseconds_of_place(digits: usize) -> u32
+    requires { digits ≤ 9 }
+    ensures { result ≡ 10 ^ (9 - digits) }
+{
+    NANOSECONDS_OF_PLACE[digits]
+}
+
+/// Reads the digits of a fraction of a second, as many as stand there, and answers nanoseconds: nine
+/// digits count, later ones are dropped.
+#[inline]
+pub(crate) fn fraction(input: &[u8]) -> Option<ParsedItem<'_, u32>>
+    ensures { MatchOption result
+        (NoCut IsFraction input.now)
+        (λ p. Cut IsFraction input.now p.0.now p.1) }
+{
+    let Some(found) = n_to_m_digits::<1, 9, u32>(input) else {
+        return None;
+    };
+    let count = input.len() - found.0.len();
+    let nanoseconds = found.1 * nanoseconds_of_place(count);
+    Some(ParsedItem(without_digits(found.0), nanoseconds))
+}
+
+// What follows the digits with which the input begins.
+#[inline]
+fn without_digits(input: &[u8]) -> &[u8]
+    ensures { (digits : List ℕ) × (input.now ≡ digits ++ result.now) × AllDigits digits × NoDigitFirst result.now }
+{
+    let mut rest = input;
+    while let [b'0'..=b'9', tail @ ..] = rest {
+        rest = tail;
+    }
+    rest
+}
+
+// The run of digits with which the input begins, if it is long enough and its value fits.
+#[inline]
+fn digit_run<T: Integer>(input: &[u8], least: usize, most: usize) -> Option<ParsedItem<'_, T>>
+    requires { most ≤ T.MAX_NUM_DIGITS }
+    ensures { MatchOption result
+        (NoCut (IsDigitRunUpTo T.greatest least most) input.now)
+        (λ p. Cut (IsDigitRunUpTo T.greatest least most) input.now p.0.now (T.value p.1)) }
+{
+    let mut value = T::ZERO;
+    let mut count = 0;
+    while count < most && count < input.len() && is_digit(input[count]) {
+        let digit = input[count] - b'0';
+        count += 1;
+        if count < usize::from(T::MAX_NUM_DIGITS) {
+            value = value.push_digit(digit);
+        } else {
+            let Some(pushed) = value.checked_push_digit(digit) else {
+                return None;
+            };
+            value = pushed;
+        }
+    }
+    if count < least {
+        return None;
+    }
+    Some(ParsedItem(&input[count..], value))
+}
+
+// How many spaces the input begins with, counted up to `most`.
+#[inline]
+fn leading_spaces(input: &[u8], most: usize) -> usize
+    ensures in_range { result ≤ length input.now }
+    ensures within { result ≤ most }
+    ensures spaces { input.now ≡ replicate result 32 ++ drop result input.now }
+    ensures all { (result ≡ most) ⊎ NoSpaceFirst (drop result input.now) }
+{
+    let mut count = 0;
+    while count < most && count < input.len() && input[count] == b' ' {
+        count += 1;
+    }
+    count
+}

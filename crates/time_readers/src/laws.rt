@@ -1,0 +1,20 @@
+//! Laws of the definitions that the contracts of this crate cite: each function does nothing, and its
+//! contract is the law.
+ghost use Rattle.std.specs.Prelude.{ℕ, List, Bool};
+ghost use Rattle.time_readers.specs.Laws.{OneDigitRun, OnePaddedRun, OneForm};
+
+/// For one input at most one beginning is a run of digits, with one value.
+pub fn law_one_digit_run()
+    ensures { OneDigitRun }
+{}
+
+/// For one input at most one beginning is a run of digits under a padding, with one value.
+pub fn law_one_padded_run()
+    ensures { OnePaddedRun }
+{}
+
+/// By the places of RFC 3339 bytes have one reading, or one first place that doesn't stand, and never
+/// both.
+pub fn law_one_form()
+    ensures { (ranged : Bool) (bytes : List ℕ) → OneForm ranged bytes }
+{}

@@ -1,0 +1,4 @@
+pub mod RowLemmas
+pub mod WeekDates
+pub mod Stamps
+pub mod ResolutionLemmas

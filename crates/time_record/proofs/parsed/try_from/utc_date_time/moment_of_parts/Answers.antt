@@ -1,0 +1,61 @@
+use Rattle.std.proofs.Common.{inl, inr, refl, sym, ◌∙◌, rules}
+use Rattle.std.proofs.lemmas.Bool.{false≢true}
+use Rattle.std.proofs.lemmas.Result.{err_from_is_err_and}
+use Rattle.time_record.proofs.parsed.try_from.utc_date_time.moment_of_parts.Goals as goal
+use Rattle.time_record.proofs.parsed.try_from.utc_date_time.moment_of_parts.Goals.{else-is_leap_second-via-then-is_leap_second+else-not-is_valid_leap_second_stand_in, else-is_leap_second-via-else-is_leap_second}
+
+pub returns-in_err-time : goal.returns-in_err-time
+returns-in_err-time c =
+    let p = err_from_is_err_and c.from_residual-in_err-time.result c.from_residual-in_err-time.ensures.1 in
+    let timed = rw c.stand_in.ensures at c.in_err-time.ensures in
+    rw (p.1, p.2) (inr (c.in_ok-date.date, c.in_ok-date.ensures, inl (_, timed, refl)))
+
+pub returns-in_err-offset : goal.returns-in_err-offset
+returns-in_err-offset c =
+    let p = err_from_is_err_and c.from_residual-in_err-offset.result c.from_residual-in_err-offset.ensures.1 in
+    let timed = rw c.stand_in.ensures at c.in_ok-time.ensures in
+    rw (p.1, p.2) (inr (c.in_ok-date.date, c.in_ok-date.ensures, inr (c.in_ok-time.time, timed, inl (_, c.in_err-offset.ensures, refl))))
+
+pub returns-in_err-moment : goal.returns-in_err-moment
+returns-in_err-moment c =
+    let p = err_from_is_err_and c.from_residual-in_err-moment.result c.from_residual-in_err-moment.ensures.1 in
+    let timed = rw c.stand_in.ensures at c.in_ok-time.ensures in
+    let parts = c.new_in_offset.ensures in
+    let refused = rw (parts.date, parts.time, parts.offset) at c.in_err-moment.ensures in
+    rw (p.1, p.2) (inr (c.in_ok-date.date, c.in_ok-date.ensures, inr (c.in_ok-time.time, timed, inr (c.in_ok-offset.offset, c.in_ok-offset.ensures, inl (_, refused, refl)))))
+
+pub returns-then-not-is_valid_leap_second_stand_in : goal.returns-then-not-is_valid_leap_second_stand_in
+returns-then-not-is_valid_leap_second_stand_in c =
+    let timed = rw c.stand_in.ensures at c.in_ok-time.ensures in
+    let parts = c.new_in_offset.ensures in
+    let seen = rw (parts.date, parts.time, parts.offset) at c.in_ok-moment.ensures in
+    inr (c.in_ok-date.date, c.in_ok-date.ensures, inr (c.in_ok-time.time, timed, inr (c.in_ok-offset.offset, c.in_ok-offset.ensures, inr (c.in_ok-moment.moment, seen, (sym c.is_leap_second.ensures ∙ c.if-is_leap_second.true, λ end. let found = c.is_valid_leap_second_stand_in.ensures.1 end in cc, c.misplaced.ensures)))))
+
+pub returns : goal.returns
+returns c =
+    let timed = rw c.stand_in.ensures at c.in_ok-time.ensures in
+    let parts = c.new_in_offset.ensures in
+    let seen = rw (parts.date, parts.time, parts.offset) at c.in_ok-moment.ensures in
+    inr (
+      c.in_ok-date.date,
+      c.in_ok-date.ensures,
+      inr (
+        c.in_ok-time.time,
+        timed,
+        inr (
+          c.in_ok-offset.offset,
+          c.in_ok-offset.ensures,
+          inr (
+            c.in_ok-moment.moment,
+            seen,
+            (
+              (refl, refl),
+              λ leap. elim c.else-is_leap_second.branch [
+                | else-is_leap_second-via-then-is_leap_second+else-not-is_valid_leap_second_stand_in w ↦ w.is_valid_leap_second_stand_in.ensures.0 (search rules)
+                | else-is_leap_second-via-else-is_leap_second w ↦ let e = sym c.is_leap_second.ensures ∙ w.if-is_leap_second.false in absurd (false≢true (sym e ∙ leap))
+              ],
+            ),
+          ),
+        ),
+      ),
+    )

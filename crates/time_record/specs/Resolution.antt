@@ -1,0 +1,161 @@
+-- The values that a record's components make, by a fixed precedence. `Y` is the greatest year.
+use Rattle.std.specs.Prelude.{◌≡◌, ℕ, ◌+◌, ◌%◌, ◌==◌, ◌&&◌, ℤ, pos, Bool, true, false, IsTrue, if◌then◌else◌, Option, Some, None, unwrap_or, Result, Ok, Err, MatchOption, IsOkAnd, ◌⊎◌, codes}
+use Rattle.std.specs.Option.{option_map, option_map_or, option_and_then}
+use Rattle.time_values.specs.declared.date.Date.{Date}
+use Rattle.time_values.specs.declared.time.Time.{Time}
+use Rattle.time_values.specs.declared.utc_offset.UtcOffset.{UtcOffset}
+use Rattle.time_values.specs.declared.timestamp.Timestamp.{Timestamp}
+use Rattle.time_values.specs.declared.utc_date_time.UtcDateTime.{UtcDateTime}
+use Rattle.time_values.specs.declared.plain_date_time.PlainDateTime.{PlainDateTime}
+use Rattle.time_values.specs.declared.offset_date_time.OffsetDateTime.{OffsetDateTime}
+use Rattle.time_values.specs.declared.error.TryFromParsed.{TryFromParsed}
+use Rattle.time_values.specs.Instants.{clock_nanos, instant, IsInstant, IsLeapSecondMoment, IsLeapSecondStandIn}
+use Rattle.time_values.specs.Offsets.{HasOffset, IsUtc, offset_refusal}
+use Rattle.time_values.specs.Refusal.{Refusal, insufficient, range, refusal_of_parsed}
+use Rattle.time_values.specs.Times.{HasClock, time_refusal}
+use Rattle.time_record.specs.Record.{Record, signed_by}
+use Rattle.time_record.specs.Rows.{or_else, first_row, IsRowDate}
+
+-- a conversion's answer, with what its error says
+abbrev pub parsed_seen : {V : Type 0} → Result V TryFromParsed → Result V Refusal
+parsed_seen (Ok v) = Ok v
+parsed_seen (Err e) = Err (refusal_of_parsed e)
+
+-- a value with P where nothing is refused, and else that refusal
+abbrev pub Gives : {V : Type 0} → Option Refusal → (V → Type 0) → Result V Refusal → Type 0
+Gives None P (Ok v) = P v
+Gives None P (Err e) = ⊥
+Gives (Some r) P (Ok v) = ⊥
+Gives (Some r) P (Err e) = e ≡ r
+
+-- one step and then the next: the refusal of the first, or what the next makes of its value
+abbrev pub Then : {A B : Type 0} → (Result A Refusal → Type 0) → (A → Result B Refusal → Type 0) → Result B Refusal → Type 0
+Then {A} First Next result =
+    ((e : Refusal) × First (Err e) × (result ≡ Err e)) ⊎ ((a : A) × First (Ok a) × Next a result)
+
+-- the date of a record: that of its first row, and without one the information is not enough
+abbrev pub IsDated : ℕ → Record → Result Date Refusal → Type 0
+IsDated Y r result =
+    MatchOption (first_row r) (result ≡ Err insufficient) (λ row. IsRowDate Y row result)
+
+-- the hour of the day from the hour of a half day: 12 comes before 1
+abbrev pub hour_of_half : Option ℕ → Option Bool → Option ℕ
+hour_of_half (Some h) (Some is_pm) = Some (if is_pm then h % 12 + 12 else h % 12)
+hour_of_half (Some h) None = None
+hour_of_half None is_pm = None
+
+-- a time's numbers
+pub record Clock : Type 0 where
+  pub hour : ℕ
+  pub minute : ℕ
+  pub second : ℕ
+  pub nanosecond : ℕ
+
+-- the numbers below an hour: each but the first needs the one before it, and missing ones are 0
+abbrev pub clock_at : ℕ → Option ℕ → Option ℕ → Option ℕ → Option Clock
+clock_at h None None None = Some (record { hour = h; minute = 0; second = 0; nanosecond = 0 })
+clock_at h (Some m) None None = Some (record { hour = h; minute = m; second = 0; nanosecond = 0 })
+clock_at h (Some m) (Some s) None = Some (record { hour = h; minute = m; second = s; nanosecond = 0 })
+clock_at h (Some m) (Some s) (Some n) = Some (record { hour = h; minute = m; second = s; nanosecond = n })
+clock_at h m s n = None
+
+-- the hour of a record's time
+abbrev pub hour_of : Record → Option ℕ
+hour_of r = or_else r.hour_24 (hour_of_half r.hour_12 r.hour_12_is_pm)
+
+-- the numbers of a record's time, where they are enough
+abbrev pub clock_of : Record → Option Clock
+clock_of r = option_and_then (λ h. clock_at h r.minute r.second r.subsecond) (hour_of r)
+
+-- the time of a record
+abbrev pub IsTimed : Record → Result Time Refusal → Type 0
+IsTimed r result = MatchOption (clock_of r) (result ≡ Err insufficient)
+    (λ c. Gives (time_refusal c.hour c.minute c.second c.nanosecond)
+    (HasClock c.hour c.minute c.second c.nanosecond) result)
+
+-- a part of an offset as its getter answers it, or 0
+abbrev pub offset_part : Record → Option ℤ → ℤ
+offset_part r part = unwrap_or (option_map (signed_by r.offset_is_negative) part) (pos 0)
+
+-- the seconds of an offset, which count only below minutes
+abbrev pub offset_seconds_of : Record → ℤ
+offset_seconds_of r = option_map_or (λ _. offset_part r r.offset_second) r.offset_minute (pos 0)
+
+-- the offset of a record, or without its hour what `Missing` says
+abbrev pub IsOffsetOr : (Result UtcOffset Refusal → Type 0) → Record → Result UtcOffset Refusal → Type 0
+IsOffsetOr Missing r result = MatchOption r.offset_hour (Missing result)
+    (λ h. let m = offset_part r r.offset_minute in let s = offset_seconds_of r in
+    Gives (offset_refusal h m s) (HasOffset h m s) result)
+
+-- the offset of a record, whose hour is needed
+abbrev pub IsOffset : Record → Result UtcOffset Refusal → Type 0
+IsOffset r = IsOffsetOr (λ result. result ≡ Err insufficient) r
+
+-- the offset of a record, which is UTC without an hour
+abbrev pub IsOffsetOrUtc : Record → Result UtcOffset Refusal → Type 0
+IsOffsetOrUtc r = IsOffsetOr (λ result. IsOkAnd result IsUtc) r
+
+-- the date and the time of a record, the date's refusal first
+abbrev pub IsPlain : ℕ → Record → Result PlainDateTime Refusal → Type 0
+IsPlain Y r = Then (IsDated Y r) (λ d. Then (IsTimed r)
+    (λ t result. IsOkAnd result (λ p. (p.date ≡ d) × (p.time ≡ t))))
+
+-- the date and time in UTC at n nanoseconds since 1970, with a given subsecond in place of its own
+abbrev pub IsStamped : ℕ → ℤ → Option ℕ → Date → Time → Type 0
+IsStamped Y n subsecond date time =
+    (t : Time) × (clock_nanos Y date t ≡ n)
+    × HasClock t.hour t.minute t.second (unwrap_or subsecond t.nanosecond) time
+
+-- the record's second is a leap second that is allowed
+abbrev pub is_leap_second : Record → Bool
+is_leap_second r = r.leap_second_allowed && option_map_or (λ s. s == 60) r.second false
+
+-- the record with the last nanosecond before a leap second in its place
+abbrev pub stand_in : Record → Record
+stand_in r =
+    if is_leap_second r then record r { second = Some 59; subsecond = Some 999_999_999 } else r
+
+-- a value with P, or where a leap second stood that is at no month's end its refusal
+abbrev pub Judged : {V : Type 0} → Bool → Type 0 → (V → Type 0) → Result V Refusal → Type 0
+Judged leap AtEnd P (Ok v) = P v × (IsTrue leap → AtEnd)
+Judged leap AtEnd P (Err e) = IsTrue leap × (AtEnd → ⊥) × (e ≡ range (codes "second") true)
+
+-- the parts of a moment with its offset: date, time and offset, each one's refusal in that order
+abbrev pub IsMomentOfParts : ℕ → Record → Result OffsetDateTime Refusal → Type 0
+IsMomentOfParts Y r = Then (IsDated Y r) (λ d. Then (IsTimed (stand_in r)) (λ t. Then (IsOffset r)
+    (λ o. Judged (is_leap_second r) (IsLeapSecondMoment Y (instant Y d t o))
+    (λ v. (v.date ≡ d) × (v.time ≡ t) × (v.offset ≡ o)))))
+
+-- the moment of a record with its offset: that of its timestamp, in UTC, or else of its parts
+abbrev pub IsMoment : ℕ → Record → Result OffsetDateTime Refusal → Type 0
+IsMoment Y r result = MatchOption r.unix_timestamp_nanos (IsMomentOfParts Y r result)
+    (λ n. IsOkAnd result (λ v. IsStamped Y n r.subsecond v.date v.time × IsUtc v.offset))
+
+-- the date and time in UTC of an instant, whose range is that of the dates
+abbrev pub IsInUtc : ℕ → ℤ → Result UtcDateTime Refusal → Type 0
+IsInUtc Y n (Ok u) = clock_nanos Y u.date u.time ≡ n
+IsInUtc Y n (Err e) = (IsInstant Y n → ⊥) × (e ≡ range (codes "year") true)
+
+-- the parts of a moment in UTC: as with an offset, and then the moment's own refusal
+abbrev pub IsUtcMomentOfParts : ℕ → Record → Result UtcDateTime Refusal → Type 0
+IsUtcMomentOfParts Y r = Then (IsDated Y r) (λ d. Then (IsTimed (stand_in r)) (λ t. Then (IsOffsetOrUtc r)
+    (λ o. Then (IsInUtc Y (instant Y d t o))
+    (λ u. Judged (is_leap_second r) (IsLeapSecondStandIn u.date u.time)
+    (λ v. (v.date ≡ u.date) × (v.time ≡ u.time))))))
+
+-- the moment of a record in UTC
+abbrev pub IsUtcMoment : ℕ → Record → Result UtcDateTime Refusal → Type 0
+IsUtcMoment Y r result = MatchOption r.unix_timestamp_nanos (IsUtcMomentOfParts Y r result)
+    (λ n. IsOkAnd result (λ v. IsStamped Y n r.subsecond v.date v.time))
+
+-- the instant of the moment in UTC, where each refusal says that the information is not enough
+abbrev pub IsInstantOfParts : ℕ → Record → Result Timestamp Refusal → Type 0
+IsInstantOfParts Y r (Ok v) =
+    (u : UtcDateTime) × IsUtcMomentOfParts Y r (Ok u) × (v.nanoseconds ≡ clock_nanos Y u.date u.time)
+IsInstantOfParts Y r (Err e) =
+    ((refused : Refusal) × IsUtcMomentOfParts Y r (Err refused)) × (e ≡ insufficient)
+
+-- the instant of a record: its timestamp, or else that of its parts
+abbrev pub IsTimestamp : ℕ → Record → Result Timestamp Refusal → Type 0
+IsTimestamp Y r result = MatchOption r.unix_timestamp_nanos (IsInstantOfParts Y r result)
+    (λ n. IsOkAnd result (λ v. v.nanoseconds ≡ n))

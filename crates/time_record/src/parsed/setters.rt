@@ -1,0 +1,319 @@
+//! A known value for each component: `Some` where it is in range, and else `None`, nothing changed.
+ghost use Rattle.std.specs.Prelude.{◌≡◌, pos};
+ghost use Rattle.std.specs.Int.NonZero.{non_zero_u8_get, non_zero_u16_get};
+ghost use Rattle.time_values.specs.Range.{greatest_year};
+ghost use Rattle.time_record.specs.Record.{put, Sets, year_is, year_century_is, year_last_two_is, iso_year_is, iso_year_century_is, iso_year_last_two_is, month_is, sunday_week_number_is, monday_week_number_is, iso_week_number_is, weekday_is, ordinal_is, day_is, hour_24_is, hour_12_is, hour_12_is_pm_is, minute_is, second_is, subsecond_is, offset_hour_is, offset_minute_is, offset_second_is, unix_timestamp_nanos_is};
+
+use crate::Parsed;
+use crate::parsed::GREATEST_YEAR;
+use std::num::NonZero;
+use time_values::{Month, Timestamp, Weekday};
+
+impl Parsed {
+    /// Sets the calendar year, from -9999 to 9999. `None` and unchanged outside.
+    #[inline]
+    pub fn set_year(&mut self, value: i32) -> Option<()>
+        ensures { Sets (put greatest_year (year_is value) self.old) self.old result self.new }
+    {
+        if value.unsigned_abs() > GREATEST_YEAR {
+            return None;
+        }
+        self.year = Some(value);
+        Some(())
+    }
+
+    /// Sets the calendar year without its last two digits, from -99 to 99, and whether it is
+    /// negative: by its sign, and for a 0 by `is_negative`. `None` and unchanged outside the
+    /// range.
+    #[inline]
+    pub fn set_year_century(&mut self, value: i16, is_negative: bool) -> Option<()>
+        ensures { Sets (put greatest_year (year_century_is value is_negative) self.old) self.old result self.new }
+    {
+        if value.unsigned_abs() as u32 > GREATEST_YEAR / 100 {
+            return None;
+        }
+        self.year_century = Some(value);
+        self.year_century_is_negative = value < 0 || value == 0 && is_negative;
+        Some(())
+    }
+
+    /// Sets the last two digits of the calendar year, from 0 to 99. `None` and unchanged outside.
+    #[inline]
+    pub fn set_year_last_two(&mut self, value: u8) -> Option<()>
+        ensures { Sets (put greatest_year (year_last_two_is value) self.old) self.old result self.new }
+    {
+        if value > 99 {
+            return None;
+        }
+        self.year_last_two = Some(value);
+        Some(())
+    }
+
+    /// Sets the year of the ISO 8601 week date, from -9999 to 9999. `None` and unchanged outside.
+    #[inline]
+    pub fn set_iso_year(&mut self, value: i32) -> Option<()>
+        ensures { Sets (put greatest_year (iso_year_is value) self.old) self.old result self.new }
+    {
+        if value.unsigned_abs() > GREATEST_YEAR {
+            return None;
+        }
+        self.iso_year = Some(value);
+        Some(())
+    }
+
+    /// Sets the year of the ISO 8601 week date without its last two digits, from -99 to 99, and
+    /// whether it is negative: by its sign, and for a 0 by `is_negative`. `None` and unchanged
+    /// outside the range.
+    #[inline]
+    pub fn set_iso_year_century(&mut self, value: i16, is_negative: bool) -> Option<()>
+        ensures { Sets (put greatest_year (iso_year_century_is value is_negative) self.old) self.old result self.new }
+    {
+        if value.unsigned_abs() as u32 > GREATEST_YEAR / 100 {
+            return None;
+        }
+        self.iso_year_century = Some(value);
+        self.iso_year_century_is_negative = value < 0 || value == 0 && is_negative;
+        Some(())
+    }
+
+    /// Sets the last two digits of the year of the ISO 8601 week date, from 0 to 99. `None` and
+    /// unchanged outside.
+    #[inline]
+    pub fn set_iso_year_last_two(&mut self, value: u8) -> Option<()>
+        ensures { Sets (put greatest_year (iso_year_last_two_is value) self.old) self.old result self.new }
+    {
+        if value > 99 {
+            return None;
+        }
+        self.iso_year_last_two = Some(value);
+        Some(())
+    }
+
+    /// Sets the month of the year; never refuses.
+    #[inline]
+    pub fn set_month(&mut self, value: Month) -> Option<()>
+        ensures { Sets (put greatest_year (month_is value) self.old) self.old result self.new }
+    {
+        self.month = Some(value);
+        Some(())
+    }
+
+    /// Sets the week of the year, where week 1 begins on the first Sunday, from 0 to 53. `None`
+    /// and unchanged outside.
+    #[inline]
+    pub fn set_sunday_week_number(&mut self, value: u8) -> Option<()>
+        ensures { Sets (put greatest_year (sunday_week_number_is value) self.old) self.old result self.new }
+    {
+        if value > 53 {
+            return None;
+        }
+        self.sunday_week_number = Some(value);
+        Some(())
+    }
+
+    /// Sets the week of the year, where week 1 begins on the first Monday, from 0 to 53. `None`
+    /// and unchanged outside.
+    #[inline]
+    pub fn set_monday_week_number(&mut self, value: u8) -> Option<()>
+        ensures { Sets (put greatest_year (monday_week_number_is value) self.old) self.old result self.new }
+    {
+        if value > 53 {
+            return None;
+        }
+        self.monday_week_number = Some(value);
+        Some(())
+    }
+
+    /// Sets the week of the ISO 8601 week date, where week 1 holds 4 January, from 1 to 53. `None`
+    /// and unchanged outside.
+    #[inline]
+    pub fn set_iso_week_number(&mut self, value: NonZero<u8>) -> Option<()>
+        ensures { Sets (put greatest_year (iso_week_number_is (non_zero_u8_get value)) self.old) self.old result self.new }
+    {
+        if value.get() > 53 {
+            return None;
+        }
+        self.iso_week_number = Some(value.get());
+        Some(())
+    }
+
+    /// Sets the day of the week; never refuses.
+    #[inline]
+    pub fn set_weekday(&mut self, value: Weekday) -> Option<()>
+        ensures { Sets (put greatest_year (weekday_is value) self.old) self.old result self.new }
+    {
+        self.weekday = Some(value);
+        Some(())
+    }
+
+    /// Sets the day of the year, from 1 to 366. `None` and unchanged outside.
+    #[inline]
+    pub fn set_ordinal(&mut self, value: NonZero<u16>) -> Option<()>
+        ensures { Sets (put greatest_year (ordinal_is (non_zero_u16_get value)) self.old) self.old result self.new }
+    {
+        if value.get() > 366 {
+            return None;
+        }
+        self.ordinal = Some(value.get());
+        Some(())
+    }
+
+    /// Sets the day of the month, from 1 to 31. `None` and unchanged outside.
+    #[inline]
+    pub fn set_day(&mut self, value: NonZero<u8>) -> Option<()>
+        ensures { Sets (put greatest_year (day_is (non_zero_u8_get value)) self.old) self.old result self.new }
+    {
+        if value.get() > 31 {
+            return None;
+        }
+        self.day = Some(value.get());
+        Some(())
+    }
+
+    /// Sets the hour of the day, from 0 to 23. `None` and unchanged outside.
+    #[inline]
+    pub fn set_hour_24(&mut self, value: u8) -> Option<()>
+        ensures { Sets (put greatest_year (hour_24_is value) self.old) self.old result self.new }
+    {
+        if value > 23 {
+            return None;
+        }
+        self.hour_24 = Some(value);
+        Some(())
+    }
+
+    /// Sets the hour of the half day, where 12 comes before 1, from 1 to 12. `None` and unchanged
+    /// outside.
+    #[inline]
+    pub fn set_hour_12(&mut self, value: NonZero<u8>) -> Option<()>
+        ensures { Sets (put greatest_year (hour_12_is (non_zero_u8_get value)) self.old) self.old result self.new }
+    {
+        if value.get() > 12 {
+            return None;
+        }
+        self.hour_12 = Some(value.get());
+        Some(())
+    }
+
+    /// Sets whether `hour_12` lies in the second half of the day; never refuses.
+    #[inline]
+    pub fn set_hour_12_is_pm(&mut self, value: bool) -> Option<()>
+        ensures { Sets (put greatest_year (hour_12_is_pm_is value) self.old) self.old result self.new }
+    {
+        self.hour_12_is_pm = Some(value);
+        Some(())
+    }
+
+    /// Sets the minute of the hour, from 0 to 59. `None` and unchanged outside.
+    #[inline]
+    pub fn set_minute(&mut self, value: u8) -> Option<()>
+        ensures { Sets (put greatest_year (minute_is value) self.old) self.old result self.new }
+    {
+        if value > 59 {
+            return None;
+        }
+        self.minute = Some(value);
+        Some(())
+    }
+
+    /// Sets the second of the minute, from 0 to 60, where 60 is a leap second. `None` and
+    /// unchanged outside.
+    #[inline]
+    pub fn set_second(&mut self, value: u8) -> Option<()>
+        ensures { Sets (put greatest_year (second_is value) self.old) self.old result self.new }
+    {
+        if value > 60 {
+            return None;
+        }
+        self.second = Some(value);
+        Some(())
+    }
+
+    /// Sets the nanoseconds of the second, from 0 to 999999999. `None` and unchanged outside.
+    #[inline]
+    pub fn set_subsecond(&mut self, value: u32) -> Option<()>
+        ensures { Sets (put greatest_year (subsecond_is value) self.old) self.old result self.new }
+    {
+        if value > 999_999_999 {
+            return None;
+        }
+        self.subsecond = Some(value);
+        Some(())
+    }
+
+    /// Sets the whole hours of the offset from UTC, from -25 to 25. `None` and unchanged outside.
+    /// The flag of a negative offset stays as it was.
+    #[inline]
+    pub fn set_offset_hour(&mut self, value: i8) -> Option<()>
+        ensures { Sets (put greatest_year (offset_hour_is value) self.old) self.old result self.new }
+    {
+        if value.unsigned_abs() > 25 {
+            return None;
+        }
+        self.offset_hour = Some(value);
+        Some(())
+    }
+
+    /// Sets the minutes of the offset from UTC to a positive number, from 0 to 59. `None` and
+    /// unchanged outside.
+    #[deprecated(note = "`set_offset_minute_signed` takes a sign")]
+    #[inline]
+    pub fn set_offset_minute(&mut self, value: u8) -> Option<()>
+        ensures { Sets (put greatest_year (offset_minute_is (pos value)) self.old) self.old result self.new }
+    {
+        if value > 59 {
+            return None;
+        }
+        self.set_offset_minute_signed(value as i8)
+    }
+
+    /// Sets the minutes of the offset from UTC, from -59 to 59. `None` and unchanged outside.
+    #[inline]
+    pub fn set_offset_minute_signed(&mut self, value: i8) -> Option<()>
+        ensures { Sets (put greatest_year (offset_minute_is value) self.old) self.old result self.new }
+    {
+        if value.unsigned_abs() > 59 {
+            return None;
+        }
+        self.offset_minute = Some(value);
+        Some(())
+    }
+
+    /// Sets the seconds of the offset from UTC to a positive number, from 0 to 59. `None` and
+    /// unchanged outside.
+    #[deprecated(note = "`set_offset_second_signed` takes a sign")]
+    #[inline]
+    pub fn set_offset_second(&mut self, value: u8) -> Option<()>
+        ensures { Sets (put greatest_year (offset_second_is (pos value)) self.old) self.old result self.new }
+    {
+        if value > 59 {
+            return None;
+        }
+        self.set_offset_second_signed(value as i8)
+    }
+
+    /// Sets the seconds of the offset from UTC, from -59 to 59. `None` and unchanged outside.
+    #[inline]
+    pub fn set_offset_second_signed(&mut self, value: i8) -> Option<()>
+        ensures { Sets (put greatest_year (offset_second_is value) self.old) self.old result self.new }
+    {
+        if value.unsigned_abs() > 59 {
+            return None;
+        }
+        self.offset_second = Some(value);
+        Some(())
+    }
+
+    /// Sets the nanoseconds since 1970-01-01T00:00:00Z, from -377705116800000000000 to
+    /// 253402300799999999999. `None` and unchanged outside.
+    #[inline]
+    pub fn set_unix_timestamp_nanos(&mut self, value: i128) -> Option<()>
+        ensures { Sets (put greatest_year (unix_timestamp_nanos_is value) self.old) self.old result self.new }
+    {
+        if Timestamp::from_nanoseconds(value).is_err() {
+            return None;
+        }
+        self.unix_timestamp_nanos = Some(value);
+        Some(())
+    }
+}

@@ -1,0 +1,37 @@
+//! Leap seconds, for which the last nanosecond before them stands.
+ghost use Rattle.std.specs.Prelude.{◌≡◌, codes, true};
+ghost use Rattle.time_values.specs.Refusal.{range, refusal_of_parsed};
+ghost use Rattle.time_record.specs.Resolution as Resolution;
+
+use crate::Parsed;
+use time_values::error::{ComponentRange, TryFromParsed};
+
+// Whether the record's second is a leap second that is allowed.
+#[inline]
+pub(super) fn is_leap_second(parsed: &Parsed) -> bool
+    ensures { result ≡ Resolution.is_leap_second parsed.now }
+{
+    parsed.is_leap_second_allowed() && parsed.second() == Some(60)
+}
+
+// The record with the last nanosecond before a leap second in its place.
+#[inline]
+pub(super) fn stand_in(mut parsed: Parsed) -> Parsed
+    ensures { result ≡ Resolution.stand_in parsed }
+{
+    if is_leap_second(&parsed) {
+        let _ = parsed.set_second(59);
+        let _ = parsed.set_subsecond(999_999_999);
+    }
+    parsed
+}
+
+// The refusal of a leap second that is at no month's end in UTC.
+pub(super) fn misplaced() -> TryFromParsed
+    ensures { refusal_of_parsed result ≡ range (codes "second") true }
+{
+    TryFromParsed::ComponentRange(ComponentRange {
+        name: "second",
+        conditional: true,
+    })
+}

@@ -1,0 +1,60 @@
+//! The moment of a record with its offset from UTC.
+ghost use Rattle.std.specs.Prelude.{◌≤◌, IsOkAnd, IsTrue};
+ghost use Rattle.std.specs.Option.{ForSome};
+ghost use Rattle.time_values.specs.Instants.{is_instant};
+ghost use Rattle.time_values.specs.Offsets.{IsUtc};
+ghost use Rattle.time_values.specs.Range.{greatest_year};
+ghost use Rattle.time_record.specs.Resolution.{IsMoment, IsMomentOfParts, IsStamped, parsed_seen};
+
+use crate::Parsed;
+use crate::parsed::try_from::leap_second::{is_leap_second, misplaced, stand_in};
+use std::convert::TryFrom;
+use time_values::error::TryFromParsed;
+use time_values::{Date, OffsetDateTime, Time, UtcOffset};
+
+/// The moment of the timestamp, at offset 0 and with a known subsecond in place of its own, or
+/// else the date, time and offset of the record, with their refusals in that order.
+///
+/// A leap second that is allowed counts as the last nanosecond before it, and is refused as
+/// `second`, for the other components, where that is no month's end in UTC.
+impl TryFrom<Parsed> for OffsetDateTime {
+    type Error = TryFromParsed;
+
+    ghost try_from_gives = { λ p r. IsMoment greatest_year p (parsed_seen r) };
+
+    #[inline]
+    fn try_from(parsed: Parsed) -> Result<OffsetDateTime, TryFromParsed> {
+        match parsed.unix_timestamp_nanos() {
+            Some(nanos) => moment_at(nanos, parsed.subsecond()),
+            None => moment_of_parts(parsed),
+        }
+    }
+}
+
+// The moment of a timestamp, with that nanosecond of its second where one is given.
+fn moment_at(nanos: i128, subsecond: Option<u32>) -> Result<OffsetDateTime, TryFromParsed>
+    requires nanos { IsTrue (is_instant greatest_year nanos) }
+    requires subsecond { ForSome subsecond (λ n. n ≤ 999_999_999) }
+    ensures { IsOkAnd (parsed_seen result)
+        (λ v. IsStamped greatest_year nanos subsecond v.date v.time × IsUtc v.offset) }
+{
+    let moment = OffsetDateTime::from_unix_timestamp_nanos(nanos)?;
+    match subsecond {
+        Some(nanosecond) => Ok(moment.replace_nanosecond(nanosecond)?),
+        None => Ok(moment),
+    }
+}
+
+// The moment of a date, a time and an offset.
+fn moment_of_parts(parsed: Parsed) -> Result<OffsetDateTime, TryFromParsed>
+    ensures { IsMomentOfParts greatest_year parsed (parsed_seen result) }
+{
+    let date = Date::try_from(parsed)?;
+    let time = Time::try_from(stand_in(parsed))?;
+    let offset = UtcOffset::try_from(parsed)?;
+    let moment = OffsetDateTime::new_in_offset(date, time, offset);
+    if is_leap_second(&parsed) && !moment.is_valid_leap_second_stand_in() {
+        return Err(misplaced());
+    }
+    Ok(moment)
+}

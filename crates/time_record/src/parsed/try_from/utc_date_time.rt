@@ -1,0 +1,85 @@
+//! The moment of a record in UTC.
+ghost use Rattle.std.specs.Prelude.{◌≤◌, IsOkAnd, IsTrue};
+ghost use Rattle.std.specs.Option.{ForSome};
+ghost use Rattle.time_values.specs.Instants.{instant, is_instant};
+ghost use Rattle.time_values.specs.Range.{greatest_year};
+ghost use Rattle.time_record.specs.Resolution.{IsInUtc, IsOffsetOrUtc, IsStamped, IsUtcMoment, IsUtcMomentOfParts, parsed_seen};
+
+use crate::Parsed;
+use crate::parsed::try_from::leap_second::{is_leap_second, misplaced, stand_in};
+use std::convert::TryFrom;
+use time_values::error::{ComponentRange, TryFromParsed};
+use time_values::{Date, OffsetDateTime, Time, UtcDateTime, UtcOffset};
+
+/// The moment of the timestamp, with a known subsecond in place of its own, or else that of the
+/// date, time and offset of the record, with their refusals in that order. Without an offset's
+/// hour the offset is 0.
+///
+/// A moment that has no date in UTC is refused as `year`, for the other components. A leap second
+/// that is allowed counts as the last nanosecond before it, and is refused as `second`, for the
+/// other components, where that is no month's end in UTC.
+impl TryFrom<Parsed> for UtcDateTime {
+    type Error = TryFromParsed;
+
+    ghost try_from_gives = { λ p r. IsUtcMoment greatest_year p (parsed_seen r) };
+
+    #[inline]
+    fn try_from(parsed: Parsed) -> Result<UtcDateTime, TryFromParsed> {
+        match parsed.unix_timestamp_nanos() {
+            Some(nanos) => moment_at(nanos, parsed.subsecond()),
+            None => moment_of_parts(parsed),
+        }
+    }
+}
+
+// The moment of a timestamp, with that nanosecond of its second where one is given.
+fn moment_at(nanos: i128, subsecond: Option<u32>) -> Result<UtcDateTime, TryFromParsed>
+    requires nanos { IsTrue (is_instant greatest_year nanos) }
+    requires subsecond { ForSome subsecond (λ n. n ≤ 999_999_999) }
+    ensures { IsOkAnd (parsed_seen result)
+        (λ v. IsStamped greatest_year nanos subsecond v.date v.time) }
+{
+    let moment = UtcDateTime::from_unix_timestamp_nanos(nanos)?;
+    match subsecond {
+        Some(nanosecond) => Ok(moment.replace_nanosecond(nanosecond)?),
+        None => Ok(moment),
+    }
+}
+
+// The moment of a date, a time and an offset.
+pub(super) fn moment_of_parts(parsed: Parsed) -> Result<UtcDateTime, TryFromParsed>
+    ensures { IsUtcMomentOfParts greatest_year parsed (parsed_seen result) }
+{
+    let date = Date::try_from(parsed)?;
+    let time = Time::try_from(stand_in(parsed))?;
+    let offset = offset_or_utc(parsed)?;
+    let moment = in_utc(OffsetDateTime::new_in_offset(date, time, offset))?;
+    if is_leap_second(&parsed) && !moment.is_valid_leap_second_stand_in() {
+        return Err(misplaced());
+    }
+    Ok(moment)
+}
+
+// The offset of a record, or without its hour none.
+fn offset_or_utc(parsed: Parsed) -> Result<UtcOffset, TryFromParsed>
+    ensures { IsOffsetOrUtc parsed (parsed_seen result) }
+{
+    match parsed.offset_hour() {
+        Some(_) => UtcOffset::try_from(parsed),
+        None => Ok(UtcOffset::UTC),
+    }
+}
+
+// The same moment in UTC.
+fn in_utc(moment: OffsetDateTime) -> Result<UtcDateTime, TryFromParsed>
+    ensures { IsInUtc greatest_year (instant greatest_year moment.date moment.time moment.offset)
+        (parsed_seen result) }
+{
+    match moment.checked_to_utc() {
+        Some(moment) => Ok(moment),
+        None => Err(TryFromParsed::ComponentRange(ComponentRange {
+            name: "year",
+            conditional: true,
+        })),
+    }
+}

@@ -1,0 +1,9 @@
+pub mod NumberLemmas
+pub mod YearLemmas
+pub mod MonthLemmas
+pub mod WeekLemmas
+pub mod DateLemmas
+pub mod OffsetLemmas
+pub mod InstantLemmas
+pub mod SameLemmas
+pub mod RefusalLemmas

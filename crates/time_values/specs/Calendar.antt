@@ -1,0 +1,84 @@
+-- The proleptic Gregorian calendar, by counting. `Y` is the greatest year: years run from -Y to Y.
+use Rattle.std.specs.Prelude.{◌≡◌, ℕ, zero, suc, ◌+◌, ◌-◌, ◌*◌, ◌%◌, ◌<◌, ◌≤◌, Bool, not, ◌&&◌, ◌||◌, ◌==◌, if◌then◌else◌, ℤ, pos, neg_ℤ, ◌+ℤ◌, ◌-ℤ◌, ◌≤ℤ◌, unsigned_abs}
+
+-- z lies from low to high, both included
+abbrev pub IsBetween : ℤ → ℤ → ℤ → Type 0
+IsBetween low high z = (low ≤ℤ z) × (z ≤ℤ high)
+
+-- the year is one that there is
+abbrev pub IsYear : ℕ → ℤ → Type 0
+IsYear Y y = IsBetween (neg_ℤ (pos Y)) (pos Y) y
+
+-- every fourth year, but of the centuries only every fourth
+abbrev pub is_leap_year : ℤ → Bool
+is_leap_year y =
+    (unsigned_abs y % 4 == 0) && (not (unsigned_abs y % 100 == 0) || (unsigned_abs y % 400 == 0))
+
+-- 1 for a leap year, and else 0
+abbrev pub leap_day : ℤ → ℕ
+leap_day y = if is_leap_year y then 1 else 0
+
+-- the days of a year
+abbrev pub year_length : ℤ → ℕ
+year_length y = if is_leap_year y then 366 else 365
+
+-- the days of the month of that number; thirty days have September, April, June and November
+abbrev pub month_length : ℤ → ℕ → ℕ
+month_length y m =
+    if m == 2 then (if is_leap_year y then 29 else 28)
+    else (if (m == 4) || (m == 6) || (m == 9) || (m == 11) then 30 else 31)
+
+-- the days of the first n years, from the year -Y on
+unfoldable pub days_of_years : ℕ → ℕ → ℕ
+days_of_years Y zero = 0
+days_of_years Y (suc n) = days_of_years Y n + year_length (pos n -ℤ pos Y)
+
+-- the days of the first n months of a year
+unfoldable pub days_of_months : ℤ → ℕ → ℕ
+days_of_months y zero = 0
+days_of_months y (suc m) = days_of_months y m + month_length y (suc m)
+
+-- the number of days that there are
+abbrev pub day_limit : ℕ → ℕ
+day_limit Y = days_of_years Y (2 * Y + 1)
+
+-- how many years there are before this one
+abbrev pub years_before : ℕ → ℤ → ℕ
+years_before Y y = unsigned_abs (y +ℤ pos Y)
+
+-- the day number of the first day of a year
+abbrev pub year_start : ℕ → ℤ → ℕ
+year_start Y y = days_of_years Y (years_before Y y)
+
+-- the place of a day in its year, from 1
+abbrev pub ordinal_of : ℤ → ℕ → ℕ → ℕ
+ordinal_of y m d = days_of_months y (m - 1) + d
+
+-- the day number: how many days lie between 1 January of the year -Y and this day
+abbrev pub day_number : ℕ → ℤ → ℕ → ℕ → ℕ
+day_number Y y m d = year_start Y y + (ordinal_of y m d - 1)
+
+-- the weekday of a day number, from 0 for Monday
+abbrev pub weekday_of : ℕ → ℕ
+weekday_of day = day % 7
+
+-- how many of the n days from the day `first` on have the weekday w
+unfoldable pub weekdays_in : ℕ → ℕ → ℕ → ℕ
+weekdays_in w first zero = 0
+weekdays_in w first (suc n) = weekdays_in w first n + (if weekday_of (first + n) == w then 1 else 0)
+
+-- the Thursday of a day's week, which runs from Monday to Sunday
+abbrev pub thursday_of : ℕ → ℕ
+thursday_of day = day - weekday_of day + 3
+
+-- the ISO week of a day: its Thursday lies in that year, and is that Thursday of the year
+abbrev pub IsIsoWeek : ℕ → ℕ → ℤ → ℕ → Type 0
+IsIsoWeek Y day year week =
+    IsYear Y year
+    × (year_start Y year ≤ thursday_of day)
+    × (thursday_of day < year_start Y year + year_length year)
+    × (week ≡ weekdays_in 3 (year_start Y year) (thursday_of day + 1 - year_start Y year))
+
+-- how many ISO weeks a year has: as many as it has Thursdays
+abbrev pub iso_weeks_in : ℕ → ℤ → ℕ
+iso_weeks_in Y year = weekdays_in 3 (year_start Y year) (year_length year)

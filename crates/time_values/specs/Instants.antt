@@ -1,0 +1,58 @@
+-- Instants in nanoseconds since 1970-01-01T00:00:00Z.
+use Rattle.std.specs.Prelude.{◌≡◌, ℕ, ◌+◌, ◌-◌, ◌*◌, Bool, false, ◌&&◌, if◌then◌else◌, Option, Some, None, codes, ℤ, pos, neg_ℤ, ◌+ℤ◌, ◌-ℤ◌, ◌*ℤ◌}
+use Rattle.std.specs.Int.Signed.{le_z}
+use Rattle.time_values.specs.declared.date.Date.{Date}
+use Rattle.time_values.specs.declared.time.Time.{Time}
+use Rattle.time_values.specs.declared.utc_offset.UtcOffset.{UtcOffset}
+use Rattle.time_values.specs.Calendar.{IsBetween, year_start, day_limit, month_length}
+use Rattle.time_values.specs.Month.{month_number}
+use Rattle.time_values.specs.Dates.{day_number}
+use Rattle.time_values.specs.Refusal.{Refusal, range}
+use Rattle.time_values.specs.Times.{nanos_of_day}
+use Rattle.time_values.specs.Offsets.{offset_seconds}
+
+abbrev pub nanos_per_day : ℕ
+nanos_per_day = 86_400_000_000_000
+
+-- the day number of 1970-01-01
+abbrev pub epoch_day : ℕ → ℕ
+epoch_day Y = year_start Y (pos 1970)
+
+-- the nanoseconds since 1970-01-01T00:00:00 on a clock whose days have 24 hours
+unfoldable pub clock_nanos : ℕ → Date → Time → ℤ
+clock_nanos Y date time =
+    (pos (day_number Y date) -ℤ pos (epoch_day Y)) *ℤ pos nanos_per_day +ℤ pos (nanos_of_day time)
+
+-- the instant at which a clock with that offset shows the date and time
+unfoldable pub instant : ℕ → Date → Time → UtcOffset → ℤ
+instant Y date time offset = clock_nanos Y date time -ℤ offset_seconds offset *ℤ pos 1_000_000_000
+
+-- the first nanosecond of the first day in UTC, and the last one of the last day
+unfoldable pub first_instant : ℕ → ℤ
+first_instant Y = neg_ℤ (pos (epoch_day Y * nanos_per_day))
+
+unfoldable pub last_instant : ℕ → ℤ
+last_instant Y = pos ((day_limit Y - epoch_day Y) * nanos_per_day) -ℤ pos 1
+
+-- an instant that has a date and time in UTC
+abbrev pub IsInstant : ℕ → ℤ → Type 0
+IsInstant Y n = IsBetween (first_instant Y) (last_instant Y) n
+
+-- and its test
+abbrev pub is_instant : ℕ → ℤ → Bool
+is_instant Y n = le_z (first_instant Y) n && le_z n (last_instant Y)
+
+-- the refusal of nanoseconds that are no such instant
+abbrev pub timestamp_refusal : ℕ → ℤ → Option Refusal
+timestamp_refusal Y n = if is_instant Y n then None else Some (range (codes "timestamp") false)
+
+-- the last nanosecond of a month
+abbrev pub IsLeapSecondStandIn : Date → Time → Type 0
+IsLeapSecondStandIn date time =
+    (nanos_of_day time + 1 ≡ nanos_per_day)
+    × (date.day ≡ month_length date.year (month_number date.month))
+
+-- the instant is the last nanosecond of a month in UTC
+abbrev pub IsLeapSecondMoment : ℕ → ℤ → Type 0
+IsLeapSecondMoment Y n =
+    (date : Date) × (time : Time) × (clock_nanos Y date time ≡ n) × IsLeapSecondStandIn date time

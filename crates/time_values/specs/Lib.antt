@@ -1,0 +1,13 @@
+pub mod Calendar
+pub mod Conversions
+pub mod DateRefusals
+pub mod Dates
+pub mod Instants
+pub mod Month
+pub mod Offsets
+pub mod Range
+pub mod Refusal
+pub mod Sign
+pub mod Texts
+pub mod Times
+pub mod Weekday

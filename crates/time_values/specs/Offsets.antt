@@ -1,0 +1,25 @@
+-- What contracts see of an offset from UTC.
+use Rattle.std.specs.Prelude.{◌≡◌, false, nat_le, if◌then◌else◌, Option, Some, None, codes, ℤ, pos, ◌+ℤ◌, ◌*ℤ◌, unsigned_abs}
+use Rattle.time_values.specs.declared.utc_offset.UtcOffset.{UtcOffset}
+use Rattle.time_values.specs.Refusal.{Refusal, range}
+use Rattle.time_values.specs.Sign.{same_sign}
+
+-- the offset of these parts, each with the sign of the first that is not 0
+abbrev pub HasOffset : ℤ → ℤ → ℤ → UtcOffset → Type 0
+HasOffset h m s o =
+    (o.hours ≡ h) × (o.minutes ≡ same_sign h m) × (o.seconds ≡ same_sign h (same_sign m s))
+
+-- how far a clock is ahead of UTC, in seconds
+abbrev pub offset_seconds : UtcOffset → ℤ
+offset_seconds o = o.hours *ℤ pos 3600 +ℤ o.minutes *ℤ pos 60 +ℤ o.seconds
+
+-- the first part that is out of range
+abbrev pub offset_refusal : ℤ → ℤ → ℤ → Option Refusal
+offset_refusal h m s =
+    if nat_le (unsigned_abs h) 25 then (if nat_le (unsigned_abs m) 59
+    then (if nat_le (unsigned_abs s) 59 then None else Some (range (codes "seconds") false))
+    else Some (range (codes "minutes") false)) else Some (range (codes "hours") false)
+
+-- no offset
+abbrev pub IsUtc : UtcOffset → Type 0
+IsUtc o = (o.hours ≡ pos 0) × (o.minutes ≡ pos 0) × (o.seconds ≡ pos 0)

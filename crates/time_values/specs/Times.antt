@@ -1,0 +1,23 @@
+-- What contracts see of a time of day.
+use Rattle.std.specs.Prelude.{◌≡◌, ℕ, ◌+◌, ◌*◌, false, nat_le, if◌then◌else◌, Option, Some, None, codes}
+use Rattle.time_values.specs.declared.time.Time.{Time}
+use Rattle.time_values.specs.Refusal.{Refusal, range}
+
+-- nanoseconds since midnight
+abbrev pub nanos_of_day : Time → ℕ
+nanos_of_day t = (t.hour * 3600 + t.minute * 60 + t.second) * 1_000_000_000 + t.nanosecond
+
+-- the time has these parts
+abbrev pub HasClock : ℕ → ℕ → ℕ → ℕ → Time → Type 0
+HasClock h m s n t = (t.hour ≡ h) × (t.minute ≡ m) × (t.second ≡ s) × (t.nanosecond ≡ n)
+
+-- the refusal of a nanosecond of the second
+abbrev pub nanosecond_refusal : ℕ → Option Refusal
+nanosecond_refusal n = if nat_le n 999_999_999 then None else Some (range (codes "nanosecond") false)
+
+-- the first part that no clock shows
+abbrev pub time_refusal : ℕ → ℕ → ℕ → ℕ → Option Refusal
+time_refusal h m s n =
+    if nat_le h 23 then (if nat_le m 59 then (if nat_le s 59 then nanosecond_refusal n
+    else Some (range (codes "second") false)) else Some (range (codes "minute") false))
+    else Some (range (codes "hour") false)

@@ -1,0 +1,269 @@
+ghost use Rattle.std.specs.Prelude.{◌≡◌, ℤ, ◌+◌, ◌-◌, ◌*◌, ◌<◌, ◌≤◌};
+ghost use Rattle.std.specs.Int.{IsInRange};
+ghost use Rattle.time_values.specs.Calendar as Calendar;
+ghost use Rattle.time_values.specs.Month.{month_number};
+ghost use Rattle.time_values.specs.Range.{greatest_year};
+ghost use Rattle.time_values.specs.Weekday.{days_from_monday};
+
+use crate::days::{GREATEST_YEAR, leap_day, year_length};
+use crate::error::ComponentRange;
+use crate::{Month, Weekday, days};
+
+/// A day of the proleptic Gregorian calendar, in the years -9999 to 9999.
+#[derive(Clone, Copy, Debug, PartialEq, Eq)]
+pub struct Date {
+    year: i32,
+    month: Month,
+    day: u8,
+    pub ghost year_in: { Calendar.IsYear greatest_year year },
+    pub ghost day_in: { IsInRange 1 (Calendar.month_length year (month_number month)) day },
+}
+
+impl Date {
+    ghost use Rattle.time_values.specs.Dates as Dates;
+    ghost use Rattle.time_values.specs.DateRefusals.{calendar_date_refusal, ordinal_date_refusal};
+    ghost use Rattle.time_values.specs.Refusal.{Answers};
+
+    /// The first date, -9999-01-01, a Monday.
+    pub const MIN: Date = Date {
+        year: -GREATEST_YEAR,
+        month: Month::January,
+        day: 1,
+    };
+
+    /// The last date, 9999-12-31, a Friday.
+    pub const MAX: Date = Date {
+        year: GREATEST_YEAR,
+        month: Month::December,
+        day: 31,
+    };
+
+    /// The date with this year, month and day of the month, from 1. Refused as `year` outside -9999
+    /// to 9999, then as conditional `day` where the month has no such day.
+    pub fn from_calendar_date(year: i32, month: Month, day: u8) -> Result<Date, ComponentRange>
+        ensures { Answers (calendar_date_refusal greatest_year year (month_number month) day)
+            (Dates.HasParts year month day) result }
+    {
+        if year < -GREATEST_YEAR || year > GREATEST_YEAR {
+            return Err(ComponentRange {
+                name: "year",
+                conditional: false,
+            });
+        }
+        // Every month has 28 days.
+        if day == 0 || day > 28 && day > month.length(year) {
+            return Err(ComponentRange {
+                name: "day",
+                conditional: true,
+            });
+        }
+        Ok(Date { year, month, day })
+    }
+
+    /// The day at that place in the year, from 1. Refused as `year` outside -9999 to 9999, then as
+    /// conditional `ordinal` where the year has no such day.
+    pub fn from_ordinal_date(year: i32, ordinal: u16) -> Result<Date, ComponentRange>
+        ensures { Answers (ordinal_date_refusal greatest_year year ordinal)
+            (λ d. (d.year ≡ year) × (Dates.ordinal d ≡ ordinal)) result }
+    {
+        if year < -GREATEST_YEAR || year > GREATEST_YEAR {
+            return Err(ComponentRange {
+                name: "year",
+                conditional: false,
+            });
+        }
+        if ordinal == 0 || ordinal > year_length(year) {
+            return Err(ComponentRange {
+                name: "ordinal",
+                conditional: true,
+            });
+        }
+        Ok(Date::at_ordinal(year, ordinal))
+    }
+
+    // The day at a place that the year has.
+    fn at_ordinal(year: i32, ordinal: u16) -> Date
+        requires year_in { Calendar.IsYear greatest_year year }
+        requires ordinal_in { IsInRange 1 (Calendar.year_length year) ordinal }
+        ensures year { result.year ≡ year }
+        ensures ordinal { Dates.ordinal result ≡ ordinal }
+    {
+        let (month, day) = month_and_day(year, ordinal);
+        Date {
+            year,
+            month: Month::at(month),
+            day,
+        }
+    }
+
+    /// The year, -9999 to 9999.
+    #[inline]
+    pub fn year(self) -> i32
+        ensures { result ≡ self.year }
+    {
+        self.year
+    }
+
+    /// The month.
+    #[inline]
+    pub fn month(self) -> Month
+        ensures { result ≡ self.month }
+    {
+        self.month
+    }
+
+    /// The day of the month, 1 to 31.
+    #[inline]
+    pub fn day(self) -> u8
+        ensures { result ≡ self.day }
+    {
+        self.day
+    }
+
+    /// The place of the day in its year, 1 to 366.
+    pub fn ordinal(self) -> u16
+        ensures value { result ≡ Dates.ordinal self }
+        ensures within { IsInRange 1 (Calendar.year_length self.year) result }
+    {
+        let month = self.month.number() as u16;
+        days_before_month(self.year, month) + self.day as u16
+    }
+
+    /// The date of that day number.
+    pub(crate) fn from_day_number(day: u32) -> Date
+        requires { day < Calendar.day_limit greatest_year }
+        ensures { Dates.day_number greatest_year result ≡ day }
+    {
+        let (year, place) = days::year_and_place(day);
+        Date::at_ordinal(year, place)
+    }
+
+    /// The number of days since the first date.
+    pub(crate) fn day_number(self) -> u32
+        ensures value { result ≡ Dates.day_number greatest_year self }
+        ensures bound { result < 2_000_000_000 }
+    {
+        days::year_start(self.year) + (self.ordinal() as u32 - 1)
+    }
+
+    /// The day of the week.
+    pub fn weekday(self) -> Weekday
+        ensures { days_from_monday result ≡ Dates.weekday greatest_year self }
+    {
+        Weekday::from_days_from_monday((self.day_number() % 7) as u8)
+    }
+}
+
+impl Date {
+    ghost use Rattle.time_values.specs.Dates as Dates;
+    ghost use Rattle.time_values.specs.DateRefusals.{IsoDateAnswers};
+
+    /// The week of the year, 0 to 53, where week 1 begins on the year's first Sunday and the days
+    /// before are week 0.
+    pub fn sunday_based_week(self) -> u8
+        ensures { result ≡ Dates.weekdays_so_far greatest_year 6 self }
+    {
+        ((self.ordinal() + 6 - self.weekday().number_days_from_sunday() as u16) / 7) as u8
+    }
+
+    /// The week of the year, 0 to 53, where week 1 begins on the year's first Monday and the days
+    /// before are week 0.
+    pub fn monday_based_week(self) -> u8
+        ensures { result ≡ Dates.weekdays_so_far greatest_year 0 self }
+    {
+        ((self.ordinal() + 6 - self.weekday().number_days_from_monday() as u16) / 7) as u8
+    }
+
+    /// The year, week and weekday by ISO 8601: a week begins on Monday, and belongs to the year of
+    /// its Thursday.
+    pub fn to_iso_week_date(self) -> (i32, u8, Weekday)
+        ensures week { Calendar.IsIsoWeek greatest_year (Dates.day_number greatest_year self)
+            result.0 result.1 }
+        ensures weekday { days_from_monday result.2 ≡ Dates.weekday greatest_year self }
+    {
+        let weekday = self.weekday();
+        // The place of the week's Thursday, where 8 is the first of January.
+        let shifted = self.ordinal() + 10 - weekday.number_days_from_monday() as u16;
+        let Some((year, place)) = days::at_place(self.year, shifted) else {
+            unreachable!()
+        };
+        (year, ((place + 6) / 7) as u8, weekday)
+    }
+
+    /// The week by ISO 8601, 1 to 53.
+    pub fn iso_week(self) -> u8
+        ensures { (year : ℤ) × Calendar.IsIsoWeek greatest_year
+            (Dates.day_number greatest_year self) year result }
+    {
+        let (_year, week, _weekday) = self.to_iso_week_date();
+        week
+    }
+
+    /// The day of that year, week and weekday by ISO 8601. Refused as `year` outside -9999 to 9999,
+    /// then as conditional `week` where the year has no such week, then as conditional `weekday`
+    /// where the day lies past `Date::MAX`.
+    pub fn from_iso_week_date(year: i32, week: u8, weekday: Weekday) -> Result<Date, ComponentRange>
+        ensures { IsoDateAnswers greatest_year year week (days_from_monday weekday) result }
+    {
+        if year < -GREATEST_YEAR || year > GREATEST_YEAR {
+            return Err(ComponentRange {
+                name: "year",
+                conditional: false,
+            });
+        }
+        // The place of the year's first Thursday, from 1.
+        let thursday = days::first_thursday(year);
+        if week == 0 || week as u16 > (year_length(year) + 7 - thursday) / 7 {
+            return Err(ComponentRange {
+                name: "week",
+                conditional: true,
+            });
+        }
+        // The place of the day, where 8 is the first of January.
+        let shifted = thursday
+            + 7 * (week as u16 - 1)
+            + 4
+            + weekday.number_days_from_monday() as u16;
+        let Some((year, place)) = days::at_place(year, shifted) else {
+            return Err(ComponentRange {
+                name: "weekday",
+                conditional: true,
+            });
+        };
+        Ok(Date::at_ordinal(year, place))
+    }
+}
+
+// The days of the year before a month.
+#[tactic(auto, using(crate::proofs::MonthLemmas::days_of_months_closed))]
+fn days_before_month(year: i32, month: u16) -> u16
+    requires { IsInRange 1 12 month }
+    ensures value { result ≡ Calendar.days_of_months year (month - 1) }
+    ensures bound { result ≤ 335 }
+{
+    if month <= 2 {
+        31 * (month - 1)
+    } else {
+        // The months from March on have 153 days in five.
+        (153 * month - 457) / 5 + 59 + leap_day(year)
+    }
+}
+
+// The month and day at a place of the year.
+#[tactic(auto, using(crate::proofs::MonthLemmas::month_and_day_facts))]
+fn month_and_day(year: i32, ordinal: u16) -> (u8, u8)
+    requires { IsInRange 1 (Calendar.year_length year) ordinal }
+    ensures ordinal { Calendar.ordinal_of year result.0 result.1 ≡ ordinal }
+    ensures month { IsInRange 1 12 result.0 }
+    ensures day { IsInRange 1 (Calendar.month_length year result.0) result.1 }
+{
+    let leap_day = leap_day(year);
+    if ordinal <= 31 {
+        return (1, ordinal as u8);
+    }
+    if ordinal <= 59 + leap_day {
+        return (2, (ordinal - 31) as u8);
+    }
+    let scaled = 5 * (ordinal - 60 - leap_day) + 461;
+    ((scaled / 153) as u8, (scaled % 153 / 5 + 1) as u8)
+}

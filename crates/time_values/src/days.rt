@@ -1,0 +1,127 @@
+//! Years and their days, and day numbers, which count from the first day that there is.
+ghost use Rattle.std.specs.Prelude.{IfNone, IfSome, ◌-◌, ◌/◌, ◌%◌, ◌≡◌, ◌+◌, ◌*◌, ◌<◌, ◌≤◌};
+ghost use Rattle.std.specs.Int.{IsInRange};
+ghost use Rattle.time_values.specs.Calendar as Calendar;
+ghost use Rattle.time_values.specs.Range.{greatest_year};
+
+/// The greatest year; the least one is its negative.
+pub const GREATEST_YEAR: i32 = 9999;
+
+/// The number of days that there are.
+pub const DAY_LIMIT: u32 = 365 * YEARS + YEARS / 4 - YEARS / 100 + YEARS / 400;
+
+const YEARS: u32 = 2 * GREATEST_YEAR as u32 + 1;
+
+/// 1970-01-01 as a day number.
+pub const EPOCH_DAY: u32 = 365 * YEARS_BEFORE_1970 + YEARS_BEFORE_1970 / 4 - YEARS_BEFORE_1970 / 100
+    + YEARS_BEFORE_1970 / 400;
+
+const YEARS_BEFORE_1970: u32 = 1970 + GREATEST_YEAR as u32;
+
+/// Whether the year has a 29 February.
+#[inline]
+pub fn is_leap_year(year: i32) -> bool
+    ensures { result ≡ Calendar.is_leap_year year }
+{
+    let year = year.unsigned_abs();
+    year % 4 == 0 && (year % 100 != 0 || year % 400 == 0)
+}
+
+/// The days of a year, 366 for a leap year and else 365.
+#[inline]
+pub fn year_length(year: i32) -> u16
+    ensures { result ≡ Calendar.year_length year }
+{
+    if is_leap_year(year) { 366 } else { 365 }
+}
+
+/// 1 for a leap year, and else 0.
+#[inline]
+pub fn leap_day(year: i32) -> u16
+    ensures value { result ≡ Calendar.leap_day year }
+    ensures bound { result ≤ 1 }
+{
+    if is_leap_year(year) { 1 } else { 0 }
+}
+
+fn years_before(year: i32) -> u32
+    requires { Calendar.IsYear greatest_year year }
+    ensures value { result ≡ Calendar.years_before greatest_year year }
+    ensures bound { result ≤ 2 * greatest_year }
+{
+    (year + GREATEST_YEAR) as u32
+}
+
+/// The day number of the year's first day.
+#[tactic(auto, using(crate::proofs::YearLemmas::days_of_years_closed))]
+pub fn year_start(year: i32) -> u32
+    requires { Calendar.IsYear greatest_year year }
+    ensures value { result ≡ Calendar.year_start greatest_year year }
+    ensures bound { result < 1_000_000_000 }
+{
+    let years = years_before(year);
+    365 * years + years / 4 - years / 100 + years / 400
+}
+
+/// The year and place of a day by its distance from a year's start, where 8 is the first of
+/// January, and `None` past the last day.
+pub fn at_place(year: i32, shifted: u16) -> Option<(i32, u16)>
+    requires year_in { Calendar.IsYear greatest_year year }
+    requires low { 7 < Calendar.year_start greatest_year year + shifted }
+    requires high { IsInRange 1 500 shifted }
+    ensures value { IfSome result (λ p.
+        Calendar.year_start greatest_year p.0 + p.1 + 7
+        ≡ Calendar.year_start greatest_year year + shifted) }
+    ensures year { IfSome result (λ p. Calendar.IsYear greatest_year p.0) }
+    ensures place { IfSome result (λ p. IsInRange 1 (Calendar.year_length p.0) p.1) }
+    ensures none { IfNone result (Calendar.day_limit greatest_year + 7
+        < Calendar.year_start greatest_year year + shifted) }
+{
+    let length = year_length(year);
+    if shifted <= 7 {
+        return Some((year - 1, shifted + year_length(year - 1) - 7));
+    }
+    let place = shifted - 7;
+    if place <= length {
+        return Some((year, place));
+    }
+    if year == GREATEST_YEAR {
+        return None;
+    }
+    Some((year + 1, place - length))
+}
+
+/// The place of the year's first Thursday, from 1.
+pub fn first_thursday(year: i32) -> u16
+    requires { Calendar.IsYear greatest_year year }
+    ensures value { (Calendar.year_start greatest_year year + result + 6) % 7 ≡ 3 }
+    ensures bound { IsInRange 1 7 result }
+{
+    let from_monday = year_start(year) % 7;
+    ((10 - from_monday) % 7 + 1) as u16
+}
+
+/// The year of a day number, and the day's place there, from 1.
+pub fn year_and_place(day: u32) -> (i32, u16)
+    requires { day < Calendar.day_limit greatest_year }
+    ensures value { Calendar.year_start greatest_year result.0 + result.1 ≡ day + 1 }
+    ensures year { Calendar.IsYear greatest_year result.0 }
+    ensures place { IsInRange 1 (Calendar.year_length result.0) result.1 }
+{
+    let (years, rest) = split_years(day);
+    (years as i32 - GREATEST_YEAR, rest as u16 + 1)
+}
+
+// How many years have passed since the first, and how many days since then.
+fn split_years(day: u32) -> (u32, u32)
+    requires { day < 1_000_000_000 }
+    ensures value { 365 * result.0 + result.0 / 4 - result.0 / 100 + result.0 / 400 + result.1 ≡ day }
+    ensures within { day < 365 * (result.0 + 1) + (result.0 + 1) / 4 - (result.0 + 1) / 100
+        + (result.0 + 1) / 400 }
+    ensures bound { result.1 < 366 }
+{
+    let scaled = 4 * day + 3;
+    let century = scaled / 146_097;
+    let in_century = scaled % 146_097 / 4 * 4 + 3;
+    (100 * century + in_century / 1461, in_century % 1461 / 4)
+}

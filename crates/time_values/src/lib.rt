@@ -1,0 +1,27 @@
+//! Dates, times of day, offsets from UTC and moments, in the proleptic Gregorian calendar, and
+//! the errors of their constructors and of parsing.
+#![tactic(auto)]
+
+mod date;
+mod days;
+pub mod error;
+mod month;
+mod offset_date_time;
+mod plain_date_time;
+#[cfg(test)]
+mod tests;
+mod time;
+mod timestamp;
+mod utc_date_time;
+mod utc_offset;
+mod weekday;
+
+pub use date::Date;
+pub use month::Month;
+pub use offset_date_time::OffsetDateTime;
+pub use plain_date_time::PlainDateTime;
+pub use time::Time;
+pub use timestamp::Timestamp;
+pub use utc_date_time::UtcDateTime;
+pub use utc_offset::UtcOffset;
+pub use weekday::Weekday;

@@ -1,0 +1,123 @@
+ghost use Rattle.std.specs.Prelude.{◌≡◌, ◌==◌, ◌≤◌};
+ghost use Rattle.std.proofs.Common.{rules};
+ghost use Rattle.std.specs.Cmp.Rules.{comparing};
+ghost use Rattle.std.specs.Ordering.{on};
+ghost use Rattle.time_values.specs.Calendar as Calendar;
+ghost use Rattle.time_values.specs.Month.{month_number, month_refusal};
+ghost use Rattle.time_values.specs.Refusal.{Answers};
+
+use crate::days::is_leap_year;
+use crate::error::ComponentRange;
+use std::num::NonZero;
+
+/// A month of the year.
+#[derive(Clone, Copy, Debug)]
+pub enum Month {
+    January = 1,
+    February,
+    March,
+    April,
+    May,
+    June,
+    July,
+    August,
+    September,
+    October,
+    November,
+    December,
+}
+
+impl Month {
+    /// The month of that number, 1 for January to 12 for December. A greater number is refused as
+    /// `month`.
+    pub fn from_number(number: NonZero<u8>) -> Result<Month, ComponentRange>
+        ensures { Answers (month_refusal number.value) (λ m. month_number m ≡ number.value) result }
+    {
+        match number.get() {
+            1 => Ok(Month::January),
+            2 => Ok(Month::February),
+            3 => Ok(Month::March),
+            4 => Ok(Month::April),
+            5 => Ok(Month::May),
+            6 => Ok(Month::June),
+            7 => Ok(Month::July),
+            8 => Ok(Month::August),
+            9 => Ok(Month::September),
+            10 => Ok(Month::October),
+            11 => Ok(Month::November),
+            12 => Ok(Month::December),
+            _ => Err(ComponentRange {
+                name: "month",
+                conditional: false,
+            }),
+        }
+    }
+
+    /// The month of a number that is one.
+    #[inline]
+    pub(crate) fn at(number: u8) -> Month
+        requires low { 1 ≤ number }
+        requires high { number ≤ 12 }
+        ensures { month_number result ≡ number }
+    {
+        match number {
+            1 => Month::January,
+            2 => Month::February,
+            3 => Month::March,
+            4 => Month::April,
+            5 => Month::May,
+            6 => Month::June,
+            7 => Month::July,
+            8 => Month::August,
+            9 => Month::September,
+            10 => Month::October,
+            11 => Month::November,
+            _ => Month::December,
+        }
+    }
+
+    /// The number of the month, 1 for January to 12 for December.
+    #[inline]
+    pub fn number(self) -> u8
+        ensures value { result ≡ month_number self }
+        ensures low { 1 ≤ result }
+        ensures high { result ≤ 12 }
+    {
+        self as u8
+    }
+
+    /// The number of days that the month has in that year, 28 to 31.
+    pub fn length(self, year: i32) -> u8
+        ensures { result ≡ Calendar.month_length year (month_number self) }
+    {
+        match self {
+            Month::February => { if is_leap_year(year) { 29 } else { 28 } }
+            Month::April | Month::June | Month::September | Month::November => 30,
+            _ => 31,
+        }
+    }
+}
+
+impl PartialEq for Month {
+    ghost eq = { on month_number ◌==◌ };
+
+    ghost laws = { Prim.search (comparing, rules) };
+
+    #[inline]
+    fn eq(&self, other: &Month) -> bool {
+        self.number() == other.number()
+    }
+}
+
+impl Eq for Month {
+    ghost laws = { Prim.search (comparing, rules) };
+}
+
+impl From<Month> for u8 {
+    ghost from_gives = { λ m n. n ≡ month_number m };
+
+    #[inline]
+    fn from(month: Month) -> u8 {
+        month as u8
+    }
+}

@@ -1,0 +1,126 @@
+ghost use Rattle.std.specs.Prelude.{◌≡◌, ◌↔◌, IsTrue, IfSome, IfNone};
+ghost use Rattle.time_values.specs.Instants as Instants;
+ghost use Rattle.time_values.specs.Offsets.{IsUtc};
+ghost use Rattle.time_values.specs.Range.{greatest_year};
+ghost use Rattle.time_values.specs.Refusal.{Answers};
+ghost use Rattle.time_values.specs.Times.{HasClock, nanosecond_refusal};
+
+use crate::days::DAY_LIMIT;
+use crate::error::ComponentRange;
+use crate::{Date, Time, UtcDateTime, UtcOffset};
+
+/// A date and a time of day as a clock with an offset from UTC shows them.
+#[derive(Clone, Copy, Debug, PartialEq, Eq)]
+pub struct OffsetDateTime {
+    date: Date,
+    time: Time,
+    offset: UtcOffset,
+}
+
+impl OffsetDateTime {
+    /// The date and time at that offset. The three parts are kept also where the moment lies
+    /// outside the range of dates in UTC.
+    #[inline]
+    pub fn new_in_offset(date: Date, time: Time, offset: UtcOffset) -> OffsetDateTime
+        ensures date { result.date ≡ date }
+        ensures time { result.time ≡ time }
+        ensures offset { result.offset ≡ offset }
+    {
+        OffsetDateTime { date, time, offset }
+    }
+
+    /// The moment that many nanoseconds after 1970-01-01T00:00:00Z, at offset 0. Refused as
+    /// `timestamp` outside -377705116800000000000 to 253402300799999999999.
+    pub fn from_unix_timestamp_nanos(nanos: i128) -> Result<OffsetDateTime, ComponentRange>
+        ensures { Answers (Instants.timestamp_refusal greatest_year nanos)
+            (λ o. (Instants.instant greatest_year o.date o.time o.offset ≡ nanos) × IsUtc o.offset)
+            result }
+    {
+        let utc = UtcDateTime::from_unix_timestamp_nanos(nanos)?;
+        Ok(OffsetDateTime {
+            date: utc.date(),
+            time: utc.time(),
+            offset: UtcOffset::UTC,
+        })
+    }
+
+    /// The date on the clock.
+    #[inline]
+    pub fn date(self) -> Date
+        ensures { result ≡ self.date }
+    {
+        self.date
+    }
+
+    /// The time on the clock.
+    #[inline]
+    pub fn time(self) -> Time
+        ensures { result ≡ self.time }
+    {
+        self.time
+    }
+
+    /// How far the clock is ahead of UTC.
+    #[inline]
+    pub fn offset(self) -> UtcOffset
+        ensures { result ≡ self.offset }
+    {
+        self.offset
+    }
+
+    /// The nanoseconds since 1970-01-01T00:00:00Z, also where they have no date in UTC.
+    pub fn unix_timestamp_nanos(self) -> i128
+        ensures { result ≡ Instants.instant greatest_year self.date self.time self.offset }
+    {
+        let clock = UtcDateTime::new(self.date, self.time).unix_timestamp_nanos();
+        clock - self.offset.whole_seconds() as i128 * 1_000_000_000
+    }
+
+    /// The same second with another nanosecond. Refused as `nanosecond` above 999999999.
+    pub fn replace_nanosecond(self, nanosecond: u32) -> Result<OffsetDateTime, ComponentRange>
+        ensures { Answers (nanosecond_refusal nanosecond) (λ o. (o.date ≡ self.date)
+            × HasClock self.time.hour self.time.minute self.time.second nanosecond o.time
+            × (o.offset ≡ self.offset)) result }
+    {
+        let time = self.time.replace_nanosecond(nanosecond)?;
+        Ok(OffsetDateTime {
+            date: self.date,
+            time,
+            offset: self.offset,
+        })
+    }
+
+    /// The same moment in UTC, or `None` where it lies outside the range of dates there.
+    #[tactic(auto, using(crate::proofs::InstantLemmas::instant_facts))]
+    pub fn checked_to_utc(self) -> Option<UtcDateTime>
+        ensures value { IfSome result (λ u. Instants.clock_nanos greatest_year u.date u.time
+            ≡ Instants.instant greatest_year self.date self.time self.offset) }
+        ensures none { IfNone result (¬ (Instants.IsInstant greatest_year
+            (Instants.instant greatest_year self.date self.time self.offset))) }
+    {
+        // An offset moves a time by less than two days.
+        let seconds = self.time.seconds_of_day() as i32 - self.offset.whole_seconds() + 172_800;
+        let days = seconds as u32 / 86_400;
+        let time = self.time.at_second_of_day(seconds as u32 % 86_400);
+        if days == 2 {
+            return Some(UtcDateTime::new(self.date, time));
+        }
+        let day = self.date.day_number() + days;
+        if day < 2 || day >= DAY_LIMIT + 2 {
+            return None;
+        }
+        Some(UtcDateTime::new(Date::from_day_number(day - 2), time))
+    }
+
+    /// Whether a leap second may be told as this moment: in UTC it is the last nanosecond of a
+    /// month.
+    pub fn is_valid_leap_second_stand_in(self) -> bool
+        ensures { IsTrue result ↔ Instants.IsLeapSecondMoment greatest_year
+            (Instants.instant greatest_year self.date self.time self.offset) }
+    {
+        match self.checked_to_utc() {
+            Some(utc) => utc.is_valid_leap_second_stand_in(),
+            None => false,
+        }
+    }
+}

@@ -1,0 +1,150 @@
+ghost use Rattle.std.specs.Prelude.{◌≡◌, ◌<◌, ◌↔◌, ◌+◌, ◌*◌, IsTrue};
+
+use crate::error::ComponentRange;
+
+/// A time of day, 00:00:00 to 23:59:59.999999999.
+#[derive(Clone, Copy, Debug, PartialEq, Eq)]
+pub struct Time {
+    hour: u8,
+    minute: u8,
+    second: u8,
+    nanosecond: u32,
+    pub ghost hour_in: { hour < 24 },
+    pub ghost minute_in: { minute < 60 },
+    pub ghost second_in: { second < 60 },
+    pub ghost nanosecond_in: { nanosecond < 1_000_000_000 },
+}
+
+impl Time {
+    ghost use Rattle.time_values.specs.Refusal.{Answers};
+    ghost use Rattle.time_values.specs.Times.{HasClock, nanosecond_refusal, time_refusal, nanos_of_day};
+
+    /// The time with these parts. The first one that is out of range is refused: `hour` above 23,
+    /// `minute` above 59, `second` above 59, `nanosecond` above 999999999.
+    pub fn from_hms_nano(
+        hour: u8,
+        minute: u8,
+        second: u8,
+        nanosecond: u32,
+    ) -> Result<Time, ComponentRange>
+        ensures { Answers (time_refusal hour minute second nanosecond)
+            (HasClock hour minute second nanosecond) result }
+    {
+        let name = if hour > 23 {
+            "hour"
+        } else if minute > 59 {
+            "minute"
+        } else if second > 59 {
+            "second"
+        } else if nanosecond > 999_999_999 {
+            "nanosecond"
+        } else {
+            return Ok(Time {
+                hour,
+                minute,
+                second,
+                nanosecond,
+            });
+        };
+        Err(ComponentRange {
+            name,
+            conditional: false,
+        })
+    }
+
+    /// The hour, 0 to 23.
+    #[inline]
+    pub fn hour(self) -> u8
+        ensures { result ≡ self.hour }
+    {
+        self.hour
+    }
+
+    /// The minute, 0 to 59.
+    #[inline]
+    pub fn minute(self) -> u8
+        ensures { result ≡ self.minute }
+    {
+        self.minute
+    }
+
+    /// The second, 0 to 59.
+    #[inline]
+    pub fn second(self) -> u8
+        ensures { result ≡ self.second }
+    {
+        self.second
+    }
+
+    /// The nanosecond, 0 to 999999999.
+    #[inline]
+    pub fn nanosecond(self) -> u32
+        ensures { result ≡ self.nanosecond }
+    {
+        self.nanosecond
+    }
+
+    /// The same second with another nanosecond.
+    #[inline]
+    pub(crate) fn replace_nanosecond(self, nanosecond: u32) -> Result<Time, ComponentRange>
+        ensures { Answers (nanosecond_refusal nanosecond)
+            (HasClock self.hour self.minute self.second nanosecond) result }
+    {
+        Time::from_hms_nano(self.hour, self.minute, self.second, nanosecond)
+    }
+
+    /// The time at that second after midnight, with this one's nanosecond.
+    #[inline]
+    pub(crate) fn at_second_of_day(self, second: u32) -> Time
+        requires { second < 86_400 }
+        ensures { nanos_of_day result ≡ second * 1_000_000_000 + self.nanosecond }
+    {
+        Time {
+            hour: (second / 3600) as u8,
+            minute: (second % 3600 / 60) as u8,
+            second: (second % 60) as u8,
+            nanosecond: self.nanosecond,
+        }
+    }
+
+    /// The time that many nanoseconds after midnight.
+    pub(crate) fn from_nanos_of_day(nanos: u64) -> Time
+        requires { nanos < 86_400_000_000_000 }
+        ensures { nanos_of_day result ≡ nanos }
+    {
+        let second = (nanos / 1_000_000_000) as u32;
+        Time {
+            hour: (second / 3600) as u8,
+            minute: (second % 3600 / 60) as u8,
+            second: (second % 60) as u8,
+            nanosecond: (nanos % 1_000_000_000) as u32,
+        }
+    }
+
+    /// The whole seconds since midnight.
+    #[inline]
+    pub(crate) fn seconds_of_day(self) -> u32
+        ensures value { result ≡ self.hour * 3600 + self.minute * 60 + self.second }
+        ensures bound { result < 86_400 }
+    {
+        self.hour as u32 * 3600 + self.minute as u32 * 60 + self.second as u32
+    }
+
+    /// The nanoseconds since midnight.
+    #[inline]
+    pub(crate) fn nanos_of_day(self) -> u64
+        ensures value { result ≡ nanos_of_day self }
+        ensures bound { result < 86_400_000_000_000 }
+    {
+        let seconds = self.seconds_of_day() as u64;
+        seconds * 1_000_000_000 + self.nanosecond as u64
+    }
+
+    /// Whether this is the last nanosecond of a day.
+    #[inline]
+    pub(crate) fn is_last_nanosecond(self) -> bool
+        ensures { IsTrue result ↔ (nanos_of_day self + 1 ≡ 86_400_000_000_000) }
+    {
+        self.nanos_of_day() == 86_399_999_999_999
+    }
+}

@@ -1,0 +1,51 @@
+ghost use Rattle.std.specs.Prelude.{◌≡◌};
+ghost use Rattle.time_values.specs.Instants.{IsInstant, clock_nanos, timestamp_refusal};
+ghost use Rattle.time_values.specs.Range.{greatest_year};
+
+use crate::UtcDateTime;
+use crate::error::ComponentRange;
+use crate::utc_date_time::is_instant;
+
+/// A moment, as nanoseconds since 1970-01-01T00:00:00Z, that has a date and time in UTC.
+#[derive(Clone, Copy, Debug, PartialEq, Eq)]
+pub struct Timestamp {
+    nanoseconds: i128,
+    pub ghost in_range: { IsInstant greatest_year nanoseconds },
+}
+
+impl Timestamp {
+    ghost use Rattle.time_values.specs.Refusal.{Answers};
+
+    /// The moment that many nanoseconds after 1970-01-01T00:00:00Z. Refused as `timestamp` outside
+    /// -377705116800000000000 to 253402300799999999999.
+    pub fn from_nanoseconds(nanoseconds: i128) -> Result<Timestamp, ComponentRange>
+        ensures { Answers (timestamp_refusal greatest_year nanoseconds)
+            (λ t. t.nanoseconds ≡ nanoseconds) result }
+    {
+        if !is_instant(nanoseconds) {
+            return Err(ComponentRange {
+                name: "timestamp",
+                conditional: false,
+            });
+        }
+        Ok(Timestamp { nanoseconds })
+    }
+
+    /// The nanoseconds since 1970-01-01T00:00:00Z.
+    #[inline]
+    pub fn nanoseconds(self) -> i128
+        ensures { result ≡ self.nanoseconds }
+    {
+        self.nanoseconds
+    }
+}
+
+impl From<UtcDateTime> for Timestamp {
+    ghost from_gives = { λ u t. t.nanoseconds ≡ clock_nanos greatest_year u.date u.time };
+
+    fn from(date_time: UtcDateTime) -> Timestamp {
+        Timestamp {
+            nanoseconds: date_time.unix_timestamp_nanos(),
+        }
+    }
+}

@@ -1,0 +1,119 @@
+ghost use Rattle.std.specs.Prelude.{◌≡◌, ◌↔◌, IsTrue};
+ghost use Rattle.time_values.specs.Instants as Instants;
+ghost use Rattle.time_values.specs.Range.{greatest_year};
+ghost use Rattle.time_values.specs.Refusal.{Answers};
+ghost use Rattle.time_values.specs.Times.{HasClock, nanosecond_refusal};
+
+use crate::days::{DAY_LIMIT, EPOCH_DAY};
+use crate::error::ComponentRange;
+use crate::{Date, Time};
+
+// The nanoseconds of a day.
+const NANOS_PER_DAY: u128 = 86_400_000_000_000;
+
+// The first and the last nanosecond that have a date and time in UTC.
+const MIN_NANOS: i128 = -(EPOCH_DAY as i128) * NANOS_PER_DAY as i128;
+
+const MAX_NANOS: i128 = (DAY_LIMIT - EPOCH_DAY) as i128 * NANOS_PER_DAY as i128 - 1;
+
+/// A date and a time of day in UTC.
+#[derive(Clone, Copy, Debug, PartialEq, Eq)]
+pub struct UtcDateTime {
+    date: Date,
+    time: Time,
+}
+
+impl UtcDateTime {
+    /// That date and time in UTC.
+    #[inline]
+    pub fn new(date: Date, time: Time) -> UtcDateTime
+        ensures date { result.date ≡ date }
+        ensures time { result.time ≡ time }
+    {
+        UtcDateTime { date, time }
+    }
+
+    /// The moment that many nanoseconds after 1970-01-01T00:00:00Z. Refused as `timestamp` outside
+    /// -377705116800000000000 to 253402300799999999999.
+    pub fn from_unix_timestamp_nanos(nanos: i128) -> Result<UtcDateTime, ComponentRange>
+        ensures { Answers (Instants.timestamp_refusal greatest_year nanos)
+            (λ u. Instants.clock_nanos greatest_year u.date u.time ≡ nanos) result }
+    {
+        if !is_instant(nanos) {
+            return Err(ComponentRange {
+                name: "timestamp",
+                conditional: false,
+            });
+        }
+        Ok(UtcDateTime::at_instant(nanos))
+    }
+
+    // The date and time at an instant that has them.
+    #[tactic(auto, using(crate::proofs::InstantLemmas::instant_facts))]
+    fn at_instant(nanos: i128) -> UtcDateTime
+        requires { Instants.IsInstant greatest_year nanos }
+        ensures { Instants.clock_nanos greatest_year result.date result.time ≡ nanos }
+    {
+        let since_first = (nanos - MIN_NANOS) as u128;
+        let days = since_first / NANOS_PER_DAY;
+        let nanos_of_day = since_first - days * NANOS_PER_DAY;
+        UtcDateTime {
+            date: Date::from_day_number(days as u32),
+            time: Time::from_nanos_of_day(nanos_of_day as u64),
+        }
+    }
+
+    /// The date.
+    #[inline]
+    pub fn date(self) -> Date
+        ensures { result ≡ self.date }
+    {
+        self.date
+    }
+
+    /// The time of day.
+    #[inline]
+    pub fn time(self) -> Time
+        ensures { result ≡ self.time }
+    {
+        self.time
+    }
+
+    /// The nanoseconds since 1970-01-01T00:00:00Z.
+    pub fn unix_timestamp_nanos(self) -> i128
+        ensures value { result ≡ Instants.clock_nanos greatest_year self.date self.time }
+        ensures range { Instants.IsInstant greatest_year result }
+    {
+        let days = self.date.day_number() as i128 - EPOCH_DAY as i128;
+        days * NANOS_PER_DAY as i128 + self.time.nanos_of_day() as i128
+    }
+
+    /// The same second with another nanosecond. Refused as `nanosecond` above 999999999.
+    pub fn replace_nanosecond(self, nanosecond: u32) -> Result<UtcDateTime, ComponentRange>
+        ensures { Answers (nanosecond_refusal nanosecond) (λ u. (u.date ≡ self.date)
+            × HasClock self.time.hour self.time.minute self.time.second nanosecond u.time) result }
+    {
+        let time = self.time.replace_nanosecond(nanosecond)?;
+        Ok(UtcDateTime {
+            date: self.date,
+            time,
+        })
+    }
+
+    /// Whether a leap second may be told as this moment: the last nanosecond of a month.
+    pub fn is_valid_leap_second_stand_in(self) -> bool
+        ensures { IsTrue result ↔ Instants.IsLeapSecondStandIn self.date self.time }
+    {
+        self.time.is_last_nanosecond()
+            && self.date.day() == self.date.month().length(self.date.year())
+    }
+}
+
+/// Whether the nanoseconds since 1970-01-01T00:00:00Z have a date and time in UTC.
+#[inline]
+#[tactic(auto, using(crate::proofs::InstantLemmas::instant_facts))]
+pub fn is_instant(nanos: i128) -> bool
+    ensures { result ≡ Instants.is_instant greatest_year nanos }
+{
+    nanos >= MIN_NANOS && nanos <= MAX_NANOS
+}

@@ -1,0 +1,91 @@
+ghost use Rattle.std.specs.Prelude.{◌≡◌, ◌<◌, pos, neg_ℤ};
+ghost use Rattle.time_values.specs.Calendar.{IsBetween};
+ghost use Rattle.time_values.specs.Sign as Sign;
+
+use crate::error::ComponentRange;
+
+/// How far a clock is ahead of UTC, in hours, minutes and seconds of one sign.
+#[derive(Clone, Copy, Debug, PartialEq, Eq)]
+pub struct UtcOffset {
+    hours: i8,
+    minutes: i8,
+    seconds: i8,
+    pub ghost hours_in: { IsBetween (neg_ℤ (pos 25)) (pos 25) hours },
+    pub ghost minutes_in: { IsBetween (neg_ℤ (pos 59)) (pos 59) minutes },
+    pub ghost seconds_in: { IsBetween (neg_ℤ (pos 59)) (pos 59) seconds },
+}
+
+impl UtcOffset {
+    ghost use Rattle.time_values.specs.Refusal.{Answers};
+    ghost use Rattle.time_values.specs.Offsets.{HasOffset, offset_refusal, offset_seconds};
+
+    /// UTC itself, an offset of 0.
+    pub const UTC: UtcOffset = UtcOffset {
+        hours: 0,
+        minutes: 0,
+        seconds: 0,
+    };
+
+    /// The offset of these parts. Smaller parts take the sign of the first that is not 0. The first
+    /// part that is out of range is refused: `hours` outside -25 to 25, `minutes` outside -59 to
+    /// 59, `seconds` outside -59 to 59.
+    pub fn from_hms(hours: i8, minutes: i8, seconds: i8) -> Result<UtcOffset, ComponentRange>
+        ensures { Answers (offset_refusal hours minutes seconds) (HasOffset hours minutes seconds)
+            result }
+    {
+        if hours < -25 || hours > 25 {
+            return Err(ComponentRange {
+                name: "hours",
+                conditional: false,
+            });
+        }
+        if minutes < -59 || minutes > 59 {
+            return Err(ComponentRange {
+                name: "minutes",
+                conditional: false,
+            });
+        }
+        if seconds < -59 || seconds > 59 {
+            return Err(ComponentRange {
+                name: "seconds",
+                conditional: false,
+            });
+        }
+        Ok(UtcOffset {
+            hours,
+            minutes: same_sign(hours, minutes),
+            seconds: same_sign(hours, same_sign(minutes, seconds)),
+        })
+    }
+
+    /// The hours (-25 to 25), minutes and seconds (-59 to 59).
+    #[inline]
+    pub fn as_hms(self) -> (i8, i8, i8)
+        ensures { (result.0 ≡ self.hours) × (result.1 ≡ self.minutes) × (result.2 ≡ self.seconds) }
+    {
+        (self.hours, self.minutes, self.seconds)
+    }
+
+    /// The whole offset in seconds, -93599 to 93599.
+    pub(crate) fn whole_seconds(self) -> i32
+        ensures value { result ≡ offset_seconds self }
+        ensures bound { IsBetween (neg_ℤ (pos 93_599)) (pos 93_599) result }
+    {
+        self.hours as i32 * 3600 + self.minutes as i32 * 60 + self.seconds as i32
+    }
+}
+
+// x with the sign of the first number, where that is not 0.
+fn same_sign(sign: i8, x: i8) -> i8
+    requires { IsBetween (neg_ℤ (pos 59)) (pos 59) x }
+    ensures value { result ≡ Sign.same_sign sign x }
+    ensures bound { IsBetween (neg_ℤ (pos 59)) (pos 59) result }
+{
+    if sign > 0 {
+        x.abs()
+    } else if sign < 0 {
+        -x.abs()
+    } else {
+        x
+    }
+}

@@ -85,7 +85,15 @@ fn answer(alloc: Global, format: &str, target: &str, text: &[u8]) -> Result<Vec<
     Ok(text)
 }
 
-const FIRST_PATH: [(&[u8], &str); 18] = [
+const FIRST_PATH: [(&[u8], &str); 20] = [
+    (
+        b"1990-12-31T15:59:60-08:00",
+        "1990-12-31 15:59:59.999999999 -08:00:00\n",
+    ),
+    (
+        b"1990-12-30T23:59:60Z",
+        "error: second is out of range for the other components\n",
+    ),
     (
         b"1985-04-12T23:20:50.52Z",
         "1985-04-12 23:20:50.520000000 +00:00:00\n",
@@ -139,7 +147,10 @@ const FIRST_PATH: [(&[u8], &str); 18] = [
         b"2021-01-02T03:04:05-00:30",
         "2021-01-02 03:04:05.000000000 -00:30:00\n",
     ),
-    (b"2021-01-02T03:04:60Z", "error: second is out of range\n"),
+    (
+        b"2021-01-02T03:04:60Z",
+        "error: second is out of range for the other components\n",
+    ),
     (
         b"2021-01-02T03:04:05Zx",
         "error: unexpected trailing characters; the end of input was expected\n",

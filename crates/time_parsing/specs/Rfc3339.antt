@@ -34,9 +34,9 @@ with_offset n r = record r {
   offset_is_negative = false;
 }
 
--- the record after the numbers, of which m is the month, are put into it
+-- the record after the numbers, of which m is the month, are put into it, with a leap second allowed
 abbrev pub with_numbers : Numbers → Month → Record → Record
-with_numbers n m r = with_offset n (with_time n (with_date n m r))
+with_numbers n m r = record (with_offset n (with_time n (with_date n m r))) { leap_second_allowed = true }
 
 -- a front of the bytes is the fifteen places' texts, each of its form and in its range
 abbrev pub Reads : List ℕ → Record → List ℕ → Record → Type 0

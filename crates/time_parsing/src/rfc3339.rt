@@ -106,6 +106,7 @@ impl Parsable for Rfc3339 {
                 put_date(found.1, parsed);
                 put_time(found.1, parsed);
                 put_offset(found.1, parsed);
+                parsed.allow_leap_second();
                 Ok(found.0)
             }
             Err(place) => Err(place_fault(place).into()),

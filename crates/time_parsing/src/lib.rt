@@ -1,8 +1,11 @@
 //! Parses whole texts into date-time values.
 #![tactic(auto)]
 
+mod description;
+pub mod laws;
 mod parsable;
 mod rfc3339;
 
+pub use description::Items;
 pub use parsable::Parsable;
 pub use rfc3339::Rfc3339;

@@ -3,12 +3,13 @@ ghost use Rattle.std.specs.Prelude.{ℕ, List};
 ghost use Rattle.time_values.specs.Range.{greatest_year};
 ghost use Rattle.time_values.specs.Refusal.{Refusal};
 ghost use Rattle.time_record.specs.Record.{Record};
-ghost use Rattle.time_record.specs.Resolution.{IsMoment};
+ghost use Rattle.time_record.specs.Resolution.{IsDated, IsTimed, IsOffset, IsPlain, IsUtcMoment, IsMoment, IsTimestamp};
 ghost use Rattle.time_parsing.specs.Outcome.{begun, seen, ParsesInto, IsWhole, IsOutcome, IsExact};
 
+use std::convert::TryFrom;
 use time_record::Parsed;
-use time_values::OffsetDateTime;
 use time_values::error::{Parse, ParseFromDescription};
+use time_values::{Date, OffsetDateTime, PlainDateTime, Time, Timestamp, UtcDateTime, UtcOffset};
 
 /// A format that texts can be parsed by.
 ///
@@ -39,6 +40,69 @@ pub trait Parsable {
         }
     }
 
+    /// The date of the whole input, read over the defaults.
+    fn parse_date(&self, input: &[u8], defaults: Option<Parsed>) -> Result<Date, Parse>
+        ensures { IsOutcome (IsDated greatest_year) (reads self.now) (refuses self.now) input.now
+            (begun defaults) (seen result) }
+    {
+        match self.parse_internal(input, defaults) {
+            Ok(parsed) => Ok(Date::try_from(parsed)?),
+            Err(e) => Err(e),
+        }
+    }
+
+    /// The time of the whole input, read over the defaults.
+    fn parse_time(&self, input: &[u8], defaults: Option<Parsed>) -> Result<Time, Parse>
+        ensures { IsOutcome IsTimed (reads self.now) (refuses self.now) input.now
+            (begun defaults) (seen result) }
+    {
+        match self.parse_internal(input, defaults) {
+            Ok(parsed) => Ok(Time::try_from(parsed)?),
+            Err(e) => Err(e),
+        }
+    }
+
+    /// The offset of the whole input, read over the defaults.
+    fn parse_offset(&self, input: &[u8], defaults: Option<Parsed>) -> Result<UtcOffset, Parse>
+        ensures { IsOutcome IsOffset (reads self.now) (refuses self.now) input.now
+            (begun defaults) (seen result) }
+    {
+        match self.parse_internal(input, defaults) {
+            Ok(parsed) => Ok(UtcOffset::try_from(parsed)?),
+            Err(e) => Err(e),
+        }
+    }
+
+    /// The date and time of the whole input, read over the defaults.
+    fn parse_plain_date_time(
+        &self,
+        input: &[u8],
+        defaults: Option<Parsed>,
+    ) -> Result<PlainDateTime, Parse>
+        ensures { IsOutcome (IsPlain greatest_year) (reads self.now) (refuses self.now) input.now
+            (begun defaults) (seen result) }
+    {
+        match self.parse_internal(input, defaults) {
+            Ok(parsed) => Ok(PlainDateTime::try_from(parsed)?),
+            Err(e) => Err(e),
+        }
+    }
+
+    /// The date and time in UTC of the whole input, read over the defaults.
+    fn parse_utc_date_time(
+        &self,
+        input: &[u8],
+        defaults: Option<Parsed>,
+    ) -> Result<UtcDateTime, Parse>
+        ensures { IsOutcome (IsUtcMoment greatest_year) (reads self.now) (refuses self.now) input.now
+            (begun defaults) (seen result) }
+    {
+        match self.parse_internal(input, defaults) {
+            Ok(parsed) => Ok(UtcDateTime::try_from(parsed)?),
+            Err(e) => Err(e),
+        }
+    }
+
     /// The date, time and offset of the whole input, read over the defaults.
     fn parse_offset_date_time(
         &self,
@@ -48,6 +112,48 @@ pub trait Parsable {
         ensures { IsOutcome (IsMoment greatest_year) (reads self.now) (refuses self.now) input.now
             (begun defaults) (seen result) };
 
+    /// The instant of the whole input, read over the defaults.
+    fn parse_timestamp(&self, input: &[u8], defaults: Option<Parsed>) -> Result<Timestamp, Parse>
+        ensures { IsOutcome (IsTimestamp greatest_year) (reads self.now) (refuses self.now) input.now
+            (begun defaults) (seen result) }
+    {
+        match self.parse_internal(input, defaults) {
+            Ok(parsed) => Ok(Timestamp::try_from(parsed)?),
+            Err(e) => Err(e),
+        }
+    }
+
     // The format has one answer to a text over a record.
     ghost exact: { (s : Self) → IsExact (reads s) (refuses s) };
+}
+
+/// The date, time and offset of a record.
+pub fn resolved(parsed: Parsed) -> Result<OffsetDateTime, Parse>
+    ensures { IsMoment greatest_year parsed (seen result) }
+{
+    Ok(OffsetDateTime::try_from(parsed)?)
+}
+
+/// A reference to a format reads as the format does.
+impl<T: Parsable> Parsable for &T {
+    ghost reads = { λ x. T.reads x.now };
+
+    ghost refuses = { λ x. T.refuses x.now };
+
+    fn parse_into<'a>(&self, input: &'a [u8], parsed: &mut Parsed) -> Result<&'a [u8], Parse> {
+        (**self).parse_into(input, parsed)
+    }
+
+    fn parse_offset_date_time(
+        &self,
+        input: &[u8],
+        defaults: Option<Parsed>,
+    ) -> Result<OffsetDateTime, Parse> {
+        match self.parse_internal(input, defaults) {
+            Ok(parsed) => resolved(parsed),
+            Err(e) => Err(e),
+        }
+    }
+
+    ghost exact = { λ x. T.exact x.now };
 }

@@ -7,7 +7,7 @@ ghost use Rattle.time_values.specs.declared.month.Month.{Month as Month_};
 ghost use Rattle.time_parsing.specs.Rfc3339.{signed, with_date, with_time, with_offset};
 
 use crate::Parsable;
-use std::convert::TryFrom;
+use crate::parsable::resolved;
 use std::num::NonZero;
 use time_readers::rfc3339::{Numbers, place_fault, read};
 use time_record::Parsed;
@@ -119,7 +119,7 @@ impl Parsable for Rfc3339 {
         defaults: Option<Parsed>,
     ) -> Result<OffsetDateTime, Parse> {
         match self.parse_internal(input, defaults) {
-            Ok(parsed) => Ok(OffsetDateTime::try_from(parsed)?),
+            Ok(parsed) => resolved(parsed),
             Err(e) => Err(e),
         }
     }

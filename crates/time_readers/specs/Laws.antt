@@ -5,6 +5,8 @@ use Rattle.time_readers.specs.Cuts.{AtMostOneCut}
 use Rattle.time_readers.specs.Digits.{IsDigitRun, IsPaddedRun}
 use Rattle.time_readers.specs.declared.rfc3339.Numbers.{Numbers}
 use Rattle.time_readers.specs.declared.rfc3339.Place.{Place}
+use Rattle.time_readers.specs.Spelling.{Spells}
+use Rattle.time_readers.specs.declared.format_description.Component.{Component}
 use Rattle.time_readers.specs.Rfc3339.{HasForm, FailsAt}
 
 -- for one input at most one cut is a run of digits
@@ -14,6 +16,10 @@ OneDigitRun = (least most : ℕ) → AtMostOneCut (IsDigitRun least most)
 -- for one input at most one cut is a run of digits under the padding
 abbrev pub OnePaddedRun : Type 0
 OnePaddedRun = (padding : Padding) (least most : ℕ) → AtMostOneCut (IsPaddedRun padding least most)
+
+-- for one input at most one cut spells a component
+abbrev pub OneSpelling : Type 0
+OneSpelling = (whole : Bool) (c : Component) → AtMostOneCut (Spells whole c)
 
 -- the bytes have one reading by the places of RFC 3339 or one first place that doesn't stand, and never both
 pub record OneForm (ranged : Bool) (bytes : List ℕ) : Type 0 where

@@ -1,6 +1,12 @@
+pub mod Bytes
 pub mod Cuts
 pub mod Digits
-pub mod Bytes
+pub mod Laws
+pub mod Letters
+pub mod Names
+pub mod NameTables
 pub mod Places
 pub mod Rfc3339
-pub mod Laws
+pub mod Shape
+pub mod Spelling
+pub mod Tree

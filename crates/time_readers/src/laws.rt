@@ -1,7 +1,7 @@
 //! Laws of the definitions that the contracts of this crate cite: each function does nothing, and its
 //! contract is the law.
 ghost use Rattle.std.specs.Prelude.{ℕ, List, Bool};
-ghost use Rattle.time_readers.specs.Laws.{OneDigitRun, OnePaddedRun, OneForm};
+ghost use Rattle.time_readers.specs.Laws.{OneDigitRun, OnePaddedRun, OneSpelling, OneForm};
 
 /// For one input at most one beginning is a run of digits, with one value.
 pub fn law_one_digit_run()
@@ -11,6 +11,11 @@ pub fn law_one_digit_run()
 /// For one input at most one beginning is a run of digits under a padding, with one value.
 pub fn law_one_padded_run()
     ensures { OnePaddedRun }
+{}
+
+/// For one input at most one beginning spells a component, with one value.
+pub fn law_one_spelling()
+    ensures { OneSpelling }
 {}
 
 /// By the places of RFC 3339 bytes have one reading, or one first place that doesn't stand, and never

@@ -7,12 +7,20 @@ ghost use Rattle.std.specs.Prelude.{◌≡◌};
 ghost use Rattle.time_readers.specs.Bytes.{is_negative};
 
 pub mod combinator;
+pub mod component;
+pub mod format_description;
 pub mod laws;
+pub mod modifier;
 pub mod rfc3339;
 mod shim;
 #[cfg(test)]
 mod tests;
 
+pub use format_description::{
+    BorrowedFormatItem, Component, FormatDescriptionV3, FormatDescriptionV3Inner, OwnedFormatItem,
+    Period,
+};
+pub use modifier::{SubsecondDigits, TrailingInput};
 pub use shim::Integer;
 
 /// What a reader found: the unread rest of its input, and the value.

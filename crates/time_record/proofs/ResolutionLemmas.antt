@@ -85,9 +85,11 @@ IsRowDate-one row (Err e) (Ok d) h k = absurd (h.0 d k)
 IsRowDate-one row (Err e) (Err f) h k = ap Err (h.1 ∙ sym k.1)
 
 pub IsDated-one : (r : Record) → IsOne (IsDated greatest_year r)
+unfolding IsDated
 IsDated-one r = MatchOption-one (first_row r) (λ s. s ≡ Err insufficient) (IsRowDate greatest_year) (IsThat-one (Err insufficient)) IsRowDate-one
 
 pub IsTimed-one : (r : Record) → IsOne (IsTimed r)
+unfolding IsTimed
 IsTimed-one r =
     MatchOption-one (clock_of r) (λ s. s ≡ Err insufficient) (λ c. Gives (time_refusal c.hour c.minute c.second c.nanosecond) (HasClock c.hour c.minute c.second c.nanosecond)) (IsThat-one (Err insufficient))
     (λ c. Gives-one (time_refusal c.hour c.minute c.second c.nanosecond) (HasClock c.hour c.minute c.second c.nanosecond) (same_time_by_clock c.hour c.minute c.second c.nanosecond))
@@ -100,12 +102,14 @@ IsOffsetOr-one Missing r one =
     (λ h. Gives-one (offset_refusal h m s) (HasOffset h m s) (same_offset h m s))
 
 pub IsOffset-one : (r : Record) → IsOne (IsOffset r)
+unfolding IsOffset
 IsOffset-one r = IsOffsetOr-one (λ s. s ≡ Err insufficient) r (IsThat-one (Err insufficient))
 
 IsUtc-one : IsOne IsUtc
 IsUtc-one a b h k = same_offset_by_parts a b (h.0 ∙ sym k.0) (h.1 ∙ sym k.1) (h.2 ∙ sym k.2)
 
 pub IsOffsetOrUtc-one : (r : Record) → IsOne (IsOffsetOrUtc r)
+unfolding IsOffsetOrUtc
 IsOffsetOrUtc-one r = IsOffsetOr-one (λ s. IsOkAnd s IsUtc) r (IsOkAnd-one IsUtc IsUtc-one)
 
 -- values of date-times by their parts
@@ -119,6 +123,7 @@ pub same_zoned : (a b : OffsetDateTime) → a.date ≡ b.date → a.time ≡ b.t
 same_zoned a b d t o = λ i. record { date = d i; time = t i; offset = o i }
 
 pub IsPlain-one : (r : Record) → IsOne (IsPlain greatest_year r)
+unfolding IsPlain
 IsPlain-one r =
     Then-one (IsDated greatest_year r) _ (IsDated-one r)
     (λ d. Then-one (IsTimed r) _ (IsTimed-one r)
@@ -140,6 +145,7 @@ Judged-one leap AtEnd P one (Err e) (Ok w) h k = absurd (h.1 (k.1 h.0))
 Judged-one leap AtEnd P one (Err e) (Err f) h k = ap Err (h.2 ∙ sym k.2)
 
 IsMomentOfParts-one : (r : Record) → IsOne (IsMomentOfParts greatest_year r)
+unfolding IsMomentOfParts
 IsMomentOfParts-one r =
     Then-one (IsDated greatest_year r) _ (IsDated-one r)
     (λ d. Then-one (IsTimed (stand_in r)) _ (IsTimed-one (stand_in r))
@@ -148,6 +154,7 @@ IsMomentOfParts-one r =
     (λ a b h k. same_zoned a b (h.0 ∙ sym k.0) (h.1 ∙ sym k.1) (h.2 ∙ sym k.2)))))
 
 pub IsMoment-one : (r : Record) → IsOne (IsMoment greatest_year r)
+unfolding IsMoment
 IsMoment-one r =
     MatchOption-one r.unix_timestamp_nanos (IsMomentOfParts greatest_year r) (λ n s. IsOkAnd s (λ v. IsStamped greatest_year n r.subsecond v.date v.time × IsUtc v.offset)) (IsMomentOfParts-one r)
     (λ n. IsOkAnd-one (λ (v : OffsetDateTime). IsStamped greatest_year n r.subsecond v.date v.time × IsUtc v.offset)
@@ -162,6 +169,7 @@ IsInUtc-one n (Err e) (Ok b) h k = absurd (h.0 (subst (IsInstant greatest_year) 
 IsInUtc-one n (Err e) (Err f) h k = ap Err (h.1 ∙ sym k.1)
 
 IsUtcMomentOfParts-one : (r : Record) → IsOne (IsUtcMomentOfParts greatest_year r)
+unfolding IsUtcMomentOfParts
 IsUtcMomentOfParts-one r =
     Then-one (IsDated greatest_year r) _ (IsDated-one r)
     (λ d. Then-one (IsTimed (stand_in r)) _ (IsTimed-one (stand_in r))
@@ -171,12 +179,14 @@ IsUtcMomentOfParts-one r =
     (λ a b h k. same_utc a b (h.0 ∙ sym k.0) (h.1 ∙ sym k.1))))))
 
 pub IsUtcMoment-one : (r : Record) → IsOne (IsUtcMoment greatest_year r)
+unfolding IsUtcMoment
 IsUtcMoment-one r =
     MatchOption-one r.unix_timestamp_nanos (IsUtcMomentOfParts greatest_year r) (λ n s. IsOkAnd s (λ v. IsStamped greatest_year n r.subsecond v.date v.time)) (IsUtcMomentOfParts-one r)
     (λ n. IsOkAnd-one (λ (v : UtcDateTime). IsStamped greatest_year n r.subsecond v.date v.time)
     (λ a b h k. let same = IsStamped-one n r.subsecond a.date b.date a.time b.time h k in same_utc a b same.0 same.1))
 
 IsInstantOfParts-one : (r : Record) → IsOne (IsInstantOfParts greatest_year r)
+unfolding IsInstantOfParts
 IsInstantOfParts-one r (Ok v) (Ok w) h k =
     let same = same_Ok h.0 k.0 (IsUtcMomentOfParts-one r (Ok h.0) (Ok k.0) h.1 k.1) in
     ap Ok (same_timestamp v w (h.2 ∙ ap (λ (u : UtcDateTime). clock_nanos greatest_year u.date u.time) same ∙ sym k.2))
@@ -185,6 +195,7 @@ IsInstantOfParts-one r (Err e) (Ok w) h k = absurd (Ok-Err k.0 h.0.0 (IsUtcMomen
 IsInstantOfParts-one r (Err e) (Err f) h k = ap Err (h.1 ∙ sym k.1)
 
 pub IsTimestamp-one : (r : Record) → IsOne (IsTimestamp greatest_year r)
+unfolding IsTimestamp
 IsTimestamp-one r =
     MatchOption-one r.unix_timestamp_nanos (IsInstantOfParts greatest_year r) (λ n s. IsOkAnd s (λ v. v.nanoseconds ≡ n)) (IsInstantOfParts-one r)
     (λ n. IsOkAnd-one (λ (v : Timestamp). v.nanoseconds ≡ n) (λ a b h k. same_timestamp a b (h ∙ sym k)))

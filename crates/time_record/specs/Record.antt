@@ -37,7 +37,35 @@ pub record Record : Type 0 where
 
 -- nothing was read, and no flag stands
 abbrev pub empty : Record
-empty = record { year = None; year_century = None; year_last_two = None; iso_year = None; iso_year_century = None; iso_year_last_two = None; month = None; sunday_week_number = None; monday_week_number = None; iso_week_number = None; weekday = None; ordinal = None; day = None; hour_24 = None; hour_12 = None; hour_12_is_pm = None; minute = None; second = None; subsecond = None; offset_hour = None; offset_minute = None; offset_second = None; unix_timestamp_nanos = None; offset_is_negative = false; year_century_is_negative = false; iso_year_century_is_negative = false; leap_second_allowed = false }
+empty = record {
+  year = None;
+  year_century = None;
+  year_last_two = None;
+  iso_year = None;
+  iso_year_century = None;
+  iso_year_last_two = None;
+  month = None;
+  sunday_week_number = None;
+  monday_week_number = None;
+  iso_week_number = None;
+  weekday = None;
+  ordinal = None;
+  day = None;
+  hour_24 = None;
+  hour_12 = None;
+  hour_12_is_pm = None;
+  minute = None;
+  second = None;
+  subsecond = None;
+  offset_hour = None;
+  offset_minute = None;
+  offset_second = None;
+  unix_timestamp_nanos = None;
+  offset_is_negative = false;
+  year_century_is_negative = false;
+  iso_year_century_is_negative = false;
+  leap_second_allowed = false;
+}
 
 -- a value for one option; a century comes with the sign that it has where it is 0
 pub data Entry : Type 0 where

@@ -12,7 +12,9 @@ use Rattle.time_values.specs.declared.error.TryFromParsed.{TryFromParsed}
 use Rattle.time_values.specs.Instants.{clock_nanos, instant, IsInstant, IsLeapSecondMoment, IsLeapSecondStandIn}
 use Rattle.time_values.specs.Offsets.{HasOffset, IsUtc, offset_refusal}
 use Rattle.time_values.specs.Refusal.{Refusal, insufficient, range, refusal_of_parsed}
-use Rattle.time_values.specs.Times.{HasClock, time_refusal}
+use Rattle.time_values.specs.Moments.{plain_date, plain_time, offset_date, offset_time, offset_of, utc_date, utc_time, utc_instant, nanoseconds}
+use Rattle.time_values.specs.Times as Times
+use Rattle.time_values.specs.Times.{HasClock, HasSecond, time_refusal}
 use Rattle.time_record.specs.Record.{Record, signed_by}
 use Rattle.time_record.specs.Rows.{or_else, first_row, IsRowDate}
 
@@ -34,7 +36,7 @@ Then {A} First Next result =
     ((e : Refusal) × First (Err e) × (result ≡ Err e)) ⊎ ((a : A) × First (Ok a) × Next a result)
 
 -- the date of a record: that of its first row, and without one the information is not enough
-abbrev pub IsDated : ℕ → Record → Result Date Refusal → Type 0
+unfoldable pub IsDated : ℕ → Record → Result Date Refusal → Type 0
 IsDated Y r result =
     MatchOption (first_row r) (result ≡ Err insufficient) (λ row. IsRowDate Y row result)
 
@@ -68,7 +70,7 @@ abbrev pub clock_of : Record → Option Clock
 clock_of r = option_and_then (λ h. clock_at h r.minute r.second r.subsecond) (hour_of r)
 
 -- the time of a record
-abbrev pub IsTimed : Record → Result Time Refusal → Type 0
+unfoldable pub IsTimed : Record → Result Time Refusal → Type 0
 IsTimed r result = MatchOption (clock_of r) (result ≡ Err insufficient)
     (λ c. Gives (time_refusal c.hour c.minute c.second c.nanosecond)
     (HasClock c.hour c.minute c.second c.nanosecond) result)
@@ -88,23 +90,23 @@ IsOffsetOr Missing r result = MatchOption r.offset_hour (Missing result)
     Gives (offset_refusal h m s) (HasOffset h m s) result)
 
 -- the offset of a record, whose hour is needed
-abbrev pub IsOffset : Record → Result UtcOffset Refusal → Type 0
+unfoldable pub IsOffset : Record → Result UtcOffset Refusal → Type 0
 IsOffset r = IsOffsetOr (λ result. result ≡ Err insufficient) r
 
 -- the offset of a record, which is UTC without an hour
-abbrev pub IsOffsetOrUtc : Record → Result UtcOffset Refusal → Type 0
+unfoldable pub IsOffsetOrUtc : Record → Result UtcOffset Refusal → Type 0
 IsOffsetOrUtc r = IsOffsetOr (λ result. IsOkAnd result IsUtc) r
 
 -- the date and the time of a record, the date's refusal first
-abbrev pub IsPlain : ℕ → Record → Result PlainDateTime Refusal → Type 0
+unfoldable pub IsPlain : ℕ → Record → Result PlainDateTime Refusal → Type 0
 IsPlain Y r = Then (IsDated Y r) (λ d. Then (IsTimed r)
-    (λ t result. IsOkAnd result (λ p. (p.date ≡ d) × (p.time ≡ t))))
+    (λ t result. IsOkAnd result (λ p. (plain_date p ≡ d) × (plain_time p ≡ t))))
 
 -- the date and time in UTC at n nanoseconds since 1970, with a given subsecond in place of its own
 abbrev pub IsStamped : ℕ → ℤ → Option ℕ → Date → Time → Type 0
 IsStamped Y n subsecond date time =
     (t : Time) × (clock_nanos Y date t ≡ n)
-    × HasClock t.hour t.minute t.second (unwrap_or subsecond t.nanosecond) time
+    × HasSecond t (unwrap_or subsecond (Times.nanosecond t)) time
 
 -- the record's second is a leap second that is allowed
 abbrev pub is_leap_second : Record → Bool
@@ -121,41 +123,41 @@ Judged leap AtEnd P (Ok v) = P v × (IsTrue leap → AtEnd)
 Judged leap AtEnd P (Err e) = IsTrue leap × (AtEnd → ⊥) × (e ≡ range (codes "second") true)
 
 -- the parts of a moment with its offset: date, time and offset, each one's refusal in that order
-abbrev pub IsMomentOfParts : ℕ → Record → Result OffsetDateTime Refusal → Type 0
+unfoldable pub IsMomentOfParts : ℕ → Record → Result OffsetDateTime Refusal → Type 0
 IsMomentOfParts Y r = Then (IsDated Y r) (λ d. Then (IsTimed (stand_in r)) (λ t. Then (IsOffset r)
     (λ o. Judged (is_leap_second r) (IsLeapSecondMoment Y (instant Y d t o))
-    (λ v. (v.date ≡ d) × (v.time ≡ t) × (v.offset ≡ o)))))
+    (λ v. (offset_date v ≡ d) × (offset_time v ≡ t) × (offset_of v ≡ o)))))
 
 -- the moment of a record with its offset: that of its timestamp, in UTC, or else of its parts
-abbrev pub IsMoment : ℕ → Record → Result OffsetDateTime Refusal → Type 0
+unfoldable pub IsMoment : ℕ → Record → Result OffsetDateTime Refusal → Type 0
 IsMoment Y r result = MatchOption r.unix_timestamp_nanos (IsMomentOfParts Y r result)
-    (λ n. IsOkAnd result (λ v. IsStamped Y n r.subsecond v.date v.time × IsUtc v.offset))
+    (λ n. IsOkAnd result (λ v. IsStamped Y n r.subsecond (offset_date v) (offset_time v) × IsUtc (offset_of v)))
 
 -- the date and time in UTC of an instant, whose range is that of the dates
 abbrev pub IsInUtc : ℕ → ℤ → Result UtcDateTime Refusal → Type 0
-IsInUtc Y n (Ok u) = clock_nanos Y u.date u.time ≡ n
+IsInUtc Y n (Ok u) = utc_instant Y u ≡ n
 IsInUtc Y n (Err e) = (IsInstant Y n → ⊥) × (e ≡ range (codes "year") true)
 
 -- the parts of a moment in UTC: as with an offset, and then the moment's own refusal
-abbrev pub IsUtcMomentOfParts : ℕ → Record → Result UtcDateTime Refusal → Type 0
+unfoldable pub IsUtcMomentOfParts : ℕ → Record → Result UtcDateTime Refusal → Type 0
 IsUtcMomentOfParts Y r = Then (IsDated Y r) (λ d. Then (IsTimed (stand_in r)) (λ t. Then (IsOffsetOrUtc r)
     (λ o. Then (IsInUtc Y (instant Y d t o))
-    (λ u. Judged (is_leap_second r) (IsLeapSecondStandIn u.date u.time)
-    (λ v. (v.date ≡ u.date) × (v.time ≡ u.time))))))
+    (λ u. Judged (is_leap_second r) (IsLeapSecondStandIn (utc_date u) (utc_time u))
+    (λ v. (utc_date v ≡ utc_date u) × (utc_time v ≡ utc_time u))))))
 
 -- the moment of a record in UTC
-abbrev pub IsUtcMoment : ℕ → Record → Result UtcDateTime Refusal → Type 0
+unfoldable pub IsUtcMoment : ℕ → Record → Result UtcDateTime Refusal → Type 0
 IsUtcMoment Y r result = MatchOption r.unix_timestamp_nanos (IsUtcMomentOfParts Y r result)
-    (λ n. IsOkAnd result (λ v. IsStamped Y n r.subsecond v.date v.time))
+    (λ n. IsOkAnd result (λ v. IsStamped Y n r.subsecond (utc_date v) (utc_time v)))
 
 -- the instant of the moment in UTC, where each refusal says that the information is not enough
-abbrev pub IsInstantOfParts : ℕ → Record → Result Timestamp Refusal → Type 0
+unfoldable pub IsInstantOfParts : ℕ → Record → Result Timestamp Refusal → Type 0
 IsInstantOfParts Y r (Ok v) =
-    (u : UtcDateTime) × IsUtcMomentOfParts Y r (Ok u) × (v.nanoseconds ≡ clock_nanos Y u.date u.time)
+    (u : UtcDateTime) × IsUtcMomentOfParts Y r (Ok u) × (nanoseconds v ≡ utc_instant Y u)
 IsInstantOfParts Y r (Err e) =
     ((refused : Refusal) × IsUtcMomentOfParts Y r (Err refused)) × (e ≡ insufficient)
 
 -- the instant of a record: its timestamp, or else that of its parts
-abbrev pub IsTimestamp : ℕ → Record → Result Timestamp Refusal → Type 0
+unfoldable pub IsTimestamp : ℕ → Record → Result Timestamp Refusal → Type 0
 IsTimestamp Y r result = MatchOption r.unix_timestamp_nanos (IsInstantOfParts Y r result)
-    (λ n. IsOkAnd result (λ v. v.nanoseconds ≡ n))
+    (λ n. IsOkAnd result (λ v. nanoseconds v ≡ n))

@@ -5,6 +5,7 @@ use Rattle.time_values.specs.declared.month.Month.{Month}
 use Rattle.time_values.specs.declared.weekday.Weekday.{Weekday}
 use Rattle.time_values.specs.Calendar.{iso_weeks_in}
 use Rattle.time_values.specs.DateRefusals.{IsIsoDate, is_within}
+use Rattle.time_values.specs.Dates as Dates
 use Rattle.time_values.specs.Dates.{HasParts, ordinal, weekday, weekdays_so_far}
 use Rattle.time_values.specs.Refusal.{Refusal, range}
 use Rattle.time_values.specs.Weekday.{days_from_monday}
@@ -67,11 +68,11 @@ first_row r =
 -- weekday `start` and those before the first full one have the number 0
 abbrev pub IsWeekDate : ℕ → ℕ → ℤ → ℕ → ℕ → Date → Type 0
 IsWeekDate Y start year week w d =
-    (d.year ≡ year) × (weekdays_so_far Y start d ≡ week) × (weekday Y d ≡ w)
+    (Dates.year d ≡ year) × (weekdays_so_far Y start d ≡ week) × (weekday Y d ≡ w)
 
 -- the date is the one that the row names: its getters answer those numbers
 abbrev pub HasRow : ℕ → Row → Date → Type 0
-HasRow Y (by_ordinal year n) d = (d.year ≡ year) × (ordinal d ≡ n)
+HasRow Y (by_ordinal year n) d = (Dates.year d ≡ year) × (ordinal d ≡ n)
 HasRow Y (by_month_and_day year month day) d = HasParts year month day d
 HasRow Y (by_iso_week year week w) d = IsIsoDate Y year week (days_from_monday w) d
 HasRow Y (by_sunday_week year week w) d = IsWeekDate Y 6 year week (days_from_monday w) d

@@ -1,8 +1,12 @@
 //! What a reading of a date and time leaves, and the value that it makes.
 #![tactic(auto)]
 
+mod format_item;
+pub mod laws;
 mod parsed;
 #[cfg(test)]
 mod tests;
+mod walk;
 
+pub use format_item::AnyFormatItem;
 pub use parsed::Parsed;

@@ -1,6 +1,8 @@
 //! What a reading of a date and time leaves.
 mod builders;
+mod component;
 mod getters;
+mod parse;
 mod setters;
 mod try_from;
 

@@ -6,7 +6,7 @@ use Rattle.time_values.specs.declared.time.Time.{Time}
 use Rattle.time_values.specs.declared.utc_offset.UtcOffset.{UtcOffset}
 use Rattle.time_values.specs.Calendar.{IsBetween, year_start, day_limit, month_length}
 use Rattle.time_values.specs.Month.{month_number}
-use Rattle.time_values.specs.Dates.{day_number}
+use Rattle.time_values.specs.Dates.{day_number, year, month, day}
 use Rattle.time_values.specs.Refusal.{Refusal, range}
 use Rattle.time_values.specs.Times.{nanos_of_day}
 use Rattle.time_values.specs.Offsets.{offset_seconds}
@@ -50,7 +50,7 @@ timestamp_refusal Y n = if is_instant Y n then None else Some (range (codes "tim
 abbrev pub IsLeapSecondStandIn : Date → Time → Type 0
 IsLeapSecondStandIn date time =
     (nanos_of_day time + 1 ≡ nanos_per_day)
-    × (date.day ≡ month_length date.year (month_number date.month))
+    × (day date ≡ month_length (year date) (month_number (month date)))
 
 -- the instant is the last nanosecond of a month in UTC
 abbrev pub IsLeapSecondMoment : ℕ → ℤ → Type 0

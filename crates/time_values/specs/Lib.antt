@@ -3,6 +3,7 @@ pub mod Conversions
 pub mod DateRefusals
 pub mod Dates
 pub mod Instants
+pub mod Moments
 pub mod Month
 pub mod Offsets
 pub mod Range

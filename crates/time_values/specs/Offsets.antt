@@ -4,14 +4,24 @@ use Rattle.time_values.specs.declared.utc_offset.UtcOffset.{UtcOffset}
 use Rattle.time_values.specs.Refusal.{Refusal, range}
 use Rattle.time_values.specs.Sign.{same_sign}
 
+-- the parts of an offset
+abbrev pub hours : UtcOffset → ℤ
+hours o = o.hours
+
+abbrev pub minutes : UtcOffset → ℤ
+minutes o = o.minutes
+
+abbrev pub seconds : UtcOffset → ℤ
+seconds o = o.seconds
+
 -- the offset of these parts, each with the sign of the first that is not 0
 abbrev pub HasOffset : ℤ → ℤ → ℤ → UtcOffset → Type 0
 HasOffset h m s o =
-    (o.hours ≡ h) × (o.minutes ≡ same_sign h m) × (o.seconds ≡ same_sign h (same_sign m s))
+    (hours o ≡ h) × (minutes o ≡ same_sign h m) × (seconds o ≡ same_sign h (same_sign m s))
 
 -- how far a clock is ahead of UTC, in seconds
 abbrev pub offset_seconds : UtcOffset → ℤ
-offset_seconds o = o.hours *ℤ pos 3600 +ℤ o.minutes *ℤ pos 60 +ℤ o.seconds
+offset_seconds o = hours o *ℤ pos 3600 +ℤ minutes o *ℤ pos 60 +ℤ seconds o
 
 -- the first part that is out of range
 abbrev pub offset_refusal : ℤ → ℤ → ℤ → Option Refusal
@@ -22,4 +32,4 @@ offset_refusal h m s =
 
 -- no offset
 abbrev pub IsUtc : UtcOffset → Type 0
-IsUtc o = (o.hours ≡ pos 0) × (o.minutes ≡ pos 0) × (o.seconds ≡ pos 0)
+IsUtc o = (hours o ≡ pos 0) × (minutes o ≡ pos 0) × (seconds o ≡ pos 0)

@@ -3,13 +3,30 @@ use Rattle.std.specs.Prelude.{◌≡◌, ℕ, ◌+◌, ◌*◌, false, nat_le, i
 use Rattle.time_values.specs.declared.time.Time.{Time}
 use Rattle.time_values.specs.Refusal.{Refusal, range}
 
+-- the numbers that a clock shows
+abbrev pub hour : Time → ℕ
+hour t = t.hour
+
+abbrev pub minute : Time → ℕ
+minute t = t.minute
+
+abbrev pub second : Time → ℕ
+second t = t.second
+
+abbrev pub nanosecond : Time → ℕ
+nanosecond t = t.nanosecond
+
 -- nanoseconds since midnight
 abbrev pub nanos_of_day : Time → ℕ
-nanos_of_day t = (t.hour * 3600 + t.minute * 60 + t.second) * 1_000_000_000 + t.nanosecond
+nanos_of_day t = (hour t * 3600 + minute t * 60 + second t) * 1_000_000_000 + nanosecond t
 
 -- the time has these parts
 abbrev pub HasClock : ℕ → ℕ → ℕ → ℕ → Time → Type 0
-HasClock h m s n t = (t.hour ≡ h) × (t.minute ≡ m) × (t.second ≡ s) × (t.nanosecond ≡ n)
+HasClock h m s n t = (hour t ≡ h) × (minute t ≡ m) × (second t ≡ s) × (nanosecond t ≡ n)
+
+-- the time is that one with another nanosecond
+abbrev pub HasSecond : Time → ℕ → Time → Type 0
+HasSecond before n t = HasClock (hour before) (minute before) (second before) n t
 
 -- the refusal of a nanosecond of the second
 abbrev pub nanosecond_refusal : ℕ → Option Refusal

@@ -64,7 +64,7 @@ impl Date {
     /// conditional `ordinal` where the year has no such day.
     pub fn from_ordinal_date(year: i32, ordinal: u16) -> Result<Date, ComponentRange>
         ensures { Answers (ordinal_date_refusal greatest_year year ordinal)
-            (λ d. (d.year ≡ year) × (Dates.ordinal d ≡ ordinal)) result }
+            (λ d. (Dates.year d ≡ year) × (Dates.ordinal d ≡ ordinal)) result }
     {
         if year < -GREATEST_YEAR || year > GREATEST_YEAR {
             return Err(ComponentRange {
@@ -85,7 +85,7 @@ impl Date {
     fn at_ordinal(year: i32, ordinal: u16) -> Date
         requires year_in { Calendar.IsYear greatest_year year }
         requires ordinal_in { IsInRange 1 (Calendar.year_length year) ordinal }
-        ensures year { result.year ≡ year }
+        ensures year { Dates.year result ≡ year }
         ensures ordinal { Dates.ordinal result ≡ ordinal }
     {
         let (month, day) = month_and_day(year, ordinal);
@@ -99,7 +99,7 @@ impl Date {
     /// The year, -9999 to 9999.
     #[inline]
     pub fn year(self) -> i32
-        ensures { result ≡ self.year }
+        ensures { result ≡ Dates.year self }
     {
         self.year
     }
@@ -107,7 +107,7 @@ impl Date {
     /// The month.
     #[inline]
     pub fn month(self) -> Month
-        ensures { result ≡ self.month }
+        ensures { result ≡ Dates.month self }
     {
         self.month
     }
@@ -115,7 +115,7 @@ impl Date {
     /// The day of the month, 1 to 31.
     #[inline]
     pub fn day(self) -> u8
-        ensures { result ≡ self.day }
+        ensures { result ≡ Dates.day self }
     {
         self.day
     }
@@ -123,7 +123,7 @@ impl Date {
     /// The place of the day in its year, 1 to 366.
     pub fn ordinal(self) -> u16
         ensures value { result ≡ Dates.ordinal self }
-        ensures within { IsInRange 1 (Calendar.year_length self.year) result }
+        ensures within { IsInRange 1 (Calendar.year_length (Dates.year self)) result }
     {
         let month = self.month.number() as u16;
         days_before_month(self.year, month) + self.day as u16

@@ -1,9 +1,10 @@
 ghost use Rattle.std.specs.Prelude.{◌≡◌, ◌↔◌, IsTrue, IfSome, IfNone};
 ghost use Rattle.time_values.specs.Instants as Instants;
+ghost use Rattle.time_values.specs.Moments.{offset_date, offset_time, offset_of, offset_instant, utc_instant};
 ghost use Rattle.time_values.specs.Offsets.{IsUtc};
 ghost use Rattle.time_values.specs.Range.{greatest_year};
 ghost use Rattle.time_values.specs.Refusal.{Answers};
-ghost use Rattle.time_values.specs.Times.{HasClock, nanosecond_refusal};
+ghost use Rattle.time_values.specs.Times.{HasSecond, nanosecond_refusal};
 
 use crate::days::DAY_LIMIT;
 use crate::error::ComponentRange;
@@ -22,9 +23,9 @@ impl OffsetDateTime {
     /// outside the range of dates in UTC.
     #[inline]
     pub fn new_in_offset(date: Date, time: Time, offset: UtcOffset) -> OffsetDateTime
-        ensures date { result.date ≡ date }
-        ensures time { result.time ≡ time }
-        ensures offset { result.offset ≡ offset }
+        ensures date { offset_date result ≡ date }
+        ensures time { offset_time result ≡ time }
+        ensures offset { offset_of result ≡ offset }
     {
         OffsetDateTime { date, time, offset }
     }
@@ -33,7 +34,8 @@ impl OffsetDateTime {
     /// `timestamp` outside -377705116800000000000 to 253402300799999999999.
     pub fn from_unix_timestamp_nanos(nanos: i128) -> Result<OffsetDateTime, ComponentRange>
         ensures { Answers (Instants.timestamp_refusal greatest_year nanos)
-            (λ o. (Instants.instant greatest_year o.date o.time o.offset ≡ nanos) × IsUtc o.offset)
+            (λ o. (offset_instant greatest_year o ≡ nanos)
+            × IsUtc (offset_of o))
             result }
     {
         let utc = UtcDateTime::from_unix_timestamp_nanos(nanos)?;
@@ -47,7 +49,7 @@ impl OffsetDateTime {
     /// The date on the clock.
     #[inline]
     pub fn date(self) -> Date
-        ensures { result ≡ self.date }
+        ensures { result ≡ offset_date self }
     {
         self.date
     }
@@ -55,7 +57,7 @@ impl OffsetDateTime {
     /// The time on the clock.
     #[inline]
     pub fn time(self) -> Time
-        ensures { result ≡ self.time }
+        ensures { result ≡ offset_time self }
     {
         self.time
     }
@@ -63,14 +65,14 @@ impl OffsetDateTime {
     /// How far the clock is ahead of UTC.
     #[inline]
     pub fn offset(self) -> UtcOffset
-        ensures { result ≡ self.offset }
+        ensures { result ≡ offset_of self }
     {
         self.offset
     }
 
     /// The nanoseconds since 1970-01-01T00:00:00Z, also where they have no date in UTC.
     pub fn unix_timestamp_nanos(self) -> i128
-        ensures { result ≡ Instants.instant greatest_year self.date self.time self.offset }
+        ensures { result ≡ offset_instant greatest_year self }
     {
         let clock = UtcDateTime::new(self.date, self.time).unix_timestamp_nanos();
         clock - self.offset.whole_seconds() as i128 * 1_000_000_000
@@ -78,9 +80,9 @@ impl OffsetDateTime {
 
     /// The same second with another nanosecond. Refused as `nanosecond` above 999999999.
     pub fn replace_nanosecond(self, nanosecond: u32) -> Result<OffsetDateTime, ComponentRange>
-        ensures { Answers (nanosecond_refusal nanosecond) (λ o. (o.date ≡ self.date)
-            × HasClock self.time.hour self.time.minute self.time.second nanosecond o.time
-            × (o.offset ≡ self.offset)) result }
+        ensures { Answers (nanosecond_refusal nanosecond) (λ o. (offset_date o ≡ offset_date self)
+            × HasSecond (offset_time self) nanosecond (offset_time o)
+            × (offset_of o ≡ offset_of self)) result }
     {
         let time = self.time.replace_nanosecond(nanosecond)?;
         Ok(OffsetDateTime {
@@ -93,10 +95,8 @@ impl OffsetDateTime {
     /// The same moment in UTC, or `None` where it lies outside the range of dates there.
     #[tactic(auto, using(crate::proofs::InstantLemmas::instant_facts))]
     pub fn checked_to_utc(self) -> Option<UtcDateTime>
-        ensures value { IfSome result (λ u. Instants.clock_nanos greatest_year u.date u.time
-            ≡ Instants.instant greatest_year self.date self.time self.offset) }
-        ensures none { IfNone result (¬ (Instants.IsInstant greatest_year
-            (Instants.instant greatest_year self.date self.time self.offset))) }
+        ensures value { IfSome result (λ u. utc_instant greatest_year u ≡ offset_instant greatest_year self) }
+        ensures none { IfNone result (¬ (Instants.IsInstant greatest_year (offset_instant greatest_year self))) }
     {
         // An offset moves a time by less than two days.
         let seconds = self.time.seconds_of_day() as i32 - self.offset.whole_seconds() + 172_800;
@@ -115,8 +115,7 @@ impl OffsetDateTime {
     /// Whether a leap second may be told as this moment: in UTC it is the last nanosecond of a
     /// month.
     pub fn is_valid_leap_second_stand_in(self) -> bool
-        ensures { IsTrue result ↔ Instants.IsLeapSecondMoment greatest_year
-            (Instants.instant greatest_year self.date self.time self.offset) }
+        ensures { IsTrue result ↔ Instants.IsLeapSecondMoment greatest_year (offset_instant greatest_year self) }
     {
         match self.checked_to_utc() {
             Some(utc) => utc.is_valid_leap_second_stand_in(),

@@ -1,4 +1,5 @@
 ghost use Rattle.std.specs.Prelude.{◌≡◌};
+ghost use Rattle.time_values.specs.Moments.{plain_date, plain_time};
 
 use crate::{Date, Time};
 
@@ -13,8 +14,8 @@ impl PlainDateTime {
     /// That date and time.
     #[inline]
     pub fn new(date: Date, time: Time) -> PlainDateTime
-        ensures date { result.date ≡ date }
-        ensures time { result.time ≡ time }
+        ensures date { plain_date result ≡ date }
+        ensures time { plain_time result ≡ time }
     {
         PlainDateTime { date, time }
     }
@@ -22,7 +23,7 @@ impl PlainDateTime {
     /// The date.
     #[inline]
     pub fn date(self) -> Date
-        ensures { result ≡ self.date }
+        ensures { result ≡ plain_date self }
     {
         self.date
     }
@@ -30,7 +31,7 @@ impl PlainDateTime {
     /// The time of day.
     #[inline]
     pub fn time(self) -> Time
-        ensures { result ≡ self.time }
+        ensures { result ≡ plain_time self }
     {
         self.time
     }

@@ -17,6 +17,7 @@ pub struct Time {
 
 impl Time {
     ghost use Rattle.time_values.specs.Refusal.{Answers};
+    ghost use Rattle.time_values.specs.Times as Times;
     ghost use Rattle.time_values.specs.Times.{HasClock, nanosecond_refusal, time_refusal, nanos_of_day};
 
     /// The time with these parts. The first one that is out of range is refused: `hour` above 23,
@@ -55,7 +56,7 @@ impl Time {
     /// The hour, 0 to 23.
     #[inline]
     pub fn hour(self) -> u8
-        ensures { result ≡ self.hour }
+        ensures { result ≡ Times.hour self }
     {
         self.hour
     }
@@ -63,7 +64,7 @@ impl Time {
     /// The minute, 0 to 59.
     #[inline]
     pub fn minute(self) -> u8
-        ensures { result ≡ self.minute }
+        ensures { result ≡ Times.minute self }
     {
         self.minute
     }
@@ -71,7 +72,7 @@ impl Time {
     /// The second, 0 to 59.
     #[inline]
     pub fn second(self) -> u8
-        ensures { result ≡ self.second }
+        ensures { result ≡ Times.second self }
     {
         self.second
     }
@@ -79,7 +80,7 @@ impl Time {
     /// The nanosecond, 0 to 999999999.
     #[inline]
     pub fn nanosecond(self) -> u32
-        ensures { result ≡ self.nanosecond }
+        ensures { result ≡ Times.nanosecond self }
     {
         self.nanosecond
     }
@@ -88,7 +89,7 @@ impl Time {
     #[inline]
     pub(crate) fn replace_nanosecond(self, nanosecond: u32) -> Result<Time, ComponentRange>
         ensures { Answers (nanosecond_refusal nanosecond)
-            (HasClock self.hour self.minute self.second nanosecond) result }
+            (Times.HasSecond self nanosecond) result }
     {
         Time::from_hms_nano(self.hour, self.minute, self.second, nanosecond)
     }
@@ -97,7 +98,7 @@ impl Time {
     #[inline]
     pub(crate) fn at_second_of_day(self, second: u32) -> Time
         requires { second < 86_400 }
-        ensures { nanos_of_day result ≡ second * 1_000_000_000 + self.nanosecond }
+        ensures { nanos_of_day result ≡ second * 1_000_000_000 + Times.nanosecond self }
     {
         Time {
             hour: (second / 3600) as u8,
@@ -124,7 +125,7 @@ impl Time {
     /// The whole seconds since midnight.
     #[inline]
     pub(crate) fn seconds_of_day(self) -> u32
-        ensures value { result ≡ self.hour * 3600 + self.minute * 60 + self.second }
+        ensures value { result ≡ Times.hour self * 3600 + Times.minute self * 60 + Times.second self }
         ensures bound { result < 86_400 }
     {
         self.hour as u32 * 3600 + self.minute as u32 * 60 + self.second as u32

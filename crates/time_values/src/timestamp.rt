@@ -1,5 +1,5 @@
 ghost use Rattle.std.specs.Prelude.{◌≡◌};
-ghost use Rattle.time_values.specs.Instants.{IsInstant, clock_nanos, timestamp_refusal};
+ghost use Rattle.time_values.specs.Instants.{IsInstant, timestamp_refusal};
 ghost use Rattle.time_values.specs.Range.{greatest_year};
 
 use crate::UtcDateTime;
@@ -14,13 +14,14 @@ pub struct Timestamp {
 }
 
 impl Timestamp {
+    ghost use Rattle.time_values.specs.Moments as Moments;
     ghost use Rattle.time_values.specs.Refusal.{Answers};
 
     /// The moment that many nanoseconds after 1970-01-01T00:00:00Z. Refused as `timestamp` outside
     /// -377705116800000000000 to 253402300799999999999.
     pub fn from_nanoseconds(nanoseconds: i128) -> Result<Timestamp, ComponentRange>
         ensures { Answers (timestamp_refusal greatest_year nanoseconds)
-            (λ t. t.nanoseconds ≡ nanoseconds) result }
+            (λ t. Moments.nanoseconds t ≡ nanoseconds) result }
     {
         if !is_instant(nanoseconds) {
             return Err(ComponentRange {
@@ -34,14 +35,18 @@ impl Timestamp {
     /// The nanoseconds since 1970-01-01T00:00:00Z.
     #[inline]
     pub fn nanoseconds(self) -> i128
-        ensures { result ≡ self.nanoseconds }
+        ensures { result ≡ Moments.nanoseconds self }
     {
         self.nanoseconds
     }
 }
 
 impl From<UtcDateTime> for Timestamp {
-    ghost from_gives = { λ u t. t.nanoseconds ≡ clock_nanos greatest_year u.date u.time };
+    ghost use Rattle.std.specs.Prelude.{◌≡◌};
+    ghost use Rattle.time_values.specs.Moments.{nanoseconds, utc_instant};
+    ghost use Rattle.time_values.specs.Range.{greatest_year};
+
+    ghost from_gives = { λ u t. nanoseconds t ≡ utc_instant greatest_year u };
 
     fn from(date_time: UtcDateTime) -> Timestamp {
         Timestamp {

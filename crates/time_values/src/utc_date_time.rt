@@ -1,8 +1,9 @@
 ghost use Rattle.std.specs.Prelude.{◌≡◌, ◌↔◌, IsTrue};
 ghost use Rattle.time_values.specs.Instants as Instants;
+ghost use Rattle.time_values.specs.Moments.{utc_date, utc_time, utc_instant};
 ghost use Rattle.time_values.specs.Range.{greatest_year};
 ghost use Rattle.time_values.specs.Refusal.{Answers};
-ghost use Rattle.time_values.specs.Times.{HasClock, nanosecond_refusal};
+ghost use Rattle.time_values.specs.Times.{HasSecond, nanosecond_refusal};
 
 use crate::days::{DAY_LIMIT, EPOCH_DAY};
 use crate::error::ComponentRange;
@@ -27,8 +28,8 @@ impl UtcDateTime {
     /// That date and time in UTC.
     #[inline]
     pub fn new(date: Date, time: Time) -> UtcDateTime
-        ensures date { result.date ≡ date }
-        ensures time { result.time ≡ time }
+        ensures date { utc_date result ≡ date }
+        ensures time { utc_time result ≡ time }
     {
         UtcDateTime { date, time }
     }
@@ -37,7 +38,7 @@ impl UtcDateTime {
     /// -377705116800000000000 to 253402300799999999999.
     pub fn from_unix_timestamp_nanos(nanos: i128) -> Result<UtcDateTime, ComponentRange>
         ensures { Answers (Instants.timestamp_refusal greatest_year nanos)
-            (λ u. Instants.clock_nanos greatest_year u.date u.time ≡ nanos) result }
+            (λ u. utc_instant greatest_year u ≡ nanos) result }
     {
         if !is_instant(nanos) {
             return Err(ComponentRange {
@@ -52,7 +53,7 @@ impl UtcDateTime {
     #[tactic(auto, using(crate::proofs::InstantLemmas::instant_facts))]
     fn at_instant(nanos: i128) -> UtcDateTime
         requires { Instants.IsInstant greatest_year nanos }
-        ensures { Instants.clock_nanos greatest_year result.date result.time ≡ nanos }
+        ensures { utc_instant greatest_year result ≡ nanos }
     {
         let since_first = (nanos - MIN_NANOS) as u128;
         let days = since_first / NANOS_PER_DAY;
@@ -66,7 +67,7 @@ impl UtcDateTime {
     /// The date.
     #[inline]
     pub fn date(self) -> Date
-        ensures { result ≡ self.date }
+        ensures { result ≡ utc_date self }
     {
         self.date
     }
@@ -74,14 +75,14 @@ impl UtcDateTime {
     /// The time of day.
     #[inline]
     pub fn time(self) -> Time
-        ensures { result ≡ self.time }
+        ensures { result ≡ utc_time self }
     {
         self.time
     }
 
     /// The nanoseconds since 1970-01-01T00:00:00Z.
     pub fn unix_timestamp_nanos(self) -> i128
-        ensures value { result ≡ Instants.clock_nanos greatest_year self.date self.time }
+        ensures value { result ≡ utc_instant greatest_year self }
         ensures range { Instants.IsInstant greatest_year result }
     {
         let days = self.date.day_number() as i128 - EPOCH_DAY as i128;
@@ -90,8 +91,8 @@ impl UtcDateTime {
 
     /// The same second with another nanosecond. Refused as `nanosecond` above 999999999.
     pub fn replace_nanosecond(self, nanosecond: u32) -> Result<UtcDateTime, ComponentRange>
-        ensures { Answers (nanosecond_refusal nanosecond) (λ u. (u.date ≡ self.date)
-            × HasClock self.time.hour self.time.minute self.time.second nanosecond u.time) result }
+        ensures { Answers (nanosecond_refusal nanosecond) (λ u. (utc_date u ≡ utc_date self)
+            × HasSecond (utc_time self) nanosecond (utc_time u)) result }
     {
         let time = self.time.replace_nanosecond(nanosecond)?;
         Ok(UtcDateTime {
@@ -102,7 +103,7 @@ impl UtcDateTime {
 
     /// Whether a leap second may be told as this moment: the last nanosecond of a month.
     pub fn is_valid_leap_second_stand_in(self) -> bool
-        ensures { IsTrue result ↔ Instants.IsLeapSecondStandIn self.date self.time }
+        ensures { IsTrue result ↔ Instants.IsLeapSecondStandIn (utc_date self) (utc_time self) }
     {
         self.time.is_last_nanosecond()
             && self.date.day() == self.date.month().length(self.date.year())

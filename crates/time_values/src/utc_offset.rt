@@ -17,6 +17,7 @@ pub struct UtcOffset {
 
 impl UtcOffset {
     ghost use Rattle.time_values.specs.Refusal.{Answers};
+    ghost use Rattle.time_values.specs.Offsets as Offsets;
     ghost use Rattle.time_values.specs.Offsets.{HasOffset, offset_refusal, offset_seconds};
 
     /// UTC itself, an offset of 0.
@@ -61,7 +62,9 @@ impl UtcOffset {
     /// The hours (-25 to 25), minutes and seconds (-59 to 59).
     #[inline]
     pub fn as_hms(self) -> (i8, i8, i8)
-        ensures { (result.0 ≡ self.hours) × (result.1 ≡ self.minutes) × (result.2 ≡ self.seconds) }
+        ensures hours { result.0 ≡ Offsets.hours self }
+        ensures minutes { result.1 ≡ Offsets.minutes self }
+        ensures seconds { result.2 ≡ Offsets.seconds self }
     {
         (self.hours, self.minutes, self.seconds)
     }

@@ -33,7 +33,8 @@ impl Parsed {
     /// Whether the century is negative, -0 included; `None` where no century is known.
     #[inline]
     pub fn year_century_is_negative(&self) -> Option<bool>
-        ensures { result ≡ option_map (λ _. self.now.year_century_is_negative) self.now.year_century }
+        ensures { result ≡ option_map (λ _. self.now.year_century_is_negative)
+            self.now.year_century }
     {
         match self.year_century {
             Some(_) => Some(self.year_century_is_negative),
@@ -65,7 +66,8 @@ impl Parsed {
     #[inline]
     pub fn iso_year_century(&self) -> Option<i16>
         ensures value { result ≡ self.now.iso_year_century }
-        ensures in_range { IfSome result (λ v. InRange greatest_year (iso_year_century_is v false)) }
+        ensures in_range { IfSome result
+            (λ v. InRange greatest_year (iso_year_century_is v false)) }
     {
         self.iso_year_century
     }
@@ -73,7 +75,8 @@ impl Parsed {
     /// Whether the ISO century is negative, -0 included; `None` where no ISO century is known.
     #[inline]
     pub fn iso_year_century_is_negative(&self) -> Option<bool>
-        ensures { result ≡ option_map (λ _. self.now.iso_year_century_is_negative) self.now.iso_year_century }
+        ensures { result ≡ option_map (λ _. self.now.iso_year_century_is_negative)
+            self.now.iso_year_century }
     {
         match self.iso_year_century {
             Some(_) => Some(self.iso_year_century_is_negative),
@@ -120,7 +123,8 @@ impl Parsed {
     #[inline]
     pub fn iso_week_number(&self) -> Option<NonZero<u8>>
         ensures value { option_map non_zero_u8_get result ≡ self.now.iso_week_number }
-        ensures in_range { IfSome result (λ v. InRange greatest_year (iso_week_number_is (non_zero_u8_get v))) }
+        ensures in_range { IfSome result
+            (λ v. InRange greatest_year (iso_week_number_is (non_zero_u8_get v))) }
     {
         NonZero::<u8>::new(self.iso_week_number?)
     }
@@ -137,7 +141,8 @@ impl Parsed {
     #[inline]
     pub fn ordinal(&self) -> Option<NonZero<u16>>
         ensures value { option_map non_zero_u16_get result ≡ self.now.ordinal }
-        ensures in_range { IfSome result (λ v. InRange greatest_year (ordinal_is (non_zero_u16_get v))) }
+        ensures in_range { IfSome result
+            (λ v. InRange greatest_year (ordinal_is (non_zero_u16_get v))) }
     {
         NonZero::<u16>::new(self.ordinal?)
     }
@@ -164,7 +169,8 @@ impl Parsed {
     #[inline]
     pub fn hour_12(&self) -> Option<NonZero<u8>>
         ensures value { option_map non_zero_u8_get result ≡ self.now.hour_12 }
-        ensures in_range { IfSome result (λ v. InRange greatest_year (hour_12_is (non_zero_u8_get v))) }
+        ensures in_range { IfSome result
+            (λ v. InRange greatest_year (hour_12_is (non_zero_u8_get v))) }
     {
         NonZero::<u8>::new(self.hour_12?)
     }
@@ -226,11 +232,12 @@ impl Parsed {
         }
     }
 
-    /// The minutes of the offset from UTC, from -59 to 59: the stored number, negated where the offset's
-    /// hour was read with a minus.
+    /// The minutes of the offset from UTC, from -59 to 59: the stored number, negated where the
+    /// offset's hour was read with a minus.
     #[inline]
     pub fn offset_minute_signed(&self) -> Option<i8>
-        ensures value { result ≡ option_map (signed_by self.now.offset_is_negative) self.now.offset_minute }
+        ensures value { result ≡ option_map (signed_by self.now.offset_is_negative)
+            self.now.offset_minute }
         ensures in_range { IfSome result (λ v. InRange greatest_year (offset_minute_is v)) }
     {
         let value = self.offset_minute?;
@@ -254,11 +261,12 @@ impl Parsed {
         }
     }
 
-    /// The seconds of the offset from UTC, from -59 to 59: the stored number, negated where the offset's
-    /// hour was read with a minus.
+    /// The seconds of the offset from UTC, from -59 to 59: the stored number, negated where the
+    /// offset's hour was read with a minus.
     #[inline]
     pub fn offset_second_signed(&self) -> Option<i8>
-        ensures value { result ≡ option_map (signed_by self.now.offset_is_negative) self.now.offset_second }
+        ensures value { result ≡ option_map (signed_by self.now.offset_is_negative)
+            self.now.offset_second }
         ensures in_range { IfSome result (λ v. InRange greatest_year (offset_second_is v)) }
     {
         let value = self.offset_second?;

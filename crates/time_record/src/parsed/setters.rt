@@ -27,7 +27,8 @@ impl Parsed {
     /// range.
     #[inline]
     pub fn set_year_century(&mut self, value: i16, is_negative: bool) -> Option<()>
-        ensures { Sets (put greatest_year (year_century_is value is_negative) self.old) self.old result self.new }
+        ensures { Sets (put greatest_year (year_century_is value is_negative) self.old)
+            self.old result self.new }
     {
         if value.unsigned_abs() as u32 > GREATEST_YEAR / 100 {
             return None;
@@ -40,7 +41,8 @@ impl Parsed {
     /// Sets the last two digits of the calendar year, from 0 to 99. `None` and unchanged outside.
     #[inline]
     pub fn set_year_last_two(&mut self, value: u8) -> Option<()>
-        ensures { Sets (put greatest_year (year_last_two_is value) self.old) self.old result self.new }
+        ensures { Sets (put greatest_year (year_last_two_is value) self.old)
+            self.old result self.new }
     {
         if value > 99 {
             return None;
@@ -66,7 +68,8 @@ impl Parsed {
     /// outside the range.
     #[inline]
     pub fn set_iso_year_century(&mut self, value: i16, is_negative: bool) -> Option<()>
-        ensures { Sets (put greatest_year (iso_year_century_is value is_negative) self.old) self.old result self.new }
+        ensures { Sets (put greatest_year (iso_year_century_is value is_negative) self.old)
+            self.old result self.new }
     {
         if value.unsigned_abs() as u32 > GREATEST_YEAR / 100 {
             return None;
@@ -80,7 +83,8 @@ impl Parsed {
     /// unchanged outside.
     #[inline]
     pub fn set_iso_year_last_two(&mut self, value: u8) -> Option<()>
-        ensures { Sets (put greatest_year (iso_year_last_two_is value) self.old) self.old result self.new }
+        ensures { Sets (put greatest_year (iso_year_last_two_is value) self.old)
+            self.old result self.new }
     {
         if value > 99 {
             return None;
@@ -102,7 +106,8 @@ impl Parsed {
     /// and unchanged outside.
     #[inline]
     pub fn set_sunday_week_number(&mut self, value: u8) -> Option<()>
-        ensures { Sets (put greatest_year (sunday_week_number_is value) self.old) self.old result self.new }
+        ensures { Sets (put greatest_year (sunday_week_number_is value) self.old)
+            self.old result self.new }
     {
         if value > 53 {
             return None;
@@ -115,7 +120,8 @@ impl Parsed {
     /// and unchanged outside.
     #[inline]
     pub fn set_monday_week_number(&mut self, value: u8) -> Option<()>
-        ensures { Sets (put greatest_year (monday_week_number_is value) self.old) self.old result self.new }
+        ensures { Sets (put greatest_year (monday_week_number_is value) self.old)
+            self.old result self.new }
     {
         if value > 53 {
             return None;
@@ -128,7 +134,8 @@ impl Parsed {
     /// and unchanged outside.
     #[inline]
     pub fn set_iso_week_number(&mut self, value: NonZero<u8>) -> Option<()>
-        ensures { Sets (put greatest_year (iso_week_number_is (non_zero_u8_get value)) self.old) self.old result self.new }
+        ensures { Sets (put greatest_year (iso_week_number_is (non_zero_u8_get value)) self.old)
+            self.old result self.new }
     {
         if value.get() > 53 {
             return None;
@@ -149,7 +156,8 @@ impl Parsed {
     /// Sets the day of the year, from 1 to 366. `None` and unchanged outside.
     #[inline]
     pub fn set_ordinal(&mut self, value: NonZero<u16>) -> Option<()>
-        ensures { Sets (put greatest_year (ordinal_is (non_zero_u16_get value)) self.old) self.old result self.new }
+        ensures { Sets (put greatest_year (ordinal_is (non_zero_u16_get value)) self.old)
+            self.old result self.new }
     {
         if value.get() > 366 {
             return None;
@@ -161,7 +169,8 @@ impl Parsed {
     /// Sets the day of the month, from 1 to 31. `None` and unchanged outside.
     #[inline]
     pub fn set_day(&mut self, value: NonZero<u8>) -> Option<()>
-        ensures { Sets (put greatest_year (day_is (non_zero_u8_get value)) self.old) self.old result self.new }
+        ensures { Sets (put greatest_year (day_is (non_zero_u8_get value)) self.old)
+            self.old result self.new }
     {
         if value.get() > 31 {
             return None;
@@ -186,7 +195,8 @@ impl Parsed {
     /// outside.
     #[inline]
     pub fn set_hour_12(&mut self, value: NonZero<u8>) -> Option<()>
-        ensures { Sets (put greatest_year (hour_12_is (non_zero_u8_get value)) self.old) self.old result self.new }
+        ensures { Sets (put greatest_year (hour_12_is (non_zero_u8_get value)) self.old)
+            self.old result self.new }
     {
         if value.get() > 12 {
             return None;
@@ -198,7 +208,8 @@ impl Parsed {
     /// Sets whether `hour_12` lies in the second half of the day; never refuses.
     #[inline]
     pub fn set_hour_12_is_pm(&mut self, value: bool) -> Option<()>
-        ensures { Sets (put greatest_year (hour_12_is_pm_is value) self.old) self.old result self.new }
+        ensures { Sets (put greatest_year (hour_12_is_pm_is value) self.old)
+            self.old result self.new }
     {
         self.hour_12_is_pm = Some(value);
         Some(())
@@ -245,7 +256,8 @@ impl Parsed {
     /// The flag of a negative offset stays as it was.
     #[inline]
     pub fn set_offset_hour(&mut self, value: i8) -> Option<()>
-        ensures { Sets (put greatest_year (offset_hour_is value) self.old) self.old result self.new }
+        ensures { Sets (put greatest_year (offset_hour_is value) self.old)
+            self.old result self.new }
     {
         if value.unsigned_abs() > 25 {
             return None;
@@ -259,7 +271,8 @@ impl Parsed {
     #[deprecated(note = "`set_offset_minute_signed` takes a sign")]
     #[inline]
     pub fn set_offset_minute(&mut self, value: u8) -> Option<()>
-        ensures { Sets (put greatest_year (offset_minute_is (pos value)) self.old) self.old result self.new }
+        ensures { Sets (put greatest_year (offset_minute_is (pos value)) self.old)
+            self.old result self.new }
     {
         if value > 59 {
             return None;
@@ -270,7 +283,8 @@ impl Parsed {
     /// Sets the minutes of the offset from UTC, from -59 to 59. `None` and unchanged outside.
     #[inline]
     pub fn set_offset_minute_signed(&mut self, value: i8) -> Option<()>
-        ensures { Sets (put greatest_year (offset_minute_is value) self.old) self.old result self.new }
+        ensures { Sets (put greatest_year (offset_minute_is value) self.old)
+            self.old result self.new }
     {
         if value.unsigned_abs() > 59 {
             return None;
@@ -284,7 +298,8 @@ impl Parsed {
     #[deprecated(note = "`set_offset_second_signed` takes a sign")]
     #[inline]
     pub fn set_offset_second(&mut self, value: u8) -> Option<()>
-        ensures { Sets (put greatest_year (offset_second_is (pos value)) self.old) self.old result self.new }
+        ensures { Sets (put greatest_year (offset_second_is (pos value)) self.old)
+            self.old result self.new }
     {
         if value > 59 {
             return None;
@@ -295,7 +310,8 @@ impl Parsed {
     /// Sets the seconds of the offset from UTC, from -59 to 59. `None` and unchanged outside.
     #[inline]
     pub fn set_offset_second_signed(&mut self, value: i8) -> Option<()>
-        ensures { Sets (put greatest_year (offset_second_is value) self.old) self.old result self.new }
+        ensures { Sets (put greatest_year (offset_second_is value) self.old)
+            self.old result self.new }
     {
         if value.unsigned_abs() > 59 {
             return None;
@@ -308,7 +324,8 @@ impl Parsed {
     /// 253402300799999999999. `None` and unchanged outside.
     #[inline]
     pub fn set_unix_timestamp_nanos(&mut self, value: i128) -> Option<()>
-        ensures { Sets (put greatest_year (unix_timestamp_nanos_is value) self.old) self.old result self.new }
+        ensures { Sets (put greatest_year (unix_timestamp_nanos_is value) self.old)
+            self.old result self.new }
     {
         if Timestamp::from_nanoseconds(value).is_err() {
             return None;

@@ -27,6 +27,7 @@ impl TryFrom<Parsed> for Date {
     ghost try_from_gives = { λ p r. IsDated greatest_year p (parsed_seen r) };
 
     #[inline]
+    #[tactic(auto, unfolding(crate::specs::Resolution::IsDated))]
     fn try_from(parsed: Parsed) -> Result<Date, TryFromParsed> {
         let year = calendar_year(&parsed);
         if let (Some(year), Some(ordinal)) = (year, parsed.ordinal()) {

@@ -17,6 +17,7 @@ impl TryFrom<Parsed> for UtcOffset {
     ghost try_from_gives = { λ p r. IsOffset p (parsed_seen r) };
 
     #[inline]
+    #[tactic(auto, unfolding(crate::specs::Resolution::IsOffset))]
     fn try_from(parsed: Parsed) -> Result<UtcOffset, TryFromParsed> {
         match parsed.offset_hour() {
             Some(hour) => offset_of_hour(hour, &parsed),
@@ -27,6 +28,7 @@ impl TryFrom<Parsed> for UtcOffset {
 
 // The offset of a record that has that hour.
 #[inline]
+#[tactic(auto, unfolding(crate::specs::Resolution::IsOffset))]
 fn offset_of_hour(hour: i8, parsed: &Parsed) -> Result<UtcOffset, TryFromParsed>
     requires { parsed.now.offset_hour ≡ Some hour }
     ensures { IsOffset parsed.now (parsed_seen result) }

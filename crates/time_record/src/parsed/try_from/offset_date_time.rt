@@ -2,6 +2,7 @@
 ghost use Rattle.std.specs.Prelude.{◌≤◌, IsOkAnd, IsTrue};
 ghost use Rattle.std.specs.Option.{ForSome};
 ghost use Rattle.time_values.specs.Instants.{is_instant};
+ghost use Rattle.time_values.specs.Moments.{offset_date, offset_time, offset_of};
 ghost use Rattle.time_values.specs.Offsets.{IsUtc};
 ghost use Rattle.time_values.specs.Range.{greatest_year};
 ghost use Rattle.time_record.specs.Resolution.{IsMoment, IsMomentOfParts, IsStamped, parsed_seen};
@@ -23,6 +24,7 @@ impl TryFrom<Parsed> for OffsetDateTime {
     ghost try_from_gives = { λ p r. IsMoment greatest_year p (parsed_seen r) };
 
     #[inline]
+    #[tactic(auto, unfolding(crate::specs::Resolution::IsMoment))]
     fn try_from(parsed: Parsed) -> Result<OffsetDateTime, TryFromParsed> {
         match parsed.unix_timestamp_nanos() {
             Some(nanos) => moment_at(nanos, parsed.subsecond()),
@@ -36,7 +38,8 @@ fn moment_at(nanos: i128, subsecond: Option<u32>) -> Result<OffsetDateTime, TryF
     requires nanos { IsTrue (is_instant greatest_year nanos) }
     requires subsecond { ForSome subsecond (λ n. n ≤ 999_999_999) }
     ensures { IsOkAnd (parsed_seen result)
-        (λ v. IsStamped greatest_year nanos subsecond v.date v.time × IsUtc v.offset) }
+        (λ v. IsStamped greatest_year nanos subsecond (offset_date v) (offset_time v)
+        × IsUtc (offset_of v)) }
 {
     let moment = OffsetDateTime::from_unix_timestamp_nanos(nanos)?;
     match subsecond {
@@ -46,6 +49,7 @@ fn moment_at(nanos: i128, subsecond: Option<u32>) -> Result<OffsetDateTime, TryF
 }
 
 // The moment of a date, a time and an offset.
+#[tactic(auto, unfolding(crate::specs::Resolution::IsMomentOfParts))]
 fn moment_of_parts(parsed: Parsed) -> Result<OffsetDateTime, TryFromParsed>
     ensures { IsMomentOfParts greatest_year parsed (parsed_seen result) }
 {

@@ -14,6 +14,7 @@ impl TryFrom<Parsed> for PlainDateTime {
     ghost try_from_gives = { λ p r. IsPlain greatest_year p (parsed_seen r) };
 
     #[inline]
+    #[tactic(auto, unfolding(crate::specs::Resolution::IsPlain))]
     fn try_from(parsed: Parsed) -> Result<PlainDateTime, TryFromParsed> {
         let date = Date::try_from(parsed)?;
         let time = Time::try_from(parsed)?;

@@ -19,6 +19,7 @@ impl TryFrom<Parsed> for Time {
     ghost try_from_gives = { λ p r. IsTimed p (parsed_seen r) };
 
     #[inline]
+    #[tactic(auto, unfolding(crate::specs::Resolution::IsTimed))]
     fn try_from(parsed: Parsed) -> Result<Time, TryFromParsed> {
         let Some(hour) = hour_of_day(&parsed) else {
             return Err(TryFromParsed::InsufficientInformation);

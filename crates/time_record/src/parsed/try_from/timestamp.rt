@@ -18,6 +18,7 @@ impl TryFrom<Parsed> for Timestamp {
     ghost try_from_gives = { λ p r. IsTimestamp greatest_year p (parsed_seen r) };
 
     #[inline]
+    #[tactic(auto, unfolding(crate::specs::Resolution::IsTimestamp, crate::specs::Resolution::IsInstantOfParts))]
     fn try_from(parsed: Parsed) -> Result<Timestamp, TryFromParsed> {
         if let Some(nanos) = parsed.unix_timestamp_nanos() {
             return Ok(Timestamp::from_nanoseconds(nanos)?);

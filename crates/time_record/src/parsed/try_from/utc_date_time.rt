@@ -2,6 +2,7 @@
 ghost use Rattle.std.specs.Prelude.{◌≤◌, IsOkAnd, IsTrue};
 ghost use Rattle.std.specs.Option.{ForSome};
 ghost use Rattle.time_values.specs.Instants.{instant, is_instant};
+ghost use Rattle.time_values.specs.Moments.{utc_date, utc_time};
 ghost use Rattle.time_values.specs.Range.{greatest_year};
 ghost use Rattle.time_record.specs.Resolution.{IsInUtc, IsOffsetOrUtc, IsStamped, IsUtcMoment, IsUtcMomentOfParts, parsed_seen};
 
@@ -24,6 +25,7 @@ impl TryFrom<Parsed> for UtcDateTime {
     ghost try_from_gives = { λ p r. IsUtcMoment greatest_year p (parsed_seen r) };
 
     #[inline]
+    #[tactic(auto, unfolding(crate::specs::Resolution::IsUtcMoment))]
     fn try_from(parsed: Parsed) -> Result<UtcDateTime, TryFromParsed> {
         match parsed.unix_timestamp_nanos() {
             Some(nanos) => moment_at(nanos, parsed.subsecond()),
@@ -37,7 +39,7 @@ fn moment_at(nanos: i128, subsecond: Option<u32>) -> Result<UtcDateTime, TryFrom
     requires nanos { IsTrue (is_instant greatest_year nanos) }
     requires subsecond { ForSome subsecond (λ n. n ≤ 999_999_999) }
     ensures { IsOkAnd (parsed_seen result)
-        (λ v. IsStamped greatest_year nanos subsecond v.date v.time) }
+        (λ v. IsStamped greatest_year nanos subsecond (utc_date v) (utc_time v)) }
 {
     let moment = UtcDateTime::from_unix_timestamp_nanos(nanos)?;
     match subsecond {
@@ -47,6 +49,7 @@ fn moment_at(nanos: i128, subsecond: Option<u32>) -> Result<UtcDateTime, TryFrom
 }
 
 // The moment of a date, a time and an offset.
+#[tactic(auto, unfolding(crate::specs::Resolution::IsUtcMomentOfParts))]
 pub(super) fn moment_of_parts(parsed: Parsed) -> Result<UtcDateTime, TryFromParsed>
     ensures { IsUtcMomentOfParts greatest_year parsed (parsed_seen result) }
 {
@@ -61,6 +64,7 @@ pub(super) fn moment_of_parts(parsed: Parsed) -> Result<UtcDateTime, TryFromPars
 }
 
 // The offset of a record, or without its hour none.
+#[tactic(auto, unfolding(crate::specs::Resolution::IsOffset, crate::specs::Resolution::IsOffsetOrUtc))]
 fn offset_or_utc(parsed: Parsed) -> Result<UtcOffset, TryFromParsed>
     ensures { IsOffsetOrUtc parsed (parsed_seen result) }
 {

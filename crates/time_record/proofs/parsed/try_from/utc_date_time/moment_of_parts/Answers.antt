@@ -1,22 +1,26 @@
 use Rattle.std.proofs.Common.{inl, inr, refl, sym, ◌∙◌, rules}
 use Rattle.std.proofs.lemmas.Bool.{false≢true}
 use Rattle.std.proofs.lemmas.Result.{err_from_is_err_and}
+use Rattle.time_record.specs.Resolution.{IsUtcMomentOfParts}
 use Rattle.time_record.proofs.parsed.try_from.utc_date_time.moment_of_parts.Goals as goal
 use Rattle.time_record.proofs.parsed.try_from.utc_date_time.moment_of_parts.Goals.{else-is_leap_second-via-then-is_leap_second+else-not-is_valid_leap_second_stand_in, else-is_leap_second-via-else-is_leap_second}
 
 pub returns-in_err-time : goal.returns-in_err-time
+unfolding IsUtcMomentOfParts
 returns-in_err-time c =
     let p = err_from_is_err_and c.from_residual-in_err-time.result c.from_residual-in_err-time.ensures.1 in
     let timed = rw c.stand_in.ensures at c.in_err-time.ensures in
     rw (p.1, p.2) (inr (c.in_ok-date.date, c.in_ok-date.ensures, inl (_, timed, refl)))
 
 pub returns-in_err-offset : goal.returns-in_err-offset
+unfolding IsUtcMomentOfParts
 returns-in_err-offset c =
     let p = err_from_is_err_and c.from_residual-in_err-offset.result c.from_residual-in_err-offset.ensures.1 in
     let timed = rw c.stand_in.ensures at c.in_ok-time.ensures in
     rw (p.1, p.2) (inr (c.in_ok-date.date, c.in_ok-date.ensures, inr (c.in_ok-time.time, timed, inl (_, c.in_err-offset.ensures, refl))))
 
 pub returns-in_err-moment : goal.returns-in_err-moment
+unfolding IsUtcMomentOfParts
 returns-in_err-moment c =
     let p = err_from_is_err_and c.from_residual-in_err-moment.result c.from_residual-in_err-moment.ensures.1 in
     let timed = rw c.stand_in.ensures at c.in_ok-time.ensures in
@@ -25,6 +29,7 @@ returns-in_err-moment c =
     rw (p.1, p.2) (inr (c.in_ok-date.date, c.in_ok-date.ensures, inr (c.in_ok-time.time, timed, inr (c.in_ok-offset.offset, c.in_ok-offset.ensures, inl (_, refused, refl)))))
 
 pub returns-then-not-is_valid_leap_second_stand_in : goal.returns-then-not-is_valid_leap_second_stand_in
+unfolding IsUtcMomentOfParts
 returns-then-not-is_valid_leap_second_stand_in c =
     let timed = rw c.stand_in.ensures at c.in_ok-time.ensures in
     let parts = c.new_in_offset.ensures in
@@ -32,6 +37,7 @@ returns-then-not-is_valid_leap_second_stand_in c =
     inr (c.in_ok-date.date, c.in_ok-date.ensures, inr (c.in_ok-time.time, timed, inr (c.in_ok-offset.offset, c.in_ok-offset.ensures, inr (c.in_ok-moment.moment, seen, (sym c.is_leap_second.ensures ∙ c.if-is_leap_second.true, λ end. let found = c.is_valid_leap_second_stand_in.ensures.1 end in cc, c.misplaced.ensures)))))
 
 pub returns : goal.returns
+unfolding IsUtcMomentOfParts
 returns c =
     let timed = rw c.stand_in.ensures at c.in_ok-time.ensures in
     let parts = c.new_in_offset.ensures in

@@ -1,9 +1,10 @@
 use Rattle.std.proofs.Common.{◌≡◌, ℤ, Option, None, Ok, MatchOption, sym, subst, ◌∙◌}
 use Rattle.time_values.specs.Range.{greatest_year}
-use Rattle.time_record.specs.Resolution.{IsInstantOfParts}
+use Rattle.time_record.specs.Resolution.{IsInstantOfParts, IsTimestamp}
 use Rattle.time_record.proofs.parsed.try_from.timestamp.TimestampTryFromParsed.try_from.Goals as goal
 
 pub returns-in-Ok : goal.returns-in-Ok
+unfolding IsTimestamp IsInstantOfParts
 returns-in-Ok c =
     let unknown : c.args.parsed.unix_timestamp_nanos ≡ None = sym c.unix_timestamp_nanos.ensures.value ∙ c.in_default.is in
     let given = c.from.result in

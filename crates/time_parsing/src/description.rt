@@ -1,0 +1,122 @@
+//! Descriptions as formats.
+ghost use Rattle.std.specs.Prelude.{map};
+ghost use Rattle.time_values.specs.Range.{greatest_year};
+ghost use Rattle.time_readers.specs.Shape.{borrowed_shape, owned_shape, v3_shape};
+ghost use Rattle.time_readers.specs.Tree.{sequence, trees};
+ghost use Rattle.time_record.specs.Reading.{Reads, Refuses};
+ghost use Rattle.time_parsing.specs.DescriptionLaws.{tree_exact};
+
+use crate::Parsable;
+use crate::parsable::resolved;
+use time_readers::{BorrowedFormatItem, FormatDescriptionV3, OwnedFormatItem};
+use time_record::{AnyFormatItem, Parsed};
+use time_values::OffsetDateTime;
+use time_values::error::Parse;
+
+/// Items that are read one after another, as a format.
+#[derive(Clone, Copy, Debug)]
+pub struct Items<'a, I>(pub &'a [I]);
+
+impl Parsable for BorrowedFormatItem<'_> {
+    ghost reads = { λ s. Reads greatest_year (borrowed_shape s) };
+
+    ghost refuses = { λ s. Refuses greatest_year (borrowed_shape s) };
+
+    fn parse_into<'a>(&self, input: &'a [u8], parsed: &mut Parsed) -> Result<&'a [u8], Parse> {
+        match parsed.parse_item(input, self) {
+            Ok(rest) => Ok(rest),
+            Err(e) => Err(e.into()),
+        }
+    }
+
+    fn parse_offset_date_time(
+        &self,
+        input: &[u8],
+        defaults: Option<Parsed>,
+    ) -> Result<OffsetDateTime, Parse> {
+        match self.parse_internal(input, defaults) {
+            Ok(parsed) => resolved(parsed),
+            Err(e) => Err(e),
+        }
+    }
+
+    ghost exact = { λ s. tree_exact (borrowed_shape s) };
+}
+
+impl Parsable for OwnedFormatItem {
+    ghost reads = { λ s. Reads greatest_year (owned_shape s) };
+
+    ghost refuses = { λ s. Refuses greatest_year (owned_shape s) };
+
+    fn parse_into<'a>(&self, input: &'a [u8], parsed: &mut Parsed) -> Result<&'a [u8], Parse> {
+        match parsed.parse_item(input, self) {
+            Ok(rest) => Ok(rest),
+            Err(e) => Err(e.into()),
+        }
+    }
+
+    fn parse_offset_date_time(
+        &self,
+        input: &[u8],
+        defaults: Option<Parsed>,
+    ) -> Result<OffsetDateTime, Parse> {
+        match self.parse_internal(input, defaults) {
+            Ok(parsed) => resolved(parsed),
+            Err(e) => Err(e),
+        }
+    }
+
+    ghost exact = { λ s. tree_exact (owned_shape s) };
+}
+
+impl Parsable for FormatDescriptionV3<'_> {
+    ghost reads = { λ s. Reads greatest_year (v3_shape s.inner) };
+
+    ghost refuses = { λ s. Refuses greatest_year (v3_shape s.inner) };
+
+    fn parse_into<'a>(&self, input: &'a [u8], parsed: &mut Parsed) -> Result<&'a [u8], Parse> {
+        match parsed.parse_v3(input, &self.inner) {
+            Ok(rest) => Ok(rest),
+            Err(e) => Err(e.into()),
+        }
+    }
+
+    fn parse_offset_date_time(
+        &self,
+        input: &[u8],
+        defaults: Option<Parsed>,
+    ) -> Result<OffsetDateTime, Parse> {
+        match self.parse_internal(input, defaults) {
+            Ok(parsed) => resolved(parsed),
+            Err(e) => Err(e),
+        }
+    }
+
+    ghost exact = { λ s. tree_exact (v3_shape s.inner) };
+}
+
+impl<'i, I: AnyFormatItem> Parsable for Items<'i, I> {
+    ghost reads = { λ s. Reads greatest_year (sequence (trees (map I.shape s.0.now))) };
+
+    ghost refuses = { λ s. Refuses greatest_year (sequence (trees (map I.shape s.0.now))) };
+
+    fn parse_into<'a>(&self, input: &'a [u8], parsed: &mut Parsed) -> Result<&'a [u8], Parse> {
+        match parsed.parse_items(input, self.0) {
+            Ok(rest) => Ok(rest),
+            Err(e) => Err(e.into()),
+        }
+    }
+
+    fn parse_offset_date_time(
+        &self,
+        input: &[u8],
+        defaults: Option<Parsed>,
+    ) -> Result<OffsetDateTime, Parse> {
+        match self.parse_internal(input, defaults) {
+            Ok(parsed) => resolved(parsed),
+            Err(e) => Err(e),
+        }
+    }
+
+    ghost exact = { λ s. tree_exact (sequence (trees (map I.shape s.0.now))) };
+}

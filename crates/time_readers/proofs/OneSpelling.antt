@@ -1,0 +1,194 @@
+-- At most one cut of a text spells a component.
+use Rattle.std.proofs.Common.{◌≡◌, ℕ, ◌+◌, List, [], ◌∷◌, ◌++◌, length, take, drop, append_assoc, Option, Some, ◌≤◌, ◌==◌, refl, ap, sym, ◌∙◌, arith, subst, inl, inr, Bool, false, true}
+use Rattle.std.specs.List.{find}
+use Rattle.std.specs.Str.{str_to_ascii_lowercase, bytes_eq}
+use Rattle.std.proofs.lemmas.List.{take-append-drop}
+use Rattle.time_values.specs.declared.month.Month.{Month}
+use Rattle.time_values.specs.declared.weekday.Weekday.{Weekday}
+use Rattle.time_values.specs.Month.{month_number}
+use Rattle.time_values.specs.Weekday.{days_from_monday}
+use Rattle.time_readers.specs.declared.Padding.{Padding}
+use Rattle.time_readers.specs.declared.Padding.TheVariants.{Zero}
+use Rattle.time_readers.specs.declared.Sign.{Sign}
+use Rattle.time_readers.specs.declared.format_description.Component.{Component}
+use Rattle.time_readers.specs.declared.format_description.Component.TheVariants as component
+use Rattle.time_readers.specs.declared.format_description.Period.{Period}
+use Rattle.time_readers.specs.declared.format_description.Period.TheVariants.{Am, Pm}
+use Rattle.time_readers.specs.Bytes.{sign_byte}
+use Rattle.time_readers.specs.Cuts.{AtMostOneCut}
+use Rattle.time_readers.specs.Digits.{IsPaddedRun, digits_value, fraction_nanoseconds}
+use Rattle.time_readers.specs.Names.{IsNamed, month_name, weekday_name, period_name}
+use Rattle.time_readers.specs.Spelling.{Value, Says, Signed, Spells, IsPositiveRun, IsNameOf, IsShortOf, IsNumberOf, IsDigitOf, IsFractionRun, least_digits, most_digits, first_digit, days_from_sunday, number, month, weekday, period, positive, signed_value, flagged_value, scaled_value}
+use Rattle.time_readers.proofs.NameLemmas.{IsNamed-length, IsNamed-parts, same_front}
+use Rattle.time_readers.proofs.ReaderLemmas.{period_name-length}
+use Rattle.time_readers.proofs.EachValue.{each_month, each_weekday, months, weekdays}
+use Rattle.time_readers.proofs.NumberLemmas.{no_sign_first, sign_byte-one}
+use Rattle.time_readers.proofs.PaddedRuns.{IsPaddedRun-unique}
+use Rattle.time_readers.proofs.Runs.{IsDigitRun-unique}
+
+-- two cuts of one text have one rest and one value
+abbrev pub IsUnique : {A : Type 0} → (List ℕ → List ℕ → A → Type 0) → Type 0
+IsUnique {A} S = (a b x y : List ℕ) (v w : A) → S a x v → S b y w → a ++ x ≡ b ++ y → (x ≡ y) × (v ≡ w)
+
+Says-unique : {A : Type 0} (says : A → Value) (S : List ℕ → List ℕ → A → Type 0) → IsUnique S → IsUnique (Says says S)
+Says-unique says S unique a b x y v w p q e =
+    let is = unique a b x y p.0 q.0 p.2 q.2 e in
+    (is.0, p.1 ∙ ap says is.1 ∙ sym q.1)
+
+Signed-unique : (mandatory : Bool) (says : Sign → ℕ → Value) (behind : List ℕ → List ℕ → ℕ → Type 0) (padding : Padding) (least most : ℕ) → 1 ≤ least → IsUnique behind → IsUnique (Signed says mandatory behind (IsPaddedRun padding least most))
+Signed-unique mandatory says behind padding least most h unique a b x y v w (s, n, is, inl (tail, cut, run)) (t, m, is', inl (tail', cut', run')) e =
+    let whole : sign_byte s ∷ (tail ++ x) ≡ sign_byte t ∷ (tail' ++ y) = ap (λ u. u ++ x) (sym cut) ∙ e ∙ ap (λ u. u ++ y) cut' in
+    let heads : sign_byte s ≡ sign_byte t = cc in
+    let tails : tail ++ x ≡ tail' ++ y = cc in
+    let same = unique tail tail' x y n m run run' tails in
+    (same.0, is ∙ ap (λ u. says u n) (sign_byte-one s t heads) ∙ ap (says t) same.1 ∙ sym is')
+Signed-unique mandatory says behind padding least most h unique a b x y v w (s, n, is, inl (tail, cut, run)) (t, m, is', inr (free, plus, run')) e =
+    absurd (no_sign_first padding least most b y (tail ++ x) m s h run' (sym e ∙ ap (λ u. u ++ x) cut))
+Signed-unique mandatory says behind padding least most h unique a b x y v w (s, n, is, inr (free, plus, run)) (t, m, is', inl (tail', cut', run')) e =
+    absurd (no_sign_first padding least most a x (tail' ++ y) n t h run (e ∙ ap (λ u. u ++ y) cut'))
+Signed-unique mandatory says behind padding least most h unique a b x y v w (s, n, is, inr (free, plus, run)) (t, m, is', inr (free', plus', run')) e =
+    let same = IsPaddedRun-unique padding least most a b x y n m run run' e in
+    (same.0, is ∙ ap (λ u. says u n) (plus ∙ sym plus') ∙ ap (says t) same.1 ∙ sym is')
+
+IsPositiveRun-unique : (padding : Padding) (places : ℕ) → IsUnique (IsPositiveRun padding places)
+IsPositiveRun-unique padding places a b x y v w p q e = IsPaddedRun-unique padding places places a b x y v w p.0 q.0 e
+
+IsFractionRun-unique : (least most : ℕ) → IsUnique (IsFractionRun least most)
+IsFractionRun-unique least most a b x y v w p q e =
+    let same = IsDigitRun-unique least least most a b x y (digits_value a) (digits_value b) p.0 q.0 e in
+    (same.1, p.1 ∙ ap fraction_nanoseconds same.0 ∙ sym q.1)
+
+-- what a key tells apart
+told_apart : {A B : Type 0} (key : A → B) (of : B → Option A) → ((a : A) → of (key a) ≡ Some a) → (a b : A) → key a ≡ key b → a ≡ b
+told_apart key of tells a b e =
+    let some : Some a ≡ Some b = sym (tells a) ∙ ap of e ∙ tells b in
+    cc
+
+IsNumberOf-unique : {A : Type 0} (padding : Padding) (number_of : A → ℕ) → ((v w : A) → number_of v ≡ number_of w → v ≡ w) → IsUnique (IsNumberOf padding number_of)
+IsNumberOf-unique padding number_of apart a b x y v w p q e =
+    let same = IsPaddedRun-unique padding 2 2 a b x y (number_of v) (number_of w) p q e in
+    (same.0, apart v w same.1)
+
+IsDigitOf-unique : {A : Type 0} (one_indexed : Bool) (number_of : A → ℕ) → ((v w : A) → number_of v ≡ number_of w → v ≡ w) → IsUnique (IsDigitOf one_indexed number_of)
+IsDigitOf-unique one_indexed number_of apart a b x y v w p q e =
+    let whole : (first_digit one_indexed + number_of v) ∷ x ≡ (first_digit one_indexed + number_of w) ∷ y = ap (λ u. u ++ x) (sym p) ∙ e ∙ ap (λ u. u ++ y) q in
+    let heads : first_digit one_indexed + number_of v ≡ first_digit one_indexed + number_of w = cc in
+    let tails : x ≡ y = cc in
+    (tails, apart v w (omega arith))
+
+lower_same : (case_sensitive : Bool) (m n text : List ℕ) → IsNamed case_sensitive m text → IsNamed case_sensitive n text → str_to_ascii_lowercase m ≡ str_to_ascii_lowercase n
+lower_same true m n text p q = ap str_to_ascii_lowercase (sym p ∙ q)
+lower_same false m n text p q = sym p ∙ q
+
+-- values whose names have one length, and differ
+record Told {A : Type 0} (name_of : A → List ℕ) (count : ℕ) : Type 0 where
+  length_is : (v : A) → length (name_of v) ≡ count
+  apart : (v w : A) → str_to_ascii_lowercase (name_of v) ≡ str_to_ascii_lowercase (name_of w) → v ≡ w
+
+same_name : {A : Type 0} (case_sensitive : Bool) (name_of : A → List ℕ) (count : ℕ) → Told name_of count → IsUnique (IsNameOf case_sensitive name_of)
+same_name case_sensitive name_of count told a b x y v w p q e =
+    let long : length a ≡ length b = IsNamed-length case_sensitive (name_of v) a p ∙ told.length_is v ∙ sym (told.length_is w) ∙ sym (IsNamed-length case_sensitive (name_of w) b q) in
+    let same = same_front a b x y long e in
+    (same.1, told.apart v w (lower_same case_sensitive (name_of v) (name_of w) b (subst (IsNamed case_sensitive (name_of v)) same.0 p) q))
+
+-- and those whose first three letters differ
+IsNameOf-unique : {A : Type 0} (case_sensitive : Bool) (name_of : A → List ℕ) → Told (λ v. take 3 (name_of v)) 3 → IsUnique (IsNameOf case_sensitive name_of)
+IsNameOf-unique case_sensitive name_of told a b x y v w p q e =
+    let parts : (u : _) → take 3 (name_of u) ++ drop 3 (name_of u) ≡ name_of u = λ u. take-append-drop 3 (name_of u) in
+    let first = IsNamed-parts case_sensitive (take 3 (name_of v)) (drop 3 (name_of v)) a (subst (λ n. IsNamed case_sensitive n a) (sym (parts v)) p) in
+    let second = IsNamed-parts case_sensitive (take 3 (name_of w)) (drop 3 (name_of w)) b (subst (λ n. IsNamed case_sensitive n b) (sym (parts w)) q) in
+    let whole : first.front ++ (first.back ++ x) ≡ second.front ++ (second.back ++ y) = sym (append_assoc first.front first.back x) ∙ ap (λ u. u ++ x) (sym first.cut) ∙ e ∙ ap (λ u. u ++ y) second.cut ∙ append_assoc second.front second.back y in
+    let is : v ≡ w = (same_name case_sensitive (λ u. take 3 (name_of u)) 3 told first.front second.front (first.back ++ x) (second.back ++ y) v w first.first second.first whole).1 in
+    let long : length a ≡ length b = IsNamed-length case_sensitive (name_of v) a p ∙ ap (λ u. length (name_of u)) is ∙ sym (IsNamed-length case_sensitive (name_of w) b q) in
+    ((same_front a b x y long e).1, is)
+
+months_told : Told (λ m. take 3 (month_name m)) 3
+months_told =
+    let key : Month → List ℕ = λ m. str_to_ascii_lowercase (take 3 (month_name m)) in
+    let of : List ℕ → Option Month = λ k. find (λ m. bytes_eq (key m) k) months in
+    record {
+      length_is = each_month (λ m. length (take 3 (month_name m)) ≡ 3) (refl, refl, refl, refl, refl, refl, refl, refl, refl, refl, refl, refl);
+      apart = told_apart key of (each_month (λ m. of (key m) ≡ Some m) (refl, refl, refl, refl, refl, refl, refl, refl, refl, refl, refl, refl));
+    }
+
+weekdays_told : Told (λ d. take 3 (weekday_name d)) 3
+weekdays_told =
+    let key : Weekday → List ℕ = λ d. str_to_ascii_lowercase (take 3 (weekday_name d)) in
+    let of : List ℕ → Option Weekday = λ k. find (λ d. bytes_eq (key d) k) weekdays in
+    record {
+      length_is = each_weekday (λ d. length (take 3 (weekday_name d)) ≡ 3) (refl, refl, refl, refl, refl, refl, refl);
+      apart = told_apart key of (each_weekday (λ d. of (key d) ≡ Some d) (refl, refl, refl, refl, refl, refl, refl));
+    }
+
+abbrev period_key : Bool → Period → List ℕ
+period_key upper v = str_to_ascii_lowercase (period_name upper v)
+
+abbrev period_of : Bool → List ℕ → Option Period
+period_of upper k = find (λ v. bytes_eq (period_key upper v) k) (Am ∷ Pm ∷ [])
+
+period_of-key : (upper : Bool) (v : Period) → period_of upper (period_key upper v) ≡ Some v
+period_of-key true Am = refl
+period_of-key true Pm = refl
+period_of-key false Am = refl
+period_of-key false Pm = refl
+
+periods_told : (upper : Bool) → Told (period_name upper) 2
+periods_told upper = record { length_is = period_name-length upper; apart = told_apart (period_key upper) (period_of upper) (period_of-key upper) }
+
+month_number-one : (v w : Month) → month_number v ≡ month_number w → v ≡ w
+month_number-one =
+    let of : ℕ → Option Month = λ n. find (λ m. month_number m == n) months in
+    told_apart month_number of (each_month (λ m. of (month_number m) ≡ Some m) (refl, refl, refl, refl, refl, refl, refl, refl, refl, refl, refl, refl))
+
+days_from_monday-one : (v w : Weekday) → days_from_monday v ≡ days_from_monday w → v ≡ w
+days_from_monday-one =
+    let of : ℕ → Option Weekday = λ n. find (λ d. days_from_monday d == n) weekdays in
+    told_apart days_from_monday of (each_weekday (λ d. of (days_from_monday d) ≡ Some d) (refl, refl, refl, refl, refl, refl, refl))
+
+days_from_sunday-one : (v w : Weekday) → days_from_sunday v ≡ days_from_sunday w → v ≡ w
+days_from_sunday-one =
+    let of : ℕ → Option Weekday = λ n. find (λ d. days_from_sunday d == n) weekdays in
+    told_apart days_from_sunday of (each_weekday (λ d. of (days_from_sunday d) ≡ Some d) (refl, refl, refl, refl, refl, refl, refl))
+
+-- two texts with one rest of the input each spell one value, and leave one rest
+pub Spells-unique : (whole : Bool) (c : Component) → IsUnique (Spells whole c)
+Spells-unique whole (component.Day m) a b x y v w p q e = Says-unique number (IsPositiveRun m.padding 2) (IsPositiveRun-unique m.padding 2) a b x y v w p q e
+Spells-unique whole (component.MonthShort m) a b x y v w p q e = Says-unique month (IsShortOf m.case_sensitive month_name) (same_name m.case_sensitive (λ v. take 3 (month_name v)) 3 months_told) a b x y v w p q e
+Spells-unique whole (component.MonthLong m) a b x y v w p q e = Says-unique month (IsNameOf m.case_sensitive month_name) (IsNameOf-unique m.case_sensitive month_name months_told) a b x y v w p q e
+Spells-unique whole (component.MonthNumerical m) a b x y v w p q e = Says-unique month (IsNumberOf m.padding month_number) (IsNumberOf-unique m.padding month_number month_number-one) a b x y v w p q e
+Spells-unique whole (component.Ordinal m) a b x y v w p q e = Says-unique number (IsPositiveRun m.padding 3) (IsPositiveRun-unique m.padding 3) a b x y v w p q e
+Spells-unique whole (component.WeekdayShort m) a b x y v w p q e = Says-unique weekday (IsShortOf m.case_sensitive weekday_name) (same_name m.case_sensitive (λ v. take 3 (weekday_name v)) 3 weekdays_told) a b x y v w p q e
+Spells-unique whole (component.WeekdayLong m) a b x y v w p q e = Says-unique weekday (IsNameOf m.case_sensitive weekday_name) (IsNameOf-unique m.case_sensitive weekday_name weekdays_told) a b x y v w p q e
+Spells-unique whole (component.WeekdaySunday m) a b x y v w p q e = Says-unique weekday (IsDigitOf m.one_indexed days_from_sunday) (IsDigitOf-unique m.one_indexed days_from_sunday days_from_sunday-one) a b x y v w p q e
+Spells-unique whole (component.WeekdayMonday m) a b x y v w p q e = Says-unique weekday (IsDigitOf m.one_indexed days_from_monday) (IsDigitOf-unique m.one_indexed days_from_monday days_from_monday-one) a b x y v w p q e
+Spells-unique whole (component.WeekNumberIso m) a b x y v w p q e = Says-unique number (IsPaddedRun m.padding 2 2) (IsPaddedRun-unique m.padding 2 2) a b x y v w p q e
+Spells-unique whole (component.WeekNumberSunday m) a b x y v w p q e = Says-unique number (IsPaddedRun m.padding 2 2) (IsPaddedRun-unique m.padding 2 2) a b x y v w p q e
+Spells-unique whole (component.WeekNumberMonday m) a b x y v w p q e = Says-unique number (IsPaddedRun m.padding 2 2) (IsPaddedRun-unique m.padding 2 2) a b x y v w p q e
+Spells-unique whole (component.CalendarYearFullExtendedRange m) a b x y v w p q e = Signed-unique m.sign_is_mandatory signed_value (IsPaddedRun m.padding 4 6) m.padding 4 4 (omega arith) (IsPaddedRun-unique m.padding 4 6) a b x y v w p q e
+Spells-unique whole (component.CalendarYearFullStandardRange m) a b x y v w p q e = Signed-unique m.sign_is_mandatory signed_value (IsPaddedRun m.padding 4 4) m.padding 4 4 (omega arith) (IsPaddedRun-unique m.padding 4 4) a b x y v w p q e
+Spells-unique whole (component.IsoYearFullExtendedRange m) a b x y v w p q e = Signed-unique m.sign_is_mandatory signed_value (IsPaddedRun m.padding 4 6) m.padding 4 4 (omega arith) (IsPaddedRun-unique m.padding 4 6) a b x y v w p q e
+Spells-unique whole (component.IsoYearFullStandardRange m) a b x y v w p q e = Signed-unique m.sign_is_mandatory signed_value (IsPaddedRun m.padding 4 4) m.padding 4 4 (omega arith) (IsPaddedRun-unique m.padding 4 4) a b x y v w p q e
+Spells-unique whole (component.CalendarYearCenturyExtendedRange m) a b x y v w p q e = Signed-unique m.sign_is_mandatory flagged_value (IsPaddedRun m.padding 2 4) Zero 1 2 (omega arith) (IsPaddedRun-unique m.padding 2 4) a b x y v w p q e
+Spells-unique whole (component.CalendarYearCenturyStandardRange m) a b x y v w p q e = Signed-unique m.sign_is_mandatory flagged_value (IsPaddedRun m.padding 2 2) Zero 1 2 (omega arith) (IsPaddedRun-unique m.padding 2 2) a b x y v w p q e
+Spells-unique whole (component.IsoYearCenturyExtendedRange m) a b x y v w p q e = Signed-unique m.sign_is_mandatory flagged_value (IsPaddedRun m.padding 2 4) Zero 1 2 (omega arith) (IsPaddedRun-unique m.padding 2 4) a b x y v w p q e
+Spells-unique whole (component.IsoYearCenturyStandardRange m) a b x y v w p q e = Signed-unique m.sign_is_mandatory flagged_value (IsPaddedRun m.padding 2 2) Zero 1 2 (omega arith) (IsPaddedRun-unique m.padding 2 2) a b x y v w p q e
+Spells-unique whole (component.CalendarYearLastTwo m) a b x y v w p q e = Says-unique number (IsPaddedRun m.padding 2 2) (IsPaddedRun-unique m.padding 2 2) a b x y v w p q e
+Spells-unique whole (component.IsoYearLastTwo m) a b x y v w p q e = Says-unique number (IsPaddedRun m.padding 2 2) (IsPaddedRun-unique m.padding 2 2) a b x y v w p q e
+Spells-unique whole (component.Hour12 m) a b x y v w p q e = Says-unique number (IsPaddedRun m.padding 2 2) (IsPaddedRun-unique m.padding 2 2) a b x y v w p q e
+Spells-unique whole (component.Hour24 m) a b x y v w p q e = Says-unique number (IsPaddedRun m.padding 2 2) (IsPaddedRun-unique m.padding 2 2) a b x y v w p q e
+Spells-unique whole (component.Minute m) a b x y v w p q e = Says-unique number (IsPaddedRun m.padding 2 2) (IsPaddedRun-unique m.padding 2 2) a b x y v w p q e
+Spells-unique whole (component.Period m) a b x y v w p q e = Says-unique period (IsNameOf m.case_sensitive (period_name m.is_uppercase)) (same_name m.case_sensitive (period_name m.is_uppercase) 2 (periods_told m.is_uppercase)) a b x y v w p q e
+Spells-unique whole (component.Second m) a b x y v w p q e = Says-unique number (IsPaddedRun m.padding 2 2) (IsPaddedRun-unique m.padding 2 2) a b x y v w p q e
+Spells-unique whole (component.Subsecond m) a b x y v w p q e = Says-unique number (IsFractionRun (least_digits m.digits) (most_digits m.digits)) (IsFractionRun-unique (least_digits m.digits) (most_digits m.digits)) a b x y v w p q e
+Spells-unique whole (component.OffsetHour m) a b x y v w p q e = Signed-unique m.sign_is_mandatory flagged_value (IsPaddedRun m.padding 2 2) m.padding 2 2 (omega arith) (IsPaddedRun-unique m.padding 2 2) a b x y v w p q e
+Spells-unique whole (component.OffsetMinute m) a b x y v w p q e = Says-unique positive (IsPaddedRun m.padding 2 2) (IsPaddedRun-unique m.padding 2 2) a b x y v w p q e
+Spells-unique whole (component.OffsetSecond m) a b x y v w p q e = Says-unique positive (IsPaddedRun m.padding 2 2) (IsPaddedRun-unique m.padding 2 2) a b x y v w p q e
+Spells-unique whole (component.Ignore m) a b x y v w p q e = ((same_front a b x y (p.1 ∙ sym q.1) e).1, p.0 ∙ sym q.0)
+Spells-unique whole (component.UnixTimestampSecond m) a b x y v w p q e = Signed-unique m.sign_is_mandatory (scaled_value 1000000000) (IsPaddedRun Zero 1 14) Zero 1 14 (omega arith) (IsPaddedRun-unique Zero 1 14) a b x y v w p q e
+Spells-unique whole (component.UnixTimestampMillisecond m) a b x y v w p q e = Signed-unique m.sign_is_mandatory (scaled_value 1000000) (IsPaddedRun Zero 1 17) Zero 1 17 (omega arith) (IsPaddedRun-unique Zero 1 17) a b x y v w p q e
+Spells-unique whole (component.UnixTimestampMicrosecond m) a b x y v w p q e = Signed-unique m.sign_is_mandatory (scaled_value 1000) (IsPaddedRun Zero 1 20) Zero 1 20 (omega arith) (IsPaddedRun-unique Zero 1 20) a b x y v w p q e
+Spells-unique whole (component.UnixTimestampNanosecond m) a b x y v w p q e = Signed-unique m.sign_is_mandatory (scaled_value 1) (IsPaddedRun Zero 1 23) Zero 1 23 (omega arith) (IsPaddedRun-unique Zero 1 23) a b x y v w p q e
+Spells-unique whole (component.End m) a b x y v w p q e = (p.1 ∙ sym q.1, p.0 ∙ sym q.0)
+
+pub one_spelling : (whole : Bool) (c : Component) → AtMostOneCut (Spells whole c)
+one_spelling whole c input x y v w p q = Spells-unique whole c p.0 q.0 x y v w p.2 q.2 (sym p.1 ∙ q.1)

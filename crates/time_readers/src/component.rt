@@ -1,0 +1,647 @@
+//! Readers of the components, one for each variant of [`Component`](crate::Component).
+//!
+//! A reader answers what is left of its input and a value, exactly where a beginning of the input
+//! spells that value, and `None` else. A run of digits takes as many as it may, and nothing goes
+//! back.
+ghost use Rattle.std.specs.Prelude.{MatchOption, false};
+ghost use Rattle.time_readers.specs.Cuts.{Cut, NoCut};
+ghost use Rattle.time_readers.specs.Spelling.{Spells, number, signed, flagged, month, weekday, period, nothing};
+ghost use Rattle.time_readers.specs.declared.format_description.Component.TheVariants as component;
+
+mod fractions;
+mod letters;
+mod names;
+mod numbers;
+#[cfg(test)]
+mod tests;
+
+use crate::{ParsedItem, Period, SubsecondDigits, TrailingInput, modifier};
+use fractions::{fraction, long_fraction};
+use letters::{period_of, two_letters, weekday_digit, weekday_from_monday};
+use names::{long_name, months, short_name, weekdays};
+use numbers::{century, full_year, offset_hour, offset_part, run, timestamp, two_places};
+use std::num::NonZero;
+use time_values::{Month, Weekday};
+
+/// Reads a calendar year, in the range that a sign extends.
+///
+/// Four digits, or a sign and four to six digits, under the padding. `None` where no such text
+/// stands, also where a mandatory sign is missing.
+#[inline]
+pub fn parse_calendar_year_full_extended_range(
+    input: &[u8],
+    modifiers: modifier::CalendarYearFullExtendedRange,
+) -> Option<ParsedItem<'_, i32>>
+    ensures { MatchOption result
+        (NoCut (Spells false (component.CalendarYearFullExtendedRange modifiers)) input.now)
+        (λ p. Cut (Spells false (component.CalendarYearFullExtendedRange modifiers)) input.now
+        p.0.now (signed p.1)) }
+{
+    let modifier::CalendarYearFullExtendedRange {
+        padding,
+        sign_is_mandatory,
+    } = modifiers;
+    full_year::<6>(input, padding, sign_is_mandatory)
+}
+
+/// Reads a calendar year.
+///
+/// Four digits under the padding, with or without a sign. `None` where no such text stands, also
+/// where a mandatory sign is missing.
+#[inline]
+pub fn parse_calendar_year_full_standard_range(
+    input: &[u8],
+    modifiers: modifier::CalendarYearFullStandardRange,
+) -> Option<ParsedItem<'_, i32>>
+    ensures { MatchOption result
+        (NoCut (Spells false (component.CalendarYearFullStandardRange modifiers)) input.now)
+        (λ p. Cut (Spells false (component.CalendarYearFullStandardRange modifiers)) input.now
+        p.0.now (signed p.1)) }
+{
+    let modifier::CalendarYearFullStandardRange {
+        padding,
+        sign_is_mandatory,
+    } = modifiers;
+    full_year::<4>(input, padding, sign_is_mandatory)
+}
+
+/// Reads an ISO week year, in the range that a sign extends.
+///
+/// Four digits, or a sign and four to six digits, under the padding. `None` where no such text
+/// stands, also where a mandatory sign is missing.
+#[inline]
+pub fn parse_iso_year_full_extended_range(
+    input: &[u8],
+    modifiers: modifier::IsoYearFullExtendedRange,
+) -> Option<ParsedItem<'_, i32>>
+    ensures { MatchOption result
+        (NoCut (Spells false (component.IsoYearFullExtendedRange modifiers)) input.now)
+        (λ p. Cut (Spells false (component.IsoYearFullExtendedRange modifiers)) input.now
+        p.0.now (signed p.1)) }
+{
+    let modifier::IsoYearFullExtendedRange {
+        padding,
+        sign_is_mandatory,
+    } = modifiers;
+    full_year::<6>(input, padding, sign_is_mandatory)
+}
+
+/// Reads an ISO week year.
+///
+/// Four digits under the padding, with or without a sign. `None` where no such text stands, also
+/// where a mandatory sign is missing.
+#[inline]
+pub fn parse_iso_year_full_standard_range(
+    input: &[u8],
+    modifiers: modifier::IsoYearFullStandardRange,
+) -> Option<ParsedItem<'_, i32>>
+    ensures { MatchOption result
+        (NoCut (Spells false (component.IsoYearFullStandardRange modifiers)) input.now)
+        (λ p. Cut (Spells false (component.IsoYearFullStandardRange modifiers)) input.now
+        p.0.now (signed p.1)) }
+{
+    let modifier::IsoYearFullStandardRange {
+        padding,
+        sign_is_mandatory,
+    } = modifiers;
+    full_year::<4>(input, padding, sign_is_mandatory)
+}
+
+/// Reads a calendar year without its last two digits, in the range that a sign extends.
+///
+/// A sign and two to four digits under the padding, or one or two digits without a sign, whatever
+/// the padding. The bool says whether the sign is a minus. `None` where no such text stands, also
+/// where a mandatory sign is missing.
+#[inline]
+pub fn parse_calendar_year_century_extended_range(
+    input: &[u8],
+    modifiers: modifier::CalendarYearCenturyExtendedRange,
+) -> Option<ParsedItem<'_, (i16, bool)>>
+    ensures { MatchOption result
+        (NoCut (Spells false (component.CalendarYearCenturyExtendedRange modifiers)) input.now)
+        (λ p. Cut (Spells false (component.CalendarYearCenturyExtendedRange modifiers)) input.now
+        p.0.now (flagged p.1.0 p.1.1)) }
+{
+    let modifier::CalendarYearCenturyExtendedRange {
+        padding,
+        sign_is_mandatory,
+    } = modifiers;
+    century::<4>(input, padding, sign_is_mandatory)
+}
+
+/// Reads a calendar year without its last two digits.
+///
+/// A sign and two digits under the padding, or one or two digits without a sign, whatever the
+/// padding. The bool says whether the sign is a minus. `None` where no such text stands, also
+/// where a mandatory sign is missing.
+#[inline]
+pub fn parse_calendar_year_century_standard_range(
+    input: &[u8],
+    modifiers: modifier::CalendarYearCenturyStandardRange,
+) -> Option<ParsedItem<'_, (i16, bool)>>
+    ensures { MatchOption result
+        (NoCut (Spells false (component.CalendarYearCenturyStandardRange modifiers)) input.now)
+        (λ p. Cut (Spells false (component.CalendarYearCenturyStandardRange modifiers)) input.now
+        p.0.now (flagged p.1.0 p.1.1)) }
+{
+    let modifier::CalendarYearCenturyStandardRange {
+        padding,
+        sign_is_mandatory,
+    } = modifiers;
+    century::<2>(input, padding, sign_is_mandatory)
+}
+
+/// Reads an ISO week year without its last two digits, in the range that a sign extends.
+///
+/// A sign and two to four digits under the padding, or one or two digits without a sign, whatever
+/// the padding. The bool says whether the sign is a minus. `None` where no such text stands, also
+/// where a mandatory sign is missing.
+#[inline]
+pub fn parse_iso_year_century_extended_range(
+    input: &[u8],
+    modifiers: modifier::IsoYearCenturyExtendedRange,
+) -> Option<ParsedItem<'_, (i16, bool)>>
+    ensures { MatchOption result
+        (NoCut (Spells false (component.IsoYearCenturyExtendedRange modifiers)) input.now)
+        (λ p. Cut (Spells false (component.IsoYearCenturyExtendedRange modifiers)) input.now
+        p.0.now (flagged p.1.0 p.1.1)) }
+{
+    let modifier::IsoYearCenturyExtendedRange {
+        padding,
+        sign_is_mandatory,
+    } = modifiers;
+    century::<4>(input, padding, sign_is_mandatory)
+}
+
+/// Reads an ISO week year without its last two digits.
+///
+/// A sign and two digits under the padding, or one or two digits without a sign, whatever the
+/// padding. The bool says whether the sign is a minus. `None` where no such text stands, also
+/// where a mandatory sign is missing.
+#[inline]
+pub fn parse_iso_year_century_standard_range(
+    input: &[u8],
+    modifiers: modifier::IsoYearCenturyStandardRange,
+) -> Option<ParsedItem<'_, (i16, bool)>>
+    ensures { MatchOption result
+        (NoCut (Spells false (component.IsoYearCenturyStandardRange modifiers)) input.now)
+        (λ p. Cut (Spells false (component.IsoYearCenturyStandardRange modifiers)) input.now
+        p.0.now (flagged p.1.0 p.1.1)) }
+{
+    let modifier::IsoYearCenturyStandardRange {
+        padding,
+        sign_is_mandatory,
+    } = modifiers;
+    century::<2>(input, padding, sign_is_mandatory)
+}
+
+/// Reads the last two digits of a calendar year, 0 to 99. `None` where they don't stand.
+#[inline]
+pub fn parse_calendar_year_last_two(
+    input: &[u8],
+    modifiers: modifier::CalendarYearLastTwo,
+) -> Option<ParsedItem<'_, u8>>
+    ensures { MatchOption result
+        (NoCut (Spells false (component.CalendarYearLastTwo modifiers)) input.now)
+        (λ p. Cut (Spells false (component.CalendarYearLastTwo modifiers)) input.now
+        p.0.now (number p.1)) }
+{
+    let modifier::CalendarYearLastTwo { padding } = modifiers;
+    two_places(input, padding)
+}
+
+/// Reads the last two digits of an ISO week year, 0 to 99. `None` where they don't stand.
+#[inline]
+pub fn parse_iso_year_last_two(
+    input: &[u8],
+    modifiers: modifier::IsoYearLastTwo,
+) -> Option<ParsedItem<'_, u8>>
+    ensures { MatchOption result
+        (NoCut (Spells false (component.IsoYearLastTwo modifiers)) input.now)
+        (λ p. Cut (Spells false (component.IsoYearLastTwo modifiers)) input.now
+        p.0.now (number p.1)) }
+{
+    let modifier::IsoYearLastTwo { padding } = modifiers;
+    two_places(input, padding)
+}
+
+/// Reads the first three letters of a month's English name. `None` where none stands.
+#[inline]
+pub fn parse_month_short(
+    input: &[u8],
+    modifiers: modifier::MonthShort,
+) -> Option<ParsedItem<'_, Month>>
+    ensures { MatchOption result
+        (NoCut (Spells false (component.MonthShort modifiers)) input.now)
+        (λ p. Cut (Spells false (component.MonthShort modifiers)) input.now p.0.now (month p.1)) }
+{
+    let modifier::MonthShort { case_sensitive } = modifiers;
+    let name = short_name(input, months(), case_sensitive)?;
+    Some(ParsedItem(name.0, name.1.value))
+}
+
+/// Reads a month's English name. `None` where none stands whole.
+#[inline]
+pub fn parse_month_long(
+    input: &[u8],
+    modifiers: modifier::MonthLong,
+) -> Option<ParsedItem<'_, Month>>
+    ensures { MatchOption result
+        (NoCut (Spells false (component.MonthLong modifiers)) input.now)
+        (λ p. Cut (Spells false (component.MonthLong modifiers)) input.now p.0.now (month p.1)) }
+{
+    let modifier::MonthLong { case_sensitive } = modifiers;
+    let name = long_name(input, months(), case_sensitive)?;
+    Some(ParsedItem(name.0, name.1.value))
+}
+
+/// Reads the number of a month, 1 to 12, in two places. `None` where none stands.
+#[inline]
+pub fn parse_month_numerical(
+    input: &[u8],
+    modifiers: modifier::MonthNumerical,
+) -> Option<ParsedItem<'_, Month>>
+    ensures { MatchOption result
+        (NoCut (Spells false (component.MonthNumerical modifiers)) input.now)
+        (λ p. Cut (Spells false (component.MonthNumerical modifiers)) input.now
+        p.0.now (month p.1)) }
+{
+    let modifier::MonthNumerical { padding } = modifiers;
+    let number = run::<2, 2, u8>(input, padding)?;
+    match Month::from_number(NonZero::<u8>::new(number.1)?) {
+        Ok(month) => Some(ParsedItem(number.0, month)),
+        Err(_) => None,
+    }
+}
+
+/// Reads the number of an ISO week, in two places, 0 to 99. `None` where none stands.
+#[inline]
+pub fn parse_week_number_iso(
+    input: &[u8],
+    modifiers: modifier::WeekNumberIso,
+) -> Option<ParsedItem<'_, u8>>
+    ensures { MatchOption result
+        (NoCut (Spells false (component.WeekNumberIso modifiers)) input.now)
+        (λ p. Cut (Spells false (component.WeekNumberIso modifiers)) input.now
+        p.0.now (number p.1)) }
+{
+    let modifier::WeekNumberIso { padding } = modifiers;
+    two_places(input, padding)
+}
+
+/// Reads the number of a week that begins on Sunday, in two places, 0 to 99. `None` where none
+/// stands.
+#[inline]
+pub fn parse_week_number_sunday(
+    input: &[u8],
+    modifiers: modifier::WeekNumberSunday,
+) -> Option<ParsedItem<'_, u8>>
+    ensures { MatchOption result
+        (NoCut (Spells false (component.WeekNumberSunday modifiers)) input.now)
+        (λ p. Cut (Spells false (component.WeekNumberSunday modifiers)) input.now
+        p.0.now (number p.1)) }
+{
+    let modifier::WeekNumberSunday { padding } = modifiers;
+    two_places(input, padding)
+}
+
+/// Reads the number of a week that begins on Monday, in two places, 0 to 99. `None` where none
+/// stands.
+#[inline]
+pub fn parse_week_number_monday(
+    input: &[u8],
+    modifiers: modifier::WeekNumberMonday,
+) -> Option<ParsedItem<'_, u8>>
+    ensures { MatchOption result
+        (NoCut (Spells false (component.WeekNumberMonday modifiers)) input.now)
+        (λ p. Cut (Spells false (component.WeekNumberMonday modifiers)) input.now
+        p.0.now (number p.1)) }
+{
+    let modifier::WeekNumberMonday { padding } = modifiers;
+    two_places(input, padding)
+}
+
+/// Reads the first three letters of a weekday's English name. `None` where none stands.
+#[inline]
+pub fn parse_weekday_short(
+    input: &[u8],
+    modifiers: modifier::WeekdayShort,
+) -> Option<ParsedItem<'_, Weekday>>
+    ensures { MatchOption result
+        (NoCut (Spells false (component.WeekdayShort modifiers)) input.now)
+        (λ p. Cut (Spells false (component.WeekdayShort modifiers)) input.now
+        p.0.now (weekday p.1)) }
+{
+    let modifier::WeekdayShort { case_sensitive } = modifiers;
+    let name = short_name(input, weekdays(), case_sensitive)?;
+    Some(ParsedItem(name.0, name.1.value))
+}
+
+/// Reads a weekday's English name. `None` where none stands whole.
+#[inline]
+pub fn parse_weekday_long(
+    input: &[u8],
+    modifiers: modifier::WeekdayLong,
+) -> Option<ParsedItem<'_, Weekday>>
+    ensures { MatchOption result
+        (NoCut (Spells false (component.WeekdayLong modifiers)) input.now)
+        (λ p. Cut (Spells false (component.WeekdayLong modifiers)) input.now
+        p.0.now (weekday p.1)) }
+{
+    let modifier::WeekdayLong { case_sensitive } = modifiers;
+    let name = long_name(input, weekdays(), case_sensitive)?;
+    Some(ParsedItem(name.0, name.1.value))
+}
+
+/// Reads the number of a weekday, counted from Sunday: one digit of `0` to `6`, or of `1` to `7`
+/// where it is one-indexed. `None` where none stands.
+#[inline]
+pub fn parse_weekday_sunday(
+    input: &[u8],
+    modifiers: modifier::WeekdaySunday,
+) -> Option<ParsedItem<'_, Weekday>>
+    ensures { MatchOption result
+        (NoCut (Spells false (component.WeekdaySunday modifiers)) input.now)
+        (λ p. Cut (Spells false (component.WeekdaySunday modifiers)) input.now
+        p.0.now (weekday p.1)) }
+{
+    let modifier::WeekdaySunday { one_indexed } = modifiers;
+    let digit = weekday_digit(input, one_indexed)?;
+    Some(ParsedItem(digit.0, weekday_from_monday((digit.1 + 6) % 7)))
+}
+
+/// Reads the number of a weekday, counted from Monday: one digit of `0` to `6`, or of `1` to `7`
+/// where it is one-indexed. `None` where none stands.
+#[inline]
+pub fn parse_weekday_monday(
+    input: &[u8],
+    modifiers: modifier::WeekdayMonday,
+) -> Option<ParsedItem<'_, Weekday>>
+    ensures { MatchOption result
+        (NoCut (Spells false (component.WeekdayMonday modifiers)) input.now)
+        (λ p. Cut (Spells false (component.WeekdayMonday modifiers)) input.now
+        p.0.now (weekday p.1)) }
+{
+    let modifier::WeekdayMonday { one_indexed } = modifiers;
+    let digit = weekday_digit(input, one_indexed)?;
+    Some(ParsedItem(digit.0, weekday_from_monday(digit.1)))
+}
+
+/// Reads the day of the year, in three places, 1 to 999. `None` where none stands.
+#[inline]
+pub fn parse_ordinal(
+    input: &[u8],
+    modifiers: modifier::Ordinal,
+) -> Option<ParsedItem<'_, NonZero<u16>>>
+    ensures { MatchOption result
+        (NoCut (Spells false (component.Ordinal modifiers)) input.now)
+        (λ p. Cut (Spells false (component.Ordinal modifiers)) input.now
+        p.0.now (number p.1.value)) }
+{
+    let modifier::Ordinal { padding } = modifiers;
+    let ordinal = run::<3, 3, u16>(input, padding)?;
+    Some(ParsedItem(ordinal.0, NonZero::<u16>::new(ordinal.1)?))
+}
+
+/// Reads the day of the month, in two places, 1 to 99. `None` where none stands.
+#[inline]
+pub fn parse_day(input: &[u8], modifiers: modifier::Day) -> Option<ParsedItem<'_, NonZero<u8>>>
+    ensures { MatchOption result
+        (NoCut (Spells false (component.Day modifiers)) input.now)
+        (λ p. Cut (Spells false (component.Day modifiers)) input.now p.0.now (number p.1.value)) }
+{
+    let modifier::Day { padding } = modifiers;
+    let day = run::<2, 2, u8>(input, padding)?;
+    Some(ParsedItem(day.0, NonZero::<u8>::new(day.1)?))
+}
+
+/// Reads the hour on a clock of 12 hours, in two places, 0 to 99. `None` where none stands.
+#[inline]
+pub fn parse_hour_12(input: &[u8], modifiers: modifier::Hour12) -> Option<ParsedItem<'_, u8>>
+    ensures { MatchOption result
+        (NoCut (Spells false (component.Hour12 modifiers)) input.now)
+        (λ p. Cut (Spells false (component.Hour12 modifiers)) input.now p.0.now (number p.1)) }
+{
+    let modifier::Hour12 { padding } = modifiers;
+    two_places(input, padding)
+}
+
+/// Reads the hour on a clock of 24 hours, in two places, 0 to 99. `None` where none stands.
+#[inline]
+pub fn parse_hour_24(input: &[u8], modifiers: modifier::Hour24) -> Option<ParsedItem<'_, u8>>
+    ensures { MatchOption result
+        (NoCut (Spells false (component.Hour24 modifiers)) input.now)
+        (λ p. Cut (Spells false (component.Hour24 modifiers)) input.now p.0.now (number p.1)) }
+{
+    let modifier::Hour24 { padding } = modifiers;
+    two_places(input, padding)
+}
+
+/// Reads the minute, in two places, 0 to 99. `None` where none stands.
+#[inline]
+pub fn parse_minute(input: &[u8], modifiers: modifier::Minute) -> Option<ParsedItem<'_, u8>>
+    ensures { MatchOption result
+        (NoCut (Spells false (component.Minute modifiers)) input.now)
+        (λ p. Cut (Spells false (component.Minute modifiers)) input.now p.0.now (number p.1)) }
+{
+    let modifier::Minute { padding } = modifiers;
+    two_places(input, padding)
+}
+
+/// Reads the second, in two places, 0 to 99. `None` where none stands.
+#[inline]
+pub fn parse_second(input: &[u8], modifiers: modifier::Second) -> Option<ParsedItem<'_, u8>>
+    ensures { MatchOption result
+        (NoCut (Spells false (component.Second modifiers)) input.now)
+        (λ p. Cut (Spells false (component.Second modifiers)) input.now p.0.now (number p.1)) }
+{
+    let modifier::Second { padding } = modifiers;
+    two_places(input, padding)
+}
+
+/// Reads the half of the day: `AM` or `PM`, or `am` or `pm`, where the case matters, and else
+/// these letters in any case. `None` where none of them stands.
+#[inline]
+pub fn parse_period(input: &[u8], modifiers: modifier::Period) -> Option<ParsedItem<'_, Period>>
+    ensures { MatchOption result
+        (NoCut (Spells false (component.Period modifiers)) input.now)
+        (λ p. Cut (Spells false (component.Period modifiers)) input.now p.0.now (period p.1)) }
+{
+    let modifier::Period {
+        is_uppercase,
+        case_sensitive,
+    } = modifiers;
+    let upper = is_uppercase && case_sensitive;
+    let letters = two_letters(input, case_sensitive)?;
+    Some(ParsedItem(letters.0, period_of(letters.1, upper)?))
+}
+
+/// Reads a fraction of a second, in nanoseconds: exactly so many digits, or one or more, of which
+/// 32 are read at most and the first nine count. `None` where too few stand.
+pub fn parse_subsecond(input: &[u8], modifiers: modifier::Subsecond) -> Option<ParsedItem<'_, u32>>
+    ensures { MatchOption result
+        (NoCut (Spells false (component.Subsecond modifiers)) input.now)
+        (λ p. Cut (Spells false (component.Subsecond modifiers)) input.now p.0.now (number p.1)) }
+{
+    let modifier::Subsecond { digits } = modifiers;
+    match digits {
+        SubsecondDigits::One => fraction::<1>(input),
+        SubsecondDigits::Two => fraction::<2>(input),
+        SubsecondDigits::Three => fraction::<3>(input),
+        SubsecondDigits::Four => fraction::<4>(input),
+        SubsecondDigits::Five => fraction::<5>(input),
+        SubsecondDigits::Six => fraction::<6>(input),
+        SubsecondDigits::Seven => fraction::<7>(input),
+        SubsecondDigits::Eight => fraction::<8>(input),
+        SubsecondDigits::Nine => fraction::<9>(input),
+        SubsecondDigits::OneOrMore => long_fraction(input),
+    }
+}
+
+/// Reads the hours of an offset from UTC, in two places, with or without a sign. The bool says
+/// whether the sign is a minus. `None` where no such text stands, also where a mandatory sign is
+/// missing.
+#[inline]
+pub fn parse_offset_hour(
+    input: &[u8],
+    modifiers: modifier::OffsetHour,
+) -> Option<ParsedItem<'_, (i8, bool)>>
+    ensures { MatchOption result
+        (NoCut (Spells false (component.OffsetHour modifiers)) input.now)
+        (λ p. Cut (Spells false (component.OffsetHour modifiers)) input.now
+        p.0.now (flagged p.1.0 p.1.1)) }
+{
+    let modifier::OffsetHour {
+        padding,
+        sign_is_mandatory,
+    } = modifiers;
+    offset_hour(input, padding, sign_is_mandatory)
+}
+
+/// Reads the minutes of an offset from UTC, in two places and without a sign, 0 to 99. `None`
+/// where none stand.
+#[inline]
+pub fn parse_offset_minute(
+    input: &[u8],
+    modifiers: modifier::OffsetMinute,
+) -> Option<ParsedItem<'_, i8>>
+    ensures { MatchOption result
+        (NoCut (Spells false (component.OffsetMinute modifiers)) input.now)
+        (λ p. Cut (Spells false (component.OffsetMinute modifiers)) input.now
+        p.0.now (signed p.1)) }
+{
+    let modifier::OffsetMinute { padding } = modifiers;
+    offset_part(input, padding)
+}
+
+/// Reads the seconds of an offset from UTC, in two places and without a sign, 0 to 99. `None`
+/// where none stand.
+#[inline]
+pub fn parse_offset_second(
+    input: &[u8],
+    modifiers: modifier::OffsetSecond,
+) -> Option<ParsedItem<'_, i8>>
+    ensures { MatchOption result
+        (NoCut (Spells false (component.OffsetSecond modifiers)) input.now)
+        (λ p. Cut (Spells false (component.OffsetSecond modifiers)) input.now
+        p.0.now (signed p.1)) }
+{
+    let modifier::OffsetSecond { padding } = modifiers;
+    offset_part(input, padding)
+}
+
+/// Skips so many bytes. `None` where fewer are left.
+#[inline]
+pub fn parse_ignore(input: &[u8], modifiers: modifier::Ignore) -> Option<ParsedItem<'_, ()>>
+    ensures { MatchOption result
+        (NoCut (Spells false (component.Ignore modifiers)) input.now)
+        (λ p. Cut (Spells false (component.Ignore modifiers)) input.now p.0.now nothing) }
+{
+    let modifier::Ignore { count } = modifiers;
+    let (_, rest) = input.split_at_checked(usize::from(count.get()))?;
+    Some(ParsedItem(rest, ()))
+}
+
+/// Reads seconds since 1970-01-01T00:00:00Z, in up to 14 digits, with or without a sign, and
+/// answers them in nanoseconds. `None` where no such text stands, also where a mandatory sign is
+/// missing.
+#[inline]
+pub fn parse_unix_timestamp_second(
+    input: &[u8],
+    modifiers: modifier::UnixTimestampSecond,
+) -> Option<ParsedItem<'_, i128>>
+    ensures { MatchOption result
+        (NoCut (Spells false (component.UnixTimestampSecond modifiers)) input.now)
+        (λ p. Cut (Spells false (component.UnixTimestampSecond modifiers)) input.now
+        p.0.now (signed p.1)) }
+{
+    let modifier::UnixTimestampSecond { sign_is_mandatory } = modifiers;
+    timestamp::<14>(input, 1_000_000_000, sign_is_mandatory)
+}
+
+/// Reads milliseconds since 1970-01-01T00:00:00Z, in up to 17 digits, with or without a sign, and
+/// answers them in nanoseconds. `None` where no such text stands, also where a mandatory sign is
+/// missing.
+#[inline]
+pub fn parse_unix_timestamp_millisecond(
+    input: &[u8],
+    modifiers: modifier::UnixTimestampMillisecond,
+) -> Option<ParsedItem<'_, i128>>
+    ensures { MatchOption result
+        (NoCut (Spells false (component.UnixTimestampMillisecond modifiers)) input.now)
+        (λ p. Cut (Spells false (component.UnixTimestampMillisecond modifiers)) input.now
+        p.0.now (signed p.1)) }
+{
+    let modifier::UnixTimestampMillisecond { sign_is_mandatory } = modifiers;
+    timestamp::<17>(input, 1_000_000, sign_is_mandatory)
+}
+
+/// Reads microseconds since 1970-01-01T00:00:00Z, in up to 20 digits, with or without a sign, and
+/// answers them in nanoseconds. `None` where no such text stands, also where a mandatory sign is
+/// missing.
+#[inline]
+pub fn parse_unix_timestamp_microsecond(
+    input: &[u8],
+    modifiers: modifier::UnixTimestampMicrosecond,
+) -> Option<ParsedItem<'_, i128>>
+    ensures { MatchOption result
+        (NoCut (Spells false (component.UnixTimestampMicrosecond modifiers)) input.now)
+        (λ p. Cut (Spells false (component.UnixTimestampMicrosecond modifiers)) input.now
+        p.0.now (signed p.1)) }
+{
+    let modifier::UnixTimestampMicrosecond { sign_is_mandatory } = modifiers;
+    timestamp::<20>(input, 1_000, sign_is_mandatory)
+}
+
+/// Reads nanoseconds since 1970-01-01T00:00:00Z, in up to 23 digits, with or without a sign, and
+/// answers them in nanoseconds. `None` where no such text stands, also where a mandatory sign is
+/// missing.
+#[inline]
+pub fn parse_unix_timestamp_nanosecond(
+    input: &[u8],
+    modifiers: modifier::UnixTimestampNanosecond,
+) -> Option<ParsedItem<'_, i128>>
+    ensures { MatchOption result
+        (NoCut (Spells false (component.UnixTimestampNanosecond modifiers)) input.now)
+        (λ p. Cut (Spells false (component.UnixTimestampNanosecond modifiers)) input.now
+        p.0.now (signed p.1)) }
+{
+    let modifier::UnixTimestampNanosecond { sign_is_mandatory } = modifiers;
+    timestamp::<23>(input, 1, sign_is_mandatory)
+}
+
+/// Reads the end of the input, with all that is left of it where that is discarded. `None` where
+/// bytes are left and prohibited.
+#[inline]
+pub fn parse_end(input: &[u8], modifiers: modifier::End) -> Option<ParsedItem<'_, ()>>
+    ensures { MatchOption result
+        (NoCut (Spells false (component.End modifiers)) input.now)
+        (λ p. Cut (Spells false (component.End modifiers)) input.now p.0.now nothing) }
+{
+    let modifier::End { trailing_input } = modifiers;
+    match trailing_input {
+        TrailingInput::Prohibit if input.is_empty() => Some(ParsedItem(input, ())),
+        TrailingInput::Prohibit => None,
+        TrailingInput::Discard => Some(ParsedItem(&input[input.len()..], ())),
+    }
+}

@@ -1,0 +1,96 @@
+//! Single digits and pairs of letters.
+ghost use Rattle.std.specs.Prelude.{◌≡◌, ◌≢◌, ◌<◌, ◌≤◌, MatchOption};
+ghost use Rattle.time_values.specs.Weekday.{days_from_monday};
+ghost use Rattle.time_readers.specs.Cuts.{Cut, NoCut};
+ghost use Rattle.time_readers.specs.Letters as Letters;
+ghost use Rattle.time_readers.specs.Letters.{IsDayDigit, IsLetters};
+ghost use Rattle.time_readers.specs.Spelling as Spelling;
+ghost use Rattle.time_readers.specs.Names.{period_name};
+
+use crate::{ParsedItem, Period};
+use time_values::Weekday;
+
+/// Reads one digit of `0` to `6`, or of `1` to `7` where it is one-indexed, as 0 to 6.
+#[inline]
+pub(super) fn weekday_digit(input: &[u8], one_indexed: bool) -> Option<ParsedItem<'_, u8>>
+    ensures { MatchOption result
+        (NoCut (IsDayDigit one_indexed) input.now)
+        (λ p. Cut (IsDayDigit one_indexed) input.now p.0.now p.1) }
+{
+    let [digit, rest @ ..] = input else {
+        return None;
+    };
+    let first = first_digit(one_indexed);
+    if first <= *digit && *digit < first + 7 {
+        Some(ParsedItem(rest, *digit - first))
+    } else {
+        None
+    }
+}
+
+#[inline]
+fn first_digit(one_indexed: bool) -> u8
+    ensures value { result ≡ Spelling.first_digit one_indexed }
+    ensures most { result ≤ 49 }
+{
+    if one_indexed { b'1' } else { b'0' }
+}
+
+/// The weekday so many days after Monday.
+#[inline]
+pub(super) fn weekday_from_monday(days: u8) -> Weekday
+    requires { days < 7 }
+    ensures { days_from_monday result ≡ days }
+{
+    match days {
+        0 => Weekday::Monday,
+        1 => Weekday::Tuesday,
+        2 => Weekday::Wednesday,
+        3 => Weekday::Thursday,
+        4 => Weekday::Friday,
+        5 => Weekday::Saturday,
+        _ => Weekday::Sunday,
+    }
+}
+
+/// Reads two bytes: as they stand where the case matters, and else as small letters.
+#[inline]
+pub(super) fn two_letters(input: &[u8], case_sensitive: bool) -> Option<ParsedItem<'_, [u8; 2]>>
+    ensures { MatchOption result
+        (NoCut (IsLetters case_sensitive) input.now)
+        (λ p. Cut (IsLetters case_sensitive) input.now p.0.now p.1) }
+{
+    let [first, second, rest @ ..] = input else {
+        return None;
+    };
+    Some(ParsedItem(rest, folded([*first, *second], case_sensitive)))
+}
+
+/// The letters as they stand where the case matters, and else as small letters.
+#[inline]
+fn folded(letters: [u8; 2], case_sensitive: bool) -> [u8; 2]
+    ensures { result ≡ Letters.folded case_sensitive letters }
+{
+    if case_sensitive {
+        letters
+    } else {
+        let [first, second] = letters;
+        [first.to_ascii_lowercase(), second.to_ascii_lowercase()]
+    }
+}
+
+/// The half of the day that the letters name, in capitals or in small letters.
+#[inline]
+pub(super) fn period_of(letters: [u8; 2], upper: bool) -> Option<Period>
+    ensures { MatchOption result
+        ((period : Period) → letters ≢ period_name upper period)
+        (λ period. letters ≡ period_name upper period) }
+{
+    match letters {
+        [b'A', b'M'] if upper => Some(Period::Am),
+        [b'P', b'M'] if upper => Some(Period::Pm),
+        [b'a', b'm'] if !upper => Some(Period::Am),
+        [b'p', b'm'] if !upper => Some(Period::Pm),
+        _ => None,
+    }
+}

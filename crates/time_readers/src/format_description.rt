@@ -1,0 +1,281 @@
+//! Descriptions of how a date, a time or an offset is written.
+use crate::modifier;
+
+#[cfg(test)]
+mod tests;
+
+use std::fmt::{self, Debug};
+
+/// A part of a date, a time or an offset, with how it is written.
+#[derive(Clone, Copy, Debug, PartialEq, Eq)]
+pub enum Component {
+    /// Day of the month.
+    Day(modifier::Day),
+    /// First three letters of a month's name.
+    MonthShort(modifier::MonthShort),
+    /// Whole name of a month.
+    MonthLong(modifier::MonthLong),
+    /// Number of a month, from 1 for January.
+    MonthNumerical(modifier::MonthNumerical),
+    /// Day of the year.
+    Ordinal(modifier::Ordinal),
+    /// First three letters of a weekday's name.
+    WeekdayShort(modifier::WeekdayShort),
+    /// Whole name of a weekday.
+    WeekdayLong(modifier::WeekdayLong),
+    /// Number of a weekday, counted from Sunday.
+    WeekdaySunday(modifier::WeekdaySunday),
+    /// Number of a weekday, counted from Monday.
+    WeekdayMonday(modifier::WeekdayMonday),
+    /// Week of the ISO week date.
+    WeekNumberIso(modifier::WeekNumberIso),
+    /// Week of the year, where weeks begin on Sunday.
+    WeekNumberSunday(modifier::WeekNumberSunday),
+    /// Week of the year, where weeks begin on Monday.
+    WeekNumberMonday(modifier::WeekNumberMonday),
+    /// Calendar year of four digits, or of up to six behind a sign.
+    CalendarYearFullExtendedRange(modifier::CalendarYearFullExtendedRange),
+    /// Calendar year of four digits.
+    CalendarYearFullStandardRange(modifier::CalendarYearFullStandardRange),
+    /// ISO week year of four digits, or of up to six behind a sign.
+    IsoYearFullExtendedRange(modifier::IsoYearFullExtendedRange),
+    /// ISO week year of four digits.
+    IsoYearFullStandardRange(modifier::IsoYearFullStandardRange),
+    /// Calendar year without its last two digits, of up to four digits behind a sign.
+    CalendarYearCenturyExtendedRange(modifier::CalendarYearCenturyExtendedRange),
+    /// Calendar year without its last two digits, of two digits.
+    CalendarYearCenturyStandardRange(modifier::CalendarYearCenturyStandardRange),
+    /// ISO week year without its last two digits, of up to four digits behind a sign.
+    IsoYearCenturyExtendedRange(modifier::IsoYearCenturyExtendedRange),
+    /// ISO week year without its last two digits, of two digits.
+    IsoYearCenturyStandardRange(modifier::IsoYearCenturyStandardRange),
+    /// Last two digits of the calendar year.
+    CalendarYearLastTwo(modifier::CalendarYearLastTwo),
+    /// Last two digits of the ISO week year.
+    IsoYearLastTwo(modifier::IsoYearLastTwo),
+    /// Hour on a clock of 12 hours.
+    Hour12(modifier::Hour12),
+    /// Hour on a clock of 24 hours.
+    Hour24(modifier::Hour24),
+    /// Minute of the hour.
+    Minute(modifier::Minute),
+    /// Half of the day, `AM` or `PM`.
+    Period(modifier::Period),
+    /// Second of the minute.
+    Second(modifier::Second),
+    /// Fraction of the second, behind its separator.
+    Subsecond(modifier::Subsecond),
+    /// Hours of the UTC offset, with its sign.
+    OffsetHour(modifier::OffsetHour),
+    /// Minutes of the UTC offset, without a sign.
+    OffsetMinute(modifier::OffsetMinute),
+    /// Seconds of the UTC offset, without a sign.
+    OffsetSecond(modifier::OffsetSecond),
+    /// Bytes that are skipped.
+    Ignore(modifier::Ignore),
+    /// Seconds since 1970-01-01T00:00:00Z.
+    UnixTimestampSecond(modifier::UnixTimestampSecond),
+    /// Milliseconds since 1970-01-01T00:00:00Z.
+    UnixTimestampMillisecond(modifier::UnixTimestampMillisecond),
+    /// Microseconds since 1970-01-01T00:00:00Z.
+    UnixTimestampMicrosecond(modifier::UnixTimestampMicrosecond),
+    /// Nanoseconds since 1970-01-01T00:00:00Z.
+    UnixTimestampNanosecond(modifier::UnixTimestampNanosecond),
+    /// End of the input.
+    End(modifier::End),
+}
+
+/// Half of the day.
+#[derive(Clone, Copy, Debug, PartialEq, Eq)]
+pub enum Period {
+    /// Before noon.
+    Am,
+    /// From noon on.
+    Pm,
+}
+
+/// A description that borrows its parts.
+#[derive(Clone, Copy)]
+pub enum BorrowedFormatItem<'a> {
+    /// Bytes that stand as they are.
+    Literal(&'a [u8]),
+    /// Text that stands as it is.
+    StringLiteral(&'a str),
+    /// A part of a date, a time or an offset.
+    Component(Component),
+    /// Items one after the other.
+    Compound(&'a [Self]),
+    /// An item that may be missing.
+    Optional(&'a Self),
+    /// The first item that reads.
+    First(&'a [Self]),
+}
+
+/// A description that owns its parts.
+#[derive(Debug, Drop)]
+pub enum OwnedFormatItem {
+    /// Bytes that stand as they are.
+    Literal(Vec<u8>),
+    /// Text that stands as it is.
+    StringLiteral(String),
+    /// A part of a date, a time or an offset.
+    Component(Component),
+    /// Items one after the other.
+    Compound(Vec<Self>),
+    /// An item that may be missing.
+    Optional(Box<Self>),
+    /// The first item that reads.
+    First(Vec<Self>),
+}
+
+/// A description of version 3, in which a skipped part ends between characters.
+#[derive(Drop)]
+pub struct FormatDescriptionV3<'a> {
+    /// The items.
+    pub inner: FormatDescriptionV3Inner<'a>,
+}
+
+/// The items of a description of version 3, each borrowed or owned.
+#[derive(Drop)]
+pub enum FormatDescriptionV3Inner<'a> {
+    /// A part of a date, a time or an offset.
+    Component(Component),
+    /// Text that stands as it is.
+    BorrowedLiteral(&'a str),
+    /// Items one after the other.
+    BorrowedCompound(&'a [Self]),
+    /// An item that may be missing.
+    BorrowedOptional {
+        /// Whether a formatter writes the item.
+        format: bool,
+        /// The item.
+        item: &'a Self,
+    },
+    /// The first item that reads.
+    BorrowedFirst(&'a [Self]),
+    /// Text that stands as it is.
+    OwnedLiteral(String),
+    /// Items one after the other.
+    OwnedCompound(Vec<Self>),
+    /// An item that may be missing.
+    OwnedOptional {
+        /// Whether a formatter writes the item.
+        format: bool,
+        /// The item.
+        item: Box<Self>,
+    },
+    /// The first item that reads.
+    OwnedFirst(Vec<Self>),
+}
+
+impl Debug for BorrowedFormatItem<'_> {
+    #[cycle(debug_borrowed)]
+    fn fmt<W: fmt::Write>(&self, f: &mut fmt::Formatter<W>) -> fmt::Result {
+        match self {
+            BorrowedFormatItem::Literal(text) => f.debug_tuple("Literal").field(text).finish(),
+            BorrowedFormatItem::StringLiteral(text) => {
+                f.debug_tuple("StringLiteral").field(text).finish()
+            }
+            BorrowedFormatItem::Component(component) => {
+                f.debug_tuple("Component").field(component).finish()
+            }
+            BorrowedFormatItem::Compound(items) => write_borrowed_list("Compound", items, f),
+            BorrowedFormatItem::Optional(item) => {
+                write!(f, "Optional(")?;
+                item.fmt(f)?;
+                write!(f, ")")
+            }
+            BorrowedFormatItem::First(items) => write_borrowed_list("First", items, f),
+        }
+    }
+}
+
+/// Writes a variant that holds a list of items, as a derived `Debug` would.
+#[cycle(debug_borrowed)]
+fn write_borrowed_list<W: fmt::Write>(
+    name: &str,
+    items: &[BorrowedFormatItem<'_>],
+    f: &mut fmt::Formatter<W>,
+) -> fmt::Result {
+    write!(f, "{name}([")?;
+    for (index, item) in items.iter().enumerate() {
+        if index > 0 {
+            write!(f, ", ")?;
+        }
+        item.fmt(f)?;
+    }
+    write!(f, "])")
+}
+
+impl Debug for FormatDescriptionV3<'_> {
+    fn fmt<W: fmt::Write>(&self, f: &mut fmt::Formatter<W>) -> fmt::Result {
+        f.debug_struct("FormatDescriptionV3")
+            .field("inner", &self.inner)
+            .finish()
+    }
+}
+
+impl Debug for FormatDescriptionV3Inner<'_> {
+    #[cycle(debug_v3)]
+    fn fmt<W: fmt::Write>(&self, f: &mut fmt::Formatter<W>) -> fmt::Result {
+        match *self {
+            FormatDescriptionV3Inner::Component(component) => {
+                write!(f, "Component({component:?})")
+            }
+            FormatDescriptionV3Inner::BorrowedLiteral(text) => {
+                write!(f, "BorrowedLiteral({text:?})")
+            }
+            FormatDescriptionV3Inner::BorrowedCompound(items) => {
+                write_v3_list("BorrowedCompound", items, f)
+            }
+            FormatDescriptionV3Inner::BorrowedOptional { format, item } => {
+                write_v3_optional("BorrowedOptional", format, item, f)
+            }
+            FormatDescriptionV3Inner::BorrowedFirst(items) => {
+                write_v3_list("BorrowedFirst", items, f)
+            }
+            FormatDescriptionV3Inner::OwnedLiteral(ref text) => {
+                write!(f, "OwnedLiteral({text:?})")
+            }
+            FormatDescriptionV3Inner::OwnedCompound(ref items) => {
+                write_v3_list("OwnedCompound", items.as_slice(), f)
+            }
+            FormatDescriptionV3Inner::OwnedOptional { format, ref item } => {
+                write_v3_optional("OwnedOptional", format, item, f)
+            }
+            FormatDescriptionV3Inner::OwnedFirst(ref items) => {
+                write_v3_list("OwnedFirst", items.as_slice(), f)
+            }
+        }
+    }
+}
+
+/// Writes a variant that holds a list of items, as a derived `Debug` would.
+#[cycle(debug_v3)]
+fn write_v3_list<W: fmt::Write>(
+    name: &str,
+    items: &[FormatDescriptionV3Inner<'_>],
+    f: &mut fmt::Formatter<W>,
+) -> fmt::Result {
+    write!(f, "{name}([")?;
+    for (index, item) in items.iter().enumerate() {
+        if index > 0 {
+            write!(f, ", ")?;
+        }
+        item.fmt(f)?;
+    }
+    write!(f, "])")
+}
+
+/// Writes a variant that holds an item that may be missing, as a derived `Debug` would.
+#[cycle(debug_v3)]
+fn write_v3_optional<W: fmt::Write>(
+    name: &str,
+    format: bool,
+    item: &FormatDescriptionV3Inner<'_>,
+    f: &mut fmt::Formatter<W>,
+) -> fmt::Result {
+    write!(f, "{name} {{ format: {format}, item: ")?;
+    item.fmt(f)?;
+    write!(f, " }}")
+}

@@ -1,0 +1,96 @@
+//! The walk over borrowed items.
+ghost use Rattle.std.specs.Prelude.{map};
+ghost use Rattle.time_values.specs.Range.{greatest_year};
+ghost use Rattle.time_readers.specs.Shape.{borrowed_shape};
+ghost use Rattle.time_readers.specs.Tree.{first_of, optional, sequence, trees};
+ghost use Rattle.time_record.specs.Answer.{Answers};
+
+use crate::Parsed;
+use time_readers::BorrowedFormatItem;
+use time_values::error::ParseFromDescription;
+
+/// Reads an item in front of the input.
+#[cycle(borrowed)]
+pub fn walk_borrowed<'a>(
+    item: &BorrowedFormatItem<'_>,
+    parsed: &mut Parsed,
+    input: &'a [u8],
+) -> Result<&'a [u8], ParseFromDescription>
+    ensures { Answers greatest_year (borrowed_shape item.now) input.now parsed.old result parsed.new }
+{
+    match item {
+        BorrowedFormatItem::Literal(text) => Parsed::parse_literal(input, text),
+        BorrowedFormatItem::StringLiteral(text) => Parsed::parse_literal(input, text.as_bytes()),
+        BorrowedFormatItem::Component(component) => parsed.parse_component(input, *component),
+        BorrowedFormatItem::Compound(items) => walk_borrowed_all(items, parsed, input),
+        BorrowedFormatItem::Optional(item) => walk_borrowed_optional(item, parsed, input),
+        BorrowedFormatItem::First(items) => walk_borrowed_first(items, parsed, input),
+    }
+}
+
+/// Reads items one after the other, each on what the one before left.
+#[cycle(borrowed)]
+fn walk_borrowed_all<'a>(
+    items: &[BorrowedFormatItem<'_>],
+    parsed: &mut Parsed,
+    input: &'a [u8],
+) -> Result<&'a [u8], ParseFromDescription>
+    ensures { Answers greatest_year (sequence (trees (map borrowed_shape items.now)))
+        input.now parsed.old result parsed.new }
+{
+    let before = *parsed;
+    let mut rest = input;
+    for item in items {
+        match walk_borrowed(item, parsed, rest) {
+            Ok(unread) => rest = unread,
+            Err(fault) => {
+                *parsed = before;
+                return Err(fault);
+            }
+        }
+    }
+    Ok(rest)
+}
+
+/// Reads an item that may be missing.
+#[cycle(borrowed)]
+fn walk_borrowed_optional<'a>(
+    item: &BorrowedFormatItem<'_>,
+    parsed: &mut Parsed,
+    input: &'a [u8],
+) -> Result<&'a [u8], ParseFromDescription>
+    ensures { Answers greatest_year (optional (borrowed_shape item.now))
+        input.now parsed.old result parsed.new }
+{
+    match walk_borrowed(item, parsed, input) {
+        Ok(rest) => Ok(rest),
+        Err(_) => Ok(input),
+    }
+}
+
+/// Reads the first of the items that reads. Where none does, the fault is the first one's.
+#[cycle(borrowed)]
+fn walk_borrowed_first<'a>(
+    items: &[BorrowedFormatItem<'_>],
+    parsed: &mut Parsed,
+    input: &'a [u8],
+) -> Result<&'a [u8], ParseFromDescription>
+    ensures { Answers greatest_year (first_of (trees (map borrowed_shape items.now)))
+        input.now parsed.old result parsed.new }
+{
+    let mut first_fault = None;
+    for item in items {
+        match walk_borrowed(item, parsed, input) {
+            Ok(rest) => return Ok(rest),
+            Err(fault) => {
+                if first_fault.is_none() {
+                    first_fault = Some(fault);
+                }
+            }
+        }
+    }
+    match first_fault {
+        Some(fault) => Err(fault),
+        None => Ok(input),
+    }
+}

@@ -1,0 +1,109 @@
+//! The walk over the items of a version-3 description.
+ghost use Rattle.std.specs.Prelude.{map};
+ghost use Rattle.time_values.specs.Range.{greatest_year};
+ghost use Rattle.time_readers.specs.Shape.{v3_shape};
+ghost use Rattle.time_readers.specs.Tree.{first_of, optional, sequence, trees};
+ghost use Rattle.time_record.specs.Answer.{Answers};
+
+use crate::Parsed;
+use time_readers::FormatDescriptionV3Inner;
+use time_values::error::ParseFromDescription;
+
+/// Reads an item in front of the input.
+#[cycle(v3)]
+pub fn walk_v3<'a>(
+    item: &FormatDescriptionV3Inner<'_>,
+    parsed: &mut Parsed,
+    input: &'a [u8],
+) -> Result<&'a [u8], ParseFromDescription>
+    ensures { Answers greatest_year (v3_shape item.now) input.now parsed.old result parsed.new }
+{
+    match *item {
+        FormatDescriptionV3Inner::Component(component) => {
+            parsed.parse_whole_component(input, component)
+        }
+        FormatDescriptionV3Inner::BorrowedLiteral(text) => {
+            Parsed::parse_literal(input, text.as_bytes())
+        }
+        FormatDescriptionV3Inner::BorrowedCompound(items) => walk_v3_all(items, parsed, input),
+        FormatDescriptionV3Inner::BorrowedOptional { item, .. } => {
+            walk_v3_optional(item, parsed, input)
+        }
+        FormatDescriptionV3Inner::BorrowedFirst(items) => walk_v3_first(items, parsed, input),
+        FormatDescriptionV3Inner::OwnedLiteral(ref text) => {
+            Parsed::parse_literal(input, text.as_bytes())
+        }
+        FormatDescriptionV3Inner::OwnedCompound(ref items) => walk_v3_all(items, parsed, input),
+        FormatDescriptionV3Inner::OwnedOptional { ref item, .. } => {
+            walk_v3_optional(item, parsed, input)
+        }
+        FormatDescriptionV3Inner::OwnedFirst(ref items) => walk_v3_first(items, parsed, input),
+    }
+}
+
+/// Reads items one after the other, each on what the one before left.
+#[cycle(v3)]
+fn walk_v3_all<'a>(
+    items: &[FormatDescriptionV3Inner<'_>],
+    parsed: &mut Parsed,
+    input: &'a [u8],
+) -> Result<&'a [u8], ParseFromDescription>
+    ensures { Answers greatest_year (sequence (trees (map v3_shape items.now)))
+        input.now parsed.old result parsed.new }
+{
+    let before = *parsed;
+    let mut rest = input;
+    for item in items {
+        match walk_v3(item, parsed, rest) {
+            Ok(unread) => rest = unread,
+            Err(fault) => {
+                *parsed = before;
+                return Err(fault);
+            }
+        }
+    }
+    Ok(rest)
+}
+
+/// Reads an item that may be missing.
+#[cycle(v3)]
+fn walk_v3_optional<'a>(
+    item: &FormatDescriptionV3Inner<'_>,
+    parsed: &mut Parsed,
+    input: &'a [u8],
+) -> Result<&'a [u8], ParseFromDescription>
+    ensures { Answers greatest_year (optional (v3_shape item.now))
+        input.now parsed.old result parsed.new }
+{
+    match walk_v3(item, parsed, input) {
+        Ok(rest) => Ok(rest),
+        Err(_) => Ok(input),
+    }
+}
+
+/// Reads the first of the items that reads. Where none does, the fault is the first one's.
+#[cycle(v3)]
+fn walk_v3_first<'a>(
+    items: &[FormatDescriptionV3Inner<'_>],
+    parsed: &mut Parsed,
+    input: &'a [u8],
+) -> Result<&'a [u8], ParseFromDescription>
+    ensures { Answers greatest_year (first_of (trees (map v3_shape items.now)))
+        input.now parsed.old result parsed.new }
+{
+    let mut first_fault = None;
+    for item in items {
+        match walk_v3(item, parsed, input) {
+            Ok(rest) => return Ok(rest),
+            Err(fault) => {
+                if first_fault.is_none() {
+                    first_fault = Some(fault);
+                }
+            }
+        }
+    }
+    match first_fault {
+        Some(fault) => Err(fault),
+        None => Ok(input),
+    }
+}

@@ -4,7 +4,7 @@ use std::num::NonZero;
 use std::test::Fail;
 use time_values::error::{ComponentRange, TryFromParsed};
 use time_values::{
-    Date, Month, OffsetDateTime, PlainDateTime, Time, Timestamp, UtcDateTime, UtcOffset, Weekday,
+    Date, Month, OffsetDateTime, PlainDateTime, Time, UtcDateTime, UtcOffset, Weekday,
 };
 
 /// The refusal of a component whose range does not depend on others.
@@ -467,7 +467,7 @@ fn conversions_of_timestamps(rt: HostRuntime) -> Result<(), Fail> {
     assert!(rt; UtcDateTime::try_from(stamp) == Ok(UtcDateTime::new(date, time)));
     let moment = OffsetDateTime::new_in_offset(date, time, UtcOffset::UTC);
     assert!(rt; OffsetDateTime::try_from(stamp) == Ok(moment));
-    assert!(rt; Timestamp::try_from(stamp).map(|stamp| stamp.nanoseconds()) == Ok(-1));
+    assert!(rt; time_values::Timestamp::try_from(stamp).map(|stamp| stamp.nanoseconds()) == Ok(-1));
     assert!(rt; PlainDateTime::try_from(stamp) == Err(UNKNOWN));
     Ok(())
 }
@@ -493,12 +493,12 @@ fn conversions_of_moments(rt: HostRuntime) -> Result<(), Fail> {
     assert!(rt; OffsetDateTime::try_from(east) == Ok(moment));
     assert!(rt; PlainDateTime::try_from(east) == Ok(PlainDateTime::new(Date::MIN, midnight)));
     assert!(rt; UtcDateTime::try_from(east) == Err(out_for_others("year")));
-    assert!(rt; Timestamp::try_from(east) == Err(UNKNOWN));
+    assert!(rt; time_values::Timestamp::try_from(east) == Err(UNKNOWN));
     let utc = first_midnight(None).ok_or("refused")?;
     assert!(rt; OffsetDateTime::try_from(utc) == Err(UNKNOWN));
     assert!(rt; UtcDateTime::try_from(utc) == Ok(UtcDateTime::new(Date::MIN, midnight)));
     let west = first_midnight(Some(-1)).ok_or("refused")?;
-    let stamp = Timestamp::try_from(west).map(|stamp| stamp.nanoseconds());
+    let stamp = time_values::Timestamp::try_from(west).map(|stamp| stamp.nanoseconds());
     assert!(rt; stamp == Ok(-377_705_113_200_000_000_000));
     Ok(())
 }

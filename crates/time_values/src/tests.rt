@@ -8,9 +8,7 @@ ghost use Rattle.time_values.specs.Times.{HasClock};
 use crate::error::{
     ComponentRange, DifferentVariant, Error, Parse, ParseFromDescription, TryFromParsed,
 };
-use crate::{
-    Date, Month, OffsetDateTime, PlainDateTime, Time, Timestamp, UtcDateTime, UtcOffset, Weekday,
-};
+use crate::{Date, Month, OffsetDateTime, PlainDateTime, Time, UtcDateTime, UtcOffset, Weekday};
 use std::convert::TryFrom;
 use std::num::NonZero;
 use std::process::Abort;
@@ -254,8 +252,8 @@ fn moments(rt: HostRuntime) -> Result<(), Fail> {
         assert!(rt; utc.date() == date);
         assert!(rt; utc.time() == time);
         assert_eq!(rt; utc.unix_timestamp_nanos(), nanos);
-        assert_eq!(rt; Timestamp::from(utc).nanoseconds(), nanos);
-        assert!(rt; Timestamp::from_nanoseconds(nanos) == Ok(Timestamp::from(utc)));
+        assert_eq!(rt; crate::Timestamp::from(utc).nanoseconds(), nanos);
+        assert!(rt; crate::Timestamp::from_nanoseconds(nanos) == Ok(crate::Timestamp::from(utc)));
         let moment = OffsetDateTime::from_unix_timestamp_nanos(nanos)?;
         assert!(rt; moment == OffsetDateTime::new_in_offset(date, time, UtcOffset::UTC));
         assert_eq!(rt; moment.unix_timestamp_nanos(), nanos);
@@ -264,7 +262,7 @@ fn moments(rt: HostRuntime) -> Result<(), Fail> {
     for nanos in [FIRST - 1, LAST + 1, i128::MIN, i128::MAX] {
         assert!(rt; UtcDateTime::from_unix_timestamp_nanos(nanos) == Err(out("timestamp")));
         assert!(rt; OffsetDateTime::from_unix_timestamp_nanos(nanos) == Err(out("timestamp")));
-        assert!(rt; Timestamp::from_nanoseconds(nanos) == Err(out("timestamp")));
+        assert!(rt; crate::Timestamp::from_nanoseconds(nanos) == Err(out("timestamp")));
     }
     Ok(())
 }

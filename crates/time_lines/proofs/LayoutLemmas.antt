@@ -4,7 +4,8 @@ use Rattle.std.proofs.lemmas.Bool.Decides.{nat_tests}
 use Rattle.time_values.specs.Month.{month_number}
 use Rattle.time_values.specs.declared.date.Date.{Date}
 use Rattle.time_lines.specs.Layout.{fixed, four_digits, minus_if}
-use Rattle.time_lines.specs.Values.{date_text}
+use Rattle.time_values.specs.declared.time.Time.{Time}
+use Rattle.time_lines.specs.Values.{date_text, date_time_text}
 
 four_digits-small : (n : ℕ) → n < 10000 → four_digits n ≡ fixed 4 n
 four_digits-small n h = grind (arith, nat_tests)
@@ -24,6 +25,9 @@ date_text-small d z w n m k text zy wz nz small mm kk is =
     ∙ ap (λ t. minus_if (int_lt d.year (pos 0)) ++ four_digits (unsigned_abs d.year) ++ codes "-" ++ fixed 2 t ++ codes "-" ++ fixed 2 k) mm
     ∙ ap (λ t. minus_if (int_lt d.year (pos 0)) ++ four_digits (unsigned_abs d.year) ++ codes "-" ++ fixed 2 (month_number d.month) ++ codes "-" ++ fixed 2 t) kk
 
--- three texts with spaces between them
-pub spaced : (x x' y y' z z' : List ℕ) → x ≡ x' → y ≡ y' → z ≡ z' → x ++ (codes " " ++ (y ++ (codes " " ++ z))) ≡ x' ++ codes " " ++ y' ++ codes " " ++ z'
-spaced x x' y y' z z' p q r = rw (p, q, r) (simp append_assoc)
+-- two texts with a space between them
+pub spaced : (x x' y y' : List ℕ) → x ≡ x' → y ≡ y' → x ++ (codes " " ++ y) ≡ x' ++ codes " " ++ y'
+spaced x x' y y' p q = rw (p, q) (simp append_assoc)
+
+pub same_date_time : (d d' : Date) (t t' : Time) → d ≡ d' → t ≡ t' → date_time_text d t ≡ date_time_text d' t'
+same_date_time d d' t t' p q = ap (λ (x : Date). date_time_text x t) p ∙ ap (date_time_text d') q

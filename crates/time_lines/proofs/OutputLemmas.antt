@@ -1,7 +1,9 @@
 -- Answers, line by line.
 use Rattle.std.proofs.Common.{◌≡◌, ℕ, List, [], ◌∷◌, ◌++◌, refl, sym, ap, ◌∙◌, subst, append_assoc, Option, Result, Ok, Err, OnOk}
 use Rattle.std.specs.Io.KnownBytes.{Appends}
-use Rattle.time_lines.specs.Output.{IsAnswer, AreAnswers, WithLineFeed, Writes}
+use Rattle.time_readers.specs.Tree.{Tree}
+use Rattle.time_lines.specs.declared.formats.Target.{Target}
+use Rattle.time_lines.specs.Output.{IsAnswer, IsDescribed, AreAnswers, WithLineFeed, Writes}
 use Rattle.time_lines.proofs.LinesLemmas.{Appends-more}
 
 -- an answered line more is written
@@ -18,7 +20,6 @@ pub Writes-line_feed : {E : Type 0} (r : Result (Unit {0}) E) (P : List ℕ → 
 Writes-line_feed (Ok u) P a b c w more = (w.0 ++ 10 ∷ [], (w.0, w.1, refl), Appends-more a b c w.0 (10 ∷ []) w.2 more)
 Writes-line_feed (Err e) P a b c w more = tt
 
--- a text is written
-pub Writes-text : {E : Type 0} (r : Result (Unit {0}) E) (P : List ℕ → Type 0) (a b : Option (List ℕ)) (text : List ℕ) → P text → OnOk r (Appends a b text) → OnOk r (Writes P a b)
-Writes-text (Ok u) P a b text holds more = (text, holds, more)
-Writes-text (Err e) P a b text holds more = tt
+-- what the text says by a tree is what it says by an equal one
+pub Writes-described : {E : Type 0} (r : Result (Unit {0}) E) (tree same : Tree) (target : Target) (bytes : List ℕ) (a b : Option (List ℕ)) → tree ≡ same → OnOk r (Writes (IsDescribed tree target bytes) a b) → OnOk r (Writes (IsDescribed same target bytes) a b)
+Writes-described r tree same target bytes a b e h = subst (λ (t : Tree). OnOk r (Writes (IsDescribed t target bytes) a b)) e h

@@ -1,4 +1,5 @@
 pub mod Lines
 pub mod Layout
 pub mod Values
+pub mod Formats
 pub mod Output

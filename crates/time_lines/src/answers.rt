@@ -1,72 +1,92 @@
 //! The answer to a line.
-ghost use Rattle.std.specs.Prelude.{◌≡◌, OnOk};
+ghost use Rattle.std.specs.Prelude.{OnOk};
 ghost use Rattle.std.specs.Io.KnownBytes.{Appends};
 ghost use Rattle.time_parsing.specs.Outcome.{seen};
-ghost use Rattle.time_lines.specs.Values.{printed, offset_date_time_text};
-ghost use Rattle.time_lines.specs.declared.answers.Format.TheVariants as format;
-ghost use Rattle.time_lines.specs.declared.answers.Target.TheVariants as target;
-ghost use Rattle.time_lines.specs.Output.{format_named, target_named, IsParsed, IsAnswer, Writes};
+ghost use Rattle.time_lines.specs.Formats as formats;
+ghost use Rattle.time_lines.specs.Output.{IsAnswer, IsAnswerFor, IsDescribed, IsParsed, Writes};
+ghost use Rattle.time_lines.specs.Values.{printed};
+ghost use Rattle.time_lines.specs.declared.formats.Format.TheVariants as format;
 
 use crate::cuts::cut_tab;
-use crate::layout::write_offset_date_time;
+use crate::formats::{
+    Format, Target, clock_items, compound, date_items, find_format, find_target, first,
+    fraction_items, local_items, second_items, unix,
+};
+use crate::layout::Layout;
 use std::io;
 use std::io::Write;
 use time_parsing::{Parsable, Rfc3339};
 use time_record::Parsed;
-use time_values::OffsetDateTime;
 use time_values::error::Parse;
 
-/// The formats that a line may name.
-#[derive(Clone, Copy, Debug)]
-pub enum Format {
-    Rfc3339,
-}
-
-/// The targets that a line may name.
-#[derive(Clone, Copy, Debug)]
-pub enum Target {
-    /// A date, time and offset, read over an empty record.
-    Staged,
-}
-
-fn find_format(name: &[u8]) -> Option<Format>
-    ensures { result ≡ format_named name.now }
-{
-    if name == b"rfc3339".as_slice() {
-        Some(Format::Rfc3339)
-    } else {
-        None
-    }
-}
-
-fn find_target(name: &[u8]) -> Option<Target>
-    ensures { result ≡ target_named name.now }
-{
-    if name == b"staged".as_slice() {
-        Some(Target::Staged)
-    } else {
-        None
-    }
-}
-
 /// Writes a value, or the error of its parse.
-fn write_outcome<W: Write>(outcome: Result<OffsetDateTime, Parse>, out: &mut W) -> io::Result<()>
-    ensures { OnOk result (Appends (W.contents out.old) (W.contents out.new)
-        (printed offset_date_time_text (seen outcome))) }
+fn write_outcome<V: Layout, W: Write>(outcome: Result<V, Parse>, out: &mut W) -> io::Result<()>
+    ensures { OnOk result (Appends (W.contents out.old) (W.contents out.new) (printed V.text (seen outcome))) }
 {
     match outcome {
-        Ok(value) => write_offset_date_time(value, out),
+        Ok(value) => value.write_to(out),
         Err(e) => write!(out, "error: {e}"),
     }
 }
 
-/// Writes what the text says by RFC 3339, read over an empty record.
-fn write_staged<W: Write>(text: &[u8], out: &mut W) -> io::Result<()>
-    ensures { OnOk result (Writes (IsParsed format.Rfc3339 target.Staged text.now) (W.contents out.old)
+/// Writes what the text says for the target.
+fn write_value<F: Parsable, W: Write>(
+    format: &F,
+    target: Target,
+    text: &[u8],
+    out: &mut W,
+) -> io::Result<()>
+    ensures { OnOk result (Writes (IsAnswerFor target (F.reads format.now) (F.refuses format.now) text.now)
+        (W.contents out.old) (W.contents out.new)) }
+{
+    match target {
+        Target::Date => write_outcome(format.parse_date(text, None), out),
+        Target::Time => write_outcome(format.parse_time(text, None), out),
+        Target::Offset => write_outcome(format.parse_offset(text, None), out),
+        Target::Plain => write_outcome(format.parse_plain_date_time(text, None), out),
+        Target::Utc => write_outcome(format.parse_utc_date_time(text, None), out),
+        Target::DateTime => write_outcome(format.parse_offset_date_time(text, None), out),
+        Target::Staged => {
+            write_outcome(
+                format.parse_offset_date_time(text, Some(Parsed::new())),
+                out,
+            )
+        }
+        Target::Timestamp => write_outcome(format.parse_timestamp(text, None), out),
+    }
+}
+
+/// Writes what the text says by a description of a date.
+fn write_ymd<W: Write>(target: Target, text: &[u8], out: &mut W) -> io::Result<()>
+    ensures { OnOk result (Writes (IsDescribed formats.ymd target text.now) (W.contents out.old)
         (W.contents out.new)) }
 {
-    let outcome = Rfc3339.parse_offset_date_time(text, Some(Parsed::new()));
-    write_outcome(outcome, out)
+    let items = date_items();
+    write_value(&compound(&items), target, text, out)
+}
+
+/// Writes what the text says by a description of a time on a clock of 12 hours.
+fn write_clock<W: Write>(target: Target, text: &[u8], out: &mut W) -> io::Result<()>
+    ensures { OnOk result (Writes (IsDescribed formats.clock target text.now) (W.contents out.old)
+        (W.contents out.new)) }
+{
+    let fraction = fraction_items();
+    let fraction = compound(&fraction);
+    let seconds = second_items(&fraction);
+    let seconds = compound(&seconds);
+    let items = clock_items(&seconds);
+    write_value(&compound(&items), target, text, out)
+}
+
+/// Writes what the text says by a description of a date, time and offset, or of a year and its day.
+fn write_local<W: Write>(target: Target, text: &[u8], out: &mut W) -> io::Result<()>
+    ensures { OnOk result (Writes (IsDescribed formats.local target text.now) (W.contents out.old)
+        (W.contents out.new)) }
+{
+    let items = local_items();
+    let (date_time, ordinal) = items.split_at(15);
+    let lists = [compound(date_time), compound(ordinal)];
+    write_value(&first(&lists), target, text, out)
 }
 
 /// Writes what the text says, parsed by the format for the target.
@@ -79,8 +99,12 @@ fn write_parsed<W: Write>(
     ensures { OnOk result (Writes (IsParsed format target text.now) (W.contents out.old)
         (W.contents out.new)) }
 {
-    match (format, target) {
-        (Format::Rfc3339, Target::Staged) => write_staged(text, out),
+    match format {
+        Format::Rfc3339 => write_value(&Rfc3339, target, text, out),
+        Format::Ymd => write_ymd(target, text, out),
+        Format::Clock => write_clock(target, text, out),
+        Format::Unix => write_value(&unix(), target, text, out),
+        Format::Local => write_local(target, text, out),
     }
 }
 
@@ -98,7 +122,7 @@ pub fn write_answer<W: Write>(line: &[u8], out: &mut W) -> io::Result<()>
     let Some(format) = find_format(format) else {
         return out.write_all(b"error: format");
     };
-    let Some(target) = find_target(target) else {
+    let Some(target) = find_target(format, target) else {
         return out.write_all(b"error: target");
     };
     write_parsed(format, target, text, out)

@@ -1,12 +1,12 @@
 //! Lays values out as text.
-ghost use Rattle.std.specs.Prelude.{◌≡◌, ◌+◌, ◌%◌, ◌<◌, ◌++◌, ◌∷◌, codes, OnOk};
+ghost use Rattle.std.specs.Prelude.{◌≡◌, ℕ, ◌+◌, ◌%◌, List, ◌++◌, ◌∷◌, codes, OnOk};
 ghost use Rattle.std.specs.Io.KnownBytes.{Appends};
 ghost use Rattle.time_lines.specs.Layout.{fixed, minus_if};
-ghost use Rattle.time_lines.specs.Values.{date_text, time_text, offset_text, offset_date_time_text};
+ghost use Rattle.time_lines.specs.Values.{date_text, time_text, offset_text, date_time_text, plain_text, utc_text, offset_date_time_text, timestamp_text};
 
 use std::io;
 use std::io::Write;
-use time_values::{Date, OffsetDateTime, Time, UtcOffset};
+use time_values::{Date, OffsetDateTime, PlainDateTime, Time, Timestamp, UtcDateTime, UtcOffset};
 
 /// The last decimal digit of a number.
 #[inline]
@@ -101,47 +101,100 @@ fn write_minus<W: Write>(is_negative: bool, out: &mut W) -> io::Result<()>
     }
 }
 
-/// Writes a date as `YYYY-MM-DD`, after a minus where the year is negative.
-fn write_date<W: Write>(date: Date, out: &mut W) -> io::Result<()>
-    ensures { OnOk result (Appends (W.contents out.old) (W.contents out.new) (date_text date)) }
-{
-    let year = date.year();
-    write_minus(year < 0, out)?;
-    out.write_all(&date_bytes(year.unsigned_abs(), date.month().number(), date.day()))
+/// A value that is written as text.
+pub trait Layout {
+    // The text of the value.
+    ghost text: { Self → List ℕ };
+
+    /// Writes the value's text.
+    fn write_to<W: Write>(self, out: &mut W) -> io::Result<()>
+        ensures { OnOk result (Appends (W.contents out.old) (W.contents out.new) (text self)) };
 }
 
-/// Writes a time as `HH:MM:SS.nnnnnnnnn`.
-fn write_time<W: Write>(time: Time, out: &mut W) -> io::Result<()>
-    ensures { OnOk result (Appends (W.contents out.old) (W.contents out.new) (time_text time)) }
-{
-    out.write_all(&time_bytes(time.hour(), time.minute(), time.second(), time.nanosecond()))
+/// `YYYY-MM-DD`, after a minus where the year is negative.
+impl Layout for Date {
+    ghost text = { date_text };
+
+    fn write_to<W: Write>(self, out: &mut W) -> io::Result<()> {
+        let year = self.year();
+        write_minus(year < 0, out)?;
+        out.write_all(&date_bytes(year.unsigned_abs(), self.month().number(), self.day()))
+    }
 }
 
-/// Writes an offset as `+HH:MM:SS`, with `-` where a part is negative.
-fn write_offset<W: Write>(offset: UtcOffset, out: &mut W) -> io::Result<()>
-    ensures { OnOk result (Appends (W.contents out.old) (W.contents out.new) (offset_text offset)) }
-{
-    let (hours, minutes, seconds) = offset.as_hms();
-    let sign = if hours < 0 || minutes < 0 || seconds < 0 {
-        b'-'
-    } else {
-        b'+'
-    };
-    out.write_all(&offset_bytes(
-        sign,
-        hours.unsigned_abs(),
-        minutes.unsigned_abs(),
-        seconds.unsigned_abs(),
-    ))
+/// `HH:MM:SS.nnnnnnnnn`.
+impl Layout for Time {
+    ghost text = { time_text };
+
+    fn write_to<W: Write>(self, out: &mut W) -> io::Result<()> {
+        out.write_all(&time_bytes(self.hour(), self.minute(), self.second(), self.nanosecond()))
+    }
 }
 
-/// Writes date, time and offset with spaces between them.
-pub fn write_offset_date_time<W: Write>(value: OffsetDateTime, out: &mut W) -> io::Result<()>
-    ensures { OnOk result (Appends (W.contents out.old) (W.contents out.new) (offset_date_time_text value)) }
+/// `+HH:MM:SS`, with `-` where a part is negative.
+impl Layout for UtcOffset {
+    ghost text = { offset_text };
+
+    fn write_to<W: Write>(self, out: &mut W) -> io::Result<()> {
+        let (hours, minutes, seconds) = self.as_hms();
+        let sign = if hours < 0 || minutes < 0 || seconds < 0 {
+            b'-'
+        } else {
+            b'+'
+        };
+        out.write_all(&offset_bytes(
+            sign,
+            hours.unsigned_abs(),
+            minutes.unsigned_abs(),
+            seconds.unsigned_abs(),
+        ))
+    }
+}
+
+/// Writes date and time with a space between them.
+fn write_date_time<W: Write>(date: Date, time: Time, out: &mut W) -> io::Result<()>
+    ensures { OnOk result (Appends (W.contents out.old) (W.contents out.new) (date_time_text date time)) }
 {
-    write_date(value.date(), out)?;
+    date.write_to(out)?;
     out.write_all(b" ")?;
-    write_time(value.time(), out)?;
-    out.write_all(b" ")?;
-    write_offset(value.offset(), out)
+    time.write_to(out)
+}
+
+/// Date and time.
+impl Layout for PlainDateTime {
+    ghost text = { plain_text };
+
+    fn write_to<W: Write>(self, out: &mut W) -> io::Result<()> {
+        write_date_time(self.date(), self.time(), out)
+    }
+}
+
+/// Date, time and ` +00:00:00`.
+impl Layout for UtcDateTime {
+    ghost text = { utc_text };
+
+    fn write_to<W: Write>(self, out: &mut W) -> io::Result<()> {
+        write_date_time(self.date(), self.time(), out)?;
+        out.write_all(b" +00:00:00")
+    }
+}
+
+/// Date, time, space and offset.
+impl Layout for OffsetDateTime {
+    ghost text = { offset_date_time_text };
+
+    fn write_to<W: Write>(self, out: &mut W) -> io::Result<()> {
+        write_date_time(self.date(), self.time(), out)?;
+        out.write_all(b" ")?;
+        self.offset().write_to(out)
+    }
+}
+
+/// Nanoseconds since 1970-01-01T00:00:00Z.
+impl Layout for Timestamp {
+    ghost text = { timestamp_text };
+
+    fn write_to<W: Write>(self, out: &mut W) -> io::Result<()> {
+        write!(out, "{}", self.nanoseconds())
+    }
 }

@@ -5,6 +5,7 @@
 
 mod answers;
 mod cuts;
+mod formats;
 mod layout;
 mod serving;
 #[cfg(test)]

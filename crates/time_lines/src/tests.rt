@@ -5,6 +5,8 @@ use std::io;
 use std::io::{ErrorKind, Read, Write};
 use std::test::Fail;
 
+mod whole_parses;
+
 /// Bytes that come a few at a time, with a read that fails.
 #[derive(Drop)]
 struct Source<'a> {

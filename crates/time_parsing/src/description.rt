@@ -5,6 +5,7 @@ ghost use Rattle.time_readers.specs.Shape.{borrowed_shape, owned_shape, v3_shape
 ghost use Rattle.time_readers.specs.Tree.{sequence, trees};
 ghost use Rattle.time_record.specs.Reading.{Reads, Refuses};
 ghost use Rattle.time_parsing.specs.DescriptionLaws.{tree_exact};
+ghost use Rattle.time_parsing.specs.Outcome.{ParsesInto};
 
 use crate::Parsable;
 use crate::parsable::resolved;
@@ -17,16 +18,28 @@ use time_values::error::Parse;
 #[derive(Clone, Copy, Debug)]
 pub struct Items<'a, I>(pub &'a [I]);
 
+/// Reads a front of the input by an item over the record, and answers the unread rest.
+fn read_item<'a, I: AnyFormatItem>(
+    item: &I,
+    input: &'a [u8],
+    parsed: &mut Parsed,
+) -> Result<&'a [u8], Parse>
+    ensures { ParsesInto (Reads greatest_year (I.shape item.now)) (Refuses greatest_year (I.shape item.now))
+        input.now parsed.old result parsed.new }
+{
+    match parsed.parse_item(input, item) {
+        Ok(rest) => Ok(rest),
+        Err(e) => Err(e.into()),
+    }
+}
+
 impl Parsable for BorrowedFormatItem<'_> {
     ghost reads = { λ s. Reads greatest_year (borrowed_shape s) };
 
     ghost refuses = { λ s. Refuses greatest_year (borrowed_shape s) };
 
     fn parse_into<'a>(&self, input: &'a [u8], parsed: &mut Parsed) -> Result<&'a [u8], Parse> {
-        match parsed.parse_item(input, self) {
-            Ok(rest) => Ok(rest),
-            Err(e) => Err(e.into()),
-        }
+        read_item(self, input, parsed)
     }
 
     fn parse_offset_date_time(
@@ -49,10 +62,7 @@ impl Parsable for OwnedFormatItem {
     ghost refuses = { λ s. Refuses greatest_year (owned_shape s) };
 
     fn parse_into<'a>(&self, input: &'a [u8], parsed: &mut Parsed) -> Result<&'a [u8], Parse> {
-        match parsed.parse_item(input, self) {
-            Ok(rest) => Ok(rest),
-            Err(e) => Err(e.into()),
-        }
+        read_item(self, input, parsed)
     }
 
     fn parse_offset_date_time(

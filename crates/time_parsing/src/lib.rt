@@ -5,6 +5,8 @@ mod description;
 pub mod laws;
 mod parsable;
 mod rfc3339;
+#[cfg(test)]
+mod tests;
 
 pub use description::Items;
 pub use parsable::Parsable;

@@ -1,0 +1,162 @@
+//! Whole texts, by each format for each target.
+use super::answer;
+use std::test::Fail;
+
+const INSUFFICIENT: &str =
+    "error: the `Parsed` struct did not include enough information to construct the type\n";
+
+const BY_RFC3339: [(&str, &str, &str); 12] = [
+    ("date", "2021-01-02T03:04:05.25-00:30", "2021-01-02\n"),
+    (
+        "time",
+        "2021-01-02T03:04:05.25-00:30",
+        "03:04:05.250000000\n",
+    ),
+    ("offset", "2021-01-02T03:04:05.25-00:30", "-00:30:00\n"),
+    (
+        "plain",
+        "2021-01-02T03:04:05.25-00:30",
+        "2021-01-02 03:04:05.250000000\n",
+    ),
+    (
+        "utc",
+        "2021-01-02T03:04:05.25-00:30",
+        "2021-01-02 03:34:05.250000000 +00:00:00\n",
+    ),
+    (
+        "staged",
+        "2021-01-02T03:04:05.25-00:30",
+        "2021-01-02 03:04:05.250000000 -00:30:00\n",
+    ),
+    ("timestamp", "1970-01-01T00:00:00.000000001Z", "1\n"),
+    ("timestamp", "1969-12-31T23:59:59Z", "-1000000000\n"),
+    ("datetime", "2021-01-02T03:04:05Z", "error: target\n"),
+    (
+        "utc",
+        "9999-12-31T23:59:59.999999999-23:59",
+        "error: year is out of range for the other components\n",
+    ),
+    (
+        "timestamp",
+        "9999-12-31T23:59:59.999999999-23:59",
+        INSUFFICIENT,
+    ),
+    (
+        "time",
+        "1990-12-31T23:59:60Z",
+        "error: second is out of range\n",
+    ),
+];
+
+const BY_YMD: [(&str, &str, &str); 6] = [
+    ("date", "-0044-03-15", "-0044-03-15\n"),
+    ("date", "+2021-03-04", "2021-03-04\n"),
+    ("datetime", "2021-03-04", INSUFFICIENT),
+    ("timestamp", "2021-03-04", INSUFFICIENT),
+    ("offset", "2021-03-04", INSUFFICIENT),
+    (
+        "date",
+        "2021-3-04",
+        "error: the 'month' component could not be parsed\n",
+    ),
+];
+
+const BY_CLOCK: [(&str, &str, &str); 7] = [
+    ("time", "12:05 am", "00:05:00.000000000\n"),
+    ("time", "1:05:09.25 PM", "13:05:09.250000000\n"),
+    ("time", "11:59:59 pM", "23:59:59.000000000\n"),
+    (
+        "time",
+        "12:05:xx am",
+        "error: a character literal was not valid\n",
+    ),
+    (
+        "time",
+        "12:05:09. am",
+        "error: a character literal was not valid\n",
+    ),
+    (
+        "time",
+        "12:05 xm",
+        "error: the 'period' component could not be parsed\n",
+    ),
+    ("date", "12:05 am", INSUFFICIENT),
+];
+
+const BY_UNIX: [(&str, &str, &str); 9] = [
+    ("timestamp", "-1", "-1000000000\n"),
+    ("timestamp", "+5", "5000000000\n"),
+    (
+        "datetime",
+        "-1",
+        "1969-12-31 23:59:59.000000000 +00:00:00\n",
+    ),
+    (
+        "datetime",
+        "253402300799",
+        "9999-12-31 23:59:59.000000000 +00:00:00\n",
+    ),
+    (
+        "datetime",
+        "253402300800",
+        "error: the 'unix_timestamp' component could not be parsed\n",
+    ),
+    ("utc", "0", "1970-01-01 00:00:00.000000000 +00:00:00\n"),
+    ("staged", "0", "1970-01-01 00:00:00.000000000 +00:00:00\n"),
+    ("date", "0", INSUFFICIENT),
+    ("plain", "0", INSUFFICIENT),
+];
+
+const BY_LOCAL: [(&str, &str, &str); 9] = [
+    (
+        "datetime",
+        "2021-01-02 03:04:05 -00:30",
+        "2021-01-02 03:04:05.000000000 -00:30:00\n",
+    ),
+    ("offset", "2021-01-02 03:04:05 -00:30", "-00:30:00\n"),
+    ("timestamp", "1970-01-01 00:00:01 +00:00", "1000000000\n"),
+    ("date", "2020-366", "2020-12-31\n"),
+    (
+        "date",
+        "2021-366",
+        "error: ordinal is out of range for the other components\n",
+    ),
+    (
+        "date",
+        "x",
+        "error: the 'year' component could not be parsed\n",
+    ),
+    (
+        "date",
+        "2020-366 ",
+        "error: unexpected trailing characters; the end of input was expected\n",
+    ),
+    ("time", "2020-366", INSUFFICIENT),
+    (
+        "datetime",
+        "2021-01-02 03:04:05 00:30",
+        "error: the 'offset hour' component could not be parsed\n",
+    ),
+];
+
+#[test]
+fn whole_parses(rt: HostRuntime) -> Result<(), Fail> {
+    let formats: [(&str, &[(&str, &str, &str)]); 5] = [
+        ("rfc3339", &BY_RFC3339),
+        ("ymd", &BY_YMD),
+        ("clock", &BY_CLOCK),
+        ("unix", &BY_UNIX),
+        ("local", &BY_LOCAL),
+    ];
+    for (format, rows) in formats {
+        for (target, text, line) in rows {
+            let written = answer(rt.alloc(), format, target, text.as_bytes())?;
+            assert_eq!(rt;
+                written.as_slice(),
+                line.as_bytes(),
+                "{format} {target} {text}"
+            );
+        }
+    }
+    Ok(())
+}

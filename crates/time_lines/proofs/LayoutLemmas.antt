@@ -1,5 +1,5 @@
 -- Layouts, as they are written piece by piece.
-use Rattle.std.proofs.Common.{◌≡◌, ℕ, ◌<◌, List, [], ◌∷◌, ◌++◌, refl, ap, ◌∙◌, sym, arith, ℤ, pos, int_lt, unsigned_abs, codes, append_assoc}
+use Rattle.std.proofs.Common.{◌≡◌, ℕ, ◌<◌, List, ◌++◌, ap, ◌∙◌, sym, arith, ℤ, pos, int_lt, unsigned_abs, codes, append_assoc}
 use Rattle.std.proofs.lemmas.Bool.Decides.{nat_tests}
 use Rattle.time_values.specs.Month.{month_number}
 use Rattle.time_values.specs.declared.date.Date.{Date}

@@ -1,6 +1,6 @@
 -- The lines of an input, and the fields of a line.
 use Rattle.std.specs.Prelude.{ℕ, List, [], ◌∷◌, if◌then◌else◌, ◌==◌, Option, None, Some}
-use Rattle.std.specs.Option.{option_map, option_and_then}
+use Rattle.std.specs.Option.{option_map}
 
 -- b before the first of the lines
 abbrev pub onto_first : ℕ → List (List ℕ) → List (List ℕ)

@@ -1,6 +1,6 @@
 -- How a value, or a refusal, is printed.
 use Rattle.std.specs.Fmt.{signed_decimal}
-use Rattle.std.specs.Prelude.{ℕ, List, ◌∷◌, ◌++◌, codes, ◌||◌, ℤ, pos, if◌then◌else◌, int_lt, unsigned_abs, Result, Ok, Err}
+use Rattle.std.specs.Prelude.{ℕ, List, ◌∷◌, ◌++◌, codes, ◌||◌, pos, if◌then◌else◌, int_lt, unsigned_abs, Result, Ok, Err}
 use Rattle.time_values.specs.Dates as Dates
 use Rattle.time_values.specs.Moments.{plain_date, plain_time, utc_date, utc_time, offset_date, offset_time, offset_of, nanoseconds}
 use Rattle.time_values.specs.Month.{month_number}

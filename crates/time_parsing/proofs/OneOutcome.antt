@@ -1,9 +1,8 @@
 -- An exact format and a resolution that is one have one outcome.
-use Rattle.std.proofs.Common.{◌≡◌, ◌≢◌, ℕ, List, [], refl, sym, ap, ◌∙◌, subst, inl, inr, ⊎_elim, Result, Ok, Err}
-use Rattle.std.specs.Prelude.{◌⊎◌}
-use Rattle.time_values.specs.Refusal.{Refusal, trailing}
+use Rattle.std.proofs.Common.{◌≡◌, ℕ, List, [], sym, ap, ◌∙◌, subst, ⊎_elim, Result, Ok, Err}
+use Rattle.time_values.specs.Refusal.{Refusal}
 use Rattle.time_record.specs.Record.{Record}
-use Rattle.time_parsing.specs.Outcome.{IsWhole, IsOutcome, IsExact, OneResolution, OneOutcome}
+use Rattle.time_parsing.specs.Outcome.{IsWhole, IsExact, OneResolution, OneOutcome}
 
 module _ (R : List ℕ → Record → List ℕ → Record → Type 0) (F : List ℕ → Record → Refusal → Type 0) (exact : IsExact R F) where
   -- a text that is read whole is not refused

@@ -7,6 +7,7 @@ use Rattle.time_readers.specs.Cuts.{Cut, NoCut}
 use Rattle.time_readers.specs.Digits.{AllDigits, NoDigitFirst, digits_value, fraction_nanoseconds, IsDigitRun, IsDigitRunUpTo}
 use Rattle.time_readers.specs.Spelling.{Says, number, IsFractionRun}
 use Rattle.time_readers.proofs.CutLemmas.{take-drop}
+use Rattle.time_readers.proofs.Fractions.{AllDigits-append, AllDigits-take}
 use Rattle.time_readers.proofs.Runs.{pow-mono, digits_value-below, IsDigitRun-below}
 
 nine : (digits : ℕ) → digits ≤ 9 → digits + (9 - digits) ≡ 9
@@ -19,15 +20,6 @@ fraction_fits digits n h below =
     let more : suc n * 10 ^ (9 - digits) ≤ 10 ^ digits * 10 ^ (9 - digits) = mul-le-mul_right (10 ^ (9 - digits)) (omega arith) in
     let some = pow-mono 0 (9 - digits) (omega arith) in
     omega (arith, suc-mul n (10 ^ (9 - digits)))
-
-AllDigits-take : (n : ℕ) (text : List ℕ) → AllDigits text → AllDigits (take n text)
-AllDigits-take zero text h = tt
-AllDigits-take (suc n) [] h = tt
-AllDigits-take (suc n) (c ∷ text) h = (h.0, AllDigits-take n text h.1)
-
-AllDigits-append : (a b : List ℕ) → AllDigits a → AllDigits b → AllDigits (a ++ b)
-AllDigits-append [] b h k = k
-AllDigits-append (c ∷ a) b h k = (h.0, AllDigits-append a b h.1 k)
 
 -- the first nine digits of a fraction are a run
 first_nine : (text rest : List ℕ) (v : ℕ) → IsDigitRun 1 32 text rest v → IsDigitRun 1 9 (take 9 text) (drop 9 text ++ rest) (digits_value (take 9 text))

@@ -16,11 +16,11 @@ digits_more s digits rest e all h d =
     let tail = take (length rest - 1) (drop 1 rest) in
     (digits ++ c ∷ [], e ∙ ap (λ r. digits ++ r) (first_byte rest h) ∙ sym (append_assoc digits (c ∷ []) tail), AllDigits-push digits c all d)
 
-AllDigits-append : (xs ys : List ℕ) → AllDigits xs → AllDigits ys → AllDigits (xs ++ ys)
+pub AllDigits-append : (xs ys : List ℕ) → AllDigits xs → AllDigits ys → AllDigits (xs ++ ys)
 AllDigits-append [] ys p q = q
 AllDigits-append (x ∷ xs) ys p q = (p.0, AllDigits-append xs ys p.1 q)
 
-AllDigits-take : (n : ℕ) (xs : List ℕ) → AllDigits xs → AllDigits (take n xs)
+pub AllDigits-take : (n : ℕ) (xs : List ℕ) → AllDigits xs → AllDigits (take n xs)
 AllDigits-take zero xs h = tt
 AllDigits-take (suc n) [] h = tt
 AllDigits-take (suc n) (x ∷ xs) h = (h.0, AllDigits-take n xs h.1)

@@ -88,9 +88,6 @@ signed_below mandatory p q least most least' most' top text rest sign n h k (inr
     let wide = pow-mono most' top k in
     omega arith
 
--- what is said of a sign and a number is said of the value that they say
-pub signed_says : (says : Sign → ℕ → Value) (mandatory : Bool) (behind alone : List ℕ → List ℕ → ℕ → Type 0) (input rest : List ℕ) (sign : Sign) (n : ℕ) (value : Value) → value ≡ says sign n → SignedCut mandatory behind alone input rest sign n → Cut (Signed says mandatory behind alone) input rest value
-signed_says says mandatory behind alone input rest sign n value is cut = (cut.0, cut.1, (sign, n, is, cut.2))
-
+-- what no sign and number say, no value says
 pub no_signed_says : (says : Sign → ℕ → Value) (mandatory : Bool) (behind alone : List ℕ → List ℕ → ℕ → Type 0) (input : List ℕ) → NoSigned mandatory behind alone input → NoCut (Signed says mandatory behind alone) input
 no_signed_says says mandatory behind alone input none = λ text rest value e s. none text rest s.0 s.1 e s.3

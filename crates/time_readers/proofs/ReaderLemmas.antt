@@ -1,20 +1,18 @@
 -- What the readers of components answer.
-use Rattle.std.proofs.Common.{◌≡◌, ◌≢◌, ℕ, ◌<◌, ◌≤◌, List, ◌++◌, length, refl, ap, sym, ◌∙◌, arith, subst, Bool, true, false, ◌&&◌, Err}
+use Rattle.std.proofs.Common.{◌≡◌, ◌≢◌, ℕ, ◌≤◌, List, ◌++◌, length, refl, ap, sym, ◌∙◌, arith, subst, Bool, true, false, ◌&&◌, Err}
 use Rattle.time_values.specs.declared.month.Month.{Month}
-use Rattle.time_values.specs.declared.weekday.Weekday.{Weekday}
 use Rattle.time_values.specs.Month.{month_number, month_refusal}
 use Rattle.time_values.specs.Refusal.{Answers}
 use Rattle.time_values.specs.declared.error.ComponentRange.{ComponentRange}
-use Rattle.time_values.specs.Weekday.{days_from_monday}
 use Rattle.time_readers.specs.declared.Padding.{Padding}
 use Rattle.time_readers.specs.Cuts.{Cut, NoCut}
 use Rattle.time_readers.specs.Digits.{IsPaddedRun}
-use Rattle.time_readers.specs.Letters.{IsDayDigit, IsLetters, folded}
+use Rattle.time_readers.specs.Letters.{IsLetters, folded}
 use Rattle.time_readers.specs.Names.{IsNamed, period_name}
 use Rattle.time_readers.specs.declared.format_description.Period.{Period}
 use Rattle.time_readers.specs.declared.format_description.Period.TheVariants.{Am, Pm}
-use Rattle.time_readers.specs.Spelling.{Value, Says, number, period, IsNameOf, IsPositiveRun, IsNumberOf, IsDigitOf}
-use Rattle.time_readers.proofs.EachValue.{each_month, each_weekday}
+use Rattle.time_readers.specs.Spelling.{Value, Says, number, period, IsNameOf, IsPositiveRun, IsNumberOf}
+use Rattle.time_readers.proofs.EachValue.{each_month}
 use Rattle.time_readers.proofs.NameLemmas.{IsNamed-length, same_front}
 use Rattle.time_readers.proofs.PaddedRuns.{IsPaddedRun-unique}
 
@@ -42,13 +40,6 @@ month_taken P e = each_month (λ m. Answers (month_refusal (month_number m)) P (
 -- a number that is refused is no month's
 pub month_refused : (P : Month → Type 0) (n : ℕ) (e : ComponentRange) → Answers (month_refusal n) P (Err e) → (month : Month) → month_number month ≢ n
 month_refused P n e h month same = month_taken P e month (subst (λ k. Answers (month_refusal k) P (Err e)) (sym same) h)
-
-pub days_from_monday-below : (day : Weekday) → days_from_monday day < 7
-days_from_monday-below = each_weekday (λ d. days_from_monday d < 7) (omega arith, omega arith, omega arith, omega arith, omega arith, omega arith, omega arith)
-
--- no digit of a weekday, in whatever order
-pub no_weekday : {A : Type 0} (says : A → Value) (number_of : A → ℕ) (one_indexed : Bool) (input : List ℕ) → ((a : A) → number_of a < 7) → NoCut (IsDayDigit one_indexed) input → NoCut (Says says (IsDigitOf one_indexed number_of)) input
-no_weekday says number_of one_indexed input below none = λ text rest v e s. none text rest (number_of s.0) e (s.2, below s.0)
 
 -- two letters that name a half of the day, as the reader has them
 pub period_letters : (upper case_sensitive : Bool) (period : Period) (text : List ℕ) → IsNamed case_sensitive (period_name upper period) text → folded case_sensitive text ≡ period_name (upper && case_sensitive) period

@@ -47,9 +47,6 @@ pub record DigitsRead (s : List ℕ) (count value : ℕ) : Type 0 where
   pub digits : AllDigits (take count s)
   pub is : value ≡ digits_value (take count s)
 
-pub DigitsRead-none : (s : List ℕ) (value : ℕ) → value ≡ 0 → DigitsRead s 0 value
-DigitsRead-none s value none = record { in_range = omega arith; digits = tt; is = none }
-
 pub DigitsRead-more : (s : List ℕ) (count value more : ℕ) → DigitsRead s count value → count < length s → IsDigit (get_or s count 0) → more ≡ 10 * value + (get_or s count 0 - 48) → DigitsRead s (count + 1) more
 DigitsRead-more s count value more read h d pushed =
     let t = take_more s count 0 h in
@@ -130,12 +127,6 @@ DigitsRead-great least most greatest count value s read below digit last h text 
     let is = IsDigitRun-unique least 0 most text (take (count + 1) s) rest (drop (count + 1) s) v (10 * value + (get_or s count 0 - 48)) run found (sym e ∙ sym (take-append-drop (count + 1) s)) in
     let same = is.2 in
     omega arith
-
--- the digits that stand there are enough
-pub IsDigitRun-enough : (least most count value : ℕ) (s : List ℕ) → count ≤ length s → IsDigitRun 0 most (take count s) (drop count s) value → least ≤ count → Cut (IsDigitRun least most) s (drop count s) value
-IsDigitRun-enough least most count value s in_range found h =
-    let l : length (take count s) ≡ count = length-take-le count s in_range in
-    (take count s, sym (take-append-drop count s), record { digits = found.digits; enough = omega arith; within = found.within; ends = found.ends; is = found.is })
 
 -- a run has at most so many values
 pub IsDigitRun-below : (least most : ℕ) (text rest : List ℕ) (value : ℕ) → IsDigitRun least most text rest value → value < 10 ^ most

@@ -1,4 +1,6 @@
-ghost use Rattle.std.specs.Prelude.{◌≤◌};
+ghost use Rattle.std.specs.Prelude.{◌≤◌, ℕ, List, IfSome};
+ghost use Rattle.time_readers.specs.Cuts.{Cut};
+ghost use Rattle.time_readers.specs.Digits.{IsDigitRun};
 
 use crate::combinator::{
     any_digit, ascii_char, ascii_char_ignore_case, exactly_n_digits, exactly_n_digits_padded,
@@ -146,4 +148,20 @@ fn rfc3339_places(rt: HostRuntime) {
     );
     let hour = ParseFromDescription::InvalidComponent("offset hour");
     assert_eq!(rt; place_fault(Place::OffsetHour), hour);
+}
+
+/// The hour and the minute in front of a text, as `0930`, and the unread rest.
+fn hour_and_minute(input: &[u8]) -> Option<ParsedItem<'_, (u32, u32)>>
+    ensures { IfSome result (λ p. (mid : List ℕ) × Cut (IsDigitRun 2 2) input.now mid p.1.0
+        × Cut (IsDigitRun 2 2) mid p.0.now p.1.1) }
+{
+    let hour = exactly_n_digits::<2>(input)?;
+    let minute = exactly_n_digits::<2>(hour.0)?;
+    Some(ParsedItem(minute.0, (hour.1, minute.1)))
+}
+
+#[test]
+fn calling(rt: HostRuntime) {
+    assert!(rt; reads(hour_and_minute(b"0930x"), (9, 30), b"x"));
+    assert!(rt; hour_and_minute(b"093").is_none());
 }

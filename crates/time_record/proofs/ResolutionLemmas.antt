@@ -1,5 +1,5 @@
 -- A record makes one value of each kind, or one refusal.
-use Rattle.std.proofs.Common.{◌≡◌, ℕ, ℤ, ◌<◌, Bool, Option, Some, None, Result, Ok, Err, MatchResult, MatchOption, IsOkAnd, IsTrue, ◌⊎◌, inl, inr, refl, sym, ap, subst, ◌∙◌, arith}
+use Rattle.std.proofs.Common.{◌≡◌, ℕ, ℤ, Bool, Option, Some, None, Result, Ok, Err, MatchOption, IsOkAnd, inl, inr, sym, ap, subst, ◌∙◌, arith}
 use Rattle.std.specs.Prelude.{unwrap_or}
 use Rattle.time_values.specs.declared.date.Date.{Date}
 use Rattle.time_values.specs.declared.offset_date_time.OffsetDateTime.{OffsetDateTime}
@@ -11,7 +11,7 @@ use Rattle.time_values.specs.declared.utc_offset.UtcOffset.{UtcOffset}
 use Rattle.time_values.specs.Instants.{IsInstant, IsLeapSecondMoment, IsLeapSecondStandIn, clock_nanos, instant}
 use Rattle.time_values.specs.Offsets.{HasOffset, IsUtc, offset_refusal}
 use Rattle.time_values.specs.Range.{greatest_year}
-use Rattle.time_values.specs.Refusal.{Refusal, insufficient, range}
+use Rattle.time_values.specs.Refusal.{Refusal, insufficient}
 use Rattle.time_values.specs.Times.{HasClock, time_refusal}
 use Rattle.time_values.specs.Weekday.{days_from_monday}
 use Rattle.time_values.proofs.InstantLemmas.{clock_nanos_range}

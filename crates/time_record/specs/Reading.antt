@@ -1,5 +1,5 @@
 -- How a tree is read over a record, and why it is not. `Y` is the greatest year.
-use Rattle.std.specs.Prelude.{◌≡◌, ℕ, ◌⊎◌, List, ◌++◌, Bool, Option, Some}
+use Rattle.std.specs.Prelude.{◌≡◌, ℕ, ◌⊎◌, List, ◌++◌, Bool, Some}
 use Rattle.time_values.specs.Refusal.{Refusal, literal as of_literal}
 use Rattle.time_readers.specs.declared.format_description.Component.{Component}
 use Rattle.time_readers.specs.Spelling.{Value, Spells}

@@ -1,5 +1,5 @@
 -- Months and weekdays are fixed by their numbers.
-use Rattle.std.proofs.Common.{◌≡◌, ℕ, zero, suc, ◌<◌, refl, sym, ap, ◌∙◌, rules, arith}
+use Rattle.std.proofs.Common.{◌≡◌, ℕ, zero, suc, ◌<◌, refl, sym, ap, ◌∙◌, rules}
 use Rattle.std.specs.Int.{IsInRange}
 use Rattle.time_values.specs.declared.month.Month.{Month}
 use Rattle.time_values.specs.declared.month.Month.TheVariants.{January, February, March, April, May, June, July, August, September, October, November, December}
@@ -56,23 +56,6 @@ month_number_in October = search rules
 month_number_in November = search rules
 month_number_in December = search rules
 
--- and the number of a month by number is that number
-pub month_number-month_at : (n : ℕ) → IsInRange 1 12 n → month_number (month_at n) ≡ n
-month_number-month_at zero h = absurd (omega arith)
-month_number-month_at (suc zero) h = refl
-month_number-month_at (suc (suc zero)) h = refl
-month_number-month_at (suc (suc (suc zero))) h = refl
-month_number-month_at (suc (suc (suc (suc zero)))) h = refl
-month_number-month_at (suc (suc (suc (suc (suc zero))))) h = refl
-month_number-month_at (suc (suc (suc (suc (suc (suc zero)))))) h = refl
-month_number-month_at (suc (suc (suc (suc (suc (suc (suc zero))))))) h = refl
-month_number-month_at (suc (suc (suc (suc (suc (suc (suc (suc zero)))))))) h = refl
-month_number-month_at (suc (suc (suc (suc (suc (suc (suc (suc (suc zero))))))))) h = refl
-month_number-month_at (suc (suc (suc (suc (suc (suc (suc (suc (suc (suc zero)))))))))) h = refl
-month_number-month_at (suc (suc (suc (suc (suc (suc (suc (suc (suc (suc (suc zero))))))))))) h = refl
-month_number-month_at (suc (suc (suc (suc (suc (suc (suc (suc (suc (suc (suc (suc zero)))))))))))) h = refl
-month_number-month_at (suc (suc (suc (suc (suc (suc (suc (suc (suc (suc (suc (suc (suc n))))))))))))) h = absurd (omega arith)
-
 -- the weekday that many days after Monday
 abbrev pub weekday_at : ℕ → Weekday
 weekday_at zero = Monday
@@ -104,13 +87,3 @@ days_from_monday_in Thursday = search rules
 days_from_monday_in Friday = search rules
 days_from_monday_in Saturday = search rules
 days_from_monday_in Sunday = search rules
-
-pub days_from_monday-weekday_at : (n : ℕ) → n < 7 → days_from_monday (weekday_at n) ≡ n
-days_from_monday-weekday_at zero h = refl
-days_from_monday-weekday_at (suc zero) h = refl
-days_from_monday-weekday_at (suc (suc zero)) h = refl
-days_from_monday-weekday_at (suc (suc (suc zero))) h = refl
-days_from_monday-weekday_at (suc (suc (suc (suc zero)))) h = refl
-days_from_monday-weekday_at (suc (suc (suc (suc (suc zero))))) h = refl
-days_from_monday-weekday_at (suc (suc (suc (suc (suc (suc zero)))))) h = refl
-days_from_monday-weekday_at (suc (suc (suc (suc (suc (suc (suc n))))))) h = absurd (omega arith)

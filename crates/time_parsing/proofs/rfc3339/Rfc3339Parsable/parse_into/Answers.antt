@@ -1,4 +1,4 @@
-use Rattle.std.proofs.Common.{◌≡◌, ◌<◌, ◌≤◌, ℕ, Option, Some, None, IfSome, true, arith, subst}
+use Rattle.std.proofs.Common.{◌≡◌, ◌<◌, ◌≤◌, ℕ, Option, Some, IfSome, true, arith, subst}
 use Rattle.time_readers.proofs.Keeping.{HasForm-in_places}
 use Rattle.time_parsing.proofs.rfc3339.Rfc3339Parsable.parse_into.Goals as goal
 

@@ -1,5 +1,6 @@
 ghost use Rattle.time_values.specs.DateRefusals.{calendar_date_refusal};
 ghost use Rattle.time_values.specs.Dates as Dates;
+ghost use Rattle.time_values.specs.Moments.{plain_date, plain_time};
 ghost use Rattle.time_values.specs.Month.{month_number};
 ghost use Rattle.time_values.specs.Range.{greatest_year};
 ghost use Rattle.time_values.specs.Refusal.{Answers};
@@ -17,7 +18,7 @@ use std::test::Fail;
 /// Noon of the day with these parts: a caller whose contract stands on those of the constructors.
 fn noon(year: i32, month: Month, day: u8) -> Result<PlainDateTime, ComponentRange>
     ensures { Answers (calendar_date_refusal greatest_year year (month_number month) day)
-        (λ p. Dates.HasParts year month day p.date × HasClock 12 0 0 0 p.time) result }
+        (λ p. Dates.HasParts year month day (plain_date p) × HasClock 12 0 0 0 (plain_time p)) result }
 {
     let date = Date::from_calendar_date(year, month, day)?;
     let time = Time::from_hms_nano(12, 0, 0, 0)?;

@@ -2,7 +2,7 @@
 use Rattle.std.proofs.Common.{◌≡◌, ◌≢◌, ℕ, ◌≤◌, List, ◌++◌, length, refl, ap, sym, ◌∙◌, arith, subst, Bool, true, false, ◌&&◌, Err}
 use Rattle.time_values.specs.declared.month.Month.{Month}
 use Rattle.time_values.specs.Month.{month_number, month_refusal}
-use Rattle.time_values.specs.Refusal.{Answers}
+use Rattle.time_values.specs.Refusal.{Constructs}
 use Rattle.time_values.specs.declared.error.ComponentRange.{ComponentRange}
 use Rattle.time_readers.specs.declared.Padding.{Padding}
 use Rattle.time_readers.specs.Cuts.{Cut, NoCut}
@@ -34,12 +34,12 @@ no_number says number_of padding input rest n none cut = λ text rest' v e s. no
 pub month_number-positive : (month : Month) → 1 ≤ month_number month
 month_number-positive = each_month (λ m. 1 ≤ month_number m) (omega arith, omega arith, omega arith, omega arith, omega arith, omega arith, omega arith, omega arith, omega arith, omega arith, omega arith, omega arith)
 
-month_taken : (P : Month → Type 0) (e : ComponentRange) (month : Month) → Answers (month_refusal (month_number month)) P (Err e) → ⊥
-month_taken P e = each_month (λ m. Answers (month_refusal (month_number m)) P (Err e) → ⊥) (λ h. h, λ h. h, λ h. h, λ h. h, λ h. h, λ h. h, λ h. h, λ h. h, λ h. h, λ h. h, λ h. h, λ h. h)
+month_taken : (P : Month → Type 0) (e : ComponentRange) (month : Month) → Constructs (month_refusal (month_number month)) P (Err e) → ⊥
+month_taken P e = each_month (λ m. Constructs (month_refusal (month_number m)) P (Err e) → ⊥) (λ h. h, λ h. h, λ h. h, λ h. h, λ h. h, λ h. h, λ h. h, λ h. h, λ h. h, λ h. h, λ h. h, λ h. h)
 
 -- a number that is refused is no month's
-pub month_refused : (P : Month → Type 0) (n : ℕ) (e : ComponentRange) → Answers (month_refusal n) P (Err e) → (month : Month) → month_number month ≢ n
-month_refused P n e h month same = month_taken P e month (subst (λ k. Answers (month_refusal k) P (Err e)) (sym same) h)
+pub month_refused : (P : Month → Type 0) (n : ℕ) (e : ComponentRange) → Constructs (month_refusal n) P (Err e) → (month : Month) → month_number month ≢ n
+month_refused P n e h month same = month_taken P e month (subst (λ k. Constructs (month_refusal k) P (Err e)) (sym same) h)
 
 -- two letters that name a half of the day, as the reader has them
 pub period_letters : (upper case_sensitive : Bool) (period : Period) (text : List ℕ) → IsNamed case_sensitive (period_name upper period) text → folded case_sensitive text ≡ period_name (upper && case_sensitive) period

@@ -9,11 +9,11 @@ use Rattle.time_values.specs.declared.error.ComponentRange.{ComponentRange}
 use Rattle.time_values.specs.declared.month.Month.{Month}
 use Rattle.time_values.specs.declared.weekday.Weekday.{Weekday}
 use Rattle.time_values.specs.Calendar.{IsYear, iso_weeks_in, month_length, thursday_of, year_length, year_start}
-use Rattle.time_values.specs.DateRefusals.{IsIsoDateRefusal, IsIsoDay, IsoDateAnswers, calendar_date_refusal, is_within, is_year, ordinal_date_refusal}
+use Rattle.time_values.specs.DateRefusals.{IsIsoDateRefusal, IsIsoDay, ConstructsIsoDate, calendar_date_refusal, is_within, is_year, ordinal_date_refusal}
 use Rattle.time_values.specs.Dates.{HasParts, day_number, ordinal}
 use Rattle.time_values.specs.Month.{month_number}
 use Rattle.time_values.specs.Range.{greatest_year}
-use Rattle.time_values.specs.Refusal.{Answers, Refusal, range, refusal_of_range}
+use Rattle.time_values.specs.Refusal.{Constructs, Refusal, range, refusal_of_range}
 use Rattle.time_values.specs.Weekday.{days_from_monday}
 use Rattle.time_values.proofs.DateLemmas.{ordinal_in}
 use Rattle.time_values.proofs.InstantLemmas.{day_number_in}
@@ -26,7 +26,7 @@ range_seen (Ok v) = Ok v
 range_seen (Err e) = Err (refusal_of_range e)
 
 -- the answer of a constructor that tests a year, which is one, and then its other numbers
-pub seen_in_year : {A : Type 0} (year within : Bool) (first second : Refusal) (P : A → Type 0) (r : Result A ComponentRange) → IsTrue year → Answers (cond (not year) (Some first) (cond within None (Some second))) P r → MatchResult (range_seen r) P (λ e. (within ≡ false) × (e ≡ second))
+pub seen_in_year : {A : Type 0} (year within : Bool) (first second : Refusal) (P : A → Type 0) (r : Result A ComponentRange) → IsTrue year → Constructs (cond (not year) (Some first) (cond within None (Some second))) P r → MatchResult (range_seen r) P (λ e. (within ≡ false) × (e ≡ second))
 seen_in_year true true first second P (Ok v) h a = a
 seen_in_year true true first second P (Err e) h a = absurd a
 seen_in_year true false first second P (Ok v) h a = absurd a
@@ -49,7 +49,7 @@ no_such_ordinal Y y n out d h =
     let e : is_within 1 (year_length y) n ≡ true = within_shown 1 (year_length y) n (rw (← h.0, ← h.1) (ordinal_in d)) in
     cc
 
-pub IsRowDate-ordinal : (Y : ℕ) (y : ℤ) (n : ℕ) (r : Result Date ComponentRange) → IsTrue (is_year Y y) → Answers (ordinal_date_refusal Y y n) (λ (d : Date). (d.year ≡ y) × (ordinal d ≡ n)) r → IsRowDate Y (by_ordinal y n) (range_seen r)
+pub IsRowDate-ordinal : (Y : ℕ) (y : ℤ) (n : ℕ) (r : Result Date ComponentRange) → IsTrue (is_year Y y) → Constructs (ordinal_date_refusal Y y n) (λ (d : Date). (d.year ≡ y) × (ordinal d ≡ n)) r → IsRowDate Y (by_ordinal y n) (range_seen r)
 IsRowDate-ordinal Y y n r year a =
     let P : Date → Type 0 = λ d. (d.year ≡ y) × (ordinal d ≡ n) in
     MatchResult-weaker (range_seen r) (seen_in_year (is_year Y y) (is_within 1 (year_length y) n) (range (codes "year") false) (range (codes "ordinal") true) P r year a)
@@ -61,7 +61,7 @@ no_such_day Y y m n out d h =
     let e : is_within 1 (month_length y (month_number m)) n ≡ true = within_shown 1 (month_length y (month_number m)) n (rw (← h.0, ← h.1, ← h.2) d.day_in) in
     cc
 
-pub IsRowDate-month_and_day : (Y : ℕ) (y : ℤ) (m : Month) (n : ℕ) (r : Result Date ComponentRange) → IsTrue (is_year Y y) → Answers (calendar_date_refusal Y y (month_number m) n) (HasParts y m n) r → IsRowDate Y (by_month_and_day y m n) (range_seen r)
+pub IsRowDate-month_and_day : (Y : ℕ) (y : ℤ) (m : Month) (n : ℕ) (r : Result Date ComponentRange) → IsTrue (is_year Y y) → Constructs (calendar_date_refusal Y y (month_number m) n) (HasParts y m n) r → IsRowDate Y (by_month_and_day y m n) (range_seen r)
 IsRowDate-month_and_day Y y m n r year a =
     MatchResult-weaker (range_seen r) (seen_in_year (is_year Y y) (is_within 1 (month_length y (month_number m)) n) (range (codes "year") false) (range (codes "day") true) (HasParts y m n) r year a)
     (λ d h. h) (λ e h. (no_such_day Y y m n h.0, h.1))
@@ -85,6 +85,6 @@ no_iso_date y week w e year (inr (inl h)) =
 no_iso_date y week w e year (inr (inr h)) =
     (λ d has. omega (arith, same_iso_day greatest_year y week (days_from_monday w) (day_number greatest_year d) h.1.0 has.1 h.1.1, h.1.2, day_number_in d), h.2 ∙ sym (ap (λ b. cond b (range (codes "weekday") true) (range (codes "week") true)) (within_shown 1 (iso_weeks_in greatest_year y) week h.0.1)))
 
-pub IsRowDate-iso_week : (y : ℤ) (week : ℕ) (w : Weekday) (r : Result Date ComponentRange) → IsTrue (is_year greatest_year y) → IsoDateAnswers greatest_year y week (days_from_monday w) r → IsRowDate greatest_year (by_iso_week y week w) (range_seen r)
+pub IsRowDate-iso_week : (y : ℤ) (week : ℕ) (w : Weekday) (r : Result Date ComponentRange) → IsTrue (is_year greatest_year y) → ConstructsIsoDate greatest_year y week (days_from_monday w) r → IsRowDate greatest_year (by_iso_week y week w) (range_seen r)
 IsRowDate-iso_week y week w (Ok d) year a = a
 IsRowDate-iso_week y week w (Err e) year a = no_iso_date y week w (refusal_of_range e) year a

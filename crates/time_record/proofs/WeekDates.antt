@@ -6,7 +6,7 @@ use Rattle.time_values.specs.Calendar.{weekdays_in, year_start}
 use Rattle.time_values.specs.DateRefusals.{is_year, ordinal_date_refusal}
 use Rattle.time_values.specs.Dates.{ordinal, weekday}
 use Rattle.time_values.specs.Range.{greatest_year}
-use Rattle.time_values.specs.Refusal.{Answers, range}
+use Rattle.time_values.specs.Refusal.{Constructs, range}
 use Rattle.time_values.proofs.DateLemmas.{ordinal_in}
 use Rattle.time_values.proofs.WeekLemmas.{weekdays_in_closed}
 use Rattle.std.proofs.lemmas.Result.{MatchResult-weaker}
@@ -50,7 +50,7 @@ no_early_week y start week w place small e low d h =
     omega (arith, place_of_date y start week w d small h, ordinal_in d)
 
 -- and from there on the constructor decides
-pub week_date_seen : (y : ℤ) (start week w n : ℕ) (r : Result Date ComponentRange) → start < 7 → w < 7 → IsTrue (is_year greatest_year y) → n + 7 ≡ week_place (year_start greatest_year y % 7) start week w → Answers (ordinal_date_refusal greatest_year y n) (λ (d : Date). (d.year ≡ y) × (ordinal d ≡ n)) r → MatchResult (range_seen r) (IsWeekDate greatest_year start y week w) (λ e. ((d : Date) → IsWeekDate greatest_year start y week w d → ⊥) × (e ≡ range (codes "ordinal") true))
+pub week_date_seen : (y : ℤ) (start week w n : ℕ) (r : Result Date ComponentRange) → start < 7 → w < 7 → IsTrue (is_year greatest_year y) → n + 7 ≡ week_place (year_start greatest_year y % 7) start week w → Constructs (ordinal_date_refusal greatest_year y n) (λ (d : Date). (d.year ≡ y) × (ordinal d ≡ n)) r → MatchResult (range_seen r) (IsWeekDate greatest_year start y week w) (λ e. ((d : Date) → IsWeekDate greatest_year start y week w d → ⊥) × (e ≡ range (codes "ordinal") true))
 week_date_seen y start week w n r small within year e a =
     MatchResult-weaker (range_seen r) (IsRowDate-ordinal greatest_year y n r year a)
     (λ d h. date_of_place y start week w d small within h.0 (omega (arith, h.1)))

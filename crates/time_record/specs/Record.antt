@@ -1,5 +1,5 @@
 -- What a reading of a date and time leaves: 23 options and four flags. `Y` is the greatest year.
-use Rattle.std.specs.Prelude.{◌≡◌, ℕ, ◌/◌, ℤ, pos, neg_ℤ, unsigned_abs, Bool, true, false, Option, Some, None, IfSome, IsTrue, nat_le, int_lt, if◌then◌else◌}
+use Rattle.std.specs.Prelude.{◌≡◌, ℕ, ◌/◌, List, [], ◌∷◌, ℤ, pos, unsigned_abs, option_and_then, Bool, true, false, Option, Some, None, IfSome, IsTrue, nat_le, int_lt, if◌then◌else◌}
 use Rattle.time_values.specs.declared.month.Month.{Month}
 use Rattle.time_values.specs.declared.weekday.Weekday.{Weekday}
 use Rattle.time_values.specs.DateRefusals.{is_within}
@@ -158,6 +158,11 @@ put_here (unix_timestamp_nanos_is v) r = record r { unix_timestamp_nanos = Some 
 abbrev pub put : ℕ → Entry → Record → Option Record
 put Y entry r = if in_range Y entry then Some (put_here entry r) else None
 
+-- the record with the entries put one after another, or nothing where a value is out of range
+abbrev pub put_all : ℕ → List Entry → Record → Option Record
+put_all Y [] r = Some r
+put_all Y (entry ∷ entries) r = option_and_then (put_all Y entries) (put Y entry r)
+
 -- each value that is there is one that its option may hold
 pub record IsInRanges (Y : ℕ) (r : Record) : Type 0 where
   pub year : IfSome r.year (λ v. InRange Y (year_is v))
@@ -187,8 +192,3 @@ Sets (Some r) old (Some _) new = new ≡ r
 Sets None old None new = new ≡ old
 Sets (Some r) old None new = ⊥
 Sets None old (Some _) new = ⊥
-
--- a part of an offset as a getter answers it: turned where the offset is negative
-abbrev pub signed_by : Bool → ℤ → ℤ
-signed_by true v = neg_ℤ v
-signed_by false v = v

@@ -15,7 +15,8 @@ use Rattle.time_values.specs.Refusal.{Refusal, insufficient, range, refusal_of_p
 use Rattle.time_values.specs.Moments.{plain_date, plain_time, offset_date, offset_time, offset_of, utc_date, utc_time, utc_instant, nanoseconds}
 use Rattle.time_values.specs.Times as Times
 use Rattle.time_values.specs.Times.{HasClock, HasSecond, time_refusal}
-use Rattle.time_record.specs.Record.{Record, signed_by}
+use Rattle.time_values.specs.Sign.{signed_by}
+use Rattle.time_record.specs.Record.{Record}
 use Rattle.time_record.specs.Rows.{or_else, first_row, IsRowDate}
 
 -- a conversion's answer, with what its error says

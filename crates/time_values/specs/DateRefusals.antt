@@ -49,6 +49,6 @@ IsIsoDateRefusal Y year week w r =
     × (r ≡ range (codes "weekday") true)))
 
 -- the date of that ISO year, week and weekday, or the first refusal that holds
-abbrev pub IsoDateAnswers : ℕ → ℤ → ℕ → ℕ → Result Date ComponentRange → Type 0
-IsoDateAnswers Y year week w (Ok d) = IsIsoDate Y year week w d
-IsoDateAnswers Y year week w (Err e) = IsIsoDateRefusal Y year week w (refusal_of_range e)
+abbrev pub ConstructsIsoDate : ℕ → ℤ → ℕ → ℕ → Result Date ComponentRange → Type 0
+ConstructsIsoDate Y year week w (Ok d) = IsIsoDate Y year week w d
+ConstructsIsoDate Y year week w (Err e) = IsIsoDateRefusal Y year week w (refusal_of_range e)

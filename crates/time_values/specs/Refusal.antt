@@ -35,8 +35,8 @@ refusal_of (of_parsed e) = refusal_of_parsed e
 refusal_of (of_description e) = refusal_of_description e
 
 -- a value with P where nothing is refused, and else an error that says that refusal
-abbrev pub Answers : {A : Type 0} → Option Refusal → (A → Type 0) → Result A ComponentRange → Type 0
-Answers None P (Ok v) = P v
-Answers None P (Err e) = ⊥
-Answers (Some r) P (Ok v) = ⊥
-Answers (Some r) P (Err e) = refusal_of_range e ≡ r
+abbrev pub Constructs : {A : Type 0} → Option Refusal → (A → Type 0) → Result A ComponentRange → Type 0
+Constructs None P (Ok v) = P v
+Constructs None P (Err e) = ⊥
+Constructs (Some r) P (Ok v) = ⊥
+Constructs (Some r) P (Err e) = refusal_of_range e ≡ r

@@ -5,7 +5,7 @@ ghost use Rattle.time_values.specs.Month.{month_number};
 ghost use Rattle.time_values.specs.Range.{greatest_year};
 ghost use Rattle.time_values.specs.Weekday.{days_from_monday};
 
-use crate::days::{GREATEST_YEAR, leap_day, year_length};
+use crate::days::{MAX_YEAR, leap_day, year_length};
 use crate::error::ComponentRange;
 use crate::{Month, Weekday, days};
 
@@ -22,18 +22,18 @@ pub struct Date {
 impl Date {
     ghost use Rattle.time_values.specs.Dates as Dates;
     ghost use Rattle.time_values.specs.DateRefusals.{calendar_date_refusal, ordinal_date_refusal};
-    ghost use Rattle.time_values.specs.Refusal.{Answers};
+    ghost use Rattle.time_values.specs.Refusal.{Constructs};
 
     /// The first date, -9999-01-01, a Monday.
     pub const MIN: Date = Date {
-        year: -GREATEST_YEAR,
+        year: -MAX_YEAR,
         month: Month::January,
         day: 1,
     };
 
     /// The last date, 9999-12-31, a Friday.
     pub const MAX: Date = Date {
-        year: GREATEST_YEAR,
+        year: MAX_YEAR,
         month: Month::December,
         day: 31,
     };
@@ -41,10 +41,10 @@ impl Date {
     /// The date with this year, month and day of the month, from 1. Refused as `year` outside -9999
     /// to 9999, then as conditional `day` where the month has no such day.
     pub fn from_calendar_date(year: i32, month: Month, day: u8) -> Result<Date, ComponentRange>
-        ensures { Answers (calendar_date_refusal greatest_year year (month_number month) day)
+        ensures { Constructs (calendar_date_refusal greatest_year year (month_number month) day)
             (Dates.HasParts year month day) result }
     {
-        if year < -GREATEST_YEAR || year > GREATEST_YEAR {
+        if year < -MAX_YEAR || year > MAX_YEAR {
             return Err(ComponentRange {
                 name: "year",
                 conditional: false,
@@ -63,10 +63,10 @@ impl Date {
     /// The day at that place in the year, from 1. Refused as `year` outside -9999 to 9999, then as
     /// conditional `ordinal` where the year has no such day.
     pub fn from_ordinal_date(year: i32, ordinal: u16) -> Result<Date, ComponentRange>
-        ensures { Answers (ordinal_date_refusal greatest_year year ordinal)
+        ensures { Constructs (ordinal_date_refusal greatest_year year ordinal)
             (λ d. (Dates.year d ≡ year) × (Dates.ordinal d ≡ ordinal)) result }
     {
-        if year < -GREATEST_YEAR || year > GREATEST_YEAR {
+        if year < -MAX_YEAR || year > MAX_YEAR {
             return Err(ComponentRange {
                 name: "year",
                 conditional: false,
@@ -156,7 +156,7 @@ impl Date {
 
 impl Date {
     ghost use Rattle.time_values.specs.Dates as Dates;
-    ghost use Rattle.time_values.specs.DateRefusals.{IsoDateAnswers};
+    ghost use Rattle.time_values.specs.DateRefusals.{ConstructsIsoDate};
 
     /// The week of the year, 0 to 53, where week 1 begins on the year's first Sunday and the days
     /// before are week 0.
@@ -203,9 +203,9 @@ impl Date {
     /// then as conditional `week` where the year has no such week, then as conditional `weekday`
     /// where the day lies past `Date::MAX`.
     pub fn from_iso_week_date(year: i32, week: u8, weekday: Weekday) -> Result<Date, ComponentRange>
-        ensures { IsoDateAnswers greatest_year year week (days_from_monday weekday) result }
+        ensures { ConstructsIsoDate greatest_year year week (days_from_monday weekday) result }
     {
-        if year < -GREATEST_YEAR || year > GREATEST_YEAR {
+        if year < -MAX_YEAR || year > MAX_YEAR {
             return Err(ComponentRange {
                 name: "year",
                 conditional: false,

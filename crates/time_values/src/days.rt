@@ -4,19 +4,19 @@ ghost use Rattle.std.specs.Int.{IsInRange};
 ghost use Rattle.time_values.specs.Calendar as Calendar;
 ghost use Rattle.time_values.specs.Range.{greatest_year};
 
-/// The greatest year; the least one is its negative.
-pub const GREATEST_YEAR: i32 = 9999;
+/// The greatest year that a [`Date`](crate::Date) has; the least one is its negative.
+pub const MAX_YEAR: i32 = 9999;
 
 /// The number of days that there are.
 pub const DAY_LIMIT: u32 = 365 * YEARS + YEARS / 4 - YEARS / 100 + YEARS / 400;
 
-const YEARS: u32 = 2 * GREATEST_YEAR as u32 + 1;
+const YEARS: u32 = 2 * MAX_YEAR as u32 + 1;
 
 /// 1970-01-01 as a day number.
 pub const EPOCH_DAY: u32 = 365 * YEARS_BEFORE_1970 + YEARS_BEFORE_1970 / 4 - YEARS_BEFORE_1970 / 100
     + YEARS_BEFORE_1970 / 400;
 
-const YEARS_BEFORE_1970: u32 = 1970 + GREATEST_YEAR as u32;
+const YEARS_BEFORE_1970: u32 = 1970 + MAX_YEAR as u32;
 
 /// Whether the year has a 29 February.
 #[inline]
@@ -49,7 +49,7 @@ fn years_before(year: i32) -> u32
     ensures value { result ≡ Calendar.years_before greatest_year year }
     ensures bound { result ≤ 2 * greatest_year }
 {
-    (year + GREATEST_YEAR) as u32
+    (year + MAX_YEAR) as u32
 }
 
 /// The day number of the year's first day.
@@ -85,7 +85,7 @@ pub fn at_place(year: i32, shifted: u16) -> Option<(i32, u16)>
     if place <= length {
         return Some((year, place));
     }
-    if year == GREATEST_YEAR {
+    if year == MAX_YEAR {
         return None;
     }
     Some((year + 1, place - length))
@@ -109,7 +109,7 @@ pub fn year_and_place(day: u32) -> (i32, u16)
     ensures place { IsInRange 1 (Calendar.year_length result.0) result.1 }
 {
     let (years, rest) = split_years(day);
-    (years as i32 - GREATEST_YEAR, rest as u16 + 1)
+    (years as i32 - MAX_YEAR, rest as u16 + 1)
 }
 
 // How many years have passed since the first, and how many days since then.

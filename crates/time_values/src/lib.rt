@@ -5,6 +5,7 @@
 mod date;
 mod days;
 pub mod error;
+pub mod laws;
 mod month;
 mod offset_date_time;
 mod plain_date_time;
@@ -17,6 +18,7 @@ mod utc_offset;
 mod weekday;
 
 pub use date::Date;
+pub use days::MAX_YEAR;
 pub use month::Month;
 pub use offset_date_time::OffsetDateTime;
 pub use plain_date_time::PlainDateTime;

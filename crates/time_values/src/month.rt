@@ -4,7 +4,7 @@ ghost use Rattle.std.specs.Cmp.Rules.{comparing};
 ghost use Rattle.std.specs.Ordering.{on};
 ghost use Rattle.time_values.specs.Calendar as Calendar;
 ghost use Rattle.time_values.specs.Month.{month_number, month_refusal};
-ghost use Rattle.time_values.specs.Refusal.{Answers};
+ghost use Rattle.time_values.specs.Refusal.{Constructs};
 
 use crate::days::is_leap_year;
 use crate::error::ComponentRange;
@@ -31,7 +31,7 @@ impl Month {
     /// The month of that number, 1 for January to 12 for December. A greater number is refused as
     /// `month`.
     pub fn from_number(number: NonZero<u8>) -> Result<Month, ComponentRange>
-        ensures { Answers (month_refusal number.value) (λ m. month_number m ≡ number.value) result }
+        ensures { Constructs (month_refusal number.value) (λ m. month_number m ≡ number.value) result }
     {
         match number.get() {
             1 => Ok(Month::January),

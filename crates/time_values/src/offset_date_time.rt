@@ -3,7 +3,7 @@ ghost use Rattle.time_values.specs.Instants as Instants;
 ghost use Rattle.time_values.specs.Moments.{offset_date, offset_time, offset_of, offset_instant, utc_instant};
 ghost use Rattle.time_values.specs.Offsets.{IsUtc};
 ghost use Rattle.time_values.specs.Range.{greatest_year};
-ghost use Rattle.time_values.specs.Refusal.{Answers};
+ghost use Rattle.time_values.specs.Refusal.{Constructs};
 ghost use Rattle.time_values.specs.Times.{HasSecond, nanosecond_refusal};
 
 use crate::days::DAY_LIMIT;
@@ -33,7 +33,7 @@ impl OffsetDateTime {
     /// The moment that many nanoseconds after 1970-01-01T00:00:00Z, at offset 0. Refused as
     /// `timestamp` outside -377705116800000000000 to 253402300799999999999.
     pub fn from_unix_timestamp_nanos(nanos: i128) -> Result<OffsetDateTime, ComponentRange>
-        ensures { Answers (Instants.timestamp_refusal greatest_year nanos)
+        ensures { Constructs (Instants.timestamp_refusal greatest_year nanos)
             (λ o. (offset_instant greatest_year o ≡ nanos)
             × IsUtc (offset_of o))
             result }
@@ -80,7 +80,7 @@ impl OffsetDateTime {
 
     /// The same second with another nanosecond. Refused as `nanosecond` above 999999999.
     pub fn replace_nanosecond(self, nanosecond: u32) -> Result<OffsetDateTime, ComponentRange>
-        ensures { Answers (nanosecond_refusal nanosecond) (λ o. (offset_date o ≡ offset_date self)
+        ensures { Constructs (nanosecond_refusal nanosecond) (λ o. (offset_date o ≡ offset_date self)
             × HasSecond (offset_time self) nanosecond (offset_time o)
             × (offset_of o ≡ offset_of self)) result }
     {

@@ -3,7 +3,7 @@ ghost use Rattle.time_values.specs.Dates as Dates;
 ghost use Rattle.time_values.specs.Moments.{plain_date, plain_time};
 ghost use Rattle.time_values.specs.Month.{month_number};
 ghost use Rattle.time_values.specs.Range.{greatest_year};
-ghost use Rattle.time_values.specs.Refusal.{Answers};
+ghost use Rattle.time_values.specs.Refusal.{Constructs};
 ghost use Rattle.time_values.specs.Times.{HasClock};
 
 use crate::error::{
@@ -17,7 +17,7 @@ use std::test::Fail;
 
 /// Noon of the day with these parts: a caller whose contract stands on those of the constructors.
 fn noon(year: i32, month: Month, day: u8) -> Result<PlainDateTime, ComponentRange>
-    ensures { Answers (calendar_date_refusal greatest_year year (month_number month) day)
+    ensures { Constructs (calendar_date_refusal greatest_year year (month_number month) day)
         (λ p. Dates.HasParts year month day (plain_date p) × HasClock 12 0 0 0 (plain_time p)) result }
 {
     let date = Date::from_calendar_date(year, month, day)?;

@@ -16,7 +16,7 @@ pub struct Time {
 }
 
 impl Time {
-    ghost use Rattle.time_values.specs.Refusal.{Answers};
+    ghost use Rattle.time_values.specs.Refusal.{Constructs};
     ghost use Rattle.time_values.specs.Times as Times;
     ghost use Rattle.time_values.specs.Times.{HasClock, nanosecond_refusal, time_refusal, nanos_of_day};
 
@@ -28,7 +28,7 @@ impl Time {
         second: u8,
         nanosecond: u32,
     ) -> Result<Time, ComponentRange>
-        ensures { Answers (time_refusal hour minute second nanosecond)
+        ensures { Constructs (time_refusal hour minute second nanosecond)
             (HasClock hour minute second nanosecond) result }
     {
         let name = if hour > 23 {
@@ -88,7 +88,7 @@ impl Time {
     /// The same second with another nanosecond.
     #[inline]
     pub(crate) fn replace_nanosecond(self, nanosecond: u32) -> Result<Time, ComponentRange>
-        ensures { Answers (nanosecond_refusal nanosecond)
+        ensures { Constructs (nanosecond_refusal nanosecond)
             (Times.HasSecond self nanosecond) result }
     {
         Time::from_hms_nano(self.hour, self.minute, self.second, nanosecond)

@@ -15,12 +15,12 @@ pub struct Timestamp {
 
 impl Timestamp {
     ghost use Rattle.time_values.specs.Moments as Moments;
-    ghost use Rattle.time_values.specs.Refusal.{Answers};
+    ghost use Rattle.time_values.specs.Refusal.{Constructs};
 
     /// The moment that many nanoseconds after 1970-01-01T00:00:00Z. Refused as `timestamp` outside
     /// -377705116800000000000 to 253402300799999999999.
     pub fn from_nanoseconds(nanoseconds: i128) -> Result<Timestamp, ComponentRange>
-        ensures { Answers (timestamp_refusal greatest_year nanoseconds)
+        ensures { Constructs (timestamp_refusal greatest_year nanoseconds)
             (λ t. Moments.nanoseconds t ≡ nanoseconds) result }
     {
         if !is_instant(nanoseconds) {

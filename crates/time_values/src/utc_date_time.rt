@@ -2,7 +2,7 @@ ghost use Rattle.std.specs.Prelude.{◌≡◌, ◌↔◌, IsTrue};
 ghost use Rattle.time_values.specs.Instants as Instants;
 ghost use Rattle.time_values.specs.Moments.{utc_date, utc_time, utc_instant};
 ghost use Rattle.time_values.specs.Range.{greatest_year};
-ghost use Rattle.time_values.specs.Refusal.{Answers};
+ghost use Rattle.time_values.specs.Refusal.{Constructs};
 ghost use Rattle.time_values.specs.Times.{HasSecond, nanosecond_refusal};
 
 use crate::days::{DAY_LIMIT, EPOCH_DAY};
@@ -37,7 +37,7 @@ impl UtcDateTime {
     /// The moment that many nanoseconds after 1970-01-01T00:00:00Z. Refused as `timestamp` outside
     /// -377705116800000000000 to 253402300799999999999.
     pub fn from_unix_timestamp_nanos(nanos: i128) -> Result<UtcDateTime, ComponentRange>
-        ensures { Answers (Instants.timestamp_refusal greatest_year nanos)
+        ensures { Constructs (Instants.timestamp_refusal greatest_year nanos)
             (λ u. utc_instant greatest_year u ≡ nanos) result }
     {
         if !is_instant(nanos) {
@@ -91,7 +91,7 @@ impl UtcDateTime {
 
     /// The same second with another nanosecond. Refused as `nanosecond` above 999999999.
     pub fn replace_nanosecond(self, nanosecond: u32) -> Result<UtcDateTime, ComponentRange>
-        ensures { Answers (nanosecond_refusal nanosecond) (λ u. (utc_date u ≡ utc_date self)
+        ensures { Constructs (nanosecond_refusal nanosecond) (λ u. (utc_date u ≡ utc_date self)
             × HasSecond (utc_time self) nanosecond (utc_time u)) result }
     {
         let time = self.time.replace_nanosecond(nanosecond)?;

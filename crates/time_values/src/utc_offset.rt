@@ -16,7 +16,7 @@ pub struct UtcOffset {
 }
 
 impl UtcOffset {
-    ghost use Rattle.time_values.specs.Refusal.{Answers};
+    ghost use Rattle.time_values.specs.Refusal.{Constructs};
     ghost use Rattle.time_values.specs.Offsets as Offsets;
     ghost use Rattle.time_values.specs.Offsets.{HasOffset, offset_refusal, offset_seconds};
 
@@ -31,7 +31,7 @@ impl UtcOffset {
     /// part that is out of range is refused: `hours` outside -25 to 25, `minutes` outside -59 to
     /// 59, `seconds` outside -59 to 59.
     pub fn from_hms(hours: i8, minutes: i8, seconds: i8) -> Result<UtcOffset, ComponentRange>
-        ensures { Answers (offset_refusal hours minutes seconds) (HasOffset hours minutes seconds)
+        ensures { Constructs (offset_refusal hours minutes seconds) (HasOffset hours minutes seconds)
             result }
     {
         if hours < -25 || hours > 25 {

@@ -8,7 +8,7 @@ use Rattle.time_values.specs.Dates.{ordinal}
 use Rattle.time_values.specs.Range.{greatest_year}
 use Rattle.time_values.specs.Weekday.{days_from_monday}
 use Rattle.time_values.proofs.NumberLemmas.{days_from_monday_in}
-use Rattle.time_values.proofs.RefusalLemmas.{Answers-Ok}
+use Rattle.time_values.proofs.RefusalLemmas.{Constructs-Ok}
 use Rattle.time_record.proofs.WeekDates.{week_place, week_place_is, no_early_week, week_date_seen}
 use Rattle.time_record.proofs.parsed.try_from.date.week_date.Goals as goal
 use Rattle.time_record.proofs.parsed.try_from.date.week_date.Goals.{After-days_since-2}
@@ -18,7 +18,7 @@ place_is : (c : After-days_since-2) → c.days_since.result + 1 + 7 * c.args.wee
 place_is c =
     let y = c.args.year in
     let fits : FitsSigned w32 y = c.ranges.year in
-    let first = Answers-Ok (ordinal_date_refusal greatest_year y 1) (λ (d : Date). (d.year ≡ y) × (ordinal d ≡ 1)) c.in_ok-from_ordinal_date.field-0 (simp to_z-of_z at c.in_ok-from_ordinal_date.ensures) in
+    let first = Constructs-Ok (ordinal_date_refusal greatest_year y 1) (λ (d : Date). (d.year ≡ y) × (ordinal d ≡ 1)) c.in_ok-from_ordinal_date.field-0 (simp to_z-of_z at c.in_ok-from_ordinal_date.ensures) in
     week_place_is y c.in_ok-from_ordinal_date.field-0 (days_from_monday c.weekday-first.result) c.days_since.result c.days_since-2.result c.args.week (days_from_monday c.args.start) (days_from_monday c.args.weekday) first.1 c.weekday-first.ensures c.days_since.ensures c.days_since-2.ensures
 
 pub returns-then-shifted-le7 : goal.returns-then-shifted-le7

@@ -40,7 +40,8 @@ pub is_instant-IsInstant : (Y : ℕ) (n : ℤ) → IsTrue (is_instant Y n) ↔ I
 is_instant-IsInstant Y n = between_tested (first_instant Y) (last_instant Y) n
 
 -- the definitions, for a proof that does not unfold them
-pub clock_nanos_is : (d : Date) (t : Time) → clock_nanos greatest_year d t ≡ (pos (day_number greatest_year d) -ℤ pos 4_371_587) *ℤ pos nanos_per_day +ℤ pos (nanos_of_day t)
+pub clock_nanos_is : (d : Date) (t : Time)
+    → clock_nanos greatest_year d t ≡ (pos (day_number greatest_year d) -ℤ pos 4_371_587) *ℤ pos nanos_per_day +ℤ pos (nanos_of_day t)
 unfolding clock_nanos
 clock_nanos_is d t = rw epoch_day_is
 

@@ -14,6 +14,7 @@ Constructs-Err None P e h = absurd h
 Constructs-Err (Some r) P e h = ap Some (sym h)
 
 -- another value answers in its place
-pub Constructs-map : {A B : Type 0} (o : Option Refusal) (P : A → Type 0) (Q : B → Type 0) (v : A) (w : B) → (P v → Q w) → Constructs o P (Ok v) → Constructs o Q (Ok w)
+pub Constructs-map : {A B : Type 0} (o : Option Refusal) (P : A → Type 0) (Q : B → Type 0) (v : A) (w : B) → (P v → Q w) → Constructs o P (Ok v)
+    → Constructs o Q (Ok w)
 Constructs-map None P Q v w f h = f h
 Constructs-map (Some r) P Q v w f h = absurd h

@@ -52,7 +52,8 @@ ordinal_later : (y : ℤ) (m d n e : ℕ) → IsInRange 1 12 m → IsInRange 1 1
 ordinal_later y m d n e h k top low lt =
     omega (arith, month_end y m h, months_mono y m (n - 1) (omega arith) (omega arith))
 
-same_ordinal : (y : ℤ) (m d n e : ℕ) → IsInRange 1 12 m → IsInRange 1 12 n → IsInRange 1 (month_length y m) d → IsInRange 1 (month_length y n) e → ordinal_of y m d ≡ ordinal_of y n e → (m ≡ n) × (d ≡ e)
+same_ordinal : (y : ℤ) (m d n e : ℕ) → IsInRange 1 12 m → IsInRange 1 12 n → IsInRange 1 (month_length y m) d → IsInRange 1 (month_length y n) e
+    → ordinal_of y m d ≡ ordinal_of y n e → (m ≡ n) × (d ≡ e)
 same_ordinal y m d n e h k p q same =
     elim (cases_order m n) [
       | inl eq ↦ (eq, omega (arith, ap (λ x. days_of_months y (x - 1)) eq))
@@ -74,7 +75,8 @@ same_date_by_parts a b y m d = λ i. record {
 pub same_date_by_ordinal : (a b : Date) → a.year ≡ b.year → ordinal a ≡ ordinal b → a ≡ b
 same_date_by_ordinal a b year places =
     let place = places ∙ ap (λ y. ordinal_of y (month_number b.month) b.day) (sym year) in
-    let p = same_ordinal a.year (month_number a.month) a.day (month_number b.month) b.day (month_number_in a.month) (month_number_in b.month) a.day_in (rw year b.day_in) place in
+    let p = same_ordinal a.year (month_number a.month) a.day (month_number b.month) b.day
+        (month_number_in a.month) (month_number_in b.month) a.day_in (rw year b.day_in) place in
     same_date_by_parts a b year (same_month _ _ p.0) p.1
 
 same_year : (a b : Date) → day_number greatest_year a ≡ day_number greatest_year b → a.year ≡ b.year
@@ -97,7 +99,8 @@ same_count w start m n small low high counts days =
     omega (arith, weekdays_in_closed w start m small, weekdays_in_closed w start n small)
 
 -- dates of one year with the same week, which begins on the weekday w, and weekday are one date
-pub same_date_by_week : (w : ℕ) (a b : Date) → w < 7 → a.year ≡ b.year → weekdays_so_far greatest_year w a ≡ weekdays_so_far greatest_year w b → weekday greatest_year a ≡ weekday greatest_year b → a ≡ b
+pub same_date_by_week : (w : ℕ) (a b : Date) → w < 7 → a.year ≡ b.year → weekdays_so_far greatest_year w a ≡ weekdays_so_far greatest_year w b
+    → weekday greatest_year a ≡ weekday greatest_year b → a ≡ b
 same_date_by_week w a b small year weeks days =
     let start = ap (year_start greatest_year) year in
     same_date_by_ordinal a b year
@@ -155,7 +158,8 @@ same_offset h m s a b p q = same_offset_by_parts a b (p.0 ∙ sym q.0) (p.1 ∙ 
 -- one moment in UTC has one date and time
 pub same_moment : (a b : Date) (s t : Time) → clock_nanos greatest_year a s ≡ clock_nanos greatest_year b t → (a ≡ b) × (s ≡ t)
 same_moment a b s t e =
-    let apart : (day_number greatest_year a ≡ day_number greatest_year b) × (nanos_of_day s ≡ nanos_of_day t) = omega (arith, ints, clock_nanos_is a s, clock_nanos_is b t) in
+    let apart : (day_number greatest_year a ≡ day_number greatest_year b)
+        × (nanos_of_day s ≡ nanos_of_day t) = omega (arith, ints, clock_nanos_is a s, clock_nanos_is b t) in
     (same_date a b apart.0, same_time s t apart.1)
 
 -- timestamps with the same nanoseconds are one timestamp

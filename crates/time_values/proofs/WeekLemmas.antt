@@ -15,7 +15,8 @@ weekdays_in_closed w first (suc n) h =
     grind (arith, nat_tests)
 
 -- the week of a day whose Thursday is at that place of the year
-pub iso_week_at : (Y : ℕ) (y : ℤ) (day p week : ℕ) → IsYear Y y → thursday_of day + 1 ≡ year_start Y y + p → 1 ≤ p → p ≤ year_length y → week ≡ (p + 6) / 7 → IsIsoWeek Y day y week
+pub iso_week_at : (Y : ℕ) (y : ℤ) (day p week : ℕ) → IsYear Y y → thursday_of day + 1 ≡ year_start Y y + p → 1 ≤ p → p ≤ year_length y → week ≡ (p + 6) / 7
+    → IsIsoWeek Y day y week
 iso_week_at Y y day p week year e low high w =
     let start = year_start Y y in
     let same : thursday_of day + 1 - start ≡ p = omega arith in
@@ -23,18 +24,21 @@ iso_week_at Y y day p week year e low high w =
     (year, omega arith, omega arith, rw same (omega arith))
 
 -- the Thursdays of a year, by the place of the first
-pub thursdays_from_first : (start length first : ℕ) → (start + first + 6) % 7 ≡ 3 → IsInRange 1 7 first → first ≤ length → weekdays_in 3 start length ≡ (length + 7 - first) / 7
+pub thursdays_from_first : (start length first : ℕ) → (start + first + 6) % 7 ≡ 3 → IsInRange 1 7 first → first ≤ length
+    → weekdays_in 3 start length ≡ (length + 7 - first) / 7
 thursdays_from_first start length first e h k =
     let count = weekdays_in_closed 3 start length (omega arith) in
     omega arith
 
 -- the day of a week and weekday, by the place of the year's first Thursday
-pub iso_day_at : (Y : ℕ) (y : ℤ) (first week w day : ℕ) → IsYear Y y → (year_start Y y + first + 6) % 7 ≡ 3 → IsInRange 1 7 first → 1 ≤ week → week ≤ (year_length y + 7 - first) / 7 → w < 7 → day + 8 ≡ year_start Y y + (first + 7 * (week - 1) + 4 + w) → IsIsoDay Y y week w day
+pub iso_day_at : (Y : ℕ) (y : ℤ) (first week w day : ℕ) → IsYear Y y → (year_start Y y + first + 6) % 7 ≡ 3 → IsInRange 1 7 first → 1 ≤ week
+    → week ≤ (year_length y + 7 - first) / 7 → w < 7 → day + 8 ≡ year_start Y y + (first + 7 * (week - 1) + 4 + w) → IsIsoDay Y y week w day
 iso_day_at Y y first week w day year e h low high small is =
     let long = year_length-leap_day y in
     (iso_week_at Y y day (first + 7 * (week - 1)) week year (omega arith) (omega arith) (omega arith) (omega arith), omega arith)
 
 -- and the year has that week
-pub has_iso_week : (Y : ℕ) (y : ℤ) (first week : ℕ) → IsYear Y y → (year_start Y y + first + 6) % 7 ≡ 3 → IsInRange 1 7 first → 1 ≤ week → week ≤ (year_length y + 7 - first) / 7 → HasIsoWeek Y y week
+pub has_iso_week : (Y : ℕ) (y : ℤ) (first week : ℕ) → IsYear Y y → (year_start Y y + first + 6) % 7 ≡ 3 → IsInRange 1 7 first → 1 ≤ week
+    → week ≤ (year_length y + 7 - first) / 7 → HasIsoWeek Y y week
 has_iso_week Y y first week year e h low high =
     (year, omega (arith, thursdays_from_first (year_start Y y) (year_length y) first e h (omega (arith, year_length-leap_day y))))

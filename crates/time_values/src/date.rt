@@ -129,7 +129,7 @@ impl Date {
         days_before_month(self.year, month) + self.day as u16
     }
 
-    /// The date of that day number.
+    // The date of that day number.
     pub(crate) fn from_day_number(day: u32) -> Date
         requires { day < Calendar.day_limit greatest_year }
         ensures { Dates.day_number greatest_year result ≡ day }
@@ -138,7 +138,7 @@ impl Date {
         Date::at_ordinal(year, place)
     }
 
-    /// The number of days since the first date.
+    // The number of days since the first date.
     pub(crate) fn day_number(self) -> u32
         ensures value { result ≡ Dates.day_number greatest_year self }
         ensures bound { result < 2_000_000_000 }

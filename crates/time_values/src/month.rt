@@ -53,7 +53,7 @@ impl Month {
         }
     }
 
-    /// The month of a number that is one.
+    // The month of a number that is one.
     #[inline]
     pub(crate) fn at(number: u8) -> Month
         requires low { 1 ≤ number }

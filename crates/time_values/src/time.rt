@@ -85,7 +85,7 @@ impl Time {
         self.nanosecond
     }
 
-    /// The same second with another nanosecond.
+    // The same second with another nanosecond.
     #[inline]
     pub(crate) fn replace_nanosecond(self, nanosecond: u32) -> Result<Time, ComponentRange>
         ensures { Constructs (nanosecond_refusal nanosecond)
@@ -94,7 +94,7 @@ impl Time {
         Time::from_hms_nano(self.hour, self.minute, self.second, nanosecond)
     }
 
-    /// The time at that second after midnight, with this one's nanosecond.
+    // The time at that second after midnight, with this one's nanosecond.
     #[inline]
     pub(crate) fn at_second_of_day(self, second: u32) -> Time
         requires { second < 86_400 }
@@ -108,7 +108,7 @@ impl Time {
         }
     }
 
-    /// The time that many nanoseconds after midnight.
+    // The time that many nanoseconds after midnight.
     pub(crate) fn from_nanos_of_day(nanos: u64) -> Time
         requires { nanos < 86_400_000_000_000 }
         ensures { nanos_of_day result ≡ nanos }
@@ -122,7 +122,7 @@ impl Time {
         }
     }
 
-    /// The whole seconds since midnight.
+    // The whole seconds since midnight.
     #[inline]
     pub(crate) fn seconds_of_day(self) -> u32
         ensures value { result ≡ Times.hour self * 3600 + Times.minute self * 60 + Times.second self }
@@ -131,7 +131,7 @@ impl Time {
         self.hour as u32 * 3600 + self.minute as u32 * 60 + self.second as u32
     }
 
-    /// The nanoseconds since midnight.
+    // The nanoseconds since midnight.
     #[inline]
     pub(crate) fn nanos_of_day(self) -> u64
         ensures value { result ≡ nanos_of_day self }
@@ -141,7 +141,7 @@ impl Time {
         seconds * 1_000_000_000 + self.nanosecond as u64
     }
 
-    /// Whether this is the last nanosecond of a day.
+    // Whether this is the last nanosecond of a day.
     #[inline]
     pub(crate) fn is_last_nanosecond(self) -> bool
         ensures { IsTrue result ↔ (nanos_of_day self + 1 ≡ 86_400_000_000_000) }

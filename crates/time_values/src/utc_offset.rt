@@ -69,7 +69,7 @@ impl UtcOffset {
         (self.hours, self.minutes, self.seconds)
     }
 
-    /// The whole offset in seconds, -93599 to 93599.
+    // The whole offset in seconds, -93599 to 93599.
     pub(crate) fn whole_seconds(self) -> i32
         ensures value { result ≡ offset_seconds self }
         ensures bound { IsBetween (neg_ℤ (pos 93_599)) (pos 93_599) result }

@@ -17,7 +17,7 @@ pub enum Weekday {
 }
 
 impl Weekday {
-    /// The weekday that many days after Monday.
+    // The weekday that many days after Monday.
     #[inline]
     pub(crate) fn from_days_from_monday(days: u8) -> Weekday
         requires { days < 7 }

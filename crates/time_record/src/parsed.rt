@@ -12,9 +12,6 @@ ghost use Rattle.time_record.specs.Record.{empty};
 use std::marker::Model;
 use time_values::{Month, Weekday};
 
-// The greatest year; the least one is its negative.
-const GREATEST_YEAR: u32 = 9999;
-
 /// The components of a date and time, as far as they are known.
 ///
 /// A format fills it, and `TryFrom` makes a value of it; for control over either, fill or read it

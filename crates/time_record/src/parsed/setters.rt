@@ -5,9 +5,8 @@ ghost use Rattle.time_values.specs.Range.{greatest_year};
 ghost use Rattle.time_record.specs.Record.{put, Sets, year_is, year_century_is, year_last_two_is, iso_year_is, iso_year_century_is, iso_year_last_two_is, month_is, sunday_week_number_is, monday_week_number_is, iso_week_number_is, weekday_is, ordinal_is, day_is, hour_24_is, hour_12_is, hour_12_is_pm_is, minute_is, second_is, subsecond_is, offset_hour_is, offset_minute_is, offset_second_is, unix_timestamp_nanos_is};
 
 use crate::Parsed;
-use crate::parsed::GREATEST_YEAR;
 use std::num::NonZero;
-use time_values::{Month, Timestamp, Weekday};
+use time_values::{MAX_YEAR, Month, Timestamp, Weekday};
 
 impl Parsed {
     /// Sets the calendar year, from -9999 to 9999. `None` and unchanged outside.
@@ -15,7 +14,7 @@ impl Parsed {
     pub fn set_year(&mut self, value: i32) -> Option<()>
         ensures { Sets (put greatest_year (year_is value) self.old) self.old result self.new }
     {
-        if value.unsigned_abs() > GREATEST_YEAR {
+        if value < -MAX_YEAR || value > MAX_YEAR {
             return None;
         }
         self.year = Some(value);
@@ -30,7 +29,7 @@ impl Parsed {
         ensures { Sets (put greatest_year (year_century_is value is_negative) self.old)
             self.old result self.new }
     {
-        if value.unsigned_abs() as u32 > GREATEST_YEAR / 100 {
+        if i32::from(value) < -MAX_YEAR / 100 || i32::from(value) > MAX_YEAR / 100 {
             return None;
         }
         self.year_century = Some(value);
@@ -56,7 +55,7 @@ impl Parsed {
     pub fn set_iso_year(&mut self, value: i32) -> Option<()>
         ensures { Sets (put greatest_year (iso_year_is value) self.old) self.old result self.new }
     {
-        if value.unsigned_abs() > GREATEST_YEAR {
+        if value < -MAX_YEAR || value > MAX_YEAR {
             return None;
         }
         self.iso_year = Some(value);
@@ -71,7 +70,7 @@ impl Parsed {
         ensures { Sets (put greatest_year (iso_year_century_is value is_negative) self.old)
             self.old result self.new }
     {
-        if value.unsigned_abs() as u32 > GREATEST_YEAR / 100 {
+        if i32::from(value) < -MAX_YEAR / 100 || i32::from(value) > MAX_YEAR / 100 {
             return None;
         }
         self.iso_year_century = Some(value);

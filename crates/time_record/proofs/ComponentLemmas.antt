@@ -8,42 +8,52 @@ use Rattle.time_readers.specs.declared.modifier.Ignore.{Ignore as Ignore'}
 use Rattle.time_readers.specs.Cuts.{Cut, NoCut}
 use Rattle.time_readers.specs.Spelling.{Value, nothing, BeginsCharacter, Spells}
 use Rattle.time_readers.specs.Tree.{component, literal}
-use Rattle.time_record.specs.Answer.{Answers, Attempts}
+use Rattle.time_record.specs.Answer.{Answers}
 use Rattle.time_record.specs.Components.{component_fault, put_value}
 use Rattle.time_record.specs.Reading.{IsFault, NoReading, Reads, Refuses}
 use Rattle.time_record.specs.Record.{Record, Sets}
 use Rattle.time_readers.proofs.OneSpelling.{Spells-unique}
 
 -- no text that spells
-pub unspelled : (Y : ℕ) (w : Bool) (c : Component) (b : List ℕ) (r q : Record) → NoCut (Spells w c) b → q ≡ r → Attempts Y w c b r None q
-unfolding Reads
-unspelled Y w c b r q h e = record { is = (λ x q k. h k.text x k.value k.cut k.spells, e) }
+pub unspelled : (Y : ℕ) (w : Bool) (c : Component) (b : List ℕ) (r : Record) (e : Refusal) → NoCut (Spells w c) b →
+    e ≡ component_fault c → Refuses Y (component w c) b r e
+unfolding Reads IsFault
+unspelled Y w c b r e h is = record { unread = λ x q k. h k.text x k.value k.cut k.spells; fault = is }
 
 -- a text that spells, with a value that is put
-put_spelled : (Y : ℕ) (w : Bool) (c : Component) (b : List ℕ) (r : Record) (x : Bor (List ℕ)) (v : Value) (q : Record) (o : Option Record) (u : Unit {0}) → Cut (Spells w c) b x.now v → o ≡ put_value Y c v r → Sets o r (Some u) q → Attempts Y w c b r (Some x) q
+put_spelled : (Y : ℕ) (w : Bool) (c : Component) (b : List ℕ) (r : Record) (x : List ℕ) (v : Value) (q : Record)
+    (o : Option Record) (u : Unit {0}) → Cut (Spells w c) b x v → o ≡ put_value Y c v r → Sets o r (Some u) q →
+    Reads Y (component w c) b r x q
 unfolding Reads
 put_spelled Y w c b r x v q None u cut e sets = absurd sets
-put_spelled Y w c b r x v q (Some r') u cut e sets = record { is = record { text = cut.0; value = v; cut = cut.1; spells = cut.2; puts = sym e ∙ ap Some (sym sets) } }
+put_spelled Y w c b r x v q (Some r') u cut e sets =
+    record { text = cut.0; value = v; cut = cut.1; spells = cut.2; puts = sym e ∙ ap Some (sym sets) }
 
-pub spelled : (Y : ℕ) (w : Bool) (c : Component) (b : List ℕ) (r : Record) (x : Bor (List ℕ)) (v : Value) (q : Record) (u : Unit {0}) → Cut (Spells w c) b x.now v → Sets (put_value Y c v r) r (Some u) q → Attempts Y w c b r (Some x) q
+pub spelled : (Y : ℕ) (w : Bool) (c : Component) (b : List ℕ) (r : Record) (x : List ℕ) (v : Value) (q : Record)
+    (u : Unit {0}) → Cut (Spells w c) b x v → Sets (put_value Y c v r) r (Some u) q → Reads Y (component w c) b r x q
 spelled Y w c b r x v q u cut sets = put_spelled Y w c b r x v q _ u cut refl sets
 
 -- a text that spells, with a value that is out of range
-put_out_of_range : (Y : ℕ) (w : Bool) (c : Component) (b : List ℕ) (r : Record) (x : List ℕ) (v : Value) (q : Record) (o : Option Record) → Cut (Spells w c) b x v → o ≡ put_value Y c v r → Sets o r None q → Attempts Y w c b r None q
-unfolding Reads
-put_out_of_range Y w c b r x v q None cut e sets = record {
-  is = (
-    λ y p k.
-        let is = Spells-unique w c k.text cut.0 y x k.value v k.spells cut.2 (sym k.cut ∙ cut.1) in
-        let clash : Some p ≡ None = sym k.puts ∙ ap (λ u. put_value Y c u r) is.1 ∙ sym e in
-        cc,
-    sets,
-  );
-}
-put_out_of_range Y w c b r x v q (Some r') cut e sets = absurd sets
+put_out_of_range : (Y : ℕ) (w : Bool) (c : Component) (b : List ℕ) (r : Record) (x : List ℕ) (v : Value) (q : Record)
+    (e : Refusal) (o : Option Record) → Cut (Spells w c) b x v → o ≡ put_value Y c v r → Sets o r None q →
+    e ≡ component_fault c → Refuses Y (component w c) b r e × (q ≡ r)
+unfolding Reads IsFault
+put_out_of_range Y w c b r x v q e None cut put sets is = (
+  record {
+    unread = λ y p k.
+        let same = Spells-unique w c k.text cut.0 y x k.value v k.spells cut.2 (sym k.cut ∙ cut.1) in
+        let clash : Some p ≡ None = sym k.puts ∙ ap (λ u. put_value Y c u r) same.1 ∙ sym put in
+        cc;
+    fault = is;
+  },
+  sets,
+)
+put_out_of_range Y w c b r x v q e (Some r') cut put sets is = absurd sets
 
-pub out_of_range : (Y : ℕ) (w : Bool) (c : Component) (b : List ℕ) (r : Record) (x : List ℕ) (v : Value) (q : Record) → Cut (Spells w c) b x v → Sets (put_value Y c v r) r None q → Attempts Y w c b r None q
-out_of_range Y w c b r x v q cut sets = put_out_of_range Y w c b r x v q _ cut refl sets
+pub out_of_range : (Y : ℕ) (w : Bool) (c : Component) (b : List ℕ) (r : Record) (x : List ℕ) (v : Value) (q : Record)
+    (e : Refusal) → Cut (Spells w c) b x v → Sets (put_value Y c v r) r None q → e ≡ component_fault c →
+    Refuses Y (component w c) b r e × (q ≡ r)
+out_of_range Y w c b r x v q e cut sets is = put_out_of_range Y w c b r x v q e _ cut refl sets is
 
 -- a literal that stands in front
 pub reads_literal : (Y : ℕ) (t b : List ℕ) (r : Record) (x : List ℕ) → b ≡ t ++ x → Reads Y (literal t) b r x r

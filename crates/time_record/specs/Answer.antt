@@ -1,18 +1,13 @@
 -- What reading a tree answers. `Y` is the greatest year.
-use Rattle.std.specs.Prelude.{◌≡◌, ℕ, List, Bool, Option, Result, Ok, Err, MatchOption}
+use Rattle.std.specs.Prelude.{◌≡◌, ℕ, List, Result, Ok, Err}
 use Rattle.std.specs.Borrow.{Bor}
 use Rattle.time_values.specs.declared.error.ParseFromDescription.{ParseFromDescription}
 use Rattle.time_values.specs.Refusal.{refusal_of_description}
-use Rattle.time_readers.specs.declared.format_description.Component.{Component}
-use Rattle.time_readers.specs.Tree.{Tree, component}
-use Rattle.time_record.specs.Reading.{NoReading, Reads, Refuses}
+use Rattle.time_readers.specs.Tree.{Tree}
+use Rattle.time_record.specs.Reading.{Reads, Refuses}
 use Rattle.time_record.specs.Record.{Record}
 
 -- the rest and the record of the tree's reading; or, where it has none, its fault and the record as it was
 abbrev pub Answers : ℕ → Tree → List ℕ → Record → Result (Bor (List ℕ)) ParseFromDescription → Record → Type 0
 Answers Y t bytes r (Ok rest) r' = Reads Y t bytes r rest.now r'
 Answers Y t bytes r (Err e) r' = Refuses Y t bytes r (refusal_of_description e) × (r' ≡ r)
-
--- the same of a component, with nothing in place of its fault
-pub record Attempts (Y : ℕ) (whole : Bool) (c : Component) (bytes : List ℕ) (r : Record) (result : Option (Bor (List ℕ))) (r' : Record) : Type 0 where
-  pub is : MatchOption result (NoReading Y (component whole c) bytes r × (r' ≡ r)) (λ rest. Reads Y (component whole c) bytes r rest.now r')

@@ -5,14 +5,15 @@ mod others;
 mod times;
 mod years;
 
-ghost use Rattle.std.specs.Prelude.{◌≡◌, false, MatchOption};
+ghost use Rattle.std.specs.Prelude.{◌≡◌, false};
 ghost use Rattle.time_values.specs.Range.{greatest_year};
 ghost use Rattle.time_values.specs.Refusal.{refusal_of_description};
-ghost use Rattle.time_readers.specs.Cuts.{Cut, NoCut};
+ghost use Rattle.time_readers.specs.Cuts.{Finds};
 ghost use Rattle.time_readers.specs.Spelling.{Spells, Value, flagged};
 ghost use Rattle.time_readers.specs.declared.format_description.Component.{Component};
 ghost use Rattle.time_readers.specs.declared.format_description.Component.TheVariants as component;
-ghost use Rattle.time_record.specs.Answer.{Attempts};
+ghost use Rattle.time_readers.specs.Tree as tree;
+ghost use Rattle.time_record.specs.Answer.{Answers};
 ghost use Rattle.time_record.specs.Components.{component_fault, put_offset_hour, put_value};
 ghost use Rattle.time_record.specs.Record.{Sets};
 
@@ -20,7 +21,8 @@ use crate::Parsed;
 use time_readers::{Component, ParsedItem};
 use time_values::error::ParseFromDescription;
 
-/// The modifiers of a component: how its value is read, and put into a record.
+/// The modifiers of a component: how its value is read and put into a record, and what it is
+/// refused as.
 pub trait Part: Copy {
     /// What the component's reader answers.
     type Output;
@@ -31,11 +33,13 @@ pub trait Part: Copy {
     /// What a spelling says of the answer.
     ghost value: { Self.Output → Value };
 
+    /// What the component is refused as, where it does not read or its value is out of range.
+    fn fault(self) -> ParseFromDescription
+        ensures { refusal_of_description result ≡ component_fault (component self) };
+
     /// Reads the value in front of the input.
     fn parse(self, input: &[u8]) -> Option<ParsedItem<'_, Self::Output>>
-        ensures { MatchOption result
-            (NoCut (Spells false (component self)) input.now)
-            (λ p. Cut (Spells false (component self)) input.now p.0.now (value p.1)) };
+        ensures { Finds (Spells false (component self)) value input.now result };
 
     /// Puts the value into the record. `None`, and nothing changed, where it is out of range.
     fn put(self, parsed: &mut Parsed, found: Self::Output) -> Option<()>
@@ -44,14 +48,13 @@ pub trait Part: Copy {
 }
 
 impl Parsed {
-    /// Reads a component, and puts its value. `None`, and nothing changed, where it does not read
-    /// or its value is out of range.
+    // Reads a component, and puts its value.
     pub(crate) fn read_component<'a>(
         &mut self,
         input: &'a [u8],
         component: Component,
-    ) -> Option<&'a [u8]>
-        ensures { Attempts greatest_year false component input.now self.old result self.new }
+    ) -> Result<&'a [u8], ParseFromDescription>
+        ensures { Answers greatest_year (tree.component false component) input.now self.old result self.new }
     {
         match component {
             Component::Day(modifiers) => self.read(input, modifiers),
@@ -94,21 +97,26 @@ impl Parsed {
         }
     }
 
-    /// The same, by the component's modifiers.
+    // The same, by the component's modifiers.
     #[inline]
-    fn read<'a, P: Part>(&mut self, input: &'a [u8], part: P) -> Option<&'a [u8]>
-        ensures { Attempts greatest_year false (P.component part) input.now self.old result self.new }
+    fn read<'a, P: Part>(
+        &mut self,
+        input: &'a [u8],
+        part: P,
+    ) -> Result<&'a [u8], ParseFromDescription>
+        ensures { Answers greatest_year (tree.component false (P.component part))
+            input.now self.old result self.new }
     {
         match part.parse(input) {
             Some(found) => match part.put(self, found.1) {
-                Some(()) => Some(found.0),
-                None => None,
+                Some(()) => Ok(found.0),
+                None => Err(part.fault()),
             },
-            None => None,
+            None => Err(part.fault()),
         }
     }
 
-    /// Sets the hour of an offset, and whether a minus stood before it.
+    // Sets the hour of an offset, and whether a minus stood before it.
     #[inline]
     fn set_offset_hour_and_sign(&mut self, value: i8, is_negative: bool) -> Option<()>
         ensures { Sets (put_offset_hour greatest_year (flagged value is_negative) self.old)
@@ -118,49 +126,4 @@ impl Parsed {
         self.offset_is_negative = is_negative;
         Some(())
     }
-}
-
-/// What a component that does not read, or whose value is out of range, is refused as.
-pub fn fault(component: Component) -> ParseFromDescription
-    ensures { refusal_of_description result ≡ component_fault component }
-{
-    let name = match component {
-        Component::Day(_) => "day",
-        Component::MonthShort(_) | Component::MonthLong(_) | Component::MonthNumerical(_) => {
-            "month"
-        }
-        Component::Ordinal(_) => "ordinal",
-        Component::WeekdayShort(_)
-        | Component::WeekdayLong(_)
-        | Component::WeekdaySunday(_)
-        | Component::WeekdayMonday(_) => "weekday",
-        Component::WeekNumberIso(_)
-        | Component::WeekNumberSunday(_)
-        | Component::WeekNumberMonday(_) => "week number",
-        Component::CalendarYearFullExtendedRange(_)
-        | Component::CalendarYearFullStandardRange(_)
-        | Component::IsoYearFullExtendedRange(_)
-        | Component::IsoYearFullStandardRange(_)
-        | Component::CalendarYearCenturyExtendedRange(_)
-        | Component::CalendarYearCenturyStandardRange(_)
-        | Component::IsoYearCenturyExtendedRange(_)
-        | Component::IsoYearCenturyStandardRange(_)
-        | Component::CalendarYearLastTwo(_)
-        | Component::IsoYearLastTwo(_) => "year",
-        Component::Hour12(_) | Component::Hour24(_) => "hour",
-        Component::Minute(_) => "minute",
-        Component::Period(_) => "period",
-        Component::Second(_) => "second",
-        Component::Subsecond(_) => "subsecond",
-        Component::OffsetHour(_) => "offset hour",
-        Component::OffsetMinute(_) => "offset minute",
-        Component::OffsetSecond(_) => "offset second",
-        Component::Ignore(_) => "ignore",
-        Component::UnixTimestampSecond(_)
-        | Component::UnixTimestampMillisecond(_)
-        | Component::UnixTimestampMicrosecond(_)
-        | Component::UnixTimestampNanosecond(_) => "unix_timestamp",
-        Component::End(_) => return ParseFromDescription::UnexpectedTrailingCharacters,
-    };
-    ParseFromDescription::InvalidComponent(name)
 }

@@ -9,7 +9,7 @@ ghost use Rattle.time_record.specs.Record.{Record};
 
 use crate::Parsed;
 use crate::format_item::AnyFormatItem;
-use crate::parsed::component::fault;
+use crate::parsed::component::Part;
 use crate::walk::v3::walk_v3;
 use time_readers::component::parse_ignore;
 use time_readers::{Component, FormatDescriptionV3Inner};
@@ -85,13 +85,10 @@ impl Parsed {
     ) -> Result<&'a [u8], ParseFromDescription>
         ensures { Answers greatest_year (tree.component false component) input.now self.old result self.new }
     {
-        match self.read_component(input, component) {
-            Some(rest) => Ok(rest),
-            None => Err(fault(component)),
-        }
+        self.read_component(input, component)
     }
 
-    /// The same; but an `Ignore` has to end between characters.
+    // The same; but an `Ignore` has to end between characters.
     #[inline]
     pub(crate) fn parse_whole_component<'a>(
         &mut self,
@@ -106,10 +103,10 @@ impl Parsed {
                     if begins_character(found.0) {
                         Ok(found.0)
                     } else {
-                        Err(fault(component))
+                        Err(modifiers.fault())
                     }
                 }
-                None => Err(fault(component)),
+                None => Err(modifiers.fault()),
             },
             _ => self.parse_component(input, component),
         }
@@ -130,7 +127,7 @@ impl Parsed {
     }
 }
 
-/// Whether the text's first byte, if there is one, begins a character.
+// Whether the text's first byte, if there is one, begins a character.
 #[inline]
 fn begins_character(text: &[u8]) -> bool
     ensures yes { IsTrue result → BeginsCharacter text.now }

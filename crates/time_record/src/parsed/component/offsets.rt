@@ -6,6 +6,7 @@ use crate::Parsed;
 use crate::parsed::component::Part;
 use time_readers::component::{parse_offset_hour, parse_offset_minute, parse_offset_second};
 use time_readers::{ParsedItem, modifier};
+use time_values::error::ParseFromDescription;
 
 impl Part for modifier::OffsetHour {
     type Output = (i8, bool);
@@ -13,6 +14,11 @@ impl Part for modifier::OffsetHour {
     ghost component = { component.OffsetHour };
 
     ghost value = { λ v. flagged v.0 v.1 };
+
+    #[inline]
+    fn fault(self) -> ParseFromDescription {
+        ParseFromDescription::InvalidComponent("offset hour")
+    }
 
     #[inline]
     fn parse(self, input: &[u8]) -> Option<ParsedItem<'_, (i8, bool)>> {
@@ -33,6 +39,11 @@ impl Part for modifier::OffsetMinute {
     ghost value = { signed };
 
     #[inline]
+    fn fault(self) -> ParseFromDescription {
+        ParseFromDescription::InvalidComponent("offset minute")
+    }
+
+    #[inline]
     fn parse(self, input: &[u8]) -> Option<ParsedItem<'_, i8>> {
         parse_offset_minute(input, self)
     }
@@ -49,6 +60,11 @@ impl Part for modifier::OffsetSecond {
     ghost component = { component.OffsetSecond };
 
     ghost value = { signed };
+
+    #[inline]
+    fn fault(self) -> ParseFromDescription {
+        ParseFromDescription::InvalidComponent("offset second")
+    }
 
     #[inline]
     fn parse(self, input: &[u8]) -> Option<ParsedItem<'_, i8>> {

@@ -28,7 +28,7 @@ pub fn walk_borrowed<'a>(
     }
 }
 
-/// Reads items one after the other, each on what the one before left.
+// Reads items one after the other, each on what the one before left.
 #[cycle(borrowed)]
 fn walk_borrowed_all<'a>(
     items: &[BorrowedFormatItem<'_>],
@@ -52,7 +52,7 @@ fn walk_borrowed_all<'a>(
     Ok(rest)
 }
 
-/// Reads an item that may be missing.
+// Reads an item that may be missing.
 #[cycle(borrowed)]
 fn walk_borrowed_optional<'a>(
     item: &BorrowedFormatItem<'_>,
@@ -68,7 +68,7 @@ fn walk_borrowed_optional<'a>(
     }
 }
 
-/// Reads the first of the items that reads. Where none does, the fault is the first one's.
+// Reads the first of the items that reads. Where none does, the fault is the first one's.
 #[cycle(borrowed)]
 fn walk_borrowed_first<'a>(
     items: &[BorrowedFormatItem<'_>],
@@ -82,11 +82,7 @@ fn walk_borrowed_first<'a>(
     for item in items {
         match walk_borrowed(item, parsed, input) {
             Ok(rest) => return Ok(rest),
-            Err(fault) => {
-                if first_fault.is_none() {
-                    first_fault = Some(fault);
-                }
-            }
+            Err(fault) => first_fault = first_fault.or(Some(fault)),
         }
     }
     match first_fault {

@@ -28,7 +28,7 @@ pub fn walk_owned<'a>(
     }
 }
 
-/// Reads items one after the other, each on what the one before left.
+// Reads items one after the other, each on what the one before left.
 #[cycle(owned)]
 fn walk_owned_all<'a>(
     items: &[OwnedFormatItem],
@@ -52,7 +52,7 @@ fn walk_owned_all<'a>(
     Ok(rest)
 }
 
-/// Reads an item that may be missing.
+// Reads an item that may be missing.
 #[cycle(owned)]
 fn walk_owned_optional<'a>(
     item: &OwnedFormatItem,
@@ -68,7 +68,7 @@ fn walk_owned_optional<'a>(
     }
 }
 
-/// Reads the first of the items that reads. Where none does, the fault is the first one's.
+// Reads the first of the items that reads. Where none does, the fault is the first one's.
 #[cycle(owned)]
 fn walk_owned_first<'a>(
     items: &[OwnedFormatItem],
@@ -82,11 +82,7 @@ fn walk_owned_first<'a>(
     for item in items {
         match walk_owned(item, parsed, input) {
             Ok(rest) => return Ok(rest),
-            Err(fault) => {
-                if first_fault.is_none() {
-                    first_fault = Some(fault);
-                }
-            }
+            Err(fault) => first_fault = first_fault.or(Some(fault)),
         }
     }
     match first_fault {

@@ -41,7 +41,7 @@ pub fn walk_v3<'a>(
     }
 }
 
-/// Reads items one after the other, each on what the one before left.
+// Reads items one after the other, each on what the one before left.
 #[cycle(v3)]
 fn walk_v3_all<'a>(
     items: &[FormatDescriptionV3Inner<'_>],
@@ -65,7 +65,7 @@ fn walk_v3_all<'a>(
     Ok(rest)
 }
 
-/// Reads an item that may be missing.
+// Reads an item that may be missing.
 #[cycle(v3)]
 fn walk_v3_optional<'a>(
     item: &FormatDescriptionV3Inner<'_>,
@@ -81,7 +81,7 @@ fn walk_v3_optional<'a>(
     }
 }
 
-/// Reads the first of the items that reads. Where none does, the fault is the first one's.
+// Reads the first of the items that reads. Where none does, the fault is the first one's.
 #[cycle(v3)]
 fn walk_v3_first<'a>(
     items: &[FormatDescriptionV3Inner<'_>],
@@ -95,11 +95,7 @@ fn walk_v3_first<'a>(
     for item in items {
         match walk_v3(item, parsed, input) {
             Ok(rest) => return Ok(rest),
-            Err(fault) => {
-                if first_fault.is_none() {
-                    first_fault = Some(fault);
-                }
-            }
+            Err(fault) => first_fault = first_fault.or(Some(fault)),
         }
     }
     match first_fault {

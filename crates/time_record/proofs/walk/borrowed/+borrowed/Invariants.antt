@@ -1,14 +1,12 @@
-use Rattle.std.proofs.Common.{◌≡◌, map}
 use Rattle.time_values.specs.Range.{greatest_year}
-use Rattle.time_readers.specs.Tree.{trees}
 use Rattle.time_readers.specs.Shape.{borrowed_shape}
-use Rattle.time_record.proofs.Steps.{Continues, Keeps, trees_from}
+use Rattle.time_record.proofs.Steps.{Continues, Keeps}
 use Rattle.time_record.proofs.walk.borrowed.+borrowed.Given as goal
 
 abbrev pub invariant-walk_borrowed_all-loop-item : goal.invariant-walk_borrowed_all-loop-item
 invariant-walk_borrowed_all-loop-item l =
-    Continues greatest_year (trees_from borrowed_shape l.item-index l.items) l.rest l.parsed (trees (map borrowed_shape l.fn.items)) l.fn.input l.before × (l.before ≡ l.fn.parsed)
+    Continues greatest_year borrowed_shape l.items l.item-index l.fn.input l.fn.parsed l.rest l.parsed
 
 abbrev pub invariant-walk_borrowed_first-loop-item : goal.invariant-walk_borrowed_first-loop-item
 invariant-walk_borrowed_first-loop-item l =
-    Keeps greatest_year (trees_from borrowed_shape l.item-index l.items) (trees (map borrowed_shape l.fn.items)) l.input l.fn.parsed l.first_fault × (l.parsed ≡ l.fn.parsed)
+    Keeps greatest_year borrowed_shape l.items l.item-index l.input l.fn.parsed l.parsed l.first_fault

@@ -1,12 +1,17 @@
-use Rattle.std.proofs.Common.{◌≡◌, sym, ◌∙◌, subst, refl, arith, map}
-use Rattle.time_values.specs.Range.{greatest_year}
-use Rattle.time_readers.specs.Tree.{trees, none}
-use Rattle.time_readers.specs.Shape.{v3_shape}
-use Rattle.time_record.specs.Reading.{Reads, Refuses}
-use Rattle.time_values.specs.Refusal.{refusal_of_description}
-use Rattle.time_record.proofs.Steps.{sequence-reads, sequence-refuses, Reads-optional, Reads-optional_nothing, Continues-item, Continues-refuses, Continues-end, Keeps-item_reads, Keeps-item_refuses, Keeps-end, Keeps-refuses, Keeps-nothing, first_fault, first_fault-none, first_fault-some, Keeps}
+use Rattle.std.proofs.Common.{refl, arith}
+use Rattle.time_record.proofs.Steps.{Continues-reads, Continues-refuses, Continues-end, Keeps-reads, Keeps-refuses, Keeps-fault, Keeps-nothing, Reads-optional, Reads-optional_nothing}
 use Rattle.time_record.proofs.walk.v3.+v3.Goals as goal
-use Rattle.time_record.proofs.walk.v3.+v3.Goals.{walk_v3_first-then-is_none, walk_v3_first-else-is_none}
+
+pub walk_v3_all-returns-in-Err : goal.walk_v3_all-returns-in-Err
+walk_v3_all-returns-in-Err t c =
+    (Continues-refuses c.loop-item.invariant (omega arith) c.item-item.is c.in-Err.ensures.0, refl)
+
+pub walk_v3_all-loop-item-preserved : goal.walk_v3_all-loop-item-preserved
+walk_v3_all-loop-item-preserved t c =
+    Continues-reads c.loop-item.invariant (omega arith) c.item-item.is c.in-Ok.ensures
+
+pub walk_v3_all-returns : goal.walk_v3_all-returns
+walk_v3_all-returns t c = Continues-end c.loop-item.invariant (omega arith)
 
 pub walk_v3_optional-returns-in-Ok : goal.walk_v3_optional-returns-in-Ok
 walk_v3_optional-returns-in-Ok t c = Reads-optional _ _ _ _ _ _ c.in-Ok.ensures
@@ -14,38 +19,16 @@ walk_v3_optional-returns-in-Ok t c = Reads-optional _ _ _ _ _ _ c.in-Ok.ensures
 pub walk_v3_optional-returns-in-Err : goal.walk_v3_optional-returns-in-Err
 walk_v3_optional-returns-in-Err t c = Reads-optional_nothing _ _ _ _ _ c.in-Err.ensures.0.unread c.in-Err.ensures.1
 
-pub walk_v3_all-returns-in-Err : goal.walk_v3_all-returns-in-Err
-walk_v3_all-returns-in-Err t c =
-    (sequence-refuses _ _ _ _ _ (Continues-refuses _ v3_shape c.args.items.now c.loop-item.item-index c.item-item.result _ _ _ _ _ _ c.loop-item.invariant.0 (omega arith) c.item-item.is c.in-Err.ensures.0), refl)
-
-pub walk_v3_all-loop-item-preserved : goal.walk_v3_all-loop-item-preserved
-walk_v3_all-loop-item-preserved t c =
-    (Continues-item _ v3_shape c.args.items.now c.loop-item.item-index c.item-item.result _ _ _ _ _ _ _ c.loop-item.invariant.0 (omega arith) c.item-item.is c.in-Ok.ensures, refl)
-
-pub walk_v3_all-returns : goal.walk_v3_all-returns
-walk_v3_all-returns t c =
-    sequence-reads _ _ _ _ _ _ (Continues-end _ v3_shape c.args.items.now c.loop-item.item-index _ _ _ _ _ c.loop-item.invariant.0 (omega arith))
-
 pub walk_v3_first-returns-in-Ok : goal.walk_v3_first-returns-in-Ok
 walk_v3_first-returns-in-Ok t c =
-    Keeps-item_reads _ v3_shape c.args.items.now c.loop-item.item-index c.item-item.result _ _ _ c.loop-item.first_fault _ _ c.loop-item.invariant.0 (omega arith) c.item-item.is (subst (λ r. Reads greatest_year (v3_shape c.item-item.result) c.args.input.now r c.in-Ok.rest.now c.walk_v3.new.parsed) c.loop-item.invariant.1 c.in-Ok.ensures)
+    Keeps-reads c.loop-item.invariant _ _ (omega arith) c.item-item.is c.in-Ok.ensures
 
 pub walk_v3_first-loop-item-preserved : goal.walk_v3_first-loop-item-preserved
 walk_v3_first-loop-item-preserved t c =
-    let refused = subst (λ r. Refuses greatest_year (v3_shape c.item-item.result) c.args.input.now r (refusal_of_description c.in-Err.fault)) c.loop-item.invariant.1 c.in-Err.ensures.0 in
-    let next = Keeps-item_refuses _ v3_shape c.args.items.now c.loop-item.item-index c.item-item.result _ _ _ c.loop-item.first_fault c.in-Err.fault c.loop-item.invariant.0 (omega arith) c.item-item.is refused in
-    let kept : c.if-is_none.first_fault ≡ first_fault c.loop-item.first_fault c.in-Err.fault = elim c.if-is_none.branch [
-      | walk_v3_first-then-is_none w ↦ w.first_fault-is ∙ sym (first_fault-none c.loop-item.first_fault c.in-Err.fault c.is_none.result c.is_none.ensures w.if-is_none.true)
-      | walk_v3_first-else-is_none w ↦ w.first_fault-is ∙ sym (first_fault-some c.loop-item.first_fault c.in-Err.fault c.is_none.result c.is_none.ensures w.if-is_none.false)
-    ] in
-    (rw kept next, c.in-Err.ensures.1 ∙ c.loop-item.invariant.1)
+    Keeps-refuses c.loop-item.invariant _ (omega arith) c.item-item.is c.in-Err.ensures c.or-first_fault.ensures
 
 pub walk_v3_first-returns-in-Some : goal.walk_v3_first-returns-in-Some
-walk_v3_first-returns-in-Some t c =
-    let kept = subst (λ k. Keeps greatest_year none (trees (map v3_shape c.args.items.now)) c.args.input.now c.args.parsed.now k) c.in-Some.is (Keeps-end _ v3_shape c.args.items.now c.loop-item.item-index _ _ _ _ c.loop-item.invariant.0 (omega arith)) in
-    (Keeps-refuses _ _ _ _ _ kept, c.loop-item.invariant.1)
+walk_v3_first-returns-in-Some t c = Keeps-fault c.loop-item.invariant _ (omega arith) c.in-Some.is
 
 pub walk_v3_first-returns-in-None : goal.walk_v3_first-returns-in-None
-walk_v3_first-returns-in-None t c =
-    let kept = subst (λ k. Keeps greatest_year none (trees (map v3_shape c.args.items.now)) c.args.input.now c.args.parsed.now k) c.in-None.is (Keeps-end _ v3_shape c.args.items.now c.loop-item.item-index _ _ _ _ c.loop-item.invariant.0 (omega arith)) in
-    rw c.loop-item.invariant.1 (Keeps-nothing _ _ _ _ kept)
+walk_v3_first-returns-in-None t c = Keeps-nothing c.loop-item.invariant (omega arith) c.in-None.is

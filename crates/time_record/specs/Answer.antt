@@ -8,6 +8,7 @@ use Rattle.time_record.specs.Reading.{Reads, Refuses}
 use Rattle.time_record.specs.Record.{Record}
 
 -- the rest and the record of the tree's reading; or, where it has none, its fault and the record as it was
-abbrev pub Answers : ℕ → Tree → List ℕ → Record → Result (Bor (List ℕ)) ParseFromDescription → Record → Type 0
+abbrev pub Answers :
+    ℕ → Tree → List ℕ → Record → Result (Bor (List ℕ)) ParseFromDescription → Record → Type 0
 Answers Y t bytes r (Ok rest) r' = Reads Y t bytes r rest.now r'
 Answers Y t bytes r (Err e) r' = Refuses Y t bytes r (refusal_of_description e) × (r' ≡ r)

@@ -67,7 +67,7 @@ empty = record {
   leap_second_allowed = false;
 }
 
--- a value for one option; a century comes with the sign that it has where it is 0
+-- a value for one option; a century comes with whether it is negative, which counts where it is 0
 pub data Entry : Type 0 where
   year_is : ℤ → Entry
   year_century_is : ℤ → Bool → Entry
@@ -93,7 +93,7 @@ pub data Entry : Type 0 where
   offset_second_is : ℤ → Entry
   unix_timestamp_nanos_is : ℤ → Entry
 
--- the value is one that its option may hold
+-- whether the value is one that its option may hold
 abbrev pub in_range : ℕ → Entry → Bool
 in_range Y (year_is v) = nat_le (unsigned_abs v) Y
 in_range Y (year_century_is v is_negative) = nat_le (unsigned_abs v) (Y / 100)
@@ -123,7 +123,7 @@ in_range Y (unix_timestamp_nanos_is v) = is_instant Y v
 abbrev pub InRange : ℕ → Entry → Type 0
 InRange Y entry = IsTrue (in_range Y entry)
 
--- whether a century is negative, where one that is 0 has the given sign
+-- whether a century is negative: by its sign, or where it is 0 as given
 abbrev pub century_sign : ℤ → Bool → Bool
 century_sign v is_negative =
     if int_lt v (pos 0) then true else (if int_lt (pos 0) v then false else is_negative)
@@ -131,10 +131,12 @@ century_sign v is_negative =
 -- the record with that option replaced, and with a century its flag
 abbrev pub put_here : Entry → Record → Record
 put_here (year_is v) r = record r { year = Some v }
-put_here (year_century_is v is_negative) r = record r { year_century = Some v; year_century_is_negative = century_sign v is_negative }
+put_here (year_century_is v is_negative) r =
+    record r { year_century = Some v; year_century_is_negative = century_sign v is_negative }
 put_here (year_last_two_is v) r = record r { year_last_two = Some v }
 put_here (iso_year_is v) r = record r { iso_year = Some v }
-put_here (iso_year_century_is v is_negative) r = record r { iso_year_century = Some v; iso_year_century_is_negative = century_sign v is_negative }
+put_here (iso_year_century_is v is_negative) r =
+    record r { iso_year_century = Some v; iso_year_century_is_negative = century_sign v is_negative }
 put_here (iso_year_last_two_is v) r = record r { iso_year_last_two = Some v }
 put_here (month_is v) r = record r { month = Some v }
 put_here (sunday_week_number_is v) r = record r { sunday_week_number = Some v }
@@ -154,11 +156,11 @@ put_here (offset_minute_is v) r = record r { offset_minute = Some v }
 put_here (offset_second_is v) r = record r { offset_second = Some v }
 put_here (unix_timestamp_nanos_is v) r = record r { unix_timestamp_nanos = Some v }
 
--- the record with the entry put, or nothing where its value is out of range
+-- the record with the entry put, or none where its value is out of range
 abbrev pub put : ℕ → Entry → Record → Option Record
 put Y entry r = if in_range Y entry then Some (put_here entry r) else None
 
--- the record with the entries put one after another, or nothing where a value is out of range
+-- the record with the entries put one after another, or none where a value is out of range
 abbrev pub put_all : ℕ → List Entry → Record → Option Record
 put_all Y [] r = Some r
 put_all Y (entry ∷ entries) r = option_and_then (put_all Y entries) (put Y entry r)
@@ -186,7 +188,7 @@ pub record IsInRanges (Y : ℕ) (r : Record) : Type 0 where
   pub offset_second : IfSome r.offset_second (λ v. InRange Y (offset_second_is v))
   pub unix_timestamp_nanos : IfSome r.unix_timestamp_nanos (λ v. InRange Y (unix_timestamp_nanos_is v))
 
--- a setter's answer and the record after it, where the first argument is what was to be put
+-- a setter's answer and the record after it: the record to be set, or where there is none the old one
 abbrev pub Sets : Option Record → Record → Option (Unit {0}) → Record → Type 0
 Sets (Some r) old (Some _) new = new ≡ r
 Sets None old None new = new ≡ old

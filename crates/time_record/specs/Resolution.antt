@@ -1,6 +1,6 @@
 -- The values that a record's components make, by a fixed precedence. `Y` is the greatest year.
 use Rattle.std.specs.Prelude.{◌≡◌, ℕ, ◌+◌, ◌%◌, ◌==◌, ◌&&◌, ℤ, pos, Bool, true, false, IsTrue, if◌then◌else◌, Option, Some, None, unwrap_or, Result, Ok, Err, MatchOption, IsOkAnd, ◌⊎◌, codes}
-use Rattle.std.specs.Option.{option_map, option_map_or, option_and_then}
+use Rattle.std.specs.Option.{option_map, option_map_or, option_and_then, option_or}
 use Rattle.time_values.specs.declared.date.Date.{Date}
 use Rattle.time_values.specs.declared.time.Time.{Time}
 use Rattle.time_values.specs.declared.utc_offset.UtcOffset.{UtcOffset}
@@ -17,31 +17,32 @@ use Rattle.time_values.specs.Times as Times
 use Rattle.time_values.specs.Times.{HasClock, HasSecond, time_refusal}
 use Rattle.time_values.specs.Sign.{signed_by}
 use Rattle.time_record.specs.Record.{Record}
-use Rattle.time_record.specs.Rows.{or_else, first_row, IsRowDate}
+use Rattle.time_record.specs.Rows.{first_row, IsRowDate}
 
--- a conversion's answer, with what its error says
+-- a conversion's result, with what its error says
 abbrev pub parsed_seen : {V : Type 0} → Result V TryFromParsed → Result V Refusal
 parsed_seen (Ok v) = Ok v
 parsed_seen (Err e) = Err (refusal_of_parsed e)
 
--- a value with P where nothing is refused, and else that refusal
+-- a value with P, or where something is refused that refusal
 abbrev pub Gives : {V : Type 0} → Option Refusal → (V → Type 0) → Result V Refusal → Type 0
 Gives None P (Ok v) = P v
 Gives None P (Err e) = ⊥
 Gives (Some r) P (Ok v) = ⊥
 Gives (Some r) P (Err e) = e ≡ r
 
--- one step and then the next: the refusal of the first, or what the next makes of its value
-abbrev pub Then : {A B : Type 0} → (Result A Refusal → Type 0) → (A → Result B Refusal → Type 0) → Result B Refusal → Type 0
+-- one step and then the next: the refusal of the first, or what the next makes of the value
+abbrev pub Then : {A B : Type 0} →
+    (Result A Refusal → Type 0) → (A → Result B Refusal → Type 0) → Result B Refusal → Type 0
 Then {A} First Next result =
     ((e : Refusal) × First (Err e) × (result ≡ Err e)) ⊎ ((a : A) × First (Ok a) × Next a result)
 
--- the date of a record: that of its first row, and without one the information is not enough
+-- the date of a record: that of its first row; without a row the information is insufficient
 unfoldable pub IsDated : ℕ → Record → Result Date Refusal → Type 0
 IsDated Y r result =
     MatchOption (first_row r) (result ≡ Err insufficient) (λ row. IsRowDate Y row result)
 
--- the hour of the day from the hour of a half day: 12 comes before 1
+-- the hour of the day from the hour of a half day, where 12 comes before 1
 abbrev pub hour_of_half : Option ℕ → Option Bool → Option ℕ
 hour_of_half (Some h) (Some is_pm) = Some (if is_pm then h % 12 + 12 else h % 12)
 hour_of_half (Some h) None = None
@@ -54,7 +55,7 @@ pub record Clock : Type 0 where
   pub second : ℕ
   pub nanosecond : ℕ
 
--- the numbers below an hour: each but the first needs the one before it, and missing ones are 0
+-- a time of that hour: a second needs a minute, a subsecond a second, and what is missing is 0
 abbrev pub clock_at : ℕ → Option ℕ → Option ℕ → Option ℕ → Option Clock
 clock_at h None None None = Some (record { hour = h; minute = 0; second = 0; nanosecond = 0 })
 clock_at h (Some m) None None = Some (record { hour = h; minute = m; second = 0; nanosecond = 0 })
@@ -64,9 +65,9 @@ clock_at h m s n = None
 
 -- the hour of a record's time
 abbrev pub hour_of : Record → Option ℕ
-hour_of r = or_else r.hour_24 (hour_of_half r.hour_12 r.hour_12_is_pm)
+hour_of r = option_or r.hour_24 (hour_of_half r.hour_12 r.hour_12_is_pm)
 
--- the numbers of a record's time, where they are enough
+-- the numbers of a record's time, where they are sufficient
 abbrev pub clock_of : Record → Option Clock
 clock_of r = option_and_then (λ h. clock_at h r.minute r.second r.subsecond) (hour_of r)
 
@@ -76,29 +77,29 @@ IsTimed r result = MatchOption (clock_of r) (result ≡ Err insufficient)
     (λ c. Gives (time_refusal c.hour c.minute c.second c.nanosecond)
     (HasClock c.hour c.minute c.second c.nanosecond) result)
 
--- a part of an offset as its getter answers it, or 0
+-- a part of an offset, with the sign that its getter gives it, or 0
 abbrev pub offset_part : Record → Option ℤ → ℤ
 offset_part r part = unwrap_or (option_map (signed_by r.offset_is_negative) part) (pos 0)
 
--- the seconds of an offset, which count only below minutes
+-- the seconds of an offset, which count only where its minutes are known
 abbrev pub offset_seconds_of : Record → ℤ
 offset_seconds_of r = option_map_or (λ _. offset_part r r.offset_second) r.offset_minute (pos 0)
 
--- the offset of a record, or without its hour what `Missing` says
+-- the offset of a record; without an hour, `Missing` says what it is
 abbrev pub IsOffsetOr : (Result UtcOffset Refusal → Type 0) → Record → Result UtcOffset Refusal → Type 0
 IsOffsetOr Missing r result = MatchOption r.offset_hour (Missing result)
     (λ h. let m = offset_part r r.offset_minute in let s = offset_seconds_of r in
     Gives (offset_refusal h m s) (HasOffset h m s) result)
 
--- the offset of a record, whose hour is needed
+-- the offset of a record; without an hour the information is insufficient
 unfoldable pub IsOffset : Record → Result UtcOffset Refusal → Type 0
 IsOffset r = IsOffsetOr (λ result. result ≡ Err insufficient) r
 
--- the offset of a record, which is UTC without an hour
+-- the same; without an hour it is UTC
 unfoldable pub IsOffsetOrUtc : Record → Result UtcOffset Refusal → Type 0
 IsOffsetOrUtc r = IsOffsetOr (λ result. IsOkAnd result IsUtc) r
 
--- the date and the time of a record, the date's refusal first
+-- the date and the time of a record, and where both are refused the date's refusal
 unfoldable pub IsPlain : ℕ → Record → Result PlainDateTime Refusal → Type 0
 IsPlain Y r = Then (IsDated Y r) (λ d. Then (IsTimed r)
     (λ t result. IsOkAnd result (λ p. (plain_date p ≡ d) × (plain_time p ≡ t))))
@@ -118,12 +119,12 @@ abbrev pub stand_in : Record → Record
 stand_in r =
     if is_leap_second r then record r { second = Some 59; subsecond = Some 999_999_999 } else r
 
--- a value with P, or where a leap second stood that is at no month's end its refusal
+-- a value with P; or, where a leap second stands elsewhere than at a month's end, its refusal
 abbrev pub Judged : {V : Type 0} → Bool → Type 0 → (V → Type 0) → Result V Refusal → Type 0
 Judged leap AtEnd P (Ok v) = P v × (IsTrue leap → AtEnd)
 Judged leap AtEnd P (Err e) = IsTrue leap × (AtEnd → ⊥) × (e ≡ range (codes "second") true)
 
--- the parts of a moment with its offset: date, time and offset, each one's refusal in that order
+-- the moment of a date, a time and an offset, with their refusals in that order
 unfoldable pub IsMomentOfParts : ℕ → Record → Result OffsetDateTime Refusal → Type 0
 IsMomentOfParts Y r = Then (IsDated Y r) (λ d. Then (IsTimed (stand_in r)) (λ t. Then (IsOffset r)
     (λ o. Judged (is_leap_second r) (IsLeapSecondMoment Y (instant Y d t o))
@@ -132,14 +133,15 @@ IsMomentOfParts Y r = Then (IsDated Y r) (λ d. Then (IsTimed (stand_in r)) (λ 
 -- the moment of a record with its offset: that of its timestamp, in UTC, or else of its parts
 unfoldable pub IsMoment : ℕ → Record → Result OffsetDateTime Refusal → Type 0
 IsMoment Y r result = MatchOption r.unix_timestamp_nanos (IsMomentOfParts Y r result)
-    (λ n. IsOkAnd result (λ v. IsStamped Y n r.subsecond (offset_date v) (offset_time v) × IsUtc (offset_of v)))
+    (λ n. IsOkAnd result
+    (λ v. IsStamped Y n r.subsecond (offset_date v) (offset_time v) × IsUtc (offset_of v)))
 
--- the date and time in UTC of an instant, whose range is that of the dates
+-- the date and time in UTC of an instant, refused where it is beyond the dates
 abbrev pub IsInUtc : ℕ → ℤ → Result UtcDateTime Refusal → Type 0
 IsInUtc Y n (Ok u) = utc_instant Y u ≡ n
 IsInUtc Y n (Err e) = (IsInstant Y n → ⊥) × (e ≡ range (codes "year") true)
 
--- the parts of a moment in UTC: as with an offset, and then the moment's own refusal
+-- the moment in UTC of a date, a time and an offset, with their refusals and then its own
 unfoldable pub IsUtcMomentOfParts : ℕ → Record → Result UtcDateTime Refusal → Type 0
 IsUtcMomentOfParts Y r = Then (IsDated Y r) (λ d. Then (IsTimed (stand_in r)) (λ t. Then (IsOffsetOrUtc r)
     (λ o. Then (IsInUtc Y (instant Y d t o))
@@ -151,7 +153,7 @@ unfoldable pub IsUtcMoment : ℕ → Record → Result UtcDateTime Refusal → T
 IsUtcMoment Y r result = MatchOption r.unix_timestamp_nanos (IsUtcMomentOfParts Y r result)
     (λ n. IsOkAnd result (λ v. IsStamped Y n r.subsecond (utc_date v) (utc_time v)))
 
--- the instant of the moment in UTC, where each refusal says that the information is not enough
+-- the instant of that moment in UTC; each of its refusals says that the information is insufficient
 unfoldable pub IsInstantOfParts : ℕ → Record → Result Timestamp Refusal → Type 0
 IsInstantOfParts Y r (Ok v) =
     (u : UtcDateTime) × IsUtcMomentOfParts Y r (Ok u) × (nanoseconds v ≡ utc_instant Y u)

@@ -1,5 +1,6 @@
 -- The date that a record's components give. `Y` is the greatest year.
 use Rattle.std.specs.Prelude.{◌≡◌, ℕ, ℤ, pos, ◌+ℤ◌, ◌-ℤ◌, ◌*ℤ◌, Bool, true, false, if◌then◌else◌, Option, Some, None, Result, MatchResult, codes}
+use Rattle.std.specs.Option.{option_or}
 use Rattle.time_values.specs.declared.date.Date.{Date}
 use Rattle.time_values.specs.declared.month.Month.{Month}
 use Rattle.time_values.specs.declared.weekday.Weekday.{Weekday}
@@ -11,7 +12,7 @@ use Rattle.time_values.specs.Refusal.{Refusal, range}
 use Rattle.time_values.specs.Weekday.{days_from_monday}
 use Rattle.time_record.specs.Record.{Record}
 
--- a year, or where there is none that of a century and its two last digits, which lead away from 0
+-- the year; or, where it is missing, that of a century and its last two digits, which count away from 0
 abbrev pub year_of : Option ℤ → Option ℤ → Bool → Option ℕ → Option ℤ
 year_of (Some y) century is_negative last_two = Some y
 year_of None (Some c) true (Some n) = Some (pos 100 *ℤ c -ℤ pos n)
@@ -28,8 +29,8 @@ abbrev pub full_iso_year : Record → Option ℤ
 full_iso_year r =
     year_of r.iso_year r.iso_year_century r.iso_year_century_is_negative r.iso_year_last_two
 
--- the numbers that name one day: a year with a place in it; a year, month and day; or a year, a
--- week of ISO 8601, of Sundays or of Mondays, and a weekday
+-- numbers that name one day: a year and the day's number in it; a year, month and day; or a year,
+-- a week, as ISO 8601 counts them or from Sundays or Mondays, and a weekday
 pub data Row : Type 0 where
   by_ordinal : ℤ → ℕ → Row
   by_month_and_day : ℤ → Month → ℕ → Row
@@ -37,40 +38,36 @@ pub data Row : Type 0 where
   by_sunday_week : ℤ → ℕ → Weekday → Row
   by_monday_week : ℤ → ℕ → Weekday → Row
 
--- a row of two numbers, where both are there
+-- a row of two numbers, where both are known
 abbrev pub row_of_two : {A B : Type 0} → (A → B → Row) → Option A → Option B → Option Row
 row_of_two row (Some a) (Some b) = Some (row a b)
 row_of_two row (Some a) None = None
 row_of_two row None b = None
 
 -- and of three
-abbrev pub row_of_three : {A B C : Type 0} → (A → B → C → Row) → Option A → Option B → Option C → Option Row
+abbrev pub row_of_three :
+    {A B C : Type 0} → (A → B → C → Row) → Option A → Option B → Option C → Option Row
 row_of_three row (Some a) (Some b) (Some c) = Some (row a b c)
 row_of_three row (Some a) (Some b) None = None
 row_of_three row (Some a) None c = None
 row_of_three row None b c = None
 
--- the first value, where it is there, and else the second
-abbrev pub or_else : {A : Type 0} → Option A → Option A → Option A
-or_else (Some a) b = Some a
-or_else None b = b
-
--- the first of the five rows that is wholly there
+-- the first of the five rows whose numbers are all known
 abbrev pub first_row : Record → Option Row
 first_row r =
-    or_else (row_of_two by_ordinal (full_year r) r.ordinal)
-    (or_else (row_of_three by_month_and_day (full_year r) r.month r.day)
-    (or_else (row_of_three by_iso_week (full_iso_year r) r.iso_week_number r.weekday)
-    (or_else (row_of_three by_sunday_week (full_year r) r.sunday_week_number r.weekday)
+    option_or (row_of_two by_ordinal (full_year r) r.ordinal)
+    (option_or (row_of_three by_month_and_day (full_year r) r.month r.day)
+    (option_or (row_of_three by_iso_week (full_iso_year r) r.iso_week_number r.weekday)
+    (option_or (row_of_three by_sunday_week (full_year r) r.sunday_week_number r.weekday)
     (row_of_three by_monday_week (full_year r) r.monday_week_number r.weekday))))
 
--- the day of that year with that number of the week and that weekday, where weeks begin on the
--- weekday `start` and those before the first full one have the number 0
+-- the date lies in that year and week and has that weekday, where weeks begin on the weekday
+-- `start`, and the days before the first such weekday are week 0
 abbrev pub IsWeekDate : ℕ → ℕ → ℤ → ℕ → ℕ → Date → Type 0
 IsWeekDate Y start year week w d =
     (Dates.year d ≡ year) × (weekdays_so_far Y start d ≡ week) × (weekday Y d ≡ w)
 
--- the date is the one that the row names: its getters answer those numbers
+-- the date has the numbers of the row
 abbrev pub HasRow : ℕ → Row → Date → Type 0
 HasRow Y (by_ordinal year n) d = (Dates.year d ≡ year) × (ordinal d ≡ n)
 HasRow Y (by_month_and_day year month day) d = HasParts year month day d
@@ -78,7 +75,7 @@ HasRow Y (by_iso_week year week w) d = IsIsoDate Y year week (days_from_monday w
 HasRow Y (by_sunday_week year week w) d = IsWeekDate Y 6 year week (days_from_monday w) d
 HasRow Y (by_monday_week year week w) d = IsWeekDate Y 0 year week (days_from_monday w) d
 
--- which of the numbers is refused where no date is that of the row
+-- the refusal where no date has the numbers of the row
 abbrev pub row_refusal : ℕ → Row → Refusal
 row_refusal Y (by_ordinal year n) = range (codes "ordinal") true
 row_refusal Y (by_month_and_day year month day) = range (codes "day") true

@@ -66,7 +66,8 @@ unfolding Reads IsFault
 refuses_literal Y t b r h = record { unread = λ x q k. h x k.0; fault = refl }
 
 -- a component that does not read
-pub refuses_component : (Y : ℕ) (w : Bool) (c : Component) (b : List ℕ) (r : Record) (e : Refusal) → NoReading Y (component w c) b r → e ≡ component_fault c → Refuses Y (component w c) b r e
+pub refuses_component : (Y : ℕ) (w : Bool) (c : Component) (b : List ℕ) (r : Record) (e : Refusal) →
+    NoReading Y (component w c) b r → e ≡ component_fault c → Refuses Y (component w c) b r e
 unfolding IsFault
 refuses_component Y w c b r e h is = record { unread = h; fault = is }
 
@@ -75,34 +76,48 @@ Spells-part : (c : Component) (text rest : List ℕ) (v : Value) → Spells true
 Spells-part (Ignore m) text rest v s = (s.0, s.1, tt)
 Spells-part c text rest v s = s
 
-Spells-whole : (c : Component) → ((m : Ignore') → c ≢ Ignore m) → (text rest : List ℕ) (v : Value) → Spells false c text rest v → Spells true c text rest v
+Spells-whole : (c : Component) → ((m : Ignore') → c ≢ Ignore m) → (text rest : List ℕ) (v : Value) →
+    Spells false c text rest v → Spells true c text rest v
 Spells-whole (Ignore m) n text rest v s = absurd (n m refl)
 Spells-whole c n text rest v s = s
 
 -- any component but an `Ignore` answers the same between characters
-pub Answers-whole : (Y : ℕ) (c : Component) (b : List ℕ) (r : Record) (result : Result (Bor (List ℕ)) ParseFromDescription) (q : Record) → ((m : Ignore') → c ≢ Ignore m) → Answers Y (component false c) b r result q → Answers Y (component true c) b r result q
+pub Answers-whole : (Y : ℕ) (c : Component) (b : List ℕ) (r : Record) (result : Result (Bor (List ℕ)) ParseFromDescription)
+    (q : Record) → ((m : Ignore') → c ≢ Ignore m) → Answers Y (component false c) b r result q →
+    Answers Y (component true c) b r result q
 unfolding Reads IsFault
-Answers-whole Y c b r (Ok rest) q n h = record { text = h.text; value = h.value; cut = h.cut; spells = Spells-whole c n h.text rest.now h.value h.spells; puts = h.puts }
+Answers-whole Y c b r (Ok rest) q n h = record {
+  text = h.text;
+  value = h.value;
+  cut = h.cut;
+  spells = Spells-whole c n h.text rest.now h.value h.spells;
+  puts = h.puts;
+}
 Answers-whole Y c b r (Err e) q n h = (
   record {
-    unread = λ x p k. h.0.unread x p (record { text = k.text; value = k.value; cut = k.cut; spells = Spells-part c k.text x k.value k.spells; puts = k.puts });
+    unread = λ x p k.
+        let spells = Spells-part c k.text x k.value k.spells in
+        h.0.unread x p (record { text = k.text; value = k.value; cut = k.cut; spells = spells; puts = k.puts });
     fault = h.0.fault;
   },
   h.1,
 )
 
 -- an `Ignore` between characters
-pub reads_whole_ignore : (Y : ℕ) (m : Ignore') (b x : List ℕ) (r : Record) → Cut (Spells false (Ignore m)) b x nothing → BeginsCharacter x → Reads Y (component true (Ignore m)) b r x r
+pub reads_whole_ignore : (Y : ℕ) (m : Ignore') (b x : List ℕ) (r : Record) →
+    Cut (Spells false (Ignore m)) b x nothing → BeginsCharacter x → Reads Y (component true (Ignore m)) b r x r
 unfolding Reads
 reads_whole_ignore Y m b x r cut h = record { text = cut.0; value = nothing; cut = cut.1; spells = (refl, cut.2.1, h); puts = refl }
 
 -- one that does not read
-pub unread_whole_ignore : (Y : ℕ) (m : Ignore') (b : List ℕ) (r : Record) → NoCut (Spells false (Ignore m)) b → NoReading Y (component true (Ignore m)) b r
+pub unread_whole_ignore : (Y : ℕ) (m : Ignore') (b : List ℕ) (r : Record) →
+    NoCut (Spells false (Ignore m)) b → NoReading Y (component true (Ignore m)) b r
 unfolding Reads
 unread_whole_ignore Y m b r h = λ x q k. h k.text x k.value k.cut (Spells-part (Ignore m) k.text x k.value k.spells)
 
 -- and one that ends inside a character
-pub unread_inside : (Y : ℕ) (m : Ignore') (b x : List ℕ) (r : Record) → Cut (Spells false (Ignore m)) b x nothing → (BeginsCharacter x → ⊥) → NoReading Y (component true (Ignore m)) b r
+pub unread_inside : (Y : ℕ) (m : Ignore') (b x : List ℕ) (r : Record) →
+    Cut (Spells false (Ignore m)) b x nothing → (BeginsCharacter x → ⊥) → NoReading Y (component true (Ignore m)) b r
 unfolding Reads
 unread_inside Y m b x r cut h = λ y q k.
     let is = Spells-unique false (Ignore m) k.text cut.0 y x k.value nothing (Spells-part (Ignore m) k.text y k.value k.spells) cut.2 (sym k.cut ∙ cut.1) in

@@ -17,7 +17,7 @@ use Rattle.time_values.specs.Weekday.{days_from_monday}
 use Rattle.time_values.proofs.InstantLemmas.{clock_nanos_range}
 use Rattle.time_values.proofs.SameLemmas.{same_date_by_iso_week, same_date_by_ordinal, same_date_by_parts, same_date_by_week, same_moment, same_offset, same_offset_by_parts, same_time_by_clock, same_timestamp}
 use Rattle.time_record.specs.Record.{Record}
-use Rattle.time_record.specs.Resolution.{Gives, IsDated, IsInUtc, IsInstantOfParts, IsMoment, IsMomentOfParts, IsOffset, IsOffsetOr, IsOffsetOrUtc, IsPlain, IsStamped, IsTimed, IsTimestamp, IsUtcMoment, IsUtcMomentOfParts, Judged, Then, clock_of, is_leap_second, offset_part, offset_seconds_of, stand_in}
+use Rattle.time_record.specs.Resolution.{Gives, IsDated, IsInUtc, IsInstantOfParts, IsMoment, IsMomentOfParts, IsOffset, IsOffsetOr, IsOffsetOrUtc, IsPlain, IsStamped, IsTimed, IsTimestamp, IsUtcMoment, IsUtcMomentOfParts, Judged, Then, Clock, clock_of, is_leap_second, offset_part, offset_seconds_of, stand_in}
 use Rattle.time_record.specs.Rows.{HasRow, IsRowDate, Row, by_iso_week, by_monday_week, by_month_and_day, by_ordinal, by_sunday_week, first_row}
 
 -- at most one value has the property
@@ -34,7 +34,8 @@ Ok-Err : {A : Type 0} (a : A) (e : Refusal) → ◌≡◌ {A = Result A Refusal}
 Ok-Err a e h = cc
 
 -- steps that each have one answer have one answer together
-pub Then-one : {A B : Type 0} (First : Result A Refusal → Type 0) (Next : A → Result B Refusal → Type 0) → IsOne First → ((a : A) → IsOne (Next a)) → IsOne (Then First Next)
+Then-one : {A B : Type 0} (First : Result A Refusal → Type 0) (Next : A → Result B Refusal → Type 0) →
+    IsOne First → ((a : A) → IsOne (Next a)) → IsOne (Then First Next)
 Then-one First Next one each r s (inl h) (inl k) = h.2 ∙ ap Err (same_Err h.0 k.0 (one (Err h.0) (Err k.0) h.1 k.1)) ∙ sym k.2
 Then-one First Next one each r s (inl h) (inr k) = absurd (Ok-Err k.0 h.0 (one (Ok k.0) (Err h.0) k.1 h.1))
 Then-one First Next one each r s (inr h) (inl k) = absurd (Ok-Err h.0 k.0 (one (Ok h.0) (Err k.0) h.1 k.1))
@@ -43,7 +44,7 @@ Then-one First Next one each r s (inr h) (inr k) =
     each k.0 r s (subst (λ a. Next a r) same h.2) k.2
 
 -- an answer with one value has one answer
-pub Gives-one : {V : Type 0} (o : Option Refusal) (P : V → Type 0) → IsOne P → IsOne (Gives o P)
+Gives-one : {V : Type 0} (o : Option Refusal) (P : V → Type 0) → IsOne P → IsOne (Gives o P)
 Gives-one None P one (Ok v) (Ok w) h k = ap Ok (one v w h k)
 Gives-one None P one (Ok v) (Err f) h k = absurd k
 Gives-one None P one (Err e) s h k = absurd h
@@ -52,18 +53,19 @@ Gives-one (Some r) P one (Err e) (Ok w) h k = absurd k
 Gives-one (Some r) P one (Err e) (Err f) h k = ap Err (h ∙ sym k)
 
 -- and so has an answer by an option
-pub MatchOption-one : {X V : Type 0} (o : Option X) (P : Result V Refusal → Type 0) (Q : X → Result V Refusal → Type 0) → IsOne P → ((x : X) → IsOne (Q x)) → IsOne (λ r. MatchOption o (P r) (λ x. Q x r))
+MatchOption-one : {X V : Type 0} (o : Option X) (P : Result V Refusal → Type 0) (Q : X → Result V Refusal → Type 0) →
+    IsOne P → ((x : X) → IsOne (Q x)) → IsOne (λ r. MatchOption o (P r) (λ x. Q x r))
 MatchOption-one None P Q one each r s h k = one r s h k
 MatchOption-one (Some x) P Q one each r s h k = each x r s h k
 
 -- a value of which there is one
-pub IsOkAnd-one : {V : Type 0} (P : V → Type 0) → IsOne P → IsOne (λ (r : Result V Refusal). IsOkAnd r P)
+IsOkAnd-one : {V : Type 0} (P : V → Type 0) → IsOne P → IsOne (λ (r : Result V Refusal). IsOkAnd r P)
 IsOkAnd-one P one (Ok v) (Ok w) h k = ap Ok (one v w h k)
 IsOkAnd-one P one (Ok v) (Err f) h k = absurd k
 IsOkAnd-one P one (Err e) s h k = absurd h
 
 -- one answer that is named
-pub IsThat-one : {V : Type 0} (that : Result V Refusal) → IsOne (λ r. r ≡ that)
+IsThat-one : {V : Type 0} (that : Result V Refusal) → IsOne (λ r. r ≡ that)
 IsThat-one that r s h k = h ∙ sym k
 
 -- a row names one date
@@ -91,8 +93,10 @@ IsDated-one r = MatchOption-one (first_row r) (λ s. s ≡ Err insufficient) (Is
 pub IsTimed-one : (r : Record) → IsOne (IsTimed r)
 unfolding IsTimed
 IsTimed-one r =
-    MatchOption-one (clock_of r) (λ s. s ≡ Err insufficient) (λ c. Gives (time_refusal c.hour c.minute c.second c.nanosecond) (HasClock c.hour c.minute c.second c.nanosecond)) (IsThat-one (Err insufficient))
-    (λ c. Gives-one (time_refusal c.hour c.minute c.second c.nanosecond) (HasClock c.hour c.minute c.second c.nanosecond) (same_time_by_clock c.hour c.minute c.second c.nanosecond))
+    let refused = λ (c : Clock). time_refusal c.hour c.minute c.second c.nanosecond in
+    let Shows = λ (c : Clock). HasClock c.hour c.minute c.second c.nanosecond in
+    MatchOption-one (clock_of r) (λ s. s ≡ Err insufficient) (λ c. Gives (refused c) (Shows c)) (IsThat-one (Err insufficient))
+    (λ c. Gives-one (refused c) (Shows c) (same_time_by_clock c.hour c.minute c.second c.nanosecond))
 
 IsOffsetOr-one : (Missing : Result UtcOffset Refusal → Type 0) (r : Record) → IsOne Missing → IsOne (IsOffsetOr Missing r)
 IsOffsetOr-one Missing r one =
@@ -108,7 +112,7 @@ IsOffset-one r = IsOffsetOr-one (λ s. s ≡ Err insufficient) r (IsThat-one (Er
 IsUtc-one : IsOne IsUtc
 IsUtc-one a b h k = same_offset_by_parts a b (h.0 ∙ sym k.0) (h.1 ∙ sym k.1) (h.2 ∙ sym k.2)
 
-pub IsOffsetOrUtc-one : (r : Record) → IsOne (IsOffsetOrUtc r)
+IsOffsetOrUtc-one : (r : Record) → IsOne (IsOffsetOrUtc r)
 unfolding IsOffsetOrUtc
 IsOffsetOrUtc-one r = IsOffsetOr-one (λ s. IsOkAnd s IsUtc) r (IsOkAnd-one IsUtc IsUtc-one)
 
@@ -116,10 +120,10 @@ IsOffsetOrUtc-one r = IsOffsetOr-one (λ s. IsOkAnd s IsUtc) r (IsOkAnd-one IsUt
 same_plain : (a b : PlainDateTime) → a.date ≡ b.date → a.time ≡ b.time → a ≡ b
 same_plain a b d t = λ i. record { date = d i; time = t i }
 
-pub same_utc : (a b : UtcDateTime) → a.date ≡ b.date → a.time ≡ b.time → a ≡ b
+same_utc : (a b : UtcDateTime) → a.date ≡ b.date → a.time ≡ b.time → a ≡ b
 same_utc a b d t = λ i. record { date = d i; time = t i }
 
-pub same_zoned : (a b : OffsetDateTime) → a.date ≡ b.date → a.time ≡ b.time → a.offset ≡ b.offset → a ≡ b
+same_zoned : (a b : OffsetDateTime) → a.date ≡ b.date → a.time ≡ b.time → a.offset ≡ b.offset → a ≡ b
 same_zoned a b d t o = λ i. record { date = d i; time = t i; offset = o i }
 
 pub IsPlain-one : (r : Record) → IsOne (IsPlain greatest_year r)
@@ -131,14 +135,15 @@ IsPlain-one r =
     (λ a b h k. same_plain a b (h.0 ∙ sym k.0) (h.1 ∙ sym k.1))))
 
 -- a timestamp with a nanosecond is one date and time
-pub IsStamped-one : (n : ℤ) (k : Option ℕ) (a b : Date) (s t : Time) → IsStamped greatest_year n k a s → IsStamped greatest_year n k b t → (a ≡ b) × (s ≡ t)
+IsStamped-one : (n : ℤ) (k : Option ℕ) (a b : Date) (s t : Time) →
+    IsStamped greatest_year n k a s → IsStamped greatest_year n k b t → (a ≡ b) × (s ≡ t)
 IsStamped-one n k a b s t g h =
     let same = same_moment a b g.0 h.0 (g.1 ∙ sym h.1) in
     let clock = subst (λ (x : Time). HasClock x.hour x.minute x.second (unwrap_or k x.nanosecond) s) same.1 g.2 in
     (same.0, same_time_by_clock h.0.hour h.0.minute h.0.second (unwrap_or k h.0.nanosecond) s t clock h.2)
 
 -- a value that a leap second may refuse
-pub Judged-one : {V : Type 0} (leap : Bool) (AtEnd : Type 0) (P : V → Type 0) → IsOne P → IsOne (Judged leap AtEnd P)
+Judged-one : {V : Type 0} (leap : Bool) (AtEnd : Type 0) (P : V → Type 0) → IsOne P → IsOne (Judged leap AtEnd P)
 Judged-one leap AtEnd P one (Ok v) (Ok w) h k = ap Ok (one v w h.0 k.0)
 Judged-one leap AtEnd P one (Ok v) (Err f) h k = absurd (k.1 (h.1 k.0))
 Judged-one leap AtEnd P one (Err e) (Ok w) h k = absurd (h.1 (k.1 h.0))
@@ -150,18 +155,22 @@ IsMomentOfParts-one r =
     Then-one (IsDated greatest_year r) _ (IsDated-one r)
     (λ d. Then-one (IsTimed (stand_in r)) _ (IsTimed-one (stand_in r))
     (λ t. Then-one (IsOffset r) _ (IsOffset-one r)
-    (λ o. Judged-one (is_leap_second r) (IsLeapSecondMoment greatest_year (instant greatest_year d t o)) (λ (v : OffsetDateTime). (v.date ≡ d) × (v.time ≡ t) × (v.offset ≡ o))
+    (λ o. Judged-one (is_leap_second r) (IsLeapSecondMoment greatest_year (instant greatest_year d t o))
+    (λ (v : OffsetDateTime). (v.date ≡ d) × (v.time ≡ t) × (v.offset ≡ o))
     (λ a b h k. same_zoned a b (h.0 ∙ sym k.0) (h.1 ∙ sym k.1) (h.2 ∙ sym k.2)))))
 
 pub IsMoment-one : (r : Record) → IsOne (IsMoment greatest_year r)
 unfolding IsMoment
 IsMoment-one r =
-    MatchOption-one r.unix_timestamp_nanos (IsMomentOfParts greatest_year r) (λ n s. IsOkAnd s (λ v. IsStamped greatest_year n r.subsecond v.date v.time × IsUtc v.offset)) (IsMomentOfParts-one r)
-    (λ n. IsOkAnd-one (λ (v : OffsetDateTime). IsStamped greatest_year n r.subsecond v.date v.time × IsUtc v.offset)
-    (λ a b h k. let same = IsStamped-one n r.subsecond a.date b.date a.time b.time h.0 k.0 in same_zoned a b same.0 same.1 (IsUtc-one a.offset b.offset h.1 k.1)))
+    let At = λ (n : ℤ) (v : OffsetDateTime). IsStamped greatest_year n r.subsecond v.date v.time × IsUtc v.offset in
+    MatchOption-one r.unix_timestamp_nanos (IsMomentOfParts greatest_year r) (λ n s. IsOkAnd s (At n)) (IsMomentOfParts-one r)
+    (λ n. IsOkAnd-one (At n)
+    (λ a b h k.
+        let same = IsStamped-one n r.subsecond a.date b.date a.time b.time h.0 k.0 in
+        same_zoned a b same.0 same.1 (IsUtc-one a.offset b.offset h.1 k.1)))
 
 -- an instant has one date and time in UTC, or none
-pub IsInUtc-one : (n : ℤ) → IsOne (IsInUtc greatest_year n)
+IsInUtc-one : (n : ℤ) → IsOne (IsInUtc greatest_year n)
 IsInUtc-one n (Ok a) (Ok b) h k =
     let same = same_moment a.date b.date a.time b.time (h ∙ sym k) in ap Ok (same_utc a b same.0 same.1)
 IsInUtc-one n (Ok a) (Err f) h k = absurd (k.0 (subst (IsInstant greatest_year) h (clock_nanos_range a.date a.time)))
@@ -181,8 +190,9 @@ IsUtcMomentOfParts-one r =
 pub IsUtcMoment-one : (r : Record) → IsOne (IsUtcMoment greatest_year r)
 unfolding IsUtcMoment
 IsUtcMoment-one r =
-    MatchOption-one r.unix_timestamp_nanos (IsUtcMomentOfParts greatest_year r) (λ n s. IsOkAnd s (λ v. IsStamped greatest_year n r.subsecond v.date v.time)) (IsUtcMomentOfParts-one r)
-    (λ n. IsOkAnd-one (λ (v : UtcDateTime). IsStamped greatest_year n r.subsecond v.date v.time)
+    let At = λ (n : ℤ) (v : UtcDateTime). IsStamped greatest_year n r.subsecond v.date v.time in
+    MatchOption-one r.unix_timestamp_nanos (IsUtcMomentOfParts greatest_year r) (λ n s. IsOkAnd s (At n)) (IsUtcMomentOfParts-one r)
+    (λ n. IsOkAnd-one (At n)
     (λ a b h k. let same = IsStamped-one n r.subsecond a.date b.date a.time b.time h k in same_utc a b same.0 same.1))
 
 IsInstantOfParts-one : (r : Record) → IsOne (IsInstantOfParts greatest_year r)

@@ -16,7 +16,8 @@ pub IsStamped-none : (n : ℤ) (d : Date) (t : Time) → clock_nanos greatest_ye
 IsStamped-none n d t e = (t, e, (refl, refl, refl, refl))
 
 -- and with another nanosecond in its second
-pub IsStamped-some : (n : ℤ) (k : ℕ) (from d : Date) (t time : Time) → clock_nanos greatest_year from t ≡ n → d ≡ from → HasClock t.hour t.minute t.second k time → IsStamped greatest_year n (Some k) d time
+pub IsStamped-some : (n : ℤ) (k : ℕ) (from d : Date) (t time : Time) → clock_nanos greatest_year from t ≡ n → d ≡ from →
+    HasClock t.hour t.minute t.second k time → IsStamped greatest_year n (Some k) d time
 IsStamped-some n k from d t time e same h = (t, ap (λ x. clock_nanos greatest_year x t) same ∙ e, h)
 
 -- without an offset a clock shows UTC

@@ -4,8 +4,9 @@ use Rattle.time_values.specs.Refusal.{Refusal}
 use Rattle.time_readers.specs.declared.format_description.Component.{Component}
 use Rattle.time_readers.specs.Tree.{Tree, Trees, literal, component, sequence, optional, first_of, none, more}
 use Rattle.time_record.specs.Components.{put_value}
-use Rattle.time_record.specs.Reading.{ReadsComponent, Reads, ReadsAll, ReadsSome, IsFault, IsFaultAll, Refuses, RefusesAll}
+use Rattle.time_record.specs.Reading.{ReadsComponent, Reads, ReadsAll, ReadsSome, IsFault, IsFaultAll, Refuses}
 use Rattle.time_record.specs.Record.{Record}
+use Rattle.time_record.specs.Laws.{HasAtMostOne}
 use Rattle.time_readers.proofs.OneSpelling.{Spells-unique}
 
 same_rest : (t x y : List ℕ) → t ++ x ≡ t ++ y → x ≡ y
@@ -13,7 +14,7 @@ same_rest [] x y e = e
 same_rest (c ∷ t) x y e = let e' : t ++ x ≡ t ++ y = cc in same_rest t x y e'
 
 module _ (Y : ℕ) where
-  ReadsComponent-unique : (w : Bool) (c : Component) (b : List ℕ) (r : Record) (x : List ℕ) (q : Record) (y : List ℕ) (p : Record) → ReadsComponent Y w c b r x q → ReadsComponent Y w c b r y p → (x ≡ y) × (q ≡ p)
+  ReadsComponent-unique : (w : Bool) (c : Component) (b : List ℕ) (r : Record) → HasAtMostOne (ReadsComponent Y w c b r)
   ReadsComponent-unique w c b r x q y p h k =
       let is = Spells-unique w c h.text k.text x y h.value k.value h.spells k.spells (sym h.cut ∙ k.cut) in
       let some : Some q ≡ Some p = sym h.puts ∙ ap (λ v. put_value Y c v r) is.1 ∙ k.puts in
@@ -22,7 +23,7 @@ module _ (Y : ℕ) where
   mutual
     unfolding Reads ReadsAll ReadsSome
 
-    pub Reads-unique : (t : Tree) (b : List ℕ) (r : Record) (x : List ℕ) (q : Record) (y : List ℕ) (p : Record) → Reads Y t b r x q → Reads Y t b r y p → (x ≡ y) × (q ≡ p)
+    pub Reads-unique : (t : Tree) (b : List ℕ) (r : Record) → HasAtMostOne (Reads Y t b r)
     Reads-unique (literal t) b r x q y p h k = (same_rest t x y (sym h.0 ∙ k.0), h.1 ∙ sym k.1)
     Reads-unique (component w c) b r x q y p h k = ReadsComponent-unique w c b r x q y p h k
     Reads-unique (sequence ts) b r x q y p h k = ReadsAll-unique ts b r x q y p h k
@@ -31,19 +32,16 @@ module _ (Y : ℕ) where
     Reads-unique (optional t) b r x q y p (inr h) (inl k) = absurd (h.0 y p k)
     Reads-unique (optional t) b r x q y p (inr h) (inr k) = (h.1 ∙ sym k.1, h.2 ∙ sym k.2)
     Reads-unique (first_of none) b r x q y p h k = (h.0 ∙ sym k.0, h.1 ∙ sym k.1)
-    Reads-unique (first_of (more t ts)) b r x q y p (inl h) (inl k) = Reads-unique t b r x q y p h k
-    Reads-unique (first_of (more t ts)) b r x q y p (inl h) (inr k) = absurd (k.0 x q h)
-    Reads-unique (first_of (more t ts)) b r x q y p (inr h) (inl k) = absurd (h.0 y p k)
-    Reads-unique (first_of (more t ts)) b r x q y p (inr h) (inr k) = ReadsSome-unique ts b r x q y p h.1 k.1
+    Reads-unique (first_of (more t ts)) b r x q y p h k = ReadsSome-unique (more t ts) b r x q y p h k
 
-    pub ReadsAll-unique : (ts : Trees) (b : List ℕ) (r : Record) (x : List ℕ) (q : Record) (y : List ℕ) (p : Record) → ReadsAll Y ts b r x q → ReadsAll Y ts b r y p → (x ≡ y) × (q ≡ p)
+    ReadsAll-unique : (ts : Trees) (b : List ℕ) (r : Record) → HasAtMostOne (ReadsAll Y ts b r)
     ReadsAll-unique none b r x q y p h k = (h.0 ∙ sym k.0, h.1 ∙ sym k.1)
     ReadsAll-unique (more t ts) b r x q y p (mid, m, h, hs) (mid', m', k, ks) =
         let is = Reads-unique t b r mid m mid' m' h k in
         let ks' = subst (λ m. ReadsAll Y ts mid m y p) (sym is.1) (subst (λ s. ReadsAll Y ts s m' y p) (sym is.0) ks) in
         ReadsAll-unique ts mid m x q y p hs ks'
 
-    pub ReadsSome-unique : (ts : Trees) (b : List ℕ) (r : Record) (x : List ℕ) (q : Record) (y : List ℕ) (p : Record) → ReadsSome Y ts b r x q → ReadsSome Y ts b r y p → (x ≡ y) × (q ≡ p)
+    ReadsSome-unique : (ts : Trees) (b : List ℕ) (r : Record) → HasAtMostOne (ReadsSome Y ts b r)
     ReadsSome-unique none b r x q y p h k = absurd h
     ReadsSome-unique (more t ts) b r x q y p (inl h) (inl k) = Reads-unique t b r x q y p h k
     ReadsSome-unique (more t ts) b r x q y p (inl h) (inr k) = absurd (k.0 x q h)
@@ -75,12 +73,6 @@ module _ (Y : ℕ) where
   pub Refuses-unique : (t : Tree) (b : List ℕ) (r : Record) (e f : Refusal) → Refuses Y t b r e → Refuses Y t b r f → e ≡ f
   Refuses-unique t b r e f h k = IsFault-unique t b r e f h.fault k.fault
 
-  pub RefusesAll-unique : (ts : Trees) (b : List ℕ) (r : Record) (e f : Refusal) → RefusesAll Y ts b r e → RefusesAll Y ts b r f → e ≡ f
-  RefusesAll-unique ts b r e f h k = IsFaultAll-unique ts b r e f h.fault k.fault
-
   -- where a reading is, nothing is refused
   pub Reads-unrefused : (t : Tree) (b : List ℕ) (r : Record) (x : List ℕ) (q : Record) (e : Refusal) → Reads Y t b r x q → Refuses Y t b r e → ⊥
   Reads-unrefused t b r x q e h k = k.unread x q h
-
-  pub ReadsAll-unrefused : (ts : Trees) (b : List ℕ) (r : Record) (x : List ℕ) (q : Record) (e : Refusal) → ReadsAll Y ts b r x q → RefusesAll Y ts b r e → ⊥
-  ReadsAll-unrefused ts b r x q e h k = k.unread x q h

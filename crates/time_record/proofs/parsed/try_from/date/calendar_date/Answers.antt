@@ -9,10 +9,12 @@ use Rattle.time_record.proofs.parsed.try_from.date.calendar_date.Goals as goal
 pub returns : goal.returns
 returns c =
     let fits : FitsSigned w32 c.args.year = c.ranges.year in
-    IsRowDate-month_and_day greatest_year c.args.year c.args.month (non_zero_u8_get c.args.day) (Ok c.in_ok-from_calendar_date.field-0) c.requires (simp (to_z-of_z, c.get.ensures.value) at c.in_ok-from_calendar_date.ensures)
+    let made = simp (to_z-of_z, c.get.ensures.value) at c.in_ok-from_calendar_date.ensures in
+    IsRowDate-month_and_day greatest_year c.args.year c.args.month (non_zero_u8_get c.args.day) (Ok c.in_ok-from_calendar_date.field-0) c.requires made
 
 pub returns-in_err-from_calendar_date : goal.returns-in_err-from_calendar_date
 returns-in_err-from_calendar_date c =
     let fits : FitsSigned w32 c.args.year = c.ranges.year in
     let p = err_from_is_err_and c.from_residual.result c.from_residual.ensures.1 in
-    rw (p.1, p.2) (IsRowDate-month_and_day greatest_year c.args.year c.args.month (non_zero_u8_get c.args.day) (Err c.in_err-from_calendar_date.field-0.0) c.requires (simp (to_z-of_z, c.get.ensures.value) at c.in_err-from_calendar_date.ensures))
+    let refused = simp (to_z-of_z, c.get.ensures.value) at c.in_err-from_calendar_date.ensures in
+    rw (p.1, p.2) (IsRowDate-month_and_day greatest_year c.args.year c.args.month (non_zero_u8_get c.args.day) (Err c.in_err-from_calendar_date.field-0.0) c.requires refused)

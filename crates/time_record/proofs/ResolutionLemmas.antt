@@ -1,5 +1,5 @@
 -- A record makes one value of each kind, or one refusal.
-use Rattle.std.proofs.Common.{◌≡◌, ℕ, ℤ, Bool, Option, Some, None, Result, Ok, Err, MatchOption, IsOkAnd, inl, inr, sym, ap, subst, ◌∙◌, arith}
+use Rattle.std.proofs.Common.{◌≡◌, ℕ, ℤ, Bool, Option, Some, None, Result, Ok, Err, MatchOption, IsOkAnd, ◌⊎◌, inl, inr, sym, ap, subst, ◌∙◌, arith}
 use Rattle.std.specs.Prelude.{unwrap_or}
 use Rattle.time_values.specs.declared.date.Date.{Date}
 use Rattle.time_values.specs.declared.offset_date_time.OffsetDateTime.{OffsetDateTime}
@@ -32,6 +32,10 @@ same_Err e f h = cc
 
 Ok-Err : {A : Type 0} (a : A) (e : Refusal) → ◌≡◌ {A = Result A Refusal} (Ok a) (Err e) → ⊥
 Ok-Err a e h = cc
+
+-- a step that gives a value, and what the next makes of it
+pub Then-next : {A Stops : Type 0} {Gives Next : A → Type 0} (a : A) → Gives a → Next a → Stops ⊎ ((a : A) × Gives a × Next a)
+Then-next a given next = inr (a, given, next)
 
 -- steps that each have one answer have one answer together
 Then-one : {A B : Type 0} (First : Result A Refusal → Type 0) (Next : A → Result B Refusal → Type 0) →
@@ -166,8 +170,8 @@ IsMoment-one r =
     MatchOption-one r.unix_timestamp_nanos (IsMomentOfParts greatest_year r) (λ n s. IsOkAnd s (At n)) (IsMomentOfParts-one r)
     (λ n. IsOkAnd-one (At n)
     (λ a b h k.
-        let same = IsStamped-one n r.subsecond a.date b.date a.time b.time h.0 k.0 in
-        same_zoned a b same.0 same.1 (IsUtc-one a.offset b.offset h.1 k.1)))
+    let same = IsStamped-one n r.subsecond a.date b.date a.time b.time h.0 k.0 in
+    same_zoned a b same.0 same.1 (IsUtc-one a.offset b.offset h.1 k.1)))
 
 -- an instant has one date and time in UTC, or none
 IsInUtc-one : (n : ℤ) → IsOne (IsInUtc greatest_year n)

@@ -17,4 +17,5 @@ returns-in_err-from_calendar_date c =
     let fits : FitsSigned w32 c.args.year = c.ranges.year in
     let p = err_from_is_err_and c.from_residual.result c.from_residual.ensures.1 in
     let refused = simp (to_z-of_z, c.get.ensures.value) at c.in_err-from_calendar_date.ensures in
-    rw (p.1, p.2) (IsRowDate-month_and_day greatest_year c.args.year c.args.month (non_zero_u8_get c.args.day) (Err c.in_err-from_calendar_date.field-0.0) c.requires refused)
+    let error = Err c.in_err-from_calendar_date.field-0.0 in
+    rw (p.1, p.2) (IsRowDate-month_and_day greatest_year c.args.year c.args.month (non_zero_u8_get c.args.day) error c.requires refused)

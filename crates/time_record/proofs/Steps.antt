@@ -4,8 +4,8 @@ use Rattle.std.specs.Option.{option_or}
 use Rattle.std.proofs.lemmas.List.{at_drop_more, at_drop_all}
 use Rattle.time_values.specs.declared.error.ParseFromDescription.{ParseFromDescription}
 use Rattle.time_values.specs.Refusal.{Refusal, refusal_of_description}
-use Rattle.time_readers.specs.Tree.{Tree, Trees, sequence, optional, first_of, none, more, trees}
-use Rattle.time_record.specs.Reading.{Reads, ReadsAll, ReadsSome, NoReading, IsFault, IsFaultAll, Refuses, RefusesAll}
+use Rattle.time_readers.specs.Tree.{Tree, Trees, sequence, first_of, none, more, trees}
+use Rattle.time_record.specs.Reading.{HasNone, Reads, ReadsAll, ReadsSome, NoReading, IsFault, IsFaultAll, Refuses, RefusesAll}
 use Rattle.time_record.specs.Record.{Record}
 use Rattle.time_record.proofs.Unique.{Reads-unique}
 
@@ -23,7 +23,8 @@ module _ {X : Type 0} (f : X → Tree) (xs : List X) (i : ℕ) where
 
 -- What is read after a tree that reads, or after none.
 module _ (Y : ℕ) (t : Tree) (ts : Trees) (b : List ℕ) (r : Record) where
-  ReadsAll-more : (mid : List ℕ) (q : Record) (rest : List ℕ) (r' : Record) → Reads Y t b r mid q → ReadsAll Y ts mid q rest r' → ReadsAll Y (more t ts) b r rest r'
+  ReadsAll-more : (mid : List ℕ) (q : Record) (rest : List ℕ) (r' : Record) → Reads Y t b r mid q →
+      ReadsAll Y ts mid q rest r' → ReadsAll Y (more t ts) b r rest r'
   unfolding ReadsAll
   ReadsAll-more mid q rest r' h hs = (mid, q, h, hs)
 
@@ -41,28 +42,36 @@ module _ (Y : ℕ) (t : Tree) (ts : Trees) (b : List ℕ) (r : Record) where
   }
 
 -- What the items from an index on answer, all of them answer: those before it were read.
-pub record Continues (Y : ℕ) {X : Type 0} (f : X → Tree) (xs : List X) (i : ℕ) (b0 : List ℕ) (r0 : Record) (b : List ℕ) (r : Record) : Type 0 where
+pub record Continues (Y : ℕ) {X : Type 0} (f : X → Tree) (xs : List X) (i : ℕ)
+    (b0 : List ℕ) (r0 : Record) (b : List ℕ) (r : Record) : Type 0 where
   pub reads : (rest : List ℕ) (q : Record) → ReadsAll Y (trees_from f i xs) b r rest q → ReadsAll Y (trees (map f xs)) b0 r0 rest q
   pub refuses : (e : Refusal) → RefusesAll Y (trees_from f i xs) b r e → RefusesAll Y (trees (map f xs)) b0 r0 e
 
-module _ {Y : ℕ} {X : Type 0} {f : X → Tree} {xs : List X} {i : ℕ} {b0 : List ℕ} {r0 : Record} {b : List ℕ} {r : Record} (k : Continues Y f xs i b0 r0 b r) where
-  -- the next item reads
-  pub Continues-reads : {x : X} {mid : List ℕ} {q : Record} → i < length xs → x ≡ get_or xs i x → Reads Y (f x) b r mid q → Continues Y f xs (i + 1) b0 r0 mid q
-  Continues-reads {x} {mid} {q} within is h =
-      let later = trees_from f (i + 1) xs in
-      let here = trees_from-item f xs i x within is in
-      record {
-        reads = λ rest r' hs. k.reads rest r' (subst (λ ts. ReadsAll Y ts b r rest r') (sym here) (ReadsAll-more Y (f x) later b r mid q rest r' h hs));
-        refuses = λ e hs. k.refuses e (subst (λ ts. RefusesAll Y ts b r e) (sym here) (RefusesAll-more Y (f x) later b r mid q e h hs));
-      }
+module _ {Y : ℕ} {X : Type 0} {f : X → Tree} {xs : List X} {i : ℕ}
+    {b0 : List ℕ} {r0 : Record} {b : List ℕ} {r : Record} (k : Continues Y f xs i b0 r0 b r) where
+  module _ {x : X} (within : i < length xs) (is : x ≡ get_or xs i x) where
+    -- the next item reads
+    pub Continues-reads : {mid : List ℕ} {q : Record} → Reads Y (f x) b r mid q → Continues Y f xs (i + 1) b0 r0 mid q
+    Continues-reads {mid} {q} h =
+        let later = trees_from f (i + 1) xs in
+        let here = trees_from-item f xs i x within is in
+        record {
+          reads = λ rest r' hs.
+              let all = ReadsAll-more Y (f x) later b r mid q rest r' h hs in
+              k.reads rest r' (subst (λ ts. ReadsAll Y ts b r rest r') (sym here) all);
+          refuses = λ e hs.
+              let all = RefusesAll-more Y (f x) later b r mid q e h hs in
+              k.refuses e (subst (λ ts. RefusesAll Y ts b r e) (sym here) all);
+        }
 
-  -- the next item is refused
-  pub Continues-refuses : {x : X} {e : Refusal} → i < length xs → x ≡ get_or xs i x → Refuses Y (f x) b r e → Refuses Y (sequence (trees (map f xs))) b0 r0 e
-  unfolding Reads IsFault
-  Continues-refuses {x} {e} within is h =
-      let here = trees_from-item f xs i x within is in
-      let all = k.refuses e (subst (λ ts. RefusesAll Y ts b r e) (sym here) (RefusesAll-here Y (f x) (trees_from f (i + 1) xs) b r e h)) in
-      record { unread = all.unread; fault = all.fault }
+    -- the next item is refused
+    pub Continues-refuses : {e : Refusal} → Refuses Y (f x) b r e → Refuses Y (sequence (trees (map f xs))) b0 r0 e
+    unfolding Reads IsFault
+    Continues-refuses {e} h =
+        let here = trees_from-item f xs i x within is in
+        let first = RefusesAll-here Y (f x) (trees_from f (i + 1) xs) b r e h in
+        let all = k.refuses e (subst (λ ts. RefusesAll Y ts b r e) (sym here) first) in
+        record { unread = all.unread; fault = all.fault }
 
   -- no item is left
   pub Continues-end : length xs ≤ i → Reads Y (sequence (trees (map f xs))) b0 r0 b r
@@ -71,15 +80,20 @@ module _ {Y : ℕ} {X : Type 0} {f : X → Tree} {xs : List X} {i : ℕ} {b0 : L
 
 -- None of the trees reads anything.
 abbrev NoReadingSome : ℕ → Trees → List ℕ → Record → Type 0
-NoReadingSome Y ts b r = (rest : List ℕ) (r' : Record) → ReadsSome Y ts b r rest r' → ⊥
+NoReadingSome Y ts b r = HasNone (ReadsSome Y ts b r)
 
--- What the items from an index on answer as alternatives, all of them answer: none before it was
--- read, the record is as it was, and the first one's fault is kept.
-pub record Keeps (Y : ℕ) {X : Type 0} (f : X → Tree) (xs : List X) (i : ℕ) (b : List ℕ) (r now : Record) (kept : Option ParseFromDescription) : Type 0 where
+-- The fault that is kept is that of all the alternatives. While there is none, all are left.
+abbrev IsKept : ℕ → Trees → Trees → List ℕ → Record → Option ParseFromDescription → Type 0
+IsKept Y ts all b r kept = MatchOption kept (ts ≡ all) (λ e. IsFault Y (first_of all) b r (refusal_of_description e))
+
+-- What the items from an index on answer as alternatives, all of them answer: none before it reads,
+-- the record is as it was, and the first one's fault is kept.
+pub record Keeps (Y : ℕ) {X : Type 0} (f : X → Tree) (xs : List X) (i : ℕ)
+    (b : List ℕ) (r now : Record) (kept : Option ParseFromDescription) : Type 0 where
   pub same : now ≡ r
   pub reads : (rest : List ℕ) (q : Record) → ReadsSome Y (trees_from f i xs) b r rest q → ReadsSome Y (trees (map f xs)) b r rest q
   pub unread : NoReadingSome Y (trees_from f i xs) b r → NoReadingSome Y (trees (map f xs)) b r
-  pub fault : MatchOption kept (trees_from f i xs ≡ trees (map f xs)) (λ e. IsFault Y (first_of (trees (map f xs))) b r (refusal_of_description e))
+  pub fault : IsKept Y (trees_from f i xs) (trees (map f xs)) b r kept
 
 module _ (Y : ℕ) (t : Tree) (ts : Trees) (b : List ℕ) (r : Record) where
   ReadsSome-here : (rest : List ℕ) (q : Record) → Reads Y t b r rest q → ReadsSome Y (more t ts) b r rest q
@@ -101,7 +115,8 @@ module _ (Y : ℕ) (b : List ℕ) (r : Record) where
   first_of-some none rest q h = absurd h
   first_of-some (more t ts) rest q h = h
 
-  some-first_of : (ts : Trees) (rest : List ℕ) (q : Record) (e : Refusal) → IsFault Y (first_of ts) b r e → Reads Y (first_of ts) b r rest q → ReadsSome Y ts b r rest q
+  some-first_of : (ts : Trees) (rest : List ℕ) (q : Record) (e : Refusal) → IsFault Y (first_of ts) b r e →
+      Reads Y (first_of ts) b r rest q → ReadsSome Y ts b r rest q
   unfolding Reads ReadsSome IsFault
   some-first_of none rest q e f h = absurd f
   some-first_of (more t ts) rest q e f h = h
@@ -115,51 +130,60 @@ module _ (Y : ℕ) (b : List ℕ) (r : Record) where
   Reads-first_of_none = (refl, refl)
 
 -- the fault to keep after one more
-kept_fault : (Y : ℕ) (t : Tree) (ts all : Trees) (b : List ℕ) (r : Record) (kept : Option ParseFromDescription) (e : ParseFromDescription) → MatchOption kept (more t ts ≡ all) (λ e. IsFault Y (first_of all) b r (refusal_of_description e)) → IsFault Y t b r (refusal_of_description e) → MatchOption (option_or kept (Some e)) (ts ≡ all) (λ e. IsFault Y (first_of all) b r (refusal_of_description e))
+IsKept-more : (Y : ℕ) (t : Tree) (ts all : Trees) (b : List ℕ) (r : Record) (kept : Option ParseFromDescription)
+    (e : ParseFromDescription) → IsKept Y (more t ts) all b r kept → IsFault Y t b r (refusal_of_description e) →
+    IsKept Y ts all b r (option_or kept (Some e))
 unfolding IsFault
-kept_fault Y t ts all b r None e h k = subst (λ a. IsFault Y (first_of a) b r (refusal_of_description e)) h k
-kept_fault Y t ts all b r (Some f) e h k = h
+IsKept-more Y t ts all b r None e h k = subst (λ a. IsFault Y (first_of a) b r (refusal_of_description e)) h k
+IsKept-more Y t ts all b r (Some f) e h k = h
 
-module _ {Y : ℕ} {X : Type 0} {f : X → Tree} {xs : List X} {i : ℕ} {b : List ℕ} {r now : Record} {kept : Option ParseFromDescription} (k : Keeps Y f xs i b r now kept) where
-  -- the next item reads
-  pub Keeps-reads : {x : X} (rest : List ℕ) (q : Record) → i < length xs → x ≡ get_or xs i x → Reads Y (f x) b now rest q → Reads Y (first_of (trees (map f xs))) b r rest q
-  Keeps-reads {x} rest q within is h =
-      let read = subst (λ p. Reads Y (f x) b p rest q) k.same h in
-      let some = ReadsSome-here Y (f x) (trees_from f (i + 1) xs) b r rest q read in
-      first_of-some Y b r (trees (map f xs)) rest q (k.reads rest q (subst (λ ts. ReadsSome Y ts b r rest q) (sym (trees_from-item f xs i x within is)) some))
+module _ {Y : ℕ} {X : Type 0} {f : X → Tree} {xs : List X} {i : ℕ}
+    {b : List ℕ} {r now : Record} {kept : Option ParseFromDescription} (k : Keeps Y f xs i b r now kept) where
+  module _ {x : X} (within : i < length xs) (is : x ≡ get_or xs i x) where
+    -- the next item reads
+    pub Keeps-reads : (rest : List ℕ) (q : Record) → Reads Y (f x) b now rest q → Reads Y (first_of (trees (map f xs))) b r rest q
+    Keeps-reads rest q h =
+        let here = trees_from-item f xs i x within is in
+        let read = subst (λ p. Reads Y (f x) b p rest q) k.same h in
+        let some = ReadsSome-here Y (f x) (trees_from f (i + 1) xs) b r rest q read in
+        first_of-some Y b r (trees (map f xs)) rest q (k.reads rest q (subst (λ ts. ReadsSome Y ts b r rest q) (sym here) some))
 
-  -- the next item is refused
-  pub Keeps-refuses : {x : X} {later : Record} {both : Option ParseFromDescription} (e : ParseFromDescription) → i < length xs → x ≡ get_or xs i x → Refuses Y (f x) b now (refusal_of_description e) × (later ≡ now) → both ≡ option_or kept (Some e) → Keeps Y f xs (i + 1) b r later both
-  Keeps-refuses {x} e within is h both =
-      let later = trees_from f (i + 1) xs in
-      let here = trees_from-item f xs i x within is in
-      let refused = subst (λ p. Refuses Y (f x) b p (refusal_of_description e)) k.same h.0 in
-      rw both (record {
-        same = h.1 ∙ k.same;
-        reads = λ rest q s. k.reads rest q (subst (λ ts. ReadsSome Y ts b r rest q) (sym here) (ReadsSome-later Y (f x) later b r rest q refused.unread s));
-        unread = λ s. k.unread (subst (λ ts. NoReadingSome Y ts b r) (sym here) (NoReadingSome-more Y (f x) later b r refused.unread s));
-        fault = kept_fault Y (f x) later (trees (map f xs)) b r kept e (rw here at k.fault) refused.fault;
-      })
+    -- the next item is refused
+    pub Keeps-refuses : {now' : Record} {kept' : Option ParseFromDescription} (e : ParseFromDescription) →
+        Refuses Y (f x) b now (refusal_of_description e) × (now' ≡ now) → kept' ≡ option_or kept (Some e) →
+        Keeps Y f xs (i + 1) b r now' kept'
+    Keeps-refuses e h more_kept =
+        let later = trees_from f (i + 1) xs in
+        let here = trees_from-item f xs i x within is in
+        let refused = subst (λ p. Refuses Y (f x) b p (refusal_of_description e)) k.same h.0 in
+        rw more_kept (record {
+          same = h.1 ∙ k.same;
+          reads = λ rest q s.
+              let some = ReadsSome-later Y (f x) later b r rest q refused.unread s in
+              k.reads rest q (subst (λ ts. ReadsSome Y ts b r rest q) (sym here) some);
+          unread = λ s.
+              let unread = NoReadingSome-more Y (f x) later b r refused.unread s in
+              k.unread (subst (λ ts. NoReadingSome Y ts b r) (sym here) unread);
+          fault = IsKept-more Y (f x) later (trees (map f xs)) b r kept e (rw here at k.fault) refused.fault;
+        })
 
   -- no item is left, and there was one
-  pub Keeps-fault : (e : ParseFromDescription) → length xs ≤ i → kept ≡ Some e → Refuses Y (first_of (trees (map f xs))) b r (refusal_of_description e) × (now ≡ r)
+  pub Keeps-fault : (e : ParseFromDescription) → length xs ≤ i → kept ≡ Some e →
+      Refuses Y (first_of (trees (map f xs))) b r (refusal_of_description e) × (now ≡ r)
   Keeps-fault e end is =
       let all = trees (map f xs) in
       let fault = rw is at k.fault in
-      let unread = k.unread (subst (λ ts. NoReadingSome Y ts b r) (sym (trees_from-end f xs i end)) (NoReadingSome-none Y b r)) in
-      (record { unread = λ rest q h. unread rest q (some-first_of Y b r all rest q (refusal_of_description e) fault h); fault = fault }, k.same)
+      let none_left = sym (trees_from-end f xs i end) in
+      let unread = k.unread (subst (λ ts. NoReadingSome Y ts b r) none_left (NoReadingSome-none Y b r)) in (
+        record {
+          unread = λ rest q h. unread rest q (some-first_of Y b r all rest q (refusal_of_description e) fault h);
+          fault = fault;
+        },
+        k.same,
+      )
 
   -- there was none
   pub Keeps-nothing : length xs ≤ i → kept ≡ None → Reads Y (first_of (trees (map f xs))) b r b now
   Keeps-nothing end is =
       let empty : none ≡ trees (map f xs) = sym (trees_from-end f xs i end) ∙ rw is at k.fault in
       rw k.same (subst (λ a. Reads Y (first_of a) b r b r) empty (Reads-first_of_none Y b r))
-
--- what may be missing
-pub Reads-optional : (Y : ℕ) (t : Tree) (b : List ℕ) (r : Record) (x : List ℕ) (q : Record) → Reads Y t b r x q → Reads Y (optional t) b r x q
-unfolding Reads
-Reads-optional Y t b r x q h = inl h
-
-pub Reads-optional_nothing : (Y : ℕ) (t : Tree) (b : List ℕ) (r : Record) (q : Record) → NoReading Y t b r → q ≡ r → Reads Y (optional t) b r b q
-unfolding Reads
-Reads-optional_nothing Y t b r q h e = inr (h, refl, e)

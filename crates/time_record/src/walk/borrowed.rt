@@ -54,6 +54,7 @@ fn walk_borrowed_all<'a>(
 
 // Reads an item that may be missing.
 #[cycle(borrowed)]
+#[tactic(auto, unfolding(crate::specs::Reading::Reads))]
 fn walk_borrowed_optional<'a>(
     item: &BorrowedFormatItem<'_>,
     parsed: &mut Parsed,

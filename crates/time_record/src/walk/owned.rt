@@ -54,6 +54,7 @@ fn walk_owned_all<'a>(
 
 // Reads an item that may be missing.
 #[cycle(owned)]
+#[tactic(auto, unfolding(crate::specs::Reading::Reads))]
 fn walk_owned_optional<'a>(
     item: &OwnedFormatItem,
     parsed: &mut Parsed,

@@ -67,6 +67,7 @@ fn walk_v3_all<'a>(
 
 // Reads an item that may be missing.
 #[cycle(v3)]
+#[tactic(auto, unfolding(crate::specs::Reading::Reads))]
 fn walk_v3_optional<'a>(
     item: &FormatDescriptionV3Inner<'_>,
     parsed: &mut Parsed,

@@ -1,34 +1,28 @@
 use Rattle.std.proofs.Common.{refl, arith}
-use Rattle.time_record.proofs.Steps.{Continues-reads, Continues-refuses, Continues-end, Keeps-reads, Keeps-refuses, Keeps-fault, Keeps-nothing, Reads-optional, Reads-optional_nothing}
+use Rattle.time_record.proofs.Steps
 use Rattle.time_record.proofs.walk.borrowed.+borrowed.Goals as goal
 
 pub walk_borrowed_all-returns-in-Err : goal.walk_borrowed_all-returns-in-Err
 walk_borrowed_all-returns-in-Err t c =
-    (Continues-refuses c.loop-item.invariant (omega arith) c.item-item.is c.in-Err.ensures.0, refl)
+    (Steps.Continues-refuses c.loop-item.invariant (omega arith) c.item-item.is c.in-Err.ensures.0, refl)
 
 pub walk_borrowed_all-loop-item-preserved : goal.walk_borrowed_all-loop-item-preserved
 walk_borrowed_all-loop-item-preserved t c =
-    Continues-reads c.loop-item.invariant (omega arith) c.item-item.is c.in-Ok.ensures
+    Steps.Continues-reads c.loop-item.invariant (omega arith) c.item-item.is c.in-Ok.ensures
 
 pub walk_borrowed_all-returns : goal.walk_borrowed_all-returns
-walk_borrowed_all-returns t c = Continues-end c.loop-item.invariant (omega arith)
-
-pub walk_borrowed_optional-returns-in-Ok : goal.walk_borrowed_optional-returns-in-Ok
-walk_borrowed_optional-returns-in-Ok t c = Reads-optional _ _ _ _ _ _ c.in-Ok.ensures
-
-pub walk_borrowed_optional-returns-in-Err : goal.walk_borrowed_optional-returns-in-Err
-walk_borrowed_optional-returns-in-Err t c = Reads-optional_nothing _ _ _ _ _ c.in-Err.ensures.0.unread c.in-Err.ensures.1
+walk_borrowed_all-returns t c = Steps.Continues-end c.loop-item.invariant (omega arith)
 
 pub walk_borrowed_first-returns-in-Ok : goal.walk_borrowed_first-returns-in-Ok
 walk_borrowed_first-returns-in-Ok t c =
-    Keeps-reads c.loop-item.invariant _ _ (omega arith) c.item-item.is c.in-Ok.ensures
+    Steps.Keeps-reads c.loop-item.invariant (omega arith) c.item-item.is _ _ c.in-Ok.ensures
 
 pub walk_borrowed_first-loop-item-preserved : goal.walk_borrowed_first-loop-item-preserved
 walk_borrowed_first-loop-item-preserved t c =
-    Keeps-refuses c.loop-item.invariant _ (omega arith) c.item-item.is c.in-Err.ensures c.or-first_fault.ensures
+    Steps.Keeps-refuses c.loop-item.invariant (omega arith) c.item-item.is _ c.in-Err.ensures c.or-first_fault.ensures
 
 pub walk_borrowed_first-returns-in-Some : goal.walk_borrowed_first-returns-in-Some
-walk_borrowed_first-returns-in-Some t c = Keeps-fault c.loop-item.invariant _ (omega arith) c.in-Some.is
+walk_borrowed_first-returns-in-Some t c = Steps.Keeps-fault c.loop-item.invariant _ (omega arith) c.in-Some.is
 
 pub walk_borrowed_first-returns-in-None : goal.walk_borrowed_first-returns-in-None
-walk_borrowed_first-returns-in-None t c = Keeps-nothing c.loop-item.invariant (omega arith) c.in-None.is
+walk_borrowed_first-returns-in-None t c = Steps.Keeps-nothing c.loop-item.invariant (omega arith) c.in-None.is

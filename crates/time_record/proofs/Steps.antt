@@ -187,3 +187,8 @@ module _ {Y : ℕ} {X : Type 0} {f : X → Tree} {xs : List X} {i : ℕ}
   Keeps-nothing end is =
       let empty : none ≡ trees (map f xs) = sym (trees_from-end f xs i end) ∙ rw is at k.fault in
       rw k.same (subst (λ a. Reads Y (first_of a) b r b r) empty (Reads-first_of_none Y b r))
+
+-- What proves a walk's loops, but for the answers to an item that is refused.
+pub ruleset sequence_steps = (Continues-reads, Continues-end)
+
+pub ruleset first_steps = (Keeps-reads, Keeps-fault, Keeps-nothing)

@@ -34,6 +34,7 @@ impl Parsed {
     ///
     /// An error is that of the first item that does not read, and the record is then as it was
     /// before all of them.
+    #[tactic(auto, using(crate::proofs::Steps::sequence_steps))]
     pub fn parse_items<'a, I: AnyFormatItem>(
         &mut self,
         input: &'a [u8],

@@ -30,6 +30,7 @@ pub fn walk_borrowed<'a>(
 
 // Reads items one after the other, each on what the one before left.
 #[cycle(borrowed)]
+#[tactic(auto, using(crate::proofs::Steps::sequence_steps))]
 fn walk_borrowed_all<'a>(
     items: &[BorrowedFormatItem<'_>],
     parsed: &mut Parsed,
@@ -71,6 +72,7 @@ fn walk_borrowed_optional<'a>(
 
 // Reads the first of the items that reads. Where none does, the fault is the first one's.
 #[cycle(borrowed)]
+#[tactic(auto, using(crate::proofs::Steps::first_steps))]
 fn walk_borrowed_first<'a>(
     items: &[BorrowedFormatItem<'_>],
     parsed: &mut Parsed,

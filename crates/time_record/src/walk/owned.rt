@@ -30,6 +30,7 @@ pub fn walk_owned<'a>(
 
 // Reads items one after the other, each on what the one before left.
 #[cycle(owned)]
+#[tactic(auto, using(crate::proofs::Steps::sequence_steps))]
 fn walk_owned_all<'a>(
     items: &[OwnedFormatItem],
     parsed: &mut Parsed,
@@ -71,6 +72,7 @@ fn walk_owned_optional<'a>(
 
 // Reads the first of the items that reads. Where none does, the fault is the first one's.
 #[cycle(owned)]
+#[tactic(auto, using(crate::proofs::Steps::first_steps))]
 fn walk_owned_first<'a>(
     items: &[OwnedFormatItem],
     parsed: &mut Parsed,

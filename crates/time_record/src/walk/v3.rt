@@ -43,6 +43,7 @@ pub fn walk_v3<'a>(
 
 // Reads items one after the other, each on what the one before left.
 #[cycle(v3)]
+#[tactic(auto, using(crate::proofs::Steps::sequence_steps))]
 fn walk_v3_all<'a>(
     items: &[FormatDescriptionV3Inner<'_>],
     parsed: &mut Parsed,
@@ -84,6 +85,7 @@ fn walk_v3_optional<'a>(
 
 // Reads the first of the items that reads. Where none does, the fault is the first one's.
 #[cycle(v3)]
+#[tactic(auto, using(crate::proofs::Steps::first_steps))]
 fn walk_v3_first<'a>(
     items: &[FormatDescriptionV3Inner<'_>],
     parsed: &mut Parsed,

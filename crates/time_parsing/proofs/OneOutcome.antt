@@ -1,10 +1,11 @@
 -- An exact format and a resolution that is one have one outcome.
 use Rattle.std.proofs.Common.{◌≡◌, ℕ, List, [], sym, ap, ◌∙◌, subst, ⊎_elim, Result, Ok, Err}
 use Rattle.time_values.specs.Refusal.{Refusal}
+use Rattle.time_record.specs.Laws.{OneResolution}
 use Rattle.time_record.specs.Record.{Record}
-use Rattle.time_parsing.specs.Outcome.{IsWhole, IsExact, OneResolution, OneOutcome}
+use Rattle.time_parsing.specs.Outcome.{Reading, Refusing, Resolving, IsWhole, IsExact, OneOutcome}
 
-module _ (R : List ℕ → Record → List ℕ → Record → Type 0) (F : List ℕ → Record → Refusal → Type 0) (exact : IsExact R F) where
+module _ (R : Reading) (F : Refusing) (exact : IsExact R F) where
   -- a text that is read whole is not refused
   whole_or_refused : (b : List ℕ) (r p : Record) (e : Refusal) → R b r [] p → IsWhole R F b r (Err e) → ⊥
   whole_or_refused b r p e read refused =
@@ -19,7 +20,7 @@ module _ (R : List ℕ → Record → List ℕ → Record → Type 0) (F : List 
   same_record : (b : List ℕ) (r p q : Record) → R b r [] p → R b r [] q → p ≡ q
   same_record b r p q u v = exact.one_record b r [] [] p q u v
 
-  pub one_outcome : {V : Type 0} (resolves : Record → Result V Refusal → Type 0) → OneResolution resolves → OneOutcome resolves R F
+  pub one_outcome : {V : Type 0} (resolves : Resolving V) → OneResolution resolves → OneOutcome resolves R F
   one_outcome {V} resolves one b r (Ok v) (Ok w) x y =
       one y.0 (Ok v) (Ok w) (subst (λ (p : Record). resolves p (Ok v)) (same_record b r x.0 y.0 x.1 y.1) x.2) y.2
   one_outcome {V} resolves one b r (Ok v) (Err e) x y =

@@ -5,6 +5,18 @@ use Rattle.time_values.specs.Refusal.{Refusal, trailing, refusal_of}
 use Rattle.time_values.specs.declared.error.Parse.{Parse}
 use Rattle.time_record.specs.Record.{Record, empty}
 
+-- what a format reads: bytes, the record before, the rest of the bytes, and the record after
+abbrev pub Reading : Type 1
+Reading = List ℕ → Record → List ℕ → Record → Type 0
+
+-- what a format refuses: bytes, the record before, and the refusal
+abbrev pub Refusing : Type 1
+Refusing = List ℕ → Record → Refusal → Type 0
+
+-- what a record resolves to: a value, or the refusal of the record
+abbrev pub Resolving : Type 0 → Type 1
+Resolving V = Record → Result V Refusal → Type 0
+
 -- the record that a parse begins with: the defaults, or the empty one
 abbrev pub begun : Option Record → Record
 begun None = empty
@@ -17,36 +29,37 @@ seen (Err e) = Err (refusal_of e)
 
 -- A front of the bytes is read over the record up to the rest, and leaves the new record; or there is that refusal,
 -- and the record is as it was.
-abbrev pub ParsesInto : (List ℕ → Record → List ℕ → Record → Type 0) → (List ℕ → Record → Refusal → Type 0) → List ℕ → Record → Result (Bor (List ℕ)) Parse → Record → Type 0
+abbrev pub ParsesInto : Reading → Refusing → List ℕ → Record → Result (Bor (List ℕ)) Parse → Record → Type 0
 ParsesInto reads refuses bytes old (Ok rest) new = reads bytes old rest.now new
 ParsesInto reads refuses bytes old (Err e) new = refuses bytes old (refusal_of e) × (new ≡ old)
 
 -- The whole of the bytes is read, and the record is that one; or there is that refusal, which for bytes that
 -- remain is the one of trailing characters.
-abbrev pub IsWhole : (List ℕ → Record → List ℕ → Record → Type 0) → (List ℕ → Record → Refusal → Type 0) → List ℕ → Record → Result Record Refusal → Type 0
+abbrev pub IsWhole : Reading → Refusing → List ℕ → Record → Result Record Refusal → Type 0
 IsWhole reads refuses bytes begin (Ok r) = reads bytes begin [] r
 IsWhole reads refuses bytes begin (Err e) =
     refuses bytes begin e ⊎ ((rest : List ℕ) × (r : Record) × reads bytes begin rest r × (rest ≢ []) × (e ≡ trailing))
 
 -- The outcome of a parse: the value to which the record of the whole text resolves; or the refusal of the reading,
 -- or the one of the record that was read.
-abbrev pub IsOutcome : {V : Type 0} → (Record → Result V Refusal → Type 0) → (List ℕ → Record → List ℕ → Record → Type 0) → (List ℕ → Record → Refusal → Type 0) → List ℕ → Record → Result V Refusal → Type 0
+abbrev pub IsOutcome : {V : Type 0} → Resolving V → Reading → Refusing → List ℕ → Record → Result V Refusal → Type 0
 IsOutcome resolves reads refuses bytes begin (Ok v) = (r : Record) × reads bytes begin [] r × resolves r (Ok v)
 IsOutcome resolves reads refuses bytes begin (Err e) =
     IsWhole reads refuses bytes begin (Err e) ⊎ ((r : Record) × reads bytes begin [] r × resolves r (Err e))
 
 -- A format has one answer to a text over a record: one reading or one refusal, and never both.
-pub record IsExact (reads : List ℕ → Record → List ℕ → Record → Type 0) (refuses : List ℕ → Record → Refusal → Type 0) : Type 0 where
-  pub one_rest : (bytes : List ℕ) (r : Record) (x y : List ℕ) (p q : Record) → reads bytes r x p → reads bytes r y q → x ≡ y
-  pub one_record : (bytes : List ℕ) (r : Record) (x y : List ℕ) (p q : Record) → reads bytes r x p → reads bytes r y q → p ≡ q
+pub record IsExact (reads : Reading) (refuses : Refusing) : Type 0 where
+  pub one_rest : (bytes : List ℕ) (r : Record) (x y : List ℕ) (p q : Record)
+      → reads bytes r x p → reads bytes r y q → x ≡ y
+  pub one_record : (bytes : List ℕ) (r : Record) (x y : List ℕ) (p q : Record)
+      → reads bytes r x p → reads bytes r y q → p ≡ q
   pub one_refusal : (bytes : List ℕ) (r : Record) (e f : Refusal) → refuses bytes r e → refuses bytes r f → e ≡ f
-  pub not_both : (bytes : List ℕ) (r : Record) (x : List ℕ) (p : Record) (e : Refusal) → reads bytes r x p → refuses bytes r e → ⊥
-
--- a record resolves to one value or one refusal
-abbrev pub OneResolution : {V : Type 0} → (Record → Result V Refusal → Type 0) → Type 0
-OneResolution {V} resolves = (r : Record) (x y : Result V Refusal) → resolves r x → resolves r y → x ≡ y
+  pub not_both : (bytes : List ℕ) (r : Record) (x : List ℕ) (p : Record) (e : Refusal)
+      → reads bytes r x p → refuses bytes r e → ⊥
 
 -- a parse has one outcome
-abbrev pub OneOutcome : {V : Type 0} → (Record → Result V Refusal → Type 0) → (List ℕ → Record → List ℕ → Record → Type 0) → (List ℕ → Record → Refusal → Type 0) → Type 0
+abbrev pub OneOutcome : {V : Type 0} → Resolving V → Reading → Refusing → Type 0
 OneOutcome {V} resolves reads refuses =
-    (bytes : List ℕ) (begin : Record) (x y : Result V Refusal) → IsOutcome resolves reads refuses bytes begin x → IsOutcome resolves reads refuses bytes begin y → x ≡ y
+    (bytes : List ℕ) (begin : Record) (result other : Result V Refusal)
+    → IsOutcome resolves reads refuses bytes begin result
+    → IsOutcome resolves reads refuses bytes begin other → result ≡ other

@@ -1,48 +1,54 @@
--- RFC 3339, read over a record.
-use Rattle.std.specs.Prelude.{◌≡◌, ℕ, true, false, Bool, if◌then◌else◌, List, Option, Some, None, ℤ, pos, neg_ℤ}
-use Rattle.time_values.specs.Refusal.{Refusal}
+-- RFC 3339, read over a record. `Y` is the greatest year.
+use Rattle.std.specs.Prelude.{◌≡◌, ℕ, List, [], ◌∷◌, ◌++◌, true, false, if◌then◌else◌, Option, Some, None, pos}
 use Rattle.time_values.specs.Month.{month_number}
+use Rattle.time_values.specs.Refusal.{Refusal}
+use Rattle.time_values.specs.Sign.{signed_by}
 use Rattle.time_values.specs.declared.month.Month.{Month}
-use Rattle.time_record.specs.Record.{Record}
+use Rattle.time_readers.specs.Rfc3339.{HasForm, FailsAt, fault}
 use Rattle.time_readers.specs.declared.rfc3339.Numbers.{Numbers}
 use Rattle.time_readers.specs.declared.rfc3339.Place.{Place}
-use Rattle.time_readers.specs.Rfc3339.{HasForm, FailsAt, fault}
+use Rattle.time_record.specs.Record.{Record, Entry, put_all, year_is, month_is, day_is, hour_24_is, minute_is, second_is, subsecond_is, offset_hour_is, offset_minute_is, offset_second_is}
 
--- a number with the sign that stood before it
-abbrev pub signed : Bool → ℕ → ℤ
-signed true v = neg_ℤ (pos v)
-signed false v = pos v
+-- the entries of a date, of which m is the month
+abbrev pub date_entries : Numbers → Month → List Entry
+date_entries n m = year_is (pos n.year) ∷ month_is m ∷ day_is n.day ∷ []
 
--- a value that stands in the text, and else the one before it
-abbrev pub or_before : {X : Type 0} → Option X → Option X → Option X
-or_before None before = before
-or_before (Some v) before = Some v
+-- the entry of a fraction, where one stands
+abbrev pub subsecond_entries : Option ℕ → List Entry
+subsecond_entries None = []
+subsecond_entries (Some v) = subsecond_is v ∷ []
 
-abbrev pub with_date : Numbers → Month → Record → Record
-with_date n m r = record r { year = Some (pos n.year); month = Some m; day = Some n.day }
+-- the entries of a time
+abbrev pub time_entries : Numbers → List Entry
+time_entries n = hour_24_is n.hour ∷ minute_is n.minute ∷ second_is n.second ∷ subsecond_entries n.subsecond
 
-abbrev pub with_time : Numbers → Record → Record
-with_time n r = record r { hour_24 = Some n.hour; minute = Some n.minute; second = Some n.second; subsecond = or_before n.subsecond r.subsecond }
+-- The entries of an offset: its hour and minute with its sign, and for `Z` also the second 0. A numeric offset says no
+-- second.
+abbrev pub offset_entries : Numbers → List Entry
+offset_entries n =
+    offset_hour_is (signed_by n.offset_is_negative (pos n.offset_hour))
+    ∷ offset_minute_is (signed_by n.offset_is_negative (pos n.offset_minute))
+    ∷ (if n.is_utc then offset_second_is (pos 0) ∷ [] else [])
 
--- `Z` says hour, minute and second of the offset, a numeric offset its hour and minute alone; either clears the sign
--- that an offset hour of a description had left.
-abbrev pub with_offset : Numbers → Record → Record
-with_offset n r = record r {
-  offset_hour = Some (signed n.offset_is_negative n.offset_hour);
-  offset_minute = Some (signed n.offset_is_negative n.offset_minute);
-  offset_second = if n.is_utc then Some (pos 0) else r.offset_second;
-  offset_is_negative = false;
-}
+-- the entries of the numbers, of which m is the month, in the order of the places
+abbrev pub entries : Numbers → Month → List Entry
+entries n m = date_entries n m ++ time_entries n ++ offset_entries n
 
--- the record after the numbers, of which m is the month, are put into it, with a leap second allowed
-abbrev pub with_numbers : Numbers → Month → Record → Record
-with_numbers n m r = record (with_offset n (with_time n (with_date n m r))) { leap_second_allowed = true }
+-- the record without the sign that an offset hour of a description had left
+abbrev pub without_offset_sign : Record → Record
+without_offset_sign r = record r { offset_is_negative = false }
 
--- a front of the bytes is the fifteen places' texts, each of its form and in its range
-abbrev pub Reads : List ℕ → Record → List ℕ → Record → Type 0
-Reads bytes r rest new =
-    (n : Numbers) × (m : Month) × HasForm true bytes rest n × (month_number m ≡ n.month) × (new ≡ with_numbers n m r)
+-- the record with a leap second allowed
+abbrev pub with_leap_second : Record → Record
+with_leap_second r = record r { leap_second_allowed = true }
+
+-- A front of the bytes is the fifteen places' texts, each of its form and in its range. Their numbers are put into the
+-- record, which allows a leap second, and keeps no sign of an offset from before.
+abbrev pub Reads : ℕ → List ℕ → Record → List ℕ → Record → Type 0
+Reads Y bytes r rest new =
+    (n : Numbers) × (m : Month) × HasForm true bytes rest n × (month_number m ≡ n.month)
+    × (put_all Y (entries n m) (with_leap_second (without_offset_sign r)) ≡ Some new)
 
 -- the fault of the first place whose form or range doesn't stand
-abbrev pub Refuses : List ℕ → Record → Refusal → Type 0
-Refuses bytes r e = (p : Place) × FailsAt true bytes p × (e ≡ fault p)
+abbrev pub Refuses : ℕ → List ℕ → Record → Refusal → Type 0
+Refuses Y bytes r e = (p : Place) × FailsAt true bytes p × (e ≡ fault p)

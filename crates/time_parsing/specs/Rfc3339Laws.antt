@@ -1,34 +1,45 @@
--- RFC 3339 has one answer to a text over a record.
-use Rattle.std.proofs.Common.{◌≡◌, ◌∙◌, sym, ap, true, List, ℕ}
+-- RFC 3339 has one answer to a text over a record. `Y` is the greatest year.
+use Rattle.std.proofs.Common.{◌≡◌, ◌∙◌, sym, ap, true, List, ℕ, Some}
 use Rattle.time_values.proofs.NumberLemmas.{same_month}
 use Rattle.time_values.specs.Month.{month_number}
 use Rattle.time_values.specs.declared.month.Month.{Month}
-use Rattle.time_record.specs.Record.{Record}
+use Rattle.time_record.specs.Record.{Record, put_all}
 use Rattle.time_readers.specs.Rfc3339.{Asks, places, nothing_read, fault, HasForm, FailsAt}
 use Rattle.time_readers.specs.declared.rfc3339.Numbers.{Numbers}
 use Rattle.time_readers.specs.declared.rfc3339.Place.{Place}
 use Rattle.time_readers.proofs.OneReading.{Stand-unique, StopsAt-stops, Stops-unique, Stops-none}
 use Rattle.time_readers.proofs.OneForm.{Asks-unique}
 use Rattle.time_parsing.specs.Outcome.{IsExact}
-use Rattle.time_parsing.specs.Rfc3339.{with_numbers, Reads, Refuses}
+use Rattle.time_parsing.specs.Rfc3339.{entries, without_offset_sign, with_leap_second, Reads, Refuses}
 
 one_form : (b x y : List ℕ) (n m : Numbers) → HasForm true b x n → HasForm true b y m → (x ≡ y) × (n ≡ m)
 one_form b x y n m s t = Stand-unique (Asks true) (Asks-unique true) places nothing_read n m b x y s t
 
 one_place : (b : List ℕ) (p q : Place) → FailsAt true b p → FailsAt true b q → p ≡ q
 one_place b p q s t =
-    Stops-unique (Asks true) (Asks-unique true) places nothing_read b p q (StopsAt-stops (Asks true) places nothing_read b p s) (StopsAt-stops (Asks true) places nothing_read b q t)
+    Stops-unique (Asks true) (Asks-unique true) places nothing_read b p q
+    (StopsAt-stops (Asks true) places nothing_read b p s) (StopsAt-stops (Asks true) places nothing_read b q t)
+
+same_value : (p q : Record) → Some p ≡ Some q → p ≡ q
+same_value p q same = cc
 
 -- one text's numbers are put into a record in one way
-with_numbers-same : (n m : Numbers) (k l : Month) (r : Record) → n ≡ m → month_number k ≡ n.month → month_number l ≡ m.month → with_numbers n k r ≡ with_numbers m l r
-with_numbers-same n m k l r same kn lm =
+put-unique : (Y : ℕ) (n m : Numbers) (k l : Month) (r p q : Record) → n ≡ m
+    → month_number k ≡ n.month → month_number l ≡ m.month
+    → put_all Y (entries n k) r ≡ Some p → put_all Y (entries m l) r ≡ Some q → p ≡ q
+put-unique Y n m k l r p q same kn lm u v =
     let months : k ≡ l = same_month k l (kn ∙ ap (λ x. x.month) same ∙ sym lm) in
-    ap (λ (x : Numbers). with_numbers x k r) same ∙ ap (λ (x : Month). with_numbers m x r) months
+    let puts = ap (λ (x : Numbers). put_all Y (entries x k) r) same ∙ ap (λ (x : Month). put_all Y (entries m x) r) months in
+    same_value p q (sym u ∙ puts ∙ v)
 
-pub rfc3339_exact : IsExact Reads Refuses
-rfc3339_exact = record {
+pub rfc3339_exact : (Y : ℕ) → IsExact (Reads Y) (Refuses Y)
+rfc3339_exact Y = record {
   one_rest = λ b r x y p q u v. (one_form b x y u.0 v.0 u.2 v.2).0;
-  one_record = λ b r x y p q u v. u.4 ∙ with_numbers-same u.0 v.0 u.1 v.1 r (one_form b x y u.0 v.0 u.2 v.2).1 u.3 v.3 ∙ sym v.4;
+  one_record = λ b r x y p q u v.
+      put-unique Y u.0 v.0 u.1 v.1 (with_leap_second (without_offset_sign r)) p q
+      (one_form b x y u.0 v.0 u.2 v.2).1 u.3 v.3 u.4 v.4;
   one_refusal = λ b r e f u v. u.2 ∙ ap fault (one_place b u.0 v.0 u.1 v.1) ∙ sym v.2;
-  not_both = λ b r x p e u v. Stops-none (Asks true) (Asks-unique true) places nothing_read u.0 b x v.0 u.2 (StopsAt-stops (Asks true) places nothing_read b v.0 v.1);
+  not_both = λ b r x p e u v.
+      Stops-none (Asks true) (Asks-unique true) places nothing_read u.0 b x v.0 u.2
+      (StopsAt-stops (Asks true) places nothing_read b v.0 v.1);
 }

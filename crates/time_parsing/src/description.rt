@@ -18,7 +18,7 @@ use time_values::error::Parse;
 #[derive(Clone, Copy, Debug)]
 pub struct Items<'a, I>(pub &'a [I]);
 
-/// Reads a front of the input by an item over the record, and answers the unread rest.
+// Reads a front of the input by an item over the record, and answers the unread rest.
 fn read_item<'a, I: AnyFormatItem>(
     item: &I,
     input: &'a [u8],
@@ -47,13 +47,10 @@ impl Parsable for BorrowedFormatItem<'_> {
         input: &[u8],
         defaults: Option<Parsed>,
     ) -> Result<OffsetDateTime, Parse> {
-        match self.parse_internal(input, defaults) {
-            Ok(parsed) => resolved(parsed),
-            Err(e) => Err(e),
-        }
+        resolved(&self.parse_internal(input, defaults))
     }
 
-    ghost exact = { λ s. tree_exact (borrowed_shape s) };
+    ghost exact = { λ s. tree_exact greatest_year (borrowed_shape s) };
 }
 
 impl Parsable for OwnedFormatItem {
@@ -70,13 +67,10 @@ impl Parsable for OwnedFormatItem {
         input: &[u8],
         defaults: Option<Parsed>,
     ) -> Result<OffsetDateTime, Parse> {
-        match self.parse_internal(input, defaults) {
-            Ok(parsed) => resolved(parsed),
-            Err(e) => Err(e),
-        }
+        resolved(&self.parse_internal(input, defaults))
     }
 
-    ghost exact = { λ s. tree_exact (owned_shape s) };
+    ghost exact = { λ s. tree_exact greatest_year (owned_shape s) };
 }
 
 impl Parsable for FormatDescriptionV3<'_> {
@@ -96,13 +90,10 @@ impl Parsable for FormatDescriptionV3<'_> {
         input: &[u8],
         defaults: Option<Parsed>,
     ) -> Result<OffsetDateTime, Parse> {
-        match self.parse_internal(input, defaults) {
-            Ok(parsed) => resolved(parsed),
-            Err(e) => Err(e),
-        }
+        resolved(&self.parse_internal(input, defaults))
     }
 
-    ghost exact = { λ s. tree_exact (v3_shape s.inner) };
+    ghost exact = { λ s. tree_exact greatest_year (v3_shape s.inner) };
 }
 
 impl<'i, I: AnyFormatItem> Parsable for Items<'i, I> {
@@ -122,11 +113,8 @@ impl<'i, I: AnyFormatItem> Parsable for Items<'i, I> {
         input: &[u8],
         defaults: Option<Parsed>,
     ) -> Result<OffsetDateTime, Parse> {
-        match self.parse_internal(input, defaults) {
-            Ok(parsed) => resolved(parsed),
-            Err(e) => Err(e),
-        }
+        resolved(&self.parse_internal(input, defaults))
     }
 
-    ghost exact = { λ s. tree_exact (sequence (trees (map I.shape s.0.now))) };
+    ghost exact = { λ s. tree_exact greatest_year (sequence (trees (map I.shape s.0.now))) };
 }

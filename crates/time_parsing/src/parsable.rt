@@ -1,10 +1,9 @@
 //! What can be parsed by.
-ghost use Rattle.std.specs.Prelude.{ℕ, List};
+ghost use Rattle.std.specs.Prelude.{◌≡◌, MatchResult};
 ghost use Rattle.time_values.specs.Range.{greatest_year};
-ghost use Rattle.time_values.specs.Refusal.{Refusal};
-ghost use Rattle.time_record.specs.Record.{Record};
+ghost use Rattle.time_values.specs.Refusal.{refusal_of};
 ghost use Rattle.time_record.specs.Resolution.{IsDated, IsTimed, IsOffset, IsPlain, IsUtcMoment, IsMoment, IsTimestamp};
-ghost use Rattle.time_parsing.specs.Outcome.{begun, seen, ParsesInto, IsWhole, IsOutcome, IsExact};
+ghost use Rattle.time_parsing.specs.Outcome.{Reading, Refusing, begun, seen, ParsesInto, IsWhole, IsOutcome, IsExact};
 
 use std::convert::TryFrom;
 use time_record::Parsed;
@@ -17,10 +16,10 @@ use time_values::{Date, OffsetDateTime, PlainDateTime, Time, Timestamp, UtcDateT
 /// leaves out: the defaults, or nothing.
 pub trait Parsable {
     // A front of the bytes is read over a record: the rest, and the record after it.
-    ghost reads: { Self → List ℕ → Record → List ℕ → Record → Type 0 };
+    ghost reads: { Self → Reading };
 
     // Nothing is read, with this refusal.
-    ghost refuses: { Self → List ℕ → Record → Refusal → Type 0 };
+    ghost refuses: { Self → Refusing };
 
     /// Reads a front of the input over the record, and answers the unread rest. A refusal leaves the
     /// record as it was.
@@ -127,10 +126,16 @@ pub trait Parsable {
     ghost exact: { (s : Self) → IsExact (reads s) (refuses s) };
 }
 
-/// The date, time and offset of a record.
-pub fn resolved(parsed: Parsed) -> Result<OffsetDateTime, Parse>
-    ensures { IsMoment greatest_year parsed (seen result) }
+/// The date, time and offset of a record that was read, or else the error of its reading.
+pub fn resolved(read: &Result<Parsed, Parse>) -> Result<OffsetDateTime, Parse>
+    ensures { MatchResult read.now
+        (λ parsed. IsMoment greatest_year parsed (seen result))
+        (λ e. seen result ≡ Err (refusal_of e)) }
 {
+    let parsed = match *read {
+        Ok(parsed) => parsed,
+        Err(e) => return Err(e),
+    };
     Ok(OffsetDateTime::try_from(parsed)?)
 }
 
@@ -149,10 +154,7 @@ impl<T: Parsable> Parsable for &T {
         input: &[u8],
         defaults: Option<Parsed>,
     ) -> Result<OffsetDateTime, Parse> {
-        match self.parse_internal(input, defaults) {
-            Ok(parsed) => resolved(parsed),
-            Err(e) => Err(e),
-        }
+        resolved(&self.parse_internal(input, defaults))
     }
 
     ghost exact = { λ x. T.exact x.now };

@@ -1,10 +1,13 @@
 //! The format of RFC 3339, section 5.6.
-ghost use Rattle.std.specs.Prelude.{◌≡◌, ◌<◌, ◌≤◌, unsigned_abs};
+ghost use Rattle.std.specs.Prelude.{◌≡◌, ◌<◌, ◌≤◌, Some, pos, unsigned_abs};
 ghost use Rattle.std.specs.Option.{ForSome};
 ghost use Rattle.std.specs.Int.{IsInRange};
 ghost use Rattle.time_values.specs.Month.{month_number};
+ghost use Rattle.time_values.specs.Range.{greatest_year};
+ghost use Rattle.time_values.specs.Sign.{signed_by};
 ghost use Rattle.time_values.specs.declared.month.Month.{Month as Month_};
-ghost use Rattle.time_parsing.specs.Rfc3339.{signed, with_date, with_time, with_offset};
+ghost use Rattle.time_record.specs.Record.{put_all};
+ghost use Rattle.time_parsing.specs.Rfc3339.{date_entries, time_entries, offset_entries, without_offset_sign};
 
 use crate::Parsable;
 use crate::parsable::resolved;
@@ -20,18 +23,18 @@ use time_values::{Month, OffsetDateTime};
 #[derive(Clone, Copy, Debug, PartialEq, Eq)]
 pub struct Rfc3339;
 
-/// The number with the sign that stood before it.
+// The number with the sign that stood before it.
 #[inline]
 fn with_sign(is_negative: bool, value: u8) -> i8
     requires { value ≤ 59 }
-    ensures value { result ≡ signed is_negative value }
+    ensures value { result ≡ signed_by is_negative (pos value) }
     ensures size { unsigned_abs result ≡ value }
 {
     let value = value as i8;
     if is_negative { -value } else { value }
 }
 
-/// The month of a number from 1 to 12.
+// The month of a number from 1 to 12.
 fn month(number: u8) -> Month
     requires { IsInRange 1 12 number }
     ensures { month_number result ≡ number }
@@ -45,13 +48,13 @@ fn month(number: u8) -> Month
     }
 }
 
-/// Puts year, month and day.
+// Puts year, month and day.
 fn put_date(numbers: Numbers, parsed: &mut Parsed)
-    requires year { numbers.year ≤ 9999 }
+    requires year { numbers.year ≤ greatest_year }
     requires month { IsInRange 1 12 numbers.month }
     requires day { IsInRange 1 31 numbers.day }
     ensures { (m : Month_) × (month_number m ≡ numbers.month)
-        × (parsed.new ≡ with_date numbers m parsed.old) }
+        × (put_all greatest_year (date_entries numbers m) parsed.old ≡ Some parsed.new) }
 {
     let month = month(numbers.month);
     let Some(day) = NonZero::<u8>::new(numbers.day) else {
@@ -62,13 +65,13 @@ fn put_date(numbers: Numbers, parsed: &mut Parsed)
     parsed.set_day(day);
 }
 
-/// Puts hour, minute, second and, where it stands, the fraction of the second.
+// Puts hour, minute, second and, where it stands, the fraction of the second.
 fn put_time(numbers: Numbers, parsed: &mut Parsed)
     requires hour { numbers.hour ≤ 23 }
     requires minute { numbers.minute ≤ 59 }
     requires second { numbers.second ≤ 60 }
     requires subsecond { ForSome numbers.subsecond (λ v. v < 1_000_000_000) }
-    ensures { parsed.new ≡ with_time numbers parsed.old }
+    ensures { put_all greatest_year (time_entries numbers) parsed.old ≡ Some parsed.new }
 {
     parsed.set_hour_24(numbers.hour);
     parsed.set_minute(numbers.minute);
@@ -78,11 +81,11 @@ fn put_time(numbers: Numbers, parsed: &mut Parsed)
     }
 }
 
-/// Puts the offset, and forgets the sign that an offset hour of a description had left.
+// Puts the offset, and forgets the sign that an offset hour of a description had left.
 fn put_offset(numbers: Numbers, parsed: &mut Parsed)
     requires hour { numbers.offset_hour ≤ 23 }
     requires minute { numbers.offset_minute ≤ 59 }
-    ensures { parsed.new ≡ with_offset numbers parsed.old }
+    ensures { put_all greatest_year (offset_entries numbers) (without_offset_sign parsed.old) ≡ Some parsed.new }
 {
     let is_negative = numbers.offset_is_negative;
     parsed.forget_offset_sign();
@@ -96,9 +99,9 @@ fn put_offset(numbers: Numbers, parsed: &mut Parsed)
 impl Parsable for Rfc3339 {
     ghost use Rattle.time_parsing.specs.Rfc3339.{Reads, Refuses};
 
-    ghost reads = { λ _. Reads };
+    ghost reads = { λ _. Reads greatest_year };
 
-    ghost refuses = { λ _. Refuses };
+    ghost refuses = { λ _. Refuses greatest_year };
 
     fn parse_into<'a>(&self, input: &'a [u8], parsed: &mut Parsed) -> Result<&'a [u8], Parse> {
         match read::<true>(input) {
@@ -118,13 +121,10 @@ impl Parsable for Rfc3339 {
         input: &[u8],
         defaults: Option<Parsed>,
     ) -> Result<OffsetDateTime, Parse> {
-        match self.parse_internal(input, defaults) {
-            Ok(parsed) => resolved(parsed),
-            Err(e) => Err(e),
-        }
+        resolved(&self.parse_internal(input, defaults))
     }
 
     ghost use Rattle.time_parsing.specs.Rfc3339Laws.{rfc3339_exact};
 
-    ghost exact = { λ _. rfc3339_exact };
+    ghost exact = { λ _. rfc3339_exact greatest_year };
 }

@@ -1,5 +1,8 @@
-use Rattle.std.proofs.Common.{◌≡◌, ◌<◌, ◌≤◌, ℕ, Option, Some, IfSome, true, arith, subst}
+use Rattle.std.proofs.Common.{◌≡◌, ◌∙◌, ◌<◌, ◌≤◌, ℕ, Option, Some, IfSome, true, ap, arith, subst, sym}
+use Rattle.time_values.specs.Range.{greatest_year}
 use Rattle.time_readers.proofs.Keeping.{HasForm-in_places}
+use Rattle.time_parsing.specs.Rfc3339.{date_entries, time_entries, offset_entries}
+use Rattle.time_parsing.proofs.EntryLemmas.{put_all-parts}
 use Rattle.time_parsing.proofs.rfc3339.Rfc3339Parsable.parse_into.Goals as goal
 
 pub put_date-requires-clause-year : goal.put_date-requires-clause-year
@@ -32,3 +35,12 @@ below_second o h v e = let k : v ≤ 999999999 = subst (λ (x : Option ℕ). IfS
 pub put_time-requires-clause-subsecond : goal.put_time-requires-clause-subsecond
 put_time-requires-clause-subsecond c =
     below_second c.in-Ok.found.1.subsecond (HasForm-in_places true c.args.input.now c.in-Ok.found.0.now c.in-Ok.found.1 c.in-Ok.ensures).subsecond
+
+pub returns-in-Ok : goal.returns-in-Ok
+returns-in-Ok c =
+    let numbers = c.in-Ok.found.1 in
+    let date = c.put_date.ensures in
+    let parts =
+        put_all-parts greatest_year (date_entries numbers date.0) (time_entries numbers) (offset_entries numbers)
+        c.args.parsed.now c.put_date.new.parsed c.put_time.new.parsed c.put_offset.new.parsed date.2 c.put_time.ensures c.put_offset.ensures in
+    (numbers, date.0, c.in-Ok.ensures, date.1, parts ∙ ap Some (sym c.allow_leap_second.ensures))

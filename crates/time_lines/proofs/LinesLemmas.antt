@@ -21,11 +21,15 @@ at_lf x xs e = rw e
 past_lf : (x : ℕ) (xs : List ℕ) → (x ≡ 10 → ⊥) → lines_of (x ∷ xs) ≡ onto_first x (lines_of xs)
 past_lf x xs ne = grind (arith, nat_tests)
 
-pub lines_of-cut : (xs : List ℕ) (n : ℕ) → n < length xs → get_or xs n 0 ≡ 10 → ((k : ℕ) → k < n → get_or xs k 0 ≡ 10 → ⊥) → lines_of xs ≡ take n xs ∷ lines_of (drop (n + 1) xs)
+pub lines_of-cut : (xs : List ℕ) (n : ℕ) → n < length xs
+    → get_or xs n 0 ≡ 10 → ((k : ℕ) → k < n → get_or xs k 0 ≡ 10 → ⊥)
+    → lines_of xs ≡ take n xs ∷ lines_of (drop (n + 1) xs)
 lines_of-cut [] n h e before = absurd (omega arith)
 lines_of-cut (x ∷ xs) zero h e before = at_lf x xs e
 lines_of-cut (x ∷ xs) (suc n) h e before =
-    rw drop_more (past_lf x xs (before 0 (omega arith)) ∙ ap (onto_first x) (lines_of-cut xs n (omega arith) e (λ k below. before (suc k) (omega arith))))
+    rw drop_more
+    (past_lf x xs (before 0 (omega arith))
+    ∙ ap (onto_first x) (lines_of-cut xs n (omega arith) e (λ k below. before (suc k) (omega arith))))
 
 pub lines_of-whole : (xs : List ℕ) → 0 < length xs → ((k : ℕ) → k < length xs → get_or xs k 0 ≡ 10 → ⊥) → lines_of xs ≡ xs ∷ []
 lines_of-whole [] h before = absurd (omega arith)
@@ -39,11 +43,16 @@ at_tab x xs e = rw e
 past_tab : (x : ℕ) (xs : List ℕ) → (x ≡ 9 → ⊥) → cut_at_tab (x ∷ xs) ≡ option_map (λ cut. (x ∷ cut.0, cut.1)) (cut_at_tab xs)
 past_tab x xs ne = grind (arith, nat_tests)
 
-pub cut_at_tab-found : (xs : List ℕ) (n : ℕ) → n < length xs → get_or xs n 0 ≡ 9 → ((k : ℕ) → k < n → get_or xs k 0 ≡ 9 → ⊥) → cut_at_tab xs ≡ Some (take n xs, drop (n + 1) xs)
+pub cut_at_tab-found : (xs : List ℕ) (n : ℕ) → n < length xs
+    → get_or xs n 0 ≡ 9 → ((k : ℕ) → k < n → get_or xs k 0 ≡ 9 → ⊥)
+    → cut_at_tab xs ≡ Some (take n xs, drop (n + 1) xs)
 cut_at_tab-found [] n h e before = absurd (omega arith)
 cut_at_tab-found (x ∷ xs) zero h e before = at_tab x xs e
 cut_at_tab-found (x ∷ xs) (suc n) h e before =
-    rw drop_more (past_tab x xs (before 0 (omega arith)) ∙ ap (option_map (λ cut. (x ∷ cut.0, cut.1))) (cut_at_tab-found xs n (omega arith) e (λ k below. before (suc k) (omega arith))))
+    rw drop_more
+    (past_tab x xs (before 0 (omega arith))
+    ∙ ap (option_map (λ cut. (x ∷ cut.0, cut.1)))
+    (cut_at_tab-found xs n (omega arith) e (λ k below. before (suc k) (omega arith))))
 
 pub cut_at_tab-none : (xs : List ℕ) → ((k : ℕ) → k < length xs → get_or xs k 0 ≡ 9 → ⊥) → cut_at_tab xs ≡ None
 cut_at_tab-none [] before = refl
@@ -64,6 +73,7 @@ Consumes-end (Some s) (Some t) None xs p q e = absurd q
 Consumes-end (Some s) (Some t) (Some u) xs p q e = sym (p ∙ ap (λ k. xs ++ k) (q ∙ e) ∙ append-nil xs)
 
 -- one write more
-pub Appends-then : {E : Type 0} (r : Result (Unit {0}) E) (a b c : Option (List ℕ)) (x y z : List ℕ) → Appends a b x → OnOk r (Appends b c y) → x ++ y ≡ z → OnOk r (Appends a c z)
+pub Appends-then : {E : Type 0} (r : Result (Unit {0}) E) (a b c : Option (List ℕ)) (x y z : List ℕ)
+    → Appends a b x → OnOk r (Appends b c y) → x ++ y ≡ z → OnOk r (Appends a c z)
 Appends-then (Ok u) a b c x y z p q e = subst (Appends a c) e (Appends-more a b c x y p q)
 Appends-then (Err f) a b c x y z p q e = tt

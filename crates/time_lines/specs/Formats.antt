@@ -11,7 +11,7 @@ use Rattle.time_lines.specs.declared.formats.Format.TheVariants as format
 use Rattle.time_lines.specs.declared.formats.Target.{Target}
 use Rattle.time_lines.specs.declared.formats.Target.TheVariants as target
 
--- the format of that name
+-- the format of that name, if there is one
 abbrev pub format_named : List ℕ → Option Format
 format_named name =
     if bytes_eq name (codes "rfc3339") then Some format.Rfc3339 else
@@ -20,7 +20,7 @@ format_named name =
     if bytes_eq name (codes "unix") then Some format.Unix else
     if bytes_eq name (codes "local") then Some format.Local else None
 
--- the target of that name
+-- the target of that name, if there is one
 abbrev pub target_named : List ℕ → Option Target
 target_named name =
     if bytes_eq name (codes "date") then Some target.Date else
@@ -32,16 +32,20 @@ target_named name =
     if bytes_eq name (codes "staged") then Some target.Staged else
     if bytes_eq name (codes "timestamp") then Some target.Timestamp else None
 
--- the target, where the format has it: RFC 3339 has no `datetime` yet
-abbrev pub target_of : Format → Option Target → Option Target
-target_of format.Rfc3339 (Some target.DateTime) = None
-target_of format found = found
+-- the target, if the format supports it: `rfc3339` doesn't support `datetime` yet
+abbrev pub supported_target : Format → Option Target → Option Target
+supported_target format.Rfc3339 (Some target.DateTime) = None
+supported_target format found = found
+
+-- the target of that name, if there is one that the format supports
+abbrev pub target_for : Format → List ℕ → Option Target
+target_for format name = supported_target format (target_named name)
 
 -- a component, as a description before version 3 reads it
 abbrev pub part : Component → Tree
 part = component false
 
--- a year of four digits
+-- a year of four digits, with a sign or without
 abbrev pub year : Tree
 year = part (kind.CalendarYearFullStandardRange (record { padding = padding.Zero; sign_is_mandatory = false }))
 
@@ -64,7 +68,12 @@ date_parts =
 -- `03:04:05`
 abbrev pub time_parts : List Tree
 time_parts =
-    part (kind.Hour24 (record { padding = padding.Zero })) ∷ literal (codes ":") ∷ minute ∷ literal (codes ":") ∷ second ∷ []
+    part (kind.Hour24 (record { padding = padding.Zero }))
+    ∷ literal (codes ":")
+    ∷ minute
+    ∷ literal (codes ":")
+    ∷ second
+    ∷ []
 
 -- `-00:30`
 abbrev pub offset_parts : List Tree
@@ -78,7 +87,7 @@ offset_parts =
 abbrev pub date_time_parts : List Tree
 date_time_parts = date_parts ++ literal (codes " ") ∷ time_parts ++ literal (codes " ") ∷ offset_parts
 
--- `2020-366`
+-- a year and the day of it, as `2020-366`
 abbrev pub ordinal_parts : List Tree
 ordinal_parts = year ∷ literal (codes "-") ∷ part (kind.Ordinal (record { padding = padding.Zero })) ∷ []
 

@@ -11,11 +11,11 @@ digits_before (suc k) n text = digits_before k (n / 10) ((48 + n % 10) ∷ text)
 unfoldable pub fixed : ℕ → ℕ → List ℕ
 fixed k n = digits_before k n []
 
--- a minus, where one is asked
+-- a minus, or nothing
 abbrev pub minus_if : Bool → List ℕ
 minus_if is_negative = if is_negative then codes "-" else []
 
--- four digits, or as many as there are past 9999
+-- four digits, or all digits of a number that has more
 abbrev pub four_digits : ℕ → List ℕ
 four_digits n = if nat_lt n 10000 then fixed 4 n else decimal n
 

@@ -1,85 +1,75 @@
--- What is written for an input.
-use Rattle.std.specs.Prelude.{◌≡◌, ℕ, List, [], ◌∷◌, ◌++◌, codes, Option, None, Some, Result}
+-- What is written for an input. `Y` is the greatest year.
+use Rattle.std.specs.Prelude.{◌≡◌, ℕ, List, [], ◌∷◌, ◌++◌, codes, Option, Result, MatchOption}
 use Rattle.std.specs.Io.KnownBytes.{Appends}
-use Rattle.time_values.specs.Range.{greatest_year}
 use Rattle.time_values.specs.Refusal.{Refusal}
 use Rattle.time_readers.specs.Tree.{Tree}
 use Rattle.time_record.specs.Reading as Description
-use Rattle.time_record.specs.Record.{Record, empty}
+use Rattle.time_record.specs.Record.{empty}
 use Rattle.time_record.specs.Resolution.{IsDated, IsTimed, IsOffset, IsPlain, IsUtcMoment, IsMoment, IsTimestamp}
-use Rattle.time_parsing.specs.Outcome.{IsOutcome}
+use Rattle.time_parsing.specs.Outcome.{Reading, Refusing, Resolving, IsOutcome}
 use Rattle.time_parsing.specs.Rfc3339 as Rfc3339
-use Rattle.time_lines.specs.Formats.{format_named, target_named, target_of, ymd, clock, unix, local}
-use Rattle.time_lines.specs.Lines.{lines_of, cut_at_tab}
+use Rattle.time_lines.specs.Formats.{format_named, target_for, ymd, clock, unix, local}
+use Rattle.time_lines.specs.Lines.{lines_of, fields}
 use Rattle.time_lines.specs.Values.{printed, date_text, time_text, offset_text, plain_text, utc_text, offset_date_time_text, timestamp_text}
 use Rattle.time_lines.specs.declared.formats.Format.{Format}
 use Rattle.time_lines.specs.declared.formats.Format.TheVariants as format
 use Rattle.time_lines.specs.declared.formats.Target.{Target}
 use Rattle.time_lines.specs.declared.formats.Target.TheVariants as target
 
--- a value to which a text resolves, printed; a text is read by relations, over an empty record
-abbrev pub IsPrinted : {V : Type 0} → (Record → Result V Refusal → Type 0) → (V → List ℕ) → (List ℕ → Record → List ℕ → Record → Type 0) → (List ℕ → Record → Refusal → Type 0) → List ℕ → List ℕ → Type 0
-IsPrinted {V} resolves value_text reads refuses bytes answer =
-    (outcome : Result V Refusal) × IsOutcome resolves reads refuses bytes empty outcome × (answer ≡ printed value_text outcome)
+-- The answer is the outcome of the text, printed. The format of these two relations reads the text over an empty record.
+abbrev pub IsPrinted : {V : Type 0} → Resolving V → (V → List ℕ) → Reading → Refusing → List ℕ → List ℕ → Type 0
+IsPrinted {V} resolves value_text reads refuses text answer =
+    (outcome : Result V Refusal)
+    × IsOutcome resolves reads refuses text empty outcome
+    × (answer ≡ printed value_text outcome)
 
--- what the text says for the target
-abbrev pub IsAnswerFor : Target → (List ℕ → Record → List ℕ → Record → Type 0) → (List ℕ → Record → Refusal → Type 0) → List ℕ → List ℕ → Type 0
-IsAnswerFor target.Date = IsPrinted (IsDated greatest_year) date_text
-IsAnswerFor target.Time = IsPrinted IsTimed time_text
-IsAnswerFor target.Offset = IsPrinted IsOffset offset_text
-IsAnswerFor target.Plain = IsPrinted (IsPlain greatest_year) plain_text
-IsAnswerFor target.Utc = IsPrinted (IsUtcMoment greatest_year) utc_text
-IsAnswerFor target.DateTime = IsPrinted (IsMoment greatest_year) offset_date_time_text
-IsAnswerFor target.Staged = IsPrinted (IsMoment greatest_year) offset_date_time_text
-IsAnswerFor target.Timestamp = IsPrinted (IsTimestamp greatest_year) timestamp_text
+-- the outcome of the text for the target, printed
+abbrev pub IsAnswerFor : ℕ → Target → Reading → Refusing → List ℕ → List ℕ → Type 0
+IsAnswerFor Y target.Date = IsPrinted (IsDated Y) date_text
+IsAnswerFor Y target.Time = IsPrinted IsTimed time_text
+IsAnswerFor Y target.Offset = IsPrinted IsOffset offset_text
+IsAnswerFor Y target.Plain = IsPrinted (IsPlain Y) plain_text
+IsAnswerFor Y target.Utc = IsPrinted (IsUtcMoment Y) utc_text
+IsAnswerFor Y target.DateTime = IsPrinted (IsMoment Y) offset_date_time_text
+IsAnswerFor Y target.Staged = IsPrinted (IsMoment Y) offset_date_time_text
+IsAnswerFor Y target.Timestamp = IsPrinted (IsTimestamp Y) timestamp_text
 
--- the same of a text that a description reads
-abbrev pub IsDescribed : Tree → Target → List ℕ → List ℕ → Type 0
-IsDescribed tree target = IsAnswerFor target (Description.Reads greatest_year tree) (Description.Refuses greatest_year tree)
+-- the same, where the format is a description
+abbrev pub IsDescribed : ℕ → Tree → Target → List ℕ → List ℕ → Type 0
+IsDescribed Y tree target = IsAnswerFor Y target (Description.Reads Y tree) (Description.Refuses Y tree)
 
--- what the text says, parsed by the format for the target
-abbrev pub IsParsed : Format → Target → List ℕ → List ℕ → Type 0
-IsParsed format.Rfc3339 target = IsAnswerFor target Rfc3339.Reads Rfc3339.Refuses
-IsParsed format.Ymd target = IsDescribed ymd target
-IsParsed format.Clock target = IsDescribed clock target
-IsParsed format.Unix target = IsDescribed unix target
-IsParsed format.Local target = IsDescribed local target
+-- the same, where the format is one that a line may name
+abbrev pub IsParsed : ℕ → Format → Target → List ℕ → List ℕ → Type 0
+IsParsed Y format.Rfc3339 target = IsAnswerFor Y target (Rfc3339.Reads Y) (Rfc3339.Refuses Y)
+IsParsed Y format.Ymd target = IsDescribed Y ymd target
+IsParsed Y format.Clock target = IsDescribed Y clock target
+IsParsed Y format.Unix target = IsDescribed Y unix target
+IsParsed Y format.Local target = IsDescribed Y local target
 
--- an unknown format is told before an unknown target
-abbrev pub IsAnswerOf : Format → Option Target → List ℕ → List ℕ → Type 0
-IsAnswerOf format None bytes answer = answer ≡ codes "error: target"
-IsAnswerOf format (Some target) bytes answer = IsParsed format target bytes answer
-
-abbrev pub IsAnswerBy : Option Format → Option Target → List ℕ → List ℕ → Type 0
-IsAnswerBy None target bytes answer = answer ≡ codes "error: format"
-IsAnswerBy (Some format) target bytes answer = IsAnswerOf format (target_of format target) bytes answer
-
-abbrev pub IsAnswerAfter : List ℕ → Option (List ℕ × List ℕ) → List ℕ → Type 0
-IsAnswerAfter format None answer = answer ≡ codes "error: line"
-IsAnswerAfter format (Some cut) answer = IsAnswerBy (format_named format) (target_named cut.0) cut.1 answer
-
-abbrev pub IsAnswerToCut : Option (List ℕ × List ℕ) → List ℕ → Type 0
-IsAnswerToCut None answer = answer ≡ codes "error: line"
-IsAnswerToCut (Some cut) answer = IsAnswerAfter cut.0 (cut_at_tab cut.1) answer
-
--- The answer to a line, which is a format, TAB, a target, TAB and a text.
-unfoldable pub IsAnswer : List ℕ → List ℕ → Type 0
-IsAnswer line answer = IsAnswerToCut (cut_at_tab line) answer
+-- The answer to a line: the outcome of its text, or what is wrong with the line. A missing field is reported before any
+-- name is checked, and an unknown format before its target is checked.
+unfoldable pub IsAnswer : ℕ → List ℕ → List ℕ → Type 0
+IsAnswer Y line answer =
+    MatchOption (fields line) (answer ≡ codes "error: line")
+    (λ field. MatchOption (format_named field.0) (answer ≡ codes "error: format")
+    (λ format. MatchOption (target_for format field.1) (answer ≡ codes "error: target")
+    (λ target. IsParsed Y format target field.2 answer)))
 
 -- the answers to the lines, each followed by LF
-abbrev pub AreAnswers : List (List ℕ) → List ℕ → Type 0
-AreAnswers [] text = text ≡ []
-AreAnswers (line ∷ lines) text =
-    (answer : List ℕ) × (others : List ℕ) × IsAnswer line answer × AreAnswers lines others × (text ≡ answer ++ 10 ∷ others)
+abbrev pub AreAnswers : ℕ → List (List ℕ) → List ℕ → Type 0
+AreAnswers Y [] text = text ≡ []
+AreAnswers Y (line ∷ lines) text =
+    (answer : List ℕ) × (others : List ℕ)
+    × IsAnswer Y line answer × AreAnswers Y lines others × (text ≡ answer ++ 10 ∷ others)
 
--- a writer holds what it held, and then a text of which P holds
+-- A writer holds what it held, and then a text of which P holds.
 abbrev pub Writes : (List ℕ → Type 0) → Option (List ℕ) → Option (List ℕ) → Type 0
 Writes P old new = (text : List ℕ) × P text × Appends old new text
 
--- a text, and LF
+-- a line of which P holds, and then LF
 abbrev pub WithLineFeed : (List ℕ → Type 0) → List ℕ → Type 0
 WithLineFeed P text = (line : List ℕ) × P line × (text ≡ line ++ 10 ∷ [])
 
--- a writer holds what it held, and then the answers to the lines of the input
-abbrev pub WritesAnswers : Option (List ℕ) → Option (List ℕ) → List ℕ → Type 0
-WritesAnswers old new input = Writes (AreAnswers (lines_of input)) old new
+-- A writer holds what it held, and then the answers to the lines of the input.
+abbrev pub WritesAnswers : ℕ → Option (List ℕ) → Option (List ℕ) → List ℕ → Type 0
+WritesAnswers Y old new input = Writes (AreAnswers Y (lines_of input)) old new

@@ -1,6 +1,6 @@
 -- How a value, or a refusal, is printed.
 use Rattle.std.specs.Fmt.{signed_decimal}
-use Rattle.std.specs.Prelude.{ℕ, List, ◌∷◌, ◌++◌, codes, ◌||◌, pos, if◌then◌else◌, int_lt, unsigned_abs, Result, Ok, Err}
+use Rattle.std.specs.Prelude.{ℕ, ℤ, Bool, List, ◌∷◌, ◌++◌, codes, ◌||◌, pos, if◌then◌else◌, int_lt, unsigned_abs, Result, Ok, Err}
 use Rattle.time_values.specs.Dates as Dates
 use Rattle.time_values.specs.Moments.{plain_date, plain_time, utc_date, utc_time, offset_date, offset_time, offset_of, nanoseconds}
 use Rattle.time_values.specs.Month.{month_number}
@@ -19,19 +19,34 @@ use Rattle.time_lines.specs.Layout.{fixed, year_text}
 
 -- `YYYY-MM-DD`
 abbrev pub date_text : Date → List ℕ
-date_text d = year_text (Dates.year d) ++ codes "-" ++ fixed 2 (month_number (Dates.month d)) ++ codes "-" ++ fixed 2 (Dates.day d)
+date_text d =
+    year_text (Dates.year d)
+    ++ codes "-" ++ fixed 2 (month_number (Dates.month d))
+    ++ codes "-" ++ fixed 2 (Dates.day d)
 
 -- `HH:MM:SS.nnnnnnnnn`
 abbrev pub time_text : Time → List ℕ
-time_text t = fixed 2 (Times.hour t) ++ codes ":" ++ fixed 2 (Times.minute t) ++ codes ":" ++ fixed 2 (Times.second t) ++ codes "." ++ fixed 9 (Times.nanosecond t)
+time_text t =
+    fixed 2 (Times.hour t)
+    ++ codes ":" ++ fixed 2 (Times.minute t)
+    ++ codes ":" ++ fixed 2 (Times.second t)
+    ++ codes "." ++ fixed 9 (Times.nanosecond t)
 
--- `+` or, where a part is negative, `-`
+-- a number below 0
+abbrev pub is_negative : ℤ → Bool
+is_negative z = int_lt z (pos 0)
+
+-- the byte `-` where a part is negative, and else `+`
 abbrev pub sign_of : UtcOffset → ℕ
-sign_of o = if int_lt (Offsets.hours o) (pos 0) || int_lt (Offsets.minutes o) (pos 0) || int_lt (Offsets.seconds o) (pos 0) then 45 else 43
+sign_of o =
+    if is_negative (Offsets.hours o) || is_negative (Offsets.minutes o) || is_negative (Offsets.seconds o) then 45 else 43
 
 -- `+HH:MM:SS`
 abbrev pub offset_text : UtcOffset → List ℕ
-offset_text o = sign_of o ∷ fixed 2 (unsigned_abs (Offsets.hours o)) ++ codes ":" ++ fixed 2 (unsigned_abs (Offsets.minutes o)) ++ codes ":" ++ fixed 2 (unsigned_abs (Offsets.seconds o))
+offset_text o =
+    sign_of o ∷ fixed 2 (unsigned_abs (Offsets.hours o))
+    ++ codes ":" ++ fixed 2 (unsigned_abs (Offsets.minutes o))
+    ++ codes ":" ++ fixed 2 (unsigned_abs (Offsets.seconds o))
 
 -- date, space, time
 abbrev pub date_time_text : Date → Time → List ℕ
@@ -40,7 +55,7 @@ date_time_text d t = date_text d ++ codes " " ++ time_text t
 abbrev pub plain_text : PlainDateTime → List ℕ
 plain_text p = date_time_text (plain_date p) (plain_time p)
 
--- date, space, time, space, no offset
+-- date, space, time, space, and the offset of UTC
 abbrev pub utc_text : UtcDateTime → List ℕ
 utc_text u = date_time_text (utc_date u) (utc_time u) ++ codes " +00:00:00"
 

@@ -1,6 +1,7 @@
 //! The answer to a line.
 ghost use Rattle.std.specs.Prelude.{OnOk};
 ghost use Rattle.std.specs.Io.KnownBytes.{Appends};
+ghost use Rattle.time_values.specs.Range.{greatest_year};
 ghost use Rattle.time_parsing.specs.Outcome.{seen};
 ghost use Rattle.time_lines.specs.Formats as formats;
 ghost use Rattle.time_lines.specs.Output.{IsAnswer, IsAnswerFor, IsDescribed, IsParsed, Writes};
@@ -19,7 +20,7 @@ use time_parsing::{Parsable, Rfc3339};
 use time_record::Parsed;
 use time_values::error::Parse;
 
-/// Writes a value, or the error of its parse.
+// Writes a value, or the error of its parse.
 fn write_outcome<V: Layout, W: Write>(outcome: Result<V, Parse>, out: &mut W) -> io::Result<()>
     ensures { OnOk result (Appends (W.contents out.old) (W.contents out.new) (printed V.text (seen outcome))) }
 {
@@ -29,14 +30,15 @@ fn write_outcome<V: Layout, W: Write>(outcome: Result<V, Parse>, out: &mut W) ->
     }
 }
 
-/// Writes what the text says for the target.
+// Writes the outcome of the text for the target.
 fn write_value<F: Parsable, W: Write>(
     format: &F,
     target: Target,
     text: &[u8],
     out: &mut W,
 ) -> io::Result<()>
-    ensures { OnOk result (Writes (IsAnswerFor target (F.reads format.now) (F.refuses format.now) text.now)
+    ensures { OnOk result
+        (Writes (IsAnswerFor greatest_year target (F.reads format.now) (F.refuses format.now) text.now)
         (W.contents out.old) (W.contents out.new)) }
 {
     match target {
@@ -56,19 +58,19 @@ fn write_value<F: Parsable, W: Write>(
     }
 }
 
-/// Writes what the text says by a description of a date.
+// Writes the outcome of the text by a description of a date.
 fn write_ymd<W: Write>(target: Target, text: &[u8], out: &mut W) -> io::Result<()>
-    ensures { OnOk result (Writes (IsDescribed formats.ymd target text.now) (W.contents out.old)
-        (W.contents out.new)) }
+    ensures { OnOk result (Writes (IsDescribed greatest_year formats.ymd target text.now)
+        (W.contents out.old) (W.contents out.new)) }
 {
     let items = date_items();
     write_value(&compound(&items), target, text, out)
 }
 
-/// Writes what the text says by a description of a time on a clock of 12 hours.
+// Writes the outcome of the text by a description of a time on a clock of 12 hours.
 fn write_clock<W: Write>(target: Target, text: &[u8], out: &mut W) -> io::Result<()>
-    ensures { OnOk result (Writes (IsDescribed formats.clock target text.now) (W.contents out.old)
-        (W.contents out.new)) }
+    ensures { OnOk result (Writes (IsDescribed greatest_year formats.clock target text.now)
+        (W.contents out.old) (W.contents out.new)) }
 {
     let fraction = fraction_items();
     let fraction = compound(&fraction);
@@ -78,10 +80,10 @@ fn write_clock<W: Write>(target: Target, text: &[u8], out: &mut W) -> io::Result
     write_value(&compound(&items), target, text, out)
 }
 
-/// Writes what the text says by a description of a date, time and offset, or of a year and its day.
+// Writes the outcome of the text by a description of a date, time and offset, or of a year and its day.
 fn write_local<W: Write>(target: Target, text: &[u8], out: &mut W) -> io::Result<()>
-    ensures { OnOk result (Writes (IsDescribed formats.local target text.now) (W.contents out.old)
-        (W.contents out.new)) }
+    ensures { OnOk result (Writes (IsDescribed greatest_year formats.local target text.now)
+        (W.contents out.old) (W.contents out.new)) }
 {
     let items = local_items();
     let (date_time, ordinal) = items.split_at(15);
@@ -89,15 +91,15 @@ fn write_local<W: Write>(target: Target, text: &[u8], out: &mut W) -> io::Result
     write_value(&first(&lists), target, text, out)
 }
 
-/// Writes what the text says, parsed by the format for the target.
+// Writes the outcome of the text by the format for the target.
 fn write_parsed<W: Write>(
     format: Format,
     target: Target,
     text: &[u8],
     out: &mut W,
 ) -> io::Result<()>
-    ensures { OnOk result (Writes (IsParsed format target text.now) (W.contents out.old)
-        (W.contents out.new)) }
+    ensures { OnOk result (Writes (IsParsed greatest_year format target text.now)
+        (W.contents out.old) (W.contents out.new)) }
 {
     match format {
         Format::Rfc3339 => write_value(&Rfc3339, target, text, out),
@@ -111,7 +113,7 @@ fn write_parsed<W: Write>(
 /// Writes the answer to a line, which is a format, TAB, a target, TAB and a text.
 #[tactic(auto, unfolding(crate::specs::Output::IsAnswer))]
 pub fn write_answer<W: Write>(line: &[u8], out: &mut W) -> io::Result<()>
-    ensures { OnOk result (Writes (IsAnswer line.now) (W.contents out.old) (W.contents out.new)) }
+    ensures { OnOk result (Writes (IsAnswer greatest_year line.now) (W.contents out.old) (W.contents out.new)) }
 {
     let Some((format, rest)) = cut_tab(line) else {
         return out.write_all(b"error: line");

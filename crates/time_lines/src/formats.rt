@@ -45,7 +45,7 @@ pub enum Target {
     Timestamp,
 }
 
-/// The format of that name.
+/// The format of that name, if there is one.
 pub fn find_format(name: &[u8]) -> Option<Format>
     ensures { result ≡ formats.format_named name.now }
 {
@@ -64,7 +64,7 @@ pub fn find_format(name: &[u8]) -> Option<Format>
     }
 }
 
-/// The target of that name.
+// The target of that name, if there is one.
 fn target_named(name: &[u8]) -> Option<Target>
     ensures { result ≡ formats.target_named name.now }
 {
@@ -89,9 +89,9 @@ fn target_named(name: &[u8]) -> Option<Target>
     }
 }
 
-/// The target of that name, where the format has it.
+/// The target of that name, if there is one that the format supports.
 pub fn find_target(format: Format, name: &[u8]) -> Option<Target>
-    ensures { result ≡ formats.target_of format (formats.target_named name.now) }
+    ensures { result ≡ formats.target_for format name.now }
 {
     match (format, target_named(name)) {
         (Format::Rfc3339, Some(Target::DateTime)) => None,
@@ -99,7 +99,7 @@ pub fn find_target(format: Format, name: &[u8]) -> Option<Target>
     }
 }
 
-/// A component that a description reads.
+// A component that a description reads.
 macro_rules! item {
     ($name:ident, $($field:ident: $value:expr),*) => {
         BorrowedFormatItem::Component(Component::$name(modifier::$name { $($field: $value),* }))
@@ -120,7 +120,7 @@ pub fn first<'a>(items: &'a [BorrowedFormatItem<'a>]) -> BorrowedFormatItem<'a>
     BorrowedFormatItem::First(items)
 }
 
-/// A year of four digits.
+// A year of four digits.
 fn year() -> BorrowedFormatItem<'static>
     ensures { borrowed_shape result ≡ formats.year }
 {

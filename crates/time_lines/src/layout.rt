@@ -8,7 +8,7 @@ use std::io;
 use std::io::Write;
 use time_values::{Date, OffsetDateTime, PlainDateTime, Time, Timestamp, UtcDateTime, UtcOffset};
 
-/// The last decimal digit of a number.
+// The last decimal digit of a number.
 #[inline]
 fn digit(n: u32) -> u8
     ensures { result ≡ 48 + n % 10 }
@@ -16,7 +16,7 @@ fn digit(n: u32) -> u8
     b'0' + (n % 10) as u8
 }
 
-/// `YYYY-MM-DD`.
+// `YYYY-MM-DD`.
 #[tactic(auto, unfolding(crate::specs::Layout::digits_before, crate::specs::Layout::fixed))]
 fn date_bytes(year: u32, month: u8, day: u8) -> [u8; 10]
     ensures { result ≡ fixed 4 year ++ codes "-" ++ fixed 2 month ++ codes "-" ++ fixed 2 day }
@@ -37,7 +37,7 @@ fn date_bytes(year: u32, month: u8, day: u8) -> [u8; 10]
     ]
 }
 
-/// `HH:MM:SS.nnnnnnnnn`.
+// `HH:MM:SS.nnnnnnnnn`.
 #[tactic(auto, unfolding(crate::specs::Layout::digits_before, crate::specs::Layout::fixed))]
 fn time_bytes(hour: u8, minute: u8, second: u8, nanosecond: u32) -> [u8; 18]
     ensures { result ≡ fixed 2 hour ++ codes ":" ++ fixed 2 minute ++ codes ":" ++ fixed 2 second
@@ -69,7 +69,7 @@ fn time_bytes(hour: u8, minute: u8, second: u8, nanosecond: u32) -> [u8; 18]
     ]
 }
 
-/// `HH:MM:SS`, after the sign that it is handed.
+// `HH:MM:SS`, after the sign that it is handed.
 #[tactic(auto, unfolding(crate::specs::Layout::digits_before, crate::specs::Layout::fixed))]
 fn offset_bytes(sign: u8, hours: u8, minutes: u8, seconds: u8) -> [u8; 9]
     ensures { result ≡ sign ∷ fixed 2 hours ++ codes ":" ++ fixed 2 minutes ++ codes ":" ++ fixed 2 seconds }
@@ -90,7 +90,7 @@ fn offset_bytes(sign: u8, hours: u8, minutes: u8, seconds: u8) -> [u8; 9]
     ]
 }
 
-/// Writes a minus, where one is asked.
+// Writes a minus, where one is asked.
 fn write_minus<W: Write>(is_negative: bool, out: &mut W) -> io::Result<()>
     ensures { OnOk result (Appends (W.contents out.old) (W.contents out.new) (minus_if is_negative)) }
 {
@@ -151,7 +151,7 @@ impl Layout for UtcOffset {
     }
 }
 
-/// Writes date and time with a space between them.
+// Writes date and time with a space between them.
 fn write_date_time<W: Write>(date: Date, time: Time, out: &mut W) -> io::Result<()>
     ensures { OnOk result (Appends (W.contents out.old) (W.contents out.new) (date_time_text date time)) }
 {

@@ -1,5 +1,6 @@
 //! Answers whole inputs.
 ghost use Rattle.std.specs.Prelude.{◌≡◌, OnOk, IfOk, IfSome};
+ghost use Rattle.time_values.specs.Range.{greatest_year};
 ghost use Rattle.time_lines.specs.Output.{IsAnswer, WithLineFeed, Writes, WritesAnswers};
 
 use crate::answers::write_answer;
@@ -34,21 +35,23 @@ impl Stop {
     }
 }
 
-/// Writes the answer to a line and LF, piece by piece.
+// Writes the answer to a line and LF, piece by piece.
 fn write_pieces<W: Write>(line: &[u8], out: &mut W) -> io::Result<()>
-    ensures { OnOk result (Writes (WithLineFeed (IsAnswer line.now)) (W.contents out.old) (W.contents out.new)) }
+    ensures { OnOk result (Writes (WithLineFeed (IsAnswer greatest_year line.now))
+        (W.contents out.old) (W.contents out.new)) }
 {
     write_answer(line, out)?;
     out.write_all(b"\n")
 }
 
-/// More bytes than any answer of the library has, with its LF.
+// More bytes than any answer of the library has, with its LF.
 const LONGEST: usize = 128;
 
-/// Writes the answer to a line and LF by one write. An error's name could have any length, so what is
-/// longer than the buffer goes out piece by piece.
+// Writes the answer to a line and LF by one write. An error's name could have any length, so what is
+// longer than the buffer goes out piece by piece.
 fn write_line<W: Write>(line: &[u8], out: &mut W) -> io::Result<()>
-    ensures { OnOk result (Writes (WithLineFeed (IsAnswer line.now)) (W.contents out.old) (W.contents out.new)) }
+    ensures { OnOk result (Writes (WithLineFeed (IsAnswer greatest_year line.now))
+        (W.contents out.old) (W.contents out.new)) }
 {
     let mut buffer = ArrayVec::<u8, LONGEST>::new();
     match write_pieces(line, &mut buffer) {
@@ -62,7 +65,7 @@ fn write_line<W: Write>(line: &[u8], out: &mut W) -> io::Result<()>
 /// Lines end with LF; a last line without LF counts, and nothing after a last LF does. After an
 /// `Err`, that of a write, nothing is said of how much was written.
 pub fn run<W: Write>(input: &[u8], out: &mut W) -> Result<(), io::Error>
-    ensures { OnOk result (WritesAnswers (W.contents out.old) (W.contents out.new) input.now) }
+    ensures { OnOk result (WritesAnswers greatest_year (W.contents out.old) (W.contents out.new) input.now) }
 {
     let mut rest = input;
     while !rest.is_empty() {
@@ -75,7 +78,7 @@ pub fn run<W: Write>(input: &[u8], out: &mut W) -> Result<(), io::Error>
 
 const MOST_READS: u64 = 4294967296;
 
-/// All that the reader has left, each read tried once.
+// All that the reader has left, each read tried once.
 fn read_all<R: Read, A: Allocator>(alloc: A, input: &mut R) -> Result<Vec<u8, A>, Stop>
     ensures all { IfOk result (λ text. IfSome (R.remaining input.old) (λ bytes. text.items ≡ bytes)) }
 {
@@ -100,21 +103,21 @@ fn read_all<R: Read, A: Allocator>(alloc: A, input: &mut R) -> Result<Vec<u8, A>
 /// nothing was written.
 pub fn serve<R: Read, W: Write>(alloc: Global, input: &mut R, out: &mut W) -> Result<(), Stop>
     ensures ok { OnOk result (IfSome (R.remaining input.old)
-        (λ bytes. WritesAnswers (W.contents out.old) (W.contents out.new) bytes)) }
+        (λ bytes. WritesAnswers greatest_year (W.contents out.old) (W.contents out.new) bytes)) }
     ensures unread { result ≡ Err Stop.Unread → out.new ≡ out.old }
     ensures memory { result ≡ Err Stop.Memory → out.new ≡ out.old }
 {
     serve_in(alloc, input, out)
 }
 
-/// The same with any allocator.
+// The same with any allocator.
 pub(crate) fn serve_in<R: Read, W: Write, A: Allocator>(
     alloc: A,
     input: &mut R,
     out: &mut W,
 ) -> Result<(), Stop>
     ensures ok { OnOk result (IfSome (R.remaining input.old)
-        (λ bytes. WritesAnswers (W.contents out.old) (W.contents out.new) bytes)) }
+        (λ bytes. WritesAnswers greatest_year (W.contents out.old) (W.contents out.new) bytes)) }
     ensures unread { result ≡ Err Stop.Unread → out.new ≡ out.old }
     ensures memory { result ≡ Err Stop.Memory → out.new ≡ out.old }
 {

@@ -9,4 +9,4 @@ returns g c =
     let fraction = c.compound-fraction.ensures ∙ ap (λ ts. sequence (trees ts)) c.fraction_items-fraction.ensures in
     let seconds = c.compound-seconds.ensures ∙ ap (λ ts. sequence (trees ts)) (c.second_items-seconds.ensures ∙ ap second_parts fraction) in
     let whole = c.compound.ensures ∙ ap (λ ts. sequence (trees ts)) (c.clock_items-items.ensures ∙ ap clock_parts seconds) in
-    Writes-described c.write_value.result _ clock _ _ _ _ whole c.write_value.ensures
+    Writes-described c.write_value.result _ _ clock _ _ _ _ whole c.write_value.ensures

@@ -7,4 +7,4 @@ use Rattle.time_lines.proofs.answers.write_ymd.Goals as goal
 pub returns : goal.returns
 returns g c =
     let whole = c.compound.ensures ∙ ap (λ ts. sequence (trees ts)) c.date_items-items.ensures in
-    Writes-described c.write_value.result _ ymd _ _ _ _ whole c.write_value.ensures
+    Writes-described c.write_value.result _ _ ymd _ _ _ _ whole c.write_value.ensures

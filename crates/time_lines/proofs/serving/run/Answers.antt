@@ -1,5 +1,6 @@
 use Rattle.std.proofs.Common.{◌≡◌, ◌++◌, [], refl, subst, sym, append-nil, arith}
 use Rattle.std.proofs.lemmas.Grind.{common_steps}
+use Rattle.time_values.specs.Range.{greatest_year}
 use Rattle.time_lines.specs.Lines.{lines_of}
 use Rattle.time_lines.specs.Output.{AreAnswers}
 use Rattle.time_lines.proofs.LinesLemmas.{Appends-more}
@@ -10,10 +11,10 @@ pub loop-rest-preserved : goal.loop-rest-preserved
 loop-rest-preserved g c =
     let so_far = c.loop-rest.invariant in
     let more = c.in_ok-write_line.ensures in
-    (so_far.0 ++ more.0, Appends-more _ _ _ _ _ so_far.1 more.2, AreAnswers-more _ _ _ _ _ _ c.first_line.ensures.line more.1 so_far.2)
+    (so_far.0 ++ more.0, Appends-more _ _ _ _ _ so_far.1 more.2, AreAnswers-more greatest_year _ _ _ _ _ _ c.first_line.ensures.line more.1 so_far.2)
 
 pub returns : goal.returns
 returns g c =
     let so_far = c.loop-rest.invariant in
     let none : c.loop-rest.rest.now ≡ [] = grind (arith, common_steps) in
-    (so_far.0 ++ [], so_far.2 [] (subst (λ r. AreAnswers (lines_of r) []) (sym none) refl), rw append-nil so_far.1)
+    (so_far.0 ++ [], so_far.2 [] (subst (λ r. AreAnswers greatest_year (lines_of r) []) (sym none) refl), rw append-nil so_far.1)

@@ -13,4 +13,5 @@ returns g c =
     let magnitude : c.unsigned_abs.result ≡ unsigned_abs year = c.unsigned_abs.ensures.value ∙ ap unsigned_abs kept in
     let small : c.unsigned_abs.result < 10000 = omega (arith, ints) in
     Appends-then _ _ _ _ _ _ _ c.in_ok-write_minus.ensures c.write_all.ensures.bytes
-    (date_text-small c.args.self year _ c.unsigned_abs.result c.number.result c.day.result c.date_bytes.result c.year-year.ensures kept magnitude small (c.number.ensures.value ∙ ap month_number c.month.ensures) c.day.ensures c.date_bytes.ensures)
+    (date_text-small c.args.self year _ c.unsigned_abs.result c.number.result c.day.result c.date_bytes.result
+    c.year-year.ensures kept magnitude small (c.number.ensures.value ∙ ap month_number c.month.ensures) c.day.ensures c.date_bytes.ensures)

@@ -1,0 +1,11 @@
+//! Laws of answers: the function does nothing, and its contract is the law.
+ghost use Rattle.time_values.specs.Range.{greatest_year};
+ghost use Rattle.time_lines.specs.Laws.{OneAnswer, OneOutput, OneWriting};
+
+/// A line has at most one answer, lines have at most one text of answers, and what a run leaves
+/// follows from its input.
+pub fn law_one_answer()
+    ensures line { OneAnswer greatest_year }
+    ensures lines { OneOutput greatest_year }
+    ensures input { OneWriting greatest_year }
+{}

@@ -1,17 +1,8 @@
 -- Entries put into a record one after another. `Y` is the greatest year.
-use Rattle.std.proofs.Common.{◌≡◌, ◌∙◌, ℕ, List, [], ◌∷◌, ◌++◌, Option, None, Some, refl, sym, ap, cond, Bool, true, false, IsTrue, append_assoc}
+use Rattle.std.proofs.Common.{◌≡◌, ◌∙◌, ℕ, List, [], ◌∷◌, ◌++◌, Option, None, Some, refl, ap, cond, Bool, true, false}
 use Rattle.std.specs.Prelude.{option_and_then}
-use Rattle.time_record.specs.Record.{Record, Entry, InRange, in_range, put, put_here, put_all, Sets, year_is}
+use Rattle.time_record.specs.Record.{Record, Entry, in_range, put, put_here, put_all, year_is}
 use Rattle.time_parsing.specs.Rfc3339.{without_offset_sign, with_leap_second}
-
-sets-some : (b : Bool) (p r q : Record) (answer : Option (Unit {0})) → IsTrue b → Sets (cond b (Some p) None) r answer q → cond b (Some p) None ≡ Some q
-sets-some true p r q (Some u) within sets = ap Some (sym sets)
-sets-some true p r q None within sets = absurd sets
-sets-some false p r q answer within sets = absurd (cc)
-
--- a setter whose value is in range puts its entry
-pub put-sets : (Y : ℕ) (e : Entry) (r q : Record) (answer : Option (Unit {0})) → InRange Y e → Sets (put Y e r) r answer q → put Y e r ≡ Some q
-put-sets Y e r q answer within sets = sets-some (in_range Y e) (put_here e r) r q answer within sets
 
 and_then-append : (Y : ℕ) (xs ys : List Entry) (o : Option Record) (q : Record)
     → ((p : Record) → put_all Y xs p ≡ Some q → put_all Y (xs ++ ys) p ≡ put_all Y ys q)
@@ -20,7 +11,7 @@ and_then-append Y xs ys None q each h = absurd (cc)
 and_then-append Y xs ys (Some p) q each h = each p h
 
 -- the entries of one list, and then those of another
-pub put_all-append : (Y : ℕ) (xs ys : List Entry) (r q : Record) → put_all Y xs r ≡ Some q → put_all Y (xs ++ ys) r ≡ put_all Y ys q
+put_all-append : (Y : ℕ) (xs ys : List Entry) (r q : Record) → put_all Y xs r ≡ Some q → put_all Y (xs ++ ys) r ≡ put_all Y ys q
 put_all-append Y [] ys r q h = let same : r ≡ q = cc in ap (put_all Y ys) same
 put_all-append Y (x ∷ xs) ys r q h = and_then-append Y xs ys (put Y x r) q (λ p. put_all-append Y xs ys p q) h
 
@@ -37,6 +28,7 @@ module _ (change : Record → Record) (past : (e : Entry) (r : Record) → put_h
   put_all-changed Y [] r q h = let same : r ≡ q = cc in ap (λ (x : Record). Some (change x)) same
   put_all-changed Y (e ∷ es) r q h = and_then-changed Y e es r q (in_range Y e) (λ p. put_all-changed Y es p q) h
 
+-- no entry looks at the flags, except that of a century at its own
 past_offset_sign : (e : Entry) (r : Record) → put_here e (without_offset_sign r) ≡ without_offset_sign (put_here e r)
 past_offset_sign (year_is v) r = refl
 past_offset_sign _ r = refl

@@ -22,13 +22,17 @@ subsecond_entries (Some v) = subsecond_is v ∷ []
 abbrev pub time_entries : Numbers → List Entry
 time_entries n = hour_24_is n.hour ∷ minute_is n.minute ∷ second_is n.second ∷ subsecond_entries n.subsecond
 
--- The entries of an offset: its hour and minute with its sign, and for `Z` also the second 0. A numeric offset says no
--- second.
-abbrev pub offset_entries : Numbers → List Entry
-offset_entries n =
+-- the entries of a numeric offset, which says no second: its hour and minute, with its sign
+abbrev pub numeric_offset_entries : Numbers → List Entry
+numeric_offset_entries n =
     offset_hour_is (signed_by n.offset_is_negative (pos n.offset_hour))
     ∷ offset_minute_is (signed_by n.offset_is_negative (pos n.offset_minute))
-    ∷ (if n.is_utc then offset_second_is (pos 0) ∷ [] else [])
+    ∷ []
+
+-- the entries of an offset, of which `Z` also says the second, 0
+abbrev pub offset_entries : Numbers → List Entry
+offset_entries n =
+    if n.is_utc then numeric_offset_entries n ++ offset_second_is (pos 0) ∷ [] else numeric_offset_entries n
 
 -- the entries of the numbers, of which m is the month, in the order of the places
 abbrev pub entries : Numbers → Month → List Entry

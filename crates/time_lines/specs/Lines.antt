@@ -20,4 +20,5 @@ cut_at_tab (b ∷ bytes) = if b == 9 then Some ([], bytes) else option_map (λ c
 -- the three fields of a line: a format, TAB, a target, TAB, and the text, which may have TABs of its own
 abbrev pub fields : List ℕ → Option (List ℕ × List ℕ × List ℕ)
 fields line =
-    option_and_then (λ first. option_map (λ second. (first.0, second.0, second.1)) (cut_at_tab first.1)) (cut_at_tab line)
+    option_and_then
+    (λ first. option_map (λ second. (first.0, second.0, second.1)) (cut_at_tab first.1)) (cut_at_tab line)

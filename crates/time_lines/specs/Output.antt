@@ -16,7 +16,7 @@ use Rattle.time_lines.specs.declared.formats.Format.TheVariants as format
 use Rattle.time_lines.specs.declared.formats.Target.{Target}
 use Rattle.time_lines.specs.declared.formats.Target.TheVariants as target
 
--- The answer is the outcome of the text, printed. The format of these two relations reads the text over an empty record.
+-- The answer is the outcome of the text, printed. The format of these two relations reads it over an empty record.
 abbrev pub IsPrinted : {V : Type 0} → Resolving V → (V → List ℕ) → Reading → Refusing → List ℕ → List ℕ → Type 0
 IsPrinted {V} resolves value_text reads refuses text answer =
     (outcome : Result V Refusal)
@@ -46,8 +46,8 @@ IsParsed Y format.Clock target = IsDescribed Y clock target
 IsParsed Y format.Unix target = IsDescribed Y unix target
 IsParsed Y format.Local target = IsDescribed Y local target
 
--- The answer to a line: the outcome of its text, or what is wrong with the line. A missing field is reported before any
--- name is checked, and an unknown format before its target is checked.
+-- The answer to a line: the outcome of its text, or what is wrong with the line. A missing field is reported before
+-- any name is checked, and an unknown format is reported before its target is checked.
 unfoldable pub IsAnswer : ℕ → List ℕ → List ℕ → Type 0
 IsAnswer Y line answer =
     MatchOption (fields line) (answer ≡ codes "error: line")

@@ -39,7 +39,8 @@ is_negative z = int_lt z (pos 0)
 -- the byte `-` where a part is negative, and else `+`
 abbrev pub sign_of : UtcOffset → ℕ
 sign_of o =
-    if is_negative (Offsets.hours o) || is_negative (Offsets.minutes o) || is_negative (Offsets.seconds o) then 45 else 43
+    if is_negative (Offsets.hours o) || is_negative (Offsets.minutes o) || is_negative (Offsets.seconds o)
+    then 45 else 43
 
 -- `+HH:MM:SS`
 abbrev pub offset_text : UtcOffset → List ℕ

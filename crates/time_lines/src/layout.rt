@@ -90,7 +90,7 @@ fn offset_bytes(sign: u8, hours: u8, minutes: u8, seconds: u8) -> [u8; 9]
     ]
 }
 
-// Writes a minus, where one is asked.
+// Writes a minus, or nothing.
 fn write_minus<W: Write>(is_negative: bool, out: &mut W) -> io::Result<()>
     ensures { OnOk result (Appends (W.contents out.old) (W.contents out.new) (minus_if is_negative)) }
 {

@@ -13,7 +13,7 @@ use std::io::{Read, Write};
 /// Why the program stopped before its end.
 #[derive(Clone, Copy, Debug, PartialEq, Eq)]
 pub enum Stop {
-    /// A read failed, or the reads of [`serve`] didn't meet the end.
+    /// A read failed, or the input didn't end within the reads that [`serve`] makes.
     Unread,
     /// The input buffer's growth was refused.
     Memory,
@@ -35,7 +35,7 @@ impl Stop {
     }
 }
 
-// Writes the answer to a line and LF, piece by piece.
+// Writes the answer to a line and LF, in pieces.
 fn write_pieces<W: Write>(line: &[u8], out: &mut W) -> io::Result<()>
     ensures { OnOk result (Writes (WithLineFeed (IsAnswer greatest_year line.now))
         (W.contents out.old) (W.contents out.new)) }
@@ -44,11 +44,11 @@ fn write_pieces<W: Write>(line: &[u8], out: &mut W) -> io::Result<()>
     out.write_all(b"\n")
 }
 
-// More bytes than any answer of the library has, with its LF.
+// More bytes than any answer has, with its LF.
 const LONGEST: usize = 128;
 
-// Writes the answer to a line and LF by one write. An error's name could have any length, so what is
-// longer than the buffer goes out piece by piece.
+// Writes the answer to a line and LF by one write. By its type an error's name could have any length:
+// an answer that doesn't fit the buffer, which no error of the libraries has, is written in pieces.
 fn write_line<W: Write>(line: &[u8], out: &mut W) -> io::Result<()>
     ensures { OnOk result (Writes (WithLineFeed (IsAnswer greatest_year line.now))
         (W.contents out.old) (W.contents out.new)) }
@@ -62,8 +62,8 @@ fn write_line<W: Write>(line: &[u8], out: &mut W) -> io::Result<()>
 
 /// Writes the answer to each line of the input, and takes no memory.
 ///
-/// Lines end with LF; a last line without LF counts, and nothing after a last LF does. After an
-/// `Err`, that of a write, nothing is said of how much was written.
+/// Each line ends with LF, which the last one may lack. After an `Err`, that of a write, nothing is
+/// known of how much was written.
 pub fn run<W: Write>(input: &[u8], out: &mut W) -> Result<(), io::Error>
     ensures { OnOk result (WritesAnswers greatest_year (W.contents out.old) (W.contents out.new) input.now) }
 {
@@ -76,9 +76,10 @@ pub fn run<W: Write>(input: &[u8], out: &mut W) -> Result<(), io::Error>
     Ok(())
 }
 
+// After so many reads an input counts as one without an end.
 const MOST_READS: u64 = 4294967296;
 
-// All that the reader has left, each read tried once.
+// Reads all that the reader has left. A failed read is not tried again.
 fn read_all<R: Read, A: Allocator>(alloc: A, input: &mut R) -> Result<Vec<u8, A>, Stop>
     ensures all { IfOk result (λ text. IfSome (R.remaining input.old) (λ bytes. text.items ≡ bytes)) }
 {
@@ -99,8 +100,8 @@ fn read_all<R: Read, A: Allocator>(alloc: A, input: &mut R) -> Result<Vec<u8, A>
 /// Reads the input to its end, with 4294967296 reads at most, and writes the answer to each of its
 /// lines.
 ///
-/// A failed read is not tried again, whatever its error. After [`Stop::Unread`] or [`Stop::Memory`]
-/// nothing was written.
+/// A failed read is not tried again, not even an interrupted one. After [`Stop::Unread`] or
+/// [`Stop::Memory`] nothing was written.
 pub fn serve<R: Read, W: Write>(alloc: Global, input: &mut R, out: &mut W) -> Result<(), Stop>
     ensures ok { OnOk result (IfSome (R.remaining input.old)
         (λ bytes. WritesAnswers greatest_year (W.contents out.old) (W.contents out.new) bytes)) }

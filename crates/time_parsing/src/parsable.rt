@@ -12,8 +12,8 @@ use time_values::{Date, OffsetDateTime, PlainDateTime, Time, Timestamp, UtcDateT
 
 /// A format that texts can be parsed by.
 ///
-/// The second argument of the calls that parse a whole text is what a component has that the text
-/// leaves out: the defaults, or nothing.
+/// The calls that parse a whole text take defaults for what the text leaves out, as the year of
+/// `03-04`: the text is read over them, and what it says replaces them. `None` means no defaults.
 pub trait Parsable {
     // A front of the bytes is read over a record: the rest, and the record after it.
     ghost reads: { Self → Reading };
@@ -21,8 +21,8 @@ pub trait Parsable {
     // Nothing is read, with this refusal.
     ghost refuses: { Self → Refusing };
 
-    /// Reads a front of the input over the record, and answers the unread rest. A refusal leaves the
-    /// record as it was.
+    /// Reads a front of the input over the record, and answers the unread rest. What the text says
+    /// replaces what the record had. A refusal leaves the record as it was.
     fn parse_into<'a>(&self, input: &'a [u8], parsed: &mut Parsed) -> Result<&'a [u8], Parse>
         ensures { ParsesInto (reads self.now) (refuses self.now) input.now parsed.old result parsed.new };
 

@@ -14,7 +14,7 @@ use Rattle.time_parsing.specs.Rfc3339 as Rfc3339
 use Rattle.time_parsing.specs.Rfc3339Laws.{rfc3339_exact}
 use Rattle.time_parsing.proofs.OneOutcome.{one_outcome}
 use Rattle.time_lines.specs.Formats.{format_named, target_for, ymd, clock, unix, local}
-use Rattle.time_lines.specs.Lines.{lines_of, fields}
+use Rattle.time_lines.specs.Lines.{lines_of, fields_of}
 use Rattle.time_lines.specs.Output.{IsPrinted, IsAnswerFor, IsDescribed, IsParsed, IsAnswer, AreAnswers, WritesAnswers}
 use Rattle.time_lines.specs.Values.{printed, date_text, time_text, offset_text, plain_text, utc_text, offset_date_time_text, timestamp_text}
 use Rattle.time_lines.specs.declared.formats.Format.{Format}
@@ -66,9 +66,9 @@ IsParsed-one format.Local t bytes = IsDescribed-one local t bytes
 pub IsAnswer-one : (line : List ℕ) → OneText (IsAnswer greatest_year line)
 unfolding IsAnswer
 IsAnswer-one line =
-    MatchOption-one (fields line) _ _ (IsThat-one _)
-    (λ field. MatchOption-one (format_named field.0) _ _ (IsThat-one _)
-    (λ f. MatchOption-one (target_for f field.1) _ _ (IsThat-one _) (λ t. IsParsed-one f t field.2)))
+    MatchOption-one (fields_of line) _ _ (IsThat-one _)
+    (λ fields. MatchOption-one (format_named fields.format) _ _ (IsThat-one _)
+    (λ f. MatchOption-one (target_for f fields.target) _ _ (IsThat-one _) (λ t. IsParsed-one f t fields.text)))
 
 pub AreAnswers-one : (lines : List (List ℕ)) → OneText (AreAnswers greatest_year lines)
 AreAnswers-one [] a b h k = h ∙ sym k

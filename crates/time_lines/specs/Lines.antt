@@ -17,8 +17,15 @@ abbrev pub cut_at_tab : List ℕ → Option (List ℕ × List ℕ)
 cut_at_tab [] = None
 cut_at_tab (b ∷ bytes) = if b == 9 then Some ([], bytes) else option_map (λ cut. (b ∷ cut.0, cut.1)) (cut_at_tab bytes)
 
--- the three fields of a line: a format, TAB, a target, TAB, and the text, which may have TABs of its own
-abbrev pub fields : List ℕ → Option (List ℕ × List ℕ × List ℕ)
-fields line =
+-- the fields of a line
+pub record Fields : Type 0 where
+  pub format : List ℕ
+  pub target : List ℕ
+  pub text : List ℕ
+
+-- the fields of a line, which is a format, TAB, a target, TAB and a text; the text may have TABs of its own
+abbrev pub fields_of : List ℕ → Option Fields
+fields_of line =
     option_and_then
-    (λ first. option_map (λ second. (first.0, second.0, second.1)) (cut_at_tab first.1)) (cut_at_tab line)
+    (λ first. option_map (λ second. record { format = first.0; target = second.0; text = second.1 }) (cut_at_tab first.1))
+    (cut_at_tab line)

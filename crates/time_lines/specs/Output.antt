@@ -9,7 +9,7 @@ use Rattle.time_record.specs.Resolution.{IsDated, IsTimed, IsOffset, IsPlain, Is
 use Rattle.time_parsing.specs.Outcome.{Reading, Refusing, Resolving, IsOutcome}
 use Rattle.time_parsing.specs.Rfc3339 as Rfc3339
 use Rattle.time_lines.specs.Formats.{format_named, target_for, ymd, clock, unix, local}
-use Rattle.time_lines.specs.Lines.{lines_of, fields}
+use Rattle.time_lines.specs.Lines.{lines_of, fields_of}
 use Rattle.time_lines.specs.Values.{printed, date_text, time_text, offset_text, plain_text, utc_text, offset_date_time_text, timestamp_text}
 use Rattle.time_lines.specs.declared.formats.Format.{Format}
 use Rattle.time_lines.specs.declared.formats.Format.TheVariants as format
@@ -50,10 +50,10 @@ IsParsed Y format.Local target = IsDescribed Y local target
 -- any name is checked, and an unknown format is reported before its target is checked.
 unfoldable pub IsAnswer : ℕ → List ℕ → List ℕ → Type 0
 IsAnswer Y line answer =
-    MatchOption (fields line) (answer ≡ codes "error: line")
-    (λ field. MatchOption (format_named field.0) (answer ≡ codes "error: format")
-    (λ format. MatchOption (target_for format field.1) (answer ≡ codes "error: target")
-    (λ target. IsParsed Y format target field.2 answer)))
+    MatchOption (fields_of line) (answer ≡ codes "error: line")
+    (λ fields. MatchOption (format_named fields.format) (answer ≡ codes "error: format")
+    (λ format. MatchOption (target_for format fields.target) (answer ≡ codes "error: target")
+    (λ target. IsParsed Y format target fields.text answer)))
 
 -- the answers to the lines, each followed by LF
 abbrev pub AreAnswers : ℕ → List (List ℕ) → List ℕ → Type 0

@@ -1,13 +1,13 @@
 -- RFC 3339, read over a record. `Y` is the greatest year.
 use Rattle.std.specs.Prelude.{◌≡◌, ℕ, List, [], ◌∷◌, ◌++◌, true, false, if◌then◌else◌, Option, Some, None, pos}
 use Rattle.time_values.specs.Month.{month_number}
-use Rattle.time_values.specs.Refusal.{Refusal}
 use Rattle.time_values.specs.Sign.{signed_by}
 use Rattle.time_values.specs.declared.month.Month.{Month}
 use Rattle.time_readers.specs.Rfc3339.{HasForm, FailsAt, fault}
 use Rattle.time_readers.specs.declared.rfc3339.Numbers.{Numbers}
 use Rattle.time_readers.specs.declared.rfc3339.Place.{Place}
 use Rattle.time_record.specs.Record.{Record, Entry, put_all, year_is, month_is, day_is, hour_24_is, minute_is, second_is, subsecond_is, offset_hour_is, offset_minute_is, offset_second_is}
+use Rattle.time_parsing.specs.Outcome.{Reading, Refusing}
 
 -- the entries of a date, of which m is the month
 abbrev pub date_entries : Numbers → Month → List Entry
@@ -48,11 +48,11 @@ with_leap_second r = record r { leap_second_allowed = true }
 
 -- A front of the bytes is the fifteen places' texts, each of its form and in its range. Their numbers are put into the
 -- record, which allows a leap second, and keeps no sign of an offset from before.
-abbrev pub Reads : ℕ → List ℕ → Record → List ℕ → Record → Type 0
+abbrev pub Reads : ℕ → Reading
 Reads Y bytes r rest new =
     (n : Numbers) × (m : Month) × HasForm true bytes rest n × (month_number m ≡ n.month)
     × (put_all Y (entries n m) (with_leap_second (without_offset_sign r)) ≡ Some new)
 
 -- the fault of the first place whose form or range doesn't stand
-abbrev pub Refuses : ℕ → List ℕ → Record → Refusal → Type 0
+abbrev pub Refuses : ℕ → Refusing
 Refuses Y bytes r e = (p : Place) × FailsAt true bytes p × (e ≡ fault p)

@@ -46,6 +46,6 @@ pub put_all-parts : (Y : ℕ) (date time offset : List Entry) (old dated timed n
 put_all-parts Y date time offset old dated timed new d t o =
     let unsigned = put_all-changed without_offset_sign past_offset_sign Y in
     let all =
-        put_all-append Y (date ++ time) offset (without_offset_sign old) (without_offset_sign timed)
-        (put_all-append Y date time (without_offset_sign old) (without_offset_sign dated) (unsigned date old dated d) ∙ unsigned time dated timed t) ∙ o in
+    put_all-append Y (date ++ time) offset (without_offset_sign old) (without_offset_sign timed)
+    (put_all-append Y date time (without_offset_sign old) (without_offset_sign dated) (unsigned date old dated d) ∙ unsigned time dated timed t) ∙ o in
     put_all-changed with_leap_second past_leap_second Y (date ++ time ++ offset) (without_offset_sign old) new all

@@ -1,5 +1,5 @@
 -- An exact format and a resolution that is one have one outcome.
-use Rattle.std.proofs.Common.{◌≡◌, ℕ, List, [], sym, ap, ◌∙◌, subst, ⊎_elim, Result, Ok, Err}
+use Rattle.std.proofs.Common.{◌≡◌, ℕ, List, [], sym, ap, ◌∙◌, subst, ⊎_elim, Ok, Err}
 use Rattle.time_values.specs.Refusal.{Refusal}
 use Rattle.time_record.specs.Laws.{OneResolution}
 use Rattle.time_record.specs.Record.{Record}

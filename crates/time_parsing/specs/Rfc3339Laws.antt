@@ -30,7 +30,7 @@ put-unique : (Y : ℕ) (n m : Numbers) (k l : Month) (r p q : Record) → n ≡ 
 put-unique Y n m k l r p q same kn lm u v =
     let months : k ≡ l = same_month k l (kn ∙ ap (λ x. x.month) same ∙ sym lm) in
     let puts =
-        ap (λ (x : Numbers). put_all Y (entries x k) r) same ∙ ap (λ (x : Month). put_all Y (entries m x) r) months in
+    ap (λ (x : Numbers). put_all Y (entries x k) r) same ∙ ap (λ (x : Month). put_all Y (entries m x) r) months in
     same_value p q (sym u ∙ puts ∙ v)
 
 pub rfc3339_exact : (Y : ℕ) → IsExact (Reads Y) (Refuses Y)

@@ -46,6 +46,6 @@ returns-in-Ok c =
     let numbers = c.in-Ok.found.1 in
     let date = c.put_date.ensures in
     let parts =
-        put_all-parts greatest_year (date_entries numbers date.0) (time_entries numbers) (offset_entries numbers)
-        c.args.parsed.now c.put_date.new.parsed c.put_time.new.parsed c.put_offset.new.parsed date.2 c.put_time.ensures c.put_offset.ensures in
+    put_all-parts greatest_year (date_entries numbers date.0) (time_entries numbers) (offset_entries numbers)
+    c.args.parsed.now c.put_date.new.parsed c.put_time.new.parsed c.put_offset.new.parsed date.2 c.put_time.ensures c.put_offset.ensures in
     (numbers, date.0, c.in-Ok.ensures, date.1, parts ∙ ap Some (sym c.allow_leap_second.ensures))

@@ -10,7 +10,7 @@ use Rattle.std.specs.Str.{bytes_eq}
 use Rattle.time_readers.specs.declared.component.names.Name.{Name}
 use Rattle.time_readers.specs.Cuts.{Cut, NoCut}
 use Rattle.time_readers.specs.Names.{IsNamed}
-use Rattle.time_readers.specs.NameTables.{title, is_title, are_distinct, is_table, IsTitle, IsShortName, IsLongName}
+use Rattle.time_readers.specs.NameTables.{title, is_title, are_distinct, is_table, IsTitle, IsShortName, IsLongName, IsEnding}
 
 -- the letters of the table as the reader has them
 upper_from_lower : (a x : ℕ) → is_ascii_uppercase a ≡ true → to_ascii_lowercase x ≡ to_ascii_lowercase a → a ≡ to_ascii_uppercase x
@@ -225,7 +225,7 @@ no_long_name names case_sensitive input none = λ text rest name e s.
     none p.front (p.back ++ rest) name (e ∙ ap (λ t. t ++ rest) p.cut ∙ append_assoc p.front p.back rest) (s.0, p.first)
 
 -- a short name whose ending doesn't stand
-pub no_ending : {T : Type 0} (names : List (Name T)) (case_sensitive : Bool) (input rest : List ℕ) (name : Name T) → IsTrue (is_table names) → Cut (IsShortName names case_sensitive) input rest name → ((text left : List ℕ) → rest ≡ text ++ left → IsNamed case_sensitive name.ending.now text → ⊥) → NoCut (IsLongName names case_sensitive) input
+pub no_ending : {T : Type 0} (names : List (Name T)) (case_sensitive : Bool) (input rest : List ℕ) (name : Name T) → IsTrue (is_table names) → Cut (IsShortName names case_sensitive) input rest name → NoCut (IsEnding name.ending.now case_sensitive) rest → NoCut (IsLongName names case_sensitive) input
 no_ending names case_sensitive input rest name h cut none = λ text left other e s.
     let p = IsNamed-parts case_sensitive other.letters other.ending.now text s.1 in
     let here = short_is_title names case_sensitive cut.0 rest name h cut.2 in
@@ -233,10 +233,10 @@ no_ending names case_sensitive input rest name h cut none = λ text left other e
     let whole : p.front ++ (p.back ++ left) ≡ cut.0 ++ rest = sym (append_assoc p.front p.back left) ∙ ap (λ t. t ++ left) (sym p.cut) ∙ sym e ∙ cut.1 in
     let same = same_front p.front cut.0 (p.back ++ left) rest (there.0 ∙ sym here.0) whole in
     let is : other ≡ name = Table-distinct names other name h s.0 cut.2.0 (there.1 ∙ ap (title case_sensitive) same.0 ∙ sym here.1) in
-    none p.back left (sym same.1) (subst (λ n. IsNamed case_sensitive n.ending.now p.back) is p.second)
+    none p.back left tt (sym same.1) (subst (λ n. IsNamed case_sensitive n.ending.now p.back) is p.second)
 
 -- a short name whose ending stands
-pub is_long_name : {T : Type 0} (names : List (Name T)) (case_sensitive : Bool) (input rest left : List ℕ) (name : Name T) → Cut (IsShortName names case_sensitive) input rest name → (text : List ℕ) × (rest ≡ text ++ left) × IsNamed case_sensitive name.ending.now text → Cut (IsLongName names case_sensitive) input left name
+pub is_long_name : {T : Type 0} (names : List (Name T)) (case_sensitive : Bool) (input rest left : List ℕ) (name : Name T) → Cut (IsShortName names case_sensitive) input rest name → Cut (IsEnding name.ending.now case_sensitive) rest left tt → Cut (IsLongName names case_sensitive) input left name
 is_long_name names case_sensitive input rest left name cut ending = (
   cut.0 ++ ending.0,
   cut.1 ∙ ap (λ t. cut.0 ++ t) ending.1 ∙ sym (append_assoc cut.0 ending.0 left),

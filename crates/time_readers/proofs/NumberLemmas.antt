@@ -1,20 +1,26 @@
 -- Numbers under a padding, and numbers with a sign.
-use Rattle.std.proofs.Common.{◌≡◌, ℕ, zero, suc, ◌+◌, ◌-◌, ◌^◌, ◌<◌, ◌≤◌, ◌⊎◌, List, [], ◌∷◌, ◌++◌, replicate, refl, ap, sym, ◌∙◌, inl, inr, arith, subst, Bool, false, Option, Some, None, MatchOption}
+use Rattle.std.proofs.Common.{◌≡◌, ℕ, zero, suc, ◌+◌, ◌-◌, ◌^◌, ◌<◌, ◌≤◌, ◌⊎◌, List, [], ◌∷◌, ◌++◌, replicate, refl, ap, sym, ◌∙◌, inl, inr, arith, subst, Bool, false, Option}
 use Rattle.time_readers.specs.declared.Padding.{Padding}
 use Rattle.time_readers.specs.declared.Padding.TheVariants as padding
 use Rattle.time_readers.specs.declared.Sign.{Sign}
 use Rattle.time_readers.specs.declared.Sign.TheVariants.{Negative, Positive}
 use Rattle.time_readers.specs.Bytes.{sign_byte, IsSign}
-use Rattle.time_readers.specs.Cuts.{Cut, NoCut}
+use Rattle.time_readers.specs.declared.ParsedItem.{ParsedItem}
+use Rattle.time_readers.specs.Cuts.{Form, Cut, NoCut, Finds}
 use Rattle.time_readers.specs.Digits.{IsDigit, IsDigitRun, IsPaddedRun, IsPaddedRunUpTo}
-use Rattle.time_readers.specs.Spelling.{Value, IsSigned, Signed}
+use Rattle.time_readers.specs.Spelling.{IsSigned}
+use Rattle.time_readers.proofs.CutLemmas.{Finds-same}
 use Rattle.time_readers.proofs.Runs.{pow-mono}
 use Rattle.time_readers.proofs.PaddedRuns.{IsPaddedRun-below}
 
 -- where each number of so many places fits, a run is one that fits
-pub run_fits : {A : Type 0} (item : A → List ℕ) (value : A → ℕ) (greatest : ℕ) (padding : Padding) (least most : ℕ) (input : List ℕ) (answer : Option A) → 10 ^ most ≤ greatest + 1 → MatchOption answer (NoCut (IsPaddedRunUpTo greatest padding least most) input) (λ p. Cut (IsPaddedRunUpTo greatest padding least most) input (item p) (value p)) → MatchOption answer (NoCut (IsPaddedRun padding least most) input) (λ p. Cut (IsPaddedRun padding least most) input (item p) (value p))
-run_fits item value greatest padding least most input None fits none = λ text rest v e run. none text rest v e (run, let below = IsPaddedRun-below padding least most text rest v run in omega arith)
-run_fits item value greatest padding least most input (Some p) fits cut = (cut.0, cut.1, cut.2.0)
+pub run_fits : {A : Type 0} (value : A → ℕ) (greatest : ℕ) (padding : Padding) (least most : ℕ) (input : List ℕ)
+    (answer : Option (ParsedItem A)) → 10 ^ most ≤ greatest + 1
+    → Finds (IsPaddedRunUpTo greatest padding least most) value input answer → Finds (IsPaddedRun padding least most) value input answer
+run_fits value greatest padding least most input answer fits =
+    Finds-same (IsPaddedRunUpTo greatest padding least most) (IsPaddedRun padding least most) value input answer
+    (λ text rest v run. run.0)
+    (λ text rest v run. (run, let below = IsPaddedRun-below padding least most text rest v run in omega arith))
 
 -- a run doesn't begin with a sign
 digits_first : (least most : ℕ) (text rest : List ℕ) (v c : ℕ) (tail : List ℕ) → 1 ≤ least → IsDigitRun least most text rest v → text ++ rest ≡ c ∷ tail → IsDigit c
@@ -51,43 +57,41 @@ sign_byte-one Positive Positive e = refl
 pub no_sign_first : (padding : Padding) (least most : ℕ) (text rest tail : List ℕ) (v : ℕ) (sign : Sign) → 1 ≤ least → IsPaddedRun padding least most text rest v → text ++ rest ≡ sign_byte sign ∷ tail → ⊥
 no_sign_first padding least most text rest tail v sign h run e = sign_first sign (run_first padding least most text rest v (sign_byte sign) tail h run e)
 
-abbrev pub NoSigned : Bool → (List ℕ → List ℕ → ℕ → Type 0) → (List ℕ → List ℕ → ℕ → Type 0) → List ℕ → Type 0
-NoSigned mandatory behind alone input = (text rest : List ℕ) (sign : Sign) (n : ℕ) → input ≡ text ++ rest → IsSigned mandatory behind alone text rest sign n → ⊥
-
-abbrev pub SignedCut : Bool → (List ℕ → List ℕ → ℕ → Type 0) → (List ℕ → List ℕ → ℕ → Type 0) → List ℕ → List ℕ → Sign → ℕ → Type 0
-SignedCut mandatory behind alone input rest sign n = (text : List ℕ) × (input ≡ text ++ rest) × IsSigned mandatory behind alone text rest sign n
-
 -- a sign, and what stands behind it
-pub signed_cut : (mandatory : Bool) (behind alone : List ℕ → List ℕ → ℕ → Type 0) (input left rest : List ℕ) (sign : Sign) (n : ℕ) → Cut IsSign input left sign → Cut behind left rest n → SignedCut mandatory behind alone input rest sign n
+pub signed_cut : (mandatory : Bool) (behind alone : Form ℕ) (input left rest : List ℕ) (sign : Sign) (n : ℕ)
+    → Cut IsSign input left sign → Cut behind left rest n → Cut (IsSigned mandatory behind alone) input rest (sign, n)
 signed_cut mandatory behind alone input left rest sign n first cut =
-    let whole : input ≡ sign_byte sign ∷ (cut.0 ++ rest) = first.1 ∙ ap (λ t. t ++ left) first.2 ∙ ap (λ t. sign_byte sign ∷ t) cut.1 in
+    let whole : input ≡ sign_byte sign ∷ (cut.0 ++ rest) =
+    first.1 ∙ ap (λ t. t ++ left) first.2 ∙ ap (λ t. sign_byte sign ∷ t) cut.1 in
     (sign_byte sign ∷ cut.0, whole, inl (cut.0, refl, cut.2))
 
 -- a sign, and nothing that may stand behind it
-pub no_signed : (mandatory : Bool) (behind : List ℕ → List ℕ → ℕ → Type 0) (padding : Padding) (least most : ℕ) (input left : List ℕ) (sign : Sign) → 1 ≤ least → Cut IsSign input left sign → NoCut behind left → NoSigned mandatory behind (IsPaddedRun padding least most) input
-no_signed mandatory behind padding least most input left sign h first none text rest s n e (inl (tail, is, found)) =
-    let whole : sign_byte sign ∷ left ≡ sign_byte s ∷ (tail ++ rest) = ap (λ t. t ++ left) (sym first.2) ∙ sym first.1 ∙ e ∙ ap (λ t. t ++ rest) is in
+pub no_signed : (mandatory : Bool) (behind : Form ℕ) (padding : Padding) (least most : ℕ) (input left : List ℕ) (sign : Sign)
+    → 1 ≤ least → Cut IsSign input left sign → NoCut behind left → NoCut (IsSigned mandatory behind (IsPaddedRun padding least most)) input
+no_signed mandatory behind padding least most input left sign h first none text rest v e (inl (tail, is, found)) =
+    let whole : sign_byte sign ∷ left ≡ sign_byte v.0 ∷ (tail ++ rest) =
+    ap (λ t. t ++ left) (sym first.2) ∙ sym first.1 ∙ e ∙ ap (λ t. t ++ rest) is in
     let same : left ≡ tail ++ rest = cc in
-    none tail rest n same found
-no_signed mandatory behind padding least most input left sign h first none text rest s n e (inr (free, plus, found)) =
-    no_sign_first padding least most text rest left n sign h found (sym e ∙ first.1 ∙ ap (λ t. t ++ left) first.2)
+    none tail rest v.1 same found
+no_signed mandatory behind padding least most input left sign h first none text rest v e (inr (free, plus, found)) =
+    no_sign_first padding least most text rest left v.1 sign h found (sym e ∙ first.1 ∙ ap (λ t. t ++ left) first.2)
 
 -- no sign, and no number that may stand alone
-pub no_unsigned : (mandatory : Bool) (behind alone : List ℕ → List ℕ → ℕ → Type 0) (input : List ℕ) → NoCut IsSign input → (mandatory ≡ false → NoCut alone input) → NoSigned mandatory behind alone input
-no_unsigned mandatory behind alone input unsigned none text rest sign n e (inl (tail, is, found)) = unsigned (sign_byte sign ∷ []) (tail ++ rest) sign (e ∙ ap (λ t. t ++ rest) is) refl
-no_unsigned mandatory behind alone input unsigned none text rest sign n e (inr (free, plus, found)) = none free text rest n e found
+pub no_unsigned : (mandatory : Bool) (behind alone : Form ℕ) (input : List ℕ)
+    → NoCut IsSign input → (mandatory ≡ false → NoCut alone input) → NoCut (IsSigned mandatory behind alone) input
+no_unsigned mandatory behind alone input unsigned none text rest v e (inl (tail, is, found)) =
+    unsigned (sign_byte v.0 ∷ []) (tail ++ rest) v.0 (e ∙ ap (λ t. t ++ rest) is) refl
+no_unsigned mandatory behind alone input unsigned none text rest v e (inr (free, plus, found)) = none free text rest v.1 e found
 
 -- a number with a sign is below the power of its places
-pub signed_below : (mandatory : Bool) (p q : Padding) (least most least' most' top : ℕ) (text rest : List ℕ) (sign : Sign) (n : ℕ) → most ≤ top → most' ≤ top → IsSigned mandatory (IsPaddedRun p least most) (IsPaddedRun q least' most') text rest sign n → n < 10 ^ top
-signed_below mandatory p q least most least' most' top text rest sign n h k (inl (tail, is, run)) =
-    let below = IsPaddedRun-below p least most tail rest n run in
+pub signed_below : (mandatory : Bool) (p q : Padding) (least most least' most' top : ℕ) (text rest : List ℕ) (v : Sign × ℕ)
+    → most ≤ top → most' ≤ top
+    → IsSigned mandatory (IsPaddedRun p least most) (IsPaddedRun q least' most') text rest v → v.1 < 10 ^ top
+signed_below mandatory p q least most least' most' top text rest v h k (inl (tail, is, run)) =
+    let below = IsPaddedRun-below p least most tail rest v.1 run in
     let wide = pow-mono most top h in
     omega arith
-signed_below mandatory p q least most least' most' top text rest sign n h k (inr (free, plus, run)) =
-    let below = IsPaddedRun-below q least' most' text rest n run in
+signed_below mandatory p q least most least' most' top text rest v h k (inr (free, plus, run)) =
+    let below = IsPaddedRun-below q least' most' text rest v.1 run in
     let wide = pow-mono most' top k in
     omega arith
-
--- what no sign and number say, no value says
-pub no_signed_says : (says : Sign → ℕ → Value) (mandatory : Bool) (behind alone : List ℕ → List ℕ → ℕ → Type 0) (input : List ℕ) → NoSigned mandatory behind alone input → NoCut (Signed says mandatory behind alone) input
-no_signed_says says mandatory behind alone input none = λ text rest value e s. none text rest s.0 s.1 e s.3

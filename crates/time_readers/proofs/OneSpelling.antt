@@ -15,10 +15,11 @@ use Rattle.time_readers.specs.declared.format_description.Component.TheVariants 
 use Rattle.time_readers.specs.declared.format_description.Period.{Period}
 use Rattle.time_readers.specs.declared.format_description.Period.TheVariants.{Am, Pm}
 use Rattle.time_readers.specs.Bytes.{sign_byte}
-use Rattle.time_readers.specs.Cuts.{AtMostOneCut}
+use Rattle.time_readers.specs.Cuts.{Form, AtMostOneCut}
 use Rattle.time_readers.specs.Digits.{IsPaddedRun, digits_value, fraction_nanoseconds}
 use Rattle.time_readers.specs.Names.{IsNamed, month_name, weekday_name, period_name}
-use Rattle.time_readers.specs.Spelling.{Value, Says, Signed, Spells, IsPositiveRun, IsNameOf, IsShortOf, IsNumberOf, IsDigitOf, IsFractionRun, least_digits, most_digits, first_digit, days_from_sunday, number, month, weekday, period, positive, signed_value, flagged_value, scaled_value}
+use Rattle.time_readers.specs.Spelling.{Value, Says, SaysYear, SaysCentury, SaysTimestamp, IsSigned, Spells, IsPositiveRun, IsNameOf, IsShortOf, IsNumberOf, IsDigitOf, IsFractionRun, least_digits, most_digits, first_digit, days_from_sunday, number, month, weekday, period, positive, signed_value, flagged_value, scaled_value}
+use Rattle.time_readers.proofs.CutLemmas.{IsUnique, IsUnique-cut}
 use Rattle.time_readers.proofs.NameLemmas.{IsNamed-length, IsNamed-parts, same_front}
 use Rattle.time_readers.proofs.ReaderLemmas.{period_name-length}
 use Rattle.time_readers.proofs.EachValue.{each_month, each_weekday, months, weekdays}
@@ -26,32 +27,48 @@ use Rattle.time_readers.proofs.NumberLemmas.{no_sign_first, sign_byte-one}
 use Rattle.time_readers.proofs.PaddedRuns.{IsPaddedRun-unique}
 use Rattle.time_readers.proofs.Runs.{IsDigitRun-unique}
 
--- two cuts of one text have one rest and one value
-abbrev pub IsUnique : {A : Type 0} → (List ℕ → List ℕ → A → Type 0) → Type 0
-IsUnique {A} S = (a b x y : List ℕ) (v w : A) → S a x v → S b y w → a ++ x ≡ b ++ y → (x ≡ y) × (v ≡ w)
-
-Says-unique : {A : Type 0} (says : A → Value) (S : List ℕ → List ℕ → A → Type 0) → IsUnique S → IsUnique (Says says S)
+Says-unique : {A : Type 0} (says : A → Value) (S : Form A) → IsUnique S → IsUnique (Says says S)
 Says-unique says S unique a b x y v w p q e =
     let is = unique a b x y p.0 q.0 p.2 q.2 e in
     (is.0, p.1 ∙ ap says is.1 ∙ sym q.1)
 
-Signed-unique : (mandatory : Bool) (says : Sign → ℕ → Value) (behind : List ℕ → List ℕ → ℕ → Type 0) (padding : Padding) (least most : ℕ) → 1 ≤ least → IsUnique behind → IsUnique (Signed says mandatory behind (IsPaddedRun padding least most))
-Signed-unique mandatory says behind padding least most h unique a b x y v w (s, n, is, inl (tail, cut, run)) (t, m, is', inl (tail', cut', run')) e =
-    let whole : sign_byte s ∷ (tail ++ x) ≡ sign_byte t ∷ (tail' ++ y) = ap (λ u. u ++ x) (sym cut) ∙ e ∙ ap (λ u. u ++ y) cut' in
-    let heads : sign_byte s ≡ sign_byte t = cc in
+same_signed : (v w : Sign × ℕ) → v.0 ≡ w.0 → v.1 ≡ w.1 → v ≡ w
+same_signed v w s n = ap (λ sign. (sign, v.1)) s ∙ ap (λ m. (w.0, m)) n
+
+IsSigned-unique : (mandatory : Bool) (behind : Form ℕ) (padding : Padding) (least most : ℕ)
+    → 1 ≤ least → IsUnique behind → IsUnique (IsSigned mandatory behind (IsPaddedRun padding least most))
+IsSigned-unique mandatory behind padding least most h unique a b x y v w (inl (tail, cut, run)) (inl (tail', cut', run')) e =
+    let whole : sign_byte v.0 ∷ (tail ++ x) ≡ sign_byte w.0 ∷ (tail' ++ y) =
+    ap (λ u. u ++ x) (sym cut) ∙ e ∙ ap (λ u. u ++ y) cut' in
+    let heads : sign_byte v.0 ≡ sign_byte w.0 = cc in
     let tails : tail ++ x ≡ tail' ++ y = cc in
-    let same = unique tail tail' x y n m run run' tails in
-    (same.0, is ∙ ap (λ u. says u n) (sign_byte-one s t heads) ∙ ap (says t) same.1 ∙ sym is')
-Signed-unique mandatory says behind padding least most h unique a b x y v w (s, n, is, inl (tail, cut, run)) (t, m, is', inr (free, plus, run')) e =
-    absurd (no_sign_first padding least most b y (tail ++ x) m s h run' (sym e ∙ ap (λ u. u ++ x) cut))
-Signed-unique mandatory says behind padding least most h unique a b x y v w (s, n, is, inr (free, plus, run)) (t, m, is', inl (tail', cut', run')) e =
-    absurd (no_sign_first padding least most a x (tail' ++ y) n t h run (e ∙ ap (λ u. u ++ y) cut'))
-Signed-unique mandatory says behind padding least most h unique a b x y v w (s, n, is, inr (free, plus, run)) (t, m, is', inr (free', plus', run')) e =
-    let same = IsPaddedRun-unique padding least most a b x y n m run run' e in
-    (same.0, is ∙ ap (λ u. says u n) (plus ∙ sym plus') ∙ ap (says t) same.1 ∙ sym is')
+    let same = unique tail tail' x y v.1 w.1 run run' tails in
+    (same.0, same_signed v w (sign_byte-one v.0 w.0 heads) same.1)
+IsSigned-unique mandatory behind padding least most h unique a b x y v w (inl (tail, cut, run)) (inr (free, plus, run')) e =
+    absurd (no_sign_first padding least most b y (tail ++ x) w.1 v.0 h run' (sym e ∙ ap (λ u. u ++ x) cut))
+IsSigned-unique mandatory behind padding least most h unique a b x y v w (inr (free, plus, run)) (inl (tail', cut', run')) e =
+    absurd (no_sign_first padding least most a x (tail' ++ y) v.1 w.0 h run (e ∙ ap (λ u. u ++ y) cut'))
+IsSigned-unique mandatory behind padding least most h unique a b x y v w (inr (free, plus, run)) (inr (free', plus', run')) e =
+    let same = IsPaddedRun-unique padding least most a b x y v.1 w.1 run run' e in
+    (same.0, same_signed v w (plus ∙ sym plus') same.1)
+
+signed_run-unique : (says : Sign × ℕ → Value) (mandatory : Bool) (p q : Padding) (least most least' most' : ℕ) → 1 ≤ least'
+    → IsUnique (Says says (IsSigned mandatory (IsPaddedRun p least most) (IsPaddedRun q least' most')))
+signed_run-unique says mandatory p q least most least' most' h =
+    Says-unique says (IsSigned mandatory (IsPaddedRun p least most) (IsPaddedRun q least' most'))
+    (IsSigned-unique mandatory (IsPaddedRun p least most) q least' most' h (IsPaddedRun-unique p least most))
+
+SaysYear-unique : (mandatory : Bool) (padding : Padding) (most : ℕ) → IsUnique (SaysYear mandatory padding most)
+SaysYear-unique mandatory padding most = signed_run-unique signed_value mandatory padding padding 4 most 4 4 (omega arith)
+
+SaysCentury-unique : (mandatory : Bool) (padding : Padding) (most : ℕ) → IsUnique (SaysCentury mandatory padding most)
+SaysCentury-unique mandatory padding most = signed_run-unique flagged_value mandatory padding Zero 2 most 1 2 (omega arith)
+
+SaysTimestamp-unique : (unit : ℕ) (mandatory : Bool) (most : ℕ) → IsUnique (SaysTimestamp unit mandatory most)
+SaysTimestamp-unique unit mandatory most = signed_run-unique (scaled_value unit) mandatory Zero Zero 1 most 1 most (omega arith)
 
 IsPositiveRun-unique : (padding : Padding) (places : ℕ) → IsUnique (IsPositiveRun padding places)
-IsPositiveRun-unique padding places a b x y v w p q e = IsPaddedRun-unique padding places places a b x y v w p.0 q.0 e
+IsPositiveRun-unique padding places a b x y v w p q = IsPaddedRun-unique padding places places a b x y v w p.0 q.0
 
 IsFractionRun-unique : (least most : ℕ) → IsUnique (IsFractionRun least most)
 IsFractionRun-unique least most a b x y v w p q e =
@@ -150,45 +167,48 @@ days_from_sunday-one =
     let of : ℕ → Option Weekday = λ n. find (λ d. days_from_sunday d == n) weekdays in
     told_apart days_from_sunday of (each_weekday (λ d. of (days_from_sunday d) ≡ Some d) (refl, refl, refl, refl, refl, refl, refl))
 
+two_places-unique : (says : ℕ → Value) (padding : Padding) → IsUnique (Says says (IsPaddedRun padding 2 2))
+two_places-unique says padding = Says-unique says (IsPaddedRun padding 2 2) (IsPaddedRun-unique padding 2 2)
+
 -- two texts with one rest of the input each spell one value, and leave one rest
 pub Spells-unique : (whole : Bool) (c : Component) → IsUnique (Spells whole c)
-Spells-unique whole (component.Day m) a b x y v w p q e = Says-unique number (IsPositiveRun m.padding 2) (IsPositiveRun-unique m.padding 2) a b x y v w p q e
-Spells-unique whole (component.MonthShort m) a b x y v w p q e = Says-unique month (IsShortOf m.case_sensitive month_name) (same_name m.case_sensitive (λ v. take 3 (month_name v)) 3 months_told) a b x y v w p q e
-Spells-unique whole (component.MonthLong m) a b x y v w p q e = Says-unique month (IsNameOf m.case_sensitive month_name) (IsNameOf-unique m.case_sensitive month_name months_told) a b x y v w p q e
-Spells-unique whole (component.MonthNumerical m) a b x y v w p q e = Says-unique month (IsNumberOf m.padding month_number) (IsNumberOf-unique m.padding month_number month_number-one) a b x y v w p q e
-Spells-unique whole (component.Ordinal m) a b x y v w p q e = Says-unique number (IsPositiveRun m.padding 3) (IsPositiveRun-unique m.padding 3) a b x y v w p q e
-Spells-unique whole (component.WeekdayShort m) a b x y v w p q e = Says-unique weekday (IsShortOf m.case_sensitive weekday_name) (same_name m.case_sensitive (λ v. take 3 (weekday_name v)) 3 weekdays_told) a b x y v w p q e
-Spells-unique whole (component.WeekdayLong m) a b x y v w p q e = Says-unique weekday (IsNameOf m.case_sensitive weekday_name) (IsNameOf-unique m.case_sensitive weekday_name weekdays_told) a b x y v w p q e
-Spells-unique whole (component.WeekdaySunday m) a b x y v w p q e = Says-unique weekday (IsDigitOf m.one_indexed days_from_sunday) (IsDigitOf-unique m.one_indexed days_from_sunday days_from_sunday-one) a b x y v w p q e
-Spells-unique whole (component.WeekdayMonday m) a b x y v w p q e = Says-unique weekday (IsDigitOf m.one_indexed days_from_monday) (IsDigitOf-unique m.one_indexed days_from_monday days_from_monday-one) a b x y v w p q e
-Spells-unique whole (component.WeekNumberIso m) a b x y v w p q e = Says-unique number (IsPaddedRun m.padding 2 2) (IsPaddedRun-unique m.padding 2 2) a b x y v w p q e
-Spells-unique whole (component.WeekNumberSunday m) a b x y v w p q e = Says-unique number (IsPaddedRun m.padding 2 2) (IsPaddedRun-unique m.padding 2 2) a b x y v w p q e
-Spells-unique whole (component.WeekNumberMonday m) a b x y v w p q e = Says-unique number (IsPaddedRun m.padding 2 2) (IsPaddedRun-unique m.padding 2 2) a b x y v w p q e
-Spells-unique whole (component.CalendarYearFullExtendedRange m) a b x y v w p q e = Signed-unique m.sign_is_mandatory signed_value (IsPaddedRun m.padding 4 6) m.padding 4 4 (omega arith) (IsPaddedRun-unique m.padding 4 6) a b x y v w p q e
-Spells-unique whole (component.CalendarYearFullStandardRange m) a b x y v w p q e = Signed-unique m.sign_is_mandatory signed_value (IsPaddedRun m.padding 4 4) m.padding 4 4 (omega arith) (IsPaddedRun-unique m.padding 4 4) a b x y v w p q e
-Spells-unique whole (component.IsoYearFullExtendedRange m) a b x y v w p q e = Signed-unique m.sign_is_mandatory signed_value (IsPaddedRun m.padding 4 6) m.padding 4 4 (omega arith) (IsPaddedRun-unique m.padding 4 6) a b x y v w p q e
-Spells-unique whole (component.IsoYearFullStandardRange m) a b x y v w p q e = Signed-unique m.sign_is_mandatory signed_value (IsPaddedRun m.padding 4 4) m.padding 4 4 (omega arith) (IsPaddedRun-unique m.padding 4 4) a b x y v w p q e
-Spells-unique whole (component.CalendarYearCenturyExtendedRange m) a b x y v w p q e = Signed-unique m.sign_is_mandatory flagged_value (IsPaddedRun m.padding 2 4) Zero 1 2 (omega arith) (IsPaddedRun-unique m.padding 2 4) a b x y v w p q e
-Spells-unique whole (component.CalendarYearCenturyStandardRange m) a b x y v w p q e = Signed-unique m.sign_is_mandatory flagged_value (IsPaddedRun m.padding 2 2) Zero 1 2 (omega arith) (IsPaddedRun-unique m.padding 2 2) a b x y v w p q e
-Spells-unique whole (component.IsoYearCenturyExtendedRange m) a b x y v w p q e = Signed-unique m.sign_is_mandatory flagged_value (IsPaddedRun m.padding 2 4) Zero 1 2 (omega arith) (IsPaddedRun-unique m.padding 2 4) a b x y v w p q e
-Spells-unique whole (component.IsoYearCenturyStandardRange m) a b x y v w p q e = Signed-unique m.sign_is_mandatory flagged_value (IsPaddedRun m.padding 2 2) Zero 1 2 (omega arith) (IsPaddedRun-unique m.padding 2 2) a b x y v w p q e
-Spells-unique whole (component.CalendarYearLastTwo m) a b x y v w p q e = Says-unique number (IsPaddedRun m.padding 2 2) (IsPaddedRun-unique m.padding 2 2) a b x y v w p q e
-Spells-unique whole (component.IsoYearLastTwo m) a b x y v w p q e = Says-unique number (IsPaddedRun m.padding 2 2) (IsPaddedRun-unique m.padding 2 2) a b x y v w p q e
-Spells-unique whole (component.Hour12 m) a b x y v w p q e = Says-unique number (IsPaddedRun m.padding 2 2) (IsPaddedRun-unique m.padding 2 2) a b x y v w p q e
-Spells-unique whole (component.Hour24 m) a b x y v w p q e = Says-unique number (IsPaddedRun m.padding 2 2) (IsPaddedRun-unique m.padding 2 2) a b x y v w p q e
-Spells-unique whole (component.Minute m) a b x y v w p q e = Says-unique number (IsPaddedRun m.padding 2 2) (IsPaddedRun-unique m.padding 2 2) a b x y v w p q e
-Spells-unique whole (component.Period m) a b x y v w p q e = Says-unique period (IsNameOf m.case_sensitive (period_name m.is_uppercase)) (same_name m.case_sensitive (period_name m.is_uppercase) 2 (periods_told m.is_uppercase)) a b x y v w p q e
-Spells-unique whole (component.Second m) a b x y v w p q e = Says-unique number (IsPaddedRun m.padding 2 2) (IsPaddedRun-unique m.padding 2 2) a b x y v w p q e
-Spells-unique whole (component.Subsecond m) a b x y v w p q e = Says-unique number (IsFractionRun (least_digits m.digits) (most_digits m.digits)) (IsFractionRun-unique (least_digits m.digits) (most_digits m.digits)) a b x y v w p q e
-Spells-unique whole (component.OffsetHour m) a b x y v w p q e = Signed-unique m.sign_is_mandatory flagged_value (IsPaddedRun m.padding 2 2) m.padding 2 2 (omega arith) (IsPaddedRun-unique m.padding 2 2) a b x y v w p q e
-Spells-unique whole (component.OffsetMinute m) a b x y v w p q e = Says-unique positive (IsPaddedRun m.padding 2 2) (IsPaddedRun-unique m.padding 2 2) a b x y v w p q e
-Spells-unique whole (component.OffsetSecond m) a b x y v w p q e = Says-unique positive (IsPaddedRun m.padding 2 2) (IsPaddedRun-unique m.padding 2 2) a b x y v w p q e
-Spells-unique whole (component.Ignore m) a b x y v w p q e = ((same_front a b x y (p.1 ∙ sym q.1) e).1, p.0 ∙ sym q.0)
-Spells-unique whole (component.UnixTimestampSecond m) a b x y v w p q e = Signed-unique m.sign_is_mandatory (scaled_value 1000000000) (IsPaddedRun Zero 1 14) Zero 1 14 (omega arith) (IsPaddedRun-unique Zero 1 14) a b x y v w p q e
-Spells-unique whole (component.UnixTimestampMillisecond m) a b x y v w p q e = Signed-unique m.sign_is_mandatory (scaled_value 1000000) (IsPaddedRun Zero 1 17) Zero 1 17 (omega arith) (IsPaddedRun-unique Zero 1 17) a b x y v w p q e
-Spells-unique whole (component.UnixTimestampMicrosecond m) a b x y v w p q e = Signed-unique m.sign_is_mandatory (scaled_value 1000) (IsPaddedRun Zero 1 20) Zero 1 20 (omega arith) (IsPaddedRun-unique Zero 1 20) a b x y v w p q e
-Spells-unique whole (component.UnixTimestampNanosecond m) a b x y v w p q e = Signed-unique m.sign_is_mandatory (scaled_value 1) (IsPaddedRun Zero 1 23) Zero 1 23 (omega arith) (IsPaddedRun-unique Zero 1 23) a b x y v w p q e
-Spells-unique whole (component.End m) a b x y v w p q e = (p.1 ∙ sym q.1, p.0 ∙ sym q.0)
+Spells-unique whole (component.Day m) = Says-unique number (IsPositiveRun m.padding 2) (IsPositiveRun-unique m.padding 2)
+Spells-unique whole (component.MonthShort m) = Says-unique month (IsShortOf m.case_sensitive month_name) (same_name m.case_sensitive (λ v. take 3 (month_name v)) 3 months_told)
+Spells-unique whole (component.MonthLong m) = Says-unique month (IsNameOf m.case_sensitive month_name) (IsNameOf-unique m.case_sensitive month_name months_told)
+Spells-unique whole (component.MonthNumerical m) = Says-unique month (IsNumberOf m.padding month_number) (IsNumberOf-unique m.padding month_number month_number-one)
+Spells-unique whole (component.Ordinal m) = Says-unique number (IsPositiveRun m.padding 3) (IsPositiveRun-unique m.padding 3)
+Spells-unique whole (component.WeekdayShort m) = Says-unique weekday (IsShortOf m.case_sensitive weekday_name) (same_name m.case_sensitive (λ v. take 3 (weekday_name v)) 3 weekdays_told)
+Spells-unique whole (component.WeekdayLong m) = Says-unique weekday (IsNameOf m.case_sensitive weekday_name) (IsNameOf-unique m.case_sensitive weekday_name weekdays_told)
+Spells-unique whole (component.WeekdaySunday m) = Says-unique weekday (IsDigitOf m.one_indexed days_from_sunday) (IsDigitOf-unique m.one_indexed days_from_sunday days_from_sunday-one)
+Spells-unique whole (component.WeekdayMonday m) = Says-unique weekday (IsDigitOf m.one_indexed days_from_monday) (IsDigitOf-unique m.one_indexed days_from_monday days_from_monday-one)
+Spells-unique whole (component.WeekNumberIso m) = two_places-unique number m.padding
+Spells-unique whole (component.WeekNumberSunday m) = two_places-unique number m.padding
+Spells-unique whole (component.WeekNumberMonday m) = two_places-unique number m.padding
+Spells-unique whole (component.CalendarYearFullExtendedRange m) = SaysYear-unique m.sign_is_mandatory m.padding 6
+Spells-unique whole (component.CalendarYearFullStandardRange m) = SaysYear-unique m.sign_is_mandatory m.padding 4
+Spells-unique whole (component.IsoYearFullExtendedRange m) = SaysYear-unique m.sign_is_mandatory m.padding 6
+Spells-unique whole (component.IsoYearFullStandardRange m) = SaysYear-unique m.sign_is_mandatory m.padding 4
+Spells-unique whole (component.CalendarYearCenturyExtendedRange m) = SaysCentury-unique m.sign_is_mandatory m.padding 4
+Spells-unique whole (component.CalendarYearCenturyStandardRange m) = SaysCentury-unique m.sign_is_mandatory m.padding 2
+Spells-unique whole (component.IsoYearCenturyExtendedRange m) = SaysCentury-unique m.sign_is_mandatory m.padding 4
+Spells-unique whole (component.IsoYearCenturyStandardRange m) = SaysCentury-unique m.sign_is_mandatory m.padding 2
+Spells-unique whole (component.CalendarYearLastTwo m) = two_places-unique number m.padding
+Spells-unique whole (component.IsoYearLastTwo m) = two_places-unique number m.padding
+Spells-unique whole (component.Hour12 m) = two_places-unique number m.padding
+Spells-unique whole (component.Hour24 m) = two_places-unique number m.padding
+Spells-unique whole (component.Minute m) = two_places-unique number m.padding
+Spells-unique whole (component.Period m) = Says-unique period (IsNameOf m.case_sensitive (period_name m.is_uppercase)) (same_name m.case_sensitive (period_name m.is_uppercase) 2 (periods_told m.is_uppercase))
+Spells-unique whole (component.Second m) = two_places-unique number m.padding
+Spells-unique whole (component.Subsecond m) = Says-unique number (IsFractionRun (least_digits m.digits) (most_digits m.digits)) (IsFractionRun-unique (least_digits m.digits) (most_digits m.digits))
+Spells-unique whole (component.OffsetHour m) = signed_run-unique flagged_value m.sign_is_mandatory m.padding m.padding 2 2 2 2 (omega arith)
+Spells-unique whole (component.OffsetMinute m) = two_places-unique positive m.padding
+Spells-unique whole (component.OffsetSecond m) = two_places-unique positive m.padding
+Spells-unique whole (component.Ignore m) = λ a b x y v w p q e. ((same_front a b x y (p.1 ∙ sym q.1) e).1, p.0 ∙ sym q.0)
+Spells-unique whole (component.UnixTimestampSecond m) = SaysTimestamp-unique 1000000000 m.sign_is_mandatory 14
+Spells-unique whole (component.UnixTimestampMillisecond m) = SaysTimestamp-unique 1000000 m.sign_is_mandatory 17
+Spells-unique whole (component.UnixTimestampMicrosecond m) = SaysTimestamp-unique 1000 m.sign_is_mandatory 20
+Spells-unique whole (component.UnixTimestampNanosecond m) = SaysTimestamp-unique 1 m.sign_is_mandatory 23
+Spells-unique whole (component.End m) = λ a b x y v w p q e. (p.1 ∙ sym q.1, p.0 ∙ sym q.0)
 
 pub one_spelling : (whole : Bool) (c : Component) → AtMostOneCut (Spells whole c)
-one_spelling whole c input x y v w p q = Spells-unique whole c p.0 q.0 x y v w p.2 q.2 (sym p.1 ∙ q.1)
+one_spelling whole c = IsUnique-cut (Spells whole c) (Spells-unique whole c)

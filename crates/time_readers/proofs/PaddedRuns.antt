@@ -1,10 +1,12 @@
 -- Runs of digits under a padding.
-use Rattle.std.proofs.Common.{◌≡◌, ℕ, zero, suc, ◌+◌, ◌-◌, ◌^◌, ◌<◌, ◌≤◌, ◌⊎◌, List, ◌∷◌, ◌++◌, replicate, refl, ap, sym, ◌∙◌, inl, inr, arith, subst, append_assoc, Option, Some, None, MatchOption}
+use Rattle.std.proofs.Common.{◌≡◌, ℕ, zero, suc, ◌+◌, ◌-◌, ◌^◌, ◌<◌, ◌≤◌, ◌⊎◌, List, ◌∷◌, ◌++◌, replicate, refl, ap, sym, ◌∙◌, inl, inr, arith, subst, append_assoc, Option, Some, None}
 use Rattle.time_readers.specs.declared.Padding.{Padding}
 use Rattle.time_readers.specs.declared.Padding.TheVariants as padding
-use Rattle.time_readers.specs.Cuts.{Cut, NoCut}
+use Rattle.time_readers.specs.declared.ParsedItem.{ParsedItem}
+use Rattle.time_readers.specs.Cuts.{Cut, NoCut, Finds}
 use Rattle.time_readers.specs.Digits.{NoSpaceFirst, IsDigitRun, IsSpacedRun, IsPaddedRun, IsDigitRunUpTo, IsPaddedRunUpTo}
-use Rattle.time_readers.proofs.Runs.{IsDigitRun-unique, IsDigitRun-below, pow-mono}
+use Rattle.time_readers.proofs.CutLemmas.{IsUnique}
+use Rattle.time_readers.proofs.Runs.{IsDigitRun-unique, IsDigitRun-one, IsDigitRun-below, pow-mono}
 
 no_space : (x y : List ℕ) → x ≡ 32 ∷ y → NoSpaceFirst x → ⊥
 no_space x y e h = subst NoSpaceFirst e h refl
@@ -53,12 +55,16 @@ spaced_none greatest least most k s tail cut few all none text rest v e (run, sm
     let same = spaces_same least most s tail text rest k v cut few all e run in
     none run.digits rest v same.1 (subst (λ n. IsDigitRun (least - n) (most - n) run.digits rest v) (sym same.0) run.run, small)
 
--- the answer on what follows the spaces is the answer on the text
-pub after_spaces : {A : Type 0} (item : A → List ℕ) (value : A → ℕ) (greatest least most k : ℕ) (s tail : List ℕ) (answer : Option A) → s ≡ replicate k 32 ++ tail → k ≤ least - 1 → (k ≡ least - 1) ⊎ NoSpaceFirst tail → MatchOption answer (NoCut (IsDigitRunUpTo greatest (least - k) (most - k)) tail) (λ p. Cut (IsDigitRunUpTo greatest (least - k) (most - k)) tail (item p) (value p)) → MatchOption answer (NoCut (IsPaddedRunUpTo greatest padding.Space least most) s) (λ p. Cut (IsPaddedRunUpTo greatest padding.Space least most) s (item p) (value p))
-after_spaces item value greatest least most k s tail None cut few all none = spaced_none greatest least most k s tail cut few all none
-after_spaces item value greatest least most k s tail (Some p) cut few all found = spaced_cut greatest least most k s tail (item p) (value p) cut few all found
+-- what a reader finds behind the spaces it finds in the text
+pub after_spaces : {A : Type 0} (value : A → ℕ) (greatest least most k : ℕ) (s tail : List ℕ) (answer : Option (ParsedItem A))
+    → s ≡ replicate k 32 ++ tail → k ≤ least - 1 → (k ≡ least - 1) ⊎ NoSpaceFirst tail
+    → Finds (IsDigitRunUpTo greatest (least - k) (most - k)) value tail answer
+    → Finds (IsPaddedRunUpTo greatest padding.Space least most) value s answer
+after_spaces value greatest least most k s tail None cut few all none = spaced_none greatest least most k s tail cut few all none
+after_spaces value greatest least most k s tail (Some p) cut few all found =
+    spaced_cut greatest least most k s tail p.0.now (value p.1) cut few all found
 
-IsSpacedRun-unique : (least most : ℕ) (a b x y : List ℕ) (v w : ℕ) → IsSpacedRun least most a x v → IsSpacedRun least most b y w → a ++ x ≡ b ++ y → (x ≡ y) × (v ≡ w)
+IsSpacedRun-unique : (least most : ℕ) → IsUnique (IsSpacedRun least most)
 IsSpacedRun-unique least most a b x y v w p q e =
     let whole : a ++ x ≡ replicate p.spaces 32 ++ (p.digits ++ x) = ap (λ t. t ++ x) p.cut ∙ append_assoc (replicate p.spaces 32) p.digits x in
     let same = spaces_same least most (a ++ x) (p.digits ++ x) b y p.spaces w whole p.few p.all e q in
@@ -67,10 +73,10 @@ IsSpacedRun-unique least most a b x y v w p q e =
     (is.1, is.2)
 
 -- at most one cut of a text is a run under the padding
-pub IsPaddedRun-unique : (padding : Padding) (least most : ℕ) (a b x y : List ℕ) (v w : ℕ) → IsPaddedRun padding least most a x v → IsPaddedRun padding least most b y w → a ++ x ≡ b ++ y → (x ≡ y) × (v ≡ w)
-IsPaddedRun-unique padding.Space least most a b x y v w p q e = IsSpacedRun-unique least most a b x y v w p q e
-IsPaddedRun-unique padding.Zero least most a b x y v w p q e = let is = IsDigitRun-unique least least most a b x y v w p q e in (is.1, is.2)
-IsPaddedRun-unique padding.None least most a b x y v w p q e = let is = IsDigitRun-unique 1 1 most a b x y v w p q e in (is.1, is.2)
+pub IsPaddedRun-unique : (padding : Padding) (least most : ℕ) → IsUnique (IsPaddedRun padding least most)
+IsPaddedRun-unique padding.Space least most = IsSpacedRun-unique least most
+IsPaddedRun-unique padding.Zero least most = IsDigitRun-one least most
+IsPaddedRun-unique padding.None least most = IsDigitRun-one 1 most
 
 -- a run of so many places has at most so many values
 pub IsPaddedRun-below : (padding : Padding) (least most : ℕ) (text rest : List ℕ) (v : ℕ) → IsPaddedRun padding least most text rest v → v < 10 ^ most

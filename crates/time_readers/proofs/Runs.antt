@@ -3,7 +3,7 @@ use Rattle.std.proofs.Common.{◌≡◌, ℕ, zero, suc, ◌+◌, ◌-◌, ◌*�
 use Rattle.std.proofs.lemmas.List.{length-take, length-take-le, take-append-drop, take_more}
 use Rattle.std.proofs.lemmas.Bool.{cases_lt}
 use Rattle.time_readers.specs.Cuts.{Cut, NoCut}
-use Rattle.time_readers.proofs.CutLemmas.{take-drop}
+use Rattle.time_readers.proofs.CutLemmas.{take-drop, IsUnique}
 use Rattle.time_readers.specs.Digits.{IsDigit, AllDigits, digits_value, NoDigitFirst, IsDigitRun, IsDigitRunUpTo}
 
 pub AllDigits-push : (xs : List ℕ) (c : ℕ) → AllDigits xs → IsDigit c → AllDigits (xs ++ c ∷ [])
@@ -111,6 +111,9 @@ IsDigitRun-unique least least' most a b x y v w p q e =
     let eq : (0 + length b ≡ most) ⊎ NoDigitFirst y = elim q.ends [ inl h ↦ inl (omega arith) | inr h ↦ inr h ] in
     let is = one_end a b x y 0 most p.digits q.digits e (omega (arith, p.within)) (omega (arith, q.within)) ep eq in
     (is.0, is.1, p.is ∙ ap digits_value is.0 ∙ sym q.is)
+
+pub IsDigitRun-one : (least most : ℕ) → IsUnique (IsDigitRun least most)
+IsDigitRun-one least most a b x y v w p q e = let is = IsDigitRun-unique least least most a b x y v w p q e in (is.1, is.2)
 
 -- the digits that stand there are too few
 pub IsDigitRun-short : (least most greatest count value : ℕ) (s : List ℕ) → IsDigitRun 0 most (take count s) (drop count s) value → count < least → NoCut (IsDigitRunUpTo greatest least most) s

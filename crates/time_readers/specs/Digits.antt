@@ -1,5 +1,6 @@
 -- Runs of decimal digits, as relations on the text, what follows it, and the number.
 use Rattle.std.specs.Prelude.{◌≡◌, ◌≢◌, ℕ, ◌+◌, ◌-◌, ◌*◌, ◌^◌, ◌≤◌, ◌⊎◌, List, [], ◌∷◌, ◌++◌, length, take, replicate}
+use Rattle.time_readers.specs.Cuts.{Form}
 use Rattle.time_readers.specs.declared.Padding.{Padding}
 use Rattle.time_readers.specs.declared.Padding.TheVariants as padding
 
@@ -45,18 +46,19 @@ pub record IsSpacedRun (least most : ℕ) (text rest : List ℕ) (value : ℕ) :
   pub run : IsDigitRun (least - spaces) (most - spaces) digits rest value
 
 -- the text is a run under the padding
-abbrev pub IsPaddedRun : Padding → ℕ → ℕ → List ℕ → List ℕ → ℕ → Type 0
+abbrev pub IsPaddedRun : Padding → ℕ → ℕ → Form ℕ
 IsPaddedRun padding.Space least most text rest value = IsSpacedRun least most text rest value
 IsPaddedRun padding.Zero least most text rest value = IsDigitRun least most text rest value
 IsPaddedRun padding.None least most text rest value = IsDigitRun 1 most text rest value
 
 -- the text is a run whose value is at most the greatest number
-abbrev pub IsDigitRunUpTo : ℕ → ℕ → ℕ → List ℕ → List ℕ → ℕ → Type 0
+abbrev pub IsDigitRunUpTo : ℕ → ℕ → ℕ → Form ℕ
 IsDigitRunUpTo greatest least most text rest value = IsDigitRun least most text rest value × (value ≤ greatest)
 
 -- the text is a run under the padding whose value is at most the greatest number
-abbrev pub IsPaddedRunUpTo : ℕ → Padding → ℕ → ℕ → List ℕ → List ℕ → ℕ → Type 0
-IsPaddedRunUpTo greatest padding least most text rest value = IsPaddedRun padding least most text rest value × (value ≤ greatest)
+abbrev pub IsPaddedRunUpTo : ℕ → Padding → ℕ → ℕ → Form ℕ
+IsPaddedRunUpTo greatest padding least most text rest value =
+    IsPaddedRun padding least most text rest value × (value ≤ greatest)
 
 -- the nanoseconds that the digits of a fraction of a second say: nine count, later ones are dropped
 abbrev pub fraction_nanoseconds : List ℕ → ℕ

@@ -23,6 +23,7 @@ OneSpelling = (whole : Bool) (c : Component) → AtMostOneCut (Spells whole c)
 
 -- the bytes have one reading by the places of RFC 3339 or one first place that doesn't stand, and never both
 pub record OneForm (ranged : Bool) (bytes : List ℕ) : Type 0 where
-  pub one_reading : (x y : List ℕ) (n m : Numbers) → HasForm ranged bytes x n → HasForm ranged bytes y m → (x ≡ y) × (n ≡ m)
+  pub one_reading : (x y : List ℕ) (n m : Numbers)
+      → HasForm ranged bytes x n → HasForm ranged bytes y m → (x ≡ y) × (n ≡ m)
   pub one_place : (p q : Place) → FailsAt ranged bytes p → FailsAt ranged bytes q → p ≡ q
   pub never_both : (x : List ℕ) (n : Numbers) (p : Place) → HasForm ranged bytes x n → ¬ FailsAt ranged bytes p

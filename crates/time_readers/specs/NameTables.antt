@@ -1,9 +1,11 @@
--- Tables of names, each parted behind its first three letters.
+-- Tables of names, each parted behind its first three letters: the words of private functions, which no public
+-- contract cites.
 use Rattle.std.specs.Prelude.{◌≡◌, ℕ, List, [], ◌∷◌, ◌++◌, length, take, IsTrue, Bool, true, false, ◌&&◌, not}
 use Rattle.std.specs.List.{Contains, list_all}
 use Rattle.std.specs.Char.{to_ascii_uppercase, is_ascii_uppercase, is_ascii_lowercase}
 use Rattle.std.specs.Str.{str_to_ascii_lowercase, bytes_eq}
 use Rattle.time_readers.specs.declared.component.names.Name.{Name}
+use Rattle.time_readers.specs.Cuts.{Form}
 use Rattle.time_readers.specs.Names.{IsNamed}
 
 -- the letters as they stand where the case matters, and otherwise a capital and small letters
@@ -13,7 +15,7 @@ title false [] = []
 title false (c ∷ cs) = to_ascii_uppercase c ∷ str_to_ascii_lowercase cs
 
 -- three bytes, as `title` has them
-abbrev pub IsTitle : Bool → List ℕ → List ℕ → List ℕ → Type 0
+abbrev pub IsTitle : Bool → Form (List ℕ)
 IsTitle case_sensitive text rest letters = (length text ≡ 3) × (letters ≡ title case_sensitive text)
 
 -- a capital and two small letters
@@ -31,16 +33,23 @@ abbrev pub is_table : {T : Type 0} → List (Name T) → Bool
 is_table names = list_all (λ n. is_title n.letters) names && are_distinct names
 
 -- The text is the first three letters of a name of the table.
-abbrev pub IsShortName : {T : Type 0} → List (Name T) → Bool → List ℕ → List ℕ → Name T → Type 0
-IsShortName names case_sensitive text rest name = Contains names name × IsNamed case_sensitive name.letters text
+abbrev pub IsShortName : {T : Type 0} → List (Name T) → Bool → Form (Name T)
+IsShortName names case_sensitive text rest name =
+    Contains names name × IsNamed case_sensitive name.letters text
 
 -- The text is a whole name of the table.
-abbrev pub IsLongName : {T : Type 0} → List (Name T) → Bool → List ℕ → List ℕ → Name T → Type 0
-IsLongName names case_sensitive text rest name = Contains names name × IsNamed case_sensitive (name.letters ++ name.ending.now) text
+abbrev pub IsLongName : {T : Type 0} → List (Name T) → Bool → Form (Name T)
+IsLongName names case_sensitive text rest name =
+    Contains names name × IsNamed case_sensitive (name.letters ++ name.ending.now) text
+
+-- The text is the ending of a name.
+abbrev pub IsEnding : List ℕ → Bool → Form (Unit {0})
+IsEnding ending case_sensitive text rest nothing = IsNamed case_sensitive ending text
 
 -- What a name of a table says is the name of its value.
 abbrev pub IsEntry : {T : Type 0} → (T → List ℕ) → Name T → Type 0
-IsEntry name_of name = (take 3 (name_of name.value) ≡ name.letters) × (name_of name.value ≡ name.letters ++ name.ending.now)
+IsEntry name_of name =
+    (take 3 (name_of name.value) ≡ name.letters) × (name_of name.value ≡ name.letters ++ name.ending.now)
 
 -- The table has the name of each value, and no others.
 pub record IsTableOf {T : Type 0} (name_of : T → List ℕ) (names : List (Name T)) : Type 0 where

@@ -1,9 +1,10 @@
 -- RFC 3339, section 5.6, by places.
-use Rattle.std.specs.Prelude.{◌≡◌, ◌≢◌, ◌≤◌, ℕ, ◌⊎◌, List, [], ◌∷◌, length, codes, Bool, true, false, Option, Some, None}
+use Rattle.std.specs.Prelude.{◌≡◌, ◌≢◌, ◌≤◌, ℕ, ◌⊎◌, List, [], ◌∷◌, ◌++◌, length, codes, Bool, true, false, Option, Some, None}
 use Rattle.time_values.specs.Refusal.{Refusal, literal, component}
+use Rattle.time_readers.specs.Cuts.{Form}
 use Rattle.time_readers.specs.Digits.{IsDigitRun, IsFraction}
 use Rattle.time_readers.specs.Bytes.{IsByteIgnoringCase, sign_byte, is_negative}
-use Rattle.time_readers.specs.Places.{Stand, StopsAt}
+use Rattle.time_readers.specs.Places.{Format, Stand, StopsAt}
 use Rattle.time_readers.specs.declared.Sign.{Sign}
 use Rattle.time_readers.specs.declared.rfc3339.Numbers.{Numbers}
 use Rattle.time_readers.specs.declared.rfc3339.Place.{Place}
@@ -15,7 +16,7 @@ IsWithin true least most v = (least ≤ v) × (v ≤ most)
 IsWithin false least most v = Unit {0}
 
 -- two digits, and where a range is asked their number lies in it
-abbrev pub IsTwoDigits : Bool → ℕ → ℕ → List ℕ → List ℕ → ℕ → Type 0
+abbrev pub IsTwoDigits : Bool → ℕ → ℕ → Form ℕ
 IsTwoDigits ranged least most text after v = IsDigitRun 2 2 text after v × IsWithin ranged least most v
 
 -- the text doesn't begin with a point
@@ -24,12 +25,12 @@ NoPointFirst [] = Unit {0}
 NoPointFirst (c ∷ cs) = c ≢ 46
 
 -- nothing where no point stands, or a point and the digits of a fraction
-abbrev pub IsSubsecond : List ℕ → List ℕ → Option ℕ → Type 0
+abbrev pub IsSubsecond : Form (Option ℕ)
 IsSubsecond text after None = (text ≡ []) × NoPointFirst after
 IsSubsecond text after (Some v) = (digits : List ℕ) × (text ≡ 46 ∷ digits) × IsFraction digits after v
 
 -- `Z`, in either case
-abbrev pub IsZulu : Numbers → List ℕ → List ℕ → Numbers → Type 0
+abbrev pub IsZulu : Numbers → Form Numbers
 IsZulu n text after m = IsByteIgnoringCase 90 text after tt × (m ≡ record n { is_utc = true })
 
 -- a sign and two digits of 00 to 23
@@ -47,15 +48,17 @@ IsOffsetColon true text = text ≡ []
 IsOffsetColon false text = text ≡ codes ":"
 
 -- two digits, and nothing after `Z`
-abbrev pub IsOffsetMinute : Bool → Bool → Numbers → List ℕ → List ℕ → Numbers → Type 0
+abbrev pub IsOffsetMinute : Bool → Bool → Numbers → Form Numbers
 IsOffsetMinute ranged true n text after m = (text ≡ []) × (m ≡ n)
-IsOffsetMinute ranged false n text after m = (v : ℕ) × IsTwoDigits ranged 0 59 text after v × (m ≡ record n { offset_minute = v })
+IsOffsetMinute ranged false n text after m =
+    (v : ℕ) × IsTwoDigits ranged 0 59 text after v × (m ≡ record n { offset_minute = v })
 
 -- what each place asks of its text, and what the text says: its form, and where ranges are asked its range
-abbrev pub Asks : Bool → Place → Numbers → List ℕ → List ℕ → Numbers → Type 0
+abbrev pub Asks : Bool → Format Place Numbers
 Asks ranged Year n text after m = (v : ℕ) × IsDigitRun 4 4 text after v × (m ≡ record n { year = v })
 Asks ranged YearDash n text after m = (text ≡ codes "-") × (m ≡ n)
-Asks ranged Month n text after m = (v : ℕ) × IsTwoDigits ranged 1 12 text after v × (v ≢ 0) × (m ≡ record n { month = v })
+Asks ranged Month n text after m =
+    (v : ℕ) × IsTwoDigits ranged 1 12 text after v × (v ≢ 0) × (m ≡ record n { month = v })
 Asks ranged MonthDash n text after m = (text ≡ codes "-") × (m ≡ n)
 Asks ranged Day n text after m = (v : ℕ) × IsTwoDigits ranged 1 31 text after v × (m ≡ record n { day = v })
 Asks ranged Separator n text after m = (length text ≡ 1) × (m ≡ n)
@@ -71,7 +74,19 @@ Asks ranged OffsetMinute n text after m = IsOffsetMinute ranged n.is_utc n text 
 
 -- the numbers before any place is read
 abbrev pub nothing_read : Numbers
-nothing_read = record { year = 0; month = 0; day = 0; hour = 0; minute = 0; second = 0; subsecond = None; is_utc = false; offset_is_negative = false; offset_hour = 0; offset_minute = 0 }
+nothing_read = record {
+  year = 0;
+  month = 0;
+  day = 0;
+  hour = 0;
+  minute = 0;
+  second = 0;
+  subsecond = None;
+  is_utc = false;
+  offset_is_negative = false;
+  offset_hour = 0;
+  offset_minute = 0;
+}
 
 -- the places of a date, in order
 abbrev pub date_places : List Place
@@ -87,15 +102,15 @@ offset_places = OffsetHour ∷ OffsetColon ∷ OffsetMinute ∷ []
 
 -- the fifteen places in order
 abbrev pub places : List Place
-places = Year ∷ YearDash ∷ Month ∷ MonthDash ∷ Day ∷ Separator ∷ Hour ∷ HourColon ∷ Minute ∷ MinuteColon ∷ Second ∷ Subsecond ∷ OffsetHour ∷ OffsetColon ∷ OffsetMinute ∷ []
+places = date_places ++ (time_places ++ offset_places)
 
 -- the bytes are the texts of the fifteen places, which say the numbers, and then the rest
-abbrev pub HasForm : Bool → List ℕ → List ℕ → Numbers → Type 0
-HasForm ranged bytes rest m = Stand (Asks ranged) places nothing_read bytes rest m
+abbrev pub HasForm : Bool → Form Numbers
+HasForm ranged = Stand (Asks ranged) places nothing_read
 
 -- the first of the fifteen places that doesn't stand
 abbrev pub FailsAt : Bool → List ℕ → Place → Type 0
-FailsAt ranged bytes p = StopsAt (Asks ranged) places nothing_read bytes p
+FailsAt ranged = StopsAt (Asks ranged) places nothing_read
 
 -- the refusal of a place that doesn't stand: of a byte that is fixed a literal, else a component by its name
 abbrev pub fault : Place → Refusal

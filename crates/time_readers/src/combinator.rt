@@ -2,8 +2,8 @@
 //!
 //! Each answers the unread rest and the value exactly where its input begins with such a text, and `None`
 //! else. A run of digits takes as many as it may, and nothing goes back.
-ghost use Rattle.std.specs.Prelude.{◌≡◌, ◌-◌, ◌^◌, ◌≤◌, ◌⊎◌, ℕ, List, ◌++◌, MatchOption, IsTrue, ◌↔◌, length, drop, replicate};
-ghost use Rattle.time_readers.specs.Cuts.{Cut, NoCut};
+ghost use Rattle.std.specs.Prelude.{◌≡◌, ◌-◌, ◌^◌, ◌≤◌, ◌⊎◌, ℕ, List, ◌++◌, IsTrue, ◌↔◌, length, drop, replicate};
+ghost use Rattle.time_readers.specs.Cuts.{Finds};
 ghost use Rattle.time_readers.specs.Digits.{IsDigit, AllDigits, NoDigitFirst, NoSpaceFirst, IsDigitRun, IsDigitRunUpTo, IsPaddedRunUpTo, IsFraction};
 ghost use Rattle.time_readers.specs.Bytes.{IsByte, IsByteIgnoringCase, IsDigitByte, IsSign};
 
@@ -26,9 +26,7 @@ const NANOSECONDS_OF_PLACE: [u32; 10] = [
 /// Reads a sign, `-` or `+`.
 #[inline]
 pub fn sign(input: &[u8]) -> Option<ParsedItem<'_, Sign>>
-    ensures { MatchOption result
-        (NoCut IsSign input.now)
-        (λ p. Cut IsSign input.now p.0.now p.1) }
+    ensures { Finds IsSign (λ v. v) input.now result }
 {
     match input {
         [b'-', rest @ ..] => Some(ParsedItem(rest, Sign::Negative)),
@@ -46,9 +44,7 @@ pub fn n_to_m_digits<const N: u8, const M: u8, T: Integer>(
     requires least { 1 ≤ N }
     requires ordered { N ≤ M }
     requires most { M ≤ T.MAX_NUM_DIGITS }
-    ensures { MatchOption result
-        (NoCut (IsDigitRunUpTo T.greatest N M) input.now)
-        (λ p. Cut (IsDigitRunUpTo T.greatest N M) input.now p.0.now (T.value p.1)) }
+    ensures { Finds (IsDigitRunUpTo T.greatest N M) T.value input.now result }
 {
     digit_run(input, usize::from(N), usize::from(M))
 }
@@ -56,9 +52,7 @@ pub fn n_to_m_digits<const N: u8, const M: u8, T: Integer>(
 /// Reads one or two digits, as many as stand there, and answers their decimal value.
 #[inline]
 pub fn one_or_two_digits(input: &[u8]) -> Option<ParsedItem<'_, u8>>
-    ensures { MatchOption result
-        (NoCut (IsDigitRun 1 2) input.now)
-        (λ p. Cut (IsDigitRun 1 2) input.now p.0.now p.1) }
+    ensures { Finds (IsDigitRun 1 2) (λ v. v) input.now result }
 {
     match input {
         [a @ b'0'..=b'9', b @ b'0'..=b'9', rest @ ..] => {
@@ -69,12 +63,10 @@ pub fn one_or_two_digits(input: &[u8]) -> Option<ParsedItem<'_, u8>>
     }
 }
 
-/// Reads exactly two digits, and answers their decimal value.
+// Reads exactly two digits, and answers their decimal value.
 #[inline]
 pub(crate) fn two_digits(input: &[u8]) -> Option<ParsedItem<'_, u8>>
-    ensures { MatchOption result
-        (NoCut (IsDigitRun 2 2) input.now)
-        (λ p. Cut (IsDigitRun 2 2) input.now p.0.now p.1) }
+    ensures { Finds (IsDigitRun 2 2) (λ v. v) input.now result }
 {
     match input {
         [a @ b'0'..=b'9', b @ b'0'..=b'9', rest @ ..] => {
@@ -84,12 +76,10 @@ pub(crate) fn two_digits(input: &[u8]) -> Option<ParsedItem<'_, u8>>
     }
 }
 
-/// Reads exactly four digits, and answers their decimal value.
+// Reads exactly four digits, and answers their decimal value.
 #[inline]
 pub(crate) fn four_digits(input: &[u8]) -> Option<ParsedItem<'_, u16>>
-    ensures { MatchOption result
-        (NoCut (IsDigitRun 4 4) input.now)
-        (λ p. Cut (IsDigitRun 4 4) input.now p.0.now p.1) }
+    ensures { Finds (IsDigitRun 4 4) (λ v. v) input.now result }
 {
     match input {
         [
@@ -112,9 +102,7 @@ pub(crate) fn four_digits(input: &[u8]) -> Option<ParsedItem<'_, u16>>
 pub fn exactly_n_digits<const N: u8>(input: &[u8]) -> Option<ParsedItem<'_, u32>>
     requires least { 1 ≤ N }
     requires most { N ≤ 9 }
-    ensures { MatchOption result
-        (NoCut (IsDigitRun N N) input.now)
-        (λ p. Cut (IsDigitRun N N) input.now p.0.now p.1) }
+    ensures { Finds (IsDigitRun N N) (λ v. v) input.now result }
 {
     digit_run(input, usize::from(N), usize::from(N))
 }
@@ -129,9 +117,7 @@ pub fn exactly_n_digits_padded<const N: u8, T: Integer>(
 ) -> Option<ParsedItem<'_, T>>
     requires least { 1 ≤ N }
     requires most { N ≤ T.MAX_NUM_DIGITS }
-    ensures { MatchOption result
-        (NoCut (IsPaddedRunUpTo T.greatest padding N N) input.now)
-        (λ p. Cut (IsPaddedRunUpTo T.greatest padding N N) input.now p.0.now (T.value p.1)) }
+    ensures { Finds (IsPaddedRunUpTo T.greatest padding N N) T.value input.now result }
 {
     n_to_m_digits_padded::<N, N, T>(input, padding)
 }
@@ -148,9 +134,7 @@ pub fn n_to_m_digits_padded<const N: u8, const M: u8, T: Integer>(
     requires least { 1 ≤ N }
     requires ordered { N ≤ M }
     requires most { M ≤ T.MAX_NUM_DIGITS }
-    ensures { MatchOption result
-        (NoCut (IsPaddedRunUpTo T.greatest padding N M) input.now)
-        (λ p. Cut (IsPaddedRunUpTo T.greatest padding N M) input.now p.0.now (T.value p.1)) }
+    ensures { Finds (IsPaddedRunUpTo T.greatest padding N M) T.value input.now result }
 {
     let least = usize::from(N);
     let most = usize::from(M);
@@ -167,9 +151,7 @@ pub fn n_to_m_digits_padded<const N: u8, const M: u8, T: Integer>(
 /// Reads one digit, and answers its byte.
 #[inline]
 pub fn any_digit(input: &[u8]) -> Option<ParsedItem<'_, u8>>
-    ensures { MatchOption result
-        (NoCut IsDigitByte input.now)
-        (λ p. Cut IsDigitByte input.now p.0.now p.1) }
+    ensures { Finds IsDigitByte (λ v. v) input.now result }
 {
     match input {
         [digit @ b'0'..=b'9', rest @ ..] => Some(ParsedItem(rest, *digit)),
@@ -180,9 +162,7 @@ pub fn any_digit(input: &[u8]) -> Option<ParsedItem<'_, u8>>
 /// Reads the byte `C`.
 #[inline]
 pub fn ascii_char<const C: u8>(input: &[u8]) -> Option<ParsedItem<'_, ()>>
-    ensures { MatchOption result
-        (NoCut (IsByte C) input.now)
-        (λ p. Cut (IsByte C) input.now p.0.now p.1) }
+    ensures { Finds (IsByte C) (λ v. v) input.now result }
 {
     match input {
         [first, rest @ ..] if *first == C => Some(ParsedItem(rest, ())),
@@ -193,9 +173,7 @@ pub fn ascii_char<const C: u8>(input: &[u8]) -> Option<ParsedItem<'_, ()>>
 /// Reads the byte `C`, in either case where it is an ASCII letter.
 #[inline]
 pub fn ascii_char_ignore_case<const C: u8>(input: &[u8]) -> Option<ParsedItem<'_, ()>>
-    ensures { MatchOption result
-        (NoCut (IsByteIgnoringCase C) input.now)
-        (λ p. Cut (IsByteIgnoringCase C) input.now p.0.now p.1) }
+    ensures { Finds (IsByteIgnoringCase C) (λ v. v) input.now result }
 {
     match input {
         [first, rest @ ..] if first.eq_ignore_ascii_case(&C) => Some(ParsedItem(rest, ())),
@@ -219,13 +197,11 @@ fn nanoseconds_of_place(digits: usize) -> u32
     NANOSECONDS_OF_PLACE[digits]
 }
 
-/// Reads the digits of a fraction of a second, as many as stand there, and answers nanoseconds: nine
-/// digits count, later ones are dropped.
+// Reads the digits of a fraction of a second, as many as stand there, and answers nanoseconds: nine
+// digits count, later ones are dropped.
 #[inline]
 pub(crate) fn fraction(input: &[u8]) -> Option<ParsedItem<'_, u32>>
-    ensures { MatchOption result
-        (NoCut IsFraction input.now)
-        (λ p. Cut IsFraction input.now p.0.now p.1) }
+    ensures { Finds IsFraction (λ v. v) input.now result }
 {
     let Some(found) = n_to_m_digits::<1, 9, u32>(input) else {
         return None;
@@ -251,9 +227,7 @@ fn without_digits(input: &[u8]) -> &[u8]
 #[inline]
 fn digit_run<T: Integer>(input: &[u8], least: usize, most: usize) -> Option<ParsedItem<'_, T>>
     requires { most ≤ T.MAX_NUM_DIGITS }
-    ensures { MatchOption result
-        (NoCut (IsDigitRunUpTo T.greatest least most) input.now)
-        (λ p. Cut (IsDigitRunUpTo T.greatest least most) input.now p.0.now (T.value p.1)) }
+    ensures { Finds (IsDigitRunUpTo T.greatest least most) T.value input.now result }
 {
     let mut value = T::ZERO;
     let mut count = 0;

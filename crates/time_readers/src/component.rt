@@ -3,8 +3,8 @@
 //! A reader answers what is left of its input and a value, exactly where a beginning of the input
 //! spells that value, and `None` else. A run of digits takes as many as it may, and nothing goes
 //! back.
-ghost use Rattle.std.specs.Prelude.{MatchOption, false};
-ghost use Rattle.time_readers.specs.Cuts.{Cut, NoCut};
+ghost use Rattle.std.specs.Prelude.{false};
+ghost use Rattle.time_readers.specs.Cuts.{Finds};
 ghost use Rattle.time_readers.specs.Spelling.{Spells, number, signed, flagged, month, weekday, period, nothing};
 ghost use Rattle.time_readers.specs.declared.format_description.Component.TheVariants as component;
 
@@ -32,10 +32,7 @@ pub fn parse_calendar_year_full_extended_range(
     input: &[u8],
     modifiers: modifier::CalendarYearFullExtendedRange,
 ) -> Option<ParsedItem<'_, i32>>
-    ensures { MatchOption result
-        (NoCut (Spells false (component.CalendarYearFullExtendedRange modifiers)) input.now)
-        (λ p. Cut (Spells false (component.CalendarYearFullExtendedRange modifiers)) input.now
-        p.0.now (signed p.1)) }
+    ensures { Finds (Spells false (component.CalendarYearFullExtendedRange modifiers)) signed input.now result }
 {
     let modifier::CalendarYearFullExtendedRange {
         padding,
@@ -53,10 +50,7 @@ pub fn parse_calendar_year_full_standard_range(
     input: &[u8],
     modifiers: modifier::CalendarYearFullStandardRange,
 ) -> Option<ParsedItem<'_, i32>>
-    ensures { MatchOption result
-        (NoCut (Spells false (component.CalendarYearFullStandardRange modifiers)) input.now)
-        (λ p. Cut (Spells false (component.CalendarYearFullStandardRange modifiers)) input.now
-        p.0.now (signed p.1)) }
+    ensures { Finds (Spells false (component.CalendarYearFullStandardRange modifiers)) signed input.now result }
 {
     let modifier::CalendarYearFullStandardRange {
         padding,
@@ -74,10 +68,7 @@ pub fn parse_iso_year_full_extended_range(
     input: &[u8],
     modifiers: modifier::IsoYearFullExtendedRange,
 ) -> Option<ParsedItem<'_, i32>>
-    ensures { MatchOption result
-        (NoCut (Spells false (component.IsoYearFullExtendedRange modifiers)) input.now)
-        (λ p. Cut (Spells false (component.IsoYearFullExtendedRange modifiers)) input.now
-        p.0.now (signed p.1)) }
+    ensures { Finds (Spells false (component.IsoYearFullExtendedRange modifiers)) signed input.now result }
 {
     let modifier::IsoYearFullExtendedRange {
         padding,
@@ -95,10 +86,7 @@ pub fn parse_iso_year_full_standard_range(
     input: &[u8],
     modifiers: modifier::IsoYearFullStandardRange,
 ) -> Option<ParsedItem<'_, i32>>
-    ensures { MatchOption result
-        (NoCut (Spells false (component.IsoYearFullStandardRange modifiers)) input.now)
-        (λ p. Cut (Spells false (component.IsoYearFullStandardRange modifiers)) input.now
-        p.0.now (signed p.1)) }
+    ensures { Finds (Spells false (component.IsoYearFullStandardRange modifiers)) signed input.now result }
 {
     let modifier::IsoYearFullStandardRange {
         padding,
@@ -117,10 +105,8 @@ pub fn parse_calendar_year_century_extended_range(
     input: &[u8],
     modifiers: modifier::CalendarYearCenturyExtendedRange,
 ) -> Option<ParsedItem<'_, (i16, bool)>>
-    ensures { MatchOption result
-        (NoCut (Spells false (component.CalendarYearCenturyExtendedRange modifiers)) input.now)
-        (λ p. Cut (Spells false (component.CalendarYearCenturyExtendedRange modifiers)) input.now
-        p.0.now (flagged p.1.0 p.1.1)) }
+    ensures { Finds (Spells false (component.CalendarYearCenturyExtendedRange modifiers)) (λ v. flagged v.0 v.1)
+        input.now result }
 {
     let modifier::CalendarYearCenturyExtendedRange {
         padding,
@@ -139,10 +125,8 @@ pub fn parse_calendar_year_century_standard_range(
     input: &[u8],
     modifiers: modifier::CalendarYearCenturyStandardRange,
 ) -> Option<ParsedItem<'_, (i16, bool)>>
-    ensures { MatchOption result
-        (NoCut (Spells false (component.CalendarYearCenturyStandardRange modifiers)) input.now)
-        (λ p. Cut (Spells false (component.CalendarYearCenturyStandardRange modifiers)) input.now
-        p.0.now (flagged p.1.0 p.1.1)) }
+    ensures { Finds (Spells false (component.CalendarYearCenturyStandardRange modifiers)) (λ v. flagged v.0 v.1)
+        input.now result }
 {
     let modifier::CalendarYearCenturyStandardRange {
         padding,
@@ -161,10 +145,8 @@ pub fn parse_iso_year_century_extended_range(
     input: &[u8],
     modifiers: modifier::IsoYearCenturyExtendedRange,
 ) -> Option<ParsedItem<'_, (i16, bool)>>
-    ensures { MatchOption result
-        (NoCut (Spells false (component.IsoYearCenturyExtendedRange modifiers)) input.now)
-        (λ p. Cut (Spells false (component.IsoYearCenturyExtendedRange modifiers)) input.now
-        p.0.now (flagged p.1.0 p.1.1)) }
+    ensures { Finds (Spells false (component.IsoYearCenturyExtendedRange modifiers)) (λ v. flagged v.0 v.1)
+        input.now result }
 {
     let modifier::IsoYearCenturyExtendedRange {
         padding,
@@ -183,10 +165,8 @@ pub fn parse_iso_year_century_standard_range(
     input: &[u8],
     modifiers: modifier::IsoYearCenturyStandardRange,
 ) -> Option<ParsedItem<'_, (i16, bool)>>
-    ensures { MatchOption result
-        (NoCut (Spells false (component.IsoYearCenturyStandardRange modifiers)) input.now)
-        (λ p. Cut (Spells false (component.IsoYearCenturyStandardRange modifiers)) input.now
-        p.0.now (flagged p.1.0 p.1.1)) }
+    ensures { Finds (Spells false (component.IsoYearCenturyStandardRange modifiers)) (λ v. flagged v.0 v.1)
+        input.now result }
 {
     let modifier::IsoYearCenturyStandardRange {
         padding,
@@ -201,10 +181,7 @@ pub fn parse_calendar_year_last_two(
     input: &[u8],
     modifiers: modifier::CalendarYearLastTwo,
 ) -> Option<ParsedItem<'_, u8>>
-    ensures { MatchOption result
-        (NoCut (Spells false (component.CalendarYearLastTwo modifiers)) input.now)
-        (λ p. Cut (Spells false (component.CalendarYearLastTwo modifiers)) input.now
-        p.0.now (number p.1)) }
+    ensures { Finds (Spells false (component.CalendarYearLastTwo modifiers)) number input.now result }
 {
     let modifier::CalendarYearLastTwo { padding } = modifiers;
     two_places(input, padding)
@@ -216,10 +193,7 @@ pub fn parse_iso_year_last_two(
     input: &[u8],
     modifiers: modifier::IsoYearLastTwo,
 ) -> Option<ParsedItem<'_, u8>>
-    ensures { MatchOption result
-        (NoCut (Spells false (component.IsoYearLastTwo modifiers)) input.now)
-        (λ p. Cut (Spells false (component.IsoYearLastTwo modifiers)) input.now
-        p.0.now (number p.1)) }
+    ensures { Finds (Spells false (component.IsoYearLastTwo modifiers)) number input.now result }
 {
     let modifier::IsoYearLastTwo { padding } = modifiers;
     two_places(input, padding)
@@ -231,9 +205,7 @@ pub fn parse_month_short(
     input: &[u8],
     modifiers: modifier::MonthShort,
 ) -> Option<ParsedItem<'_, Month>>
-    ensures { MatchOption result
-        (NoCut (Spells false (component.MonthShort modifiers)) input.now)
-        (λ p. Cut (Spells false (component.MonthShort modifiers)) input.now p.0.now (month p.1)) }
+    ensures { Finds (Spells false (component.MonthShort modifiers)) month input.now result }
 {
     let modifier::MonthShort { case_sensitive } = modifiers;
     let name = short_name(input, months(), case_sensitive)?;
@@ -246,9 +218,7 @@ pub fn parse_month_long(
     input: &[u8],
     modifiers: modifier::MonthLong,
 ) -> Option<ParsedItem<'_, Month>>
-    ensures { MatchOption result
-        (NoCut (Spells false (component.MonthLong modifiers)) input.now)
-        (λ p. Cut (Spells false (component.MonthLong modifiers)) input.now p.0.now (month p.1)) }
+    ensures { Finds (Spells false (component.MonthLong modifiers)) month input.now result }
 {
     let modifier::MonthLong { case_sensitive } = modifiers;
     let name = long_name(input, months(), case_sensitive)?;
@@ -261,10 +231,7 @@ pub fn parse_month_numerical(
     input: &[u8],
     modifiers: modifier::MonthNumerical,
 ) -> Option<ParsedItem<'_, Month>>
-    ensures { MatchOption result
-        (NoCut (Spells false (component.MonthNumerical modifiers)) input.now)
-        (λ p. Cut (Spells false (component.MonthNumerical modifiers)) input.now
-        p.0.now (month p.1)) }
+    ensures { Finds (Spells false (component.MonthNumerical modifiers)) month input.now result }
 {
     let modifier::MonthNumerical { padding } = modifiers;
     let number = run::<2, 2, u8>(input, padding)?;
@@ -280,10 +247,7 @@ pub fn parse_week_number_iso(
     input: &[u8],
     modifiers: modifier::WeekNumberIso,
 ) -> Option<ParsedItem<'_, u8>>
-    ensures { MatchOption result
-        (NoCut (Spells false (component.WeekNumberIso modifiers)) input.now)
-        (λ p. Cut (Spells false (component.WeekNumberIso modifiers)) input.now
-        p.0.now (number p.1)) }
+    ensures { Finds (Spells false (component.WeekNumberIso modifiers)) number input.now result }
 {
     let modifier::WeekNumberIso { padding } = modifiers;
     two_places(input, padding)
@@ -296,10 +260,7 @@ pub fn parse_week_number_sunday(
     input: &[u8],
     modifiers: modifier::WeekNumberSunday,
 ) -> Option<ParsedItem<'_, u8>>
-    ensures { MatchOption result
-        (NoCut (Spells false (component.WeekNumberSunday modifiers)) input.now)
-        (λ p. Cut (Spells false (component.WeekNumberSunday modifiers)) input.now
-        p.0.now (number p.1)) }
+    ensures { Finds (Spells false (component.WeekNumberSunday modifiers)) number input.now result }
 {
     let modifier::WeekNumberSunday { padding } = modifiers;
     two_places(input, padding)
@@ -312,10 +273,7 @@ pub fn parse_week_number_monday(
     input: &[u8],
     modifiers: modifier::WeekNumberMonday,
 ) -> Option<ParsedItem<'_, u8>>
-    ensures { MatchOption result
-        (NoCut (Spells false (component.WeekNumberMonday modifiers)) input.now)
-        (λ p. Cut (Spells false (component.WeekNumberMonday modifiers)) input.now
-        p.0.now (number p.1)) }
+    ensures { Finds (Spells false (component.WeekNumberMonday modifiers)) number input.now result }
 {
     let modifier::WeekNumberMonday { padding } = modifiers;
     two_places(input, padding)
@@ -327,10 +285,7 @@ pub fn parse_weekday_short(
     input: &[u8],
     modifiers: modifier::WeekdayShort,
 ) -> Option<ParsedItem<'_, Weekday>>
-    ensures { MatchOption result
-        (NoCut (Spells false (component.WeekdayShort modifiers)) input.now)
-        (λ p. Cut (Spells false (component.WeekdayShort modifiers)) input.now
-        p.0.now (weekday p.1)) }
+    ensures { Finds (Spells false (component.WeekdayShort modifiers)) weekday input.now result }
 {
     let modifier::WeekdayShort { case_sensitive } = modifiers;
     let name = short_name(input, weekdays(), case_sensitive)?;
@@ -343,10 +298,7 @@ pub fn parse_weekday_long(
     input: &[u8],
     modifiers: modifier::WeekdayLong,
 ) -> Option<ParsedItem<'_, Weekday>>
-    ensures { MatchOption result
-        (NoCut (Spells false (component.WeekdayLong modifiers)) input.now)
-        (λ p. Cut (Spells false (component.WeekdayLong modifiers)) input.now
-        p.0.now (weekday p.1)) }
+    ensures { Finds (Spells false (component.WeekdayLong modifiers)) weekday input.now result }
 {
     let modifier::WeekdayLong { case_sensitive } = modifiers;
     let name = long_name(input, weekdays(), case_sensitive)?;
@@ -360,10 +312,7 @@ pub fn parse_weekday_sunday(
     input: &[u8],
     modifiers: modifier::WeekdaySunday,
 ) -> Option<ParsedItem<'_, Weekday>>
-    ensures { MatchOption result
-        (NoCut (Spells false (component.WeekdaySunday modifiers)) input.now)
-        (λ p. Cut (Spells false (component.WeekdaySunday modifiers)) input.now
-        p.0.now (weekday p.1)) }
+    ensures { Finds (Spells false (component.WeekdaySunday modifiers)) weekday input.now result }
 {
     let modifier::WeekdaySunday { one_indexed } = modifiers;
     let digit = weekday_digit(input, one_indexed)?;
@@ -377,10 +326,7 @@ pub fn parse_weekday_monday(
     input: &[u8],
     modifiers: modifier::WeekdayMonday,
 ) -> Option<ParsedItem<'_, Weekday>>
-    ensures { MatchOption result
-        (NoCut (Spells false (component.WeekdayMonday modifiers)) input.now)
-        (λ p. Cut (Spells false (component.WeekdayMonday modifiers)) input.now
-        p.0.now (weekday p.1)) }
+    ensures { Finds (Spells false (component.WeekdayMonday modifiers)) weekday input.now result }
 {
     let modifier::WeekdayMonday { one_indexed } = modifiers;
     let digit = weekday_digit(input, one_indexed)?;
@@ -393,10 +339,7 @@ pub fn parse_ordinal(
     input: &[u8],
     modifiers: modifier::Ordinal,
 ) -> Option<ParsedItem<'_, NonZero<u16>>>
-    ensures { MatchOption result
-        (NoCut (Spells false (component.Ordinal modifiers)) input.now)
-        (λ p. Cut (Spells false (component.Ordinal modifiers)) input.now
-        p.0.now (number p.1.value)) }
+    ensures { Finds (Spells false (component.Ordinal modifiers)) (λ n. number n.value) input.now result }
 {
     let modifier::Ordinal { padding } = modifiers;
     let ordinal = run::<3, 3, u16>(input, padding)?;
@@ -406,9 +349,7 @@ pub fn parse_ordinal(
 /// Reads the day of the month, in two places, 1 to 99. `None` where none stands.
 #[inline]
 pub fn parse_day(input: &[u8], modifiers: modifier::Day) -> Option<ParsedItem<'_, NonZero<u8>>>
-    ensures { MatchOption result
-        (NoCut (Spells false (component.Day modifiers)) input.now)
-        (λ p. Cut (Spells false (component.Day modifiers)) input.now p.0.now (number p.1.value)) }
+    ensures { Finds (Spells false (component.Day modifiers)) (λ n. number n.value) input.now result }
 {
     let modifier::Day { padding } = modifiers;
     let day = run::<2, 2, u8>(input, padding)?;
@@ -418,9 +359,7 @@ pub fn parse_day(input: &[u8], modifiers: modifier::Day) -> Option<ParsedItem<'_
 /// Reads the hour on a clock of 12 hours, in two places, 0 to 99. `None` where none stands.
 #[inline]
 pub fn parse_hour_12(input: &[u8], modifiers: modifier::Hour12) -> Option<ParsedItem<'_, u8>>
-    ensures { MatchOption result
-        (NoCut (Spells false (component.Hour12 modifiers)) input.now)
-        (λ p. Cut (Spells false (component.Hour12 modifiers)) input.now p.0.now (number p.1)) }
+    ensures { Finds (Spells false (component.Hour12 modifiers)) number input.now result }
 {
     let modifier::Hour12 { padding } = modifiers;
     two_places(input, padding)
@@ -429,9 +368,7 @@ pub fn parse_hour_12(input: &[u8], modifiers: modifier::Hour12) -> Option<Parsed
 /// Reads the hour on a clock of 24 hours, in two places, 0 to 99. `None` where none stands.
 #[inline]
 pub fn parse_hour_24(input: &[u8], modifiers: modifier::Hour24) -> Option<ParsedItem<'_, u8>>
-    ensures { MatchOption result
-        (NoCut (Spells false (component.Hour24 modifiers)) input.now)
-        (λ p. Cut (Spells false (component.Hour24 modifiers)) input.now p.0.now (number p.1)) }
+    ensures { Finds (Spells false (component.Hour24 modifiers)) number input.now result }
 {
     let modifier::Hour24 { padding } = modifiers;
     two_places(input, padding)
@@ -440,9 +377,7 @@ pub fn parse_hour_24(input: &[u8], modifiers: modifier::Hour24) -> Option<Parsed
 /// Reads the minute, in two places, 0 to 99. `None` where none stands.
 #[inline]
 pub fn parse_minute(input: &[u8], modifiers: modifier::Minute) -> Option<ParsedItem<'_, u8>>
-    ensures { MatchOption result
-        (NoCut (Spells false (component.Minute modifiers)) input.now)
-        (λ p. Cut (Spells false (component.Minute modifiers)) input.now p.0.now (number p.1)) }
+    ensures { Finds (Spells false (component.Minute modifiers)) number input.now result }
 {
     let modifier::Minute { padding } = modifiers;
     two_places(input, padding)
@@ -451,9 +386,7 @@ pub fn parse_minute(input: &[u8], modifiers: modifier::Minute) -> Option<ParsedI
 /// Reads the second, in two places, 0 to 99. `None` where none stands.
 #[inline]
 pub fn parse_second(input: &[u8], modifiers: modifier::Second) -> Option<ParsedItem<'_, u8>>
-    ensures { MatchOption result
-        (NoCut (Spells false (component.Second modifiers)) input.now)
-        (λ p. Cut (Spells false (component.Second modifiers)) input.now p.0.now (number p.1)) }
+    ensures { Finds (Spells false (component.Second modifiers)) number input.now result }
 {
     let modifier::Second { padding } = modifiers;
     two_places(input, padding)
@@ -463,9 +396,7 @@ pub fn parse_second(input: &[u8], modifiers: modifier::Second) -> Option<ParsedI
 /// these letters in any case. `None` where none of them stands.
 #[inline]
 pub fn parse_period(input: &[u8], modifiers: modifier::Period) -> Option<ParsedItem<'_, Period>>
-    ensures { MatchOption result
-        (NoCut (Spells false (component.Period modifiers)) input.now)
-        (λ p. Cut (Spells false (component.Period modifiers)) input.now p.0.now (period p.1)) }
+    ensures { Finds (Spells false (component.Period modifiers)) period input.now result }
 {
     let modifier::Period {
         is_uppercase,
@@ -479,9 +410,7 @@ pub fn parse_period(input: &[u8], modifiers: modifier::Period) -> Option<ParsedI
 /// Reads a fraction of a second, in nanoseconds: exactly so many digits, or one or more, of which
 /// 32 are read at most and the first nine count. `None` where too few stand.
 pub fn parse_subsecond(input: &[u8], modifiers: modifier::Subsecond) -> Option<ParsedItem<'_, u32>>
-    ensures { MatchOption result
-        (NoCut (Spells false (component.Subsecond modifiers)) input.now)
-        (λ p. Cut (Spells false (component.Subsecond modifiers)) input.now p.0.now (number p.1)) }
+    ensures { Finds (Spells false (component.Subsecond modifiers)) number input.now result }
 {
     let modifier::Subsecond { digits } = modifiers;
     match digits {
@@ -506,10 +435,7 @@ pub fn parse_offset_hour(
     input: &[u8],
     modifiers: modifier::OffsetHour,
 ) -> Option<ParsedItem<'_, (i8, bool)>>
-    ensures { MatchOption result
-        (NoCut (Spells false (component.OffsetHour modifiers)) input.now)
-        (λ p. Cut (Spells false (component.OffsetHour modifiers)) input.now
-        p.0.now (flagged p.1.0 p.1.1)) }
+    ensures { Finds (Spells false (component.OffsetHour modifiers)) (λ v. flagged v.0 v.1) input.now result }
 {
     let modifier::OffsetHour {
         padding,
@@ -525,10 +451,7 @@ pub fn parse_offset_minute(
     input: &[u8],
     modifiers: modifier::OffsetMinute,
 ) -> Option<ParsedItem<'_, i8>>
-    ensures { MatchOption result
-        (NoCut (Spells false (component.OffsetMinute modifiers)) input.now)
-        (λ p. Cut (Spells false (component.OffsetMinute modifiers)) input.now
-        p.0.now (signed p.1)) }
+    ensures { Finds (Spells false (component.OffsetMinute modifiers)) signed input.now result }
 {
     let modifier::OffsetMinute { padding } = modifiers;
     offset_part(input, padding)
@@ -541,10 +464,7 @@ pub fn parse_offset_second(
     input: &[u8],
     modifiers: modifier::OffsetSecond,
 ) -> Option<ParsedItem<'_, i8>>
-    ensures { MatchOption result
-        (NoCut (Spells false (component.OffsetSecond modifiers)) input.now)
-        (λ p. Cut (Spells false (component.OffsetSecond modifiers)) input.now
-        p.0.now (signed p.1)) }
+    ensures { Finds (Spells false (component.OffsetSecond modifiers)) signed input.now result }
 {
     let modifier::OffsetSecond { padding } = modifiers;
     offset_part(input, padding)
@@ -553,9 +473,7 @@ pub fn parse_offset_second(
 /// Skips so many bytes. `None` where fewer are left.
 #[inline]
 pub fn parse_ignore(input: &[u8], modifiers: modifier::Ignore) -> Option<ParsedItem<'_, ()>>
-    ensures { MatchOption result
-        (NoCut (Spells false (component.Ignore modifiers)) input.now)
-        (λ p. Cut (Spells false (component.Ignore modifiers)) input.now p.0.now nothing) }
+    ensures { Finds (Spells false (component.Ignore modifiers)) (λ unit. nothing) input.now result }
 {
     let modifier::Ignore { count } = modifiers;
     let (_, rest) = input.split_at_checked(usize::from(count.get()))?;
@@ -570,10 +488,7 @@ pub fn parse_unix_timestamp_second(
     input: &[u8],
     modifiers: modifier::UnixTimestampSecond,
 ) -> Option<ParsedItem<'_, i128>>
-    ensures { MatchOption result
-        (NoCut (Spells false (component.UnixTimestampSecond modifiers)) input.now)
-        (λ p. Cut (Spells false (component.UnixTimestampSecond modifiers)) input.now
-        p.0.now (signed p.1)) }
+    ensures { Finds (Spells false (component.UnixTimestampSecond modifiers)) signed input.now result }
 {
     let modifier::UnixTimestampSecond { sign_is_mandatory } = modifiers;
     timestamp::<14>(input, 1_000_000_000, sign_is_mandatory)
@@ -587,10 +502,7 @@ pub fn parse_unix_timestamp_millisecond(
     input: &[u8],
     modifiers: modifier::UnixTimestampMillisecond,
 ) -> Option<ParsedItem<'_, i128>>
-    ensures { MatchOption result
-        (NoCut (Spells false (component.UnixTimestampMillisecond modifiers)) input.now)
-        (λ p. Cut (Spells false (component.UnixTimestampMillisecond modifiers)) input.now
-        p.0.now (signed p.1)) }
+    ensures { Finds (Spells false (component.UnixTimestampMillisecond modifiers)) signed input.now result }
 {
     let modifier::UnixTimestampMillisecond { sign_is_mandatory } = modifiers;
     timestamp::<17>(input, 1_000_000, sign_is_mandatory)
@@ -604,10 +516,7 @@ pub fn parse_unix_timestamp_microsecond(
     input: &[u8],
     modifiers: modifier::UnixTimestampMicrosecond,
 ) -> Option<ParsedItem<'_, i128>>
-    ensures { MatchOption result
-        (NoCut (Spells false (component.UnixTimestampMicrosecond modifiers)) input.now)
-        (λ p. Cut (Spells false (component.UnixTimestampMicrosecond modifiers)) input.now
-        p.0.now (signed p.1)) }
+    ensures { Finds (Spells false (component.UnixTimestampMicrosecond modifiers)) signed input.now result }
 {
     let modifier::UnixTimestampMicrosecond { sign_is_mandatory } = modifiers;
     timestamp::<20>(input, 1_000, sign_is_mandatory)
@@ -621,10 +530,7 @@ pub fn parse_unix_timestamp_nanosecond(
     input: &[u8],
     modifiers: modifier::UnixTimestampNanosecond,
 ) -> Option<ParsedItem<'_, i128>>
-    ensures { MatchOption result
-        (NoCut (Spells false (component.UnixTimestampNanosecond modifiers)) input.now)
-        (λ p. Cut (Spells false (component.UnixTimestampNanosecond modifiers)) input.now
-        p.0.now (signed p.1)) }
+    ensures { Finds (Spells false (component.UnixTimestampNanosecond modifiers)) signed input.now result }
 {
     let modifier::UnixTimestampNanosecond { sign_is_mandatory } = modifiers;
     timestamp::<23>(input, 1, sign_is_mandatory)
@@ -634,9 +540,7 @@ pub fn parse_unix_timestamp_nanosecond(
 /// bytes are left and prohibited.
 #[inline]
 pub fn parse_end(input: &[u8], modifiers: modifier::End) -> Option<ParsedItem<'_, ()>>
-    ensures { MatchOption result
-        (NoCut (Spells false (component.End modifiers)) input.now)
-        (λ p. Cut (Spells false (component.End modifiers)) input.now p.0.now nothing) }
+    ensures { Finds (Spells false (component.End modifiers)) (λ unit. nothing) input.now result }
 {
     let modifier::End { trailing_input } = modifiers;
     match trailing_input {

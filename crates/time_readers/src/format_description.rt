@@ -190,7 +190,7 @@ impl Debug for BorrowedFormatItem<'_> {
     }
 }
 
-/// Writes a variant that holds a list of items, as a derived `Debug` would.
+// Writes a variant that holds a list of items, as a derived `Debug` would.
 #[cycle(debug_borrowed)]
 fn write_borrowed_list<W: fmt::Write>(
     name: &str,
@@ -250,7 +250,7 @@ impl Debug for FormatDescriptionV3Inner<'_> {
     }
 }
 
-/// Writes a variant that holds a list of items, as a derived `Debug` would.
+// Writes a variant that holds a list of items, as a derived `Debug` would.
 #[cycle(debug_v3)]
 fn write_v3_list<W: fmt::Write>(
     name: &str,
@@ -267,7 +267,7 @@ fn write_v3_list<W: fmt::Write>(
     write!(f, "])")
 }
 
-/// Writes a variant that holds an item that may be missing, as a derived `Debug` would.
+// Writes a variant that holds an item that may be missing, as a derived `Debug` would.
 #[cycle(debug_v3)]
 fn write_v3_optional<W: fmt::Write>(
     name: &str,

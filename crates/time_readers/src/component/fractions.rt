@@ -1,31 +1,27 @@
 //! Fractions of a second.
-ghost use Rattle.std.specs.Prelude.{◌≡◌, ◌+◌, ◌-◌, ◌^◌, ◌<◌, ◌≤◌, ◌⊎◌, ◌↔◌, MatchOption, IsTrue, length, take, drop};
-ghost use Rattle.time_readers.specs.Cuts.{Cut, NoCut};
+ghost use Rattle.std.specs.Prelude.{◌≡◌, ◌+◌, ◌-◌, ◌^◌, ◌<◌, ◌≤◌, ◌⊎◌, ◌↔◌, IsTrue, length, take, drop};
+ghost use Rattle.time_readers.specs.Cuts.{Finds};
 ghost use Rattle.time_readers.specs.Digits.{AllDigits, NoDigitFirst};
 ghost use Rattle.time_readers.specs.Spelling.{Says, IsFractionRun, number};
 
 use crate::ParsedItem;
 use crate::combinator::{exactly_n_digits, n_to_m_digits};
 
-/// Reads a fraction of exactly `N` digits, in nanoseconds.
+// Reads a fraction of exactly `N` digits, in nanoseconds.
 #[inline]
 pub(super) fn fraction<const N: u8>(input: &[u8]) -> Option<ParsedItem<'_, u32>>
     requires least { 1 ≤ N }
     requires most { N ≤ 9 }
-    ensures { MatchOption result
-        (NoCut (Says number (IsFractionRun N N)) input.now)
-        (λ p. Cut (Says number (IsFractionRun N N)) input.now p.0.now (number p.1)) }
+    ensures { Finds (Says number (IsFractionRun N N)) number input.now result }
 {
     let digits = exactly_n_digits::<N>(input)?;
     Some(ParsedItem(digits.0, digits.1 * power_of_ten(9 - usize::from(N))))
 }
 
-/// Reads a fraction of 1 to 32 digits, in nanoseconds. The first nine digits count.
+// Reads a fraction of 1 to 32 digits, in nanoseconds. The first nine digits count.
 #[inline]
 pub(super) fn long_fraction(input: &[u8]) -> Option<ParsedItem<'_, u32>>
-    ensures { MatchOption result
-        (NoCut (Says number (IsFractionRun 1 32)) input.now)
-        (λ p. Cut (Says number (IsFractionRun 1 32)) input.now p.0.now (number p.1)) }
+    ensures { Finds (Says number (IsFractionRun 1 32)) number input.now result }
 {
     let digits = n_to_m_digits::<1, 9, u32>(input)?;
     let count = input.len() - digits.0.len();
@@ -33,7 +29,7 @@ pub(super) fn long_fraction(input: &[u8]) -> Option<ParsedItem<'_, u32>>
     Some(ParsedItem(&digits.0[dropped..], digits.1 * power_of_ten(9 - count)))
 }
 
-/// Ten to that power, below nine.
+// Ten to that power, below nine.
 #[inline]
 fn power_of_ten(exponent: usize) -> u32
     requires { exponent < 9 }
@@ -53,7 +49,7 @@ fn power_of_ten(exponent: usize) -> u32
     POWERS[exponent]
 }
 
-/// How many digits the input begins with, counted up to `most`.
+// How many digits the input begins with, counted up to `most`.
 #[inline]
 fn leading_digits(input: &[u8], most: usize) -> usize
     ensures in_range { result ≤ length input.now }

@@ -1,7 +1,7 @@
 //! Single digits and pairs of letters.
 ghost use Rattle.std.specs.Prelude.{◌≡◌, ◌≢◌, ◌<◌, ◌≤◌, MatchOption};
 ghost use Rattle.time_values.specs.Weekday.{days_from_monday};
-ghost use Rattle.time_readers.specs.Cuts.{Cut, NoCut};
+ghost use Rattle.time_readers.specs.Cuts.{Finds};
 ghost use Rattle.time_readers.specs.Letters as Letters;
 ghost use Rattle.time_readers.specs.Letters.{IsDayDigit, IsLetters};
 ghost use Rattle.time_readers.specs.Spelling as Spelling;
@@ -10,12 +10,10 @@ ghost use Rattle.time_readers.specs.Names.{period_name};
 use crate::{ParsedItem, Period};
 use time_values::Weekday;
 
-/// Reads one digit of `0` to `6`, or of `1` to `7` where it is one-indexed, as 0 to 6.
+// Reads one digit of `0` to `6`, or of `1` to `7` where it is one-indexed, as 0 to 6.
 #[inline]
 pub(super) fn weekday_digit(input: &[u8], one_indexed: bool) -> Option<ParsedItem<'_, u8>>
-    ensures { MatchOption result
-        (NoCut (IsDayDigit one_indexed) input.now)
-        (λ p. Cut (IsDayDigit one_indexed) input.now p.0.now p.1) }
+    ensures { Finds (IsDayDigit one_indexed) (λ v. v) input.now result }
 {
     let [digit, rest @ ..] = input else {
         return None;
@@ -36,7 +34,7 @@ fn first_digit(one_indexed: bool) -> u8
     if one_indexed { b'1' } else { b'0' }
 }
 
-/// The weekday so many days after Monday.
+// The weekday so many days after Monday.
 #[inline]
 pub(super) fn weekday_from_monday(days: u8) -> Weekday
     requires { days < 7 }
@@ -53,12 +51,10 @@ pub(super) fn weekday_from_monday(days: u8) -> Weekday
     }
 }
 
-/// Reads two bytes: as they stand where the case matters, and else as small letters.
+// Reads two bytes: as they stand where the case matters, and else as small letters.
 #[inline]
 pub(super) fn two_letters(input: &[u8], case_sensitive: bool) -> Option<ParsedItem<'_, [u8; 2]>>
-    ensures { MatchOption result
-        (NoCut (IsLetters case_sensitive) input.now)
-        (λ p. Cut (IsLetters case_sensitive) input.now p.0.now p.1) }
+    ensures { Finds (IsLetters case_sensitive) (λ v. v) input.now result }
 {
     let [first, second, rest @ ..] = input else {
         return None;
@@ -66,7 +62,7 @@ pub(super) fn two_letters(input: &[u8], case_sensitive: bool) -> Option<ParsedIt
     Some(ParsedItem(rest, folded([*first, *second], case_sensitive)))
 }
 
-/// The letters as they stand where the case matters, and else as small letters.
+// The letters as they stand where the case matters, and else as small letters.
 #[inline]
 fn folded(letters: [u8; 2], case_sensitive: bool) -> [u8; 2]
     ensures { result ≡ Letters.folded case_sensitive letters }
@@ -79,7 +75,7 @@ fn folded(letters: [u8; 2], case_sensitive: bool) -> [u8; 2]
     }
 }
 
-/// The half of the day that the letters name, in capitals or in small letters.
+// The half of the day that the letters name, in capitals or in small letters.
 #[inline]
 pub(super) fn period_of(letters: [u8; 2], upper: bool) -> Option<Period>
     ensures { MatchOption result

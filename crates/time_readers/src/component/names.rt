@@ -1,15 +1,15 @@
 //! Names of months and weekdays.
-ghost use Rattle.std.specs.Prelude.{◌≡◌, ◌↔◌, ℕ, List, ◌++◌, MatchOption, IsTrue};
+ghost use Rattle.std.specs.Prelude.{◌≡◌, ◌↔◌, IsTrue};
 ghost use Rattle.std.specs.List.{find};
 ghost use Rattle.std.specs.Str.{bytes_eq};
-ghost use Rattle.time_readers.specs.Cuts.{Cut, NoCut};
+ghost use Rattle.time_readers.specs.Cuts.{Finds};
 ghost use Rattle.time_readers.specs.Names.{IsNamed, month_name, weekday_name};
-ghost use Rattle.time_readers.specs.NameTables.{title, IsTitle, is_table, IsShortName, IsLongName, IsTableOf};
+ghost use Rattle.time_readers.specs.NameTables.{title, IsTitle, is_table, IsShortName, IsLongName, IsEnding, IsTableOf};
 
 use crate::ParsedItem;
 use time_values::{Month, Weekday};
 
-/// A name, parted behind its first three letters.
+// A name, parted behind its first three letters.
 #[derive(Clone, Copy)]
 pub(super) struct Name<T> {
     pub(super) value: T,
@@ -118,7 +118,7 @@ const WEEKDAYS: [Name<Weekday>; 7] = [
     },
 ];
 
-/// The months' names.
+// The months' names.
 #[inline]
 pub(super) fn months() -> &'static [Name<Month>]
     ensures { IsTableOf month_name result.now }
@@ -126,7 +126,7 @@ pub(super) fn months() -> &'static [Name<Month>]
     &MONTHS
 }
 
-/// The weekdays' names.
+// The weekdays' names.
 #[inline]
 pub(super) fn weekdays() -> &'static [Name<Weekday>]
     ensures { IsTableOf weekday_name result.now }
@@ -134,44 +134,38 @@ pub(super) fn weekdays() -> &'static [Name<Weekday>]
     &WEEKDAYS
 }
 
-/// Reads the first three letters of a name of the table.
+// Reads the first three letters of a name of the table.
 pub(super) fn short_name<'a, T: Copy>(
     input: &'a [u8],
     names: &[Name<T>],
     case_sensitive: bool,
 ) -> Option<ParsedItem<'a, Name<T>>>
     requires { IsTrue (is_table names.now) }
-    ensures { MatchOption result
-        (NoCut (IsShortName names.now case_sensitive) input.now)
-        (λ p. Cut (IsShortName names.now case_sensitive) input.now p.0.now p.1) }
+    ensures { Finds (IsShortName names.now case_sensitive) (λ v. v) input.now result }
 {
     let found = three_letters(input, case_sensitive)?;
     let name = with_letters(names, found.1)?;
     Some(ParsedItem(found.0, name))
 }
 
-/// Reads a whole name of the table.
+// Reads a whole name of the table.
 pub(super) fn long_name<'a, T: Copy>(
     input: &'a [u8],
     names: &[Name<T>],
     case_sensitive: bool,
 ) -> Option<ParsedItem<'a, Name<T>>>
     requires { IsTrue (is_table names.now) }
-    ensures { MatchOption result
-        (NoCut (IsLongName names.now case_sensitive) input.now)
-        (λ p. Cut (IsLongName names.now case_sensitive) input.now p.0.now p.1) }
+    ensures { Finds (IsLongName names.now case_sensitive) (λ v. v) input.now result }
 {
     let found = short_name(input, names, case_sensitive)?;
-    let rest = behind(found.0, found.1.ending, case_sensitive)?;
-    Some(ParsedItem(rest, found.1))
+    let ending = ending_of(found.0, found.1.ending, case_sensitive)?;
+    Some(ParsedItem(ending.0, found.1))
 }
 
-/// Reads three bytes: as they stand where the case matters, and else as a capital and small
-/// letters.
+// Reads three bytes: as they stand where the case matters, and else as a capital and small
+// letters.
 fn three_letters(input: &[u8], case_sensitive: bool) -> Option<ParsedItem<'_, [u8; 3]>>
-    ensures { MatchOption result
-        (NoCut (IsTitle case_sensitive) input.now)
-        (λ p. Cut (IsTitle case_sensitive) input.now p.0.now p.1) }
+    ensures { Finds (IsTitle case_sensitive) (λ v. v) input.now result }
 {
     let [first, second, third, rest @ ..] = input else {
         return None;
@@ -180,7 +174,7 @@ fn three_letters(input: &[u8], case_sensitive: bool) -> Option<ParsedItem<'_, [u
     Some(ParsedItem(rest, letters))
 }
 
-/// The letters as they stand where the case matters, and else as a capital and small letters.
+// The letters as they stand where the case matters, and else as a capital and small letters.
 fn titled(letters: [u8; 3], case_sensitive: bool) -> [u8; 3]
     ensures { result ≡ title case_sensitive letters }
 {
@@ -196,28 +190,26 @@ fn titled(letters: [u8; 3], case_sensitive: bool) -> [u8; 3]
     }
 }
 
-/// The name that begins with these three letters.
+// The name that begins with these three letters.
 fn with_letters<T: Copy>(names: &[Name<T>], letters: [u8; 3]) -> Option<Name<T>>
     ensures { result ≡ find (λ n. bytes_eq n.letters letters) names.now }
 {
     names.iter().copied().find(|name| name.letters == letters)
 }
 
-/// What follows the ending of a name, where the ending stands.
-fn behind<'a>(input: &'a [u8], ending: &[u8], case_sensitive: bool) -> Option<&'a [u8]>
-    ensures { MatchOption result
-        ((text rest : List ℕ) → input.now ≡ text ++ rest
-        → IsNamed case_sensitive ending.now text → ⊥)
-        (λ left. (text : List ℕ) × (input.now ≡ text ++ left.now)
-        × IsNamed case_sensitive ending.now text) }
+// Reads the ending of a name.
+fn ending_of<'a>(input: &'a [u8], ending: &[u8], case_sensitive: bool) -> Option<ParsedItem<'a, ()>>
+    ensures { Finds (IsEnding ending.now case_sensitive) (λ v. v) input.now result }
 {
     match input.split_at_checked(ending.len()) {
-        Some(parts) if is_named(parts.0, ending, case_sensitive) => Some(parts.1),
+        Some(parts) if is_named(parts.0, ending, case_sensitive) => {
+            Some(ParsedItem(parts.1, ()))
+        }
         _ => None,
     }
 }
 
-/// Whether the text is the name.
+// Whether the text is the name.
 fn is_named(text: &[u8], name: &[u8], case_sensitive: bool) -> bool
     ensures { IsTrue result ↔ IsNamed case_sensitive name.now text.now }
 {

@@ -1,15 +1,15 @@
 //! Numbers under a padding, and numbers with a sign.
-ghost use Rattle.std.specs.Prelude.{◌≡◌, ◌+◌, ◌*◌, ◌^◌, ◌<◌, ◌≤◌, ◌++◌, ℕ, List, MatchOption};
+ghost use Rattle.std.specs.Prelude.{◌≡◌, ◌+◌, ◌*◌, ◌^◌, ◌<◌, ◌≤◌, pos};
+ghost use Rattle.time_values.specs.Sign.{signed_by};
 ghost use Rattle.time_readers.specs.Bytes.{is_negative};
-ghost use Rattle.time_readers.specs.Cuts.{Cut, NoCut};
-ghost use Rattle.time_readers.specs.Digits.{IsDigitRun, IsPaddedRun};
-ghost use Rattle.time_readers.specs.Spelling.{Says, Signed, IsSigned, number, signed, flagged, signed_value, flagged_value, scaled_value, by_sign, positive};
-ghost use Rattle.time_readers.specs.declared.Sign.{Sign};
+ghost use Rattle.time_readers.specs.Cuts.{Finds};
+ghost use Rattle.time_readers.specs.Digits.{IsPaddedRun};
+ghost use Rattle.time_readers.specs.Spelling.{Says, SaysYear, SaysCentury, SaysTimestamp, SaysOffsetHour, IsSigned, number, signed, flagged, positive};
 
 use crate::combinator::{n_to_m_digits_padded, sign};
 use crate::{Integer, Padding, ParsedItem, Sign};
 
-/// Reads `N` to `M` digits under the padding, where the type holds each number of `M` digits.
+// Reads `N` to `M` digits under the padding, where the type holds each number of `M` digits.
 #[inline]
 pub(super) fn run<const N: u8, const M: u8, T: Integer>(
     input: &[u8],
@@ -19,25 +19,21 @@ pub(super) fn run<const N: u8, const M: u8, T: Integer>(
     requires ordered { N ≤ M }
     requires most { M ≤ T.MAX_NUM_DIGITS }
     requires fits { 10 ^ M ≤ T.greatest + 1 }
-    ensures { MatchOption result
-        (NoCut (IsPaddedRun padding N M) input.now)
-        (λ p. Cut (IsPaddedRun padding N M) input.now p.0.now (T.value p.1)) }
+    ensures { Finds (IsPaddedRun padding N M) T.value input.now result }
 {
     n_to_m_digits_padded::<N, M, T>(input, padding)
 }
 
-/// Reads a number in two places.
+// Reads a number in two places.
 #[inline]
 pub(super) fn two_places(input: &[u8], padding: Padding) -> Option<ParsedItem<'_, u8>>
-    ensures { MatchOption result
-        (NoCut (Says number (IsPaddedRun padding 2 2)) input.now)
-        (λ p. Cut (Says number (IsPaddedRun padding 2 2)) input.now p.0.now (number p.1)) }
+    ensures { Finds (Says number (IsPaddedRun padding 2 2)) number input.now result }
 {
     run::<2, 2, u8>(input, padding)
 }
 
-/// Reads a sign and `N` to `M` digits under the padding. Without a sign, which then mustn't be
-/// mandatory, it reads `A` to `B` digits under the second padding.
+// Reads a sign and `N` to `M` digits under the padding. Without a sign, which then mustn't be
+// mandatory, it reads `A` to `B` digits under the second padding.
 #[inline]
 fn sign_and_run<const N: u8, const M: u8, const A: u8, const B: u8, T: Integer>(
     input: &[u8],
@@ -53,13 +49,8 @@ fn sign_and_run<const N: u8, const M: u8, const A: u8, const B: u8, T: Integer>(
     requires ordered_alone { A ≤ B }
     requires most_alone { B ≤ T.MAX_NUM_DIGITS }
     requires fits_alone { 10 ^ B ≤ T.greatest + 1 }
-    ensures { MatchOption result
-        ((text rest : List ℕ) (s : Sign) (n : ℕ) → input.now ≡ text ++ rest
-        → IsSigned sign_is_mandatory (IsPaddedRun padding N M)
-        (IsPaddedRun padding_alone A B) text rest s n → ⊥)
-        (λ p. (text : List ℕ) × (input.now ≡ text ++ p.0.now)
-        × IsSigned sign_is_mandatory (IsPaddedRun padding N M)
-        (IsPaddedRun padding_alone A B) text p.0.now p.1.0 (T.value p.1.1)) }
+    ensures { Finds (IsSigned sign_is_mandatory (IsPaddedRun padding N M) (IsPaddedRun padding_alone A B))
+        (λ v. (v.0, T.value v.1)) input.now result }
 {
     match sign(input) {
         Some(found) => {
@@ -74,7 +65,7 @@ fn sign_and_run<const N: u8, const M: u8, const A: u8, const B: u8, T: Integer>(
     }
 }
 
-/// Reads a year: four digits, or a sign and four to `MOST` digits.
+// Reads a year: four digits, or a sign and four to `MOST` digits.
 #[inline]
 pub(super) fn full_year<const MOST: u8>(
     input: &[u8],
@@ -83,18 +74,14 @@ pub(super) fn full_year<const MOST: u8>(
 ) -> Option<ParsedItem<'_, i32>>
     requires least { 4 ≤ MOST }
     requires most { MOST ≤ 6 }
-    ensures { MatchOption result
-        (NoCut (Signed signed_value sign_is_mandatory
-        (IsPaddedRun padding 4 MOST) (IsPaddedRun padding 4 4)) input.now)
-        (λ p. Cut (Signed signed_value sign_is_mandatory
-        (IsPaddedRun padding 4 MOST) (IsPaddedRun padding 4 4)) input.now p.0.now (signed p.1)) }
+    ensures { Finds (SaysYear sign_is_mandatory padding MOST) signed input.now result }
 {
     let found = sign_and_run::<4, MOST, 4, 4, u32>(input, sign_is_mandatory, padding, padding)?;
     Some(ParsedItem(found.0, signed_year(found.1.0, found.1.1)))
 }
 
-/// Reads a century: one or two digits, or a sign and two to `MOST` digits under the padding. The
-/// bool says whether the sign is a minus.
+// Reads a century: one or two digits, or a sign and two to `MOST` digits under the padding. The
+// bool says whether the sign is a minus.
 #[inline]
 pub(super) fn century<const MOST: u8>(
     input: &[u8],
@@ -103,11 +90,7 @@ pub(super) fn century<const MOST: u8>(
 ) -> Option<ParsedItem<'_, (i16, bool)>>
     requires least { 2 ≤ MOST }
     requires most { MOST ≤ 4 }
-    ensures { MatchOption result
-        (NoCut (Signed flagged_value sign_is_mandatory
-        (IsPaddedRun padding 2 MOST) (IsDigitRun 1 2)) input.now)
-        (λ p. Cut (Signed flagged_value sign_is_mandatory
-        (IsPaddedRun padding 2 MOST) (IsDigitRun 1 2)) input.now p.0.now (flagged p.1.0 p.1.1)) }
+    ensures { Finds (SaysCentury sign_is_mandatory padding MOST) (λ v. flagged v.0 v.1) input.now result }
 {
     let found = sign_and_run::<2, MOST, 1, 2, u16>(
         input,
@@ -118,8 +101,8 @@ pub(super) fn century<const MOST: u8>(
     Some(ParsedItem(found.0, signed_century(found.1.0, found.1.1)))
 }
 
-/// Reads a time since 1970-01-01T00:00:00Z in up to `MOST` digits, in units of so many nanoseconds,
-/// and answers it in nanoseconds.
+// Reads a time since 1970-01-01T00:00:00Z in up to `MOST` digits, in units of so many nanoseconds,
+// and answers it in nanoseconds.
 #[inline]
 pub(super) fn timestamp<const MOST: u8>(
     input: &[u8],
@@ -129,11 +112,7 @@ pub(super) fn timestamp<const MOST: u8>(
     requires least { 1 ≤ MOST }
     requires most { MOST ≤ 23 }
     requires fits { 10 ^ MOST * unit ≤ 10 ^ 23 }
-    ensures { MatchOption result
-        (NoCut (Signed (scaled_value unit) sign_is_mandatory
-        (IsDigitRun 1 MOST) (IsDigitRun 1 MOST)) input.now)
-        (λ p. Cut (Signed (scaled_value unit) sign_is_mandatory
-        (IsDigitRun 1 MOST) (IsDigitRun 1 MOST)) input.now p.0.now (signed p.1)) }
+    ensures { Finds (SaysTimestamp unit sign_is_mandatory MOST) signed input.now result }
 {
     let found = sign_and_run::<1, MOST, 1, MOST, u128>(
         input,
@@ -144,29 +123,23 @@ pub(super) fn timestamp<const MOST: u8>(
     Some(ParsedItem(found.0, signed_nanoseconds(found.1.0, found.1.1 * unit)))
 }
 
-/// Reads the hours of an offset. The bool says whether the sign is a minus.
+// Reads the hours of an offset. The bool says whether the sign is a minus.
 #[inline]
 pub(super) fn offset_hour(
     input: &[u8],
     padding: Padding,
     sign_is_mandatory: bool,
 ) -> Option<ParsedItem<'_, (i8, bool)>>
-    ensures { MatchOption result
-        (NoCut (Signed flagged_value sign_is_mandatory
-        (IsPaddedRun padding 2 2) (IsPaddedRun padding 2 2)) input.now)
-        (λ p. Cut (Signed flagged_value sign_is_mandatory
-        (IsPaddedRun padding 2 2) (IsPaddedRun padding 2 2)) input.now p.0.now (flagged p.1.0 p.1.1)) }
+    ensures { Finds (SaysOffsetHour sign_is_mandatory padding) (λ v. flagged v.0 v.1) input.now result }
 {
     let found = sign_and_run::<2, 2, 2, 2, u8>(input, sign_is_mandatory, padding, padding)?;
     Some(ParsedItem(found.0, signed_hour(found.1.0, found.1.1)))
 }
 
-/// Reads the minutes or the seconds of an offset, which have no sign.
+// Reads the minutes or the seconds of an offset, which have no sign.
 #[inline]
 pub(super) fn offset_part(input: &[u8], padding: Padding) -> Option<ParsedItem<'_, i8>>
-    ensures { MatchOption result
-        (NoCut (Says positive (IsPaddedRun padding 2 2)) input.now)
-        (λ p. Cut (Says positive (IsPaddedRun padding 2 2)) input.now p.0.now (signed p.1)) }
+    ensures { Finds (Says positive (IsPaddedRun padding 2 2)) signed input.now result }
 {
     let part = run::<2, 2, u8>(input, padding)?;
     Some(ParsedItem(part.0, part.1 as i8))
@@ -174,7 +147,7 @@ pub(super) fn offset_part(input: &[u8], padding: Padding) -> Option<ParsedItem<'
 
 fn signed_year(sign: Sign, year: u32) -> i32
     requires { year < 10 ^ 6 }
-    ensures { result ≡ by_sign sign year }
+    ensures { result ≡ signed_by (is_negative sign) (pos year) }
 {
     match sign {
         Sign::Negative => -(year as i32),
@@ -184,7 +157,7 @@ fn signed_year(sign: Sign, year: u32) -> i32
 
 fn signed_century(sign: Sign, century: u16) -> (i16, bool)
     requires { century < 10 ^ 4 }
-    ensures number { result.0 ≡ by_sign sign century }
+    ensures number { result.0 ≡ signed_by (is_negative sign) (pos century) }
     ensures minus { result.1 ≡ is_negative sign }
 {
     match sign {
@@ -195,7 +168,7 @@ fn signed_century(sign: Sign, century: u16) -> (i16, bool)
 
 fn signed_hour(sign: Sign, hour: u8) -> (i8, bool)
     requires { hour < 10 ^ 2 }
-    ensures number { result.0 ≡ by_sign sign hour }
+    ensures number { result.0 ≡ signed_by (is_negative sign) (pos hour) }
     ensures minus { result.1 ≡ is_negative sign }
 {
     match sign {
@@ -206,7 +179,7 @@ fn signed_hour(sign: Sign, hour: u8) -> (i8, bool)
 
 fn signed_nanoseconds(sign: Sign, nanoseconds: u128) -> i128
     requires { nanoseconds ≤ 10 ^ 23 }
-    ensures { result ≡ by_sign sign nanoseconds }
+    ensures { result ≡ signed_by (is_negative sign) (pos nanoseconds) }
 {
     match sign {
         Sign::Negative => -(nanoseconds as i128),

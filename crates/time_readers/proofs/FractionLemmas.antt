@@ -7,8 +7,7 @@ use Rattle.time_readers.specs.Cuts.{Cut, NoCut}
 use Rattle.time_readers.specs.Digits.{AllDigits, NoDigitFirst, digits_value, fraction_nanoseconds, IsDigitRun, IsDigitRunUpTo}
 use Rattle.time_readers.specs.Spelling.{Says, number, IsFractionRun}
 use Rattle.time_readers.proofs.CutLemmas.{take-drop}
-use Rattle.time_readers.proofs.Fractions.{AllDigits-append, AllDigits-take}
-use Rattle.time_readers.proofs.Runs.{pow-mono, digits_value-below, IsDigitRun-below}
+use Rattle.time_readers.proofs.Runs.{AllDigits-append, AllDigits-take, pow-mono, digits_value-below, IsDigitRun-below}
 
 nine : (digits : ℕ) → digits ≤ 9 → digits + (9 - digits) ≡ 9
 nine digits h = omega arith

@@ -1,13 +1,13 @@
 -- The digits of a fraction of a second: nine count, and the others are passed over.
-use Rattle.std.proofs.Common.{◌≡◌, ℕ, zero, suc, ◌+◌, ◌-◌, ◌*◌, ◌^◌, ◌<◌, ◌≤◌, ◌⊎◌, List, [], ◌∷◌, ◌++◌, length, take, drop, get_or, refl, ap, sym, ◌∙◌, inl, inr, arith, subst, append_assoc, length-append, mul-le-mul_right, add-mul}
-use Rattle.std.proofs.lemmas.List.{take_all, length-take, take-append-drop, take-append-le}
+use Rattle.std.proofs.Common.{◌≡◌, ℕ, ◌+◌, ◌-◌, ◌*◌, ◌^◌, ◌<◌, ◌≤◌, ◌⊎◌, List, [], ◌∷◌, ◌++◌, length, take, drop, get_or, refl, ap, sym, ◌∙◌, inl, inr, arith, subst, append_assoc, length-append, mul-le-mul_right, add-mul}
+use Rattle.std.proofs.lemmas.List.{append-nil, take_all, length-take, take-append-drop, take-append-le}
 use Rattle.std.proofs.lemmas.Bool.{cases_lt}
 use Rattle.std.proofs.lemmas.Nat.{pow-add}
 use Rattle.std.proofs.Math.ListN.{drop_of_length-le}
 use Rattle.time_readers.specs.Cuts.{Cut, NoCut}
 use Rattle.time_readers.specs.Digits.{IsDigit, AllDigits, digits_value, NoDigitFirst, IsDigitRunUpTo, fraction_nanoseconds, IsFraction}
 use Rattle.time_readers.proofs.CutLemmas.{first_byte}
-use Rattle.time_readers.proofs.Runs.{AllDigits-push, digits_value-below, pow-mono}
+use Rattle.time_readers.proofs.Runs.{AllDigits-push, AllDigits-append, AllDigits-take, digits_value-below, pow-mono}
 
 -- one more digit is passed over
 pub digits_more : (s digits rest : List ℕ) → s ≡ digits ++ rest → AllDigits digits → 1 ≤ length rest → IsDigit (get_or rest 0 0) → (more : List ℕ) × (s ≡ more ++ take (length rest - 1) (drop 1 rest)) × AllDigits more
@@ -16,29 +16,16 @@ digits_more s digits rest e all h d =
     let tail = take (length rest - 1) (drop 1 rest) in
     (digits ++ c ∷ [], e ∙ ap (λ r. digits ++ r) (first_byte rest h) ∙ sym (append_assoc digits (c ∷ []) tail), AllDigits-push digits c all d)
 
-pub AllDigits-append : (xs ys : List ℕ) → AllDigits xs → AllDigits ys → AllDigits (xs ++ ys)
-AllDigits-append [] ys p q = q
-AllDigits-append (x ∷ xs) ys p q = (p.0, AllDigits-append xs ys p.1 q)
-
-pub AllDigits-take : (n : ℕ) (xs : List ℕ) → AllDigits xs → AllDigits (take n xs)
-AllDigits-take zero xs h = tt
-AllDigits-take (suc n) [] h = tt
-AllDigits-take (suc n) (x ∷ xs) h = (h.0, AllDigits-take n xs h.1)
-
 no_more : (digits rest : List ℕ) → AllDigits digits → NoDigitFirst (digits ++ rest) → digits ≡ []
 no_more [] rest all ends = refl
 no_more (d ∷ digits) rest all ends = absurd (ends all.0)
-
-append_none : (s : List ℕ) → s ++ [] ≡ s
-append_none [] = refl
-append_none (c ∷ s) = ap (λ r. c ∷ r) (append_none s)
 
 -- the digits that count are those of the run of nine
 counted : (text digits rest : List ℕ) → length text ≤ 9 → (length text ≡ 9) ⊎ NoDigitFirst (digits ++ rest) → AllDigits digits → take 9 (text ++ digits) ≡ text
 counted text digits rest h (inl nine) all = take-append-le 9 text digits (omega arith) ∙ take_all 9 text h
 counted text digits rest h (inr ends) all =
     let none = no_more digits rest all ends in
-    ap (λ d. take 9 (text ++ d)) none ∙ ap (λ t. take 9 t) (append_none text) ∙ take_all 9 text h
+    ap (λ d. take 9 (text ++ d)) none ∙ ap (λ t. take 9 t) (append-nil text) ∙ take_all 9 text h
 
 tens : (k : ℕ) → k ≤ 9 → 10 ^ k * 10 ^ (9 - k) ≡ 1000000000
 tens k h =

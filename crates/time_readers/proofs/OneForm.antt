@@ -1,5 +1,5 @@
 -- A text has one reading by the places of RFC 3339, or one place that doesn't stand.
-use Rattle.std.proofs.Common.{◌≡◌, ℕ, ◌⊎◌, List, [], ◌∷◌, ◌++◌, length, refl, ap, sym, ◌∙◌, subst, inl, inr, arith, Bool, true, false, Option, Some, None}
+use Rattle.std.proofs.Common.{◌≡◌, ℕ, ◌⊎◌, List, ◌∷◌, ◌++◌, length, refl, ap, sym, ◌∙◌, subst, inl, inr, arith, Bool, true, false, Option, Some, None}
 use Rattle.std.specs.Char.{to_ascii_lowercase}
 use Rattle.time_readers.specs.Digits.{IsDigitRun, IsFraction, fraction_nanoseconds}
 use Rattle.time_readers.specs.Bytes.{sign_byte, is_negative}
@@ -9,17 +9,10 @@ use Rattle.time_readers.specs.declared.rfc3339.Numbers.{Numbers}
 use Rattle.time_readers.specs.declared.rfc3339.Place.{Place}
 use Rattle.time_readers.specs.declared.rfc3339.Place.TheVariants.{Year, YearDash, Month, MonthDash, Day, Separator, Hour, HourColon, Minute, MinuteColon, Second, Subsecond, OffsetHour, OffsetColon, OffsetMinute}
 use Rattle.time_readers.specs.Rfc3339.{Asks, IsSubsecond, NoPointFirst, IsZulu, IsSignedHour, IsOffsetColon, IsOffsetMinute}
+use Rattle.time_readers.proofs.NameLemmas.{same_front}
+use Rattle.time_readers.proofs.NumberLemmas.{sign_byte-one}
 use Rattle.time_readers.proofs.Runs.{IsDigitRun-unique, AllDigits-unique}
 use Rattle.time_readers.proofs.OneReading.{AtMostOneEach}
-
--- two texts of one length before equal texts
-same_length : (a b x y : List ℕ) → length a ≡ length b → a ++ x ≡ b ++ y → x ≡ y
-same_length [] [] x y l e = e
-same_length [] (d ∷ b) x y l e = absurd (omega arith)
-same_length (c ∷ a) [] x y l e = absurd (omega arith)
-same_length (c ∷ a) (d ∷ b) x y l e =
-    let rest : a ++ x ≡ b ++ y = cc in
-    same_length a b x y (omega arith) rest
 
 -- what is read of a run of digits
 run_says : (least most : ℕ) (f : ℕ → Numbers) (a b x y : List ℕ) (v w : ℕ) (m k : Numbers) → IsDigitRun least most a x v → IsDigitRun least most b y w → a ++ x ≡ b ++ y → m ≡ f v → k ≡ f w → (x ≡ y) × (m ≡ k)
@@ -53,12 +46,6 @@ mixed n a b x y m k z s e =
     let heads : z.0.0 ∷ x ≡ sign_byte s.sign ∷ (s.digits ++ y) = ap (λ t. t ++ x) (sym z.0.1) ∙ e ∙ ap (λ t. t ++ y) s.cut in
     zulu_clash s.sign z.0.0 z.0.2 (cc)
 
-sign_one : (s t : Sign) → sign_byte s ≡ sign_byte t → s ≡ t
-sign_one Negative Negative e = refl
-sign_one Negative Positive e = absurd (omega arith)
-sign_one Positive Negative e = absurd (omega arith)
-sign_one Positive Positive e = refl
-
 hour_one : (n : Numbers) (a b x y : List ℕ) (m k : Numbers) → IsZulu n a x m ⊎ IsSignedHour n a x m → IsZulu n b y k ⊎ IsSignedHour n b y k → a ++ x ≡ b ++ y → (x ≡ y) × (m ≡ k)
 hour_one n a b x y m k (inl p) (inl q) e =
     let heads : p.0.0 ∷ x ≡ q.0.0 ∷ y = ap (λ t. t ++ x) (sym p.0.1) ∙ e ∙ ap (λ t. t ++ y) q.0.1 in
@@ -67,7 +54,7 @@ hour_one n a b x y m k (inl p) (inr q) e = absurd (mixed n a b x y m k p q e)
 hour_one n a b x y m k (inr p) (inl q) e = absurd (mixed n b a y x k m q p (sym e))
 hour_one n a b x y m k (inr p) (inr q) e =
     let heads : sign_byte p.sign ∷ (p.digits ++ x) ≡ sign_byte q.sign ∷ (q.digits ++ y) = ap (λ t. t ++ x) (sym p.cut) ∙ e ∙ ap (λ t. t ++ y) q.cut in
-    let signs = sign_one p.sign q.sign (cc) in
+    let signs = sign_byte-one p.sign q.sign (cc) in
     let is = IsDigitRun-unique 2 2 2 p.digits q.digits x y p.hour q.hour p.run.0 q.run.0 (cc) in
     (is.1, p.says ∙ ap (λ s. record n { offset_is_negative = is_negative s; offset_hour = p.hour }) signs ∙ ap (λ h. record n { offset_is_negative = is_negative q.sign; offset_hour = h }) is.2 ∙ sym q.says)
 
@@ -76,26 +63,26 @@ colon_one true a b p q = p ∙ sym q
 colon_one false a b p q = p ∙ sym q
 
 minute_one : (ranged utc : Bool) (n : Numbers) (a b x y : List ℕ) (m k : Numbers) → IsOffsetMinute ranged utc n a x m → IsOffsetMinute ranged utc n b y k → a ++ x ≡ b ++ y → (x ≡ y) × (m ≡ k)
-minute_one ranged true n a b x y m k p q e = (same_length a b x y (ap length (p.0 ∙ sym q.0)) e, p.1 ∙ sym q.1)
+minute_one ranged true n a b x y m k p q e = ((same_front a b x y (ap length (p.0 ∙ sym q.0)) e).1, p.1 ∙ sym q.1)
 minute_one ranged false n a b x y m k p q e = run_says 2 2 (λ v. record n { offset_minute = v }) a b x y p.0 q.0 m k p.1.0 q.1.0 e p.2 q.2
 
 asks_one : (ranged : Bool) (p : Place) (n : Numbers) (a b x y : List ℕ) (m k : Numbers) → Asks ranged p n a x m → Asks ranged p n b y k → a ++ x ≡ b ++ y → (x ≡ y) × (m ≡ k)
 asks_one ranged Year n a b x y m k p q e = run_says 4 4 (λ v. record n { year = v }) a b x y p.0 q.0 m k p.1 q.1 e p.2 q.2
-asks_one ranged YearDash n a b x y m k p q e = (same_length a b x y (ap length (p.0 ∙ sym q.0)) e, p.1 ∙ sym q.1)
+asks_one ranged YearDash n a b x y m k p q e = ((same_front a b x y (ap length (p.0 ∙ sym q.0)) e).1, p.1 ∙ sym q.1)
 asks_one ranged Month n a b x y m k p q e = run_says 2 2 (λ v. record n { month = v }) a b x y p.0 q.0 m k p.1.0 q.1.0 e p.3 q.3
-asks_one ranged MonthDash n a b x y m k p q e = (same_length a b x y (ap length (p.0 ∙ sym q.0)) e, p.1 ∙ sym q.1)
+asks_one ranged MonthDash n a b x y m k p q e = ((same_front a b x y (ap length (p.0 ∙ sym q.0)) e).1, p.1 ∙ sym q.1)
 asks_one ranged Day n a b x y m k p q e = run_says 2 2 (λ v. record n { day = v }) a b x y p.0 q.0 m k p.1.0 q.1.0 e p.2 q.2
-asks_one ranged Separator n a b x y m k p q e = (same_length a b x y (p.0 ∙ sym q.0) e, p.1 ∙ sym q.1)
+asks_one ranged Separator n a b x y m k p q e = ((same_front a b x y (p.0 ∙ sym q.0) e).1, p.1 ∙ sym q.1)
 asks_one ranged Hour n a b x y m k p q e = run_says 2 2 (λ v. record n { hour = v }) a b x y p.0 q.0 m k p.1.0 q.1.0 e p.2 q.2
-asks_one ranged HourColon n a b x y m k p q e = (same_length a b x y (ap length (p.0 ∙ sym q.0)) e, p.1 ∙ sym q.1)
+asks_one ranged HourColon n a b x y m k p q e = ((same_front a b x y (ap length (p.0 ∙ sym q.0)) e).1, p.1 ∙ sym q.1)
 asks_one ranged Minute n a b x y m k p q e = run_says 2 2 (λ v. record n { minute = v }) a b x y p.0 q.0 m k p.1.0 q.1.0 e p.2 q.2
-asks_one ranged MinuteColon n a b x y m k p q e = (same_length a b x y (ap length (p.0 ∙ sym q.0)) e, p.1 ∙ sym q.1)
+asks_one ranged MinuteColon n a b x y m k p q e = ((same_front a b x y (ap length (p.0 ∙ sym q.0)) e).1, p.1 ∙ sym q.1)
 asks_one ranged Second n a b x y m k p q e = run_says 2 2 (λ v. record n { second = v }) a b x y p.0 q.0 m k p.1.0 q.1.0 e p.2 q.2
 asks_one ranged Subsecond n a b x y m k p q e =
     let is = subsecond_one a b x y p.0 q.0 p.1 q.1 e in
     (is.0, p.2 ∙ ap (λ v. record n { subsecond = v }) is.1 ∙ sym q.2)
 asks_one ranged OffsetHour n a b x y m k p q e = hour_one n a b x y m k p q e
-asks_one ranged OffsetColon n a b x y m k p q e = (same_length a b x y (ap length (colon_one n.is_utc a b p.0 q.0)) e, p.1 ∙ sym q.1)
+asks_one ranged OffsetColon n a b x y m k p q e = ((same_front a b x y (ap length (colon_one n.is_utc a b p.0 q.0)) e).1, p.1 ∙ sym q.1)
 asks_one ranged OffsetMinute n a b x y m k p q e = minute_one ranged n.is_utc n a b x y m k p q e
 
 -- each place of RFC 3339 has at most one cut

@@ -1,6 +1,6 @@
 -- Runs of digits: how one grows, and that at most one cut of a text is one.
 use Rattle.std.proofs.Common.{◌≡◌, ℕ, zero, suc, ◌+◌, ◌-◌, ◌*◌, ◌^◌, ◌<◌, ◌≤◌, ◌⊎◌, List, [], ◌∷◌, ◌++◌, length, take, drop, get_or, refl, ap, sym, ◌∙◌, inl, inr, arith, subst, length-append, pow-suc, mul_assoc, mul_comm, mul-le-mul_right}
-use Rattle.std.proofs.lemmas.List.{length-take, length-take-le, take-append-drop, take_more}
+use Rattle.std.proofs.lemmas.List.{length-take, length-take-le, take_all, take-append-drop, take_more}
 use Rattle.std.proofs.lemmas.Bool.{cases_lt}
 use Rattle.time_readers.specs.Cuts.{Cut, NoCut}
 use Rattle.time_readers.proofs.CutLemmas.{take-drop, IsUnique}
@@ -41,48 +41,45 @@ pow-mono m (suc n) h =
       | inr before ↦ let less = pow-mono m n before in omega arith
     ]
 
--- the first bytes are digits, and this is their value
-pub record DigitsRead (s : List ℕ) (count value : ℕ) : Type 0 where
-  pub in_range : count ≤ length s
-  pub digits : AllDigits (take count s)
-  pub is : value ≡ digits_value (take count s)
+pub AllDigits-append : (xs ys : List ℕ) → AllDigits xs → AllDigits ys → AllDigits (xs ++ ys)
+AllDigits-append [] ys p q = q
+AllDigits-append (x ∷ xs) ys p q = (p.0, AllDigits-append xs ys p.1 q)
 
-pub DigitsRead-more : (s : List ℕ) (count value more : ℕ) → DigitsRead s count value → count < length s → IsDigit (get_or s count 0) → more ≡ 10 * value + (get_or s count 0 - 48) → DigitsRead s (count + 1) more
-DigitsRead-more s count value more read h d pushed =
-    let t = take_more s count 0 h in
-    record {
-      in_range = omega arith;
-      digits = rw t (AllDigits-push (take count s) (get_or s count 0) read.digits d);
-      is = rw (t, digits_value-push (take count s) (get_or s count 0), ← read.is) pushed;
-    }
+pub AllDigits-take : (n : ℕ) (xs : List ℕ) → AllDigits xs → AllDigits (take n xs)
+AllDigits-take zero xs h = tt
+AllDigits-take (suc n) [] h = tt
+AllDigits-take (suc n) (x ∷ xs) h = (h.0, AllDigits-take n xs h.1)
+
+pub AllDigits-at : (xs : List ℕ) (n : ℕ) → AllDigits xs → n < length xs → IsDigit (get_or xs n 0)
+AllDigits-at [] n h below = absurd (omega arith)
+AllDigits-at (x ∷ xs) zero h below = h.0
+AllDigits-at (x ∷ xs) (suc n) h below = AllDigits-at xs n h.1 (omega arith)
+
+-- the value with one digit more
+pub digits_value-more : (s : List ℕ) (count : ℕ) → count < length s
+    → digits_value (take (count + 1) s) ≡ 10 * digits_value (take count s) + (get_or s count 0 - 48)
+digits_value-more s count h =
+    let more : take (count + 1) s ≡ take count s ++ get_or s count 0 ∷ [] = take_more s count 0 h in
+    ap digits_value more ∙ digits_value-push (take count s) (get_or s count 0)
+
+-- the value with the last digit
+pub digits_value-last : (s : List ℕ) (count : ℕ) → count + 1 ≡ length s
+    → digits_value s ≡ 10 * digits_value (take count s) + (get_or s count 0 - 48)
+digits_value-last s count e =
+    ap digits_value (sym (take_all (count + 1) s (omega arith))) ∙ digits_value-more s count (omega arith)
 
 -- one more digit fits where the greatest number has more digits
-pub DigitsRead-fits : (s : List ℕ) (count value digit places greatest : ℕ) → DigitsRead s count value → digit ≤ 9 → 10 ^ (places - 1) ≤ greatest → count + 1 < places → 10 * value + digit ≤ greatest
-DigitsRead-fits s count value digit places greatest read nine room h =
-    let l : length (take count s) ≡ count = length-take-le count s read.in_range in
-    let below : value < 10 ^ count = rw read.is (subst (λ n. digits_value (take count s) < 10 ^ n) l (digits_value-below (take count s) read.digits)) in
+pub digits_value-fits : (s : List ℕ) (count places greatest : ℕ) → AllDigits s → count < length s
+    → 10 ^ (places - 1) ≤ greatest → count + 1 < places
+    → 10 * digits_value (take count s) + (get_or s count 0 - 48) ≤ greatest
+digits_value-fits s count places greatest all h room few =
+    let l : length (take count s) ≡ count = length-take-le count s (omega arith) in
+    let below : digits_value (take count s) < 10 ^ count =
+        subst (λ n. digits_value (take count s) < 10 ^ n) l (digits_value-below (take count s) (AllDigits-take count s all)) in
+    let nine = AllDigits-at s count all h in
     let place = pow-suc 10 count in
     let wide = pow-mono (suc count) (places - 1) (omega arith) in
     omega arith
-
-NoDigitFirst-at : (s : List ℕ) (n : ℕ) → (n < length s → ¬ IsDigit (get_or s n 0)) → NoDigitFirst (drop n s)
-NoDigitFirst-at [] zero h = tt
-NoDigitFirst-at [] (suc n) h = tt
-NoDigitFirst-at (c ∷ s) zero h = λ d. h (omega arith) d
-NoDigitFirst-at (c ∷ s) (suc n) h = NoDigitFirst-at s n (λ l d. h (omega arith) d)
-
-pub DigitsRead-end : (s : List ℕ) (count value most : ℕ) → DigitsRead s count value → count ≤ most → (count < most → count < length s → ¬ IsDigit (get_or s count 0)) → IsDigitRun 0 most (take count s) (drop count s) value
-DigitsRead-end s count value most read h stops =
-    let l : length (take count s) ≡ count = length-take-le count s read.in_range in
-    let ends : (length (take count s) ≡ most) ⊎ NoDigitFirst (drop count s) =
-    elim (cases_lt count most) [ inl below ↦ inr (NoDigitFirst-at s count (stops below)) | inr all ↦ inl (omega arith) ] in
-    record {
-      digits = read.digits;
-      enough = omega arith;
-      within = omega arith;
-      ends = ends;
-      is = read.is;
-    }
 
 -- Two runs of digits in one text end at one place, from `done` digits on.
 one_end : (a b x y : List ℕ) (done most : ℕ) → AllDigits a → AllDigits b → a ++ x ≡ b ++ y → done + length a ≤ most → done + length b ≤ most → (done + length a ≡ most) ⊎ NoDigitFirst x → (done + length b ≡ most) ⊎ NoDigitFirst y → (a ≡ b) × (x ≡ y)
@@ -115,20 +112,37 @@ IsDigitRun-unique least least' most a b x y v w p q e =
 pub IsDigitRun-one : (least most : ℕ) → IsUnique (IsDigitRun least most)
 IsDigitRun-one least most a b x y v w p q e = let is = IsDigitRun-unique least least most a b x y v w p q e in (is.1, is.2)
 
--- the digits that stand there are too few
-pub IsDigitRun-short : (least most greatest count value : ℕ) (s : List ℕ) → IsDigitRun 0 most (take count s) (drop count s) value → count < least → NoCut (IsDigitRunUpTo greatest least most) s
+-- the digits that stand there, as many as may, are a run
+pub leading_run : (s : List ℕ) (count most : ℕ) → count ≤ length s → count ≤ most → AllDigits (take count s)
+    → (count ≡ most) ⊎ NoDigitFirst (drop count s)
+    → IsDigitRun 0 most (take count s) (drop count s) (digits_value (take count s))
+leading_run s count most in_range within digits all =
+    let l : length (take count s) ≡ count = length-take-le count s in_range in
+    record {
+      digits = digits;
+      enough = omega arith;
+      within = omega arith;
+      ends = elim all [ inl most ↦ inl (l ∙ most) | inr none ↦ inr none ];
+      is = refl;
+    }
+
+-- they are too few
+pub IsDigitRun-short : (least most greatest count value : ℕ) (s : List ℕ)
+    → IsDigitRun 0 most (take count s) (drop count s) value → count < least → NoCut (IsDigitRunUpTo greatest least most) s
 IsDigitRun-short least most greatest count value s found h text rest v e (run, small) =
-    let is = IsDigitRun-unique least 0 most text (take count s) rest (drop count s) v value run found (sym e ∙ sym (take-append-drop count s)) in
+    let whole = sym e ∙ sym (take-append-drop count s) in
+    let is = IsDigitRun-unique least 0 most text (take count s) rest (drop count s) v value run found whole in
     let l : length text ≡ length (take count s) = ap length is.0 in
     let m : length (take count s) ≤ count = omega (arith, length-take count s) in
     omega (arith, run.enough)
 
--- the value of the digits that stand there, of which one more was to come, is too great
-pub DigitsRead-great : (least most greatest count value : ℕ) (s : List ℕ) → DigitsRead s count value → count < length s → IsDigit (get_or s count 0) → count + 1 ≡ most → greatest < 10 * value + (get_or s count 0 - 48) → NoCut (IsDigitRunUpTo greatest least most) s
-DigitsRead-great least most greatest count value s read below digit last h text rest v e (run, small) =
-    let found = DigitsRead-end s (count + 1) (10 * value + (get_or s count 0 - 48)) most (DigitsRead-more s count value _ read below digit refl) (omega arith) (λ more. absurd (omega arith)) in
-    let is = IsDigitRun-unique least 0 most text (take (count + 1) s) rest (drop (count + 1) s) v (10 * value + (get_or s count 0 - 48)) run found (sym e ∙ sym (take-append-drop (count + 1) s)) in
-    let same = is.2 in
+-- their value is too great
+pub IsDigitRun-great : (least most greatest count value : ℕ) (s : List ℕ)
+    → IsDigitRun 0 most (take count s) (drop count s) value → greatest < value → NoCut (IsDigitRunUpTo greatest least most) s
+IsDigitRun-great least most greatest count value s found h text rest v e (run, small) =
+    let whole = sym e ∙ sym (take-append-drop count s) in
+    let is = IsDigitRun-unique least 0 most text (take count s) rest (drop count s) v value run found whole in
+    let same : v ≡ value = is.2 in
     omega arith
 
 -- a run has at most so many values

@@ -2,9 +2,9 @@
 //!
 //! Each answers the unread rest and the value exactly where its input begins with such a text, and `None`
 //! else. A run of digits takes as many as it may, and nothing goes back.
-ghost use Rattle.std.specs.Prelude.{◌≡◌, ◌-◌, ◌^◌, ◌≤◌, ◌⊎◌, ℕ, List, ◌++◌, IsTrue, ◌↔◌, length, drop, replicate};
+ghost use Rattle.std.specs.Prelude.{◌≡◌, ◌-◌, ◌^◌, ◌<◌, ◌≤◌, ◌⊎◌, ℕ, List, ◌++◌, MatchOption, IsTrue, ◌↔◌, length, take, drop, replicate};
 ghost use Rattle.time_readers.specs.Cuts.{Finds};
-ghost use Rattle.time_readers.specs.Digits.{IsDigit, AllDigits, NoDigitFirst, NoSpaceFirst, IsDigitRun, IsDigitRunUpTo, IsPaddedRunUpTo, IsFraction};
+ghost use Rattle.time_readers.specs.Digits.{IsDigit, AllDigits, digits_value, NoDigitFirst, NoSpaceFirst, IsDigitRun, IsDigitRunUpTo, IsPaddedRunUpTo, IsFraction};
 ghost use Rattle.time_readers.specs.Bytes.{IsByte, IsByteIgnoringCase, IsDigitByte, IsSign};
 
 use crate::{Integer, Padding, ParsedItem, Sign};
@@ -229,24 +229,50 @@ fn digit_run<T: Integer>(input: &[u8], least: usize, most: usize) -> Option<Pars
     requires { most ≤ T.MAX_NUM_DIGITS }
     ensures { Finds (IsDigitRunUpTo T.greatest least most) T.value input.now result }
 {
-    let mut value = T::ZERO;
+    let count = leading_digits(input, most);
+    if count < least {
+        return None;
+    }
+    let value = value_of_digits(&input[..count])?;
+    Some(ParsedItem(&input[count..], value))
+}
+
+// How many digits the input begins with, counted up to `most`.
+#[inline]
+pub(crate) fn leading_digits(input: &[u8], most: usize) -> usize
+    ensures in_range { result ≤ length input.now }
+    ensures within { result ≤ most }
+    ensures digits { AllDigits (take result input.now) }
+    ensures all { (result ≡ most) ⊎ NoDigitFirst (drop result input.now) }
+{
     let mut count = 0;
     while count < most && count < input.len() && is_digit(input[count]) {
-        let digit = input[count] - b'0';
+        count += 1;
+    }
+    count
+}
+
+// The number that the digits say, if it fits. It moves at each digit, so `T` need not be `Copy`.
+#[inline]
+fn value_of_digits<T: Integer>(digits: &[u8]) -> Option<T>
+    requires all { AllDigits digits.now }
+    requires most { length digits.now ≤ T.MAX_NUM_DIGITS }
+    ensures { MatchOption result
+        (T.greatest < digits_value digits.now)
+        (λ v. (T.value v ≡ digits_value digits.now) × (digits_value digits.now ≤ T.greatest)) }
+{
+    let mut value = T::ZERO;
+    let mut count = 0;
+    while count < digits.len() {
+        let digit = digits[count] - b'0';
         count += 1;
         if count < usize::from(T::MAX_NUM_DIGITS) {
             value = value.push_digit(digit);
         } else {
-            let Some(pushed) = value.checked_push_digit(digit) else {
-                return None;
-            };
-            value = pushed;
+            value = value.checked_push_digit(digit)?;
         }
     }
-    if count < least {
-        return None;
-    }
-    Some(ParsedItem(&input[count..], value))
+    Some(value)
 }
 
 // How many spaces the input begins with, counted up to `most`.

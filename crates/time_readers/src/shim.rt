@@ -3,7 +3,7 @@ ghost use Rattle.std.specs.Prelude.{◌≡◌, ℕ, ◌+◌, ◌-◌, ◌*◌, �
 ghost use Rattle.std.proofs.Common.{rules};
 
 /// An unsigned integer that decimal digits are pushed onto.
-pub trait Integer: Copy {
+pub trait Integer: Sized {
     /// How many digits the greatest number of the type has.
     const MAX_NUM_DIGITS: u8;
 

@@ -1,11 +1,10 @@
 //! Fractions of a second.
-ghost use Rattle.std.specs.Prelude.{◌≡◌, ◌+◌, ◌-◌, ◌^◌, ◌<◌, ◌≤◌, ◌⊎◌, ◌↔◌, IsTrue, length, take, drop};
+ghost use Rattle.std.specs.Prelude.{◌≡◌, ◌^◌, ◌<◌, ◌≤◌};
 ghost use Rattle.time_readers.specs.Cuts.{Finds};
-ghost use Rattle.time_readers.specs.Digits.{AllDigits, NoDigitFirst};
 ghost use Rattle.time_readers.specs.Spelling.{Says, IsFractionRun, number};
 
 use crate::ParsedItem;
-use crate::combinator::{exactly_n_digits, n_to_m_digits};
+use crate::combinator::{exactly_n_digits, leading_digits, n_to_m_digits};
 
 // Reads a fraction of exactly `N` digits, in nanoseconds.
 #[inline]
@@ -47,19 +46,4 @@ fn power_of_ten(exponent: usize) -> u32
         100_000_000,
     ];
     POWERS[exponent]
-}
-
-// How many digits the input begins with, counted up to `most`.
-#[inline]
-fn leading_digits(input: &[u8], most: usize) -> usize
-    ensures in_range { result ≤ length input.now }
-    ensures within { result ≤ most }
-    ensures digits { AllDigits (take result input.now) }
-    ensures all { (result ≡ most) ⊎ NoDigitFirst (drop result input.now) }
-{
-    let mut count = 0;
-    while count < most && count < input.len() && input[count].is_ascii_digit() {
-        count += 1;
-    }
-    count
 }

@@ -6,7 +6,9 @@ use Rattle.time_values.specs.declared.month.Month.TheVariants.{January, February
 use Rattle.time_values.specs.declared.weekday.Weekday.{Weekday}
 use Rattle.time_values.specs.declared.weekday.Weekday.TheVariants.{Monday, Tuesday, Wednesday, Thursday, Friday, Saturday, Sunday}
 
-pub each_month : (P : Month → Type 0) → P January × P February × P March × P April × P May × P June × P July × P August × P September × P October × P November × P December → (v : Month) → P v
+pub each_month : (P : Month → Type 0)
+    → P January × P February × P March × P April × P May × P June × P July × P August × P September × P October × P November × P December
+    → (v : Month) → P v
 each_month P h January = h.0
 each_month P h February = h.1
 each_month P h March = h.2
@@ -24,7 +26,20 @@ abbrev pub months : List Month
 months = January ∷ February ∷ March ∷ April ∷ May ∷ June ∷ July ∷ August ∷ September ∷ October ∷ November ∷ December ∷ []
 
 pub months-all : (v : Month) → Contains months v
-months-all = each_month (Contains months) ((0, omega arith, refl), (1, omega arith, refl), (2, omega arith, refl), (3, omega arith, refl), (4, omega arith, refl), (5, omega arith, refl), (6, omega arith, refl), (7, omega arith, refl), (8, omega arith, refl), (9, omega arith, refl), (10, omega arith, refl), (11, omega arith, refl))
+months-all = each_month (Contains months) (
+  (0, omega arith, refl),
+  (1, omega arith, refl),
+  (2, omega arith, refl),
+  (3, omega arith, refl),
+  (4, omega arith, refl),
+  (5, omega arith, refl),
+  (6, omega arith, refl),
+  (7, omega arith, refl),
+  (8, omega arith, refl),
+  (9, omega arith, refl),
+  (10, omega arith, refl),
+  (11, omega arith, refl),
+)
 
 pub each_weekday : (P : Weekday → Type 0) → P Monday × P Tuesday × P Wednesday × P Thursday × P Friday × P Saturday × P Sunday → (v : Weekday) → P v
 each_weekday P h Monday = h.0
@@ -39,4 +54,12 @@ abbrev pub weekdays : List Weekday
 weekdays = Monday ∷ Tuesday ∷ Wednesday ∷ Thursday ∷ Friday ∷ Saturday ∷ Sunday ∷ []
 
 pub weekdays-all : (v : Weekday) → Contains weekdays v
-weekdays-all = each_weekday (Contains weekdays) ((0, omega arith, refl), (1, omega arith, refl), (2, omega arith, refl), (3, omega arith, refl), (4, omega arith, refl), (5, omega arith, refl), (6, omega arith, refl))
+weekdays-all = each_weekday (Contains weekdays) (
+  (0, omega arith, refl),
+  (1, omega arith, refl),
+  (2, omega arith, refl),
+  (3, omega arith, refl),
+  (4, omega arith, refl),
+  (5, omega arith, refl),
+  (6, omega arith, refl),
+)

@@ -10,7 +10,8 @@ use Rattle.time_readers.proofs.CutLemmas.{first_byte}
 use Rattle.time_readers.proofs.Runs.{AllDigits-push, AllDigits-append, AllDigits-take, digits_value-below, pow-mono}
 
 -- one more digit is passed over
-pub digits_more : (s digits rest : List ℕ) → s ≡ digits ++ rest → AllDigits digits → 1 ≤ length rest → IsDigit (get_or rest 0 0) → (more : List ℕ) × (s ≡ more ++ take (length rest - 1) (drop 1 rest)) × AllDigits more
+pub digits_more : (s digits rest : List ℕ) → s ≡ digits ++ rest → AllDigits digits → 1 ≤ length rest → IsDigit (get_or rest 0 0)
+    → (more : List ℕ) × (s ≡ more ++ take (length rest - 1) (drop 1 rest)) × AllDigits more
 digits_more s digits rest e all h d =
     let c = get_or rest 0 0 in
     let tail = take (length rest - 1) (drop 1 rest) in
@@ -21,7 +22,8 @@ no_more [] rest all ends = refl
 no_more (d ∷ digits) rest all ends = absurd (ends all.0)
 
 -- the digits that count are those of the run of nine
-counted : (text digits rest : List ℕ) → length text ≤ 9 → (length text ≡ 9) ⊎ NoDigitFirst (digits ++ rest) → AllDigits digits → take 9 (text ++ digits) ≡ text
+counted : (text digits rest : List ℕ) → length text ≤ 9 → (length text ≡ 9) ⊎ NoDigitFirst (digits ++ rest) → AllDigits digits
+    → take 9 (text ++ digits) ≡ text
 counted text digits rest h (inl nine) all = take-append-le 9 text digits (omega arith) ∙ take_all 9 text h
 counted text digits rest h (inr ends) all =
     let none = no_more digits rest all ends in
@@ -32,7 +34,8 @@ tens k h =
     let all : k + (9 - k) ≡ 9 = omega arith in
     sym (pow-add 10 k (9 - k)) ∙ ap (λ n. 10 ^ n) all
 
-pub fraction_fits : (s rest : List ℕ) (value unit greatest : ℕ) → Cut (IsDigitRunUpTo greatest 1 9) s rest value → unit ≡ 10 ^ (9 - (length s - length rest)) → value * unit ≤ 1000000000
+pub fraction_fits : (s rest : List ℕ) (value unit greatest : ℕ) → Cut (IsDigitRunUpTo greatest 1 9) s rest value
+    → unit ≡ 10 ^ (9 - (length s - length rest)) → value * unit ≤ 1000000000
 fraction_fits s rest value unit greatest cut worth =
     let long : length s ≡ length cut.0 + length rest = ap length cut.1 ∙ length-append cut.0 rest in
     let run = cut.2.0 in
@@ -43,7 +46,9 @@ fraction_fits s rest value unit greatest cut worth =
     let same : value * unit ≡ value * 10 ^ (9 - length cut.0) = ap (λ u. value * u) worth ∙ ap (λ k. value * 10 ^ (9 - k)) count in
     omega arith
 
-pub fraction_cut : (s mid rest : List ℕ) (value unit greatest : ℕ) → Cut (IsDigitRunUpTo greatest 1 9) s mid value → unit ≡ 10 ^ (9 - (length s - length mid)) → (digits : List ℕ) × (mid ≡ digits ++ rest) × AllDigits digits × NoDigitFirst rest → Cut IsFraction s rest (value * unit)
+pub fraction_cut : (s mid rest : List ℕ) (value unit greatest : ℕ) → Cut (IsDigitRunUpTo greatest 1 9) s mid value
+    → unit ≡ 10 ^ (9 - (length s - length mid)) → (digits : List ℕ) × (mid ≡ digits ++ rest) × AllDigits digits × NoDigitFirst rest
+    → Cut IsFraction s rest (value * unit)
 fraction_cut s mid rest value unit greatest cut worth over =
     let long : length s ≡ length cut.0 + length mid = ap length cut.1 ∙ length-append cut.0 mid in
     let run = cut.2.0 in
@@ -59,7 +64,9 @@ fraction_cut s mid rest value unit greatest cut worth over =
         digits = AllDigits-append text digits run.digits over.2;
         enough = omega (arith, length-append text digits, run.enough);
         ends = over.3;
-        is = ap (λ u. value * u) worth ∙ ap (λ k. value * 10 ^ (9 - k)) count ∙ ap (λ v. v * 10 ^ (9 - length text)) run.is ∙ ap (λ t. digits_value t * 10 ^ (9 - length text)) (sym those) ∙ ap (λ k. digits_value (take 9 (text ++ digits)) * 10 ^ k) left;
+        is = ap (λ u. value * u) worth ∙ ap (λ k. value * 10 ^ (9 - k)) count ∙ ap (λ v. v * 10 ^ (9 - length text)) run.is
+            ∙ ap (λ t. digits_value t * 10 ^ (9 - length text)) (sym those)
+            ∙ ap (λ k. digits_value (take 9 (text ++ digits)) * 10 ^ k) left;
       },
     )
 
@@ -99,7 +106,8 @@ fraction_nanoseconds-below text all =
     let nine = take 9 text in
     let within : length nine ≤ 9 = omega (arith, length-take 9 text) in
     let one = pow-mono 0 (9 - length nine) (omega arith) in
-    let below = one_more (digits_value nine) (10 ^ (9 - length nine)) (10 ^ length nine) (digits_value-below nine (AllDigits-take 9 text all)) (omega arith) in
+    let below = one_more (digits_value nine) (10 ^ (9 - length nine)) (10 ^ length nine)
+    (digits_value-below nine (AllDigits-take 9 text all)) (omega arith) in
     let second = tens (length nine) within in
     let left : 9 - length text ≡ 9 - length nine = omega (arith, length-take 9 text) in
     let same = ap (λ k. digits_value nine * 10 ^ k) left in

@@ -23,7 +23,8 @@ with_place OffsetHour n m = record n { is_utc = m.is_utc; offset_is_negative = m
 with_place OffsetMinute n m = record n { offset_minute = m.offset_minute }
 with_place _ n m = n
 
-minute_alone : (ranged utc : Bool) (n m : Numbers) (text after : List ℕ) → IsOffsetMinute ranged utc n text after m → m ≡ record n { offset_minute = m.offset_minute }
+minute_alone : (ranged utc : Bool) (n m : Numbers) (text after : List ℕ) → IsOffsetMinute ranged utc n text after m
+    → m ≡ record n { offset_minute = m.offset_minute }
 minute_alone ranged true n m text after a = a.1 ∙ ap (λ x. record n { offset_minute = x.offset_minute }) (sym a.1)
 minute_alone ranged false n m text after a = a.2 ∙ ap (λ x. record n { offset_minute = x.offset_minute }) (sym a.2)
 
@@ -41,8 +42,10 @@ alone ranged Minute n m text after a = a.2 ∙ ap (λ x. record n { minute = x.m
 alone ranged MinuteColon n m text after a = a.1
 alone ranged Second n m text after a = a.2 ∙ ap (λ x. record n { second = x.second }) (sym a.2)
 alone ranged Subsecond n m text after a = a.2 ∙ ap (λ x. record n { subsecond = x.subsecond }) (sym a.2)
-alone ranged OffsetHour n m text after (inl z) = z.1 ∙ ap (λ x. record n { is_utc = x.is_utc; offset_is_negative = x.offset_is_negative; offset_hour = x.offset_hour }) (sym z.1)
-alone ranged OffsetHour n m text after (inr s) = s.says ∙ ap (λ x. record n { is_utc = x.is_utc; offset_is_negative = x.offset_is_negative; offset_hour = x.offset_hour }) (sym s.says)
+alone ranged OffsetHour n m text after (inl z) =
+    z.1 ∙ ap (λ x. record n { is_utc = x.is_utc; offset_is_negative = x.offset_is_negative; offset_hour = x.offset_hour }) (sym z.1)
+alone ranged OffsetHour n m text after (inr s) =
+    s.says ∙ ap (λ x. record n { is_utc = x.is_utc; offset_is_negative = x.offset_is_negative; offset_hour = x.offset_hour }) (sym s.says)
 alone ranged OffsetColon n m text after a = a.1
 alone ranged OffsetMinute n m text after a = minute_alone ranged n.is_utc n m text after a
 
@@ -51,14 +54,17 @@ abbrev pub Ignores : {X : Type 0} → (Numbers → X) → List Place → Type 0
 Ignores f [] = Unit {0}
 Ignores f (p ∷ ps) = ((n m : Numbers) → f (with_place p n m) ≡ f n) × Ignores f ps
 
-kept : {X : Type 0} (f : Numbers → X) (ranged : Bool) (ps : List Place) (n m : Numbers) (bytes rest : List ℕ) → Ignores f ps → Stand (Asks ranged) ps n bytes rest m → f m ≡ f n
+kept : {X : Type 0} (f : Numbers → X) (ranged : Bool) (ps : List Place) (n m : Numbers) (bytes rest : List ℕ) → Ignores f ps
+    → Stand (Asks ranged) ps n bytes rest m → f m ≡ f n
 unfolding Stand
 kept f ranged [] n m bytes rest i s = ap f s.1
 kept f ranged (p ∷ ps) n m bytes rest i s =
     kept f ranged ps s.1 m s.0 rest i.1 s.3 ∙ (ap f (alone ranged p n s.1 s.2.0 s.0 s.2.2) ∙ i.0 n s.1)
 
 -- what a place tells of its number, from what was read before, holds of the number in the end
-said : {X : Type 0} (f : Numbers → X) (Q : X → Type 0) (ranged : Bool) (before : List Place) (p : Place) (after : List Place) (n m : Numbers) (bytes rest : List ℕ) → Stand (Asks ranged) (before ++ p ∷ after) n bytes rest m → Ignores f before → Ignores f after → ((j k : Numbers) (text mid : List ℕ) → f j ≡ f n → Asks ranged p j text mid k → Q (f k)) → Q (f m)
+said : {X : Type 0} (f : Numbers → X) (Q : X → Type 0) (ranged : Bool) (before : List Place) (p : Place) (after : List Place)
+    (n m : Numbers) (bytes rest : List ℕ) → Stand (Asks ranged) (before ++ p ∷ after) n bytes rest m → Ignores f before → Ignores f after
+    → ((j k : Numbers) (text mid : List ℕ) → f j ≡ f n → Asks ranged p j text mid k → Q (f k)) → Q (f m)
 unfolding Stand
 said f Q ranged before p after n m bytes rest s i j tells =
     let parts = Stand-split (Asks ranged) before (p ∷ after) n m bytes rest s in
@@ -77,7 +83,8 @@ zero_within : (ranged : Bool) → IsWithin ranged 0 59 0
 zero_within true = (omega arith, omega arith)
 zero_within false = tt
 
-minute_within : (ranged utc : Bool) (n m : Numbers) (text after : List ℕ) → n.offset_minute ≡ 0 → IsOffsetMinute ranged utc n text after m → IsWithin ranged 0 59 m.offset_minute
+minute_within : (ranged utc : Bool) (n m : Numbers) (text after : List ℕ) → n.offset_minute ≡ 0 → IsOffsetMinute ranged utc n text after m
+    → IsWithin ranged 0 59 m.offset_minute
 minute_within ranged true n m text after none a = subst (IsWithin ranged 0 59) (sym (ap (λ x. x.offset_minute) a.1 ∙ none)) (zero_within ranged)
 minute_within ranged false n m text after none a = subst (IsWithin ranged 0 59) (sym (ap (λ x. x.offset_minute) a.2)) a.1.1
 
@@ -107,17 +114,22 @@ HasForm-in_places ranged bytes rest n s = record {
       (λ j k text mid start a. subst (IsWithin ranged 1 31) (sym (ap (λ x. x.day) a.2)) a.1.1);
   hour = said (λ x. x.hour) (IsWithin ranged 0 23) ranged (take 6 places) Hour (drop 7 places) nothing_read n bytes rest s (search rules) (search rules)
       (λ j k text mid start a. subst (IsWithin ranged 0 23) (sym (ap (λ x. x.hour) a.2)) a.1.1);
-  minute = said (λ x. x.minute) (IsWithin ranged 0 59) ranged (take 8 places) Minute (drop 9 places) nothing_read n bytes rest s (search rules) (search rules)
+  minute = said (λ x. x.minute) (IsWithin ranged 0 59) ranged (take 8 places) Minute (drop 9 places) nothing_read n bytes rest s
+      (search rules) (search rules)
       (λ j k text mid start a. subst (IsWithin ranged 0 59) (sym (ap (λ x. x.minute) a.2)) a.1.1);
-  second = said (λ x. x.second) (IsWithin ranged 0 60) ranged (take 10 places) Second (drop 11 places) nothing_read n bytes rest s (search rules) (search rules)
+  second = said (λ x. x.second) (IsWithin ranged 0 60) ranged (take 10 places) Second (drop 11 places) nothing_read n bytes rest s
+      (search rules) (search rules)
       (λ j k text mid start a. subst (IsWithin ranged 0 60) (sym (ap (λ x. x.second) a.2)) a.1.1);
-  subsecond = said (λ x. x.subsecond) (λ v. IfSome v (λ w. w ≤ 999999999)) ranged (take 11 places) Subsecond (drop 12 places) nothing_read n bytes rest s (search rules) (search rules)
+  subsecond = said (λ x. x.subsecond) (λ v. IfSome v (λ w. w ≤ 999999999)) ranged (take 11 places) Subsecond
+      (drop 12 places) nothing_read n bytes rest s (search rules) (search rules)
       (λ j k text mid start a. subst (λ v. IfSome v (λ w. w ≤ 999999999)) (sym (ap (λ x. x.subsecond) a.2)) (subsecond_within text mid a.0 a.1));
-  offset_hour = said (λ x. x.offset_hour) (λ v. v ≤ 23) ranged (take 12 places) OffsetHour (drop 13 places) nothing_read n bytes rest s (search rules) (search rules)
+  offset_hour = said (λ x. x.offset_hour) (λ v. v ≤ 23) ranged (take 12 places) OffsetHour (drop 13 places) nothing_read n bytes rest s
+      (search rules) (search rules)
       (λ j k text mid start a. elim a [
         | inl zulu ↦ let none : k.offset_hour ≡ 0 = ap (λ x. x.offset_hour) zulu.1 ∙ start in omega arith
         | inr signed ↦ let same : k.offset_hour ≡ signed.hour = ap (λ x. x.offset_hour) signed.says in omega (arith, signed.run.1)
       ]);
-  offset_minute = said (λ x. x.offset_minute) (IsWithin ranged 0 59) ranged (take 14 places) OffsetMinute [] nothing_read n bytes rest s (search rules) (search rules)
+  offset_minute = said (λ x. x.offset_minute) (IsWithin ranged 0 59) ranged (take 14 places) OffsetMinute [] nothing_read n bytes rest s
+      (search rules) (search rules)
       (λ j k text mid start a. minute_within ranged j.is_utc j k text mid start a);
 }

@@ -50,7 +50,8 @@ title_of_three a b c (x ∷ y ∷ z ∷ []) h e =
 title_of_three a b c _ h e = cc
 
 -- the letters of a name of the table, as three bytes that are its short form spell them
-pub title_from_named : (case_sensitive : Bool) (letters text : List ℕ) → is_title letters ≡ true → IsNamed case_sensitive letters text → letters ≡ title case_sensitive text
+pub title_from_named : (case_sensitive : Bool) (letters text : List ℕ) → is_title letters ≡ true → IsNamed case_sensitive letters text
+    → letters ≡ title case_sensitive text
 title_from_named true letters text h e = sym e
 title_from_named false (a ∷ b ∷ c ∷ []) text h e = title_of_three a b c text (Title-from a b c h) e
 title_from_named false _ text h e = absurd (false≢true h)
@@ -67,7 +68,8 @@ named_three a b c (x ∷ y ∷ z ∷ []) h e =
 named_three a b c _ h e = cc
 
 -- and three bytes that are spelled so are its short form
-pub named_from_title : (case_sensitive : Bool) (letters text : List ℕ) → is_title letters ≡ true → letters ≡ title case_sensitive text → IsNamed case_sensitive letters text
+pub named_from_title : (case_sensitive : Bool) (letters text : List ℕ) → is_title letters ≡ true → letters ≡ title case_sensitive text
+    → IsNamed case_sensitive letters text
 named_from_title true letters text h e = sym e
 named_from_title false (a ∷ b ∷ c ∷ []) text h e = named_three a b c text (Title-from a b c h) e
 named_from_title false _ text h e = absurd (false≢true h)
@@ -89,7 +91,8 @@ same_front (c ∷ a) (d ∷ b) x y l e =
     (cc, is.1)
 
 -- a text that is two names one after the other
-IsNamed-append : (case_sensitive : Bool) (a b s t : List ℕ) → IsNamed case_sensitive a s → IsNamed case_sensitive b t → IsNamed case_sensitive (a ++ b) (s ++ t)
+IsNamed-append : (case_sensitive : Bool) (a b s t : List ℕ) → IsNamed case_sensitive a s → IsNamed case_sensitive b t
+    → IsNamed case_sensitive (a ++ b) (s ++ t)
 IsNamed-append true a b s t h k = cc
 IsNamed-append false a b s t h k = simp map-append (cc)
 
@@ -108,10 +111,12 @@ IsNamed-parts false a b text e =
     let back = drop (length a) text in
     let cut : text ≡ front ++ back = sym (take-append-drop (length a) text) in
     let lower = map to_ascii_lowercase in
-    let both_lower : lower front ++ lower back ≡ lower a ++ lower b = sym (map-append to_ascii_lowercase front back) ∙ ap lower (sym cut) ∙ e ∙ map-append to_ascii_lowercase a b in
+    let both_lower : lower front ++ lower back ≡ lower a ++ lower b =
+    sym (map-append to_ascii_lowercase front back) ∙ ap lower (sym cut) ∙ e ∙ map-append to_ascii_lowercase a b in
     let whole : length text ≡ length (a ++ b) = IsNamed-length false (a ++ b) text e in
     let enough : length a ≤ length text = omega (arith, length-append a b) in
-    let long : length (lower front) ≡ length (lower a) = length-map front to_ascii_lowercase ∙ length-take-le (length a) text enough ∙ sym (length-map a to_ascii_lowercase) in
+    let long : length (lower front) ≡ length (lower a) =
+    length-map front to_ascii_lowercase ∙ length-take-le (length a) text enough ∙ sym (length-map a to_ascii_lowercase) in
     let is = same_front (lower front) (lower a) (lower back) (lower b) long both_lower in
     record { front = front; back = back; cut = cut; first = is.0; second = is.1 }
 
@@ -123,7 +128,8 @@ Contains-cases y xs x (suc k, h, e) = inr (k, omega arith, e)
 pub Contains-there : {X : Type 0} (y : X) (xs : List X) (x : X) → Contains xs x → Contains (y ∷ xs) x
 Contains-there y xs x (k, h, e) = (suc k, omega arith, e)
 
-find_some_at : {X : Type 0} (p : X → Bool) (b : Bool) (y : X) (xs : List X) (x : X) → p y ≡ b → (find p xs ≡ Some x → Contains xs x × (p x ≡ true)) → cond b (Some y) (find p xs) ≡ Some x → Contains (y ∷ xs) x × (p x ≡ true)
+find_some_at : {X : Type 0} (p : X → Bool) (b : Bool) (y : X) (xs : List X) (x : X) → p y ≡ b
+    → (find p xs ≡ Some x → Contains xs x × (p x ≡ true)) → cond b (Some y) (find p xs) ≡ Some x → Contains (y ∷ xs) x × (p x ≡ true)
 find_some_at p true y xs x t later e =
     let is : y ≡ x = cc in
     ((0, omega arith, is), ap p (sym is) ∙ t)
@@ -136,7 +142,8 @@ find_some : {X : Type 0} (p : X → Bool) (xs : List X) (x : X) → find p xs �
 find_some p [] x e = cc
 find_some p (y ∷ xs) x e = find_some_at p (p y) y xs x refl (find_some p xs x) e
 
-find_none_at : {X : Type 0} (p : X → Bool) (b : Bool) (y : X) (xs : List X) → p y ≡ b → cond b (Some y) (find p xs) ≡ None → (p y ≡ false) × (find p xs ≡ None)
+find_none_at : {X : Type 0} (p : X → Bool) (b : Bool) (y : X) (xs : List X) → p y ≡ b → cond b (Some y) (find p xs) ≡ None
+    → (p y ≡ false) × (find p xs ≡ None)
 find_none_at p true y xs t e = cc
 find_none_at p false y xs t e = (t, e)
 
@@ -170,11 +177,14 @@ not_true : (b : Bool) → b ≡ true → not b ≡ true → ⊥
 not_true true e h = false≢true h
 not_true false e h = false≢true e
 
-distinct_at : {T : Type 0} (names : List (Name T)) (m n : Name T) → are_distinct names ≡ true → Contains names m → Contains names n → m.letters ≡ n.letters → m ≡ n
+distinct_at : {T : Type 0} (names : List (Name T)) (m n : Name T) → are_distinct names ≡ true → Contains names m → Contains names n
+    → m.letters ≡ n.letters → m ≡ n
 distinct_at [] m n h (k, l, at) d e = absurd (omega arith)
 distinct_at (x ∷ names) m n h c d e =
     let parts = both (list_all (λ y. not (bytes_eq x.letters y.letters)) names) (are_distinct names) h in
-    let other : (y : Name _) → Contains names y → x.letters ≡ y.letters → ⊥ = λ y there same. not_true (bytes_eq x.letters y.letters) (same_bytes x.letters y.letters same) (list_all_at (λ y. not (bytes_eq x.letters y.letters)) names y parts.0 there) in
+    let other : (y : Name _) → Contains names y → x.letters ≡ y.letters → ⊥ =
+    λ y there same. not_true (bytes_eq x.letters y.letters) (same_bytes x.letters y.letters same)
+    (list_all_at (λ y. not (bytes_eq x.letters y.letters)) names y parts.0 there) in
     elim (Contains-cases x names m c) [
       | inl here ↦ elim (Contains-cases x names n d) [
         | inl there ↦ sym here ∙ there
@@ -186,7 +196,8 @@ distinct_at (x ∷ names) m n h c d e =
       ]
     ]
 
-Table-distinct : {T : Type 0} (names : List (Name T)) (m n : Name T) → IsTrue (is_table names) → Contains names m → Contains names n → m.letters ≡ n.letters → m ≡ n
+Table-distinct : {T : Type 0} (names : List (Name T)) (m n : Name T) → IsTrue (is_table names) → Contains names m → Contains names n
+    → m.letters ≡ n.letters → m ≡ n
 Table-distinct names m n h c d e = distinct_at names m n (both (list_all (λ n. is_title n.letters) names) (are_distinct names) h).1 c d e
 
 title_length : (letters : List ℕ) → is_title letters ≡ true → length letters ≡ 3
@@ -194,17 +205,21 @@ title_length (a ∷ b ∷ c ∷ []) h = refl
 title_length _ h = absurd (false≢true h)
 
 -- the letters of a name whose short form stands, as the reader has them
-short_is_title : {T : Type 0} (names : List (Name T)) (case_sensitive : Bool) (text rest : List ℕ) (name : Name T) → IsTrue (is_table names) → IsShortName names case_sensitive text rest name → IsTitle case_sensitive text rest name.letters
+short_is_title : {T : Type 0} (names : List (Name T)) (case_sensitive : Bool) (text rest : List ℕ) (name : Name T) → IsTrue (is_table names)
+    → IsShortName names case_sensitive text rest name → IsTitle case_sensitive text rest name.letters
 short_is_title names case_sensitive text rest name h s =
     let t = Table-title names name h s.0 in
     (IsNamed-length case_sensitive name.letters text s.1 ∙ title_length name.letters t, title_from_named case_sensitive name.letters text t s.1)
 
 -- no three bytes, no short name
-pub no_letters : {T : Type 0} (names : List (Name T)) (case_sensitive : Bool) (input : List ℕ) → IsTrue (is_table names) → NoCut (IsTitle case_sensitive) input → NoCut (IsShortName names case_sensitive) input
+pub no_letters : {T : Type 0} (names : List (Name T)) (case_sensitive : Bool) (input : List ℕ) → IsTrue (is_table names)
+    → NoCut (IsTitle case_sensitive) input → NoCut (IsShortName names case_sensitive) input
 no_letters names case_sensitive input h none = λ text rest name e s. none text rest name.letters e (short_is_title names case_sensitive text rest name h s)
 
 -- three bytes that begin no name of the table
-pub no_short_name : {T : Type 0} (names : List (Name T)) (case_sensitive : Bool) (input rest letters : List ℕ) → IsTrue (is_table names) → Cut (IsTitle case_sensitive) input rest letters → None ≡ find (λ n. bytes_eq n.letters letters) names → NoCut (IsShortName names case_sensitive) input
+pub no_short_name : {T : Type 0} (names : List (Name T)) (case_sensitive : Bool) (input rest letters : List ℕ) → IsTrue (is_table names)
+    → Cut (IsTitle case_sensitive) input rest letters → None ≡ find (λ n. bytes_eq n.letters letters) names
+    → NoCut (IsShortName names case_sensitive) input
 no_short_name names case_sensitive input rest letters h cut none = λ text rest' name e s.
     let t = short_is_title names case_sensitive text rest' name h s in
     let same = same_front text cut.0 rest' rest (t.0 ∙ sym cut.2.0) (sym e ∙ cut.1) in
@@ -212,20 +227,25 @@ no_short_name names case_sensitive input rest letters h cut none = λ text rest'
     find_none (λ n. bytes_eq n.letters letters) names name (sym none) s.0 (same_bytes name.letters letters is)
 
 -- three bytes that begin a name of the table
-pub is_short_name : {T : Type 0} (names : List (Name T)) (case_sensitive : Bool) (input rest letters : List ℕ) (name : Name T) → IsTrue (is_table names) → Cut (IsTitle case_sensitive) input rest letters → Some name ≡ find (λ n. bytes_eq n.letters letters) names → Cut (IsShortName names case_sensitive) input rest name
+pub is_short_name : {T : Type 0} (names : List (Name T)) (case_sensitive : Bool) (input rest letters : List ℕ) (name : Name T)
+    → IsTrue (is_table names) → Cut (IsTitle case_sensitive) input rest letters → Some name ≡ find (λ n. bytes_eq n.letters letters) names
+    → Cut (IsShortName names case_sensitive) input rest name
 is_short_name names case_sensitive input rest letters name h cut some =
     let found = find_some (λ n. bytes_eq n.letters letters) names name (sym some) in
     let is : name.letters ≡ letters = (bytes_eq-Decides name.letters letters).0 found.1 in
     (cut.0, cut.1, (found.0, named_from_title case_sensitive name.letters cut.0 (Table-title names name h found.0) (is ∙ cut.2.1)))
 
 -- no short name, no long one
-pub no_long_name : {T : Type 0} (names : List (Name T)) (case_sensitive : Bool) (input : List ℕ) → NoCut (IsShortName names case_sensitive) input → NoCut (IsLongName names case_sensitive) input
+pub no_long_name : {T : Type 0} (names : List (Name T)) (case_sensitive : Bool) (input : List ℕ)
+    → NoCut (IsShortName names case_sensitive) input → NoCut (IsLongName names case_sensitive) input
 no_long_name names case_sensitive input none = λ text rest name e s.
     let p = IsNamed-parts case_sensitive name.letters name.ending.now text s.1 in
     none p.front (p.back ++ rest) name (e ∙ ap (λ t. t ++ rest) p.cut ∙ append_assoc p.front p.back rest) (s.0, p.first)
 
 -- a short name whose ending doesn't stand
-pub no_ending : {T : Type 0} (names : List (Name T)) (case_sensitive : Bool) (input rest : List ℕ) (name : Name T) → IsTrue (is_table names) → Cut (IsShortName names case_sensitive) input rest name → NoCut (IsEnding name.ending.now case_sensitive) rest → NoCut (IsLongName names case_sensitive) input
+pub no_ending : {T : Type 0} (names : List (Name T)) (case_sensitive : Bool) (input rest : List ℕ) (name : Name T) → IsTrue (is_table names)
+    → Cut (IsShortName names case_sensitive) input rest name → NoCut (IsEnding name.ending.now case_sensitive) rest
+    → NoCut (IsLongName names case_sensitive) input
 no_ending names case_sensitive input rest name h cut none = λ text left other e s.
     let p = IsNamed-parts case_sensitive other.letters other.ending.now text s.1 in
     let here = short_is_title names case_sensitive cut.0 rest name h cut.2 in
@@ -236,7 +256,9 @@ no_ending names case_sensitive input rest name h cut none = λ text left other e
     none p.back left tt (sym same.1) (subst (λ n. IsNamed case_sensitive n.ending.now p.back) is p.second)
 
 -- a short name whose ending stands
-pub is_long_name : {T : Type 0} (names : List (Name T)) (case_sensitive : Bool) (input rest left : List ℕ) (name : Name T) → Cut (IsShortName names case_sensitive) input rest name → Cut (IsEnding name.ending.now case_sensitive) rest left tt → Cut (IsLongName names case_sensitive) input left name
+pub is_long_name : {T : Type 0} (names : List (Name T)) (case_sensitive : Bool) (input rest left : List ℕ) (name : Name T)
+    → Cut (IsShortName names case_sensitive) input rest name → Cut (IsEnding name.ending.now case_sensitive) rest left tt
+    → Cut (IsLongName names case_sensitive) input left name
 is_long_name names case_sensitive input rest left name cut ending = (
   cut.0 ++ ending.0,
   cut.1 ∙ ap (λ t. cut.0 ++ t) ending.1 ∙ sym (append_assoc cut.0 ending.0 left),

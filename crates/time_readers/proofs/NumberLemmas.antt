@@ -23,20 +23,23 @@ run_fits value greatest padding least most input answer fits =
     (λ text rest v run. (run, let below = IsPaddedRun-below padding least most text rest v run in omega arith))
 
 -- a run doesn't begin with a sign
-digits_first : (least most : ℕ) (text rest : List ℕ) (v c : ℕ) (tail : List ℕ) → 1 ≤ least → IsDigitRun least most text rest v → text ++ rest ≡ c ∷ tail → IsDigit c
+digits_first : (least most : ℕ) (text rest : List ℕ) (v c : ℕ) (tail : List ℕ) → 1 ≤ least → IsDigitRun least most text rest v
+    → text ++ rest ≡ c ∷ tail → IsDigit c
 digits_first least most [] rest v c tail h run e = absurd (omega (arith, run.enough))
 digits_first least most (d ∷ text) rest v c tail h run e =
     let is : d ≡ c = cc in
     subst IsDigit is run.digits.0
 
-spaced_first : (least most k : ℕ) (text rest digits : List ℕ) (v c : ℕ) (tail : List ℕ) → 1 ≤ least → text ≡ replicate k 32 ++ digits → k ≤ least - 1 → IsDigitRun (least - k) (most - k) digits rest v → text ++ rest ≡ c ∷ tail → (c ≡ 32) ⊎ IsDigit c
+spaced_first : (least most k : ℕ) (text rest digits : List ℕ) (v c : ℕ) (tail : List ℕ) → 1 ≤ least → text ≡ replicate k 32 ++ digits
+    → k ≤ least - 1 → IsDigitRun (least - k) (most - k) digits rest v → text ++ rest ≡ c ∷ tail → (c ≡ 32) ⊎ IsDigit c
 spaced_first least most zero text rest digits v c tail h cut few run e =
     inr (digits_first (least - 0) (most - 0) digits rest v c tail (omega arith) run (ap (λ t. t ++ rest) (sym cut) ∙ e))
 spaced_first least most (suc k) text rest digits v c tail h cut few run e =
     let first : text ≡ 32 ∷ (replicate k 32 ++ digits) = cut in
     inl (cc)
 
-run_first : (padding : Padding) (least most : ℕ) (text rest : List ℕ) (v c : ℕ) (tail : List ℕ) → 1 ≤ least → IsPaddedRun padding least most text rest v → text ++ rest ≡ c ∷ tail → (c ≡ 32) ⊎ IsDigit c
+run_first : (padding : Padding) (least most : ℕ) (text rest : List ℕ) (v c : ℕ) (tail : List ℕ) → 1 ≤ least
+    → IsPaddedRun padding least most text rest v → text ++ rest ≡ c ∷ tail → (c ≡ 32) ⊎ IsDigit c
 run_first padding.Space least most text rest v c tail h run e = spaced_first least most run.spaces text rest run.digits v c tail h run.cut run.few run.run e
 run_first padding.Zero least most text rest v c tail h run e = inr (digits_first least most text rest v c tail h run e)
 run_first padding.None least most text rest v c tail h run e = inr (digits_first 1 most text rest v c tail (omega arith) run e)
@@ -54,7 +57,8 @@ sign_byte-one Positive Negative e = absurd (omega arith)
 sign_byte-one Positive Positive e = refl
 
 -- a run doesn't begin as a text that begins with a sign
-pub no_sign_first : (padding : Padding) (least most : ℕ) (text rest tail : List ℕ) (v : ℕ) (sign : Sign) → 1 ≤ least → IsPaddedRun padding least most text rest v → text ++ rest ≡ sign_byte sign ∷ tail → ⊥
+pub no_sign_first : (padding : Padding) (least most : ℕ) (text rest tail : List ℕ) (v : ℕ) (sign : Sign) → 1 ≤ least
+    → IsPaddedRun padding least most text rest v → text ++ rest ≡ sign_byte sign ∷ tail → ⊥
 no_sign_first padding least most text rest tail v sign h run e = sign_first sign (run_first padding least most text rest v (sign_byte sign) tail h run e)
 
 -- a sign, and what stands behind it

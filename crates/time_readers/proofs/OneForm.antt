@@ -15,7 +15,8 @@ use Rattle.time_readers.proofs.Runs.{IsDigitRun-unique, AllDigits-unique}
 use Rattle.time_readers.proofs.OneReading.{AtMostOneEach}
 
 -- what is read of a run of digits
-run_says : (least most : ℕ) (f : ℕ → Numbers) (a b x y : List ℕ) (v w : ℕ) (m k : Numbers) → IsDigitRun least most a x v → IsDigitRun least most b y w → a ++ x ≡ b ++ y → m ≡ f v → k ≡ f w → (x ≡ y) × (m ≡ k)
+run_says : (least most : ℕ) (f : ℕ → Numbers) (a b x y : List ℕ) (v w : ℕ) (m k : Numbers) → IsDigitRun least most a x v
+    → IsDigitRun least most b y w → a ++ x ≡ b ++ y → m ≡ f v → k ≡ f w → (x ≡ y) × (m ≡ k)
 run_says least most f a b x y v w m k p q e says says' =
     let is = IsDigitRun-unique least least most a b x y v w p q e in
     (is.1, says ∙ ap f is.2 ∙ sym says')
@@ -46,7 +47,8 @@ mixed n a b x y m k z s e =
     let heads : z.0.0 ∷ x ≡ sign_byte s.sign ∷ (s.digits ++ y) = ap (λ t. t ++ x) (sym z.0.1) ∙ e ∙ ap (λ t. t ++ y) s.cut in
     zulu_clash s.sign z.0.0 z.0.2 (cc)
 
-hour_one : (n : Numbers) (a b x y : List ℕ) (m k : Numbers) → IsZulu n a x m ⊎ IsSignedHour n a x m → IsZulu n b y k ⊎ IsSignedHour n b y k → a ++ x ≡ b ++ y → (x ≡ y) × (m ≡ k)
+hour_one : (n : Numbers) (a b x y : List ℕ) (m k : Numbers) → IsZulu n a x m ⊎ IsSignedHour n a x m → IsZulu n b y k ⊎ IsSignedHour n b y k
+    → a ++ x ≡ b ++ y → (x ≡ y) × (m ≡ k)
 hour_one n a b x y m k (inl p) (inl q) e =
     let heads : p.0.0 ∷ x ≡ q.0.0 ∷ y = ap (λ t. t ++ x) (sym p.0.1) ∙ e ∙ ap (λ t. t ++ y) q.0.1 in
     (cc, p.1 ∙ sym q.1)
@@ -55,18 +57,23 @@ hour_one n a b x y m k (inr p) (inl q) e = absurd (mixed n b a y x k m q p (sym 
 hour_one n a b x y m k (inr p) (inr q) e =
     let heads : sign_byte p.sign ∷ (p.digits ++ x) ≡ sign_byte q.sign ∷ (q.digits ++ y) = ap (λ t. t ++ x) (sym p.cut) ∙ e ∙ ap (λ t. t ++ y) q.cut in
     let signs = sign_byte-one p.sign q.sign (cc) in
-    let is = IsDigitRun-unique 2 2 2 p.digits q.digits x y p.hour q.hour p.run.0 q.run.0 (cc) in
-    (is.1, p.says ∙ ap (λ s. record n { offset_is_negative = is_negative s; offset_hour = p.hour }) signs ∙ ap (λ h. record n { offset_is_negative = is_negative q.sign; offset_hour = h }) is.2 ∙ sym q.says)
+    let is = IsDigitRun-unique 2 2 2 p.digits q.digits x y p.hour q.hour p.run.0 q.run.0 (cc) in (
+      is.1,
+      p.says ∙ ap (λ s. record n { offset_is_negative = is_negative s; offset_hour = p.hour }) signs
+          ∙ ap (λ h. record n { offset_is_negative = is_negative q.sign; offset_hour = h }) is.2 ∙ sym q.says,
+    )
 
 colon_one : (utc : Bool) (a b : List ℕ) → IsOffsetColon utc a → IsOffsetColon utc b → a ≡ b
 colon_one true a b p q = p ∙ sym q
 colon_one false a b p q = p ∙ sym q
 
-minute_one : (ranged utc : Bool) (n : Numbers) (a b x y : List ℕ) (m k : Numbers) → IsOffsetMinute ranged utc n a x m → IsOffsetMinute ranged utc n b y k → a ++ x ≡ b ++ y → (x ≡ y) × (m ≡ k)
+minute_one : (ranged utc : Bool) (n : Numbers) (a b x y : List ℕ) (m k : Numbers) → IsOffsetMinute ranged utc n a x m
+    → IsOffsetMinute ranged utc n b y k → a ++ x ≡ b ++ y → (x ≡ y) × (m ≡ k)
 minute_one ranged true n a b x y m k p q e = ((same_front a b x y (ap length (p.0 ∙ sym q.0)) e).1, p.1 ∙ sym q.1)
 minute_one ranged false n a b x y m k p q e = run_says 2 2 (λ v. record n { offset_minute = v }) a b x y p.0 q.0 m k p.1.0 q.1.0 e p.2 q.2
 
-asks_one : (ranged : Bool) (p : Place) (n : Numbers) (a b x y : List ℕ) (m k : Numbers) → Asks ranged p n a x m → Asks ranged p n b y k → a ++ x ≡ b ++ y → (x ≡ y) × (m ≡ k)
+asks_one : (ranged : Bool) (p : Place) (n : Numbers) (a b x y : List ℕ) (m k : Numbers) → Asks ranged p n a x m → Asks ranged p n b y k
+    → a ++ x ≡ b ++ y → (x ≡ y) × (m ≡ k)
 asks_one ranged Year n a b x y m k p q e = run_says 4 4 (λ v. record n { year = v }) a b x y p.0 q.0 m k p.1 q.1 e p.2 q.2
 asks_one ranged YearDash n a b x y m k p q e = ((same_front a b x y (ap length (p.0 ∙ sym q.0)) e).1, p.1 ∙ sym q.1)
 asks_one ranged Month n a b x y m k p q e = run_says 2 2 (λ v. record n { month = v }) a b x y p.0 q.0 m k p.1.0 q.1.0 e p.3 q.3

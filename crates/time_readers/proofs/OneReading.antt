@@ -7,7 +7,8 @@ use Rattle.time_readers.specs.Places.{Stand, StopsAt, Format}
 abbrev pub AtMostOneEach : {P N : Type 0} → Format P N → Type 0
 AtMostOneEach {P} {N} A = (p : P) (n : N) → AtMostOneCut (A p n)
 
-pub Stand-unique : {P N : Type 0} (A : Format P N) → AtMostOneEach A → (ps : List P) (n m k : N) (bytes x y : List ℕ) → Stand A ps n bytes x m → Stand A ps n bytes y k → (x ≡ y) × (m ≡ k)
+pub Stand-unique : {P N : Type 0} (A : Format P N) → AtMostOneEach A → (ps : List P) (n m k : N) (bytes x y : List ℕ)
+    → Stand A ps n bytes x m → Stand A ps n bytes y k → (x ≡ y) × (m ≡ k)
 unfolding Stand
 Stand-unique A one [] n m k bytes x y s t = (s.0 ∙ sym t.0, s.1 ∙ sym t.1)
 Stand-unique A one (p ∷ ps) n m k bytes x y s t =
@@ -19,7 +20,8 @@ abbrev pub Stops : {P N : Type 0} → Format P N → List P → N → List ℕ �
 Stops A [] n bytes e = ⊥
 Stops {P} {N} A (p ∷ ps) n bytes e = ((e ≡ p) × NoCut (A p n) bytes) ⊎ ((mid : List ℕ) × (k : N) × Cut (A p n) bytes mid k × Stops A ps k mid e)
 
-stops_at : {P N : Type 0} (A : Format P N) (before after : List P) (n k : N) (bytes mid : List ℕ) (e : P) → Stand A before n bytes mid k → NoCut (A e k) mid → Stops A (before ++ e ∷ after) n bytes e
+stops_at : {P N : Type 0} (A : Format P N) (before after : List P) (n k : N) (bytes mid : List ℕ) (e : P) → Stand A before n bytes mid k
+    → NoCut (A e k) mid → Stops A (before ++ e ∷ after) n bytes e
 unfolding Stand
 stops_at A [] after n k bytes mid e s none = inl (refl, subst (λ b. NoCut (A e n) b) s.0 (subst (λ j. NoCut (A e j) mid) s.1 none))
 stops_at A (p ∷ before) after n k bytes mid e s none = inr (s.0, s.1, s.2, stops_at A before after s.1 k s.0 mid e s.3 none)
@@ -27,15 +29,18 @@ stops_at A (p ∷ before) after n k bytes mid e s none = inr (s.0, s.1, s.2, sto
 pub StopsAt-stops : {P N : Type 0} (A : Format P N) (ps : List P) (n : N) (bytes : List ℕ) (e : P) → StopsAt A ps n bytes e → Stops A ps n bytes e
 StopsAt-stops A ps n bytes e w = subst (λ qs. Stops A qs n bytes e) (sym w.place) (stops_at A w.before w.after n w.numbers bytes w.mid e w.stand w.stops)
 
-pub Stops-none : {P N : Type 0} (A : Format P N) → AtMostOneEach A → (ps : List P) (n m : N) (bytes rest : List ℕ) (e : P) → Stand A ps n bytes rest m → Stops A ps n bytes e → ⊥
+pub Stops-none : {P N : Type 0} (A : Format P N) → AtMostOneEach A → (ps : List P) (n m : N) (bytes rest : List ℕ) (e : P)
+    → Stand A ps n bytes rest m → Stops A ps n bytes e → ⊥
 unfolding Stand
 Stops-none A one [] n m bytes rest e s stops = stops
 Stops-none A one (p ∷ ps) n m bytes rest e s (inl here) = here.1 s.2.0 s.0 s.1 s.2.1 s.2.2
 Stops-none A one (p ∷ ps) n m bytes rest e s (inr later) =
     let first = one p n bytes s.0 later.0 s.1 later.1 s.2 later.2 in
-    Stops-none A one ps later.1 m later.0 rest e (subst (λ j. Stand A ps j later.0 rest m) first.1 (subst (λ b. Stand A ps s.1 b rest m) first.0 s.3)) later.3
+    Stops-none A one ps later.1 m later.0 rest e
+    (subst (λ j. Stand A ps j later.0 rest m) first.1 (subst (λ b. Stand A ps s.1 b rest m) first.0 s.3)) later.3
 
-pub Stops-unique : {P N : Type 0} (A : Format P N) → AtMostOneEach A → (ps : List P) (n : N) (bytes : List ℕ) (d e : P) → Stops A ps n bytes d → Stops A ps n bytes e → d ≡ e
+pub Stops-unique : {P N : Type 0} (A : Format P N) → AtMostOneEach A → (ps : List P) (n : N) (bytes : List ℕ) (d e : P)
+    → Stops A ps n bytes d → Stops A ps n bytes e → d ≡ e
 Stops-unique A one [] n bytes d e s t = absurd s
 Stops-unique A one (p ∷ ps) n bytes d e (inl s) (inl t) = s.0 ∙ sym t.0
 Stops-unique A one (p ∷ ps) n bytes d e (inl s) (inr t) = absurd (s.1 t.2.0 t.0 t.1 t.2.1 t.2.2)

@@ -81,19 +81,23 @@ told_apart key of tells a b e =
     let some : Some a ≡ Some b = sym (tells a) ∙ ap of e ∙ tells b in
     cc
 
-IsNumberOf-unique : {A : Type 0} (padding : Padding) (number_of : A → ℕ) → ((v w : A) → number_of v ≡ number_of w → v ≡ w) → IsUnique (IsNumberOf padding number_of)
+IsNumberOf-unique : {A : Type 0} (padding : Padding) (number_of : A → ℕ) → ((v w : A) → number_of v ≡ number_of w → v ≡ w)
+    → IsUnique (IsNumberOf padding number_of)
 IsNumberOf-unique padding number_of apart a b x y v w p q e =
     let same = IsPaddedRun-unique padding 2 2 a b x y (number_of v) (number_of w) p q e in
     (same.0, apart v w same.1)
 
-IsDigitOf-unique : {A : Type 0} (one_indexed : Bool) (number_of : A → ℕ) → ((v w : A) → number_of v ≡ number_of w → v ≡ w) → IsUnique (IsDigitOf one_indexed number_of)
+IsDigitOf-unique : {A : Type 0} (one_indexed : Bool) (number_of : A → ℕ) → ((v w : A) → number_of v ≡ number_of w → v ≡ w)
+    → IsUnique (IsDigitOf one_indexed number_of)
 IsDigitOf-unique one_indexed number_of apart a b x y v w p q e =
-    let whole : (first_digit one_indexed + number_of v) ∷ x ≡ (first_digit one_indexed + number_of w) ∷ y = ap (λ u. u ++ x) (sym p) ∙ e ∙ ap (λ u. u ++ y) q in
+    let whole : (first_digit one_indexed + number_of v) ∷ x ≡ (first_digit one_indexed + number_of w) ∷ y =
+    ap (λ u. u ++ x) (sym p) ∙ e ∙ ap (λ u. u ++ y) q in
     let heads : first_digit one_indexed + number_of v ≡ first_digit one_indexed + number_of w = cc in
     let tails : x ≡ y = cc in
     (tails, apart v w (omega arith))
 
-lower_same : (case_sensitive : Bool) (m n text : List ℕ) → IsNamed case_sensitive m text → IsNamed case_sensitive n text → str_to_ascii_lowercase m ≡ str_to_ascii_lowercase n
+lower_same : (case_sensitive : Bool) (m n text : List ℕ) → IsNamed case_sensitive m text → IsNamed case_sensitive n text
+    → str_to_ascii_lowercase m ≡ str_to_ascii_lowercase n
 lower_same true m n text p q = ap str_to_ascii_lowercase (sym p ∙ q)
 lower_same false m n text p q = sym p ∙ q
 
@@ -104,7 +108,9 @@ record Told {A : Type 0} (name_of : A → List ℕ) (count : ℕ) : Type 0 where
 
 same_name : {A : Type 0} (case_sensitive : Bool) (name_of : A → List ℕ) (count : ℕ) → Told name_of count → IsUnique (IsNameOf case_sensitive name_of)
 same_name case_sensitive name_of count told a b x y v w p q e =
-    let long : length a ≡ length b = IsNamed-length case_sensitive (name_of v) a p ∙ told.length_is v ∙ sym (told.length_is w) ∙ sym (IsNamed-length case_sensitive (name_of w) b q) in
+    let long : length a ≡ length b =
+    IsNamed-length case_sensitive (name_of v) a p ∙ told.length_is v ∙ sym (told.length_is w)
+    ∙ sym (IsNamed-length case_sensitive (name_of w) b q) in
     let same = same_front a b x y long e in
     (same.1, told.apart v w (lower_same case_sensitive (name_of v) (name_of w) b (subst (IsNamed case_sensitive (name_of v)) same.0 p) q))
 
@@ -114,9 +120,14 @@ IsNameOf-unique case_sensitive name_of told a b x y v w p q e =
     let parts : (u : _) → take 3 (name_of u) ++ drop 3 (name_of u) ≡ name_of u = λ u. take-append-drop 3 (name_of u) in
     let first = IsNamed-parts case_sensitive (take 3 (name_of v)) (drop 3 (name_of v)) a (subst (λ n. IsNamed case_sensitive n a) (sym (parts v)) p) in
     let second = IsNamed-parts case_sensitive (take 3 (name_of w)) (drop 3 (name_of w)) b (subst (λ n. IsNamed case_sensitive n b) (sym (parts w)) q) in
-    let whole : first.front ++ (first.back ++ x) ≡ second.front ++ (second.back ++ y) = sym (append_assoc first.front first.back x) ∙ ap (λ u. u ++ x) (sym first.cut) ∙ e ∙ ap (λ u. u ++ y) second.cut ∙ append_assoc second.front second.back y in
-    let is : v ≡ w = (same_name case_sensitive (λ u. take 3 (name_of u)) 3 told first.front second.front (first.back ++ x) (second.back ++ y) v w first.first second.first whole).1 in
-    let long : length a ≡ length b = IsNamed-length case_sensitive (name_of v) a p ∙ ap (λ u. length (name_of u)) is ∙ sym (IsNamed-length case_sensitive (name_of w) b q) in
+    let whole : first.front ++ (first.back ++ x) ≡ second.front ++ (second.back ++ y) =
+    sym (append_assoc first.front first.back x) ∙ ap (λ u. u ++ x) (sym first.cut) ∙ e ∙ ap (λ u. u ++ y) second.cut
+    ∙ append_assoc second.front second.back y in
+    let is : v ≡ w = (same_name case_sensitive (λ u. take 3 (name_of u)) 3 told first.front second.front (first.back ++ x)
+    (second.back ++ y) v w first.first second.first whole).1 in
+    let long : length a ≡ length b =
+    IsNamed-length case_sensitive (name_of v) a p ∙ ap (λ u. length (name_of u)) is
+    ∙ sym (IsNamed-length case_sensitive (name_of w) b q) in
     ((same_front a b x y long e).1, is)
 
 months_told : Told (λ m. take 3 (month_name m)) 3
@@ -173,14 +184,22 @@ two_places-unique says padding = Says-unique says (IsPaddedRun padding 2 2) (IsP
 -- two texts with one rest of the input each spell one value, and leave one rest
 pub Spells-unique : (whole : Bool) (c : Component) → IsUnique (Spells whole c)
 Spells-unique whole (component.Day m) = Says-unique number (IsPositiveRun m.padding 2) (IsPositiveRun-unique m.padding 2)
-Spells-unique whole (component.MonthShort m) = Says-unique month (IsShortOf m.case_sensitive month_name) (same_name m.case_sensitive (λ v. take 3 (month_name v)) 3 months_told)
-Spells-unique whole (component.MonthLong m) = Says-unique month (IsNameOf m.case_sensitive month_name) (IsNameOf-unique m.case_sensitive month_name months_told)
-Spells-unique whole (component.MonthNumerical m) = Says-unique month (IsNumberOf m.padding month_number) (IsNumberOf-unique m.padding month_number month_number-one)
+Spells-unique whole (component.MonthShort m) =
+    Says-unique month (IsShortOf m.case_sensitive month_name) (same_name m.case_sensitive (λ v. take 3 (month_name v)) 3 months_told)
+Spells-unique whole (component.MonthLong m) =
+    Says-unique month (IsNameOf m.case_sensitive month_name) (IsNameOf-unique m.case_sensitive month_name months_told)
+Spells-unique whole (component.MonthNumerical m) =
+    Says-unique month (IsNumberOf m.padding month_number) (IsNumberOf-unique m.padding month_number month_number-one)
 Spells-unique whole (component.Ordinal m) = Says-unique number (IsPositiveRun m.padding 3) (IsPositiveRun-unique m.padding 3)
-Spells-unique whole (component.WeekdayShort m) = Says-unique weekday (IsShortOf m.case_sensitive weekday_name) (same_name m.case_sensitive (λ v. take 3 (weekday_name v)) 3 weekdays_told)
-Spells-unique whole (component.WeekdayLong m) = Says-unique weekday (IsNameOf m.case_sensitive weekday_name) (IsNameOf-unique m.case_sensitive weekday_name weekdays_told)
-Spells-unique whole (component.WeekdaySunday m) = Says-unique weekday (IsDigitOf m.one_indexed days_from_sunday) (IsDigitOf-unique m.one_indexed days_from_sunday days_from_sunday-one)
-Spells-unique whole (component.WeekdayMonday m) = Says-unique weekday (IsDigitOf m.one_indexed days_from_monday) (IsDigitOf-unique m.one_indexed days_from_monday days_from_monday-one)
+Spells-unique whole (component.WeekdayShort m) =
+    Says-unique weekday (IsShortOf m.case_sensitive weekday_name)
+    (same_name m.case_sensitive (λ v. take 3 (weekday_name v)) 3 weekdays_told)
+Spells-unique whole (component.WeekdayLong m) =
+    Says-unique weekday (IsNameOf m.case_sensitive weekday_name) (IsNameOf-unique m.case_sensitive weekday_name weekdays_told)
+Spells-unique whole (component.WeekdaySunday m) =
+    Says-unique weekday (IsDigitOf m.one_indexed days_from_sunday) (IsDigitOf-unique m.one_indexed days_from_sunday days_from_sunday-one)
+Spells-unique whole (component.WeekdayMonday m) =
+    Says-unique weekday (IsDigitOf m.one_indexed days_from_monday) (IsDigitOf-unique m.one_indexed days_from_monday days_from_monday-one)
 Spells-unique whole (component.WeekNumberIso m) = two_places-unique number m.padding
 Spells-unique whole (component.WeekNumberSunday m) = two_places-unique number m.padding
 Spells-unique whole (component.WeekNumberMonday m) = two_places-unique number m.padding
@@ -197,9 +216,13 @@ Spells-unique whole (component.IsoYearLastTwo m) = two_places-unique number m.pa
 Spells-unique whole (component.Hour12 m) = two_places-unique number m.padding
 Spells-unique whole (component.Hour24 m) = two_places-unique number m.padding
 Spells-unique whole (component.Minute m) = two_places-unique number m.padding
-Spells-unique whole (component.Period m) = Says-unique period (IsNameOf m.case_sensitive (period_name m.is_uppercase)) (same_name m.case_sensitive (period_name m.is_uppercase) 2 (periods_told m.is_uppercase))
+Spells-unique whole (component.Period m) =
+    Says-unique period (IsNameOf m.case_sensitive (period_name m.is_uppercase))
+    (same_name m.case_sensitive (period_name m.is_uppercase) 2 (periods_told m.is_uppercase))
 Spells-unique whole (component.Second m) = two_places-unique number m.padding
-Spells-unique whole (component.Subsecond m) = Says-unique number (IsFractionRun (least_digits m.digits) (most_digits m.digits)) (IsFractionRun-unique (least_digits m.digits) (most_digits m.digits))
+Spells-unique whole (component.Subsecond m) =
+    Says-unique number (IsFractionRun (least_digits m.digits) (most_digits m.digits))
+    (IsFractionRun-unique (least_digits m.digits) (most_digits m.digits))
 Spells-unique whole (component.OffsetHour m) = signed_run-unique flagged_value m.sign_is_mandatory m.padding m.padding 2 2 2 2 (omega arith)
 Spells-unique whole (component.OffsetMinute m) = two_places-unique positive m.padding
 Spells-unique whole (component.OffsetSecond m) = two_places-unique positive m.padding

@@ -12,7 +12,8 @@ no_space : (x y : List ℕ) → x ≡ 32 ∷ y → NoSpaceFirst x → ⊥
 no_space x y e h = subst NoSpaceFirst e h refl
 
 -- Two paddings of one text are one, from `done` spaces on.
-one_padding : (k j : ℕ) (x y : List ℕ) (done most : ℕ) → replicate k 32 ++ x ≡ replicate j 32 ++ y → done + k ≤ most → done + j ≤ most → (done + k ≡ most) ⊎ NoSpaceFirst x → (done + j ≡ most) ⊎ NoSpaceFirst y → (k ≡ j) × (x ≡ y)
+one_padding : (k j : ℕ) (x y : List ℕ) (done most : ℕ) → replicate k 32 ++ x ≡ replicate j 32 ++ y → done + k ≤ most → done + j ≤ most
+    → (done + k ≡ most) ⊎ NoSpaceFirst x → (done + j ≡ most) ⊎ NoSpaceFirst y → (k ≡ j) × (x ≡ y)
 one_padding zero zero x y n m e lk lj ek ej = (refl, e)
 one_padding zero (suc j) x y n m e lk lj (inl all) ej = absurd (omega arith)
 one_padding zero (suc j) x y n m e lk lj (inr ends) ej = absurd (no_space x (replicate j 32 ++ y) e ends)
@@ -26,14 +27,19 @@ one_padding (suc k) (suc j) x y n m e lk lj ek ej =
     (ap suc is.0, is.1)
 
 -- the spaces of a padded text are as many as stand there
-spaces_same : (least most : ℕ) (s tail text rest : List ℕ) (k v : ℕ) → s ≡ replicate k 32 ++ tail → k ≤ least - 1 → (k ≡ least - 1) ⊎ NoSpaceFirst tail → s ≡ text ++ rest → (run : IsSpacedRun least most text rest v) → (k ≡ run.spaces) × (tail ≡ run.digits ++ rest)
+spaces_same : (least most : ℕ) (s tail text rest : List ℕ) (k v : ℕ) → s ≡ replicate k 32 ++ tail → k ≤ least - 1
+    → (k ≡ least - 1) ⊎ NoSpaceFirst tail → s ≡ text ++ rest → (run : IsSpacedRun least most text rest v)
+    → (k ≡ run.spaces) × (tail ≡ run.digits ++ rest)
 spaces_same least most s tail text rest k v cut few all e run =
-    let whole : s ≡ replicate run.spaces 32 ++ (run.digits ++ rest) = e ∙ ap (λ t. t ++ rest) run.cut ∙ append_assoc (replicate run.spaces 32) run.digits rest in
+    let whole : s ≡ replicate run.spaces 32 ++ (run.digits ++ rest) =
+    e ∙ ap (λ t. t ++ rest) run.cut ∙ append_assoc (replicate run.spaces 32) run.digits rest in
     let here : (0 + k ≡ least - 1) ⊎ NoSpaceFirst tail = elim all [ inl q ↦ inl (omega arith) | inr q ↦ inr q ] in
     let there : (0 + run.spaces ≡ least - 1) ⊎ NoSpaceFirst (run.digits ++ rest) = elim run.all [ inl q ↦ inl (omega arith) | inr q ↦ inr q ] in
     one_padding k run.spaces tail (run.digits ++ rest) 0 (least - 1) (sym cut ∙ whole) (omega arith) (omega (arith, run.few)) here there
 
-spaced_cut : (greatest least most k : ℕ) (s tail rest : List ℕ) (v : ℕ) → s ≡ replicate k 32 ++ tail → k ≤ least - 1 → (k ≡ least - 1) ⊎ NoSpaceFirst tail → Cut (IsDigitRunUpTo greatest (least - k) (most - k)) tail rest v → Cut (IsPaddedRunUpTo greatest padding.Space least most) s rest v
+spaced_cut : (greatest least most k : ℕ) (s tail rest : List ℕ) (v : ℕ) → s ≡ replicate k 32 ++ tail → k ≤ least - 1
+    → (k ≡ least - 1) ⊎ NoSpaceFirst tail → Cut (IsDigitRunUpTo greatest (least - k) (most - k)) tail rest v
+    → Cut (IsPaddedRunUpTo greatest padding.Space least most) s rest v
 spaced_cut greatest least most k s tail rest v cut few all found = (
   replicate k 32 ++ found.0,
   cut ∙ ap (λ t. replicate k 32 ++ t) found.1 ∙ sym (append_assoc (replicate k 32) found.0 rest),
@@ -50,7 +56,9 @@ spaced_cut greatest least most k s tail rest v cut few all found = (
   ),
 )
 
-spaced_none : (greatest least most k : ℕ) (s tail : List ℕ) → s ≡ replicate k 32 ++ tail → k ≤ least - 1 → (k ≡ least - 1) ⊎ NoSpaceFirst tail → NoCut (IsDigitRunUpTo greatest (least - k) (most - k)) tail → NoCut (IsPaddedRunUpTo greatest padding.Space least most) s
+spaced_none : (greatest least most k : ℕ) (s tail : List ℕ) → s ≡ replicate k 32 ++ tail → k ≤ least - 1
+    → (k ≡ least - 1) ⊎ NoSpaceFirst tail → NoCut (IsDigitRunUpTo greatest (least - k) (most - k)) tail
+    → NoCut (IsPaddedRunUpTo greatest padding.Space least most) s
 spaced_none greatest least most k s tail cut few all none text rest v e (run, small) =
     let same = spaces_same least most s tail text rest k v cut few all e run in
     none run.digits rest v same.1 (subst (λ n. IsDigitRun (least - n) (most - n) run.digits rest v) (sym same.0) run.run, small)

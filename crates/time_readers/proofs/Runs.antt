@@ -20,7 +20,8 @@ pub digits_value-push : (xs : List ℕ) (c : ℕ) → digits_value (xs ++ c ∷ 
 digits_value-push [] c = omega arith
 digits_value-push (x ∷ xs) c =
     let one_more : length (xs ++ c ∷ []) ≡ suc (length xs) = omega (arith, length-append xs (c ∷ [])) in
-    let place : (x - 48) * 10 ^ length (xs ++ c ∷ []) ≡ 10 * ((x - 48) * 10 ^ length xs) = ap (λ n. (x - 48) * 10 ^ n) one_more ∙ ap (λ p. (x - 48) * p) (pow_next (length xs)) ∙ ten_times (x - 48) (10 ^ length xs) in
+    let place : (x - 48) * 10 ^ length (xs ++ c ∷ []) ≡ 10 * ((x - 48) * 10 ^ length xs) =
+    ap (λ n. (x - 48) * 10 ^ n) one_more ∙ ap (λ p. (x - 48) * p) (pow_next (length xs)) ∙ ten_times (x - 48) (10 ^ length xs) in
     let others = digits_value-push xs c in
     omega arith
 
@@ -75,14 +76,15 @@ pub digits_value-fits : (s : List ℕ) (count places greatest : ℕ) → AllDigi
 digits_value-fits s count places greatest all h room few =
     let l : length (take count s) ≡ count = length-take-le count s (omega arith) in
     let below : digits_value (take count s) < 10 ^ count =
-        subst (λ n. digits_value (take count s) < 10 ^ n) l (digits_value-below (take count s) (AllDigits-take count s all)) in
+    subst (λ n. digits_value (take count s) < 10 ^ n) l (digits_value-below (take count s) (AllDigits-take count s all)) in
     let nine = AllDigits-at s count all h in
     let place = pow-suc 10 count in
     let wide = pow-mono (suc count) (places - 1) (omega arith) in
     omega arith
 
 -- Two runs of digits in one text end at one place, from `done` digits on.
-one_end : (a b x y : List ℕ) (done most : ℕ) → AllDigits a → AllDigits b → a ++ x ≡ b ++ y → done + length a ≤ most → done + length b ≤ most → (done + length a ≡ most) ⊎ NoDigitFirst x → (done + length b ≡ most) ⊎ NoDigitFirst y → (a ≡ b) × (x ≡ y)
+one_end : (a b x y : List ℕ) (done most : ℕ) → AllDigits a → AllDigits b → a ++ x ≡ b ++ y → done + length a ≤ most → done + length b ≤ most
+    → (done + length a ≡ most) ⊎ NoDigitFirst x → (done + length b ≡ most) ⊎ NoDigitFirst y → (a ≡ b) × (x ≡ y)
 one_end [] [] x y n m da db e la lb ea eb = (refl, e)
 one_end [] (d ∷ b) x y n m da db e la lb (inl all) eb = absurd (omega arith)
 one_end [] (d ∷ b) x y n m da db e la lb (inr ends) eb = absurd (subst NoDigitFirst e ends db.0)
@@ -102,7 +104,8 @@ pub AllDigits-unique : (a b x y : List ℕ) → AllDigits a → AllDigits b → 
 AllDigits-unique a b x y p q e ends ends' = one_end a b x y 0 (length a + length b) p q e (omega arith) (omega arith) (inr ends) (inr ends')
 
 -- at most one cut of a text is a run
-pub IsDigitRun-unique : (least least' most : ℕ) (a b x y : List ℕ) (v w : ℕ) → IsDigitRun least most a x v → IsDigitRun least' most b y w → a ++ x ≡ b ++ y → (a ≡ b) × (x ≡ y) × (v ≡ w)
+pub IsDigitRun-unique : (least least' most : ℕ) (a b x y : List ℕ) (v w : ℕ) → IsDigitRun least most a x v → IsDigitRun least' most b y w
+    → a ++ x ≡ b ++ y → (a ≡ b) × (x ≡ y) × (v ≡ w)
 IsDigitRun-unique least least' most a b x y v w p q e =
     let ep : (0 + length a ≡ most) ⊎ NoDigitFirst x = elim p.ends [ inl h ↦ inl (omega arith) | inr h ↦ inr h ] in
     let eq : (0 + length b ≡ most) ⊎ NoDigitFirst y = elim q.ends [ inl h ↦ inl (omega arith) | inr h ↦ inr h ] in
@@ -153,14 +156,22 @@ IsDigitRun-below least most text rest value run =
     omega (arith, run.is)
 
 -- the value of a run in a text is one
-pub IsDigitRun-same : (least most : ℕ) (s rest : List ℕ) (value : ℕ) → Cut (IsDigitRun least most) s rest value → (text after : List ℕ) (v : ℕ) → s ≡ text ++ after → IsDigitRun least most text after v → v ≡ value
-IsDigitRun-same least most s rest value cut text after v e run = (IsDigitRun-unique least least most text cut.0 after rest v value run cut.2 (sym e ∙ cut.1)).2
+pub IsDigitRun-same : (least most : ℕ) (s rest : List ℕ) (value : ℕ) → Cut (IsDigitRun least most) s rest value
+    → (text after : List ℕ) (v : ℕ) → s ≡ text ++ after → IsDigitRun least most text after v → v ≡ value
+IsDigitRun-same least most s rest value cut text after v e run =
+    (IsDigitRun-unique least least most text cut.0 after rest v value run cut.2 (sym e ∙ cut.1)).2
 
 -- four digits that stand there
-pub IsDigitRun-four : (s : List ℕ) (value : ℕ) → 4 ≤ length s → IsDigit (get_or s 0 0) → IsDigit (get_or s 1 0) → IsDigit (get_or s 2 0) → IsDigit (get_or s 3 0) → value ≡ 1000 * (get_or s 0 0 - 48) + 100 * (get_or s 1 0 - 48) + 10 * (get_or s 2 0 - 48) + (get_or s 3 0 - 48) → Cut (IsDigitRun 4 4) s (take (length s - 4) (drop 4 s)) value
+pub IsDigitRun-four : (s : List ℕ) (value : ℕ) → 4 ≤ length s → IsDigit (get_or s 0 0) → IsDigit (get_or s 1 0)
+    → IsDigit (get_or s 2 0) → IsDigit (get_or s 3 0)
+    → value ≡ 1000 * (get_or s 0 0 - 48) + 100 * (get_or s 1 0 - 48) + 10 * (get_or s 2 0 - 48) + (get_or s 3 0 - 48)
+    → Cut (IsDigitRun 4 4) s (take (length s - 4) (drop 4 s)) value
 IsDigitRun-four [] value h i j k l e = absurd (omega arith)
 IsDigitRun-four (a ∷ []) value h i j k l e = absurd (omega arith)
 IsDigitRun-four (a ∷ b ∷ []) value h i j k l e = absurd (omega arith)
 IsDigitRun-four (a ∷ b ∷ c ∷ []) value h i j k l e = absurd (omega arith)
-IsDigitRun-four (a ∷ b ∷ c ∷ d ∷ s) value h i j k l e =
-    (a ∷ b ∷ c ∷ d ∷ [], ap (λ r. a ∷ b ∷ c ∷ d ∷ r) (sym (take-drop (a ∷ b ∷ c ∷ d ∷ s) 4 h)), record { digits = (i, (j, (k, (l, tt)))); enough = omega arith; within = omega arith; ends = inl refl; is = omega arith })
+IsDigitRun-four (a ∷ b ∷ c ∷ d ∷ s) value h i j k l e = (
+  a ∷ b ∷ c ∷ d ∷ [],
+  ap (λ r. a ∷ b ∷ c ∷ d ∷ r) (sym (take-drop (a ∷ b ∷ c ∷ d ∷ s) 4 h)),
+  record { digits = (i, (j, (k, (l, tt)))); enough = omega arith; within = omega arith; ends = inl refl; is = omega arith },
+)

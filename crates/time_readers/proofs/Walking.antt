@@ -8,7 +8,8 @@ unfolding Stand
 Walks-none A n bytes rest e = (e, refl)
 
 -- the first place stands, and the others answer
-pub Walks-more : {P N : Type 0} (A : Format P N) (p : P) (ps : List P) (n k m : N) (bytes mid : List ℕ) (result : Result (Bor (List ℕ)) P) → Cut (A p n) bytes mid k → Walks A ps k mid result m → Walks A (p ∷ ps) n bytes result m
+pub Walks-more : {P N : Type 0} (A : Format P N) (p : P) (ps : List P) (n k m : N) (bytes mid : List ℕ) (result : Result (Bor (List ℕ)) P)
+    → Cut (A p n) bytes mid k → Walks A ps k mid result m → Walks A (p ∷ ps) n bytes result m
 unfolding Stand
 Walks-more A p ps n k m bytes mid (Ok rest) first others = (mid, k, first, others)
 Walks-more A p ps n k m bytes mid (Err e) first others = record {
@@ -21,7 +22,8 @@ Walks-more A p ps n k m bytes mid (Err e) first others = record {
   stops = others.stops;
 }
 
-Walks-here : {P N : Type 0} (A : Format P N) (p : P) (ps : List P) (n m : N) (bytes : List ℕ) (e : P) → (e ≡ p) × NoCut (A p n) bytes → Walks A (p ∷ ps) n bytes (Err e) m
+Walks-here : {P N : Type 0} (A : Format P N) (p : P) (ps : List P) (n m : N) (bytes : List ℕ) (e : P) → (e ≡ p) × NoCut (A p n) bytes
+    → Walks A (p ∷ ps) n bytes (Err e) m
 unfolding Stand
 Walks-here A p ps n m bytes e (same, stops) = subst (λ q. Walks A (p ∷ ps) n bytes (Err q) m) (sym same) (record {
   before = [];
@@ -34,31 +36,37 @@ Walks-here A p ps n m bytes e (same, stops) = subst (λ q. Walks A (p ∷ ps) n 
 })
 
 -- the first place doesn't stand, and `?` hands that on
-pub Walks-stop : {P N : Type 0} (A : Format P N) (p : P) (ps : List P) (n m : N) (bytes : List ℕ) (result : Result (Bor (List ℕ)) P) (e : P) → IsErr result × IsErrAnd result (λ x. x ≡ e) → (e ≡ p) × NoCut (A p n) bytes → Walks A (p ∷ ps) n bytes result m
+pub Walks-stop : {P N : Type 0} (A : Format P N) (p : P) (ps : List P) (n m : N) (bytes : List ℕ) (result : Result (Bor (List ℕ)) P) (e : P)
+    → IsErr result × IsErrAnd result (λ x. x ≡ e) → (e ≡ p) × NoCut (A p n) bytes → Walks A (p ∷ ps) n bytes result m
 Walks-stop A p ps n m bytes (Ok rest) e by stops = let h = by.0 in cc
 Walks-stop A p ps n m bytes (Err x) e by stops = Walks-here A p ps n m bytes x (by.1 ∙ stops.0, stops.1)
 
 -- the last place answers
-pub Walks-last : {P N : Type 0} (A : Format P N) (p : P) (n m : N) (bytes : List ℕ) (result : Result (Bor (List ℕ)) P) → Steps A p n bytes result m → Walks A (p ∷ []) n bytes result m
+pub Walks-last : {P N : Type 0} (A : Format P N) (p : P) (n m : N) (bytes : List ℕ) (result : Result (Bor (List ℕ)) P)
+    → Steps A p n bytes result m → Walks A (p ∷ []) n bytes result m
 unfolding Stand
 Walks-last A p n m bytes (Ok rest) step = (rest.now, m, step, (refl, refl))
 Walks-last A p n m bytes (Err e) step = Walks-here A p [] n m bytes e step
 
 -- the first place is one byte that says nothing
-pub Walks-byte : {P N : Type 0} (A : Format P N) (p : P) (ps : List P) (n m : N) (bytes mid : List ℕ) (result : Result (Bor (List ℕ)) P) (c : ℕ) → bytes ≡ c ∷ mid → A p n (c ∷ []) mid n → Walks A ps n mid result m → Walks A (p ∷ ps) n bytes result m
+pub Walks-byte : {P N : Type 0} (A : Format P N) (p : P) (ps : List P) (n m : N) (bytes mid : List ℕ) (result : Result (Bor (List ℕ)) P)
+    (c : ℕ) → bytes ≡ c ∷ mid → A p n (c ∷ []) mid n → Walks A ps n mid result m → Walks A (p ∷ ps) n bytes result m
 Walks-byte A p ps n m bytes mid result c cut asks others = Walks-more A p ps n n m bytes mid result (c ∷ [], cut, asks) others
 
-pub NoCut-byte : {N : Type 0} (Q : Form N) (c : ℕ) (bytes : List ℕ) → ((rest : List ℕ) → bytes ≡ c ∷ rest → ⊥) → ((text after : List ℕ) (m : N) → Q text after m → text ≡ c ∷ []) → NoCut Q bytes
+pub NoCut-byte : {N : Type 0} (Q : Form N) (c : ℕ) (bytes : List ℕ) → ((rest : List ℕ) → bytes ≡ c ∷ rest → ⊥)
+    → ((text after : List ℕ) (m : N) → Q text after m → text ≡ c ∷ []) → NoCut Q bytes
 NoCut-byte Q c bytes none asks text rest m e q = none rest (e ∙ ap (λ t. t ++ rest) (asks text rest m q))
 
 -- the first places stand, and then the others
-pub Stand-append : {P N : Type 0} (A : Format P N) (ps qs : List P) (n k m : N) (bytes mid rest : List ℕ) → Stand A ps n bytes mid k → Stand A qs k mid rest m → Stand A (ps ++ qs) n bytes rest m
+pub Stand-append : {P N : Type 0} (A : Format P N) (ps qs : List P) (n k m : N) (bytes mid rest : List ℕ) → Stand A ps n bytes mid k
+    → Stand A qs k mid rest m → Stand A (ps ++ qs) n bytes rest m
 unfolding Stand
 Stand-append A [] qs n k m bytes mid rest first others = subst (λ b. Stand A qs n b rest m) first.0 (subst (λ x. Stand A qs x mid rest m) first.1 others)
 Stand-append A (p ∷ ps) qs n k m bytes mid rest first others = (first.0, first.1, first.2, Stand-append A ps qs first.1 k m first.0 mid rest first.3 others)
 
 -- the first places stand, and not all of the others
-pub StopsAt-after : {P N : Type 0} (A : Format P N) (ps qs : List P) (n k : N) (bytes mid : List ℕ) (e : P) → Stand A ps n bytes mid k → StopsAt A qs k mid e → StopsAt A (ps ++ qs) n bytes e
+pub StopsAt-after : {P N : Type 0} (A : Format P N) (ps qs : List P) (n k : N) (bytes mid : List ℕ) (e : P) → Stand A ps n bytes mid k
+    → StopsAt A qs k mid e → StopsAt A (ps ++ qs) n bytes e
 StopsAt-after A ps qs n k bytes mid e first others = record {
   before = ps ++ others.before;
   after = others.after;
@@ -82,12 +90,15 @@ StopsAt-append A ps qs n bytes e w = record {
 }
 
 -- not all of the first places stand, and `?` hands that on
-pub StopsAt-by : {P N : Type 0} (A : Format P N) (ps qs : List P) (n : N) (bytes : List ℕ) {V : Type 0} (result : Result V P) (e : P) (Q : V → Type 0) → IsErr result × IsErrAnd result (λ x. x ≡ e) → StopsAt A ps n bytes e → MatchResult result Q (λ x. StopsAt A (ps ++ qs) n bytes x)
+pub StopsAt-by : {P N : Type 0} (A : Format P N) (ps qs : List P) (n : N) (bytes : List ℕ) {V : Type 0} (result : Result V P) (e : P)
+    (Q : V → Type 0) → IsErr result × IsErrAnd result (λ x. x ≡ e) → StopsAt A ps n bytes e
+    → MatchResult result Q (λ x. StopsAt A (ps ++ qs) n bytes x)
 StopsAt-by A ps qs n bytes (Ok v) e Q by stops = let h = by.0 in cc
 StopsAt-by A ps qs n bytes (Err x) e Q by stops = subst (λ y. StopsAt A (ps ++ qs) n bytes y) (sym by.1) (StopsAt-append A ps qs n bytes e stops)
 
 -- places that stand, cut in two
-pub Stand-split : {P N : Type 0} (A : Format P N) (ps qs : List P) (n m : N) (bytes rest : List ℕ) → Stand A (ps ++ qs) n bytes rest m → (mid : List ℕ) × ((k : N) × Stand A ps n bytes mid k × Stand A qs k mid rest m)
+pub Stand-split : {P N : Type 0} (A : Format P N) (ps qs : List P) (n m : N) (bytes rest : List ℕ) → Stand A (ps ++ qs) n bytes rest m
+    → (mid : List ℕ) × ((k : N) × Stand A ps n bytes mid k × Stand A qs k mid rest m)
 unfolding Stand
 Stand-split A [] qs n m bytes rest s = (bytes, (n, (refl, refl), s))
 Stand-split A (p ∷ ps) qs n m bytes rest s =

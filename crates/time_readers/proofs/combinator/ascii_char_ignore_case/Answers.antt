@@ -9,5 +9,8 @@ same_letter answer a b is same = let test : eq_ignore_ascii_case a b ≡ true = 
 
 pub returns-in-len1-up : goal.returns-in-len1-up
 returns-in-len1-up g c =
-    let s = c.args.input.now in
-    (get_or s 0 0 ∷ [], first_byte s c.in-len1-up.len_at_least, (get_or s 0 0, refl, same_letter _ (get_or s 0 0) g.row.C c.eq_ignore_ascii_case.ensures c.if-eq_ignore_ascii_case.true))
+    let s = c.args.input.now in (
+      get_or s 0 0 ∷ [],
+      first_byte s c.in-len1-up.len_at_least,
+      (get_or s 0 0, refl, same_letter _ (get_or s 0 0) g.row.C c.eq_ignore_ascii_case.ensures c.if-eq_ignore_ascii_case.true),
+    )

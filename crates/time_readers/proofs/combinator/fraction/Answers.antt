@@ -7,8 +7,10 @@ returns-in_default c = fraction_none c.args.input.now 4294967295 (omega arith) c
 
 pub overflow_mul-nanoseconds : goal.overflow_mul-nanoseconds
 overflow_mul-nanoseconds c =
-    let most = fraction_fits c.args.input.now c.in-Some.found.0.now c.in-Some.found.1 c.nanoseconds_of_place.result 4294967295 c.in-Some.ensures c.nanoseconds_of_place.ensures in
+    let most = fraction_fits c.args.input.now c.in-Some.found.0.now c.in-Some.found.1 c.nanoseconds_of_place.result 4294967295
+    c.in-Some.ensures c.nanoseconds_of_place.ensures in
     omega arith
 
 pub returns : goal.returns
-returns c = fraction_cut c.args.input.now c.in-Some.found.0.now c.without_digits.result.now c.in-Some.found.1 c.nanoseconds_of_place.result 4294967295 c.in-Some.ensures c.nanoseconds_of_place.ensures c.without_digits.ensures
+returns c = fraction_cut c.args.input.now c.in-Some.found.0.now c.without_digits.result.now c.in-Some.found.1 c.nanoseconds_of_place.result
+    4294967295 c.in-Some.ensures c.nanoseconds_of_place.ensures c.without_digits.ensures

@@ -9,4 +9,5 @@ returns-in-Space g c =
     let k = c.leading_spaces-spaces.result in
     let spaces = c.leading_spaces-spaces.ensures in
     let found = rw (c.from-least.ensures, c.from-most.ensures, take-drop s k spaces.in_range) at c.digit_run-in-Space.ensures in
-    rw c.in-Space.is (after_spaces g.T.Integer.value g.T.Integer.greatest g.row.N g.row.M k s (drop k s) c.digit_run-in-Space.result spaces.spaces (omega arith) (rw c.from-least.ensures at spaces.all) found)
+    rw c.in-Space.is (after_spaces g.T.Integer.value g.T.Integer.greatest g.row.N g.row.M k s
+    (drop k s) c.digit_run-in-Space.result spaces.spaces (omega arith) (rw c.from-least.ensures at spaces.all) found)

@@ -15,7 +15,7 @@ push_digit-value-requires-clause-fits g c =
     let places = g.T.Integer.MAX_NUM_DIGITS in
     let few : c.loop-count.count + 1 < places = omega arith in
     let fits = digits_value-fits c.args.digits.now c.loop-count.count places g.T.Integer.greatest c.requires.all
-        c.loop-count-test.true g.met.T.Integer.room few in
+    c.loop-count-test.true g.met.T.Integer.room few in
     omega (arith, c.loop-count.invariant.is)
 
 pub loop-count-preserved-then-count-from : goal.loop-count-preserved-then-count-from
@@ -23,7 +23,7 @@ loop-count-preserved-then-count-from g c =
     let places = g.T.Integer.MAX_NUM_DIGITS in
     let few : c.loop-count.count + 1 < places = omega arith in
     let fits = digits_value-fits c.args.digits.now c.loop-count.count places g.T.Integer.greatest c.requires.all
-        c.loop-count-test.true g.met.T.Integer.room few in
+    c.loop-count-test.true g.met.T.Integer.room few in
     let more = digits_value-more c.args.digits.now c.loop-count.count c.loop-count-test.true in
     record {
       in_range = omega arith;

@@ -5,7 +5,12 @@ use Rattle.time_readers.proofs.ReaderLemmas.{no_number, month_number-positive, m
 use Rattle.time_readers.proofs.component.parse_month_numerical.Goals as goal
 
 pub returns-in_err-new : goal.returns-in_err-new
-returns-in_err-new c = rw c.from_residual-in_err-new.ensures (no_number month month_number c.args.modifiers.padding c.args.input.now c.in_ok-number.number.0.now c.in_ok-number.number.1 (λ m e. let none = c.in_err-new.ensures in let some = month_number-positive m in omega arith) c.in_ok-number.ensures)
+returns-in_err-new c = rw c.from_residual-in_err-new.ensures
+    (no_number month month_number c.args.modifiers.padding c.args.input.now c.in_ok-number.number.0.now c.in_ok-number.number.1
+    (λ m e. let none = c.in_err-new.ensures in let some = month_number-positive m in omega arith) c.in_ok-number.ensures)
 
 pub returns-in-Err : goal.returns-in-Err
-returns-in-Err c = no_number month month_number c.args.modifiers.padding c.args.input.now c.in_ok-number.number.0.now c.in_ok-number.number.1 (λ m e. let h = c.in_ok-new.ensures in month_refused _ c.in_ok-new.field-0.value _ c.in-Err.ensures m (e ∙ sym h)) c.in_ok-number.ensures
+returns-in-Err c = no_number month month_number c.args.modifiers.padding c.args.input.now c.in_ok-number.number.0.now
+    c.in_ok-number.number.1
+    (λ m e. month_refused _ c.in_ok-new.field-0.value _ c.in-Err.ensures m (e ∙ sym c.in_ok-new.ensures))
+    c.in_ok-number.ensures

@@ -20,7 +20,11 @@ colon_form utc is = subst (λ b. IsOffsetColon b (58 ∷ [])) (sym is) refl
 pub returns-in_err-rest-2 : goal.returns-in_err-rest-2
 returns-in_err-rest-2 g c =
     Walks-more _ _ _ _ _ _ _ _ _ c.in_ok-rest.ensures
-    (Walks-stop _ _ _ _ _ _ _ _ c.from_residual-in_err-rest-2.ensures (c.in_err-rest-2.ensures.0, NoCut-byte _ 58 _ c.in_err-rest-2.ensures.1 (λ text after m asks. colon_is _ text c.if-numbers.false asks.0)))
+    (Walks-stop _ _ _ _ _ _ _ _ c.from_residual-in_err-rest-2.ensures (
+      c.in_err-rest-2.ensures.0,
+      NoCut-byte _ 58 _ c.in_err-rest-2.ensures.1
+          (λ text after m asks. colon_is _ text c.if-numbers.false asks.0),
+    ))
 
 pub returns : goal.returns
 returns g c =

@@ -15,11 +15,15 @@ returns-in_default g c = ([], refl, (None, (refl, no_point c.args.input.now c.in
 pub returns-in-Some-fraction : goal.returns-in-Some-fraction
 returns-in-Some-fraction g c =
     let point = c.in-Some.ensures in
-    let found = c.in-Some-fraction.ensures in
-    (46 ∷ found.0, point.1 ∙ ap (λ t. t ++ c.in-Some.point.0.now) point.2 ∙ ap (λ r. 46 ∷ r) found.1, (Some c.in-Some-fraction.found.1, (found.0, refl, found.2), refl))
+    let found = c.in-Some-fraction.ensures in (
+      46 ∷ found.0,
+      point.1 ∙ ap (λ t. t ++ c.in-Some.point.0.now) point.2 ∙ ap (λ r. 46 ∷ r) found.1,
+      (Some c.in-Some-fraction.found.1, (found.0, refl, found.2), refl),
+    )
 
 no_fraction : (s digits text rest : List ℕ) (v : Option ℕ) → s ≡ 46 ∷ digits → NoCut IsFraction digits → s ≡ text ++ rest → IsSubsecond text rest v → ⊥
-no_fraction s digits text [] None e none cut (is, point) = let f : 46 ∷ digits ≡ text ++ [] = sym e ∙ cut in let h : 46 ∷ digits ≡ [] = f ∙ ap (λ t. t ++ []) is in cc
+no_fraction s digits text [] None e none cut (is, point) = let f : 46 ∷ digits ≡ text ++ [] = sym e ∙ cut in let h : 46 ∷ digits ≡ [] =
+    f ∙ ap (λ t. t ++ []) is in cc
 no_fraction s digits text (c ∷ rest) None e none cut (is, point) = let f : 46 ∷ digits ≡ c ∷ rest = sym e ∙ cut ∙ ap (λ t. t ++ c ∷ rest) is in point (cc)
 no_fraction s digits text rest (Some v) e none cut form =
     let f : 46 ∷ digits ≡ 46 ∷ (form.0 ++ rest) = sym e ∙ cut ∙ ap (λ t. t ++ rest) form.1 in
@@ -27,5 +31,8 @@ no_fraction s digits text rest (Some v) e none cut form =
 
 pub returns-in-None : goal.returns-in-None
 returns-in-None g c =
-    let point = c.in-Some.ensures in
-    (refl, λ text rest m e asks. no_fraction c.args.input.now c.in-Some.point.0.now text rest asks.0 (point.1 ∙ ap (λ t. t ++ c.in-Some.point.0.now) point.2) c.in-None.ensures e asks.1)
+    let point = c.in-Some.ensures in (
+      refl,
+      λ text rest m e asks. no_fraction c.args.input.now c.in-Some.point.0.now text rest asks.0
+          (point.1 ∙ ap (λ t. t ++ c.in-Some.point.0.now) point.2) c.in-None.ensures e asks.1,
+    )

@@ -1,6 +1,5 @@
 pub mod CutLemmas
 pub mod EachValue
-pub mod FractionLemmas
 pub mod Fractions
 pub mod Keeping
 pub mod NameLemmas

@@ -3,7 +3,7 @@ use Rattle.time_readers.proofs.Fractions.{fraction_none, fraction_fits, fraction
 use Rattle.time_readers.proofs.combinator.fraction.Goals as goal
 
 pub returns-in_default : goal.returns-in_default
-returns-in_default c = fraction_none c.args.input.now 4294967295 (omega arith) c.in_default.ensures
+returns-in_default c = fraction_none 4294967295 c.args.input.now (omega arith) c.in_default.ensures
 
 pub overflow_mul-nanoseconds : goal.overflow_mul-nanoseconds
 overflow_mul-nanoseconds c =

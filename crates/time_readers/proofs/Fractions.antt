@@ -88,7 +88,7 @@ read_more : (s text more rest : List ℕ) (value unit : ℕ) → s ≡ text ++ (
     → AllDigits more → unit ≡ 10 ^ (9 - (length s - length (more ++ rest))) → IsRead text more (value * unit)
 read_more s text more rest value unit e run all worth =
     let ended : (length text ≡ 9) ⊎ (length more ≡ 0) =
-        elim run.ends [ inl nine ↦ inl nine | inr none ↦ inr (no_more more rest all none) ] in
+    elim run.ends [ inl nine ↦ inl nine | inr none ↦ inr (no_more more rest all none) ] in
     let count = read_count s text (more ++ rest) e in
     record {
       digits = AllDigits-append text more run.digits all;
@@ -150,7 +150,7 @@ no_digits greatest s text rest room none e all enough ends =
     let small = pow-mono (length nine) 9 within in
     let below = digits_value-below nine digits in
     let cut : s ≡ nine ++ (drop 9 text ++ rest) =
-        e ∙ ap (λ t. t ++ rest) (sym (take-append-drop 9 text)) ∙ append_assoc nine (drop 9 text) rest in
+    e ∙ ap (λ t. t ++ rest) (sym (take-append-drop 9 text)) ∙ append_assoc nine (drop 9 text) rest in
     let over : (length nine ≡ 9) ⊎ NoDigitFirst (drop 9 text ++ rest) = elim (cases_lt (length text) 9) [
       | inl short ↦ elim ends [
         | inl long ↦ absurd (omega arith)
@@ -159,7 +159,7 @@ no_digits greatest s text rest room none e all enough ends =
       | inr long ↦ inl (omega arith)
     ] in
     let run : IsDigitRun 1 9 nine (drop 9 text ++ rest) (digits_value nine) =
-        record { digits = digits; enough = omega arith; within = within; ends = over; is = refl } in
+    record { digits = digits; enough = omega arith; within = within; ends = over; is = refl } in
     none nine (drop 9 text ++ rest) (digits_value nine) cut (run, omega arith)
 
 pub fraction_none : (greatest : ℕ) (s : List ℕ) → 10 ^ 9 ≤ greatest + 1 → NoCut (IsDigitRunUpTo greatest 1 9) s → NoCut IsFraction s

@@ -1,7 +1,7 @@
 //! Readers of signs, digits and single bytes.
 //!
 //! Each answers the unread rest and the value exactly where its input begins with such a text, and `None`
-//! else. A run of digits takes as many as it may, and nothing goes back.
+//! otherwise. A run of digits takes as many as it may, and nothing goes back.
 ghost use Rattle.std.specs.Prelude.{◌≡◌, ◌-◌, ◌^◌, ◌<◌, ◌≤◌, ◌⊎◌, ℕ, List, ◌++◌, MatchOption, IsTrue, ◌↔◌, length, take, drop, replicate};
 ghost use Rattle.time_readers.specs.Cuts.{Finds};
 ghost use Rattle.time_readers.specs.Digits.{IsDigit, AllDigits, digits_value, NoDigitFirst, NoSpaceFirst, IsDigitRun, IsDigitRunUpTo, IsPaddedRunUpTo, IsFraction};

@@ -1,7 +1,7 @@
 //! Readers of the components, one for each variant of [`Component`](crate::Component).
 //!
 //! A reader answers what is left of its input and a value, exactly where a beginning of the input
-//! spells that value, and `None` else. A run of digits takes as many as it may, and nothing goes
+//! spells that value, and `None` otherwise. A run of digits takes as many as it may, and nothing goes
 //! back.
 ghost use Rattle.std.specs.Prelude.{false};
 ghost use Rattle.time_readers.specs.Cuts.{Finds};

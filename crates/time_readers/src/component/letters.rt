@@ -51,7 +51,7 @@ pub(super) fn weekday_from_monday(days: u8) -> Weekday
     }
 }
 
-// Reads two bytes: as they stand where the case matters, and else as small letters.
+// Reads two bytes: as they stand where the case matters, and otherwise as small letters.
 #[inline]
 pub(super) fn two_letters(input: &[u8], case_sensitive: bool) -> Option<ParsedItem<'_, [u8; 2]>>
     ensures { Finds (IsLetters case_sensitive) (λ v. v) input.now result }
@@ -62,7 +62,7 @@ pub(super) fn two_letters(input: &[u8], case_sensitive: bool) -> Option<ParsedIt
     Some(ParsedItem(rest, folded([*first, *second], case_sensitive)))
 }
 
-// The letters as they stand where the case matters, and else as small letters.
+// The letters as they stand where the case matters, and otherwise as small letters.
 #[inline]
 fn folded(letters: [u8; 2], case_sensitive: bool) -> [u8; 2]
     ensures { result ≡ Letters.folded case_sensitive letters }

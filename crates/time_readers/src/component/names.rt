@@ -162,7 +162,7 @@ pub(super) fn long_name<'a, T: Copy>(
     Some(ParsedItem(ending.0, found.1))
 }
 
-// Reads three bytes: as they stand where the case matters, and else as a capital and small
+// Reads three bytes: as they stand where the case matters, and otherwise as a capital and small
 // letters.
 fn three_letters(input: &[u8], case_sensitive: bool) -> Option<ParsedItem<'_, [u8; 3]>>
     ensures { Finds (IsTitle case_sensitive) (λ v. v) input.now result }
@@ -174,7 +174,7 @@ fn three_letters(input: &[u8], case_sensitive: bool) -> Option<ParsedItem<'_, [u
     Some(ParsedItem(rest, letters))
 }
 
-// The letters as they stand where the case matters, and else as a capital and small letters.
+// The letters as they stand where the case matters, and otherwise as a capital and small letters.
 fn titled(letters: [u8; 3], case_sensitive: bool) -> [u8; 3]
     ensures { result ≡ title case_sensitive letters }
 {

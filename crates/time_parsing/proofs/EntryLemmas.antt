@@ -28,7 +28,7 @@ module _ (change : Record → Record) (past : (e : Entry) (r : Record) → put_h
   put_all-changed Y [] r q h = let same : r ≡ q = cc in ap (λ (x : Record). Some (change x)) same
   put_all-changed Y (e ∷ es) r q h = and_then-changed Y e es r q (in_range Y e) (λ p. put_all-changed Y es p q) h
 
--- no entry looks at the flags, except that of a century at its own
+-- no entry looks at these two flags
 past_offset_sign : (e : Entry) (r : Record) → put_here e (without_offset_sign r) ≡ without_offset_sign (put_here e r)
 past_offset_sign (year_is v) r = refl
 past_offset_sign _ r = refl

@@ -20,9 +20,9 @@ pub date_text-small : (d : Date) (z w : ℤ) (n m k : ℕ) (text : List ℕ)
     → minus_if (int_lt w (pos 0)) ++ text ≡ date_text d
 date_text-small d z w n m k text zy wz nz small mm kk is =
     let digits : fixed 4 n ≡ four_digits (unsigned_abs d.year) =
-        sym (four_digits-small n small) ∙ ap four_digits (nz ∙ ap unsigned_abs zy) in
+    sym (four_digits-small n small) ∙ ap four_digits (nz ∙ ap unsigned_abs zy) in
     let sign : minus_if (int_lt w (pos 0)) ≡ minus_if (int_lt d.year (pos 0)) =
-        ap (λ (x : ℤ). minus_if (int_lt x (pos 0))) (wz ∙ zy) in
+    ap (λ (x : ℤ). minus_if (int_lt x (pos 0))) (wz ∙ zy) in
     ap (λ t. minus_if (int_lt w (pos 0)) ++ t) is
     ∙ five (minus_if (int_lt w (pos 0))) (fixed 4 n) (codes "-") (fixed 2 m) (codes "-") (fixed 2 k)
     ∙ ap (λ t. t ++ fixed 4 n ++ codes "-" ++ fixed 2 m ++ codes "-" ++ fixed 2 k) sign

@@ -1,5 +1,5 @@
 -- A line has one answer, and an input one output.
-use Rattle.std.proofs.Common.{◌≡◌, ℕ, List, [], ◌∷◌, ◌++◌, None, Some, Option, Result, sym, ap, ◌∙◌}
+use Rattle.std.proofs.Common.{◌≡◌, ℕ, List, [], ◌∷◌, ◌++◌, None, Some, Option, sym, ap, ◌∙◌}
 use Rattle.std.specs.Option.{MatchOption}
 use Rattle.time_values.specs.Range.{greatest_year}
 use Rattle.time_readers.specs.Tree.{Tree}

@@ -27,5 +27,5 @@ pub record Fields : Type 0 where
 abbrev pub fields_of : List ℕ → Option Fields
 fields_of line =
     option_and_then
-    (λ first. option_map (λ second. record { format = first.0; target = second.0; text = second.1 }) (cut_at_tab first.1))
-    (cut_at_tab line)
+    (λ first. option_map (λ second. record { format = first.0; target = second.0; text = second.1 })
+    (cut_at_tab first.1)) (cut_at_tab line)

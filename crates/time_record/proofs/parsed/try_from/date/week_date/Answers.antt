@@ -1,8 +1,7 @@
-use Rattle.std.proofs.Common.{◌≡◌, ◌+◌, ◌-◌, ◌*◌, ◌%◌, Ok, Err, arith, refl, w32, FitsSigned}
+use Rattle.std.proofs.Common.{◌≡◌, ◌+◌, ◌-◌, ◌*◌, Ok, Err, arith, refl, w32, FitsSigned}
 use Rattle.std.proofs.lemmas.Int.{to_z-of_z}
 use Rattle.std.proofs.lemmas.Result.{err_from_is_err_and}
 use Rattle.time_values.specs.declared.date.Date.{Date}
-use Rattle.time_values.specs.Calendar.{year_start}
 use Rattle.time_values.specs.DateRefusals.{ordinal_date_refusal}
 use Rattle.time_values.specs.Dates.{ordinal}
 use Rattle.time_values.specs.Range.{greatest_year}

@@ -1,0 +1,128 @@
+//! Each day of 400 years, against a count from day to day.
+use std::num::NonZero;
+use std::process::Abort;
+use std::test::Fail;
+use time_values::error::ComponentRange;
+use time_values::{Date, Month, Time, UtcDateTime};
+
+// A day and what a count from day to day says of it.
+#[derive(Clone, Copy)]
+struct Counted {
+    year: i32,
+    month: u8,
+    day: u8,
+    ordinal: u16,
+    weekday: u8,
+    sunday_week: u8,
+    monday_week: u8,
+    iso_year: i32,
+    iso_week: u8,
+    nanos: i128,
+}
+
+const NANOS_PER_DAY: i128 = 86_400_000_000_000;
+
+impl Counted {
+    // 1 January 1900, a Monday, which is 25,567 days before 1 January 1970.
+    const START: Counted = Counted {
+        year: 1900,
+        month: 1,
+        day: 1,
+        ordinal: 1,
+        weekday: 0,
+        sunday_week: 0,
+        monday_week: 1,
+        iso_year: 1900,
+        iso_week: 1,
+        nanos: -25_567 * NANOS_PER_DAY,
+    };
+
+    fn days_in_month(&self) -> u8 {
+        match self.month {
+            4 | 6 | 9 | 11 => 30,
+            2 => {
+                let leap = self.year.rem_euclid(4) == 0
+                    && (self.year.rem_euclid(100) != 0 || self.year.rem_euclid(400) == 0);
+                if leap { 29 } else { 28 }
+            }
+            _ => 31,
+        }
+    }
+
+    // The next day.
+    fn step(&mut self) {
+        self.weekday = self.weekday.wrapping_add(1) % 7;
+        self.nanos = self.nanos.wrapping_add(NANOS_PER_DAY);
+        self.ordinal = self.ordinal.wrapping_add(1);
+        if self.day < self.days_in_month() {
+            self.day = self.day.wrapping_add(1);
+        } else if self.month < 12 {
+            self.day = 1;
+            self.month = self.month.wrapping_add(1);
+        } else {
+            self.start_year();
+        }
+        self.count_weeks();
+    }
+
+    fn start_year(&mut self) {
+        self.year = self.year.wrapping_add(1);
+        self.month = 1;
+        self.day = 1;
+        self.ordinal = 1;
+        self.sunday_week = 0;
+        self.monday_week = 0;
+    }
+
+    fn count_weeks(&mut self) {
+        if self.weekday == 6 {
+            self.sunday_week = self.sunday_week.wrapping_add(1);
+        }
+        if self.weekday == 0 {
+            self.monday_week = self.monday_week.wrapping_add(1);
+            // The Thursday of a week that begins on one of the last three days is in the next year.
+            let next = self.month == 12 && self.day >= 29;
+            let year = if next {
+                self.year.wrapping_add(1)
+            } else {
+                self.year
+            };
+            self.iso_week = if year == self.iso_year {
+                self.iso_week.wrapping_add(1)
+            } else {
+                1
+            };
+            self.iso_year = year;
+        }
+    }
+}
+
+fn agree(rt: &impl Abort, counted: &Counted, date: Date) -> Result<(), ComponentRange> {
+    let weekday = date.weekday();
+    assert_eq!(rt; date.ordinal(), counted.ordinal);
+    assert_eq!(rt; weekday.number_days_from_monday(), counted.weekday);
+    assert_eq!(rt; date.sunday_based_week(), counted.sunday_week);
+    assert_eq!(rt; date.monday_based_week(), counted.monday_week);
+    assert_eq!(rt; date.iso_week(), counted.iso_week);
+    assert!(rt; date.to_iso_week_date() == (counted.iso_year, counted.iso_week, weekday));
+    assert!(rt; Date::from_ordinal_date(counted.year, counted.ordinal) == Ok(date));
+    assert!(rt; Date::from_iso_week_date(counted.iso_year, counted.iso_week, weekday) == Ok(date));
+    let midnight = UtcDateTime::new(date, Time::from_hms_nano(0, 0, 0, 0)?);
+    assert_eq!(rt; midnight.unix_timestamp_nanos(), counted.nanos);
+    assert!(rt; UtcDateTime::from_unix_timestamp_nanos(counted.nanos) == Ok(midnight));
+    Ok(())
+}
+
+#[test]
+fn days_of_400_years(rt: HostRuntime) -> Result<(), Fail> {
+    let mut counted = Counted::START;
+    for _ in 0..146_097 {
+        let month = Month::from_number(NonZero::<u8>::new(counted.month).ok_or("zero")?)?;
+        let date = Date::from_calendar_date(counted.year, month, counted.day)?;
+        agree(&rt, &counted, date)?;
+        counted.step();
+    }
+    assert_eq!(rt; (counted.year, counted.month, counted.day), (2300, 1, 1));
+    assert_eq!(rt; counted.weekday, 0);
+    Ok(())
+}

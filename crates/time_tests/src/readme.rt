@@ -1,0 +1,3 @@
+//! The examples of `README.md`, as they stand there.
+mod clock;
+mod moment;

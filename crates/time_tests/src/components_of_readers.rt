@@ -310,14 +310,15 @@ fn components_of_offsets(rt: HostRuntime) {
     }
 }
 
+const FIRST: i128 = -377_705_116_800_000_000_000;
+
 #[test]
-fn components_of_timestamps(rt: HostRuntime) {
-    let first = -377_705_116_800_000_000_000;
+fn components_of_timestamps_in_seconds(rt: HostRuntime) {
     for (input, sign_is_mandatory, wanted) in [
         (
             b"-377705116800".as_slice(),
             true,
-            Some((first, b"".as_slice())),
+            Some((FIRST, b"".as_slice())),
         ),
         (
             b"253402300799",
@@ -332,8 +333,12 @@ fn components_of_timestamps(rt: HostRuntime) {
         let modifiers = modifier::UnixTimestampSecond { sign_is_mandatory };
         assert!(rt; answers(parse_unix_timestamp_second(input, modifiers), wanted));
     }
+}
+
+#[test]
+fn components_of_timestamps_in_milliseconds(rt: HostRuntime) {
     for (input, wanted) in [
-        (b"-377705116800000".as_slice(), (first, b"".as_slice())),
+        (b"-377705116800000".as_slice(), (FIRST, b"".as_slice())),
         (b"253402300799999", (253_402_300_799_999_000_000, b"")),
         (b"000000000000000001", (0, b"1")),
     ] {
@@ -347,8 +352,12 @@ fn components_of_timestamps(rt: HostRuntime) {
             )
         );
     }
+}
+
+#[test]
+fn components_of_timestamps_in_microseconds(rt: HostRuntime) {
     for (input, wanted) in [
-        (b"-377705116800000000".as_slice(), (first, b"".as_slice())),
+        (b"-377705116800000000".as_slice(), (FIRST, b"".as_slice())),
         (b"253402300799999999", (253_402_300_799_999_999_000, b"")),
         (b"000000000000000000001", (0, b"1")),
     ] {
@@ -362,10 +371,14 @@ fn components_of_timestamps(rt: HostRuntime) {
             )
         );
     }
+}
+
+#[test]
+fn components_of_timestamps_in_nanoseconds(rt: HostRuntime) {
     for (input, wanted) in [
         (
             b"-377705116800000000000".as_slice(),
-            (first, b"".as_slice()),
+            (FIRST, b"".as_slice()),
         ),
         (b"253402300799999999999", (253_402_300_799_999_999_999, b"")),
         (b"253402300800000000000", (253_402_300_800_000_000_000, b"")),
@@ -507,7 +520,7 @@ fn components_of_letters(rt: HostRuntime) {
 }
 
 #[test]
-fn components_of_bytes(rt: HostRuntime) {
+fn components_of_subseconds(rt: HostRuntime) {
     for (input, digits, wanted) in [
         (
             b"9x".as_slice(),
@@ -549,6 +562,10 @@ fn components_of_bytes(rt: HostRuntime) {
         let subsecond = parse_subsecond(input, modifier::Subsecond { digits });
         assert!(rt; answers(subsecond, wanted));
     }
+}
+
+#[test]
+fn components_of_bytes(rt: HostRuntime) {
     for (input, count, wanted) in [
         (b"ab".as_slice(), 1, Some(((), b"b".as_slice()))),
         (b"ab", 2, Some(((), b""))),
@@ -558,6 +575,10 @@ fn components_of_bytes(rt: HostRuntime) {
         let count = NonZero::<u16>::new(count).expect(&rt, "a count");
         assert!(rt; answers(parse_ignore(input, modifier::Ignore { count }), wanted));
     }
+}
+
+#[test]
+fn components_of_ends(rt: HostRuntime) {
     for (input, trailing_input, wanted) in [
         (
             b"".as_slice(),

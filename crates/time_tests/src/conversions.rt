@@ -1,7 +1,6 @@
 //! The conversions of a record to the seven types of value.
 use crate::fields::{Field, record_of};
 use std::convert::TryFrom;
-use std::num::NonZero;
 use std::test::Fail;
 use time_record::Parsed;
 use time_values::error::{ComponentRange, TryFromParsed};
@@ -121,11 +120,10 @@ fn conversions_of_two_days(rt: HostRuntime) -> Result<(), Fail> {
 }
 
 // A record of the first day of a year that comes as a century and two digits.
-fn century_day(century: i16, is_negative: bool, last_two: u8) -> Option<Parsed> {
-    Parsed::new()
-        .with_year_century(century, is_negative)?
-        .with_year_last_two(last_two)?
-        .with_ordinal(NonZero::<u16>::new(1)?)
+fn century_day(century: i16, is_negative: bool, last_two: i128) -> Option<Parsed> {
+    let mut parsed = record_of(&[(Field::YearLastTwo, last_two), (Field::Ordinal, 1)])?;
+    parsed.set_year_century(century, is_negative)?;
+    Some(parsed)
 }
 
 #[test]

@@ -104,27 +104,39 @@ fn march_at_noon() -> Parsed {
 // An item that reads the text over an empty record leaves this rest and this record.
 fn item_reads<I: AnyFormatItem>(item: &I, text: &[u8], rest: &[u8], wanted: &Parsed) -> bool {
     let mut parsed = Parsed::new();
-    parsed.parse_item(text, item).ok() == Some(rest) && same(&parsed, wanted)
+    match parsed.parse_item(text, item) {
+        Ok(found) => found == rest && same(&parsed, wanted),
+        Err(_) => false,
+    }
 }
 
 // An item refuses the text so, and the record is as it was.
 fn item_refuses<I: AnyFormatItem>(item: &I, text: &[u8], error: ParseFromDescription) -> bool {
     let before = march_at_noon();
     let mut parsed = before;
-    parsed.parse_item(text, item).err() == Some(error) && same(&parsed, &before)
+    match parsed.parse_item(text, item) {
+        Ok(_) => false,
+        Err(found) => found == error && same(&parsed, &before),
+    }
 }
 
 // A component by itself reads so.
 fn component_reads(component: Component, text: &[u8], rest: &[u8], wanted: &Parsed) -> bool {
     let mut parsed = Parsed::new();
-    parsed.parse_component(text, component).ok() == Some(rest) && same(&parsed, wanted)
+    match parsed.parse_component(text, component) {
+        Ok(found) => found == rest && same(&parsed, wanted),
+        Err(_) => false,
+    }
 }
 
 // A component by itself refuses so.
 fn component_refuses(component: Component, text: &[u8], error: ParseFromDescription) -> bool {
     let before = march_at_noon();
     let mut parsed = before;
-    parsed.parse_component(text, component).err() == Some(error) && same(&parsed, &before)
+    match parsed.parse_component(text, component) {
+        Ok(_) => false,
+        Err(found) => found == error && same(&parsed, &before),
+    }
 }
 
 // A component reads so, by itself and as an item of either type.

@@ -45,28 +45,39 @@ fn digits_and_record(rt: HostRuntime) {
     assert!(rt; exactly_n_digits::<9>(b"/234567891").is_none());
 }
 
+// A sign is read, with that rest.
+fn reads_sign(input: &[u8], negative: bool, rest: &[u8]) -> bool {
+    match sign(input) {
+        Some(found) => matches!(found.1, Sign::Negative) == negative && found.0 == rest,
+        None => false,
+    }
+}
+
+#[test]
+fn signs(rt: HostRuntime) {
+    assert!(rt; reads_sign(b"-1", true, b"1"));
+    assert!(rt; reads_sign(b"+1", false, b"1"));
+    assert!(rt; sign(b"1").is_none());
+}
+
 #[test]
 fn single_bytes(rt: HostRuntime) {
-    for (input, negative) in [(b"-1", true), (b"+1", false)] {
-        let found = sign(input).expect(&rt, "a sign");
-        assert_eq!(rt; matches!(found.1, Sign::Negative), negative);
-        assert_eq!(rt; found.0, b"1".as_slice());
-    }
-    assert!(rt; sign(b"1").is_none());
-
     assert!(rt; reads(any_digit(b"07"), b'0', b"7"));
     assert!(rt; any_digit(b"/").is_none());
     assert!(rt; any_digit(b":").is_none());
-
-    assert!(rt; reads(one_or_two_digits(b"7x"), 7, b"x"));
-    assert!(rt; reads(one_or_two_digits(b"123"), 12, b"3"));
-    assert!(rt; one_or_two_digits(b"").is_none());
 
     assert!(rt; reads(ascii_char::<b'T'>(b"T:"), (), b":"));
     assert!(rt; ascii_char::<b'T'>(b"t:").is_none());
     assert!(rt; reads(ascii_char_ignore_case::<b'T'>(b"t:"), (), b":"));
     assert!(rt; reads(ascii_char_ignore_case::<b't'>(b"T:"), (), b":"));
     assert!(rt; ascii_char_ignore_case::<b'@'>(b"`").is_none());
+}
+
+#[test]
+fn one_digit_or_two(rt: HostRuntime) {
+    assert!(rt; reads(one_or_two_digits(b"7x"), 7, b"x"));
+    assert!(rt; reads(one_or_two_digits(b"123"), 12, b"3"));
+    assert!(rt; one_or_two_digits(b"").is_none());
 }
 
 // The number with a digit pushed onto it, where it fits.
@@ -78,17 +89,15 @@ fn pushed<T: Integer>(number: T, digit: u8) -> Option<T>
 
 #[test]
 fn greatest_numbers(rt: HostRuntime) {
-    assert_eq!(rt; (pushed(25u8, 5), pushed(25u8, 6)), (Some(255), None));
-    assert_eq!(rt;
-        (pushed(6_553u16, 5), pushed(6_553u16, 6)),
-        (Some(65_535), None)
-    );
-    assert_eq!(rt;
-        (pushed(429_496_729u32, 5), pushed(429_496_729u32, 6)),
-        (Some(u32::MAX), None)
-    );
+    assert!(rt; pushed(25u8, 5) == Some(255));
+    assert!(rt; pushed(25u8, 6) == None);
+    assert!(rt; pushed(6_553u16, 5) == Some(65_535));
+    assert!(rt; pushed(6_553u16, 6) == None);
+    assert!(rt; pushed(429_496_729u32, 5) == Some(u32::MAX));
+    assert!(rt; pushed(429_496_729u32, 6) == None);
     let most = u128::MAX / 10;
-    assert_eq!(rt; (pushed(most, 5), pushed(most, 6)), (Some(u128::MAX), None));
+    assert!(rt; pushed(most, 5) == Some(u128::MAX));
+    assert!(rt; pushed(most, 6) == None);
     assert!(rt; reads(n_to_m_digits::<5, 5, u16>(b"65535"), 65_535, b""));
     assert!(rt; n_to_m_digits::<5, 5, u16>(b"65536").is_none());
 }

@@ -4,7 +4,7 @@ use time_record::Parsed;
 use time_values::{Month, Weekday};
 
 // The options of a record.
-#[derive(Clone, Copy, Debug)]
+#[derive(Clone, Copy)]
 pub(crate) enum Field {
     Year,
     YearCentury,

@@ -1,5 +1,5 @@
 //! The record of what was read: its options, their ranges, setters and builders.
-use crate::fields::{RANGES, get, set, with};
+use crate::fields::{Field, RANGES, get, set, with};
 use std::num::NonZero;
 use std::test::Fail;
 use time_record::Parsed;
@@ -36,35 +36,49 @@ fn digits_and_record(rt: HostRuntime) -> Result<(), Fail> {
     Ok(())
 }
 
+// A number in range is put and got, and none past either end of it changes it.
+fn holds_in_range(field: Field, low: i128, high: i128, n: i128) -> bool {
+    let mut parsed = Parsed::new();
+    if get(&parsed, field).is_some() || set(&mut parsed, field, n).is_none() {
+        return false;
+    }
+    for past in [low.saturating_sub(1), high.saturating_add(1)] {
+        if set(&mut parsed, field, past).is_some() || with(parsed, field, past).is_some() {
+            return false;
+        }
+    }
+    get(&parsed, field) == Some(n)
+}
+
+// A builder puts the number.
+fn is_built(field: Field, n: i128) -> bool {
+    match with(Parsed::new(), field, n) {
+        Some(built) => get(&built, field) == Some(n),
+        None => false,
+    }
+}
+
 #[test]
 fn ranges(rt: HostRuntime) {
     for (field, low, high) in RANGES {
         for n in [low, high] {
-            let mut parsed = Parsed::new();
-            assert!(rt; get(&parsed, field).is_none(), "{field:?}");
-            assert!(rt; set(&mut parsed, field, n).is_some(), "{field:?}");
-            for past in [low.saturating_sub(1), high.saturating_add(1)] {
-                assert!(rt; set(&mut parsed, field, past).is_none(), "{field:?}");
-                assert!(rt; with(parsed, field, past).is_none(), "{field:?}");
-            }
-            assert!(rt; get(&parsed, field) == Some(n), "{field:?}");
-            let built = with(Parsed::new(), field, n);
-            assert!(rt;
-                built.and_then(|built| get(&built, field)) == Some(n),
-                "{field:?}"
-            );
+            assert!(rt; holds_in_range(field, low, high, n), "{low} to {high}");
+            assert!(rt; is_built(field, n), "{low} to {high}");
         }
     }
 }
 
-// The signs of a century that is put, with the given sign of 0.
-fn century_signs(century: i16, is_negative: bool) -> Option<(bool, bool)> {
-    let mut parsed = Parsed::new().with_year_century(century, is_negative)?;
+// The sign of a calendar century that is put, with the given sign of 0.
+fn century_sign(century: i16, is_negative: bool) -> Option<bool> {
+    let parsed = Parsed::new().with_year_century(century, is_negative)?;
+    parsed.year_century_is_negative()
+}
+
+// The same of an ISO 8601 century.
+fn iso_century_sign(century: i16, is_negative: bool) -> Option<bool> {
+    let mut parsed = Parsed::new();
     parsed.set_iso_year_century(century, is_negative)?;
-    Some((
-        parsed.year_century_is_negative()?,
-        parsed.iso_year_century_is_negative()?,
-    ))
+    parsed.iso_year_century_is_negative()
 }
 
 #[test]
@@ -75,6 +89,7 @@ fn signs_of_centuries(rt: HostRuntime) {
         (0, true, true),
         (99, true, false),
     ] {
-        assert!(rt; century_signs(century, sign) == Some((is_negative, is_negative)));
+        assert!(rt; century_sign(century, sign) == Some(is_negative));
+        assert!(rt; iso_century_sign(century, sign) == Some(is_negative));
     }
 }

@@ -28,10 +28,23 @@ fn months_and_weekdays(rt: HostRuntime) -> Result<(), Fail> {
         assert!(rt; number < 12);
         number += 1;
         let month = Month::from_number(NonZero::<u8>::new(number).ok_or("zero")?)?;
-        assert_eq!(rt; month.number(), number);
-        assert_eq!(rt; u8::from(month), number);
-        assert_eq!(rt; month.length(2023), length);
+        assert!(rt; month.number() == number);
+        assert!(rt; u8::from(month) == number);
+        assert!(rt; month.length(2023) == length);
     }
+    for number in [13, 255] {
+        let refused = Month::from_number(NonZero::<u8>::new(number).ok_or("zero")?);
+        assert!(rt; refused == Err(out("month")));
+    }
+    assert!(rt; Weekday::Monday.number_days_from_monday() == 0);
+    assert!(rt; Weekday::Sunday.number_days_from_monday() == 6);
+    assert!(rt; Weekday::Sunday.number_days_from_sunday() == 0);
+    assert!(rt; Weekday::Saturday.number_days_from_sunday() == 6);
+    Ok(())
+}
+
+#[test]
+fn months_in_leap_years(rt: HostRuntime) {
     for (year, length) in [
         (0, 29),
         (-4, 29),
@@ -40,17 +53,8 @@ fn months_and_weekdays(rt: HostRuntime) -> Result<(), Fail> {
         (1900, 28),
         (2000, 29),
     ] {
-        assert_eq!(rt; Month::February.length(year), length, "in {year}");
+        assert!(rt; Month::February.length(year) == length, "in {year}");
     }
-    for number in [13, 255] {
-        let refused = Month::from_number(NonZero::<u8>::new(number).ok_or("zero")?);
-        assert!(rt; refused == Err(out("month")));
-    }
-    assert_eq!(rt; Weekday::Monday.number_days_from_monday(), 0);
-    assert_eq!(rt; Weekday::Sunday.number_days_from_monday(), 6);
-    assert_eq!(rt; Weekday::Sunday.number_days_from_sunday(), 0);
-    assert_eq!(rt; Weekday::Saturday.number_days_from_sunday(), 6);
-    Ok(())
 }
 
 #[test]
@@ -112,28 +116,26 @@ fn ordinal_dates(rt: HostRuntime) -> Result<(), Fail> {
     Ok(())
 }
 
+// The week of that ISO 8601 year has the date as its weekday.
+fn is_in_week(date: Date, year: i32, week: u8, weekday: Weekday) -> bool {
+    Date::from_iso_week_date(year, week, weekday) == Ok(date)
+        && date.to_iso_week_date() == (year, week, weekday)
+        && date.iso_week() == week
+}
+
 #[test]
 fn iso_week_dates(rt: HostRuntime) -> Result<(), Fail> {
-    for (year, week, weekday, date) in [
-        (
-            2020,
-            53,
-            Weekday::Saturday,
-            Date::from_calendar_date(2021, Month::January, 2)?,
-        ),
-        (
-            2019,
-            1,
-            Weekday::Monday,
-            Date::from_calendar_date(2018, Month::December, 31)?,
-        ),
-        (-9999, 1, Weekday::Monday, Date::MIN),
-        (9999, 52, Weekday::Friday, Date::MAX),
-    ] {
-        assert!(rt; Date::from_iso_week_date(year, week, weekday) == Ok(date));
-        assert!(rt; date.to_iso_week_date() == (year, week, weekday));
-        assert_eq!(rt; date.iso_week(), week);
-    }
+    let saturday = Date::from_calendar_date(2021, Month::January, 2)?;
+    assert!(rt; is_in_week(saturday, 2020, 53, Weekday::Saturday));
+    let monday = Date::from_calendar_date(2018, Month::December, 31)?;
+    assert!(rt; is_in_week(monday, 2019, 1, Weekday::Monday));
+    assert!(rt; is_in_week(Date::MIN, -9999, 1, Weekday::Monday));
+    assert!(rt; is_in_week(Date::MAX, 9999, 52, Weekday::Friday));
+    Ok(())
+}
+
+#[test]
+fn iso_week_dates_refused(rt: HostRuntime) {
     for (year, week, weekday, refusal) in [
         (-10000, 1, Weekday::Monday, out("year")),
         (10000, 0, Weekday::Monday, out("year")),
@@ -145,18 +147,22 @@ fn iso_week_dates(rt: HostRuntime) -> Result<(), Fail> {
     ] {
         assert!(rt; Date::from_iso_week_date(year, week, weekday) == Err(refusal));
     }
-    Ok(())
 }
 
 #[test]
 fn times(rt: HostRuntime) -> Result<(), Fail> {
     for (hour, minute, second, nanosecond) in [(0, 0, 0, 0), (23, 59, 59, 999_999_999)] {
         let time = Time::from_hms_nano(hour, minute, second, nanosecond)?;
-        assert_eq!(rt;
-            (time.hour(), time.minute(), time.second(), time.nanosecond()),
-            (hour, minute, second, nanosecond)
-        );
+        assert!(rt; time.hour() == hour);
+        assert!(rt; time.minute() == minute);
+        assert!(rt; time.second() == second);
+        assert!(rt; time.nanosecond() == nanosecond);
     }
+    Ok(())
+}
+
+#[test]
+fn times_refused(rt: HostRuntime) {
     for (hour, minute, second, nanosecond, name) in [
         (24, 60, 60, 1_000_000_000, "hour"),
         (23, 60, 60, 1_000_000_000, "minute"),
@@ -165,11 +171,18 @@ fn times(rt: HostRuntime) -> Result<(), Fail> {
     ] {
         assert!(rt; Time::from_hms_nano(hour, minute, second, nanosecond) == Err(out(name)));
     }
-    Ok(())
+}
+
+// An offset made of these numbers has these parts.
+fn has_parts(given: (i8, i8, i8), parts: (i8, i8, i8)) -> bool {
+    match UtcOffset::from_hms(given.0, given.1, given.2) {
+        Ok(offset) => offset.as_hms() == parts,
+        Err(_) => false,
+    }
 }
 
 #[test]
-fn offsets(rt: HostRuntime) -> Result<(), Fail> {
+fn offsets(rt: HostRuntime) {
     for (given, parts) in [
         ((25, 59, 59), (25, 59, 59)),
         ((-25, -59, -59), (-25, -59, -59)),
@@ -179,9 +192,13 @@ fn offsets(rt: HostRuntime) -> Result<(), Fail> {
         ((0, 0, -10), (0, 0, -10)),
         ((0, 0, 0), (0, 0, 0)),
     ] {
-        let offset = UtcOffset::from_hms(given.0, given.1, given.2)?;
-        assert_eq!(rt; offset.as_hms(), parts);
+        assert!(rt; has_parts(given, parts));
     }
+    assert!(rt; UtcOffset::from_hms(0, 0, 0) == Ok(UtcOffset::UTC));
+}
+
+#[test]
+fn offsets_refused(rt: HostRuntime) {
     for (hours, minutes, seconds, name) in [
         (26, 60, 60, "hours"),
         (-26, -60, -60, "hours"),
@@ -192,108 +209,141 @@ fn offsets(rt: HostRuntime) -> Result<(), Fail> {
     ] {
         assert!(rt; UtcOffset::from_hms(hours, minutes, seconds) == Err(out(name)));
     }
-    assert!(rt; UtcOffset::from_hms(0, 0, 0) == Ok(UtcOffset::UTC));
-    Ok(())
 }
 
 const FIRST: i128 = -377_705_116_800_000_000_000;
 
 const LAST: i128 = 253_402_300_799_999_999_999;
 
+fn midnight() -> Result<Time, ComponentRange> {
+    Time::from_hms_nano(0, 0, 0, 0)
+}
+
+fn last_nanosecond() -> Result<Time, ComponentRange> {
+    Time::from_hms_nano(23, 59, 59, 999_999_999)
+}
+
+// The moment in UTC after these nanoseconds has that date and time, and gives them back.
+fn is_utc_after(nanos: i128, date: Date, time: Time) -> Result<bool, ComponentRange> {
+    let utc = UtcDateTime::from_unix_timestamp_nanos(nanos)?;
+    Ok(
+        utc == UtcDateTime::new(date, time)
+            && utc.date() == date
+            && utc.time() == time
+            && utc.unix_timestamp_nanos() == nanos,
+    )
+}
+
+// So has the timestamp.
+fn is_timestamp_after(nanos: i128) -> Result<bool, ComponentRange> {
+    let stamp = Timestamp::from(UtcDateTime::from_unix_timestamp_nanos(nanos)?);
+    Ok(stamp.nanoseconds() == nanos && Timestamp::from_nanoseconds(nanos) == Ok(stamp))
+}
+
+// So has the moment with an offset, which is in UTC.
+fn is_moment_after(nanos: i128, date: Date, time: Time) -> Result<bool, ComponentRange> {
+    let moment = OffsetDateTime::from_unix_timestamp_nanos(nanos)?;
+    Ok(
+        moment == OffsetDateTime::new_in_offset(date, time, UtcOffset::UTC)
+            && moment.unix_timestamp_nanos() == nanos
+            && moment.checked_to_utc() == Some(UtcDateTime::new(date, time)),
+    )
+}
+
+// All three types agree on the moment after these nanoseconds.
+fn is_after(nanos: i128, date: Date, time: Time) -> Result<bool, ComponentRange> {
+    Ok(
+        is_utc_after(nanos, date, time)?
+            && is_timestamp_after(nanos)?
+            && is_moment_after(nanos, date, time)?,
+    )
+}
+
 #[test]
 fn moments(rt: HostRuntime) -> Result<(), Fail> {
-    let midnight = Time::from_hms_nano(0, 0, 0, 0)?;
-    let last = Time::from_hms_nano(23, 59, 59, 999_999_999)?;
-    for (nanos, date, time) in [
-        (FIRST, Date::MIN, midnight),
-        (LAST, Date::MAX, last),
-        (
-            0,
-            Date::from_calendar_date(1970, Month::January, 1)?,
-            midnight,
-        ),
-        (
-            -1,
-            Date::from_calendar_date(1969, Month::December, 31)?,
-            last,
-        ),
-    ] {
-        let utc = UtcDateTime::from_unix_timestamp_nanos(nanos)?;
-        assert!(rt; utc == UtcDateTime::new(date, time));
-        assert!(rt; utc.date() == date);
-        assert!(rt; utc.time() == time);
-        assert_eq!(rt; utc.unix_timestamp_nanos(), nanos);
-        assert_eq!(rt; Timestamp::from(utc).nanoseconds(), nanos);
-        assert!(rt; Timestamp::from_nanoseconds(nanos) == Ok(Timestamp::from(utc)));
-        let moment = OffsetDateTime::from_unix_timestamp_nanos(nanos)?;
-        assert!(rt; moment == OffsetDateTime::new_in_offset(date, time, UtcOffset::UTC));
-        assert_eq!(rt; moment.unix_timestamp_nanos(), nanos);
-        assert!(rt; moment.checked_to_utc() == Some(utc));
-    }
+    assert!(rt; is_after(FIRST, Date::MIN, midnight()?)?);
+    assert!(rt; is_after(LAST, Date::MAX, last_nanosecond()?)?);
+    let date = Date::from_calendar_date(1970, Month::January, 1)?;
+    assert!(rt; is_after(0, date, midnight()?)?);
+    let date = Date::from_calendar_date(1969, Month::December, 31)?;
+    assert!(rt; is_after(-1, date, last_nanosecond()?)?);
+    Ok(())
+}
+
+#[test]
+fn moments_refused(rt: HostRuntime) {
     for nanos in [FIRST - 1, LAST + 1, i128::MIN, i128::MAX] {
         assert!(rt; UtcDateTime::from_unix_timestamp_nanos(nanos) == Err(out("timestamp")));
         assert!(rt; OffsetDateTime::from_unix_timestamp_nanos(nanos) == Err(out("timestamp")));
         assert!(rt; Timestamp::from_nanoseconds(nanos) == Err(out("timestamp")));
     }
+}
+
+// What is kept where the moment has no date in UTC.
+#[test]
+fn offset_moments(rt: HostRuntime) -> Result<(), Fail> {
+    let ahead = UtcOffset::from_hms(25, 59, 59)?;
+    let early = OffsetDateTime::new_in_offset(Date::MIN, midnight()?, ahead);
+    assert!(rt; early.date() == Date::MIN);
+    assert!(rt; early.time() == midnight()?);
+    assert!(rt; early.offset() == ahead);
+    assert!(rt; early.unix_timestamp_nanos() == FIRST - 93_599_000_000_000);
+    assert!(rt; early.checked_to_utc() == None);
+    let behind = UtcOffset::from_hms(-25, -59, -59)?;
+    let late = OffsetDateTime::new_in_offset(Date::MAX, last_nanosecond()?, behind);
+    assert!(rt; late.unix_timestamp_nanos() == LAST + 93_599_000_000_000);
+    assert!(rt; late.checked_to_utc() == None);
+    assert!(rt; !late.is_valid_leap_second_stand_in());
     Ok(())
 }
 
-#[test]
-fn offset_moments(rt: HostRuntime) -> Result<(), Fail> {
-    let midnight = Time::from_hms_nano(0, 0, 0, 0)?;
-    let last = Time::from_hms_nano(23, 59, 59, 999_999_999)?;
-    let ahead = UtcOffset::from_hms(25, 59, 59)?;
-    let behind = UtcOffset::from_hms(-25, -59, -59)?;
-
-    // What is kept where the moment has no date in UTC.
-    let early = OffsetDateTime::new_in_offset(Date::MIN, midnight, ahead);
-    assert!(rt; early.date() == Date::MIN);
-    assert!(rt; early.time() == midnight);
-    assert!(rt; early.offset() == ahead);
-    assert_eq!(rt; early.unix_timestamp_nanos(), FIRST - 93_599_000_000_000);
-    assert!(rt; early.checked_to_utc() == None);
-    let late = OffsetDateTime::new_in_offset(Date::MAX, last, behind);
-    assert_eq!(rt; late.unix_timestamp_nanos(), LAST + 93_599_000_000_000);
-    assert!(rt; late.checked_to_utc() == None);
-    assert!(rt; !late.is_valid_leap_second_stand_in());
-
-    // Two days back, and two days on.
+// A moment of the first of March 2021 is in UTC on another day.
+fn in_utc(time: Time, offset: UtcOffset) -> Result<UtcDateTime, Fail> {
     let date = Date::from_calendar_date(2021, Month::March, 1)?;
-    let utc = OffsetDateTime::new_in_offset(date, midnight, ahead)
-        .checked_to_utc()
-        .ok_or("no date")?;
+    let moment = OffsetDateTime::new_in_offset(date, time, offset);
+    Ok(moment.checked_to_utc().ok_or("no date")?)
+}
+
+#[test]
+fn offset_moments_two_days_apart(rt: HostRuntime) -> Result<(), Fail> {
+    let utc = in_utc(midnight()?, UtcOffset::from_hms(25, 59, 59)?)?;
     assert!(rt; utc.date() == Date::from_calendar_date(2021, Month::February, 27)?);
     assert!(rt; utc.time() == Time::from_hms_nano(22, 0, 1, 0)?);
-    let utc = OffsetDateTime::new_in_offset(date, last, behind)
-        .checked_to_utc()
-        .ok_or("no date")?;
+    let utc = in_utc(last_nanosecond()?, UtcOffset::from_hms(-25, -59, -59)?)?;
     assert!(rt; utc.date() == Date::from_calendar_date(2021, Month::March, 3)?);
     assert!(rt; utc.time() == Time::from_hms_nano(1, 59, 58, 999_999_999)?);
     Ok(())
 }
 
+// The moment of December 2016 stands for a leap second.
+fn is_stand_in(day: u8, second: u8, nanosecond: u32) -> Result<bool, ComponentRange> {
+    let date = Date::from_calendar_date(2016, Month::December, day)?;
+    let time = Time::from_hms_nano(23, 59, second, nanosecond)?;
+    Ok(UtcDateTime::new(date, time).is_valid_leap_second_stand_in())
+}
+
 #[test]
 fn leap_seconds(rt: HostRuntime) -> Result<(), Fail> {
-    let last = Time::from_hms_nano(23, 59, 59, 999_999_999)?;
-    for (day, time, valid) in [
-        (31, last, true),
-        (30, last, false),
-        (31, Time::from_hms_nano(23, 59, 59, 999_999_998)?, false),
-        (31, Time::from_hms_nano(23, 59, 58, 999_999_999)?, false),
+    for (day, second, nanosecond, valid) in [
+        (31, 59, 999_999_999, true),
+        (30, 59, 999_999_999, false),
+        (31, 59, 999_999_998, false),
+        (31, 58, 999_999_999, false),
     ] {
-        let date = Date::from_calendar_date(2016, Month::December, day)?;
-        assert_eq!(rt;
-            UtcDateTime::new(date, time).is_valid_leap_second_stand_in(),
-            valid
-        );
+        assert!(rt; is_stand_in(day, second, nanosecond)? == valid);
     }
-    // 23:59:59.999999999 in UTC on the last day of 1990.
+    Ok(())
+}
+
+// The last nanosecond of a day of December 1990 in UTC, eight hours behind it.
+#[test]
+fn leap_seconds_behind_utc(rt: HostRuntime) -> Result<(), Fail> {
     let pacific = UtcOffset::from_hms(-8, 0, 0)?;
     let time = Time::from_hms_nano(15, 59, 59, 999_999_999)?;
     for (day, valid) in [(31, true), (30, false)] {
         let date = Date::from_calendar_date(1990, Month::December, day)?;
         let moment = OffsetDateTime::new_in_offset(date, time, pacific);
-        assert_eq!(rt; moment.is_valid_leap_second_stand_in(), valid);
+        assert!(rt; moment.is_valid_leap_second_stand_in() == valid);
     }
     Ok(())
 }

@@ -1,4 +1,5 @@
 //! The parse of a whole text, by each type of format.
+use std::alloc::{AllocError, Global};
 use std::num::NonZero;
 use std::test::Fail;
 use time_parsing::{Items, Parsable, Rfc3339};
@@ -10,51 +11,36 @@ use time_record::Parsed;
 use time_values::error::{Parse, ParseFromDescription, TryFromParsed};
 use time_values::{Date, Month, OffsetDateTime, Time, UtcOffset};
 
-fn date(year: i32, month: Month, day: u8) -> Result<Date, Fail> {
-    Ok(
-        Date::from_calendar_date(year, month, day)
-            .ok()
-            .ok_or("a date")?,
-    )
-}
-
-fn year() -> Component {
-    Component::CalendarYearFullStandardRange(modifier::CalendarYearFullStandardRange {
+const YEAR: Component = Component::CalendarYearFullStandardRange(
+    modifier::CalendarYearFullStandardRange {
         padding: Padding::Zero,
         sign_is_mandatory: false,
-    })
-}
+    },
+);
 
-fn month() -> Component {
-    Component::MonthNumerical(modifier::MonthNumerical {
-        padding: Padding::Zero,
-    })
-}
+const MONTH: Component = Component::MonthNumerical(modifier::MonthNumerical {
+    padding: Padding::Zero,
+});
 
-fn day() -> Component {
-    Component::Day(modifier::Day {
-        padding: Padding::Zero,
-    })
-}
+const DAY: Component = Component::Day(modifier::Day {
+    padding: Padding::Zero,
+});
 
 #[test]
 fn whole_parses(rt: HostRuntime) -> Result<(), Fail> {
     let stamped = Parsed::new().with_unix_timestamp_nanos(0);
-    let half_second = Time::from_hms_nano(0, 0, 0, 500_000_000)
-        .ok()
-        .ok_or("a time")?;
-    assert!(rt;
-        Rfc3339.parse_offset_date_time(b"2021-01-02T03:04:05.5Z", stamped)
-            == Ok(OffsetDateTime::new_in_offset(
-                date(1970, Month::January, 1)?,
-                half_second,
-                UtcOffset::UTC
-            ))
-    );
+    let date = Date::from_calendar_date(1970, Month::January, 1)?;
+    let half_second = Time::from_hms_nano(0, 0, 0, 500_000_000)?;
+    let moment = OffsetDateTime::new_in_offset(date, half_second, UtcOffset::UTC);
+    assert!(rt; Rfc3339.parse_offset_date_time(b"2021-01-02T03:04:05.5Z", stamped) == Ok(moment));
+    Ok(())
+}
+
+#[test]
+fn whole_parses_over_an_ordinal(rt: HostRuntime) -> Result<(), Fail> {
     let first_day = Parsed::new().with_ordinal(NonZero::<u16>::new(1).ok_or("zero")?);
-    assert!(rt;
-        Rfc3339.parse_date(b"2021-03-04T00:00:00Z", first_day) == Ok(date(2021, Month::January, 1)?)
-    );
+    let date = Date::from_calendar_date(2021, Month::January, 1)?;
+    assert!(rt; Rfc3339.parse_date(b"2021-03-04T00:00:00Z", first_day) == Ok(date));
     Ok(())
 }
 
@@ -65,22 +51,34 @@ fn offset_sign_of_the_defaults(rt: HostRuntime) -> Result<(), Fail> {
         padding: Padding::Zero,
         sign_is_mandatory: false,
     });
-    assert!(rt; defaults.parse_component(b"-05", hour) == Ok(b"".as_slice()));
-    let half_hour = UtcOffset::from_hms(0, 30, 0).ok().ok_or("an offset")?;
+    let rest = defaults.parse_component(b"-05", hour)?;
+    assert!(rt; rest.is_empty());
+    let half_hour = UtcOffset::from_hms(0, 30, 0)?;
     assert!(rt;
         Rfc3339.parse_offset(b"2021-01-02T03:04:05+00:30", Some(defaults)) == Ok(half_hour)
     );
     Ok(())
 }
 
+// The format refuses the text so.
+fn refuses<F: Parsable>(
+    format: &F,
+    text: &[u8],
+    parsed: &mut Parsed,
+    refusal: ParseFromDescription,
+) -> bool {
+    match format.parse_into(text, parsed) {
+        Ok(_) => false,
+        Err(found) => found == Parse::ParseFromDescription(refusal),
+    }
+}
+
 #[test]
 fn refusal_keeps_the_record(rt: HostRuntime) {
     let mut parsed = Parsed::new();
-    assert!(rt; parsed.set_month(Month::March) == Some(()));
-    assert!(rt;
-        Rfc3339.parse_into(b"2021-05x", &mut parsed)
-            == Err(Parse::ParseFromDescription(ParseFromDescription::InvalidLiteral))
-    );
+    assert!(rt; parsed.set_month(Month::March).is_some());
+    let refusal = ParseFromDescription::InvalidLiteral;
+    assert!(rt; refuses(&Rfc3339, b"2021-05x", &mut parsed, refusal));
     assert!(rt; parsed.month() == Some(Month::March));
     assert!(rt; parsed.year().is_none());
 }
@@ -100,58 +98,97 @@ fn skipped_bytes(rt: HostRuntime) -> Result<(), Fail> {
     let count = NonZero::<u16>::new(1).ok_or("zero")?;
     let ignore = Component::Ignore(modifier::Ignore { count });
     let text: &[u8] = &[0xC3, 0xA9];
-    assert!(rt; Parsed::new().parse_component(text, ignore) == Ok(&text[1..]));
+    let rest = Parsed::new().parse_component(text, ignore)?;
+    assert!(rt; rest == &text[1..]);
     let description = FormatDescriptionV3 {
         inner: FormatDescriptionV3Inner::Component(ignore),
     };
-    assert!(rt;
-        description.parse_into(text, &mut Parsed::new())
-            == Err(Parse::ParseFromDescription(ParseFromDescription::InvalidComponent("ignore")))
-    );
+    let refusal = ParseFromDescription::InvalidComponent("ignore");
+    assert!(rt; refuses(&description, text, &mut Parsed::new(), refusal));
     Ok(())
+}
+
+// The format reads `2021-03-04`, and refuses bytes behind it.
+fn reads_a_date<F: Parsable>(format: &F) -> Result<bool, Fail> {
+    let date = Date::from_calendar_date(2021, Month::March, 4)?;
+    let trailing = ParseFromDescription::UnexpectedTrailingCharacters;
+    Ok(
+        format.parse_date(b"2021-03-04", None) == Ok(date)
+            && format.parse_date(b"2021-03-04 ", None)
+                == Err(Parse::ParseFromDescription(trailing)),
+    )
 }
 
 // Each type of description, with the same items, gives the same date, and the same refusals.
 #[test]
 fn descriptions_alike(rt: HostRuntime) -> Result<(), Fail> {
-    let dated = Ok(date(2021, Month::March, 4)?);
-    let trailing = Err(Parse::ParseFromDescription(
-        ParseFromDescription::UnexpectedTrailingCharacters,
-    ));
-    let missing = Err(Parse::TryFromParsed(TryFromParsed::InsufficientInformation));
-    let borrowed = [
-        BorrowedFormatItem::Component(year()),
+    let items = [
+        BorrowedFormatItem::Component(YEAR),
         BorrowedFormatItem::Literal(b"-"),
-        BorrowedFormatItem::Component(month()),
+        BorrowedFormatItem::Component(MONTH),
         BorrowedFormatItem::StringLiteral("-"),
-        BorrowedFormatItem::Component(day()),
+        BorrowedFormatItem::Component(DAY),
     ];
-    let compound = BorrowedFormatItem::Compound(&borrowed);
-    let mut owned = Vec::new(rt.alloc());
-    let mut inner = Vec::new(rt.alloc());
-    for (i, part) in [year(), month(), day()].into_iter().enumerate() {
-        if i > 0 {
-            let mut hyphen = Vec::new(rt.alloc());
-            hyphen.push(b'-')?;
-            owned.push(OwnedFormatItem::Literal(hyphen))?;
-            inner.push(FormatDescriptionV3Inner::BorrowedLiteral("-"))?;
-        }
-        owned.push(OwnedFormatItem::Component(part))?;
-        inner.push(FormatDescriptionV3Inner::Component(part))?;
-    }
-    let owned = OwnedFormatItem::Compound(owned);
-    let description = FormatDescriptionV3 {
-        inner: FormatDescriptionV3Inner::OwnedCompound(inner),
-    };
-    for (text, wanted) in [("2021-03-04", dated), ("2021-03-04 ", trailing)] {
-        let text = text.as_bytes();
-        assert!(rt; compound.parse_date(text, None) == wanted);
-        assert!(rt; (&compound).parse_date(text, None) == wanted);
-        assert!(rt; Items(&borrowed).parse_date(text, None) == wanted);
-        assert!(rt; owned.parse_date(text, None) == wanted);
-        assert!(rt; description.parse_date(text, None) == wanted);
-    }
-    assert!(rt; Items(&borrowed[..3]).parse_date(b"2021-03", None) == missing);
-    assert!(rt; Items(&borrowed[2..]).parse_date(b"03-04", None) == missing);
+    let compound = BorrowedFormatItem::Compound(&items);
+    assert!(rt; reads_a_date(&compound)?);
+    assert!(rt; reads_a_date(&&compound)?);
+    assert!(rt; reads_a_date(&Items(&items))?);
     Ok(())
+}
+
+fn owned_hyphen(alloc: Global) -> Result<OwnedFormatItem, AllocError> {
+    Ok(OwnedFormatItem::Literal(vec![in alloc; b'-']?))
+}
+
+#[test]
+fn descriptions_alike_if_owned(rt: HostRuntime) -> Result<(), Fail> {
+    let first = owned_hyphen(rt.alloc())?;
+    let second = owned_hyphen(rt.alloc())?;
+    let items = vec![in rt.alloc();
+        OwnedFormatItem::Component(YEAR),
+        first,
+        OwnedFormatItem::Component(MONTH),
+        second,
+        OwnedFormatItem::Component(DAY),
+    ]?;
+    assert!(rt; reads_a_date(&OwnedFormatItem::Compound(items))?);
+    Ok(())
+}
+
+#[test]
+fn descriptions_alike_in_version_3(rt: HostRuntime) -> Result<(), Fail> {
+    let items = vec![in rt.alloc();
+        FormatDescriptionV3Inner::Component(YEAR),
+        FormatDescriptionV3Inner::BorrowedLiteral("-"),
+        FormatDescriptionV3Inner::Component(MONTH),
+        FormatDescriptionV3Inner::BorrowedLiteral("-"),
+        FormatDescriptionV3Inner::Component(DAY),
+    ]?;
+    let description = FormatDescriptionV3 {
+        inner: FormatDescriptionV3Inner::OwnedCompound(items),
+    };
+    assert!(rt; reads_a_date(&description)?);
+    Ok(())
+}
+
+// The record has too little for a date.
+fn knows_too_little(items: &[BorrowedFormatItem<'_>], text: &[u8]) -> bool {
+    let missing = Parse::TryFromParsed(TryFromParsed::InsufficientInformation);
+    Items(items).parse_date(text, None) == Err(missing)
+}
+
+#[test]
+fn descriptions_of_a_part_of_a_date(rt: HostRuntime) {
+    let year_and_month = [
+        BorrowedFormatItem::Component(YEAR),
+        BorrowedFormatItem::Literal(b"-"),
+        BorrowedFormatItem::Component(MONTH),
+    ];
+    assert!(rt; knows_too_little(&year_and_month, b"2021-03"));
+    let month_and_day = [
+        BorrowedFormatItem::Component(MONTH),
+        BorrowedFormatItem::StringLiteral("-"),
+        BorrowedFormatItem::Component(DAY),
+    ];
+    assert!(rt; knows_too_little(&month_and_day, b"03-04"));
 }

@@ -15,7 +15,10 @@ fn v3_refuses(
 ) -> bool {
     let before = march_at_noon();
     let mut parsed = before;
-    parsed.parse_v3(text, items).err() == Some(error) && same(&parsed, &before)
+    match parsed.parse_v3(text, items) {
+        Ok(_) => false,
+        Err(found) => found == error && same(&parsed, &before),
+    }
 }
 
 // They read the text up to that rest and leave that record.
@@ -26,7 +29,10 @@ fn v3_reads(
     wanted: &Parsed,
 ) -> bool {
     let mut parsed = Parsed::new();
-    parsed.parse_v3(text, items).ok() == Some(rest) && same(&parsed, wanted)
+    match parsed.parse_v3(text, items) {
+        Ok(found) => found == rest && same(&parsed, wanted),
+        Err(_) => false,
+    }
 }
 
 #[test]

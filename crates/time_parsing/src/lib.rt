@@ -5,8 +5,6 @@ mod description;
 pub mod laws;
 mod parsable;
 mod rfc3339;
-#[cfg(test)]
-mod tests;
 
 pub use description::Items;
 pub use parsable::Parsable;

@@ -12,8 +12,6 @@ mod fractions;
 mod letters;
 mod names;
 mod numbers;
-#[cfg(test)]
-mod tests;
 
 use crate::{ParsedItem, Period, SubsecondDigits, TrailingInput, modifier};
 use fractions::{fraction, long_fraction};

@@ -1,9 +1,5 @@
 //! Descriptions of how a date, a time or an offset is written.
 use crate::modifier;
-
-#[cfg(test)]
-mod tests;
-
 use std::fmt::{self, Debug};
 
 /// A part of a date, a time or an offset, with how it is written.

@@ -13,8 +13,6 @@ pub mod laws;
 pub mod modifier;
 pub mod rfc3339;
 mod shim;
-#[cfg(test)]
-mod tests;
 
 pub use format_description::{
     BorrowedFormatItem, Component, FormatDescriptionV3, FormatDescriptionV3Inner, OwnedFormatItem,

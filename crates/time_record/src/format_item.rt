@@ -4,9 +4,6 @@ ghost use Rattle.time_readers.specs.Shape.{borrowed_shape, owned_shape};
 ghost use Rattle.time_readers.specs.Tree.{Tree};
 ghost use Rattle.time_record.specs.Answer.{Answers};
 
-#[cfg(test)]
-mod tests;
-
 use crate::Parsed;
 use crate::walk::borrowed::walk_borrowed;
 use crate::walk::owned::walk_owned;

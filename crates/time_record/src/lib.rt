@@ -4,8 +4,6 @@
 mod format_item;
 pub mod laws;
 mod parsed;
-#[cfg(test)]
-mod tests;
 mod walk;
 
 pub use format_item::AnyFormatItem;

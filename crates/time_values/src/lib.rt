@@ -9,8 +9,6 @@ pub mod laws;
 mod month;
 mod offset_date_time;
 mod plain_date_time;
-#[cfg(test)]
-mod tests;
 mod time;
 mod timestamp;
 mod utc_date_time;

@@ -1,5 +1,6 @@
 -- Laws of the definitions, each proved by the function of module `laws` that has it as its contract.
-use Rattle.std.specs.Prelude.{◌≡◌, ℕ, List, Bool}
+use Rattle.std.specs.Prelude.{◌≡◌, ℕ, List, ◌∷◌, ◌++◌, Bool, Some, None}
+use Rattle.time_readers.specs.Readers.{Reader, zero_or_more}
 use Rattle.time_readers.specs.declared.Padding.{Padding}
 use Rattle.time_readers.specs.Cuts.{AtMostOneCut}
 use Rattle.time_readers.specs.Digits.{IsDigitRun, IsPaddedRun}
@@ -8,6 +9,9 @@ use Rattle.time_readers.specs.declared.rfc3339.Place.{Place}
 use Rattle.time_readers.specs.Spelling.{Spells}
 use Rattle.time_readers.specs.declared.format_description.Component.{Component}
 use Rattle.time_readers.specs.Rfc3339.{HasForm, FailsAt}
+use Rattle.time_readers.specs.Rfc2822 as mail
+use Rattle.time_readers.specs.declared.rfc2822.places.Numbers.{Numbers as MailNumbers}
+use Rattle.time_readers.specs.declared.rfc2822.places.Place.{Place as MailPlace}
 
 -- for one input at most one cut is a run of digits
 abbrev pub OneDigitRun : Type 0
@@ -27,3 +31,20 @@ pub record OneForm (ranged : Bool) (bytes : List ℕ) : Type 0 where
       → HasForm ranged bytes x n → HasForm ranged bytes y m → (x ≡ y) × (n ≡ m)
   pub one_place : (p q : Place) → FailsAt ranged bytes p → FailsAt ranged bytes q → p ≡ q
   pub never_both : (x : List ℕ) (n : Numbers) (p : Place) → HasForm ranged bytes x n → ¬ FailsAt ranged bytes p
+
+-- the bytes have one reading by the places of RFC 2822 or one first place that doesn't stand, and never both
+pub record OneMailDate (ranged : Bool) (bytes : List ℕ) : Type 0 where
+  pub one_reading : (x y : List ℕ) (n m : MailNumbers)
+      → mail.HasForm ranged bytes x n → mail.HasForm ranged bytes y m → (x ≡ y) × (n ≡ m)
+  pub one_place : (p q : MailPlace) → mail.FailsAt ranged bytes p → mail.FailsAt ranged bytes q → p ≡ q
+  pub never_both : (x : List ℕ) (n : MailNumbers) (p : MailPlace)
+      → mail.HasForm ranged bytes x n → ¬ mail.FailsAt ranged bytes p
+
+-- the reader takes a byte or more where it reads
+abbrev pub Takes : Reader → Type 0
+Takes p = (s r : List ℕ) → p s ≡ Some r → (c : ℕ) × (text : List ℕ) × (s ≡ c ∷ (text ++ r))
+
+-- the reader is repeated until it refuses
+pub record IsRepeated (p : Reader) : Type 0 where
+  pub again : (s r : List ℕ) → p s ≡ Some r → zero_or_more p s ≡ zero_or_more p r
+  pub ends : (s : List ℕ) → p s ≡ None → zero_or_more p s ≡ Some s

@@ -2,7 +2,7 @@
 --
 -- `A p n text after m` says that the text, before what follows it, has the form that place p asks, and
 -- that the numbers m are those of n with what the text says.
-use Rattle.std.specs.Prelude.{◌≡◌, ℕ, List, [], ◌∷◌, ◌++◌, Result, Ok, Err}
+use Rattle.std.specs.Prelude.{◌≡◌, ℕ, List, [], ◌∷◌, ◌++◌, Result, Ok, Err, Option, Some, None}
 use Rattle.std.specs.Borrow.{Bor}
 use Rattle.time_readers.specs.Cuts.{Form, Cut, NoCut}
 
@@ -29,6 +29,12 @@ pub record StopsAt {P N : Type 0} (A : Format P N) (ps : List P) (n : N) (bytes 
 abbrev pub Steps : {P N : Type 0} → Format P N → P → N → List ℕ → Result (Bor (List ℕ)) P → N → Type 0
 Steps A p n bytes (Ok rest) m = Cut (A p n) bytes rest.now m
 Steps A p n bytes (Err e) m = (e ≡ p) × NoCut (A p n) bytes
+
+-- the rest of a cut of the bytes, whose value is then v, or nothing where there is none
+abbrev pub Reads : {V : Type 0} → (List ℕ → List ℕ → V → Type 0)
+    → List ℕ → Option (Bor (List ℕ)) → V → Type 0
+Reads S bytes None v = NoCut S bytes
+Reads S bytes (Some rest) v = Cut S bytes rest.now v
 
 -- the answer of reading places one after another
 abbrev pub Walks : {P N : Type 0} → Format P N → List P → N → List ℕ → Result (Bor (List ℕ)) P → N → Type 0

@@ -1,7 +1,8 @@
 //! Laws of the definitions that the contracts of this crate cite: each function does nothing, and its
 //! contract is the law.
 ghost use Rattle.std.specs.Prelude.{ℕ, List, Bool};
-ghost use Rattle.time_readers.specs.Laws.{OneDigitRun, OnePaddedRun, OneSpelling, OneForm};
+ghost use Rattle.time_readers.specs.Readers.{Reader};
+ghost use Rattle.time_readers.specs.Laws.{OneDigitRun, OnePaddedRun, OneSpelling, OneForm, OneMailDate, Takes, IsRepeated};
 
 /// For one input at most one beginning is a run of digits, with one value.
 pub fn law_one_digit_run()
@@ -22,4 +23,15 @@ pub fn law_one_spelling()
 /// both.
 pub fn law_one_form()
     ensures { (ranged : Bool) (bytes : List ℕ) → OneForm ranged bytes }
+{}
+
+/// By the places of RFC 2822 bytes have one reading, or one first place that doesn't stand, and never
+/// both.
+pub fn law_one_mail_date()
+    ensures { (ranged : Bool) (bytes : List ℕ) → OneMailDate ranged bytes }
+{}
+
+/// A reader that takes a byte or more wherever it reads is repeated until it refuses.
+pub fn law_repeated()
+    ensures { (p : Reader) → Takes p → IsRepeated p }
 {}

@@ -1,0 +1,140 @@
+-- The places of a mail date, as their readers answer them.
+use Rattle.std.proofs.Common.{◌≡◌, ◌⊎◌, inl, inr, ℕ, ◌≤◌, ◌<◌, List, [], ◌∷◌, ◌++◌, length, take, refl, ap, sym, ◌∙◌, subst, arith, append_assoc, Bool, true, false, Option, Some, None, Bor, option_copied}
+use Rattle.std.proofs.lemmas.Option.{same_Some, none-some}
+use Rattle.time_values.specs.declared.weekday.Weekday.{Weekday}
+use Rattle.time_values.specs.declared.weekday.Weekday.TheVariants.{Monday, Tuesday, Wednesday, Thursday, Friday, Saturday, Sunday}
+use Rattle.time_readers.specs.Cuts.{Cut, NoCut}
+use Rattle.time_readers.specs.Digits.{IsDigitRun}
+use Rattle.time_readers.specs.Bytes.{IsByte}
+use Rattle.time_readers.specs.Names.{weekday_name}
+use Rattle.time_readers.specs.Spelling.{Spells, weekday}
+use Rattle.time_readers.specs.declared.format_description.Component.TheVariants as component
+use Rattle.time_readers.specs.Places.{Reads}
+use Rattle.time_readers.specs.Readers.{Reader, IsRead}
+use Rattle.time_readers.specs.MailBlanks.{fws, cfws, opt_cfws, opt_cfws_colon_opt_cfws}
+use Rattle.time_readers.specs.declared.rfc2822.places.Numbers.{Numbers}
+use Rattle.time_readers.specs.declared.rfc2822.places.Place.{Place}
+use Rattle.time_readers.specs.declared.rfc2822.places.Place.TheVariants.{DayBlanks, MonthBlanks, YearBlanks, TimeBlanks}
+use Rattle.time_readers.specs.Rfc3339.{IsTwoDigits}
+use Rattle.time_readers.specs.Rfc2822.{Asks, year_blanks, IsShortWeekday, IsWeekdayPart, IsYear, IsSecond}
+use Rattle.time_readers.proofs.Runs.{IsDigitRun-same, IsDigitRun-below}
+use Rattle.time_readers.proofs.NameLemmas.{IsNamed-length, same_front}
+use Rattle.time_readers.proofs.Repeats.{Leaves, takes-leaves}
+use Rattle.time_readers.proofs.MailBlanks.{fws-takes, cfws-takes, opt_cfws-leaves, colon-leaves}
+
+pub Reads-none : {V : Type 0} (S : List ℕ → List ℕ → V → Type 0) (bytes : List ℕ) (answer : Option (Bor (List ℕ))) (v : V) → answer ≡ None → NoCut S bytes
+    → Reads S bytes answer v
+Reads-none S bytes answer v e none = subst (λ o. Reads S bytes o v) (sym e) none
+
+-- what a reader takes
+pub read-cut : (p : Reader) → Leaves p → (s r : List ℕ) → p s ≡ Some r → (text : List ℕ) × (s ≡ text ++ r) × IsRead p text r
+read-cut p l s r e =
+    let cut = l s r e in
+    (cut.0, cut.1, subst (λ t. p t ≡ Some r) cut.1 e)
+
+-- what a reader answers, at a place that says nothing
+pub read-answer : {N : Type 0} (p : Reader) → Leaves p → (s : List ℕ) (answer : Option (Bor (List ℕ))) (n : N) → option_copied answer ≡ p s
+    → Reads (λ text after m. IsRead p text after × (m ≡ n)) s answer n
+read-answer p l s None n e = λ text rest m cut is. none-some rest (e ∙ ap p cut ∙ is.0)
+read-answer p l s (Some r) n e =
+    let cut = read-cut p l s r.now (sym e) in
+    (cut.0, cut.1, (cut.2, refl))
+
+-- a reader that refuses
+pub read-none : (p : Reader) (s text rest : List ℕ) → p s ≡ None → s ≡ text ++ rest → IsRead p text rest → ⊥
+read-none p s text rest e cut is = none-some rest (sym e ∙ ap p cut ∙ is)
+
+-- a reader's rest is one
+pub read-same : (p : Reader) (s r text rest : List ℕ) → p s ≡ Some r → s ≡ text ++ rest → IsRead p text rest → r ≡ rest
+read-same p s r text rest e cut is = same_Some r rest (sym e ∙ ap p cut ∙ is)
+
+pub two_digits-below : (ranged : Bool) (least most : ℕ) (s rest : List ℕ) (v : ℕ) → Cut (IsTwoDigits ranged least most) s rest v → v ≤ 99
+two_digits-below ranged least most s rest v cut = omega (arith, IsDigitRun-below 2 2 cut.0 rest v cut.2.0)
+
+-- four digits below 1900
+pub no_year : (s rest : List ℕ) (v : ℕ) → Cut (IsDigitRun 4 4) s rest v → v < 1900 → (text after : List ℕ) → s ≡ text ++ after → (full : Bool) (w : ℕ)
+    → IsYear full text after w → ⊥
+no_year s rest v cut low text after e true w is =
+    let same = IsDigitRun-same 4 4 s rest v cut text after w e is.0 in
+    omega (arith, is.1)
+no_year s rest v cut low text after e false w is = is.0 cut.0 rest v (sym e ∙ cut.1) cut.2
+
+pub second-cut : (ranged : Bool) (s mid rest : List ℕ) (v : ℕ) → opt_cfws_colon_opt_cfws s ≡ Some mid → Cut (IsTwoDigits ranged 0 60) mid rest v
+    → Cut (IsSecond ranged) s rest (Some v)
+second-cut ranged s mid rest v e cut =
+    let colon = read-cut opt_cfws_colon_opt_cfws colon-leaves s mid e in
+    let is : IsRead opt_cfws_colon_opt_cfws colon.0 (cut.0 ++ rest) = subst (λ t. IsRead opt_cfws_colon_opt_cfws colon.0 t) cut.1 colon.2 in
+    (colon.0 ++ cut.0, colon.1 ∙ ap (λ t. colon.0 ++ t) cut.1 ∙ sym (append_assoc colon.0 cut.0 rest), (colon.0, cut.0, refl, is, cut.2))
+
+-- blanks, a name, a comma and blanks
+pub weekday-cut : (s mid left behind rest : List ℕ) (w : Weekday) → opt_cfws s ≡ Some mid → Cut IsShortWeekday mid left w → Cut (IsByte 44) left behind tt
+    → opt_cfws behind ≡ Some rest → Cut IsWeekdayPart s rest (Some w)
+weekday-cut s mid left behind rest w e name comma e' =
+    let first = read-cut opt_cfws opt_cfws-leaves s mid e in
+    let last = read-cut opt_cfws opt_cfws-leaves behind rest e' in
+    let tail : left ≡ 44 ∷ (last.0 ++ rest) = comma.1 ∙ ap (λ t. t ++ behind) comma.2 ∙ ap (λ t. 44 ∷ t) last.1 in
+    let middle : mid ≡ name.0 ++ 44 ∷ (last.0 ++ rest) = name.1 ∙ ap (λ t. name.0 ++ t) tail in
+    let whole : name.0 ++ 44 ∷ (last.0 ++ rest) ≡ (name.0 ++ 44 ∷ last.0) ++ rest = sym (append_assoc name.0 (44 ∷ last.0) rest) in (
+      first.0 ++ (name.0 ++ 44 ∷ last.0),
+      first.1 ∙ ap (λ t. first.0 ++ t) (middle ∙ whole) ∙ sym (append_assoc first.0 (name.0 ++ 44 ∷ last.0) rest),
+      (first.0, name.0, last.0, refl, subst (λ t. IsRead opt_cfws first.0 t) middle first.2, name.2, last.2),
+    )
+
+pub spelled_weekday : (s r : List ℕ) (w : Weekday) → Cut (Spells false (component.WeekdayShort (record { case_sensitive = false }))) s r (weekday w)
+    → Cut IsShortWeekday s r w
+spelled_weekday s r w (text, e, spells) =
+    let same : spells.0 ≡ w = cc in
+    (text, e, subst (λ x. IsShortWeekday text r x) same spells.2)
+
+three : (w : Weekday) → length (take 3 (weekday_name w)) ≡ 3
+three Monday = refl
+three Tuesday = refl
+three Wednesday = refl
+three Thursday = refl
+three Friday = refl
+three Saturday = refl
+three Sunday = refl
+
+three_letters : (text rest : List ℕ) (w : Weekday) → IsShortWeekday text rest w → length text ≡ 3
+three_letters text rest w is = IsNamed-length false (take 3 (weekday_name w)) text is ∙ three w
+
+-- a weekday with no comma behind it
+pub no_comma : (s mid left : List ℕ) (w : Weekday) → opt_cfws s ≡ Some mid → Cut IsShortWeekday mid left w → NoCut (IsByte 44) left
+    → (text rest : List ℕ) (v : Option Weekday) → s ≡ text ++ rest → IsWeekdayPart text rest v → ⊥
+no_comma s mid left w e name none text rest None cut is =
+    let same = read-same opt_cfws s mid text rest e cut is.0 in
+    is.1 name.0 left w (sym same ∙ name.1) name.2
+no_comma s mid left w e name none text rest (Some x) cut is =
+    let tail = 44 ∷ (is.2 ++ rest) in
+    let whole : s ≡ is.0 ++ (is.1 ++ tail) =
+    cut ∙ ap (λ t. t ++ rest) is.3 ∙ append_assoc is.0 (is.1 ++ 44 ∷ is.2) rest ∙ ap (λ t. is.0 ++ t) (append_assoc is.1 (44 ∷ is.2) rest) in
+    let same = read-same opt_cfws s mid is.0 (is.1 ++ tail) e whole is.4 in
+    let fronts = same_front name.0 is.1 left tail (three_letters name.0 left w name.2 ∙ sym (three_letters is.1 tail x is.5)) (sym name.1 ∙ same) in
+    none (44 ∷ []) (is.2 ++ rest) tt fronts.1 refl
+
+-- the answer at a place by its name
+pub at-place : (ranged : Bool) (p q : Place) (n m : Numbers) (s : List ℕ) (answer : Option (Bor (List ℕ))) → p ≡ q → Reads (Asks ranged q n) s answer m
+    → Reads (Asks ranged p n) s answer m
+at-place ranged p q n m s answer e is = subst (λ x. Reads (Asks ranged x n) s answer m) (sym e) is
+
+-- blanks with comments, at one of three places
+pub at-blanks : (ranged : Bool) (p : Place) (n : Numbers) (s : List ℕ) (answer : Option (Bor (List ℕ))) → (p ≡ DayBlanks)
+    ⊎ ((p ≡ MonthBlanks) ⊎ (p ≡ TimeBlanks)) → option_copied answer ≡ cfws s → Reads (Asks ranged p n) s answer n
+at-blanks ranged p n s answer is e =
+    let blanks = read-answer cfws (takes-leaves cfws cfws-takes) s answer n e in
+    elim is [
+      | inl day ↦ at-place ranged p DayBlanks n n s answer day blanks
+      | inr (inl month) ↦ at-place ranged p MonthBlanks n n s answer month blanks
+      | inr (inr time) ↦ at-place ranged p TimeBlanks n n s answer time blanks
+    ]
+
+year_blanks-leaves : (full : Bool) → Leaves (year_blanks full)
+year_blanks-leaves true = takes-leaves fws fws-takes
+year_blanks-leaves false = takes-leaves cfws cfws-takes
+
+-- blanks behind a year
+pub at-year_blanks : (ranged full : Bool) (p : Place) (n : Numbers) (s : List ℕ) (answer : Option (Bor (List ℕ))) → p ≡ YearBlanks → n.year_is_full ≡ full
+    → option_copied answer ≡ year_blanks full s → Reads (Asks ranged p n) s answer n
+at-year_blanks ranged full p n s answer is e h =
+    let blanks = read-answer (year_blanks full) (year_blanks-leaves full) s answer n h in
+    at-place ranged p YearBlanks n n s answer is (subst (λ b. Reads (λ text after m. IsRead (year_blanks b) text after × (m ≡ n)) s answer n) (sym e) blanks)

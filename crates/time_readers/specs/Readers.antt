@@ -1,0 +1,49 @@
+-- Readers as functions: from the bytes left to the rest, or nothing where the reader refuses.
+use Rattle.std.specs.Prelude.{◌≡◌, ℕ, List, [], ◌∷◌, ◌++◌, Bool, ◌==◌, if◌then◌else◌, Option, Some, None, option_and_then}
+use Rattle.std.specs.Option.{option_or}
+use Rattle.std.specs.Str.{byte}
+use Prim.Native.String.{String}
+
+-- what is left of the bytes behind what is read of them
+abbrev pub Reader : Type 0
+Reader = List ℕ → Option (List ℕ)
+
+-- one byte that the test takes
+abbrev pub one_of : (ℕ → Bool) → Reader
+one_of test [] = None
+one_of test (c ∷ s) = if test c then Some s else None
+
+-- the byte of an ASCII character
+abbrev pub char : String → Reader
+char x = one_of (λ c. c == byte x)
+
+infixr 20 ◌then◌
+infixl 15 ◌or◌
+-- the first reader, and then the second on its rest
+abbrev pub ◌then◌ : Reader → Reader → Reader
+◌then◌ p q s = option_and_then q (p s)
+
+-- the first reader, and where it refuses the second
+abbrev pub ◌or◌ : Reader → Reader → Reader
+◌or◌ p q s = option_or (p s) (q s)
+
+-- nothing where the reader refuses
+abbrev pub optional : Reader → Reader
+optional p = p or Some
+
+-- the reader as often as it reads, at most once for each byte of the list
+unfoldable pub repeat : List ℕ → Reader → Reader
+repeat [] p = Some
+repeat (c ∷ cs) p = optional (p then repeat cs p)
+
+-- the reader as often as it reads: it takes a byte each time, so the bytes are enough times
+unfoldable pub zero_or_more : Reader → Reader
+zero_or_more p s = repeat s p s
+
+-- the reader once, and then as often as it reads
+abbrev pub one_or_more : Reader → Reader
+one_or_more p = p then zero_or_more p
+
+-- the reader takes the text and no more, before what follows it
+abbrev pub IsRead : Reader → List ℕ → List ℕ → Type 0
+IsRead p text after = p (text ++ after) ≡ Some after

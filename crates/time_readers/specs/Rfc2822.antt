@@ -1,0 +1,147 @@
+-- The date and time of RFC 2822, section 3.3, by places.
+use Rattle.std.specs.Prelude.{◌≡◌, ◌≤◌, ℕ, ◌+◌, ◌⊎◌, List, [], ◌∷◌, ◌++◌, codes, Bool, true, false, Option, Some, None, ℤ, pos, nat_lt, if◌then◌else◌}
+use Rattle.time_values.specs.Refusal.{Refusal, literal, component}
+use Rattle.time_values.specs.Sign.{signed_by}
+use Rattle.time_values.specs.declared.month.Month.{Month}
+use Rattle.time_values.specs.declared.month.Month.TheVariants.{January}
+use Rattle.time_values.specs.declared.weekday.Weekday.{Weekday}
+use Rattle.time_readers.specs.Cuts.{NoCut}
+use Rattle.time_readers.specs.Digits.{IsDigitRun}
+use Rattle.time_readers.specs.Bytes.{sign_byte, is_negative}
+use Rattle.time_readers.specs.Names.{month_name, weekday_name}
+use Rattle.time_readers.specs.Spelling.{IsShortOf}
+use Rattle.time_readers.specs.Places.{Stand, StopsAt}
+use Rattle.time_readers.specs.Rfc3339.{IsWithin, IsTwoDigits}
+use Rattle.time_readers.specs.Readers.{Reader, IsRead}
+use Rattle.time_readers.specs.MailBlanks.{fws, cfws, opt_cfws, opt_cfws_colon_opt_cfws}
+use Rattle.time_readers.specs.MailZones.{zone_literal}
+use Rattle.time_readers.specs.declared.Sign.{Sign}
+use Rattle.time_readers.specs.declared.rfc2822.places.Numbers.{Numbers}
+use Rattle.time_readers.specs.declared.rfc2822.places.Place.{Place}
+use Rattle.time_readers.specs.declared.rfc2822.places.Place.TheVariants.{WeekdayName, Day, DayBlanks, MonthName, MonthBlanks, Year, YearBlanks, Hour, HourColon, Minute, Second, TimeBlanks, OffsetHour, OffsetMinute, EndBlanks}
+
+-- the first three letters of a name of a weekday, in any case
+abbrev pub IsShortWeekday : List ℕ → List ℕ → Weekday → Type 0
+IsShortWeekday = IsShortOf false weekday_name
+
+-- blanks, and then no weekday, or one with a comma and blanks behind it
+abbrev pub IsWeekdayPart : List ℕ → List ℕ → Option Weekday → Type 0
+IsWeekdayPart text after None = IsRead opt_cfws text after × NoCut IsShortWeekday after
+IsWeekdayPart text after (Some w) =
+    (blanks name behind : List ℕ) × (text ≡ blanks ++ (name ++ 44 ∷ behind))
+    × IsRead opt_cfws blanks (name ++ 44 ∷ (behind ++ after))
+    × IsShortWeekday name (44 ∷ (behind ++ after)) w
+    × IsRead opt_cfws behind after
+
+-- the year that two digits say
+abbrev pub year_of_two : ℕ → ℕ
+year_of_two v = if nat_lt v 50 then 2000 + v else 1900 + v
+
+-- four digits of 1900 or later, or two where four don't stand
+abbrev pub IsYear : Bool → List ℕ → List ℕ → ℕ → Type 0
+IsYear true text after v = IsDigitRun 4 4 text after v × (1900 ≤ v)
+IsYear false text after v =
+    NoCut (IsDigitRun 4 4) (text ++ after) × ((w : ℕ) × IsDigitRun 2 2 text after w × (v ≡ year_of_two w))
+
+-- blanks after a year of four digits, also comments after one of two
+abbrev pub year_blanks : Bool → Reader
+year_blanks true = fws
+year_blanks false = cfws
+
+-- nothing where no colon stands, or a colon between blanks and two digits
+abbrev pub IsSecond : Bool → List ℕ → List ℕ → Option ℕ → Type 0
+IsSecond ranged text after None = (text ≡ []) × (opt_cfws_colon_opt_cfws after ≡ None)
+IsSecond ranged text after (Some v) =
+    (colon digits : List ℕ) × (text ≡ colon ++ digits)
+    × IsRead opt_cfws_colon_opt_cfws colon (digits ++ after) × IsTwoDigits ranged 0 60 digits after v
+
+-- a zone name
+abbrev pub IsZone : Numbers → List ℕ → List ℕ → Numbers → Type 0
+IsZone n text after m =
+    (hours : ℤ) × (zone_literal (text ++ after) ≡ Some (hours, after))
+    × (m ≡ record n { offset_sign = None; offset_hour = hours })
+
+-- where no zone name stands, a sign and two digits
+pub record IsSignedHour (ranged : Bool) (n : Numbers) (text after : List ℕ) (m : Numbers) : Type 0 where
+  pub no_zone : zone_literal (text ++ after) ≡ None
+  pub sign : Sign
+  pub digits : List ℕ
+  pub hour : ℕ
+  pub cut : text ≡ sign_byte sign ∷ digits
+  pub run : IsTwoDigits ranged 0 25 digits after hour
+  pub says : m ≡ record n { offset_sign = Some sign; offset_hour = signed_by (is_negative sign) (pos hour) }
+
+-- two digits behind a signed hour, and nothing behind a zone name
+abbrev pub IsOffsetMinute : Bool → Option Sign → Numbers → List ℕ → List ℕ → Numbers → Type 0
+IsOffsetMinute ranged None n text after m = (text ≡ []) × (m ≡ n)
+IsOffsetMinute ranged (Some sign) n text after m =
+    (v : ℕ) × IsTwoDigits ranged 0 59 text after v
+    × (m ≡ record n { offset_minute = signed_by (is_negative sign) (pos v) })
+
+-- What each place asks of its text, and what the text says: its form, and where ranges are asked its range. The year
+-- says whether it has four digits, and the hour of the offset whether a sign stands: the next place depends on it.
+abbrev pub Asks : Bool → Place → Numbers → List ℕ → List ℕ → Numbers → Type 0
+Asks ranged WeekdayName n text after m =
+    (v : Option Weekday) × IsWeekdayPart text after v × (m ≡ record n { weekday = v })
+Asks ranged Day n text after m =
+    (v : ℕ) × IsDigitRun 1 2 text after v × IsWithin ranged 1 31 v × (m ≡ record n { day = v })
+Asks ranged DayBlanks n text after m = IsRead cfws text after × (m ≡ n)
+Asks ranged MonthName n text after m =
+    (v : Month) × IsShortOf false month_name text after v × (m ≡ record n { month = v })
+Asks ranged MonthBlanks n text after m = IsRead cfws text after × (m ≡ n)
+Asks ranged Year n text after m =
+    (full : Bool) × (v : ℕ) × IsYear full text after v × (m ≡ record n { year = v; year_is_full = full })
+Asks ranged YearBlanks n text after m = IsRead (year_blanks n.year_is_full) text after × (m ≡ n)
+Asks ranged Hour n text after m =
+    (v : ℕ) × IsTwoDigits ranged 0 23 text after v × (m ≡ record n { hour = v })
+Asks ranged HourColon n text after m = IsRead opt_cfws_colon_opt_cfws text after × (m ≡ n)
+Asks ranged Minute n text after m =
+    (v : ℕ) × IsTwoDigits ranged 0 59 text after v × (m ≡ record n { minute = v })
+Asks ranged Second n text after m =
+    (v : Option ℕ) × IsSecond ranged text after v × (m ≡ record n { second = v })
+Asks ranged TimeBlanks n text after m = IsRead cfws text after × (m ≡ n)
+Asks ranged OffsetHour n text after m = IsZone n text after m ⊎ IsSignedHour ranged n text after m
+Asks ranged OffsetMinute n text after m = IsOffsetMinute ranged n.offset_sign n text after m
+Asks ranged EndBlanks n text after m = IsRead opt_cfws text after × (m ≡ n)
+
+-- the numbers before any place is read
+abbrev pub nothing_read : Numbers
+nothing_read = record {
+  weekday = None;
+  day = 0;
+  month = January;
+  year = 0;
+  year_is_full = false;
+  hour = 0;
+  minute = 0;
+  second = None;
+  offset_sign = None;
+  offset_hour = pos 0;
+  offset_minute = pos 0;
+}
+
+-- the fifteen places in order
+abbrev pub places : List Place
+places =
+    WeekdayName ∷ Day ∷ DayBlanks ∷ MonthName ∷ MonthBlanks ∷ Year ∷ YearBlanks ∷ Hour ∷ HourColon ∷ Minute
+    ∷ Second ∷ TimeBlanks ∷ OffsetHour ∷ OffsetMinute ∷ EndBlanks ∷ []
+
+-- the bytes are the texts of the fifteen places, which say the numbers, and then the rest
+abbrev pub HasForm : Bool → List ℕ → List ℕ → Numbers → Type 0
+HasForm ranged bytes rest m = Stand (Asks ranged) places nothing_read bytes rest m
+
+-- the first of the fifteen places that doesn't stand
+abbrev pub FailsAt : Bool → List ℕ → Place → Type 0
+FailsAt ranged bytes p = StopsAt (Asks ranged) places nothing_read bytes p
+
+-- the refusal of a place that doesn't stand: of a number or a name a component by its name, else a literal
+abbrev pub fault : Place → Refusal
+fault Day = component (codes "day")
+fault MonthName = component (codes "month")
+fault Year = component (codes "year")
+fault Hour = component (codes "hour")
+fault Minute = component (codes "minute")
+fault Second = component (codes "second")
+fault OffsetHour = component (codes "offset hour")
+fault OffsetMinute = component (codes "offset minute")
+fault _ = literal

@@ -1,0 +1,365 @@
+//! The date and time of RFC 2822, section 3.3, by fifteen places.
+ghost use Rattle.std.specs.Prelude.{◌≡◌, ◌≤◌, ◌↔◌, false, IsTrue, MatchResult, option_map, pos};
+ghost use Rattle.std.specs.Option.{option_copied};
+ghost use Rattle.time_values.specs.Refusal.{refusal_of_description};
+ghost use Rattle.time_values.specs.Sign.{signed_by};
+ghost use Rattle.time_readers.specs.Bytes.{is_negative};
+ghost use Rattle.time_readers.specs.Cuts.{Finds};
+ghost use Rattle.time_readers.specs.Places.{Reads};
+ghost use Rattle.time_readers.specs.Rfc3339.{IsWithin, IsTwoDigits};
+ghost use Rattle.time_readers.specs.Rfc2822.{Asks, HasForm, FailsAt, fault};
+ghost use Rattle.time_readers.specs.declared.rfc2822.places.Place.TheVariants as place;
+
+use crate::combinator::{ascii_char, four_digits, one_or_two_digits, sign, two_digits};
+use crate::component::{parse_month_short, parse_weekday_short};
+use crate::rfc2822::{cfws, fws, opt_cfws, opt_cfws_colon_opt_cfws, zone_literal};
+use crate::{ParsedItem, Sign, modifier};
+use time_values::error::ParseFromDescription;
+use time_values::{Month, Weekday};
+
+/// A place of the text, in order.
+#[derive(Clone, Copy, Debug, PartialEq, Eq)]
+pub enum Place {
+    /// Blanks, and then nothing or a weekday's name with a comma and blanks behind it.
+    WeekdayName,
+    /// One or two digits.
+    Day,
+    /// Blanks.
+    DayBlanks,
+    /// The first three letters of a month's name.
+    MonthName,
+    /// Blanks.
+    MonthBlanks,
+    /// Four digits of 1900 or later, or two.
+    Year,
+    /// Blanks, without comments after four digits.
+    YearBlanks,
+    /// Two digits.
+    Hour,
+    /// `:`, with blanks.
+    HourColon,
+    /// Two digits.
+    Minute,
+    /// Nothing, or `:` with blanks and two digits.
+    Second,
+    /// Blanks.
+    TimeBlanks,
+    /// A zone name, or a sign and two digits.
+    OffsetHour,
+    /// Two digits, or nothing after a zone name.
+    OffsetMinute,
+    /// Blanks or nothing.
+    EndBlanks,
+}
+
+// The places in order.
+const PLACES: [Place; 15] = [
+    Place::WeekdayName,
+    Place::Day,
+    Place::DayBlanks,
+    Place::MonthName,
+    Place::MonthBlanks,
+    Place::Year,
+    Place::YearBlanks,
+    Place::Hour,
+    Place::HourColon,
+    Place::Minute,
+    Place::Second,
+    Place::TimeBlanks,
+    Place::OffsetHour,
+    Place::OffsetMinute,
+    Place::EndBlanks,
+];
+
+/// What the places of a text say.
+#[derive(Clone, Copy, Debug)]
+pub struct Numbers {
+    /// The weekday, where one stands.
+    pub weekday: Option<Weekday>,
+    /// The day of the month.
+    pub day: u8,
+    /// The month.
+    pub month: Month,
+    /// The year, 1900 to 9999.
+    pub year: u16,
+    /// Whether the year has four digits.
+    pub year_is_full: bool,
+    /// The hour.
+    pub hour: u8,
+    /// The minute.
+    pub minute: u8,
+    /// The second, where one stands. 60 is a leap second.
+    pub second: Option<u8>,
+    /// The sign of the offset, where it isn't a zone name.
+    pub offset_sign: Option<Sign>,
+    /// The hour of the offset.
+    pub offset_hour: i8,
+    /// The minute of the offset.
+    pub offset_minute: i8,
+}
+
+impl Numbers {
+    // Before any place is read.
+    const NONE: Numbers = Numbers {
+        weekday: None,
+        day: 0,
+        month: Month::January,
+        year: 0,
+        year_is_full: false,
+        hour: 0,
+        minute: 0,
+        second: None,
+        offset_sign: None,
+        offset_hour: 0,
+        offset_minute: 0,
+    };
+}
+
+/// Reads the fifteen places of a mail date: answers what they say with the unread rest, or the first
+/// place that doesn't stand.
+///
+/// Each place has to have its form. With `RANGED` the numbers also have to lie in the ranges day 1 to 31,
+/// hour 0 to 23, minute 0 to 59, second 0 to 60, hour of the offset -25 to 25, minute of the offset 0 to 59.
+pub fn read<const RANGED: bool>(input: &[u8]) -> Result<ParsedItem<'_, Numbers>, Place>
+    ensures { MatchResult result
+        (λ p. HasForm RANGED input.now p.0.now p.1)
+        (λ e. FailsAt RANGED input.now e) }
+{
+    let mut numbers = Numbers::NONE;
+    let mut rest = input;
+    for place in PLACES {
+        let Some(behind) = read_place::<RANGED>(place, rest, &mut numbers) else {
+            return Err(place);
+        };
+        rest = behind;
+    }
+    Ok(ParsedItem(rest, numbers))
+}
+
+/// The refusal of a text whose first place that doesn't stand is this one: an invalid component of the
+/// place's name where a number or a name should stand, else an invalid literal.
+pub fn place_fault(place: Place) -> ParseFromDescription
+    ensures { refusal_of_description result ≡ fault place }
+{
+    let name = match place {
+        Place::WeekdayName
+        | Place::DayBlanks
+        | Place::MonthBlanks
+        | Place::YearBlanks
+        | Place::HourColon
+        | Place::TimeBlanks
+        | Place::EndBlanks => return ParseFromDescription::InvalidLiteral,
+        Place::Day => "day",
+        Place::MonthName => "month",
+        Place::Year => "year",
+        Place::Hour => "hour",
+        Place::Minute => "minute",
+        Place::Second => "second",
+        Place::OffsetHour => "offset hour",
+        Place::OffsetMinute => "offset minute",
+    };
+    ParseFromDescription::InvalidComponent(name)
+}
+
+// Reads one place.
+fn read_place<'a, const RANGED: bool>(
+    place: Place,
+    input: &'a [u8],
+    numbers: &mut Numbers,
+) -> Option<&'a [u8]>
+    ensures { Reads (Asks RANGED place numbers.old) input.now result numbers.new }
+{
+    match place {
+        Place::WeekdayName => weekday_name(input, numbers),
+        Place::Day => day::<RANGED>(input, numbers),
+        Place::MonthName => month_name(input, numbers),
+        Place::Year => year(input, numbers),
+        Place::Hour => hour::<RANGED>(input, numbers),
+        Place::Minute => minute::<RANGED>(input, numbers),
+        Place::Second => second::<RANGED>(input, numbers),
+        Place::OffsetHour => offset_hour::<RANGED>(input, numbers),
+        Place::OffsetMinute => offset_minute::<RANGED>(input, numbers),
+        Place::DayBlanks | Place::MonthBlanks | Place::TimeBlanks => rest_of(cfws(input)),
+        Place::YearBlanks if numbers.year_is_full => rest_of(fws(input)),
+        Place::YearBlanks => rest_of(cfws(input)),
+        Place::HourColon => rest_of(opt_cfws_colon_opt_cfws(input)),
+        Place::EndBlanks => Some(opt_cfws(input).0),
+    }
+}
+
+// What is left behind what says nothing.
+#[inline]
+fn rest_of(answer: Option<ParsedItem<'_, ()>>) -> Option<&[u8]>
+    ensures { option_copied result ≡ option_map (λ p. p.0.now) answer.entry }
+{
+    match answer {
+        Some(found) => Some(found.0),
+        None => None,
+    }
+}
+
+// Two digits, whose number lies in the range where that is asked.
+#[inline]
+fn two_digits_in<const RANGED: bool>(
+    input: &[u8],
+    least: u8,
+    most: u8,
+) -> Option<ParsedItem<'_, u8>>
+    ensures { Finds (IsTwoDigits RANGED least most) (λ v. v) input.now result }
+{
+    let found = two_digits(input)?;
+    if is_within::<RANGED>(found.1, least, most) {
+        Some(found)
+    } else {
+        None
+    }
+}
+
+// Whether the number lies in the range, where that is asked.
+#[inline]
+fn is_within<const RANGED: bool>(value: u8, least: u8, most: u8) -> bool
+    ensures { IsTrue result ↔ IsWithin RANGED least most value }
+{
+    !RANGED || (least <= value && value <= most)
+}
+
+// The number with the sign.
+#[inline]
+fn with_sign(sign: Sign, value: u8) -> i8
+    requires { value ≤ 99 }
+    ensures { result ≡ signed_by (is_negative sign) (pos value) }
+{
+    let value = value as i8;
+    match sign {
+        Sign::Negative => -value,
+        Sign::Positive => value,
+    }
+}
+
+// Blanks, and then nothing or a weekday's name, a comma and blanks.
+fn weekday_name<'a>(input: &'a [u8], numbers: &mut Numbers) -> Option<&'a [u8]>
+    ensures { Reads (Asks false place.WeekdayName numbers.old) input.now result numbers.new }
+{
+    let rest = opt_cfws(input).0;
+    let any_case = modifier::WeekdayShort {
+        case_sensitive: false,
+    };
+    let Some(name) = parse_weekday_short(rest, any_case) else {
+        numbers.weekday = None;
+        return Some(rest);
+    };
+    let comma = ascii_char::<b','>(name.0)?;
+    numbers.weekday = Some(name.1);
+    Some(opt_cfws(comma.0).0)
+}
+
+// One or two digits: 1 to 31 where ranges are asked.
+#[inline]
+fn day<'a, const RANGED: bool>(input: &'a [u8], numbers: &mut Numbers) -> Option<&'a [u8]>
+    ensures { Reads (Asks RANGED place.Day numbers.old) input.now result numbers.new }
+{
+    let found = one_or_two_digits(input)?;
+    if !is_within::<RANGED>(found.1, 1, 31) {
+        return None;
+    }
+    numbers.day = found.1;
+    Some(found.0)
+}
+
+// The first three letters of a month's name, in any case.
+#[inline]
+fn month_name<'a>(input: &'a [u8], numbers: &mut Numbers) -> Option<&'a [u8]>
+    ensures { Reads (Asks false place.MonthName numbers.old) input.now result numbers.new }
+{
+    let any_case = modifier::MonthShort {
+        case_sensitive: false,
+    };
+    let found = parse_month_short(input, any_case)?;
+    numbers.month = found.1;
+    Some(found.0)
+}
+
+// Four digits of 1900 or later, or where four don't stand two, of which those below 50 are years from 2000 on
+// and the others from 1900 on.
+#[inline]
+fn year<'a>(input: &'a [u8], numbers: &mut Numbers) -> Option<&'a [u8]>
+    ensures { Reads (Asks false place.Year numbers.old) input.now result numbers.new }
+{
+    if let Some(full) = four_digits(input) {
+        if full.1 < 1900 {
+            return None;
+        }
+        numbers.year = full.1;
+        numbers.year_is_full = true;
+        return Some(full.0);
+    }
+    let short = two_digits(input)?;
+    let century = if short.1 < 50 { 2000 } else { 1900 };
+    numbers.year = century + u16::from(short.1);
+    numbers.year_is_full = false;
+    Some(short.0)
+}
+
+// Two digits: 0 to 23 where ranges are asked.
+#[inline]
+fn hour<'a, const RANGED: bool>(input: &'a [u8], numbers: &mut Numbers) -> Option<&'a [u8]>
+    ensures { Reads (Asks RANGED place.Hour numbers.old) input.now result numbers.new }
+{
+    let found = two_digits_in::<RANGED>(input, 0, 23)?;
+    numbers.hour = found.1;
+    Some(found.0)
+}
+
+// Two digits: 0 to 59 where ranges are asked.
+#[inline]
+fn minute<'a, const RANGED: bool>(input: &'a [u8], numbers: &mut Numbers) -> Option<&'a [u8]>
+    ensures { Reads (Asks RANGED place.Minute numbers.old) input.now result numbers.new }
+{
+    let found = two_digits_in::<RANGED>(input, 0, 59)?;
+    numbers.minute = found.1;
+    Some(found.0)
+}
+
+// Nothing where no colon stands, or a colon with blanks and two digits: 0 to 60 where ranges are asked.
+#[inline]
+fn second<'a, const RANGED: bool>(input: &'a [u8], numbers: &mut Numbers) -> Option<&'a [u8]>
+    ensures { Reads (Asks RANGED place.Second numbers.old) input.now result numbers.new }
+{
+    let Some(colon) = opt_cfws_colon_opt_cfws(input) else {
+        numbers.second = None;
+        return Some(input);
+    };
+    let found = two_digits_in::<RANGED>(colon.0, 0, 60)?;
+    numbers.second = Some(found.1);
+    Some(found.0)
+}
+
+// A zone name, or a sign and two digits: 0 to 25 where ranges are asked.
+#[inline]
+fn offset_hour<'a, const RANGED: bool>(input: &'a [u8], numbers: &mut Numbers) -> Option<&'a [u8]>
+    ensures { Reads (Asks RANGED place.OffsetHour numbers.old) input.now result numbers.new }
+{
+    if let Some(zone) = zone_literal(input) {
+        numbers.offset_sign = None;
+        numbers.offset_hour = zone.1;
+        return Some(zone.0);
+    }
+    let signed = sign(input)?;
+    let found = two_digits_in::<RANGED>(signed.0, 0, 25)?;
+    numbers.offset_sign = Some(signed.1);
+    numbers.offset_hour = with_sign(signed.1, found.1);
+    Some(found.0)
+}
+
+// Two digits behind a signed hour, 0 to 59 where ranges are asked, and nothing behind a zone name.
+#[inline]
+fn offset_minute<'a, const RANGED: bool>(input: &'a [u8], numbers: &mut Numbers) -> Option<&'a [u8]>
+    ensures { Reads (Asks RANGED place.OffsetMinute numbers.old) input.now result numbers.new }
+{
+    let Some(sign) = numbers.offset_sign else {
+        return Some(input);
+    };
+    let found = two_digits_in::<RANGED>(input, 0, 59)?;
+    numbers.offset_minute = with_sign(sign, found.1);
+    Some(found.0)
+}

@@ -40,10 +40,6 @@ read-answer p l s (Some r) n e =
     let cut = read-cut p l s r.now (sym e) in
     (cut.0, cut.1, (cut.2, refl))
 
--- a reader that refuses
-pub read-none : (p : Reader) (s text rest : List ℕ) → p s ≡ None → s ≡ text ++ rest → IsRead p text rest → ⊥
-read-none p s text rest e cut is = none-some rest (sym e ∙ ap p cut ∙ is)
-
 -- a reader's rest is one
 pub read-same : (p : Reader) (s r text rest : List ℕ) → p s ≡ Some r → s ≡ text ++ rest → IsRead p text rest → r ≡ rest
 read-same p s r text rest e cut is = same_Some r rest (sym e ∙ ap p cut ∙ is)

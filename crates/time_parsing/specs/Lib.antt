@@ -1,4 +1,6 @@
 pub mod DescriptionLaws
 pub mod Outcome
+pub mod Rfc2822
+pub mod Rfc2822Laws
 pub mod Rfc3339
 pub mod Rfc3339Laws

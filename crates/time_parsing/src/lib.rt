@@ -4,8 +4,10 @@
 mod description;
 pub mod laws;
 mod parsable;
+mod rfc2822;
 mod rfc3339;
 
 pub use description::Items;
 pub use parsable::Parsable;
+pub use rfc2822::Rfc2822;
 pub use rfc3339::Rfc3339;

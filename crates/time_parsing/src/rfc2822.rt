@@ -1,0 +1,104 @@
+//! The format of mail dates, RFC 2822, section 3.3.
+ghost use Rattle.std.specs.Prelude.{◌≡◌, ◌≤◌, Some, unsigned_abs};
+ghost use Rattle.std.specs.Option.{ForSome};
+ghost use Rattle.std.specs.Int.{IsInRange};
+ghost use Rattle.time_values.specs.Range.{greatest_year};
+ghost use Rattle.time_record.specs.Record.{put_all};
+ghost use Rattle.time_parsing.specs.Rfc3339.{without_offset_sign};
+ghost use Rattle.time_parsing.specs.Rfc2822.{date_entries, time_entries, offset_entries};
+
+use crate::Parsable;
+use crate::parsable::resolved;
+use std::num::NonZero;
+use time_readers::rfc2822::{Numbers, place_fault, read};
+use time_record::Parsed;
+use time_values::OffsetDateTime;
+use time_values::error::Parse;
+
+/// The format of mail dates, RFC 2822, as `Mon, 02 Jan 2021 03:04:05 +0000`.
+///
+/// Blanks and comments may stand between its parts. A weekday is read, and not compared with the date. The
+/// year may have two digits, and the offset may be a zone name, as `GMT`.
+#[derive(Clone, Copy, Debug, PartialEq, Eq)]
+pub struct Rfc2822;
+
+// Puts the weekday, where it stands, day, month and year.
+fn put_date(numbers: Numbers, parsed: &mut Parsed)
+    requires day { IsInRange 1 31 numbers.day }
+    requires year { numbers.year ≤ greatest_year }
+    ensures { put_all greatest_year (date_entries numbers) parsed.old ≡ Some parsed.new }
+{
+    let Some(day) = NonZero::<u8>::new(numbers.day) else {
+        unreachable!()
+    };
+    if let Some(weekday) = numbers.weekday {
+        parsed.set_weekday(weekday);
+    }
+    parsed.set_day(day);
+    parsed.set_month(numbers.month);
+    parsed.set_year(i32::from(numbers.year));
+}
+
+// Puts hour, minute and, where it stands, the second.
+fn put_time(numbers: Numbers, parsed: &mut Parsed)
+    requires hour { numbers.hour ≤ 23 }
+    requires minute { numbers.minute ≤ 59 }
+    requires second { ForSome numbers.second (λ v. v ≤ 60) }
+    ensures { put_all greatest_year (time_entries numbers) parsed.old ≡ Some parsed.new }
+{
+    parsed.set_hour_24(numbers.hour);
+    parsed.set_minute(numbers.minute);
+    if let Some(second) = numbers.second {
+        parsed.set_second(second);
+    }
+}
+
+// Puts the offset, and forgets the sign that an offset hour of a description had left.
+fn put_offset(numbers: Numbers, parsed: &mut Parsed)
+    requires hour { unsigned_abs numbers.offset_hour ≤ 25 }
+    requires minute { unsigned_abs numbers.offset_minute ≤ 59 }
+    ensures { put_all greatest_year (offset_entries numbers.offset_sign numbers)
+        (without_offset_sign parsed.old) ≡ Some parsed.new }
+{
+    parsed.forget_offset_sign();
+    parsed.set_offset_hour(numbers.offset_hour);
+    if numbers.offset_sign.is_some() {
+        parsed.set_offset_minute_signed(numbers.offset_minute);
+    } else {
+        parsed.set_offset_minute_signed(0);
+        parsed.set_offset_second_signed(0);
+    }
+}
+
+impl Parsable for Rfc2822 {
+    ghost use Rattle.time_parsing.specs.Rfc2822.{Reads, Refuses};
+
+    ghost reads = { λ _. Reads greatest_year };
+
+    ghost refuses = { λ _. Refuses greatest_year };
+
+    fn parse_into<'a>(&self, input: &'a [u8], parsed: &mut Parsed) -> Result<&'a [u8], Parse> {
+        match read::<true>(input) {
+            Ok(found) => {
+                put_date(found.1, parsed);
+                put_time(found.1, parsed);
+                put_offset(found.1, parsed);
+                parsed.allow_leap_second();
+                Ok(found.0)
+            }
+            Err(place) => Err(place_fault(place).into()),
+        }
+    }
+
+    fn parse_offset_date_time(
+        &self,
+        input: &[u8],
+        defaults: Option<Parsed>,
+    ) -> Result<OffsetDateTime, Parse> {
+        resolved(&self.parse_internal(input, defaults))
+    }
+
+    ghost use Rattle.time_parsing.specs.Rfc2822Laws.{rfc2822_exact};
+
+    ghost exact = { λ _. rfc2822_exact greatest_year };
+}

@@ -15,6 +15,7 @@ use Rattle.time_lines.specs.declared.formats.Target.TheVariants as target
 abbrev pub format_named : List ℕ → Option Format
 format_named name =
     if bytes_eq name (codes "rfc3339") then Some format.Rfc3339 else
+    if bytes_eq name (codes "rfc2822") then Some format.Rfc2822 else
     if bytes_eq name (codes "ymd") then Some format.Ymd else
     if bytes_eq name (codes "clock") then Some format.Clock else
     if bytes_eq name (codes "unix") then Some format.Unix else
@@ -32,9 +33,10 @@ target_named name =
     if bytes_eq name (codes "staged") then Some target.Staged else
     if bytes_eq name (codes "timestamp") then Some target.Timestamp else None
 
--- the target, if the format supports it: `rfc3339` doesn't support `datetime` yet
+-- the target, if the format supports it: `rfc3339` and `rfc2822` don't support `datetime` yet
 abbrev pub supported_target : Format → Option Target → Option Target
 supported_target format.Rfc3339 (Some target.DateTime) = None
+supported_target format.Rfc2822 (Some target.DateTime) = None
 supported_target format found = found
 
 -- the target of that name, if there is one that the format supports

@@ -14,6 +14,8 @@ use time_readers::{
 pub enum Format {
     /// RFC 3339, section 5.6.
     Rfc3339,
+    /// Mail dates, RFC 2822, section 3.3.
+    Rfc2822,
     /// A date, as `2021-03-04`.
     Ymd,
     /// A time on a clock of 12 hours, as `1:05:09.25 PM`; the second and its fraction may be missing.
@@ -51,6 +53,8 @@ pub fn find_format(name: &[u8]) -> Option<Format>
 {
     if name == b"rfc3339".as_slice() {
         Some(Format::Rfc3339)
+    } else if name == b"rfc2822".as_slice() {
+        Some(Format::Rfc2822)
     } else if name == b"ymd".as_slice() {
         Some(Format::Ymd)
     } else if name == b"clock".as_slice() {
@@ -94,7 +98,7 @@ pub fn find_target(format: Format, name: &[u8]) -> Option<Target>
     ensures { result ≡ formats.target_for format name.now }
 {
     match (format, target_named(name)) {
-        (Format::Rfc3339, Some(Target::DateTime)) => None,
+        (Format::Rfc3339 | Format::Rfc2822, Some(Target::DateTime)) => None,
         (_, found) => found,
     }
 }

@@ -1,10 +1,10 @@
 -- What a place says holds of the numbers in the end, where no other place says it again.
 use Rattle.std.proofs.Common.{◌≡◌, ℕ, List, [], ◌∷◌, ◌++◌, ap, sym, ◌∙◌, subst}
-use Rattle.time_readers.specs.Places.{Stand}
+use Rattle.time_readers.specs.Places.{Format, Stand}
 use Rattle.time_readers.proofs.Walking.{Stand-split}
 
 -- a place says no more than what `with` takes from the numbers after it
-abbrev pub Alone : {P N : Type 0} → (P → N → List ℕ → List ℕ → N → Type 0) → (P → N → N → N) → Type 0
+abbrev pub Alone : {P N : Type 0} → Format P N → (P → N → N → N) → Type 0
 Alone {P} {N} A with = (p : P) (n m : N) (text after : List ℕ) → A p n text after m → m ≡ with p n m
 
 -- f looks at no number of these places
@@ -12,7 +12,7 @@ abbrev pub Ignores : {P N X : Type 0} → (P → N → N → N) → (N → X) �
 Ignores with f [] = Unit {0}
 Ignores {P} {N} with f (p ∷ ps) = ((n m : N) → f (with p n m) ≡ f n) × Ignores with f ps
 
-kept : {P N X : Type 0} (A : P → N → List ℕ → List ℕ → N → Type 0) (with : P → N → N → N) (f : N → X) → Alone A with
+kept : {P N X : Type 0} (A : Format P N) (with : P → N → N → N) (f : N → X) → Alone A with
     → (ps : List P) (n m : N) (bytes rest : List ℕ) → Ignores with f ps → Stand A ps n bytes rest m → f m ≡ f n
 unfolding Stand
 kept A with f alone [] n m bytes rest i s = ap f s.1
@@ -20,7 +20,7 @@ kept A with f alone (p ∷ ps) n m bytes rest i s =
     kept A with f alone ps s.1 m s.0 rest i.1 s.3 ∙ (ap f (alone p n s.1 s.2.0 s.0 s.2.2) ∙ i.0 n s.1)
 
 -- what a place tells of its number holds of the number in the end
-pub said : {P N X : Type 0} (A : P → N → List ℕ → List ℕ → N → Type 0) (with : P → N → N → N) (f : N → X) (Q : X → Type 0) → Alone A with
+pub said : {P N X : Type 0} (A : Format P N) (with : P → N → N → N) (f : N → X) (Q : X → Type 0) → Alone A with
     → (before : List P) (p : P) (after : List P) (n m : N) (bytes rest : List ℕ) → Stand A (before ++ p ∷ after) n bytes rest m → Ignores with f before
     → Ignores with f after → ((j k : N) (text mid : List ℕ) → f j ≡ f n → A p j text mid k → Q (f k)) → Q (f m)
 unfolding Stand

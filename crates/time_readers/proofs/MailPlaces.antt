@@ -3,7 +3,7 @@ use Rattle.std.proofs.Common.{◌≡◌, ◌⊎◌, inl, inr, ℕ, ◌≤◌, �
 use Rattle.std.proofs.lemmas.Option.{same_Some, none-some}
 use Rattle.time_values.specs.declared.weekday.Weekday.{Weekday}
 use Rattle.time_values.specs.declared.weekday.Weekday.TheVariants.{Monday, Tuesday, Wednesday, Thursday, Friday, Saturday, Sunday}
-use Rattle.time_readers.specs.Cuts.{Cut, NoCut}
+use Rattle.time_readers.specs.Cuts.{Form, Cut, NoCut}
 use Rattle.time_readers.specs.Digits.{IsDigitRun}
 use Rattle.time_readers.specs.Bytes.{IsByte}
 use Rattle.time_readers.specs.Names.{weekday_name}
@@ -22,7 +22,7 @@ use Rattle.time_readers.proofs.NameLemmas.{IsNamed-length, same_front}
 use Rattle.time_readers.proofs.Repeats.{Leaves, takes-leaves}
 use Rattle.time_readers.proofs.MailBlanks.{fws-takes, cfws-takes, opt_cfws-leaves, colon-leaves}
 
-pub Reads-none : {V : Type 0} (S : List ℕ → List ℕ → V → Type 0) (bytes : List ℕ) (answer : Option (Bor (List ℕ))) (v : V) → answer ≡ None → NoCut S bytes
+pub Reads-none : {V : Type 0} (S : Form V) (bytes : List ℕ) (answer : Option (Bor (List ℕ))) (v : V) → answer ≡ None → NoCut S bytes
     → Reads S bytes answer v
 Reads-none S bytes answer v e none = subst (λ o. Reads S bytes o v) (sym e) none
 

@@ -31,8 +31,7 @@ Steps A p n bytes (Ok rest) m = Cut (A p n) bytes rest.now m
 Steps A p n bytes (Err e) m = (e ≡ p) × NoCut (A p n) bytes
 
 -- the rest of a cut of the bytes, whose value is then v, or nothing where there is none
-abbrev pub Reads : {V : Type 0} → (List ℕ → List ℕ → V → Type 0)
-    → List ℕ → Option (Bor (List ℕ)) → V → Type 0
+abbrev pub Reads : {V : Type 0} → Form V → List ℕ → Option (Bor (List ℕ)) → V → Type 0
 Reads S bytes None v = NoCut S bytes
 Reads S bytes (Some rest) v = Cut S bytes rest.now v
 

@@ -5,12 +5,12 @@ use Rattle.time_values.specs.Sign.{signed_by}
 use Rattle.time_values.specs.declared.month.Month.{Month}
 use Rattle.time_values.specs.declared.month.Month.TheVariants.{January}
 use Rattle.time_values.specs.declared.weekday.Weekday.{Weekday}
-use Rattle.time_readers.specs.Cuts.{NoCut}
+use Rattle.time_readers.specs.Cuts.{Form, NoCut}
 use Rattle.time_readers.specs.Digits.{IsDigitRun}
 use Rattle.time_readers.specs.Bytes.{sign_byte, is_negative}
 use Rattle.time_readers.specs.Names.{month_name, weekday_name}
 use Rattle.time_readers.specs.Spelling.{IsShortOf}
-use Rattle.time_readers.specs.Places.{Stand, StopsAt}
+use Rattle.time_readers.specs.Places.{Format, Stand, StopsAt}
 use Rattle.time_readers.specs.Rfc3339.{IsWithin, IsTwoDigits}
 use Rattle.time_readers.specs.Readers.{Reader, IsRead}
 use Rattle.time_readers.specs.MailBlanks.{fws, cfws, opt_cfws, opt_cfws_colon_opt_cfws}
@@ -21,11 +21,11 @@ use Rattle.time_readers.specs.declared.rfc2822.places.Place.{Place}
 use Rattle.time_readers.specs.declared.rfc2822.places.Place.TheVariants.{WeekdayName, Day, DayBlanks, MonthName, MonthBlanks, Year, YearBlanks, Hour, HourColon, Minute, Second, TimeBlanks, OffsetHour, OffsetMinute, EndBlanks}
 
 -- the first three letters of a name of a weekday, in any case
-abbrev pub IsShortWeekday : List ℕ → List ℕ → Weekday → Type 0
+abbrev pub IsShortWeekday : Form Weekday
 IsShortWeekday = IsShortOf false weekday_name
 
 -- blanks, and then no weekday, or one with a comma and blanks behind it
-abbrev pub IsWeekdayPart : List ℕ → List ℕ → Option Weekday → Type 0
+abbrev pub IsWeekdayPart : Form (Option Weekday)
 IsWeekdayPart text after None = IsRead opt_cfws text after × NoCut IsShortWeekday after
 IsWeekdayPart text after (Some w) =
     (blanks name behind : List ℕ) × (text ≡ blanks ++ (name ++ 44 ∷ behind))
@@ -38,7 +38,7 @@ abbrev pub year_of_two : ℕ → ℕ
 year_of_two v = if nat_lt v 50 then 2000 + v else 1900 + v
 
 -- four digits of 1900 or later, or two where four don't stand
-abbrev pub IsYear : Bool → List ℕ → List ℕ → ℕ → Type 0
+abbrev pub IsYear : Bool → Form ℕ
 IsYear true text after v = IsDigitRun 4 4 text after v × (1900 ≤ v)
 IsYear false text after v =
     NoCut (IsDigitRun 4 4) (text ++ after) × ((w : ℕ) × IsDigitRun 2 2 text after w × (v ≡ year_of_two w))
@@ -49,14 +49,14 @@ year_blanks true = fws
 year_blanks false = cfws
 
 -- nothing where no colon stands, or a colon between blanks and two digits
-abbrev pub IsSecond : Bool → List ℕ → List ℕ → Option ℕ → Type 0
+abbrev pub IsSecond : Bool → Form (Option ℕ)
 IsSecond ranged text after None = (text ≡ []) × (opt_cfws_colon_opt_cfws after ≡ None)
 IsSecond ranged text after (Some v) =
     (colon digits : List ℕ) × (text ≡ colon ++ digits)
     × IsRead opt_cfws_colon_opt_cfws colon (digits ++ after) × IsTwoDigits ranged 0 60 digits after v
 
 -- a zone name
-abbrev pub IsZone : Numbers → List ℕ → List ℕ → Numbers → Type 0
+abbrev pub IsZone : Numbers → Form Numbers
 IsZone n text after m =
     (hours : ℤ) × (zone_literal (text ++ after) ≡ Some (hours, after))
     × (m ≡ record n { offset_sign = None; offset_hour = hours })
@@ -72,7 +72,7 @@ pub record IsSignedHour (ranged : Bool) (n : Numbers) (text after : List ℕ) (m
   pub says : m ≡ record n { offset_sign = Some sign; offset_hour = signed_by (is_negative sign) (pos hour) }
 
 -- two digits behind a signed hour, and nothing behind a zone name
-abbrev pub IsOffsetMinute : Bool → Option Sign → Numbers → List ℕ → List ℕ → Numbers → Type 0
+abbrev pub IsOffsetMinute : Bool → Option Sign → Numbers → Form Numbers
 IsOffsetMinute ranged None n text after m = (text ≡ []) × (m ≡ n)
 IsOffsetMinute ranged (Some sign) n text after m =
     (v : ℕ) × IsTwoDigits ranged 0 59 text after v
@@ -80,7 +80,7 @@ IsOffsetMinute ranged (Some sign) n text after m =
 
 -- What each place asks of its text, and what the text says: its form, and where ranges are asked its range. The year
 -- says whether it has four digits, and the hour of the offset whether a sign stands: the next place depends on it.
-abbrev pub Asks : Bool → Place → Numbers → List ℕ → List ℕ → Numbers → Type 0
+abbrev pub Asks : Bool → Format Place Numbers
 Asks ranged WeekdayName n text after m =
     (v : Option Weekday) × IsWeekdayPart text after v × (m ≡ record n { weekday = v })
 Asks ranged Day n text after m =

@@ -48,6 +48,65 @@ const BY_RFC3339: [(&str, &str, &str); 12] = [
     ),
 ];
 
+const MONTH: &str = "error: the 'month' component could not be parsed\n";
+
+const LITERAL: &str = "error: a character literal was not valid\n";
+
+const SECOND_OF_JANUARY: &str = "2021-01-02 03:04:00.000000000 +00:00:00\n";
+
+const BY_RFC2822: [(&str, &str, &str); 12] = [
+    (
+        "staged",
+        "Mon, 02 Jan 2021 03:04:05 +0607",
+        "2021-01-02 03:04:05.000000000 +06:07:00\n",
+    ),
+    (
+        "staged",
+        "02 Jan 49 03:04 EST",
+        "2049-01-02 03:04:00.000000000 -05:00:00\n",
+    ),
+    (
+        "staged",
+        "02 Jan 2021 03:04 -0030",
+        "2021-01-02 03:04:00.000000000 -00:30:00\n",
+    ),
+    ("utc", "02 Jan 2021 03:04 GMT (x)", SECOND_OF_JANUARY),
+    ("date", "02 Jan 2021 03:04 GMT", "2021-01-02\n"),
+    ("time", "02 Jan 2021 03:04:05 GMT", "03:04:05.000000000\n"),
+    ("offset", "02 Jan 2021 03:04 PDT", "-07:00:00\n"),
+    (
+        "plain",
+        "02 Jan 2021 03:04 +0030",
+        "2021-01-02 03:04:00.000000000\n",
+    ),
+    ("timestamp", "1 Jan 1970 00:01 -0001", "120000000000\n"),
+    ("datetime", "02 Jan 2021 03:04 GMT", "error: target\n"),
+    ("staged", "02 Jan 2021\r03:04 +0000", LITERAL),
+    (
+        "staged",
+        "02 Jan 1899 03:04 +0000",
+        "error: the 'year' component could not be parsed\n",
+    ),
+];
+
+const MAIL_COMMENTS: [(&str, &str, &str); 3] = [
+    (
+        "staged",
+        "02 (a(b\\)c)) Jan 2021 03:04 +0000",
+        SECOND_OF_JANUARY,
+    ),
+    (
+        "staged",
+        "02 ((((((((((((((((((((((((((((((())))))))))))))))))))))))))))))) Jan 2021 03:04 +0000",
+        SECOND_OF_JANUARY,
+    ),
+    (
+        "staged",
+        "02 (((((((((((((((((((((((((((((((()))))))))))))))))))))))))))))))) Jan 2021 03:04 +0000",
+        MONTH,
+    ),
+];
+
 const BY_YMD: [(&str, &str, &str); 6] = [
     ("date", "-0044-03-15", "-0044-03-15\n"),
     ("date", "+2021-03-04", "2021-03-04\n"),
@@ -141,8 +200,10 @@ const BY_LOCAL: [(&str, &str, &str); 9] = [
 
 #[test]
 fn whole_parses(rt: HostRuntime) -> Result<(), Fail> {
-    let formats: [(&str, &[(&str, &str, &str)]); 5] = [
+    let formats: [(&str, &[(&str, &str, &str)]); 7] = [
         ("rfc3339", &BY_RFC3339),
+        ("rfc2822", &BY_RFC2822),
+        ("rfc2822", &MAIL_COMMENTS),
         ("ymd", &BY_YMD),
         ("clock", &BY_CLOCK),
         ("unix", &BY_UNIX),

@@ -27,8 +27,8 @@ second_entries (Some v) = second_is v ∷ []
 abbrev pub time_entries : Numbers → List Entry
 time_entries n = hour_24_is n.hour ∷ minute_is n.minute ∷ second_entries n.second
 
--- The entries of an offset: of a zone name its hour, and 0 as minute and second; of a numeric one, which has a sign, its
--- hour and minute, and no second.
+-- The entries of an offset: of a zone name its hour, and 0 as minute and second; of a numeric one, which has a sign,
+-- its hour and minute, and no second.
 abbrev pub offset_entries : Option Sign → Numbers → List Entry
 offset_entries None n = offset_hour_is n.offset_hour ∷ offset_minute_is (pos 0) ∷ offset_second_is (pos 0) ∷ []
 offset_entries (Some sign) n = offset_hour_is n.offset_hour ∷ offset_minute_is n.offset_minute ∷ []

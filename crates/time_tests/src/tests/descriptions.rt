@@ -1,5 +1,5 @@
 //! Components and descriptions, read into a record.
-use crate::fields::{Field, record_of, same};
+use crate::tests::fields::{Field, record_of, same};
 use std::alloc::{AllocError, Global};
 use std::num::NonZero;
 use std::test::Fail;

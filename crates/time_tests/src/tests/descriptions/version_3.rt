@@ -1,6 +1,6 @@
 //! Descriptions of version 3.
 use super::{HOUR, MINUTE, NO_HOUR, ignore, march_at_noon, noon_and_half_past};
-use crate::fields::same;
+use crate::tests::fields::same;
 use std::alloc::{AllocError, Global};
 use std::test::Fail;
 use time_readers::FormatDescriptionV3Inner;

@@ -1,6 +1,6 @@
 //! Each component at the first and the last value of its range, and under each padding.
 use super::{HOUR, MINUTE, century_is, reads, reads_number};
-use crate::fields::Field;
+use crate::tests::fields::Field;
 use std::test::Fail;
 use time_readers::{
     BorrowedFormatItem, Component, OwnedFormatItem, Padding, SubsecondDigits, modifier,

@@ -1,5 +1,5 @@
 //! The conversions of a record to the seven types of value.
-use crate::fields::{Field, record_of};
+use crate::tests::fields::{Field, record_of};
 use std::convert::TryFrom;
 use std::test::Fail;
 use time_record::Parsed;

@@ -1,5 +1,5 @@
 //! The record of what was read: its options, their ranges, setters and builders.
-use crate::fields::{Field, RANGES, get, set, with};
+use crate::tests::fields::{Field, RANGES, get, set, with};
 use std::num::NonZero;
 use std::test::Fail;
 use time_record::Parsed;

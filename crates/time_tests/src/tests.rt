@@ -1,0 +1,14 @@
+mod callers;
+mod components_of_readers;
+mod conversions;
+mod days;
+mod debug_texts;
+mod descriptions;
+mod digits;
+mod errors;
+mod fields;
+mod places;
+mod readme;
+mod records;
+mod values;
+mod whole_parses;

@@ -7,6 +7,7 @@ mod descriptions;
 mod digits;
 mod errors;
 mod fields;
+mod mail_dates;
 mod places;
 mod readme;
 mod records;

@@ -76,7 +76,7 @@ pub same_date_by_ordinal : (a b : Date) → a.year ≡ b.year → ordinal a ≡ 
 same_date_by_ordinal a b year places =
     let place = places ∙ ap (λ y. ordinal_of y (month_number b.month) b.day) (sym year) in
     let p = same_ordinal a.year (month_number a.month) a.day (month_number b.month) b.day
-        (month_number_in a.month) (month_number_in b.month) a.day_in (rw year b.day_in) place in
+    (month_number_in a.month) (month_number_in b.month) a.day_in (rw year b.day_in) place in
     same_date_by_parts a b year (same_month _ _ p.0) p.1
 
 same_year : (a b : Date) → day_number greatest_year a ≡ day_number greatest_year b → a.year ≡ b.year
@@ -159,7 +159,7 @@ same_offset h m s a b p q = same_offset_by_parts a b (p.0 ∙ sym q.0) (p.1 ∙ 
 pub same_moment : (a b : Date) (s t : Time) → clock_nanos greatest_year a s ≡ clock_nanos greatest_year b t → (a ≡ b) × (s ≡ t)
 same_moment a b s t e =
     let apart : (day_number greatest_year a ≡ day_number greatest_year b)
-        × (nanos_of_day s ≡ nanos_of_day t) = omega (arith, ints, clock_nanos_is a s, clock_nanos_is b t) in
+    × (nanos_of_day s ≡ nanos_of_day t) = omega (arith, ints, clock_nanos_is a s, clock_nanos_is b t) in
     (same_date a b apart.0, same_time s t apart.1)
 
 -- timestamps with the same nanoseconds are one timestamp

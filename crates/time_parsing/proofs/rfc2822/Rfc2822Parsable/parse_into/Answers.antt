@@ -40,7 +40,7 @@ pub returns-in-Ok : goal.returns-in-Ok
 returns-in-Ok c =
     let numbers = c.in-Ok.found.1 in
     let parts =
-        put_all-parts greatest_year (date_entries numbers) (time_entries numbers) (offset_entries numbers.offset_sign numbers)
-        c.args.parsed.now c.put_date.new.parsed c.put_time.new.parsed c.put_offset.new.parsed
-        c.put_date.ensures c.put_time.ensures c.put_offset.ensures in
+    put_all-parts greatest_year (date_entries numbers) (time_entries numbers) (offset_entries numbers.offset_sign numbers)
+    c.args.parsed.now c.put_date.new.parsed c.put_time.new.parsed c.put_offset.new.parsed
+    c.put_date.ensures c.put_time.ensures c.put_offset.ensures in
     (numbers, c.in-Ok.ensures, parts ∙ ap Some (sym c.allow_leap_second.ensures))

@@ -17,7 +17,7 @@ returns-then-week-eq0 c =
     let first = simp to_z-of_z at c.first_thursday-thursday.ensures.value in
     let long = year_length-leap_day y in
     let count = thursdays_from_first (year_start greatest_year y) (year_length y) c.first_thursday-thursday.result
-        first c.first_thursday-thursday.ensures.bound (omega arith) in
+    first c.first_thursday-thursday.ensures.bound (omega arith) in
     inr (inl (
       year,
       (λ h. elim c.then-week-eq0.branch [
@@ -39,8 +39,12 @@ returns-in_default c =
     let day = year_start greatest_year y + (from + 7 * (c.args.week - 1) + 4 + days_from_monday c.args.weekday) - 8 in
     inr (inr (
       has_iso_week greatest_year y from c.args.week year first c.first_thursday-thursday.ensures.bound (omega arith) (omega arith),
-      (day, iso_day_at greatest_year y from c.args.week (days_from_monday c.args.weekday) day year first
-        c.first_thursday-thursday.ensures.bound (omega arith) (omega arith) (omega arith) (omega arith), omega arith),
+      (
+        day,
+        iso_day_at greatest_year y from c.args.week (days_from_monday c.args.weekday) day year first
+            c.first_thursday-thursday.ensures.bound (omega arith) (omega arith) (omega arith) (omega arith),
+        omega arith,
+      ),
       search rules,
     ))
 
@@ -59,5 +63,5 @@ returns c =
     let place = c.in-Some.ensures.place in (
       has_iso_week greatest_year y from c.args.week year first c.first_thursday-thursday.ensures.bound (omega arith) (omega arith),
       iso_day_at greatest_year y from c.args.week (days_from_monday c.args.weekday) (day_number greatest_year d) year first
-        c.first_thursday-thursday.ensures.bound (omega arith) (omega arith) (omega arith) (omega arith),
+          c.first_thursday-thursday.ensures.bound (omega arith) (omega arith) (omega arith) (omega arith),
     )

@@ -19,4 +19,4 @@ returns-clause-week c =
     let fits_found : FitsSigned w32 c.in-Some.year = omega (arith, ints, c.in-Some.ensures.year) in
     let place = c.in-Some.ensures.place in
     simp to_z-of_z (iso_week_at greatest_year c.in-Some.year (day_number greatest_year d) c.in-Some.place _ c.in-Some.ensures.year
-      (omega (arith, simp to_z-of_z at c.in-Some.ensures.value)) place.0 place.1 refl)
+    (omega (arith, simp to_z-of_z at c.in-Some.ensures.value)) place.0 place.1 refl)

@@ -6,5 +6,5 @@ use Rattle.time_values.proofs.utc_offset.UtcOffset.from_hms.Goals as goal
 pub returns : goal.returns
 returns c =
     let none = no_offset_refusal c.args.hours c.args.minutes c.args.seconds
-        (omega (arith, ints), omega (arith, ints)) (omega (arith, ints), omega (arith, ints)) (omega (arith, ints), omega (arith, ints)) in
+    (omega (arith, ints), omega (arith, ints)) (omega (arith, ints), omega (arith, ints)) (omega (arith, ints), omega (arith, ints)) in
     rw none (grind (arith, to_z-of_z))

@@ -1,22 +1,17 @@
 -- RFC 2822 has one answer to a text over a record. `Y` is the greatest year.
 use Rattle.std.proofs.Common.{◌≡◌, ◌∙◌, sym, ap, true, List, ℕ, Some}
 use Rattle.time_record.specs.Record.{Record, put_all}
-use Rattle.time_readers.specs.Rfc2822.{Asks, places, nothing_read, fault, HasForm, FailsAt}
+use Rattle.time_readers.specs.Rfc2822.{Asks, places, nothing_read, fault}
 use Rattle.time_readers.specs.declared.rfc2822.places.Numbers.{Numbers}
-use Rattle.time_readers.specs.declared.rfc2822.places.Place.{Place}
-use Rattle.time_readers.proofs.OneReading.{Stand-unique, StopsAt-stops, Stops-unique, Stops-none}
+use Rattle.time_readers.specs.Laws.{OneForm}
+use Rattle.time_readers.proofs.OneReading.{one_form}
 use Rattle.time_readers.proofs.OneMailDate.{MailAsks-unique}
 use Rattle.time_parsing.specs.Outcome.{IsExact}
 use Rattle.time_parsing.specs.Rfc3339.{without_offset_sign, with_leap_second}
 use Rattle.time_parsing.specs.Rfc2822.{entries, Reads, Refuses}
 
-one_form : (b x y : List ℕ) (n m : Numbers) → HasForm true b x n → HasForm true b y m → (x ≡ y) × (n ≡ m)
-one_form b x y n m s t = Stand-unique (Asks true) (MailAsks-unique true) places nothing_read n m b x y s t
-
-one_place : (b : List ℕ) (p q : Place) → FailsAt true b p → FailsAt true b q → p ≡ q
-one_place b p q s t =
-    Stops-unique (Asks true) (MailAsks-unique true) places nothing_read b p q
-    (StopsAt-stops (Asks true) places nothing_read b p s) (StopsAt-stops (Asks true) places nothing_read b q t)
+form : (b : List ℕ) → OneForm (Asks true) places nothing_read b
+form b = one_form (Asks true) (MailAsks-unique true) places nothing_read b
 
 same_value : (p q : Record) → Some p ≡ Some q → p ≡ q
 same_value p q same = cc
@@ -28,11 +23,10 @@ put-unique Y n m r p q same u v = same_value p q (sym u ∙ ap (λ (x : Numbers)
 
 pub rfc2822_exact : (Y : ℕ) → IsExact (Reads Y) (Refuses Y)
 rfc2822_exact Y = record {
-  one_rest = λ b r x y p q u v. (one_form b x y u.0 v.0 u.1 v.1).0;
+  one_rest = λ b r x y p q u v. ((form b).one_reading x y u.0 v.0 u.1 v.1).0;
   one_record = λ b r x y p q u v.
-      put-unique Y u.0 v.0 (with_leap_second (without_offset_sign r)) p q (one_form b x y u.0 v.0 u.1 v.1).1 u.2 v.2;
-  one_refusal = λ b r e f u v. u.2 ∙ ap fault (one_place b u.0 v.0 u.1 v.1) ∙ sym v.2;
-  not_both = λ b r x p e u v.
-      Stops-none (Asks true) (MailAsks-unique true) places nothing_read u.0 b x v.0 u.1
-      (StopsAt-stops (Asks true) places nothing_read b v.0 v.1);
+      put-unique Y u.0 v.0 (with_leap_second (without_offset_sign r)) p q
+      ((form b).one_reading x y u.0 v.0 u.1 v.1).1 u.2 v.2;
+  one_refusal = λ b r e f u v. u.2 ∙ ap fault ((form b).one_place u.0 v.0 u.1 v.1) ∙ sym v.2;
+  not_both = λ b r x p e u v. (form b).never_both x u.0 v.0 u.1 v.1;
 }

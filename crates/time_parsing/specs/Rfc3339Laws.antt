@@ -4,21 +4,16 @@ use Rattle.time_values.proofs.NumberLemmas.{same_month}
 use Rattle.time_values.specs.Month.{month_number}
 use Rattle.time_values.specs.declared.month.Month.{Month}
 use Rattle.time_record.specs.Record.{Record, put_all}
-use Rattle.time_readers.specs.Rfc3339.{Asks, places, nothing_read, fault, HasForm, FailsAt}
+use Rattle.time_readers.specs.Rfc3339.{Asks, places, nothing_read, fault}
 use Rattle.time_readers.specs.declared.rfc3339.Numbers.{Numbers}
-use Rattle.time_readers.specs.declared.rfc3339.Place.{Place}
-use Rattle.time_readers.proofs.OneReading.{Stand-unique, StopsAt-stops, Stops-unique, Stops-none}
+use Rattle.time_readers.specs.Laws.{OneForm}
+use Rattle.time_readers.proofs.OneReading.{one_form}
 use Rattle.time_readers.proofs.OneForm.{Asks-unique}
 use Rattle.time_parsing.specs.Outcome.{IsExact}
 use Rattle.time_parsing.specs.Rfc3339.{entries, without_offset_sign, with_leap_second, Reads, Refuses}
 
-one_form : (b x y : List ℕ) (n m : Numbers) → HasForm true b x n → HasForm true b y m → (x ≡ y) × (n ≡ m)
-one_form b x y n m s t = Stand-unique (Asks true) (Asks-unique true) places nothing_read n m b x y s t
-
-one_place : (b : List ℕ) (p q : Place) → FailsAt true b p → FailsAt true b q → p ≡ q
-one_place b p q s t =
-    Stops-unique (Asks true) (Asks-unique true) places nothing_read b p q
-    (StopsAt-stops (Asks true) places nothing_read b p s) (StopsAt-stops (Asks true) places nothing_read b q t)
+form : (b : List ℕ) → OneForm (Asks true) places nothing_read b
+form b = one_form (Asks true) (Asks-unique true) places nothing_read b
 
 same_value : (p q : Record) → Some p ≡ Some q → p ≡ q
 same_value p q same = cc
@@ -35,12 +30,10 @@ put-unique Y n m k l r p q same kn lm u v =
 
 pub rfc3339_exact : (Y : ℕ) → IsExact (Reads Y) (Refuses Y)
 rfc3339_exact Y = record {
-  one_rest = λ b r x y p q u v. (one_form b x y u.0 v.0 u.2 v.2).0;
+  one_rest = λ b r x y p q u v. ((form b).one_reading x y u.0 v.0 u.2 v.2).0;
   one_record = λ b r x y p q u v.
       put-unique Y u.0 v.0 u.1 v.1 (with_leap_second (without_offset_sign r)) p q
-      (one_form b x y u.0 v.0 u.2 v.2).1 u.3 v.3 u.4 v.4;
-  one_refusal = λ b r e f u v. u.2 ∙ ap fault (one_place b u.0 v.0 u.1 v.1) ∙ sym v.2;
-  not_both = λ b r x p e u v.
-      Stops-none (Asks true) (Asks-unique true) places nothing_read u.0 b x v.0 u.2
-      (StopsAt-stops (Asks true) places nothing_read b v.0 v.1);
+      ((form b).one_reading x y u.0 v.0 u.2 v.2).1 u.3 v.3 u.4 v.4;
+  one_refusal = λ b r e f u v. u.2 ∙ ap fault ((form b).one_place u.0 v.0 u.1 v.1) ∙ sym v.2;
+  not_both = λ b r x p e u v. (form b).never_both x u.0 v.0 u.2 v.1;
 }

@@ -2,13 +2,14 @@
 use Rattle.std.proofs.Common.{◌≡◌, ◌≢◌, ℕ, ◌≤◌, List, [], ◌∷◌, ◌++◌, take, drop, ap, sym, ◌∙◌, subst, inl, inr, arith, rules, Bool, true, false, Option, Some, None, IfSome}
 use Rattle.time_readers.specs.Digits.{IsDigitRun}
 use Rattle.time_readers.specs.Places.{Stand}
+use Rattle.time_readers.specs.Ranged.{IsWithin}
 use Rattle.time_readers.specs.declared.rfc3339.Numbers.{Numbers}
 use Rattle.time_readers.specs.declared.rfc3339.Place.{Place}
 use Rattle.time_readers.specs.declared.rfc3339.Place.TheVariants.{Year, YearDash, Month, MonthDash, Day, Separator, Hour, HourColon, Minute, MinuteColon, Second, Subsecond, OffsetHour, OffsetColon, OffsetMinute}
-use Rattle.time_readers.specs.Rfc3339.{Asks, HasForm, IsWithin, IsSubsecond, IsOffsetMinute, places, nothing_read}
+use Rattle.time_readers.specs.Rfc3339.{Asks, HasForm, IsSubsecond, IsOffsetMinute, places, nothing_read}
 use Rattle.time_readers.proofs.Runs.{IsDigitRun-below}
 use Rattle.time_readers.proofs.Fractions.{fraction_nanoseconds-below}
-use Rattle.time_readers.proofs.Walking.{Stand-split}
+use Rattle.time_readers.proofs.KeptNumbers.{Alone, Ignores, said}
 
 -- the numbers n with what place p may say taken from m
 abbrev pub with_place : Place → Numbers → Numbers → Numbers
@@ -29,7 +30,7 @@ minute_alone ranged true n m text after a = a.1 ∙ ap (λ x. record n { offset_
 minute_alone ranged false n m text after a = a.2 ∙ ap (λ x. record n { offset_minute = x.offset_minute }) (sym a.2)
 
 -- a place says no more than its own number
-alone : (ranged : Bool) (p : Place) (n m : Numbers) (text after : List ℕ) → Asks ranged p n text after m → m ≡ with_place p n m
+alone : (ranged : Bool) → Alone (Asks ranged) with_place
 alone ranged Year n m text after a = a.2 ∙ ap (λ x. record n { year = x.year }) (sym a.2)
 alone ranged YearDash n m text after a = a.1
 alone ranged Month n m text after a = a.3 ∙ ap (λ x. record n { month = x.month }) (sym a.3)
@@ -49,28 +50,13 @@ alone ranged OffsetHour n m text after (inr s) =
 alone ranged OffsetColon n m text after a = a.1
 alone ranged OffsetMinute n m text after a = minute_alone ranged n.is_utc n m text after a
 
--- f looks at no number of these places
-abbrev pub Ignores : {X : Type 0} → (Numbers → X) → List Place → Type 0
-Ignores f [] = Unit {0}
-Ignores f (p ∷ ps) = ((n m : Numbers) → f (with_place p n m) ≡ f n) × Ignores f ps
-
-kept : {X : Type 0} (f : Numbers → X) (ranged : Bool) (ps : List Place) (n m : Numbers) (bytes rest : List ℕ) → Ignores f ps
-    → Stand (Asks ranged) ps n bytes rest m → f m ≡ f n
-unfolding Stand
-kept f ranged [] n m bytes rest i s = ap f s.1
-kept f ranged (p ∷ ps) n m bytes rest i s =
-    kept f ranged ps s.1 m s.0 rest i.1 s.3 ∙ (ap f (alone ranged p n s.1 s.2.0 s.0 s.2.2) ∙ i.0 n s.1)
-
--- what a place tells of its number, from what was read before, holds of the number in the end
-said : {X : Type 0} (f : Numbers → X) (Q : X → Type 0) (ranged : Bool) (before : List Place) (p : Place) (after : List Place)
-    (n m : Numbers) (bytes rest : List ℕ) → Stand (Asks ranged) (before ++ p ∷ after) n bytes rest m → Ignores f before → Ignores f after
-    → ((j k : Numbers) (text mid : List ℕ) → f j ≡ f n → Asks ranged p j text mid k → Q (f k)) → Q (f m)
-unfolding Stand
-said f Q ranged before p after n m bytes rest s i j tells =
-    let parts = Stand-split (Asks ranged) before (p ∷ after) n m bytes rest s in
-    let last = parts.1.2 in
-    let start = kept f ranged before n parts.1.0 bytes parts.0 i parts.1.1 in
-    subst Q (sym (kept f ranged after last.1 m last.0 rest j last.3)) (tells parts.1.0 last.1 last.2.0 last.0 start last.2.2)
+-- what a place tells of its number holds of the number of a whole text
+told : {X : Type 0} (f : Numbers → X) (Q : X → Type 0) (ranged : Bool) (before : List Place) (p : Place) (after : List Place)
+    (n : Numbers) (bytes rest : List ℕ) → Stand (Asks ranged) (before ++ p ∷ after) nothing_read bytes rest n
+    → Ignores with_place f before → Ignores with_place f after
+    → ((j k : Numbers) (text mid : List ℕ) → f j ≡ f nothing_read → Asks ranged p j text mid k → Q (f k)) → Q (f n)
+told f Q ranged before p after n bytes rest s =
+    said (Asks ranged) with_place f Q (alone ranged) before p after nothing_read n bytes rest s
 
 year_within : (text after : List ℕ) (v : ℕ) → IsDigitRun 4 4 text after v → v ≤ 9999
 year_within text after v run = omega (arith, IsDigitRun-below 4 4 text after v run)
@@ -104,32 +90,32 @@ pub record InPlaces (ranged : Bool) (n : Numbers) : Type 0 where
 -- the numbers of a text lie in the ranges of their places
 pub HasForm-in_places : (ranged : Bool) (bytes rest : List ℕ) (n : Numbers) → HasForm ranged bytes rest n → InPlaces ranged n
 HasForm-in_places ranged bytes rest n s = record {
-  year = said (λ x. x.year) (λ v. v ≤ 9999) ranged [] Year (drop 1 places) nothing_read n bytes rest s (search rules) (search rules)
+  year = told (λ x. x.year) (λ v. v ≤ 9999) ranged [] Year (drop 1 places) n bytes rest s (search rules) (search rules)
       (λ j k text mid start a. rw a.2 (year_within text mid a.0 a.1));
-  month_not_zero = said (λ x. x.month) (λ v. v ≢ 0) ranged (take 2 places) Month (drop 3 places) nothing_read n bytes rest s (search rules) (search rules)
+  month_not_zero = told (λ x. x.month) (λ v. v ≢ 0) ranged (take 2 places) Month (drop 3 places) n bytes rest s (search rules) (search rules)
       (λ j k text mid start a. rw a.3 a.2);
-  month = said (λ x. x.month) (IsWithin ranged 1 12) ranged (take 2 places) Month (drop 3 places) nothing_read n bytes rest s (search rules) (search rules)
+  month = told (λ x. x.month) (IsWithin ranged 1 12) ranged (take 2 places) Month (drop 3 places) n bytes rest s (search rules) (search rules)
       (λ j k text mid start a. subst (IsWithin ranged 1 12) (sym (ap (λ x. x.month) a.3)) a.1.1);
-  day = said (λ x. x.day) (IsWithin ranged 1 31) ranged (take 4 places) Day (drop 5 places) nothing_read n bytes rest s (search rules) (search rules)
+  day = told (λ x. x.day) (IsWithin ranged 1 31) ranged (take 4 places) Day (drop 5 places) n bytes rest s (search rules) (search rules)
       (λ j k text mid start a. subst (IsWithin ranged 1 31) (sym (ap (λ x. x.day) a.2)) a.1.1);
-  hour = said (λ x. x.hour) (IsWithin ranged 0 23) ranged (take 6 places) Hour (drop 7 places) nothing_read n bytes rest s (search rules) (search rules)
+  hour = told (λ x. x.hour) (IsWithin ranged 0 23) ranged (take 6 places) Hour (drop 7 places) n bytes rest s (search rules) (search rules)
       (λ j k text mid start a. subst (IsWithin ranged 0 23) (sym (ap (λ x. x.hour) a.2)) a.1.1);
-  minute = said (λ x. x.minute) (IsWithin ranged 0 59) ranged (take 8 places) Minute (drop 9 places) nothing_read n bytes rest s
+  minute = told (λ x. x.minute) (IsWithin ranged 0 59) ranged (take 8 places) Minute (drop 9 places) n bytes rest s
       (search rules) (search rules)
       (λ j k text mid start a. subst (IsWithin ranged 0 59) (sym (ap (λ x. x.minute) a.2)) a.1.1);
-  second = said (λ x. x.second) (IsWithin ranged 0 60) ranged (take 10 places) Second (drop 11 places) nothing_read n bytes rest s
+  second = told (λ x. x.second) (IsWithin ranged 0 60) ranged (take 10 places) Second (drop 11 places) n bytes rest s
       (search rules) (search rules)
       (λ j k text mid start a. subst (IsWithin ranged 0 60) (sym (ap (λ x. x.second) a.2)) a.1.1);
-  subsecond = said (λ x. x.subsecond) (λ v. IfSome v (λ w. w ≤ 999999999)) ranged (take 11 places) Subsecond
-      (drop 12 places) nothing_read n bytes rest s (search rules) (search rules)
+  subsecond = told (λ x. x.subsecond) (λ v. IfSome v (λ w. w ≤ 999999999)) ranged (take 11 places) Subsecond
+      (drop 12 places) n bytes rest s (search rules) (search rules)
       (λ j k text mid start a. subst (λ v. IfSome v (λ w. w ≤ 999999999)) (sym (ap (λ x. x.subsecond) a.2)) (subsecond_within text mid a.0 a.1));
-  offset_hour = said (λ x. x.offset_hour) (λ v. v ≤ 23) ranged (take 12 places) OffsetHour (drop 13 places) nothing_read n bytes rest s
+  offset_hour = told (λ x. x.offset_hour) (λ v. v ≤ 23) ranged (take 12 places) OffsetHour (drop 13 places) n bytes rest s
       (search rules) (search rules)
       (λ j k text mid start a. elim a [
         | inl zulu ↦ let none : k.offset_hour ≡ 0 = ap (λ x. x.offset_hour) zulu.1 ∙ start in omega arith
         | inr signed ↦ let same : k.offset_hour ≡ signed.hour = ap (λ x. x.offset_hour) signed.says in omega (arith, signed.run.1)
       ]);
-  offset_minute = said (λ x. x.offset_minute) (IsWithin ranged 0 59) ranged (take 14 places) OffsetMinute [] nothing_read n bytes rest s
+  offset_minute = told (λ x. x.offset_minute) (IsWithin ranged 0 59) ranged (take 14 places) OffsetMinute [] n bytes rest s
       (search rules) (search rules)
       (λ j k text mid start a. minute_within ranged j.is_utc j k text mid start a);
 }

@@ -15,7 +15,7 @@ use Rattle.time_readers.specs.MailBlanks.{fws, cfws, opt_cfws, opt_cfws_colon_op
 use Rattle.time_readers.specs.declared.rfc2822.places.Numbers.{Numbers}
 use Rattle.time_readers.specs.declared.rfc2822.places.Place.{Place}
 use Rattle.time_readers.specs.declared.rfc2822.places.Place.TheVariants.{DayBlanks, MonthBlanks, YearBlanks, TimeBlanks}
-use Rattle.time_readers.specs.Rfc3339.{IsTwoDigits}
+use Rattle.time_readers.specs.Ranged.{IsTwoDigits}
 use Rattle.time_readers.specs.Rfc2822.{Asks, year_blanks, IsShortWeekday, IsWeekdayPart, IsYear, IsSecond}
 use Rattle.time_readers.proofs.Runs.{IsDigitRun-same, IsDigitRun-below}
 use Rattle.time_readers.proofs.NameLemmas.{IsNamed-length, same_front}

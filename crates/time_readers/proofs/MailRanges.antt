@@ -7,7 +7,7 @@ use Rattle.time_readers.specs.declared.Sign.{Sign}
 use Rattle.time_readers.specs.declared.rfc2822.places.Numbers.{Numbers}
 use Rattle.time_readers.specs.declared.rfc2822.places.Place.{Place}
 use Rattle.time_readers.specs.declared.rfc2822.places.Place.TheVariants.{WeekdayName, Day, DayBlanks, MonthName, MonthBlanks, Year, YearBlanks, Hour, HourColon, Minute, Second, TimeBlanks, OffsetHour, OffsetMinute, EndBlanks}
-use Rattle.time_readers.specs.Rfc3339.{IsWithin}
+use Rattle.time_readers.specs.Ranged.{IsWithin}
 use Rattle.time_readers.specs.Rfc2822.{Asks, HasForm, IsZone, IsSignedHour, IsOffsetMinute, IsYear, IsSecond, places, nothing_read}
 use Rattle.time_readers.proofs.Runs.{IsDigitRun-below}
 use Rattle.time_readers.proofs.KeptNumbers.{Alone, Ignores, said}

@@ -1,7 +1,7 @@
 -- A text has one reading by the places of RFC 3339, or one place that doesn't stand.
 use Rattle.std.proofs.Common.{◌≡◌, ℕ, ◌⊎◌, List, ◌∷◌, ◌++◌, length, refl, ap, sym, ◌∙◌, subst, inl, inr, arith, Bool, true, false, Option, Some, None}
 use Rattle.std.specs.Char.{to_ascii_lowercase}
-use Rattle.time_readers.specs.Digits.{IsDigitRun, IsFraction, fraction_nanoseconds}
+use Rattle.time_readers.specs.Digits.{IsFraction, fraction_nanoseconds}
 use Rattle.time_readers.specs.Bytes.{sign_byte, is_negative}
 use Rattle.time_readers.specs.declared.Sign.{Sign}
 use Rattle.time_readers.specs.declared.Sign.TheVariants.{Negative, Positive}
@@ -11,15 +11,8 @@ use Rattle.time_readers.specs.declared.rfc3339.Place.TheVariants.{Year, YearDash
 use Rattle.time_readers.specs.Rfc3339.{Asks, IsSubsecond, NoPointFirst, IsZulu, IsSignedHour, IsOffsetColon, IsOffsetMinute}
 use Rattle.time_readers.proofs.NameLemmas.{same_front}
 use Rattle.time_readers.proofs.NumberLemmas.{sign_byte-one}
-use Rattle.time_readers.proofs.Runs.{IsDigitRun-unique, AllDigits-unique}
+use Rattle.time_readers.proofs.Runs.{run_says, IsDigitRun-unique, AllDigits-unique}
 use Rattle.time_readers.proofs.OneReading.{AtMostOneEach}
-
--- what is read of a run of digits
-run_says : (least most : ℕ) (f : ℕ → Numbers) (a b x y : List ℕ) (v w : ℕ) (m k : Numbers) → IsDigitRun least most a x v
-    → IsDigitRun least most b y w → a ++ x ≡ b ++ y → m ≡ f v → k ≡ f w → (x ≡ y) × (m ≡ k)
-run_says least most f a b x y v w m k p q e says says' =
-    let is = IsDigitRun-unique least least most a b x y v w p q e in
-    (is.1, says ∙ ap f is.2 ∙ sym says')
 
 fraction_one : (a b x y : List ℕ) (v w : ℕ) → IsFraction a x v → IsFraction b y w → a ++ x ≡ b ++ y → (x ≡ y) × (v ≡ w)
 fraction_one a b x y v w p q e =

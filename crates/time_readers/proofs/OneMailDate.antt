@@ -1,7 +1,6 @@
 -- A text has one reading by the places of a mail date, or one place that doesn't stand.
-use Rattle.std.proofs.Common.{◌≡◌, ◌⊎◌, inl, inr, ℕ, List, ◌∷◌, ◌++◌, refl, ap, sym, ◌∙◌, arith, append_assoc, Bool, true, false, Option, Some, None, pos}
+use Rattle.std.proofs.Common.{◌≡◌, ◌⊎◌, inl, inr, ℕ, List, ◌∷◌, ◌++◌, refl, ap, sym, ◌∙◌, append_assoc, Bool, true, false, Option, Some, None, pos}
 use Rattle.std.proofs.lemmas.Option.{same_Some, none-some, some_pair_parts}
-use Rattle.time_readers.specs.Digits.{IsDigitRun}
 use Rattle.time_readers.specs.Readers.{Reader, IsRead}
 use Rattle.time_readers.specs.MailBlanks.{opt_cfws, opt_cfws_colon_opt_cfws, cfws}
 use Rattle.time_readers.specs.MailZones.{zone_literal}
@@ -11,23 +10,16 @@ use Rattle.time_readers.specs.Rfc2822.{Asks, year_blanks, IsShortWeekday, IsWeek
 use Rattle.time_readers.specs.Bytes.{sign_byte, is_negative}
 use Rattle.time_values.specs.Sign.{signed_by}
 use Rattle.time_readers.specs.declared.Sign.{Sign}
-use Rattle.time_readers.specs.declared.Sign.TheVariants.{Negative, Positive}
 use Rattle.time_readers.specs.declared.format_description.Component.TheVariants as component
 use Rattle.time_values.specs.declared.month.Month.{Month}
 use Rattle.time_values.specs.declared.weekday.Weekday.{Weekday}
 use Rattle.time_readers.specs.declared.rfc2822.places.Numbers.{Numbers}
 use Rattle.time_readers.specs.declared.rfc2822.places.Place.{Place}
 use Rattle.time_readers.specs.declared.rfc2822.places.Place.TheVariants.{WeekdayName, Day, DayBlanks, MonthName, MonthBlanks, Year, YearBlanks, Hour, HourColon, Minute, Second, TimeBlanks, OffsetHour, OffsetMinute, EndBlanks}
-use Rattle.time_readers.proofs.Runs.{IsDigitRun-unique}
+use Rattle.time_readers.proofs.NumberLemmas.{sign_byte-one}
+use Rattle.time_readers.proofs.Runs.{run_says, IsDigitRun-unique}
 use Rattle.time_readers.proofs.OneReading.{AtMostOneEach}
 use Rattle.time_readers.proofs.OneSpelling.{one_spelling}
-
--- what is read of a run of digits
-run_says : (least most : ℕ) (f : ℕ → Numbers) (a b x y : List ℕ) (v w : ℕ) (m k : Numbers) → IsDigitRun least most a x v → IsDigitRun least most b y w
-    → a ++ x ≡ b ++ y → m ≡ f v → k ≡ f w → (x ≡ y) × (m ≡ k)
-run_says least most f a b x y v w m k p q e says says' =
-    let is = IsDigitRun-unique least least most a b x y v w p q e in
-    (is.1, says ∙ ap f is.2 ∙ sym says')
 
 -- what follows a reader's text
 reader_one : (p : Reader) (a b x y : List ℕ) → IsRead p a x → IsRead p b y → a ++ x ≡ b ++ y → x ≡ y
@@ -99,12 +91,6 @@ second_one ranged a b x y (Some v) (Some w) p q e =
     let is = IsDigitRun-unique 2 2 2 p.1 q.1 x y v w p.4.0 q.4.0 digits in
     (is.1, ap Some is.2)
 
-one_sign : (s t : Sign) → sign_byte s ≡ sign_byte t → s ≡ t
-one_sign Negative Negative e = refl
-one_sign Negative Positive e = absurd (omega arith)
-one_sign Positive Negative e = absurd (omega arith)
-one_sign Positive Positive e = refl
-
 -- the numbers with a signed hour
 abbrev pub with_hour : Numbers → Sign → ℕ → Numbers
 with_hour n s v = record n { offset_sign = Some s; offset_hour = signed_by (is_negative s) (pos v) }
@@ -119,7 +105,7 @@ hour_one ranged n a b x y m k (inl p) (inr q) e = absurd (none-some (p.0, x) (sy
 hour_one ranged n a b x y m k (inr p) (inl q) e = absurd (none-some (q.0, y) (sym p.no_zone ∙ ap zone_literal e ∙ q.1))
 hour_one ranged n a b x y m k (inr p) (inr q) e =
     let heads : sign_byte p.sign ∷ (p.digits ++ x) ≡ sign_byte q.sign ∷ (q.digits ++ y) = ap (λ t. t ++ x) (sym p.cut) ∙ e ∙ ap (λ t. t ++ y) q.cut in
-    let signs = one_sign p.sign q.sign (cc) in
+    let signs = sign_byte-one p.sign q.sign (cc) in
     let is = IsDigitRun-unique 2 2 2 p.digits q.digits x y p.hour q.hour p.run.0 q.run.0 (cc) in
     (is.1, p.says ∙ ap (λ s. with_hour n s p.hour) signs ∙ ap (with_hour n q.sign) is.2 ∙ sym q.says)
 

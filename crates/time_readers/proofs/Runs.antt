@@ -175,3 +175,10 @@ IsDigitRun-four (a ∷ b ∷ c ∷ d ∷ s) value h i j k l e = (
   ap (λ r. a ∷ b ∷ c ∷ d ∷ r) (sym (take-drop (a ∷ b ∷ c ∷ d ∷ s) 4 h)),
   record { digits = (i, (j, (k, (l, tt)))); enough = omega arith; within = omega arith; ends = inl refl; is = omega arith },
 )
+
+-- what is said by a run of digits at the beginning of a text
+pub run_says : {N : Type 0} (least most : ℕ) (f : ℕ → N) (a b x y : List ℕ) (v w : ℕ) (m k : N) → IsDigitRun least most a x v
+    → IsDigitRun least most b y w → a ++ x ≡ b ++ y → m ≡ f v → k ≡ f w → (x ≡ y) × (m ≡ k)
+run_says least most f a b x y v w m k p q e says says' =
+    let is = IsDigitRun-unique least least most a b x y v w p q e in
+    (is.1, says ∙ ap f is.2 ∙ sym says')

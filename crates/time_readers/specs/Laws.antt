@@ -4,14 +4,9 @@ use Rattle.time_readers.specs.Readers.{Reader, zero_or_more}
 use Rattle.time_readers.specs.declared.Padding.{Padding}
 use Rattle.time_readers.specs.Cuts.{AtMostOneCut}
 use Rattle.time_readers.specs.Digits.{IsDigitRun, IsPaddedRun}
-use Rattle.time_readers.specs.declared.rfc3339.Numbers.{Numbers}
-use Rattle.time_readers.specs.declared.rfc3339.Place.{Place}
+use Rattle.time_readers.specs.Places.{Format, Stand, StopsAt}
 use Rattle.time_readers.specs.Spelling.{Spells}
 use Rattle.time_readers.specs.declared.format_description.Component.{Component}
-use Rattle.time_readers.specs.Rfc3339.{HasForm, FailsAt}
-use Rattle.time_readers.specs.Rfc2822 as mail
-use Rattle.time_readers.specs.declared.rfc2822.places.Numbers.{Numbers as MailNumbers}
-use Rattle.time_readers.specs.declared.rfc2822.places.Place.{Place as MailPlace}
 
 -- for one input at most one cut is a run of digits
 abbrev pub OneDigitRun : Type 0
@@ -25,20 +20,12 @@ OnePaddedRun = (padding : Padding) (least most : ℕ) → AtMostOneCut (IsPadded
 abbrev pub OneSpelling : Type 0
 OneSpelling = (whole : Bool) (c : Component) → AtMostOneCut (Spells whole c)
 
--- the bytes have one reading by the places of RFC 3339 or one first place that doesn't stand, and never both
-pub record OneForm (ranged : Bool) (bytes : List ℕ) : Type 0 where
-  pub one_reading : (x y : List ℕ) (n m : Numbers)
-      → HasForm ranged bytes x n → HasForm ranged bytes y m → (x ≡ y) × (n ≡ m)
-  pub one_place : (p q : Place) → FailsAt ranged bytes p → FailsAt ranged bytes q → p ≡ q
-  pub never_both : (x : List ℕ) (n : Numbers) (p : Place) → HasForm ranged bytes x n → ¬ FailsAt ranged bytes p
-
--- the bytes have one reading by the places of RFC 2822 or one first place that doesn't stand, and never both
-pub record OneMailDate (ranged : Bool) (bytes : List ℕ) : Type 0 where
-  pub one_reading : (x y : List ℕ) (n m : MailNumbers)
-      → mail.HasForm ranged bytes x n → mail.HasForm ranged bytes y m → (x ≡ y) × (n ≡ m)
-  pub one_place : (p q : MailPlace) → mail.FailsAt ranged bytes p → mail.FailsAt ranged bytes q → p ≡ q
-  pub never_both : (x : List ℕ) (n : MailNumbers) (p : MailPlace)
-      → mail.HasForm ranged bytes x n → ¬ mail.FailsAt ranged bytes p
+-- the bytes have one reading by the places or one first place that doesn't stand, and never both
+pub record OneForm {P N : Type 0} (A : Format P N) (ps : List P) (start : N) (bytes : List ℕ) : Type 0 where
+  pub one_reading : (x y : List ℕ) (n m : N)
+      → Stand A ps start bytes x n → Stand A ps start bytes y m → (x ≡ y) × (n ≡ m)
+  pub one_place : (p q : P) → StopsAt A ps start bytes p → StopsAt A ps start bytes q → p ≡ q
+  pub never_both : (x : List ℕ) (n : N) (p : P) → Stand A ps start bytes x n → ¬ StopsAt A ps start bytes p
 
 -- the reader takes a byte or more where it reads
 abbrev pub Takes : Reader → Type 0

@@ -11,7 +11,7 @@ use Rattle.time_readers.specs.Bytes.{sign_byte, is_negative}
 use Rattle.time_readers.specs.Names.{month_name, weekday_name}
 use Rattle.time_readers.specs.Spelling.{IsShortOf}
 use Rattle.time_readers.specs.Places.{Format, Stand, StopsAt}
-use Rattle.time_readers.specs.Rfc3339.{IsWithin, IsTwoDigits}
+use Rattle.time_readers.specs.Ranged.{IsWithin, IsTwoDigits}
 use Rattle.time_readers.specs.Readers.{Reader, IsRead}
 use Rattle.time_readers.specs.MailBlanks.{fws, cfws, opt_cfws, opt_cfws_colon_opt_cfws}
 use Rattle.time_readers.specs.MailZones.{zone_literal}

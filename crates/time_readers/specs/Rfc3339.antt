@@ -1,23 +1,15 @@
 -- RFC 3339, section 5.6, by places.
-use Rattle.std.specs.Prelude.{◌≡◌, ◌≢◌, ◌≤◌, ℕ, ◌⊎◌, List, [], ◌∷◌, ◌++◌, length, codes, Bool, true, false, Option, Some, None}
+use Rattle.std.specs.Prelude.{◌≡◌, ◌≢◌, ℕ, ◌⊎◌, List, [], ◌∷◌, ◌++◌, length, codes, Bool, true, false, Option, Some, None}
 use Rattle.time_values.specs.Refusal.{Refusal, literal, component}
 use Rattle.time_readers.specs.Cuts.{Form}
 use Rattle.time_readers.specs.Digits.{IsDigitRun, IsFraction}
 use Rattle.time_readers.specs.Bytes.{IsByteIgnoringCase, sign_byte, is_negative}
 use Rattle.time_readers.specs.Places.{Format, Stand, StopsAt}
+use Rattle.time_readers.specs.Ranged.{IsTwoDigits}
 use Rattle.time_readers.specs.declared.Sign.{Sign}
 use Rattle.time_readers.specs.declared.rfc3339.Numbers.{Numbers}
 use Rattle.time_readers.specs.declared.rfc3339.Place.{Place}
 use Rattle.time_readers.specs.declared.rfc3339.Place.TheVariants.{Year, YearDash, Month, MonthDash, Day, Separator, Hour, HourColon, Minute, MinuteColon, Second, Subsecond, OffsetHour, OffsetColon, OffsetMinute}
-
--- where a range is asked, the number lies in it
-abbrev pub IsWithin : Bool → ℕ → ℕ → ℕ → Type 0
-IsWithin true least most v = (least ≤ v) × (v ≤ most)
-IsWithin false least most v = Unit {0}
-
--- two digits, and where a range is asked their number lies in it
-abbrev pub IsTwoDigits : Bool → ℕ → ℕ → Form ℕ
-IsTwoDigits ranged least most text after v = IsDigitRun 2 2 text after v × IsWithin ranged least most v
 
 -- the text doesn't begin with a point
 abbrev pub NoPointFirst : List ℕ → Type 0

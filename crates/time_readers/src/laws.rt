@@ -2,7 +2,9 @@
 //! contract is the law.
 ghost use Rattle.std.specs.Prelude.{ℕ, List, Bool};
 ghost use Rattle.time_readers.specs.Readers.{Reader};
-ghost use Rattle.time_readers.specs.Laws.{OneDigitRun, OnePaddedRun, OneSpelling, OneForm, OneMailDate, Takes, IsRepeated};
+ghost use Rattle.time_readers.specs.Laws.{OneDigitRun, OnePaddedRun, OneSpelling, OneForm, Takes, IsRepeated};
+ghost use Rattle.time_readers.specs.Rfc2822 as rfc2822;
+ghost use Rattle.time_readers.specs.Rfc3339 as rfc3339;
 
 /// For one input at most one beginning is a run of digits, with one value.
 pub fn law_one_digit_run()
@@ -22,13 +24,15 @@ pub fn law_one_spelling()
 /// By the places of RFC 3339 bytes have one reading, or one first place that doesn't stand, and never
 /// both.
 pub fn law_one_form()
-    ensures { (ranged : Bool) (bytes : List ℕ) → OneForm ranged bytes }
+    ensures { (ranged : Bool) (bytes : List ℕ)
+        → OneForm (rfc3339.Asks ranged) rfc3339.places rfc3339.nothing_read bytes }
 {}
 
 /// By the places of RFC 2822 bytes have one reading, or one first place that doesn't stand, and never
 /// both.
 pub fn law_one_mail_date()
-    ensures { (ranged : Bool) (bytes : List ℕ) → OneMailDate ranged bytes }
+    ensures { (ranged : Bool) (bytes : List ℕ)
+        → OneForm (rfc2822.Asks ranged) rfc2822.places rfc2822.nothing_read bytes }
 {}
 
 /// A reader that takes a byte or more wherever it reads is repeated until it refuses.

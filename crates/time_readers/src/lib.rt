@@ -11,6 +11,7 @@ pub mod component;
 pub mod format_description;
 pub mod laws;
 pub mod modifier;
+mod ranged;
 pub mod rfc2822;
 pub mod rfc3339;
 mod shim;

@@ -1,15 +1,14 @@
 //! The date and time of RFC 3339, section 5.6, by fifteen places.
-ghost use Rattle.std.specs.Prelude.{◌≡◌, ◌≢◌, ℕ, IsTrue, ◌↔◌, false, List, [], ◌∷◌, MatchResult};
+ghost use Rattle.std.specs.Prelude.{◌≡◌, ◌≢◌, ℕ, false, List, [], ◌∷◌, MatchResult};
 ghost use Rattle.time_values.specs.Refusal.{refusal_of_description};
 ghost use Rattle.time_readers.specs.Cuts.{Cut, NoCut};
 ghost use Rattle.time_readers.specs.Places.{Steps, Walks};
-ghost use Rattle.time_readers.specs.Rfc3339.{Asks, IsWithin, IsTwoDigits, date_places, time_places, offset_places, HasForm, FailsAt, fault};
+ghost use Rattle.time_readers.specs.Ranged.{IsTwoDigits};
+ghost use Rattle.time_readers.specs.Rfc3339.{Asks, date_places, time_places, offset_places, HasForm, FailsAt, fault};
 ghost use Rattle.time_readers.specs.declared.rfc3339.Place.TheVariants as place;
 
-use crate::ParsedItem;
-use crate::combinator::{
-    ascii_char, ascii_char_ignore_case, four_digits, fraction, sign, two_digits,
-};
+use crate::combinator::{ascii_char, ascii_char_ignore_case, four_digits, fraction, sign};
+use crate::{ParsedItem, ranged};
 use time_values::error::ParseFromDescription;
 
 /// A place of the text, in order.
@@ -194,23 +193,10 @@ fn two_digits_in<'a, const RANGED: bool>(
         (λ p. Cut (IsTwoDigits RANGED least most) input.now p.0.now p.1)
         (λ e. (e ≡ place) × NoCut (IsTwoDigits RANGED least most) input.now) }
 {
-    match two_digits(input) {
-        Some(found) => {
-            if is_within::<RANGED>(found.1, least, most) {
-                Ok(found)
-            } else {
-                Err(place)
-            }
-        }
+    match ranged::two_digits_in::<RANGED>(input, least, most) {
+        Some(found) => Ok(found),
         None => Err(place),
     }
-}
-
-#[inline]
-fn is_within<const RANGED: bool>(value: u8, least: u8, most: u8) -> bool
-    ensures { IsTrue result ↔ IsWithin RANGED least most value }
-{
-    !RANGED || (least <= value && value <= most)
 }
 
 #[inline]

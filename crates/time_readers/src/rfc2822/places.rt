@@ -1,17 +1,16 @@
 //! The date and time of RFC 2822, section 3.3, by fifteen places.
-ghost use Rattle.std.specs.Prelude.{◌≡◌, ◌≤◌, ◌↔◌, false, IsTrue, MatchResult, option_map, pos};
+ghost use Rattle.std.specs.Prelude.{◌≡◌, ◌≤◌, false, MatchResult, option_map, pos};
 ghost use Rattle.std.specs.Option.{option_copied};
 ghost use Rattle.time_values.specs.Refusal.{refusal_of_description};
 ghost use Rattle.time_values.specs.Sign.{signed_by};
 ghost use Rattle.time_readers.specs.Bytes.{is_negative};
-ghost use Rattle.time_readers.specs.Cuts.{Finds};
 ghost use Rattle.time_readers.specs.Places.{Reads};
-ghost use Rattle.time_readers.specs.Rfc3339.{IsWithin, IsTwoDigits};
 ghost use Rattle.time_readers.specs.Rfc2822.{Asks, HasForm, FailsAt, fault};
 ghost use Rattle.time_readers.specs.declared.rfc2822.places.Place.TheVariants as place;
 
 use crate::combinator::{ascii_char, four_digits, one_or_two_digits, sign, two_digits};
 use crate::component::{parse_month_short, parse_weekday_short};
+use crate::ranged::{is_within, two_digits_in};
 use crate::rfc2822::{cfws, fws, opt_cfws, opt_cfws_colon_opt_cfws, zone_literal};
 use crate::{ParsedItem, Sign, modifier};
 use time_values::error::ParseFromDescription;
@@ -196,31 +195,6 @@ fn rest_of(answer: Option<ParsedItem<'_, ()>>) -> Option<&[u8]>
         Some(found) => Some(found.0),
         None => None,
     }
-}
-
-// Two digits, whose number lies in the range where that is asked.
-#[inline]
-fn two_digits_in<const RANGED: bool>(
-    input: &[u8],
-    least: u8,
-    most: u8,
-) -> Option<ParsedItem<'_, u8>>
-    ensures { Finds (IsTwoDigits RANGED least most) (λ v. v) input.now result }
-{
-    let found = two_digits(input)?;
-    if is_within::<RANGED>(found.1, least, most) {
-        Some(found)
-    } else {
-        None
-    }
-}
-
-// Whether the number lies in the range, where that is asked.
-#[inline]
-fn is_within<const RANGED: bool>(value: u8, least: u8, most: u8) -> bool
-    ensures { IsTrue result ↔ IsWithin RANGED least most value }
-{
-    !RANGED || (least <= value && value <= most)
 }
 
 // The number with the sign.

@@ -119,7 +119,11 @@ fn mail_dates_with_weekdays(rt: HostRuntime) -> Result<(), Fail> {
     assert!(rt; lacks(b"Mot, 02 Jan 2021 03:04 GMT", "day"));
     assert!(rt; lacks_a_literal(b"Monday, 02 Jan 2021 03:04 GMT"));
     let mut record = Parsed::new();
-    assert!(rt; Rfc2822.parse_into(b"Mon, 02 Jan 2021 03:04 GMT", &mut record).is_ok());
+    assert!(rt;
+        Rfc2822
+            .parse_into(b"Mon, 02 Jan 2021 03:04 GMT", &mut record)
+            .is_ok()
+    );
     assert!(rt; record.weekday() == Some(Weekday::Monday));
     assert!(rt; record.second() == None);
     Ok(())

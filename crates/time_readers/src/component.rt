@@ -210,7 +210,7 @@ pub fn parse_month_short(
     Some(ParsedItem(name.0, name.1.value))
 }
 
-/// Reads a month's English name. `None` where none stands whole.
+/// Reads a month's English name. `None` if no complete name is there.
 #[inline]
 pub fn parse_month_long(
     input: &[u8],
@@ -290,7 +290,7 @@ pub fn parse_weekday_short(
     Some(ParsedItem(name.0, name.1.value))
 }
 
-/// Reads a weekday's English name. `None` where none stands whole.
+/// Reads a weekday's English name. `None` if no complete name is there.
 #[inline]
 pub fn parse_weekday_long(
     input: &[u8],

@@ -1,6 +1,9 @@
 pub mod CutLemmas
 pub mod EachValue
 pub mod Fractions
+pub mod IsoFractions
+pub mod IsoPieces
+pub mod IsoTimes
 pub mod Keeping
 pub mod KeptNumbers
 pub mod MailBlanks

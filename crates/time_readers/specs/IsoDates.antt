@@ -1,0 +1,84 @@
+-- The date of ISO 8601: its three forms and their faults.
+use Rattle.std.specs.Prelude.{ℕ, ℤ, List, codes, Bool, true, false, Option, Some, None, option_map, Result, Ok, Err}
+use Rattle.time_values.specs.Refusal.{Refusal, literal, component}
+use Rattle.time_values.specs.declared.month.Month.{Month}
+use Rattle.time_values.specs.declared.weekday.Weekday.{Weekday}
+use Rattle.time_readers.specs.declared.iso8601.ExtendedKind.{ExtendedKind}
+use Rattle.time_readers.specs.declared.iso8601.ExtendedKind.TheVariants.{Basic, Extended}
+use Rattle.time_readers.specs.declared.iso8601.dates.DateNumbers.{DateNumbers}
+use Rattle.time_readers.specs.declared.iso8601.dates.DateNumbers.TheVariants as numbers
+use Rattle.time_readers.specs.IsoAnswers.{Found}
+use Rattle.time_readers.specs.IsoPieces.{year, month, weekday, positive, byte}
+
+-- what a date says
+pub data IsoDate : Type 0 where
+  calendar : ℤ → Month → ℕ → IsoDate
+  ordinal : ℤ → ℕ → IsoDate
+  week : ℤ → ℕ → Weekday → IsoDate
+
+-- the text of a form, or its fault
+abbrev pub Form : Type 0
+Form = Result (List ℕ × IsoDate) Refusal
+
+-- what has to stand, or else that refusal
+abbrev pub need : {A B : Type 0} → Option A → Refusal → (A → Result B Refusal) → Result B Refusal
+need None e f = Err e
+need (Some a) e f = f a
+
+-- `-` where the text is extended
+abbrev pub dash : Bool → List ℕ → Option (List ℕ)
+dash true bytes = byte 45 bytes
+dash false bytes = Some bytes
+
+-- a month and a day
+abbrev pub first_form : Bool → ℤ → List ℕ → Form
+first_form extended y bytes =
+    need (month bytes) (component (codes "month")) (λ m.
+    need (dash extended m.0) literal (λ behind.
+    need (positive 2 behind) (component (codes "day")) (λ d.
+    Ok (d.0, calendar y m.1 d.1))))
+
+-- a day of the year
+abbrev pub second_form : ℤ → List ℕ → Option (List ℕ × IsoDate)
+second_form y bytes = option_map (λ d. (d.0, ordinal y d.1)) (positive 3 bytes)
+
+-- a week and a weekday, behind the `W`
+abbrev pub third_form : Bool → ℤ → List ℕ → Form
+third_form extended y bytes =
+    need (positive 2 bytes) (component (codes "week")) (λ w.
+    need (dash extended w.0) literal (λ behind.
+    need (weekday behind) (component (codes "weekday")) (λ d.
+    Ok (d.0, week y w.1 d.1))))
+
+-- the first form that stands; and where none does the fault of the third where a `W` stood, and else of the first
+abbrev pub first_standing : Form → Option (List ℕ × IsoDate) → Option Form → Form
+first_standing (Ok a) second third = Ok a
+first_standing (Err e) (Some a) third = Ok a
+first_standing (Err e) None (Some third) = third
+first_standing (Err e) None None = Err e
+
+-- what stands behind a year
+unfoldable pub forms : Bool → ℤ → List ℕ → Form
+forms extended y bytes =
+    first_standing (first_form extended y bytes) (second_form y bytes)
+    (option_map (third_form extended y) (byte 87 bytes))
+
+-- the text of that kind
+abbrev pub of_kind : ExtendedKind → Form → Result (Found IsoDate) Refusal
+of_kind kind (Err e) = Err e
+of_kind kind (Ok f) = Ok (record { rest = f.0; value = f.1; kind = kind })
+
+-- `-` behind a year makes the kind extended, and else it is basic
+abbrev pub behind_year : ℤ → List ℕ → Option (List ℕ) → Result (Found IsoDate) Refusal
+behind_year y bytes None = of_kind Basic (forms false y bytes)
+behind_year y bytes (Some behind) = of_kind Extended (forms true y behind)
+
+-- the text of a date, or its fault
+unfoldable pub date_text : List ℕ → Result (Found IsoDate) Refusal
+date_text bytes = need (year bytes) (component (codes "year")) (λ y. behind_year y.1 y.0 (byte 45 y.0))
+
+-- what a reader's numbers say
+abbrev pub iso_date : DateNumbers → IsoDate
+iso_date (numbers.Calendar y m d) = calendar y m d.value
+iso_date (numbers.Ordinal y d) = ordinal y d.value
+iso_date (numbers.Week y w d) = week y w.value d

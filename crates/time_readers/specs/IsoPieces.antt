@@ -1,0 +1,112 @@
+-- The pieces of ISO 8601 texts, as functions from the bytes left: the bytes behind a text with which they begin, and what
+-- it says; or nothing, where no such text stands there.
+use Rattle.std.specs.Prelude.{ℕ, zero, suc, ℤ, pos, slice_get, List, [], ◌∷◌, length, take, drop, Bool, true, ◌&&◌, nat_eq, nat_le, if◌then◌else◌, Option, Some, None, option_map, option_and_then}
+use Rattle.time_values.specs.Sign.{signed_by}
+use Rattle.time_values.specs.declared.month.Month.{Month}
+use Rattle.time_values.specs.declared.month.Month.TheVariants.{January, February, March, April, May, June, July, August, September, October, November, December}
+use Rattle.time_values.specs.declared.weekday.Weekday.{Weekday}
+use Rattle.time_values.specs.declared.weekday.Weekday.TheVariants.{Monday, Tuesday, Wednesday, Thursday, Friday, Saturday, Sunday}
+use Rattle.time_readers.specs.Bytes.{is_negative}
+use Rattle.time_readers.specs.Digits.{digits_value}
+use Rattle.time_readers.specs.Readers.{Reader, one_of, ◌or◌}
+use Rattle.time_readers.specs.declared.Sign.{Sign}
+use Rattle.time_readers.specs.declared.Sign.TheVariants.{Negative, Positive}
+
+-- what is left of the bytes behind a text, and what the text says
+abbrev pub Piece : Type 0 → Type 0
+Piece V = List ℕ → Option (List ℕ × V)
+
+-- the byte is one of `0` to `9`
+abbrev pub is_digit : ℕ → Bool
+is_digit c = nat_le 48 c && nat_le c 57
+
+-- each byte of the text is a digit
+abbrev pub all_digits : List ℕ → Bool
+all_digits [] = true
+all_digits (c ∷ cs) = is_digit c && all_digits cs
+
+-- exactly so many digits, and their decimal value
+unfoldable pub digits : ℕ → Piece ℕ
+digits n bytes =
+    if nat_le n (length bytes) && all_digits (take n bytes)
+    then Some (drop n bytes, digits_value (take n bytes))
+    else None
+
+-- the digits with which the bytes begin
+abbrev pub leading_digits : List ℕ → List ℕ
+leading_digits [] = []
+leading_digits (c ∷ cs) = if is_digit c then c ∷ leading_digits cs else []
+
+-- that byte
+unfoldable pub byte : ℕ → Reader
+byte b = one_of (λ c. nat_eq c b)
+
+-- `.` or `,`
+unfoldable pub point : Reader
+point = byte 46 or byte 44
+
+-- `-` or `+`
+unfoldable pub sign : Piece Sign
+sign [] = None
+sign (c ∷ cs) =
+    if nat_eq c 45 then Some (cs, Negative) else (if nat_eq c 43 then Some (cs, Positive) else None)
+
+-- a number with its sign
+abbrev pub with_sign : Sign → ℕ → ℤ
+with_sign s n = signed_by (is_negative s) (pos n)
+
+-- six digits behind a sign, or four where no sign stands
+abbrev pub year_behind : List ℕ → Option (List ℕ × Sign) → Option (List ℕ × ℤ)
+year_behind bytes None = option_map (λ f. (f.0, pos f.1)) (digits 4 bytes)
+year_behind bytes (Some s) = option_map (λ f. (f.0, with_sign s.1 f.1)) (digits 6 s.0)
+
+unfoldable pub year : Piece ℤ
+year bytes = year_behind bytes (sign bytes)
+
+-- the months and the weekdays, whose numbers begin with 1
+abbrev pub months : List Month
+months =
+    January ∷ February ∷ March ∷ April ∷ May ∷ June ∷ July ∷ August ∷ September ∷ October ∷ November ∷ December ∷ []
+
+abbrev pub weekdays : List Weekday
+weekdays = Monday ∷ Tuesday ∷ Wednesday ∷ Thursday ∷ Friday ∷ Saturday ∷ Sunday ∷ []
+
+abbrev pub numbered : {A : Type 0} → List A → ℕ → Option A
+numbered all zero = None
+numbered all (suc n) = slice_get all n
+
+-- two digits of 01 to 12
+unfoldable pub month : Piece Month
+month bytes = option_and_then (λ f. option_map (λ m. (f.0, m)) (numbered months f.1)) (digits 2 bytes)
+
+-- one digit of 1 to 7
+unfoldable pub weekday : Piece Weekday
+weekday bytes = option_and_then (λ f. option_map (λ d. (f.0, d)) (numbered weekdays f.1)) (digits 1 bytes)
+
+-- so many digits that are not all 0
+unfoldable pub positive : ℕ → Piece ℕ
+positive n bytes = option_and_then (λ f. if nat_eq f.1 0 then None else Some f) (digits n bytes)
+
+-- so many digits of a number up to the greatest
+unfoldable pub up_to : ℕ → ℕ → Piece ℕ
+up_to greatest n bytes = option_and_then (λ f. if nat_le f.1 greatest then Some f else None) (digits n bytes)
+
+-- a number without a fraction, or with the digits of one
+pub data Number : Type 0 where
+  plain : ℕ → Number
+  fraction : ℕ → List ℕ → Number
+
+-- a number of its whole part, of the digits behind a point, and of all bytes behind the point
+abbrev pub behind_point : ℕ → List ℕ → Piece Number
+behind_point whole [] bytes = None
+behind_point whole (d ∷ ds) bytes = Some (drop (length (d ∷ ds)) bytes, fraction whole (d ∷ ds))
+
+-- a number of its whole part, of the bytes behind that, and of those behind a point, where one stands
+abbrev pub behind_whole : ℕ → List ℕ → Option (List ℕ) → Option (List ℕ × Number)
+behind_whole whole bytes None = Some (bytes, plain whole)
+behind_whole whole bytes (Some behind) = behind_point whole (leading_digits behind) behind
+
+-- Two digits and a fraction, which is `.` or `,` and all digits behind it, at least one; or two digits with neither
+-- `.` nor `,` behind them.
+unfoldable pub number : Piece Number
+number bytes = option_and_then (λ f. behind_whole f.1 f.0 (point f.0)) (digits 2 bytes)

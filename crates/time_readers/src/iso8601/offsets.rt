@@ -1,0 +1,67 @@
+//! The offset of an ISO 8601 text, as `Z`, `+05`, `-0530` or `-05:30`.
+ghost use Rattle.std.specs.Prelude.{◌≡◌, ◌≤◌, IfSome};
+ghost use Rattle.time_readers.specs.IsoAnswers.{Gives};
+ghost use Rattle.time_readers.specs.IsoOffsets as spec;
+ghost use Rattle.time_readers.specs.IsoPieces.{with_sign};
+
+use crate::iso8601::ExtendedKind;
+use crate::iso8601::pieces::{byte, sign, two_digits, up_to};
+use crate::{ParsedItem, Sign};
+
+/// What an offset says.
+#[derive(Clone, Copy, Debug)]
+pub enum OffsetNumbers {
+    /// `Z`, for UTC.
+    Zulu,
+    /// The hour, up to 25, and the minute, up to 59, both with the sign. The minute is 0 where none stands.
+    Numeric(i8, i8),
+}
+
+/// Reads the offset of a text of that kind: `Z`, or a sign and two digits of 0 to 25, and a minute.
+///
+/// Where the text isn't basic and a colon follows, two digits of 0 to 59 have to stand behind it. Where none
+/// follows two digits may stand, and if they do they have to be 0 to 59. It refuses by `None`.
+pub fn offset(input: &[u8], kind: ExtendedKind) -> Option<ParsedItem<'_, OffsetNumbers>>
+    ensures { Gives (spec.offset_text kind input.now) result }
+{
+    if let Some(behind) = byte::<b'Z'>(input) {
+        return Some(ParsedItem(behind, OffsetNumbers::Zulu));
+    }
+    let signed = sign(input)?;
+    let hour = up_to::<25>(signed.0)?;
+    let minute = offset_minute(hour.0, kind)?;
+    let numbers = OffsetNumbers::Numeric(
+        offset_part(signed.1, hour.1),
+        offset_part(signed.1, minute.1),
+    );
+    Some(ParsedItem(minute.0, numbers))
+}
+
+// A part of an offset with its sign.
+#[inline]
+fn offset_part(sign: Sign, number: u8) -> i8
+    requires { number ≤ 59 }
+    ensures { result ≡ with_sign sign number }
+{
+    let value = number as i8;
+    match sign {
+        Sign::Negative => -value,
+        Sign::Positive => value,
+    }
+}
+
+// The minute of an offset, 0 where none stands.
+fn offset_minute(input: &[u8], kind: ExtendedKind) -> Option<ParsedItem<'_, u8>>
+    ensures is { Gives (spec.offset_minute kind input.now) result }
+    ensures within { IfSome result (λ p. p.1 ≤ 59) }
+{
+    if kind.maybe_extended() {
+        if let Some(behind) = byte::<b':'>(input) {
+            return up_to::<59>(behind);
+        }
+    }
+    match two_digits(input) {
+        Some(_) => up_to::<59>(input),
+        None => Some(ParsedItem(input, 0)),
+    }
+}

@@ -1,5 +1,5 @@
 -- The pieces as functions are what the cuts of their relations say.
-use Rattle.std.proofs.Common.{◌≡◌, ℕ, zero, suc, ◌-◌, ◌<◌, ◌≤◌, List, [], ◌∷◌, ◌++◌, length, length-append, take, drop, true, ◌&&◌, refl, ap, sym, ◌∙◌, subst, inl, inr, arith, ◌^◌, Option, Some, None, IfSome, Ok, Err}
+use Rattle.std.proofs.Common.{◌≡◌, ℕ, zero, suc, ◌-◌, ◌<◌, ◌≤◌, ◌⊎◌, List, [], ◌∷◌, ◌++◌, length, length-append, take, drop, true, ◌&&◌, refl, ap, sym, ◌∙◌, subst, inl, inr, arith, ◌^◌, Option, Some, None, IfSome, Ok, Err}
 use Rattle.std.specs.Prelude.{nat_le, nat_eq}
 use Rattle.std.proofs.lemmas.Bool.{le-leb, leb-true, leb-false, eq-eqb, eqb-true, and_parts, and_from, cases_Bool}
 use Rattle.std.proofs.lemmas.List.{take-append-drop, length-take-le}
@@ -81,17 +81,23 @@ byte-no_cut b (c ∷ s) none =
     ]
 
 -- the digits that a loop has passed over are those with which the bytes begin
-pub leading-are : (n : ℕ) (s : List ℕ) → n ≤ length s → AllDigits (take n s) → NoDigitFirst (drop n s) → leading_digits s ≡ take n s
+pub leading-are : (n : ℕ) (s : List ℕ) → n ≤ length s → AllDigits (take n s)
+    → (n ≡ length s) ⊎ NoDigitFirst (drop n s) → leading_digits s ≡ take n s
 leading-are zero [] h all ends = refl
-leading-are zero (c ∷ s) h all ends =
+leading-are zero (c ∷ s) h all (inl e) = absurd (omega (arith, e))
+leading-are zero (c ∷ s) h all (inr ends) =
     elim (cases_Bool (is_digit c)) [
       | inl e ↦ absurd (ends (is_digit-tells c e))
       | inr e ↦ rw e refl
     ]
 leading-are (suc n) [] h all ends = refl
-leading-are (suc n) (c ∷ s) h all ends =
+leading-are (suc n) (c ∷ s) h all (inl e) =
     let first = is_digit-true c all.0 in
-    let others = leading-are n s (omega arith) all.1 ends in
+    let others = leading-are n s (omega arith) all.1 (inl (omega (arith, e))) in
+    rw (first, others) refl
+leading-are (suc n) (c ∷ s) h all (inr ends) =
+    let first = is_digit-true c all.0 in
+    let others = leading-are n s (omega arith) all.1 (inr ends) in
     rw (first, others) refl
 
 pub point-first : (s rest : List ℕ) → byte 46 s ≡ Some rest → point s ≡ Some rest

@@ -1,5 +1,5 @@
 -- The time of ISO 8601: a table of the texts that say one.
-use Rattle.std.specs.Prelude.{◌≡◌, ℕ, ◌/◌, ◌%◌, List, [], ◌∷◌, Bool, true, false, ◌&&◌, is_none, nat_le, nat_lt, if◌then◌else◌, Option, Some, None, option_map, option_and_then}
+use Rattle.std.specs.Prelude.{ℕ, ◌/◌, ◌%◌, List, [], ◌∷◌, Bool, true, false, ◌&&◌, is_none, nat_le, nat_lt, if◌then◌else◌, Option, Some, None, option_map, option_and_then}
 use Rattle.std.specs.Option.{option_or}
 use Rattle.time_readers.specs.declared.iso8601.ExtendedKind.{ExtendedKind}
 use Rattle.time_readers.specs.declared.iso8601.ExtendedKind.TheVariants.{Basic, Extended}
@@ -108,8 +108,8 @@ abbrev pub fits : Row → ExtendedKind → List ℕ → Option (Found TimeNumber
 fits r kind bytes =
     if r.before kind
     then option_and_then
-        (λ f. when (r.follows f.0) (record { rest = f.0; value = f.1; kind = r.after kind }))
-        (all_stand r.text bytes nothing_given)
+    (λ f. when (r.follows f.0) (record { rest = f.0; value = f.1; kind = r.after kind }))
+    (all_stand r.text bytes nothing_given)
     else None
 
 -- the text of the first of the rows that fits

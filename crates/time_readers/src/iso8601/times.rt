@@ -177,9 +177,9 @@ fn with_second<'a>(
     numbers: TimeNumbers,
     kind: ExtendedKind,
 ) -> Option<Part<'a, TimeNumbers>>
-    requires { IfSome second.1.entry.1 (λ d. AllDigits d.now) }
+    requires { IfSome second.1.1 (λ d. AllDigits d.now) }
     ensures { GivesPart
-        (spec.second_found numbers kind (second.0.now, number_of second.1.entry.0 second.1.entry.1)) result }
+        (spec.second_found numbers kind (second.entry.0.now, number_of second.entry.1.0 second.entry.1.1)) result }
 {
     if second.1.0 > 60 {
         return None;

@@ -17,13 +17,13 @@ returns-in-Some c =
     let first = rw year at c.in-Err.ensures in
     rw (year, first, c.in-Some.ensures) refl
 
-pub returns-in-Some-literal : goal.returns-in-Some-literal
+pub returns-in-Some-byte : goal.returns-in-Some-byte
 unfolding forms
-returns-in-Some-literal c =
+returns-in-Some-byte c =
     let year = to_z-of_z w32 c.args.year c.ranges.year in
     let first = rw year at c.in-Err.ensures in
     let third = rw year at c.week_and_weekday.ensures in
-    rw (first, c.in_default.ensures, c.in-Some-literal.ensures) third
+    rw (first, c.in_default.ensures, c.in-Some-byte.ensures) third
 
 pub returns-in-None : goal.returns-in-None
 unfolding forms

@@ -12,14 +12,14 @@ unfolding date_text
 returns-in-Ok c =
     let fits : SFits w32 c.in-Some.found.1 = search rules in
     let form = rw (to_z-of_z w32 c.in-Some.found.1 fits) at c.in-Ok.ensures in
-    rw (c.in-Some.ensures, c.in-Some-literal.ensures, form) refl
+    rw (c.in-Some.ensures, c.in-Some-byte.ensures, form) refl
 
 pub returns-in-Err : goal.returns-in-Err
 unfolding date_text
 returns-in-Err c =
     let fits : SFits w32 c.in-Some.found.1 = search rules in
     let form = rw (to_z-of_z w32 c.in-Some.found.1 fits) at c.in-Err.ensures in
-    rw (c.in-Some.ensures, c.in-Some-literal.ensures, form) refl
+    rw (c.in-Some.ensures, c.in-Some-byte.ensures, form) refl
 
 pub returns-in-Ok-behind_year : goal.returns-in-Ok-behind_year
 unfolding date_text

@@ -5,4 +5,4 @@ pub returns-in-Some : goal.returns-in-Some
 returns-in-Some c = point-first c.args.input.now c.in-Some.behind.now c.in-Some.ensures
 
 pub returns-in-None : goal.returns-in-None
-returns-in-None c = rw (point-second c.args.input.now c.in-None.ensures) c.literal-in-None.ensures
+returns-in-None c = rw (point-second c.args.input.now c.in-None.ensures) c.byte-in-None.ensures

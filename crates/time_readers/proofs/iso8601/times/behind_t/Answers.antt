@@ -14,4 +14,4 @@ pub returns-in-Some : goal.returns-in-Some
 returns-in-Some c =
     let v = c.in_ok-found.found in
     let hour = number_and_fraction c.args.input.now v.0.now v.1.0 v.1.1 c.in-Some.digits c.in_ok-found.ensures.is c.in-Some.is in
-    rw c.hour_and_fraction.ensures (hour_and_fraction_stand c.args.kind c.args.input.now v.0.now c.in-Some.digits.now v.1.0 hour (omega arith))
+    rw c.past_hour.ensures (hour_and_fraction_stand c.args.kind c.args.input.now v.0.now c.in-Some.digits.now v.1.0 hour (omega arith))

@@ -9,37 +9,48 @@ pub floor_none : (unit : ℕ) → IsFloor [] unit 0
 floor_none unit = record { low = omega arith; high = omega arith }
 
 -- the bounds of one digit more, at the power of ten of the others
-low_more : (d w unit carry next power : ℕ) → carry * power ≤ w * unit → next * 10 ≤ d * unit + carry → next * (10 * power) ≤ (d * power + w) * unit
+low_more : (d w unit carry next power : ℕ) → carry * power ≤ w * unit → next * 10 ≤ d * unit + carry
+    → next * (10 * power) ≤ (d * power + w) * unit
 low_more d w unit carry next power low h =
     let scaled : (next * 10) * power ≤ (d * unit + carry) * power = mul-le-mul_right power h in
-    let right : (d * unit + carry) * power ≡ (d * power) * unit + carry * power = omega (arith, add-mul (d * unit) carry power, mul_assoc d unit power, mul_comm unit power, mul_assoc d power unit) in
+    let right : (d * unit + carry) * power ≡ (d * power) * unit + carry * power =
+    omega (arith, add-mul (d * unit) carry power, mul_assoc d unit power, mul_comm unit power, mul_assoc d power unit) in
     let all : (d * power + w) * unit ≡ (d * power) * unit + w * unit = add-mul (d * power) w unit in
     let left = mul_assoc next 10 power in
     omega arith
 
-high_more : (d w unit carry next power : ℕ) → w * unit < (carry + 1) * power → d * unit + carry + 1 ≤ (next + 1) * 10 → (d * power + w) * unit < (next + 1) * (10 * power)
+high_more : (d w unit carry next power : ℕ) → w * unit < (carry + 1) * power → d * unit + carry + 1 ≤ (next + 1) * 10
+    → (d * power + w) * unit < (next + 1) * (10 * power)
 high_more d w unit carry next power high h =
     let scaled : (d * unit + (carry + 1)) * power ≤ ((next + 1) * 10) * power = mul-le-mul_right power (omega arith) in
-    let left : (d * unit + (carry + 1)) * power ≡ (d * power) * unit + (carry + 1) * power = omega (arith, add-mul (d * unit) (carry + 1) power, mul_assoc d unit power, mul_comm unit power, mul_assoc d power unit) in
+    let left : (d * unit + (carry + 1)) * power ≡ (d * power) * unit + (carry + 1) * power =
+    omega (arith, add-mul (d * unit) (carry + 1) power, mul_assoc d unit power, mul_comm unit power, mul_assoc d power unit) in
     let all : (d * power + w) * unit ≡ (d * power) * unit + w * unit = add-mul (d * power) w unit in
     let right = mul_assoc (next + 1) 10 power in
     omega arith
 
 -- One digit before those whose floor is carried. The tenth part of a whole number and a fraction has the floor of
 -- the tenth part of that number and the fraction's floor.
-pub floor_more : (c : ℕ) (digits : List ℕ) (unit carry next : ℕ) → IsFloor digits unit carry → next ≡ ((c - 48) * unit + carry) / 10 → IsFloor (c ∷ digits) unit next
+pub floor_more : (c : ℕ) (digits : List ℕ) (unit carry next : ℕ) → IsFloor digits unit carry → next ≡ ((c - 48) * unit + carry) / 10
+    → IsFloor (c ∷ digits) unit next
 floor_more c digits unit carry next floor is =
     let power = 10 ^ length digits in
     let place : 10 ^ length (c ∷ digits) ≡ 10 * power = omega (arith, pow-suc 10 (length digits)) in
     record {
-      low = subst (λ p. next * p ≤ digits_value (c ∷ digits) * unit) (sym place) (low_more (c - 48) (digits_value digits) unit carry next power floor.low (omega arith));
-      high = subst (λ p. digits_value (c ∷ digits) * unit < (next + 1) * p) (sym place) (high_more (c - 48) (digits_value digits) unit carry next power floor.high (omega arith));
+      low =
+          subst (λ p. next * p ≤ digits_value (c ∷ digits) * unit) (sym place)
+          (low_more (c - 48) (digits_value digits) unit carry next power floor.low (omega arith));
+      high =
+          subst (λ p. digits_value (c ∷ digits) * unit < (next + 1) * p) (sym place)
+          (high_more (c - 48) (digits_value digits) unit carry next power floor.high (omega arith));
     }
 
 -- the same at a place of a text, from its end
-pub floor_at : (s : List ℕ) (i unit carry next : ℕ) → i < length s → IsFloor (drop (i + 1) s) unit carry → next ≡ ((get_or s i 0 - 48) * unit + carry) / 10 → IsFloor (drop i s) unit next
+pub floor_at : (s : List ℕ) (i unit carry next : ℕ) → i < length s → IsFloor (drop (i + 1) s) unit carry
+    → next ≡ ((get_or s i 0 - 48) * unit + carry) / 10 → IsFloor (drop i s) unit next
 floor_at s i unit carry next h floor is =
-    subst (λ t. IsFloor t unit next) (sym (drop-cons s i 0 h)) (floor_more (get_or s i 0) (drop (suc i) s) unit carry next (subst (λ j. IsFloor (drop j s) unit carry) (add-one i) floor) is)
+    subst (λ t. IsFloor t unit next) (sym (drop-cons s i 0 h))
+    (floor_more (get_or s i 0) (drop (suc i) s) unit carry next (subst (λ j. IsFloor (drop j s) unit carry) (add-one i) floor) is)
 
 pub digit_at : (s : List ℕ) (i : ℕ) → i < length s → AllDigits s → IsDigit (get_or s i 0)
 digit_at [] i h all = absurd (omega arith)
@@ -56,7 +67,8 @@ rounded digits unit double m floor is =
     let power = 10 ^ length digits in
     let low = mul-le-mul_right power (let least : 2 * m - 1 ≤ double = omega arith in least) in
     let high = mul-le-mul_right power (let most : double + 1 ≤ 2 * m + 1 = omega arith in most) in
-    let twice : digits_value digits * (2 * unit) ≡ 2 * digits_value digits * unit = omega (arith, mul_comm (digits_value digits) 2, mul_assoc (digits_value digits) 2 unit) in
+    let twice : digits_value digits * (2 * unit) ≡ 2 * digits_value digits * unit =
+    omega (arith, mul_comm (digits_value digits) 2, mul_assoc (digits_value digits) 2 unit) in
     let floor_low = floor.low in
     let floor_high = floor.high in
     record { low = omega arith; high = omega arith }
@@ -90,6 +102,7 @@ round-is digits unit m is =
     let some : 0 < 2 * power = omega (arith, ten_pow-pos (length digits)) in
     let twice : m * (2 * power) ≤ (2 * m - 1) * power + power = twice_below m power in
     let low = le-div m all (2 * power) some (let h = is.low in omega arith) in
-    let next : (2 * m + 1) * power + power ≡ (m + 1) * (2 * power) = omega (arith, add-mul (2 * m) 1 power, mul_assoc (m + 1) 2 power, add-mul (2 * m) 2 power) in
+    let next : (2 * m + 1) * power + power ≡ (m + 1) * (2 * power) =
+    omega (arith, add-mul (2 * m) 1 power, mul_assoc (m + 1) 2 power, add-mul (2 * m) 2 power) in
     let high = div_below all (2 * power) (m + 1) some (let h = is.high in omega arith) in
     omega arith

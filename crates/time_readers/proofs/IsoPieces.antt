@@ -117,11 +117,14 @@ unfolding number
 number-plain s mid whole e p = rw (e, p) refl
 
 -- a point without a digit
-pub number-no_digit : (s mid behind : List ℕ) (whole count : ℕ) → digits 2 s ≡ Some (mid, whole) → point mid ≡ Some behind → leading_digits behind ≡ take count behind → count ≡ 0 → number s ≡ None
+pub number-no_digit : (s mid behind : List ℕ) (whole count : ℕ) → digits 2 s ≡ Some (mid, whole) → point mid ≡ Some behind
+    → leading_digits behind ≡ take count behind → count ≡ 0 → number s ≡ None
 unfolding number
 number-no_digit s mid behind whole count e p leads nothing = rw (e, p, leads, nothing) refl
 
-split_digits : (behind : List ℕ) (whole count : ℕ) → leading_digits behind ≡ take count behind → 1 ≤ count → count ≤ length behind → behind_point whole (leading_digits behind) behind ≡ Some (take (length behind - count) (drop count behind), fraction whole (take count behind))
+split_digits : (behind : List ℕ) (whole count : ℕ) → leading_digits behind ≡ take count behind → 1 ≤ count → count ≤ length behind
+    → behind_point whole (leading_digits behind) behind ≡ Some
+    (take (length behind - count) (drop count behind), fraction whole (take count behind))
 split_digits behind whole zero leads some h = absurd (omega arith)
 split_digits [] whole (suc count) leads some h = absurd (omega arith)
 split_digits (c ∷ cs) whole (suc count) leads some h =
@@ -129,7 +132,9 @@ split_digits (c ∷ cs) whole (suc count) leads some h =
     let rest = take-drop (c ∷ cs) (suc count) h in
     rw (leads, rest, long) refl
 
-pub number-fraction : (s mid behind : List ℕ) (whole count : ℕ) → digits 2 s ≡ Some (mid, whole) → point mid ≡ Some behind → leading_digits behind ≡ take count behind → 1 ≤ count → count ≤ length behind → number s ≡ Some (take (length behind - count) (drop count behind), fraction whole (take count behind))
+pub number-fraction : (s mid behind : List ℕ) (whole count : ℕ) → digits 2 s ≡ Some (mid, whole) → point mid ≡ Some behind
+    → leading_digits behind ≡ take count behind → 1 ≤ count → count ≤ length behind
+    → number s ≡ Some (take (length behind - count) (drop count behind), fraction whole (take count behind))
 unfolding number
 number-fraction s mid behind whole count e p leads some h = rw (e, p) (split_digits behind whole count leads some h)
 
@@ -147,20 +152,22 @@ unfolding number digits
 colon-no_number s rest e = rw (byte-first 58 s rest e, and-false (nat_le 2 (length (58 ∷ rest)))) refl
 
 -- what a cut's reader answers of a run, as the function has it
-pub finds-digits : (n : ℕ) (s : List ℕ) (answer : Option (ParsedItem ℕ)) → Finds (IsDigitRun n n) (λ v. v) s answer → Gives (digits n s) answer
+pub finds-digits : (n : ℕ) (s : List ℕ) (answer : Option (ParsedItem ℕ)) → Finds (IsDigitRun n n) (λ v. v) s answer
+    → Gives (digits n s) answer
 finds-digits n s None none = digits-no_cut n s none
 finds-digits n s (Some p) cut = digits-cut n s p.0.now p.1 cut
 
-pub digits-below : (n : ℕ) (s : List ℕ) (answer : Option (ParsedItem ℕ)) → Finds (IsDigitRun n n) (λ v. v) s answer → IfSome answer (λ p. p.1 < 10 ^ n)
+pub digits-below : (n : ℕ) (s : List ℕ) (answer : Option (ParsedItem ℕ)) → Finds (IsDigitRun n n) (λ v. v) s answer
+    → IfSome answer (λ p. p.1 < 10 ^ n)
 digits-below n s None none = tt
 digits-below n s (Some p) cut = IsDigitRun-below n n cut.0 p.0.now p.1 cut.2
 
-sign-cut : (s rest : List ℕ) (v : Sign) → Cut IsSign s rest v → sign s ≡ Some (rest, v)
+pub sign-cut : (s rest : List ℕ) (v : Sign) → Cut IsSign s rest v → sign s ≡ Some (rest, v)
 unfolding sign
 sign-cut s rest Negative cut = rw (cut.1, cut.2) refl
 sign-cut s rest Positive cut = rw (cut.1, cut.2) refl
 
-sign-no_cut : (s : List ℕ) → NoCut IsSign s → sign s ≡ None
+pub sign-no_cut : (s : List ℕ) → NoCut IsSign s → sign s ≡ None
 unfolding sign
 sign-no_cut [] none = refl
 sign-no_cut (c ∷ s) none =
@@ -178,21 +185,24 @@ finds-sign s (Some p) cut = sign-cut s p.0.now p.1 cut
 
 -- the month of its number, and no month of no one's
 pub month-numbered : (m : Month) → numbered months (month_number m) ≡ Some m
-month-numbered = each_month (λ m. numbered months (month_number m) ≡ Some m) (refl, refl, refl, refl, refl, refl, refl, refl, refl, refl, refl, refl)
+month-numbered =
+    each_month (λ m. numbered months (month_number m) ≡ Some m) (refl, refl, refl, refl, refl, refl, refl, refl, refl, refl, refl, refl)
 
 pub numbered-past : {A : Type 0} (all : List A) (n : ℕ) → length all < n → numbered all n ≡ None
 numbered-past all zero h = refl
 numbered-past all (suc n) h = slice_get_past all n (omega arith)
 
 -- what the number of a month's answer is
-pub month-answered : (n : ℕ) (m : Month) → Constructs (month_refusal n) (λ (x : Month). month_number x ≡ n) (Ok m) → numbered months n ≡ Some m
+pub month-answered : (n : ℕ) (m : Month) → Constructs (month_refusal n) (λ (x : Month). month_number x ≡ n) (Ok m)
+    → numbered months n ≡ Some m
 month-answered n m h =
     elim (cases_Bool (nat_le n 12)) [
       | inl e ↦ let is : month_number m ≡ n = rw e at h in subst (λ k. numbered months k ≡ Some m) is (month-numbered m)
       | inr e ↦ absurd (rw e at h)
     ]
 
-pub month-refused : (n : ℕ) (e : ComponentRange) → Constructs (month_refusal n) (λ (x : Month). month_number x ≡ n) (Err e) → numbered months n ≡ None
+pub month-refused : (n : ℕ) (e : ComponentRange) → Constructs (month_refusal n) (λ (x : Month). month_number x ≡ n) (Err e)
+    → numbered months n ≡ None
 month-refused n error h =
     elim (cases_Bool (nat_le n 12)) [
       | inl e ↦ absurd (rw e at h)

@@ -1,8 +1,10 @@
 pub mod CutLemmas
 pub mod EachValue
 pub mod Fractions
+mod IsoCuts
 pub mod IsoFractions
 pub mod IsoPieces
+mod IsoRows
 pub mod IsoTimes
 pub mod Keeping
 pub mod KeptNumbers

@@ -39,11 +39,13 @@ GivesPart found None = found ≡ None
 GivesPart found (Some p) = found ≡ Some (record { rest = p.rest.now; value = p.value; kind = p.kind })
 
 -- the reader of a form answers what is left, and in that view the value; or the fault
-abbrev pub GivesForm : {V W : Type 0} → (V → W) → Result (List ℕ × W) Refusal → Result (ParsedItem V) ParseFromDescription → Type 0
+abbrev pub GivesForm : {V W : Type 0} → (V → W) → Result (List ℕ × W) Refusal
+    → Result (ParsedItem V) ParseFromDescription → Type 0
 GivesForm view found (Err e) = found ≡ Err (refusal_of_description e)
 GivesForm view found (Ok p) = found ≡ Ok (p.0.now, view p.1)
 
 -- the reader of a part answers what is left, in that view the value, and the kind; or the fault
-abbrev pub GivesPartOrFault : {V W : Type 0} → (V → W) → Result (Found W) Refusal → Result (Part V) ParseFromDescription → Type 0
+abbrev pub GivesPartOrFault : {V W : Type 0} → (V → W) → Result (Found W) Refusal
+    → Result (Part V) ParseFromDescription → Type 0
 GivesPartOrFault view found (Err e) = found ≡ Err (refusal_of_description e)
 GivesPartOrFault view found (Ok p) = found ≡ Ok (record { rest = p.rest.now; value = view p.value; kind = p.kind })

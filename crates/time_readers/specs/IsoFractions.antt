@@ -12,10 +12,10 @@ pub record IsRounded (digits : List ℕ) (unit : ℕ) (m : ℕ) : Type 0 where
   pub low : (2 * m - 1) * 10 ^ length digits ≤ 2 * digits_value digits * unit
   pub high : 2 * digits_value digits * unit < (2 * m + 1) * 10 ^ length digits
 
--- the one number that is the fraction cut (`law_fractions`)
+-- the one number that is the fraction cut (`law_one_fraction`)
 abbrev pub floor_of : List ℕ → ℕ → ℕ
 floor_of digits unit = digits_value digits * unit / 10 ^ length digits
 
--- the one number that is the fraction rounded (`law_fractions`)
+-- the one number that is the fraction rounded (`law_one_fraction`)
 abbrev pub round_of : List ℕ → ℕ → ℕ
 round_of digits unit = (2 * digits_value digits * unit + 10 ^ length digits) / (2 * 10 ^ length digits)

@@ -1,5 +1,5 @@
--- The pieces of ISO 8601 texts, as functions from the bytes left: the bytes behind a text with which they begin, and what
--- it says; or nothing, where no such text stands there.
+-- The pieces of ISO 8601 texts, as functions from the bytes left: the bytes behind a text with which they begin, and
+-- what it says; or nothing, where no such text stands there. Each finds exactly a cut (`law_iso_pieces`).
 use Rattle.std.specs.Prelude.{ℕ, zero, suc, ℤ, pos, slice_get, List, [], ◌∷◌, length, take, drop, Bool, true, ◌&&◌, nat_eq, nat_le, if◌then◌else◌, Option, Some, None, option_map, option_and_then}
 use Rattle.time_values.specs.Sign.{signed_by}
 use Rattle.time_values.specs.declared.month.Month.{Month}
@@ -75,21 +75,31 @@ abbrev pub numbered : {A : Type 0} → List A → ℕ → Option A
 numbered all zero = None
 numbered all (suc n) = slice_get all n
 
+-- exactly so many digits, whose number says something
+abbrev pub digits_saying : {A : Type 0} → ℕ → (ℕ → Option A) → Piece A
+digits_saying n says bytes = option_and_then (λ f. option_map (λ a. (f.0, a)) (says f.1)) (digits n bytes)
+
 -- two digits of 01 to 12
 unfoldable pub month : Piece Month
-month bytes = option_and_then (λ f. option_map (λ m. (f.0, m)) (numbered months f.1)) (digits 2 bytes)
+month = digits_saying 2 (numbered months)
 
 -- one digit of 1 to 7
 unfoldable pub weekday : Piece Weekday
-weekday bytes = option_and_then (λ f. option_map (λ d. (f.0, d)) (numbered weekdays f.1)) (digits 1 bytes)
+weekday = digits_saying 1 (numbered weekdays)
 
 -- so many digits that are not all 0
+abbrev pub not_zero : ℕ → Option ℕ
+not_zero v = if nat_eq v 0 then None else Some v
+
 unfoldable pub positive : ℕ → Piece ℕ
-positive n bytes = option_and_then (λ f. if nat_eq f.1 0 then None else Some f) (digits n bytes)
+positive n = digits_saying n not_zero
 
 -- so many digits of a number up to the greatest
+abbrev pub at_most : ℕ → ℕ → Option ℕ
+at_most greatest v = if nat_le v greatest then Some v else None
+
 unfoldable pub up_to : ℕ → ℕ → Piece ℕ
-up_to greatest n bytes = option_and_then (λ f. if nat_le f.1 greatest then Some f else None) (digits n bytes)
+up_to greatest n = digits_saying n (at_most greatest)
 
 -- a number without a fraction, or with the digits of one
 pub data Number : Type 0 where

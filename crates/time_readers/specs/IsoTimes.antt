@@ -1,5 +1,5 @@
 -- The time of ISO 8601: a table of the texts that say one.
-use Rattle.std.specs.Prelude.{ℕ, ◌/◌, ◌%◌, List, [], ◌∷◌, Bool, true, false, ◌&&◌, is_none, nat_le, nat_lt, if◌then◌else◌, Option, Some, None, option_map, option_and_then}
+use Rattle.std.specs.Prelude.{ℕ, ◌/◌, ◌%◌, List, [], ◌∷◌, ◌++◌, Bool, true, false, ◌&&◌, is_none, nat_le, nat_lt, if◌then◌else◌, Option, Some, None, option_map, option_and_then, option_to_list}
 use Rattle.std.specs.Option.{option_or}
 use Rattle.time_readers.specs.declared.iso8601.ExtendedKind.{ExtendedKind}
 use Rattle.time_readers.specs.declared.iso8601.ExtendedKind.TheVariants.{Basic, Extended}
@@ -41,7 +41,7 @@ no_colon bytes = is_none (byte 58 bytes)
 abbrev pub no_colon_no_number : List ℕ → Bool
 no_colon_no_number bytes = no_colon bytes && no_number bytes
 
--- The texts of a time. At most one of them fits (`law_one_time`).
+-- The texts of a time. At most one of them fits (`law_one_time_row`).
 abbrev pub time_rows : List Row
 time_rows =
     row (hour_and_fraction ∷ []) any anything as_before
@@ -116,6 +116,11 @@ fits r kind bytes =
 abbrev pub first_row : List Row → ExtendedKind → List ℕ → Option (Found TimeNumbers)
 first_row [] kind bytes = None
 first_row (r ∷ rs) kind bytes = option_or (fits r kind bytes) (first_row rs kind bytes)
+
+-- the texts of all rows that fit
+abbrev pub fitting : List Row → ExtendedKind → List ℕ → List (Found TimeNumbers)
+fitting [] kind bytes = []
+fitting (r ∷ rs) kind bytes = option_to_list (fits r kind bytes) ++ fitting rs kind bytes
 
 -- the text of a time behind its `T`
 unfoldable pub time_behind : ExtendedKind → List ℕ → Option (Found TimeNumbers)

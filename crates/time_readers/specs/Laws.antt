@@ -1,9 +1,15 @@
 -- Laws of the definitions, each proved by the function of module `laws` that has it as its contract.
-use Rattle.std.specs.Prelude.{◌≡◌, ℕ, List, ◌∷◌, ◌++◌, Bool, Some, None}
+use Rattle.std.specs.Prelude.{◌≡◌, ◌≤◌, ℕ, List, ◌∷◌, ◌++◌, length, Bool, Some, None}
 use Rattle.time_readers.specs.Readers.{Reader, zero_or_more}
 use Rattle.time_readers.specs.declared.Padding.{Padding}
 use Rattle.time_readers.specs.Cuts.{AtMostOneCut}
 use Rattle.time_readers.specs.Digits.{IsDigitRun, IsPaddedRun}
+use Rattle.time_readers.specs.Bytes.{IsSign}
+use Rattle.time_readers.specs.IsoCuts.{IsCutOf, IsYear, IsSaid, IsNumber}
+use Rattle.time_readers.specs.IsoFractions.{IsFloor, IsRounded, floor_of, round_of}
+use Rattle.time_readers.specs.IsoPieces as IsoPieces
+use Rattle.time_readers.specs.IsoTimes.{fitting, time_rows}
+use Rattle.time_readers.specs.declared.iso8601.ExtendedKind.{ExtendedKind}
 use Rattle.time_readers.specs.Places.{Format, Stand, StopsAt}
 use Rattle.time_readers.specs.Spelling.{Spells}
 use Rattle.time_readers.specs.declared.format_description.Component.{Component}
@@ -35,3 +41,23 @@ Takes p = (s r : List ℕ) → p s ≡ Some r → (c : ℕ) × (text : List ℕ)
 pub record IsRepeated (p : Reader) : Type 0 where
   pub again : (s r : List ℕ) → p s ≡ Some r → zero_or_more p s ≡ zero_or_more p r
   pub ends : (s : List ℕ) → p s ≡ None → zero_or_more p s ≡ Some s
+
+-- each piece of ISO 8601 finds exactly the cut that spells what it says
+pub record IsoPiecesAreCuts : Type 0 where
+  pub digits : (n : ℕ) → IsCutOf (IsoPieces.digits n) (IsDigitRun n n)
+  pub sign : IsCutOf IsoPieces.sign IsSign
+  pub year : IsCutOf IsoPieces.year IsYear
+  pub month : IsCutOf IsoPieces.month (IsSaid 2 (IsoPieces.numbered IsoPieces.months))
+  pub weekday : IsCutOf IsoPieces.weekday (IsSaid 1 (IsoPieces.numbered IsoPieces.weekdays))
+  pub positive : (n : ℕ) → IsCutOf (IsoPieces.positive n) (IsSaid n IsoPieces.not_zero)
+  pub up_to : (greatest n : ℕ) → IsCutOf (IsoPieces.up_to greatest n) (IsSaid n (IsoPieces.at_most greatest))
+  pub number : IsCutOf IsoPieces.number IsNumber
+
+-- at most one row of the table of times fits
+abbrev pub OneTimeRow : Type 0
+OneTimeRow = (kind : ExtendedKind) (bytes : List ℕ) → length (fitting time_rows kind bytes) ≤ 1
+
+-- a fraction of a unit is one number
+pub record OneFraction : Type 0 where
+  pub floor : (digits : List ℕ) (unit m : ℕ) → IsFloor digits unit m → m ≡ floor_of digits unit
+  pub rounded : (digits : List ℕ) (unit m : ℕ) → IsRounded digits unit m → m ≡ round_of digits unit

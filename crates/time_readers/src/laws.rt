@@ -2,7 +2,7 @@
 //! contract is the law.
 ghost use Rattle.std.specs.Prelude.{ℕ, List, Bool};
 ghost use Rattle.time_readers.specs.Readers.{Reader};
-ghost use Rattle.time_readers.specs.Laws.{OneDigitRun, OnePaddedRun, OneSpelling, OneForm, Takes, IsRepeated};
+ghost use Rattle.time_readers.specs.Laws.{OneDigitRun, OnePaddedRun, OneSpelling, OneForm, Takes, IsRepeated, IsoPiecesAreCuts, OneTimeRow, OneFraction};
 ghost use Rattle.time_readers.specs.Rfc2822 as rfc2822;
 ghost use Rattle.time_readers.specs.Rfc3339 as rfc3339;
 
@@ -38,4 +38,20 @@ pub fn law_one_mail_date()
 /// A reader that takes a byte or more wherever it reads is repeated until it refuses.
 pub fn law_repeated()
     ensures { (p : Reader) → Takes p → IsRepeated p }
+{}
+
+/// Each piece of ISO 8601, which is defined as a function, finds exactly the beginning that spells what it says,
+/// as the other readers do.
+pub fn law_iso_pieces()
+    ensures { IsoPiecesAreCuts }
+{}
+
+/// For one input and kind at most one row of the table of times of ISO 8601 fits.
+pub fn law_one_time_row()
+    ensures { OneTimeRow }
+{}
+
+/// A fraction of a unit, cut or rounded, is one number.
+pub fn law_one_fraction()
+    ensures { OneFraction }
 {}

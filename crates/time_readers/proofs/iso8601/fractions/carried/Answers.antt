@@ -15,6 +15,8 @@ loop-count-preserved c =
     let small = carry_below c.from.result c.args.unit c.loop-count.carry (omega (arith, c.from.ensures)) c.loop-count.invariant.below in
     record {
       in_range = omega arith;
-      floor = floor_at s i c.args.unit c.loop-count.carry _ (omega arith) (subst (λ j. IsFloor (drop j s) c.args.unit c.loop-count.carry) (sym back) c.loop-count.invariant.floor) (rw c.from.ensures refl);
+      floor =
+          floor_at s i c.args.unit c.loop-count.carry _ (omega arith)
+          (subst (λ j. IsFloor (drop j s) c.args.unit c.loop-count.carry) (sym back) c.loop-count.invariant.floor) (rw c.from.ensures refl);
       below = omega arith;
     }

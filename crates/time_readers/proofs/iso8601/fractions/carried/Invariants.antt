@@ -3,7 +3,8 @@ use Rattle.time_readers.specs.IsoFractions.{IsFloor}
 use Rattle.time_readers.proofs.iso8601.fractions.carried.Given as goal
 
 abbrev pub invariant-loop-count : goal.invariant-loop-count
-invariant-loop-count l = record { in_range : l.count ≤ length l.digits; floor : IsFloor (drop l.count l.digits) l.unit l.carry; below : l.carry < l.unit }
+invariant-loop-count l =
+    record { in_range : l.count ≤ length l.digits; floor : IsFloor (drop l.count l.digits) l.unit l.carry; below : l.carry < l.unit }
 
 abbrev pub decreases-loop-count : goal.decreases-loop-count
 decreases-loop-count l = l.count

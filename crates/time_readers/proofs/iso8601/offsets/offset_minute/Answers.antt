@@ -16,7 +16,9 @@ returns-in-Some-clause-is c = rw (sym c.maybe_extended.ensures ∙ c.if-maybe_ex
 
 pub returns-in-Some-two_digits-clause-is : goal.returns-in-Some-two_digits-clause-is
 unfolding offset_minute
-returns-in-Some-two_digits-clause-is c = rw (no_colon (goal.at.returns-in-Some-two_digits-clause-is c).After-two_digits, c.in-Some-two_digits.ensures) c.up_to-in-Some-two_digits.ensures.is
+returns-in-Some-two_digits-clause-is c =
+    rw (no_colon (goal.at.returns-in-Some-two_digits-clause-is c).After-two_digits, c.in-Some-two_digits.ensures)
+    c.up_to-in-Some-two_digits.ensures.is
 
 pub returns-in-None-clause-is : goal.returns-in-None-clause-is
 unfolding offset_minute

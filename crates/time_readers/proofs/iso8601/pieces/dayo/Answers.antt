@@ -9,7 +9,10 @@ returns-in_err-number c = rw (c.from_residual.ensures, c.in_err-number.ensures.i
 
 pub returns-in-Some : goal.returns-in-Some
 unfolding positive
-returns-in-Some c = let some = c.in-Some.value.ok in rw (c.in_ok-number.ensures.is, c.in-Some.ensures, ne_eqb c.in_ok-number.number.1 0 (λ e. omega (arith, some, c.in-Some.ensures))) refl
+returns-in-Some c =
+    let some =
+    c.in-Some.value.ok in rw
+    (c.in_ok-number.ensures.is, c.in-Some.ensures, ne_eqb c.in_ok-number.number.1 0 (λ e. omega (arith, some, c.in-Some.ensures))) refl
 
 pub returns-in-None : goal.returns-in-None
 unfolding positive

@@ -13,8 +13,10 @@ returns-in_default c = rw (c.in_ok-number.ensures, c.in_default.ensures) refl
 
 pub returns-in-Ok : goal.returns-in-Ok
 unfolding month
-returns-in-Ok c = rw (c.in_ok-number.ensures, sym c.in-Some.ensures, month-answered c.in-Some.positive.value c.in-Ok.month c.in-Ok.ensures) refl
+returns-in-Ok c =
+    rw (c.in_ok-number.ensures, sym c.in-Some.ensures, month-answered c.in-Some.positive.value c.in-Ok.month c.in-Ok.ensures) refl
 
 pub returns-in-Err : goal.returns-in-Err
 unfolding month
-returns-in-Err c = rw (c.in_ok-number.ensures, sym c.in-Some.ensures, month-refused c.in-Some.positive.value c.in-Err.field-0 c.in-Err.ensures) refl
+returns-in-Err c =
+    rw (c.in_ok-number.ensures, sym c.in-Some.ensures, month-refused c.in-Some.positive.value c.in-Err.field-0 c.in-Err.ensures) refl

@@ -9,7 +9,8 @@ returns-in_err-number-in-Some c = rw (c.from_residual.ensures, c.in-Some.ensures
 
 pub returns-in_err-number-in-None : goal.returns-in_err-number-in-None
 unfolding year
-returns-in_err-number-in-None c = rw (c.from_residual-in_err-number-in-None.ensures, c.in-None.ensures, c.in_err-number-in-None.ensures.is) refl
+returns-in_err-number-in-None c =
+    rw (c.from_residual-in_err-number-in-None.ensures, c.in-None.ensures, c.in_err-number-in-None.ensures.is) refl
 
 pub returns-in_ok-number-in-Some : goal.returns-in_ok-number-in-Some
 unfolding year
@@ -21,4 +22,5 @@ pub returns-in_ok-number-in-None : goal.returns-in_ok-number-in-None
 unfolding year
 returns-in_ok-number-in-None c =
     let fits : SFits w32 c.with_sign-in-None.result = search rules in
-    rw (to_z-of_z w32 c.with_sign-in-None.result fits, c.in-None.ensures, c.in_ok-number-in-None.ensures.is, c.with_sign-in-None.ensures) refl
+    rw (to_z-of_z w32 c.with_sign-in-None.result fits, c.in-None.ensures, c.in_ok-number-in-None.ensures.is, c.with_sign-in-None.ensures)
+    refl

@@ -31,6 +31,7 @@ pub enum DateNumbers {
 /// forms that stands counts. Where none does the fault is that of the third where a `W` stands, and else that
 /// of the first: an invalid component `year`, `month`, `day`, `week` or `weekday`, or an invalid literal where
 /// `-` is missing.
+#[tactic(auto, unfolding(crate::specs::IsoDates::date_text))]
 pub fn date(input: &[u8]) -> Result<Part<'_, DateNumbers>, ParseFromDescription>
     ensures { GivesPartOrFault spec.iso_date (spec.date_text input.now) result }
 {
@@ -58,6 +59,7 @@ pub fn date(input: &[u8]) -> Result<Part<'_, DateNumbers>, ParseFromDescription>
 }
 
 // The first of the three forms that stands behind a year.
+#[tactic(auto, unfolding(crate::specs::IsoDates::forms))]
 fn behind_year(
     input: &[u8],
     year: i32,

@@ -11,6 +11,7 @@ use std::num::NonZero;
 use time_values::{Month, Weekday};
 
 /// Reads a year: a sign and six digits, or four digits.
+#[tactic(auto, unfolding(crate::specs::IsoPieces::year))]
 pub fn year(input: &[u8]) -> Option<ParsedItem<'_, i32>>
     ensures { Gives (spec.year input.now) result }
 {
@@ -40,6 +41,7 @@ fn with_sign(sign: Sign, number: u32) -> i32
 }
 
 /// Reads a month: two digits of 01 to 12.
+#[tactic(auto, unfolding(crate::specs::IsoPieces::month))]
 pub fn month(input: &[u8]) -> Option<ParsedItem<'_, Month>>
     ensures { Gives (spec.month input.now) result }
 {
@@ -55,6 +57,7 @@ pub fn month(input: &[u8]) -> Option<ParsedItem<'_, Month>>
 
 /// Reads a week of the year: two digits, but not `00`.
 #[inline]
+#[tactic(auto, unfolding(crate::specs::IsoPieces::positive))]
 pub fn week(input: &[u8]) -> Option<ParsedItem<'_, NonZero<u8>>>
     ensures { GivesAs non_zero_u8_get (spec.positive 2 input.now) result }
 {
@@ -74,6 +77,7 @@ pub fn day(input: &[u8]) -> Option<ParsedItem<'_, NonZero<u8>>>
 }
 
 /// Reads a day of the week: one digit of 1, which is Monday, to 7.
+#[tactic(auto, unfolding(crate::specs::IsoPieces::weekday))]
 pub fn dayk(input: &[u8]) -> Option<ParsedItem<'_, Weekday>>
     ensures { Gives (spec.weekday input.now) result }
 {
@@ -102,6 +106,7 @@ fn numbered_weekday(number: u32) -> Option<Weekday>
 
 /// Reads a day of the year: three digits, but not `000`.
 #[inline]
+#[tactic(auto, unfolding(crate::specs::IsoPieces::positive))]
 pub fn dayo(input: &[u8]) -> Option<ParsedItem<'_, NonZero<u16>>>
     ensures { GivesAs non_zero_u16_get (spec.positive 3 input.now) result }
 {
@@ -159,6 +164,7 @@ pub(super) fn byte<const C: u8>(input: &[u8]) -> Option<&[u8]>
 
 // What follows `.` or `,`.
 #[inline]
+#[tactic(auto, unfolding(crate::specs::IsoPieces::point))]
 fn point(input: &[u8]) -> Option<&[u8]>
     ensures { Leaves (spec.point input.now) result }
 {
@@ -197,6 +203,7 @@ pub(super) fn two_digits(input: &[u8]) -> Option<ParsedItem<'_, u8>>
 
 // Two digits of a number up to the greatest.
 #[inline]
+#[tactic(auto, unfolding(crate::specs::IsoPieces::up_to))]
 pub(super) fn up_to<const GREATEST: u8>(input: &[u8]) -> Option<ParsedItem<'_, u8>>
     ensures is { Gives (spec.up_to GREATEST 2 input.now) result }
     ensures within { IfSome result (λ p. p.1 ≤ GREATEST) }

@@ -130,7 +130,7 @@ pub fn hour(input: &[u8]) -> Option<ParsedItem<'_, u8>>
 pub fn min(input: &[u8]) -> Option<ParsedItem<'_, u8>>
     ensures { Gives (spec.digits 2 input.now) result }
 {
-    two_digits(input)
+    hour(input)
 }
 
 /// Reads two digits of any value, and a fraction if `.` or `,` stands behind them: all digits behind that.

@@ -8,6 +8,7 @@ mod IsoRows
 pub mod IsoTimes
 pub mod Keeping
 pub mod KeptNumbers
+pub mod Made
 pub mod MailBlanks
 pub mod MailPlaces
 pub mod MailRanges

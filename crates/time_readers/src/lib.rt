@@ -8,6 +8,7 @@ ghost use Rattle.time_readers.specs.Bytes.{is_negative};
 
 pub mod combinator;
 pub mod component;
+pub mod direct;
 pub mod format_description;
 pub mod iso8601;
 pub mod laws;

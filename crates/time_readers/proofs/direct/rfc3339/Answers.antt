@@ -1,0 +1,36 @@
+use Rattle.std.proofs.Common.{false, refl, inr}
+use Rattle.time_values.specs.Range.{greatest_year}
+use Rattle.time_readers.specs.Direct.{minute_refusal, said_rfc3339}
+use Rattle.time_readers.specs.Rfc3339.{HasForm, FailsAt, fault}
+use Rattle.time_readers.proofs.Keeping.{HasForm-in_places}
+use Rattle.time_readers.proofs.Made.{behind, minute_stands, minute_past}
+use Rattle.time_readers.proofs.direct.rfc3339.Goals as goal
+
+pub returns-then-numbers-gt59 : goal.returns-then-numbers-gt59
+returns-then-numbers-gt59 c =
+    let found = c.in-Ok.found in
+    inr (found.0.now, (found.1, c.in-Ok.ensures,
+    rw (minute_past found.1 c.if-numbers-gt59.true, c.into-then-numbers-gt59.ensures) refl))
+
+pub said_rfc3339-requires-clause-hour : goal.said_rfc3339-requires-clause-hour
+said_rfc3339-requires-clause-hour c =
+    let found = c.in-Ok.found in
+    (HasForm-in_places false c.args.input.now found.0.now found.1 c.in-Ok.ensures).offset_hour
+
+pub whole-requires-clause-year : goal.whole-requires-clause-year
+whole-requires-clause-year c =
+    let found = c.in-Ok.found in
+    rw c.said_rfc3339.ensures (HasForm-in_places false c.args.input.now found.0.now found.1 c.in-Ok.ensures).year
+
+pub whole-requires-clause-month : goal.whole-requires-clause-month
+whole-requires-clause-month c =
+    let found = c.in-Ok.found in
+    let places = HasForm-in_places false c.args.input.now found.0.now found.1 c.in-Ok.ensures in
+    rw c.said_rfc3339.ensures places.month_not_zero
+
+pub returns : goal.returns
+returns c =
+    let found = c.in-Ok.found in
+    behind (HasForm false) (FailsAt false) fault minute_refusal said_rfc3339 greatest_year c.args.input.now found.0.now
+    found.1 c.whole.result c.in-Ok.ensures (minute_stands found.1 c.if-numbers-gt59.false)
+    (rw c.said_rfc3339.ensures at c.whole.ensures)

@@ -1,0 +1,122 @@
+-- What the direct paths of RFC 3339 and RFC 2822 answer: a moment made of a text's numbers. `Y` is the greatest year.
+use Rattle.std.specs.Prelude.{◌≡◌, ◌⊎◌, ◌==◌, ℕ, ℤ, pos, nat_le, true, false, if◌then◌else◌, List, [], ◌∷◌, codes, Option, Some, None, Result, Ok, Err, unwrap_or}
+use Rattle.std.specs.Option.{option_or}
+use Rattle.time_values.specs.Dates as Dates
+use Rattle.time_values.specs.DateRefusals.{calendar_date_refusal}
+use Rattle.time_values.specs.Instants.{IsLeapSecondMoment}
+use Rattle.time_values.specs.Moments.{offset_date, offset_time, offset_of, offset_instant}
+use Rattle.time_values.specs.Month.{month_number, month_refusal}
+use Rattle.time_values.specs.Offsets.{HasOffset, offset_refusal}
+use Rattle.time_values.specs.Refusal.{Refusal, trailing, range, refusal_of}
+use Rattle.time_values.specs.Sign.{signed_by}
+use Rattle.time_values.specs.Times.{HasClock, time_refusal}
+use Rattle.time_values.specs.declared.date.Date.{Date}
+use Rattle.time_values.specs.declared.error.Parse.{Parse}
+use Rattle.time_values.specs.declared.offset_date_time.OffsetDateTime.{OffsetDateTime}
+use Rattle.time_readers.specs.Cuts.{Form}
+use Rattle.time_readers.specs.Rfc2822 as rfc2822
+use Rattle.time_readers.specs.Rfc3339 as rfc3339
+use Rattle.time_readers.specs.declared.direct.Said.{Said}
+use Rattle.time_readers.specs.declared.rfc2822.places.Numbers as mail
+use Rattle.time_readers.specs.declared.rfc3339.Numbers.{Numbers}
+
+-- the second and the nanosecond that a clock shows, where a leap second is the last nanosecond before it
+abbrev pub shown_second : Said → ℕ
+shown_second s = if s.second == 60 then 59 else s.second
+
+abbrev pub shown_nanosecond : Said → ℕ
+shown_nanosecond s = if s.second == 60 then 999_999_999 else s.nanosecond
+
+-- the refusal of the month's number, or else of the date
+abbrev pub date_refusal : ℕ → Said → Option Refusal
+date_refusal Y s = option_or (month_refusal s.month) (calendar_date_refusal Y (pos s.year) s.month s.day)
+
+-- the first number that is out of its range
+abbrev pub first_refusal : ℕ → Said → Option Refusal
+first_refusal Y s =
+    option_or (date_refusal Y s)
+    (option_or (time_refusal s.hour s.minute (shown_second s) (shown_nanosecond s))
+    (offset_refusal s.offset_hour s.offset_minute (pos 0)))
+
+-- the date is the one that is said
+pub record HasDate (s : Said) (d : Date) : Type 0 where
+  pub year : Dates.year d ≡ pos s.year
+  pub month : month_number (Dates.month d) ≡ s.month
+  pub day : Dates.day d ≡ s.day
+
+-- the moment's date, time and offset are those that are said
+pub record IsMoment (s : Said) (v : OffsetDateTime) : Type 0 where
+  pub date : HasDate s (offset_date v)
+  pub clock : HasClock s.hour s.minute (shown_second s) (shown_nanosecond s) (offset_time v)
+  pub offset : HasOffset s.offset_hour s.offset_minute (pos 0) (offset_of v)
+
+-- each number is in its range, and a leap second stands where one may, which is where a month ends in UTC
+abbrev pub IsMade : ℕ → Said → OffsetDateTime → Type 0
+IsMade Y s v =
+    (first_refusal Y s ≡ None) × IsMoment s v × (s.second ≡ 60 → IsLeapSecondMoment Y (offset_instant Y v))
+
+-- the first number that isn't in its range is refused, or else a leap second where none may stand
+abbrev pub IsNotMade : ℕ → Said → Refusal → Type 0
+IsNotMade Y s e =
+    (first_refusal Y s ≡ Some e)
+    ⊎ ((first_refusal Y s ≡ None) × (s.second ≡ 60) × (e ≡ range (codes "second") true)
+    × ((v : OffsetDateTime) × IsMoment s v × (¬ IsLeapSecondMoment Y (offset_instant Y v))))
+
+-- The refusal once all places have their form: that of the last place's range, or else bytes that remain, or else that
+-- no moment is made.
+abbrev pub IsRefusedBehind : ℕ → Option Refusal → Said → List ℕ → Refusal → Type 0
+IsRefusedBehind Y (Some r) s rest e = e ≡ r
+IsRefusedBehind Y None s [] e = IsNotMade Y s e
+IsRefusedBehind Y None s (c ∷ rest) e = e ≡ trailing
+
+-- A whole text whose places have their form, and the moment made of it; or the refusal of the first place that doesn't
+-- have its form, or what is refused behind them.
+abbrev pub Direct : {P N : Type 0} → Form N → (List ℕ → P → Type 0) → (P → Refusal) → (N → Option Refusal) → (N → Said)
+    → ℕ → List ℕ → Result OffsetDateTime Parse → Type 0
+Direct {N = N} form fails fault last says Y bytes (Ok v) =
+    (n : N) × form bytes [] n × (last n ≡ None) × IsMade Y (says n) v
+Direct {P} {N} form fails fault last says Y bytes (Err e) =
+    ((p : P) × fails bytes p × (refusal_of e ≡ fault p))
+    ⊎ ((rest : List ℕ) × ((n : N) × form bytes rest n × IsRefusedBehind Y (last n) (says n) rest (refusal_of e)))
+
+-- the range of the minute of an offset, which its place of RFC 3339 refuses
+abbrev pub minute_refusal : Numbers → Option Refusal
+minute_refusal n = if nat_le n.offset_minute 59 then None else Some (range (codes "minutes") false)
+
+-- what a text of RFC 3339 says of a moment: a fraction that doesn't stand is 0
+abbrev pub said_rfc3339 : Numbers → Said
+said_rfc3339 n = record {
+  year = n.year;
+  month = n.month;
+  day = n.day;
+  hour = n.hour;
+  minute = n.minute;
+  second = n.second;
+  nanosecond = unwrap_or n.subsecond 0;
+  offset_hour = signed_by n.offset_is_negative (pos n.offset_hour);
+  offset_minute = signed_by n.offset_is_negative (pos n.offset_minute);
+}
+
+-- what a mail date says of a moment: a second that doesn't stand is 0
+abbrev pub said_rfc2822 : mail.Numbers → Said
+said_rfc2822 n = record {
+  year = n.year;
+  month = month_number n.month;
+  day = n.day;
+  hour = n.hour;
+  minute = n.minute;
+  second = unwrap_or n.second 0;
+  nanosecond = 0;
+  offset_hour = n.offset_hour;
+  offset_minute = n.offset_minute;
+}
+
+-- RFC 3339 on the direct path
+abbrev pub DirectRfc3339 : ℕ → List ℕ → Result OffsetDateTime Parse → Type 0
+DirectRfc3339 =
+    Direct (rfc3339.HasForm false) (rfc3339.FailsAt false) rfc3339.fault minute_refusal said_rfc3339
+
+-- RFC 2822 on the direct path
+abbrev pub DirectRfc2822 : ℕ → List ℕ → Result OffsetDateTime Parse → Type 0
+DirectRfc2822 =
+    Direct (rfc2822.HasForm false) (rfc2822.FailsAt false) rfc2822.fault (λ n. None) said_rfc2822

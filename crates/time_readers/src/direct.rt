@@ -1,0 +1,209 @@
+//! The direct paths of RFC 3339 and RFC 2822: from a text to a moment, with no record between them.
+//!
+//! They ask each place for its form alone, and then the calendar, so that their refusals are not those of a
+//! parse over a record: `2021-13-01T00:00:00Z` is refused as a month out of range.
+ghost use Rattle.std.specs.Prelude.{◌≡◌, ◌≢◌, ◌≤◌, [], MatchResult, Some, None, pos, unsigned_abs};
+ghost use Rattle.time_values.specs.Month.{month_number, month_refusal};
+ghost use Rattle.time_values.specs.Range.{greatest_year};
+ghost use Rattle.time_values.specs.Refusal.{Constructs, refusal_of, refusal_of_range};
+ghost use Rattle.time_values.specs.Sign.{signed_by};
+ghost use Rattle.time_values.specs.Times.{HasClock, time_refusal};
+ghost use Rattle.time_readers.specs.Direct.{shown_second, shown_nanosecond, date_refusal, first_refusal, HasDate, IsMoment, said_rfc3339, said_rfc2822, IsMade, IsNotMade, IsRefusedBehind, DirectRfc3339, DirectRfc2822};
+
+use crate::{rfc2822, rfc3339};
+use std::num::NonZero;
+use time_values::error::{ComponentRange, Parse, ParseFromDescription, TryFromParsed};
+use time_values::{Date, Month, OffsetDateTime, Time, UtcOffset};
+
+// What a text says of a moment.
+#[derive(Clone, Copy, Debug)]
+struct Said {
+    year: u16,
+    month: u8,
+    day: u8,
+    hour: u8,
+    minute: u8,
+    // 60 is a leap second.
+    second: u8,
+    nanosecond: u32,
+    // With its sign, as the minute.
+    offset_hour: i8,
+    offset_minute: i8,
+}
+
+/// Parses a whole text of RFC 3339, section 5.6, as a moment.
+///
+/// The first place that doesn't have its form is refused as it is by [`rfc3339::place_fault`], and then a
+/// minute of the offset above 59 as `minutes` out of range. Then bytes that remain are unexpected trailing
+/// characters. Then the first of `month`, `day` (conditional), `hour`, `minute` and `second` is refused that
+/// is out of its range. A leap second is read as the nanosecond before it, and refused as conditional
+/// `second` unless it is in UTC the last of a month. A fraction that doesn't stand is 0.
+pub fn rfc3339(input: &[u8]) -> Result<OffsetDateTime, Parse>
+    ensures { DirectRfc3339 greatest_year input.now result }
+{
+    let found = match rfc3339::read::<false>(input) {
+        Ok(found) => found,
+        Err(place) => return Err(rfc3339::place_fault(place).into()),
+    };
+    let numbers = found.1;
+    if numbers.offset_minute > 59 {
+        return Err(TryFromParsed::ComponentRange(ComponentRange {
+            name: "minutes",
+            conditional: false,
+        })
+        .into());
+    }
+    whole(found.0, said_rfc3339(numbers))
+}
+
+/// Parses a whole mail date of RFC 2822, section 3.3, as a moment.
+///
+/// The first place that doesn't have its form is refused as it is by [`rfc2822::place_fault`]. Then bytes that
+/// remain are unexpected trailing characters. Then the first of `day` (conditional), `hour`, `minute`,
+/// `second`, `hours` and `minutes` is refused that is out of its range. A leap second is read as the nanosecond
+/// before it, and refused as conditional `second` unless it is in UTC the last of a month. A second that
+/// doesn't stand is 0.
+pub fn rfc2822(input: &[u8]) -> Result<OffsetDateTime, Parse>
+    ensures { DirectRfc2822 greatest_year input.now result }
+{
+    match rfc2822::read::<false>(input) {
+        Ok(found) => whole(found.0, said_rfc2822(found.1)),
+        Err(place) => Err(rfc2822::place_fault(place).into()),
+    }
+}
+
+// What the numbers of RFC 3339 say.
+#[inline]
+fn said_rfc3339(numbers: rfc3339::Numbers) -> Said
+    requires hour { numbers.offset_hour ≤ 23 }
+    requires minute { numbers.offset_minute ≤ 59 }
+    ensures { result ≡ said_rfc3339 numbers }
+{
+    Said {
+        year: numbers.year,
+        month: numbers.month,
+        day: numbers.day,
+        hour: numbers.hour,
+        minute: numbers.minute,
+        second: numbers.second,
+        nanosecond: numbers.subsecond.unwrap_or(0),
+        offset_hour: signed(numbers.offset_is_negative, numbers.offset_hour),
+        offset_minute: signed(numbers.offset_is_negative, numbers.offset_minute),
+    }
+}
+
+// The number with its sign.
+#[inline]
+fn signed(is_negative: bool, value: u8) -> i8
+    requires { value ≤ 59 }
+    ensures { result ≡ signed_by is_negative (pos value) }
+{
+    let value = value as i8;
+    if is_negative { -value } else { value }
+}
+
+// What the numbers of a mail date say.
+#[inline]
+fn said_rfc2822(numbers: rfc2822::Numbers) -> Said
+    ensures { result ≡ said_rfc2822 numbers }
+{
+    Said {
+        year: numbers.year,
+        month: numbers.month.number(),
+        day: numbers.day,
+        hour: numbers.hour,
+        minute: numbers.minute,
+        second: numbers.second.unwrap_or(0),
+        nanosecond: 0,
+        offset_hour: numbers.offset_hour,
+        offset_minute: numbers.offset_minute,
+    }
+}
+
+// The moment of a text behind which nothing remains.
+fn whole(rest: &[u8], said: Said) -> Result<OffsetDateTime, Parse>
+    requires year { said.year ≤ greatest_year }
+    requires month { said.month ≢ 0 }
+    ensures { MatchResult result
+        (λ v. (rest.now ≡ []) × IsMade greatest_year said v)
+        (λ e. IsRefusedBehind greatest_year None said rest.now (refusal_of e)) }
+{
+    if !rest.is_empty() {
+        return Err(ParseFromDescription::UnexpectedTrailingCharacters.into());
+    }
+    match moment(said) {
+        Ok(moment) => Ok(moment),
+        Err(e) => Err(TryFromParsed::ComponentRange(e).into()),
+    }
+}
+
+// The moment of the numbers.
+fn moment(said: Said) -> Result<OffsetDateTime, ComponentRange>
+    requires year { said.year ≤ greatest_year }
+    requires month { said.month ≢ 0 }
+    ensures { MatchResult result
+        (λ v. IsMade greatest_year said v)
+        (λ e. IsNotMade greatest_year said (refusal_of_range e)) }
+{
+    let moment = shown(said)?;
+    if said.second != 60 {
+        return Ok(moment);
+    }
+    if moment.is_valid_leap_second_stand_in() {
+        return Ok(moment);
+    }
+    Err(ComponentRange {
+        name: "second",
+        conditional: true,
+    })
+}
+
+// The moment that a calendar and a clock show, wherever a leap second stands.
+#[tactic(auto, using(crate::proofs::Made::accepted, crate::proofs::Made::refused))]
+fn shown(said: Said) -> Result<OffsetDateTime, ComponentRange>
+    requires year { said.year ≤ greatest_year }
+    requires month { said.month ≢ 0 }
+    ensures { MatchResult result
+        (λ v. (first_refusal greatest_year said ≡ None) × IsMoment said v)
+        (λ e. first_refusal greatest_year said ≡ Some (refusal_of_range e)) }
+{
+    let date = date(said)?;
+    let time = clock(said)?;
+    let offset = UtcOffset::from_hms(said.offset_hour, said.offset_minute, 0)?;
+    Ok(OffsetDateTime::new_in_offset(date, time, offset))
+}
+
+// The date.
+#[inline]
+fn date(said: Said) -> Result<Date, ComponentRange>
+    requires year { said.year ≤ greatest_year }
+    requires month { said.month ≢ 0 }
+    ensures { Constructs (date_refusal greatest_year said) (HasDate said) result }
+{
+    let month = month(said.month)?;
+    Date::from_calendar_date(i32::from(said.year), month, said.day)
+}
+
+// The month of a number.
+#[inline]
+fn month(number: u8) -> Result<Month, ComponentRange>
+    requires { number ≢ 0 }
+    ensures { Constructs (month_refusal number) (λ m. month_number m ≡ number) result }
+{
+    match NonZero::<u8>::new(number) {
+        Some(number) => Month::from_number(number),
+        None => unreachable!(),
+    }
+}
+
+// The time that a clock shows.
+#[inline]
+fn clock(said: Said) -> Result<Time, ComponentRange>
+    ensures { Constructs (time_refusal said.hour said.minute (shown_second said) (shown_nanosecond said))
+        (HasClock said.hour said.minute (shown_second said) (shown_nanosecond said)) result }
+{
+    if said.second == 60 {
+        return Time::from_hms_nano(said.hour, said.minute, 59, 999_999_999);
+    }
+    Time::from_hms_nano(said.hour, said.minute, said.second, said.nanosecond)
+}

@@ -1,5 +1,5 @@
 -- What the direct paths of RFC 3339 and RFC 2822 answer: a moment made of a text's numbers. `Y` is the greatest year.
-use Rattle.std.specs.Prelude.{◌≡◌, ◌⊎◌, ◌==◌, ℕ, ℤ, pos, nat_le, true, false, if◌then◌else◌, List, [], ◌∷◌, codes, Option, Some, None, Result, Ok, Err, unwrap_or}
+use Rattle.std.specs.Prelude.{◌≡◌, ◌⊎◌, ◌==◌, ℕ, pos, nat_le, true, false, if◌then◌else◌, List, [], ◌∷◌, codes, Option, Some, None, Result, Ok, Err, unwrap_or}
 use Rattle.std.specs.Option.{option_or}
 use Rattle.time_values.specs.Dates as Dates
 use Rattle.time_values.specs.DateRefusals.{calendar_date_refusal}
@@ -50,17 +50,20 @@ pub record IsMoment (s : Said) (v : OffsetDateTime) : Type 0 where
   pub clock : HasClock s.hour s.minute (shown_second s) (shown_nanosecond s) (offset_time v)
   pub offset : HasOffset s.offset_hour s.offset_minute (pos 0) (offset_of v)
 
--- each number is in its range, and a leap second stands where one may, which is where a month ends in UTC
+-- a leap second stands only where one may, which is where a month ends in UTC
+unfoldable pub LeapSecondMayStand : ℕ → Said → OffsetDateTime → Type 0
+LeapSecondMayStand Y s v = s.second ≡ 60 → IsLeapSecondMoment Y (offset_instant Y v)
+
+-- each number is in its range, and a leap second stands only where one may
 abbrev pub IsMade : ℕ → Said → OffsetDateTime → Type 0
-IsMade Y s v =
-    (first_refusal Y s ≡ None) × IsMoment s v × (s.second ≡ 60 → IsLeapSecondMoment Y (offset_instant Y v))
+IsMade Y s v = (first_refusal Y s ≡ None) × IsMoment s v × LeapSecondMayStand Y s v
 
 -- the first number that isn't in its range is refused, or else a leap second where none may stand
 abbrev pub IsNotMade : ℕ → Said → Refusal → Type 0
 IsNotMade Y s e =
     (first_refusal Y s ≡ Some e)
-    ⊎ ((first_refusal Y s ≡ None) × (s.second ≡ 60) × (e ≡ range (codes "second") true)
-    × ((v : OffsetDateTime) × IsMoment s v × (¬ IsLeapSecondMoment Y (offset_instant Y v))))
+    ⊎ ((first_refusal Y s ≡ None) × (e ≡ range (codes "second") true)
+    × ((v : OffsetDateTime) × IsMoment s v × (¬ LeapSecondMayStand Y s v)))
 
 -- The refusal once all places have their form: that of the last place's range, or else bytes that remain, or else that
 -- no moment is made.

@@ -2,13 +2,13 @@
 //!
 //! They ask each place for its form alone, and then the calendar, so that their refusals are not those of a
 //! parse over a record: `2021-13-01T00:00:00Z` is refused as a month out of range.
-ghost use Rattle.std.specs.Prelude.{◌≡◌, ◌≢◌, ◌≤◌, [], MatchResult, Some, None, pos, unsigned_abs};
+ghost use Rattle.std.specs.Prelude.{◌≡◌, ◌≢◌, ◌≤◌, [], MatchResult, IsTrue, ◌↔◌, Some, None, pos, unsigned_abs};
 ghost use Rattle.time_values.specs.Month.{month_number, month_refusal};
 ghost use Rattle.time_values.specs.Range.{greatest_year};
 ghost use Rattle.time_values.specs.Refusal.{Constructs, refusal_of, refusal_of_range};
 ghost use Rattle.time_values.specs.Sign.{signed_by};
 ghost use Rattle.time_values.specs.Times.{HasClock, time_refusal};
-ghost use Rattle.time_readers.specs.Direct.{shown_second, shown_nanosecond, date_refusal, first_refusal, HasDate, IsMoment, said_rfc3339, said_rfc2822, IsMade, IsNotMade, IsRefusedBehind, DirectRfc3339, DirectRfc2822};
+ghost use Rattle.time_readers.specs.Direct.{shown_second, shown_nanosecond, date_refusal, first_refusal, HasDate, IsMoment, LeapSecondMayStand, said_rfc3339, said_rfc2822, IsMade, IsNotMade, IsRefusedBehind, DirectRfc3339, DirectRfc2822};
 
 use crate::{rfc2822, rfc3339};
 use std::num::NonZero;
@@ -138,6 +138,7 @@ fn whole(rest: &[u8], said: Said) -> Result<OffsetDateTime, Parse>
 }
 
 // The moment of the numbers.
+#[tactic(auto, using(crate::proofs::Made::not_made))]
 fn moment(said: Said) -> Result<OffsetDateTime, ComponentRange>
     requires year { said.year ≤ greatest_year }
     requires month { said.month ≢ 0 }
@@ -146,16 +147,22 @@ fn moment(said: Said) -> Result<OffsetDateTime, ComponentRange>
         (λ e. IsNotMade greatest_year said (refusal_of_range e)) }
 {
     let moment = shown(said)?;
-    if said.second != 60 {
-        return Ok(moment);
-    }
-    if moment.is_valid_leap_second_stand_in() {
+    if leap_second_may_stand(said, moment) {
         return Ok(moment);
     }
     Err(ComponentRange {
         name: "second",
         conditional: true,
     })
+}
+
+// Whether a leap second is said only where one may stand.
+#[inline]
+#[tactic(auto, unfolding(crate::specs::Direct::LeapSecondMayStand))]
+fn leap_second_may_stand(said: Said, moment: OffsetDateTime) -> bool
+    ensures { IsTrue result ↔ LeapSecondMayStand greatest_year said moment }
+{
+    said.second != 60 || moment.is_valid_leap_second_stand_in()
 }
 
 // The moment that a calendar and a clock show, wherever a leap second stands.

@@ -9,8 +9,14 @@ use Rattle.time_readers.proofs.direct.rfc3339.Goals as goal
 pub returns-then-numbers-gt59 : goal.returns-then-numbers-gt59
 returns-then-numbers-gt59 c =
     let found = c.in-Ok.found in
-    inr (found.0.now, (found.1, c.in-Ok.ensures,
-    rw (minute_past found.1 c.if-numbers-gt59.true, c.into-then-numbers-gt59.ensures) refl))
+    inr (
+      found.0.now,
+      (
+        found.1,
+        c.in-Ok.ensures,
+        rw (minute_past found.1 c.if-numbers-gt59.true, c.into-then-numbers-gt59.ensures) refl,
+      ),
+    )
 
 pub said_rfc3339-requires-clause-hour : goal.said_rfc3339-requires-clause-hour
 said_rfc3339-requires-clause-hour c =

@@ -11,7 +11,7 @@ returns c =
     let hour : SFits w8 s.offset_hour = search rules in
     let minute : SFits w8 s.offset_minute = search rules in
     let offset =
-        rw (to_z-of_z w8 s.offset_hour hour, to_z-of_z w8 s.offset_minute minute, sym is.offset)
-        at c.in_ok-offset.ensures in
+    rw (to_z-of_z w8 s.offset_hour hour, to_z-of_z w8 s.offset_minute minute, sym is.offset)
+    at c.in_ok-offset.ensures in
     of_parts greatest_year s c.new_in_offset.result (rw (sym is.date) at c.in_ok-date.ensures)
     (rw (sym is.time) at c.in_ok-time.ensures) offset

@@ -11,5 +11,6 @@ mod mail_dates;
 mod places;
 mod readme;
 mod records;
+mod two_paths;
 mod values;
 mod whole_parses;

@@ -1,4 +1,6 @@
 pub mod DescriptionLaws
+pub mod Iso8601
+pub mod Iso8601Laws
 pub mod Outcome
 pub mod Rfc2822
 pub mod Rfc2822Laws

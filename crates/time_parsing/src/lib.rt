@@ -2,12 +2,14 @@
 #![tactic(auto)]
 
 mod description;
+mod iso8601;
 pub mod laws;
 mod parsable;
 mod rfc2822;
 mod rfc3339;
 
 pub use description::Items;
+pub use iso8601::Iso8601;
 pub use parsable::Parsable;
 pub use rfc2822::Rfc2822;
 pub use rfc3339::Rfc3339;

@@ -10,6 +10,8 @@ use Rattle.time_record.specs.Resolution.{IsDated, IsTimed, IsOffset, IsPlain, Is
 use Rattle.time_record.proofs.ResolutionLemmas.{IsDated-one, IsTimed-one, IsOffset-one, IsPlain-one, IsUtcMoment-one, IsMoment-one, IsTimestamp-one}
 use Rattle.time_parsing.specs.DescriptionLaws.{tree_exact}
 use Rattle.time_parsing.specs.Outcome.{IsExact, Reading, Refusing, Resolving}
+use Rattle.time_parsing.specs.Iso8601 as Iso8601
+use Rattle.time_parsing.specs.Iso8601Laws.{iso8601_exact}
 use Rattle.time_parsing.specs.Rfc2822 as Rfc2822
 use Rattle.time_parsing.specs.Rfc2822Laws.{rfc2822_exact}
 use Rattle.time_parsing.specs.Rfc3339 as Rfc3339
@@ -62,6 +64,8 @@ IsParsed-one format.Rfc3339 t bytes =
     IsAnswerFor-one (Rfc3339.Reads greatest_year) (Rfc3339.Refuses greatest_year) (rfc3339_exact greatest_year) bytes t
 IsParsed-one format.Rfc2822 t bytes =
     IsAnswerFor-one (Rfc2822.Reads greatest_year) (Rfc2822.Refuses greatest_year) (rfc2822_exact greatest_year) bytes t
+IsParsed-one format.Iso8601 t bytes =
+    IsAnswerFor-one (Iso8601.Reads greatest_year) (Iso8601.Refuses greatest_year) (iso8601_exact greatest_year) bytes t
 IsParsed-one format.Ymd t bytes = IsDescribed-one ymd t bytes
 IsParsed-one format.Clock t bytes = IsDescribed-one clock t bytes
 IsParsed-one format.Unix t bytes = IsDescribed-one unix t bytes

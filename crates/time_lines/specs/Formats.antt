@@ -16,6 +16,7 @@ abbrev pub format_named : List ℕ → Option Format
 format_named name =
     if bytes_eq name (codes "rfc3339") then Some format.Rfc3339 else
     if bytes_eq name (codes "rfc2822") then Some format.Rfc2822 else
+    if bytes_eq name (codes "iso8601") then Some format.Iso8601 else
     if bytes_eq name (codes "ymd") then Some format.Ymd else
     if bytes_eq name (codes "clock") then Some format.Clock else
     if bytes_eq name (codes "unix") then Some format.Unix else

@@ -7,6 +7,7 @@ use Rattle.time_record.specs.Reading as Description
 use Rattle.time_record.specs.Record.{empty}
 use Rattle.time_record.specs.Resolution.{IsDated, IsTimed, IsOffset, IsPlain, IsUtcMoment, IsMoment, IsTimestamp}
 use Rattle.time_parsing.specs.Outcome.{Reading, Refusing, Resolving, IsOutcome}
+use Rattle.time_parsing.specs.Iso8601 as Iso8601
 use Rattle.time_parsing.specs.Rfc2822 as Rfc2822
 use Rattle.time_parsing.specs.Rfc3339 as Rfc3339
 use Rattle.time_lines.specs.Formats.{format_named, target_for, ymd, clock, unix, local}
@@ -43,6 +44,7 @@ IsDescribed Y tree target = IsAnswerFor Y target (Description.Reads Y tree) (Des
 abbrev pub IsParsed : ℕ → Format → Target → List ℕ → List ℕ → Type 0
 IsParsed Y format.Rfc3339 target = IsAnswerFor Y target (Rfc3339.Reads Y) (Rfc3339.Refuses Y)
 IsParsed Y format.Rfc2822 target = IsAnswerFor Y target (Rfc2822.Reads Y) (Rfc2822.Refuses Y)
+IsParsed Y format.Iso8601 target = IsAnswerFor Y target (Iso8601.Reads Y) (Iso8601.Refuses Y)
 IsParsed Y format.Ymd target = IsDescribed Y ymd target
 IsParsed Y format.Clock target = IsDescribed Y clock target
 IsParsed Y format.Unix target = IsDescribed Y unix target

@@ -16,7 +16,7 @@ use crate::formats::{
 use crate::layout::Layout;
 use std::io;
 use std::io::Write;
-use time_parsing::{Parsable, Rfc2822, Rfc3339};
+use time_parsing::{Iso8601, Parsable, Rfc2822, Rfc3339};
 use time_record::Parsed;
 use time_values::error::Parse;
 
@@ -104,6 +104,7 @@ fn write_parsed<W: Write>(
     match format {
         Format::Rfc3339 => write_value(&Rfc3339, target, text, out),
         Format::Rfc2822 => write_value(&Rfc2822, target, text, out),
+        Format::Iso8601 => write_value(&Iso8601, target, text, out),
         Format::Ymd => write_ymd(target, text, out),
         Format::Clock => write_clock(target, text, out),
         Format::Unix => write_value(&unix(), target, text, out),

@@ -16,6 +16,8 @@ pub enum Format {
     Rfc3339,
     /// Mail dates, RFC 2822, section 3.3.
     Rfc2822,
+    /// ISO 8601.
+    Iso8601,
     /// A date, as `2021-03-04`.
     Ymd,
     /// A time on a clock of 12 hours, as `1:05:09.25 PM`; the second and its fraction may be missing.
@@ -55,6 +57,8 @@ pub fn find_format(name: &[u8]) -> Option<Format>
         Some(Format::Rfc3339)
     } else if name == b"rfc2822".as_slice() {
         Some(Format::Rfc2822)
+    } else if name == b"iso8601".as_slice() {
+        Some(Format::Iso8601)
     } else if name == b"ymd".as_slice() {
         Some(Format::Ymd)
     } else if name == b"clock".as_slice() {

@@ -107,6 +107,69 @@ const MAIL_COMMENTS: [(&str, &str, &str); 3] = [
     ),
 ];
 
+const TRAILING: &str = "error: unexpected trailing characters; the end of input was expected\n";
+
+const YEAR: &str = "error: the 'year' component could not be parsed\n";
+
+const BY_ISO8601: [(&str, &str, &str); 19] = [
+    ("time", "03,5", "03:30:00.000000000\n"),
+    ("time", "03:04.5", "03:04:30.000000000\n"),
+    ("time", "0304.25", "03:04:15.000000000\n"),
+    ("time", "12:34:60", "error: second is out of range\n"),
+    ("time", "0360", MONTH),
+    ("time", "030461", MONTH),
+    ("offset", "+0160", YEAR),
+    (
+        "utc",
+        "2016-12-31T23:59:60Z",
+        "2016-12-31 23:59:59.999999999 +00:00:00\n",
+    ),
+    ("offset", "-05", "-05:00:00\n"),
+    ("offset", "05:30Z", "+00:00:00\n"),
+    ("date", "+002021-01-02", "2021-01-02\n"),
+    ("date", "+012345-01-02", TRAILING),
+    ("plain", "2021-W01-1T24", TRAILING),
+    (
+        "datetime",
+        "2021-01-02T03:04:05,25-00:30",
+        "2021-01-02 03:04:05.250000000 -00:30:00\n",
+    ),
+    (
+        "staged",
+        "20210102T030405Z",
+        "2021-01-02 03:04:05.000000000 +00:00:00\n",
+    ),
+    ("timestamp", "1970-W01-4T00:00:01Z", "1000000000\n"),
+    ("timestamp", "1970-001", INSUFFICIENT),
+    ("datetime", "2021-01-02T03:04:05", INSUFFICIENT),
+    ("date", "9999-12x", LITERAL),
+];
+
+const ISO_FORMS: [(&str, &str, &str); 14] = [
+    ("time", "2021-01", "20:21:00.000000000\n"),
+    ("offset", "2021-01", "-01:00:00\n"),
+    ("date", "20211234", TRAILING),
+    ("date", "202101", INSUFFICIENT),
+    ("date", "2020-W53-6", "2021-01-02\n"),
+    (
+        "date",
+        "9999-W52-6",
+        "error: weekday is out of range for the other components\n",
+    ),
+    ("plain", "2021-01-02T03", "2021-01-02 03:00:00.000000000\n"),
+    (
+        "plain",
+        "2021-01-02T0304",
+        "2021-01-02 03:04:00.000000000\n",
+    ),
+    ("plain", "2021-01-02T030405", TRAILING),
+    ("plain", "2021-01-02T03:04+05:", TRAILING),
+    ("time", "1234-05:30", TRAILING),
+    ("time", "12:34:56.9999999994", "12:34:56.999999999\n"),
+    ("time", "12:34:56.9999999995", YEAR),
+    ("time", "03.0001", "03:00:00.360000000\n"),
+];
+
 const BY_YMD: [(&str, &str, &str); 6] = [
     ("date", "-0044-03-15", "-0044-03-15\n"),
     ("date", "+2021-03-04", "2021-03-04\n"),
@@ -200,10 +263,12 @@ const BY_LOCAL: [(&str, &str, &str); 9] = [
 
 #[test]
 fn whole_parses(rt: HostRuntime) -> Result<(), Fail> {
-    let formats: [(&str, &[(&str, &str, &str)]); 7] = [
+    let formats: [(&str, &[(&str, &str, &str)]); 9] = [
         ("rfc3339", &BY_RFC3339),
         ("rfc2822", &BY_RFC2822),
         ("rfc2822", &MAIL_COMMENTS),
+        ("iso8601", &BY_ISO8601),
+        ("iso8601", &ISO_FORMS),
         ("ymd", &BY_YMD),
         ("clock", &BY_CLOCK),
         ("unix", &BY_UNIX),

@@ -7,6 +7,7 @@ mod descriptions;
 mod digits;
 mod errors;
 mod fields;
+mod iso_texts;
 mod mail_dates;
 mod places;
 mod readme;

@@ -1,6 +1,5 @@
 -- What holds of each month and of each weekday.
-use Rattle.std.proofs.Common.{List, [], ◌∷◌, refl, arith}
-use Rattle.std.specs.List.{Contains}
+use Rattle.std.proofs.Common.{List, [], ◌∷◌}
 use Rattle.time_values.specs.declared.month.Month.{Month}
 use Rattle.time_values.specs.declared.month.Month.TheVariants.{January, February, March, April, May, June, July, August, September, October, November, December}
 use Rattle.time_values.specs.declared.weekday.Weekday.{Weekday}
@@ -25,22 +24,6 @@ each_month P h December = h.11
 abbrev pub months : List Month
 months = January ∷ February ∷ March ∷ April ∷ May ∷ June ∷ July ∷ August ∷ September ∷ October ∷ November ∷ December ∷ []
 
-pub months-all : (v : Month) → Contains months v
-months-all = each_month (Contains months) (
-  (0, omega arith, refl),
-  (1, omega arith, refl),
-  (2, omega arith, refl),
-  (3, omega arith, refl),
-  (4, omega arith, refl),
-  (5, omega arith, refl),
-  (6, omega arith, refl),
-  (7, omega arith, refl),
-  (8, omega arith, refl),
-  (9, omega arith, refl),
-  (10, omega arith, refl),
-  (11, omega arith, refl),
-)
-
 pub each_weekday : (P : Weekday → Type 0) → P Monday × P Tuesday × P Wednesday × P Thursday × P Friday × P Saturday × P Sunday → (v : Weekday) → P v
 each_weekday P h Monday = h.0
 each_weekday P h Tuesday = h.1
@@ -52,14 +35,3 @@ each_weekday P h Sunday = h.6
 
 abbrev pub weekdays : List Weekday
 weekdays = Monday ∷ Tuesday ∷ Wednesday ∷ Thursday ∷ Friday ∷ Saturday ∷ Sunday ∷ []
-
-pub weekdays-all : (v : Weekday) → Contains weekdays v
-weekdays-all = each_weekday (Contains weekdays) (
-  (0, omega arith, refl),
-  (1, omega arith, refl),
-  (2, omega arith, refl),
-  (3, omega arith, refl),
-  (4, omega arith, refl),
-  (5, omega arith, refl),
-  (6, omega arith, refl),
-)

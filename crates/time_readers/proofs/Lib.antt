@@ -26,6 +26,6 @@ pub mod PlaceByPlace
 pub mod ReaderLemmas
 pub mod Repeats
 pub mod Runs
-pub mod TableLemmas
+pub mod ShortNames
 pub mod Walking
 pub mod Zulu

@@ -1,14 +1,11 @@
 -- The places of a mail date, as their readers answer them.
-use Rattle.std.proofs.Common.{◌≡◌, ◌⊎◌, inl, inr, ℕ, ◌≤◌, ◌<◌, List, [], ◌∷◌, ◌++◌, length, take, refl, ap, sym, ◌∙◌, subst, arith, append_assoc, Bool, true, false, Option, Some, None, Bor, option_copied}
+use Rattle.std.proofs.Common.{◌≡◌, ◌⊎◌, inl, inr, ℕ, ◌≤◌, ◌<◌, List, [], ◌∷◌, ◌++◌, take, refl, ap, sym, ◌∙◌, subst, arith, append_assoc, Bool, true, false, Option, Some, None, Bor, option_copied}
 use Rattle.std.proofs.lemmas.Option.{same_Some, none-some}
 use Rattle.time_values.specs.declared.weekday.Weekday.{Weekday}
-use Rattle.time_values.specs.declared.weekday.Weekday.TheVariants.{Monday, Tuesday, Wednesday, Thursday, Friday, Saturday, Sunday}
 use Rattle.time_readers.specs.Cuts.{Form, Cut, NoCut}
 use Rattle.time_readers.specs.Digits.{IsDigitRun}
 use Rattle.time_readers.specs.Bytes.{IsByte}
 use Rattle.time_readers.specs.Names.{weekday_name}
-use Rattle.time_readers.specs.Spelling.{Spells, weekday}
-use Rattle.time_readers.specs.declared.format_description.Component.TheVariants as component
 use Rattle.time_readers.specs.Places.{Reads}
 use Rattle.time_readers.specs.Readers.{Reader, IsRead}
 use Rattle.time_readers.specs.MailBlanks.{fws, cfws, opt_cfws, opt_cfws_colon_opt_cfws}
@@ -18,7 +15,7 @@ use Rattle.time_readers.specs.declared.rfc2822.places.Place.TheVariants.{DayBlan
 use Rattle.time_readers.specs.Ranged.{IsTwoDigits}
 use Rattle.time_readers.specs.Rfc2822.{Asks, year_blanks, IsShortWeekday, IsWeekdayPart, IsYear, IsSecond}
 use Rattle.time_readers.proofs.Runs.{IsDigitRun-same, IsDigitRun-below}
-use Rattle.time_readers.proofs.NameLemmas.{IsNamed-length, same_front}
+use Rattle.time_readers.proofs.ShortNames.{same_name, weekdays_told}
 use Rattle.time_readers.proofs.Repeats.{Leaves, takes-leaves}
 use Rattle.time_readers.proofs.MailBlanks.{fws-takes, cfws-takes, opt_cfws-leaves, colon-leaves}
 
@@ -76,24 +73,6 @@ weekday-cut s mid left behind rest w e name comma e' =
       (first.0, name.0, last.0, refl, subst (λ t. IsRead opt_cfws first.0 t) middle first.2, name.2, last.2),
     )
 
-pub spelled_weekday : (s r : List ℕ) (w : Weekday) → Cut (Spells false (component.WeekdayShort (record { case_sensitive = false }))) s r (weekday w)
-    → Cut IsShortWeekday s r w
-spelled_weekday s r w (text, e, spells) =
-    let same : spells.0 ≡ w = cc in
-    (text, e, subst (λ x. IsShortWeekday text r x) same spells.2)
-
-three : (w : Weekday) → length (take 3 (weekday_name w)) ≡ 3
-three Monday = refl
-three Tuesday = refl
-three Wednesday = refl
-three Thursday = refl
-three Friday = refl
-three Saturday = refl
-three Sunday = refl
-
-three_letters : (text rest : List ℕ) (w : Weekday) → IsShortWeekday text rest w → length text ≡ 3
-three_letters text rest w is = IsNamed-length false (take 3 (weekday_name w)) text is ∙ three w
-
 -- a weekday with no comma behind it
 pub no_comma : (s mid left : List ℕ) (w : Weekday) → opt_cfws s ≡ Some mid → Cut IsShortWeekday mid left w → NoCut (IsByte 44) left
     → (text rest : List ℕ) (v : Option Weekday) → s ≡ text ++ rest → IsWeekdayPart text rest v → ⊥
@@ -105,8 +84,8 @@ no_comma s mid left w e name none text rest (Some x) cut is =
     let whole : s ≡ is.0 ++ (is.1 ++ tail) =
     cut ∙ ap (λ t. t ++ rest) is.3 ∙ append_assoc is.0 (is.1 ++ 44 ∷ is.2) rest ∙ ap (λ t. is.0 ++ t) (append_assoc is.1 (44 ∷ is.2) rest) in
     let same = read-same opt_cfws s mid is.0 (is.1 ++ tail) e whole is.4 in
-    let fronts = same_front name.0 is.1 left tail (three_letters name.0 left w name.2 ∙ sym (three_letters is.1 tail x is.5)) (sym name.1 ∙ same) in
-    none (44 ∷ []) (is.2 ++ rest) tt fronts.1 refl
+    let behind = (same_name false (λ d. take 3 (weekday_name d)) 3 weekdays_told name.0 is.1 left tail w x name.2 is.5 (sym name.1 ∙ same)).0 in
+    none (44 ∷ []) (is.2 ++ rest) tt behind refl
 
 -- the answer at a place by its name
 pub at-place : (ranged : Bool) (p q : Place) (n m : Numbers) (s : List ℕ) (answer : Option (Bor (List ℕ))) → p ≡ q → Reads (Asks ranged q n) s answer m

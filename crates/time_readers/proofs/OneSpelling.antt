@@ -21,6 +21,7 @@ use Rattle.time_readers.specs.Names.{IsNamed, month_name, weekday_name, period_n
 use Rattle.time_readers.specs.Spelling.{Value, Says, SaysYear, SaysCentury, SaysTimestamp, IsSigned, Spells, IsPositiveRun, IsNameOf, IsShortOf, IsNumberOf, IsDigitOf, IsFractionRun, least_digits, most_digits, first_digit, days_from_sunday, number, month, weekday, period, positive, signed_value, flagged_value, scaled_value}
 use Rattle.time_readers.proofs.CutLemmas.{IsUnique, IsUnique-cut}
 use Rattle.time_readers.proofs.NameLemmas.{IsNamed-length, IsNamed-parts, same_front}
+use Rattle.time_readers.proofs.ShortNames.{Told, told_apart, same_name, months_told, weekdays_told}
 use Rattle.time_readers.proofs.ReaderLemmas.{period_name-length}
 use Rattle.time_readers.proofs.EachValue.{each_month, each_weekday, months, weekdays}
 use Rattle.time_readers.proofs.NumberLemmas.{no_sign_first, sign_byte-one}
@@ -75,12 +76,6 @@ IsFractionRun-unique least most a b x y v w p q e =
     let same = IsDigitRun-unique least least most a b x y (digits_value a) (digits_value b) p.0 q.0 e in
     (same.1, p.1 ∙ ap fraction_nanoseconds same.0 ∙ sym q.1)
 
--- what a key tells apart
-told_apart : {A B : Type 0} (key : A → B) (of : B → Option A) → ((a : A) → of (key a) ≡ Some a) → (a b : A) → key a ≡ key b → a ≡ b
-told_apart key of tells a b e =
-    let some : Some a ≡ Some b = sym (tells a) ∙ ap of e ∙ tells b in
-    cc
-
 IsNumberOf-unique : {A : Type 0} (padding : Padding) (number_of : A → ℕ) → ((v w : A) → number_of v ≡ number_of w → v ≡ w)
     → IsUnique (IsNumberOf padding number_of)
 IsNumberOf-unique padding number_of apart a b x y v w p q e =
@@ -95,24 +90,6 @@ IsDigitOf-unique one_indexed number_of apart a b x y v w p q e =
     let heads : first_digit one_indexed + number_of v ≡ first_digit one_indexed + number_of w = cc in
     let tails : x ≡ y = cc in
     (tails, apart v w (omega arith))
-
-lower_same : (case_sensitive : Bool) (m n text : List ℕ) → IsNamed case_sensitive m text → IsNamed case_sensitive n text
-    → str_to_ascii_lowercase m ≡ str_to_ascii_lowercase n
-lower_same true m n text p q = ap str_to_ascii_lowercase (sym p ∙ q)
-lower_same false m n text p q = sym p ∙ q
-
--- values whose names have one length, and differ
-record Told {A : Type 0} (name_of : A → List ℕ) (count : ℕ) : Type 0 where
-  length_is : (v : A) → length (name_of v) ≡ count
-  apart : (v w : A) → str_to_ascii_lowercase (name_of v) ≡ str_to_ascii_lowercase (name_of w) → v ≡ w
-
-same_name : {A : Type 0} (case_sensitive : Bool) (name_of : A → List ℕ) (count : ℕ) → Told name_of count → IsUnique (IsNameOf case_sensitive name_of)
-same_name case_sensitive name_of count told a b x y v w p q e =
-    let long : length a ≡ length b =
-    IsNamed-length case_sensitive (name_of v) a p ∙ told.length_is v ∙ sym (told.length_is w)
-    ∙ sym (IsNamed-length case_sensitive (name_of w) b q) in
-    let same = same_front a b x y long e in
-    (same.1, told.apart v w (lower_same case_sensitive (name_of v) (name_of w) b (subst (IsNamed case_sensitive (name_of v)) same.0 p) q))
 
 -- and those whose first three letters differ
 IsNameOf-unique : {A : Type 0} (case_sensitive : Bool) (name_of : A → List ℕ) → Told (λ v. take 3 (name_of v)) 3 → IsUnique (IsNameOf case_sensitive name_of)
@@ -129,24 +106,6 @@ IsNameOf-unique case_sensitive name_of told a b x y v w p q e =
     IsNamed-length case_sensitive (name_of v) a p ∙ ap (λ u. length (name_of u)) is
     ∙ sym (IsNamed-length case_sensitive (name_of w) b q) in
     ((same_front a b x y long e).1, is)
-
-months_told : Told (λ m. take 3 (month_name m)) 3
-months_told =
-    let key : Month → List ℕ = λ m. str_to_ascii_lowercase (take 3 (month_name m)) in
-    let of : List ℕ → Option Month = λ k. find (λ m. bytes_eq (key m) k) months in
-    record {
-      length_is = each_month (λ m. length (take 3 (month_name m)) ≡ 3) (refl, refl, refl, refl, refl, refl, refl, refl, refl, refl, refl, refl);
-      apart = told_apart key of (each_month (λ m. of (key m) ≡ Some m) (refl, refl, refl, refl, refl, refl, refl, refl, refl, refl, refl, refl));
-    }
-
-weekdays_told : Told (λ d. take 3 (weekday_name d)) 3
-weekdays_told =
-    let key : Weekday → List ℕ = λ d. str_to_ascii_lowercase (take 3 (weekday_name d)) in
-    let of : List ℕ → Option Weekday = λ k. find (λ d. bytes_eq (key d) k) weekdays in
-    record {
-      length_is = each_weekday (λ d. length (take 3 (weekday_name d)) ≡ 3) (refl, refl, refl, refl, refl, refl, refl);
-      apart = told_apart key of (each_weekday (λ d. of (key d) ≡ Some d) (refl, refl, refl, refl, refl, refl, refl));
-    }
 
 abbrev period_key : Bool → Period → List ℕ
 period_key upper v = str_to_ascii_lowercase (period_name upper v)

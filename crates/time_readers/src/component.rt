@@ -16,7 +16,7 @@ mod numbers;
 use crate::{ParsedItem, Period, SubsecondDigits, TrailingInput, modifier};
 use fractions::{fraction, long_fraction};
 use letters::{period_of, two_letters, weekday_digit, weekday_from_monday};
-use names::{long_name, months, short_name, weekdays};
+use names::{ending_of, month_ending, month_of, three_letters, weekday_ending, weekday_of};
 use numbers::{century, full_year, offset_hour, offset_part, run, timestamp, two_places};
 use std::num::NonZero;
 use time_values::{Month, Weekday};
@@ -206,8 +206,9 @@ pub fn parse_month_short(
     ensures { Finds (Spells false (component.MonthShort modifiers)) month input.now result }
 {
     let modifier::MonthShort { case_sensitive } = modifiers;
-    let name = short_name(input, months(), case_sensitive)?;
-    Some(ParsedItem(name.0, name.1.value))
+    let letters = three_letters(input, case_sensitive)?;
+    let month = month_of(letters.1)?;
+    Some(ParsedItem(letters.0, month))
 }
 
 /// Reads a month's English name. `None` if no complete name is there.
@@ -219,8 +220,9 @@ pub fn parse_month_long(
     ensures { Finds (Spells false (component.MonthLong modifiers)) month input.now result }
 {
     let modifier::MonthLong { case_sensitive } = modifiers;
-    let name = long_name(input, months(), case_sensitive)?;
-    Some(ParsedItem(name.0, name.1.value))
+    let short = parse_month_short(input, modifier::MonthShort { case_sensitive })?;
+    let ending = ending_of(short.0, month_ending(short.1), case_sensitive)?;
+    Some(ParsedItem(ending.0, short.1))
 }
 
 /// Reads the number of a month, 1 to 12, in two places. `None` where none stands.
@@ -286,8 +288,9 @@ pub fn parse_weekday_short(
     ensures { Finds (Spells false (component.WeekdayShort modifiers)) weekday input.now result }
 {
     let modifier::WeekdayShort { case_sensitive } = modifiers;
-    let name = short_name(input, weekdays(), case_sensitive)?;
-    Some(ParsedItem(name.0, name.1.value))
+    let letters = three_letters(input, case_sensitive)?;
+    let weekday = weekday_of(letters.1)?;
+    Some(ParsedItem(letters.0, weekday))
 }
 
 /// Reads a weekday's English name. `None` if no complete name is there.
@@ -299,8 +302,9 @@ pub fn parse_weekday_long(
     ensures { Finds (Spells false (component.WeekdayLong modifiers)) weekday input.now result }
 {
     let modifier::WeekdayLong { case_sensitive } = modifiers;
-    let name = long_name(input, weekdays(), case_sensitive)?;
-    Some(ParsedItem(name.0, name.1.value))
+    let short = parse_weekday_short(input, modifier::WeekdayShort { case_sensitive })?;
+    let ending = ending_of(short.0, weekday_ending(short.1), case_sensitive)?;
+    Some(ParsedItem(ending.0, short.1))
 }
 
 /// Reads the number of a weekday, counted from Sunday: one digit of `0` to `6`, or of `1` to `7`

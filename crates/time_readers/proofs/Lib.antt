@@ -22,7 +22,6 @@ pub mod OneReading
 pub mod OneSpelling
 pub mod OpenComments
 pub mod PaddedRuns
-pub mod PlaceByPlace
 pub mod ReaderLemmas
 pub mod Repeats
 pub mod Runs

@@ -1,5 +1,5 @@
 -- The places of a mail date, as their readers answer them.
-use Rattle.std.proofs.Common.{◌≡◌, ◌⊎◌, inl, inr, ℕ, ◌≤◌, ◌<◌, List, [], ◌∷◌, ◌++◌, take, refl, ap, sym, ◌∙◌, subst, arith, append_assoc, Bool, true, false, Option, Some, None, Bor, option_copied}
+use Rattle.std.proofs.Common.{◌≡◌, ℕ, ◌≤◌, ◌<◌, List, [], ◌∷◌, ◌++◌, take, refl, ap, sym, ◌∙◌, subst, arith, append_assoc, Bool, true, false, Option, Some, None, Bor, option_copied}
 use Rattle.std.proofs.lemmas.Option.{same_Some, none-some}
 use Rattle.time_values.specs.declared.weekday.Weekday.{Weekday}
 use Rattle.time_readers.specs.Cuts.{Form, Cut, NoCut}
@@ -10,10 +10,8 @@ use Rattle.time_readers.specs.Places.{Reads}
 use Rattle.time_readers.specs.Readers.{Reader, IsRead}
 use Rattle.time_readers.specs.MailBlanks.{fws, cfws, opt_cfws, opt_cfws_colon_opt_cfws}
 use Rattle.time_readers.specs.declared.rfc2822.places.Numbers.{Numbers}
-use Rattle.time_readers.specs.declared.rfc2822.places.Place.{Place}
-use Rattle.time_readers.specs.declared.rfc2822.places.Place.TheVariants.{DayBlanks, MonthBlanks, YearBlanks, TimeBlanks}
 use Rattle.time_readers.specs.Ranged.{IsTwoDigits}
-use Rattle.time_readers.specs.Rfc2822.{Asks, year_blanks, IsShortWeekday, IsWeekdayPart, IsYear, IsSecond}
+use Rattle.time_readers.specs.Rfc2822.{IsSilent, year_blanks, IsShortWeekday, IsWeekdayPart, IsYear, IsSecond}
 use Rattle.time_readers.proofs.Runs.{IsDigitRun-same, IsDigitRun-below}
 use Rattle.time_readers.proofs.ShortNames.{same_name, weekdays_told}
 use Rattle.time_readers.proofs.Repeats.{Leaves, takes-leaves}
@@ -87,29 +85,12 @@ no_comma s mid left w e name none text rest (Some x) cut is =
     let behind = (same_name false (λ d. take 3 (weekday_name d)) 3 weekdays_told name.0 is.1 left tail w x name.2 is.5 (sym name.1 ∙ same)).0 in
     none (44 ∷ []) (is.2 ++ rest) tt behind refl
 
--- the answer at a place by its name
-pub at-place : (ranged : Bool) (p q : Place) (n m : Numbers) (s : List ℕ) (answer : Option (Bor (List ℕ))) → p ≡ q → Reads (Asks ranged q n) s answer m
-    → Reads (Asks ranged p n) s answer m
-at-place ranged p q n m s answer e is = subst (λ x. Reads (Asks ranged x n) s answer m) (sym e) is
-
--- blanks with comments, at one of three places
-pub at-blanks : (ranged : Bool) (p : Place) (n : Numbers) (s : List ℕ) (answer : Option (Bor (List ℕ))) → (p ≡ DayBlanks)
-    ⊎ ((p ≡ MonthBlanks) ⊎ (p ≡ TimeBlanks)) → option_copied answer ≡ cfws s → Reads (Asks ranged p n) s answer n
-at-blanks ranged p n s answer is e =
-    let blanks = read-answer cfws (takes-leaves cfws cfws-takes) s answer n e in
-    elim is [
-      | inl day ↦ at-place ranged p DayBlanks n n s answer day blanks
-      | inr (inl month) ↦ at-place ranged p MonthBlanks n n s answer month blanks
-      | inr (inr time) ↦ at-place ranged p TimeBlanks n n s answer time blanks
-    ]
-
 year_blanks-leaves : (full : Bool) → Leaves (year_blanks full)
 year_blanks-leaves true = takes-leaves fws fws-takes
 year_blanks-leaves false = takes-leaves cfws cfws-takes
 
 -- blanks behind a year
-pub at-year_blanks : (ranged full : Bool) (p : Place) (n : Numbers) (s : List ℕ) (answer : Option (Bor (List ℕ))) → p ≡ YearBlanks → n.year_is_full ≡ full
-    → option_copied answer ≡ year_blanks full s → Reads (Asks ranged p n) s answer n
-at-year_blanks ranged full p n s answer is e h =
-    let blanks = read-answer (year_blanks full) (year_blanks-leaves full) s answer n h in
-    at-place ranged p YearBlanks n n s answer is (subst (λ b. Reads (λ text after m. IsRead (year_blanks b) text after × (m ≡ n)) s answer n) (sym e) blanks)
+pub after-year : (full is_full : Bool) (n : Numbers) (s : List ℕ) (answer : Option (Bor (List ℕ))) → is_full ≡ full
+    → option_copied answer ≡ year_blanks full s → Reads (IsSilent (year_blanks is_full) n) s answer n
+after-year full is_full n s answer e h =
+    subst (λ b. Reads (IsSilent (year_blanks b) n) s answer n) (sym e) (read-answer (year_blanks full) (year_blanks-leaves full) s answer n h)

@@ -1,7 +1,8 @@
 -- How the answer of places follows from the answers of each.
-use Rattle.std.proofs.Common.{◌≡◌, ℕ, List, [], ◌∷◌, ◌++◌, refl, ap, sym, ◌∙◌, subst, Result, Ok, Err, Bor, append_assoc, IsErr, IsErrAnd, MatchResult}
+use Rattle.std.proofs.Common.{◌≡◌, ℕ, List, [], ◌∷◌, ◌++◌, refl, ap, sym, ◌∙◌, subst, Result, Ok, Err, Option, Some, None, Bor, append_assoc, IsErr, IsErrAnd, MatchResult}
+use Rattle.std.specs.Option.{ok_or}
 use Rattle.time_readers.specs.Cuts.{Cut, NoCut, Form}
-use Rattle.time_readers.specs.Places.{Stand, StopsAt, Steps, Walks, Format}
+use Rattle.time_readers.specs.Places.{Stand, StopsAt, Steps, Reads, Walks, Format}
 
 pub Walks-none : {P N : Type 0} (A : Format P N) (n : N) (bytes : List ℕ) (rest : Bor (List ℕ)) → rest.now ≡ bytes → Walks A [] n bytes (Ok rest) n
 unfolding Stand
@@ -56,6 +57,31 @@ Walks-byte A p ps n m bytes mid result c cut asks others = Walks-more A p ps n n
 pub NoCut-byte : {N : Type 0} (Q : Form N) (c : ℕ) (bytes : List ℕ) → ((rest : List ℕ) → bytes ≡ c ∷ rest → ⊥)
     → ((text after : List ℕ) (m : N) → Q text after m → text ≡ c ∷ []) → NoCut Q bytes
 NoCut-byte Q c bytes none asks text rest m e q = none rest (e ∙ ap (λ t. t ++ rest) (asks text rest m q))
+
+-- what a place's reader answers, and its place where that is nothing
+Steps-or : {P N : Type 0} (A : Format P N) (p : P) (n k : N) (bytes : List ℕ) (answer : Option (Bor (List ℕ)))
+    (result : Result (Bor (List ℕ)) P) → Reads (A p n) bytes answer k → result ≡ ok_or answer p → Steps A p n bytes result k
+Steps-or A p n k bytes None result none e = subst (λ r. Steps A p n bytes r k) (sym e) (refl, none)
+Steps-or A p n k bytes (Some rest) result cut e = subst (λ r. Steps A p n bytes r k) (sym e) cut
+
+-- the reader of the first place answers a rest, and the others answer
+pub Reads-more : {P N : Type 0} (A : Format P N) (p : P) (ps : List P) (n k m : N) (bytes : List ℕ) (rest : Bor (List ℕ))
+    (answer : Option (Bor (List ℕ))) (result : Result (Bor (List ℕ)) P) → Reads (A p n) bytes answer k → Ok rest ≡ ok_or answer p
+    → Walks A ps k rest.now result m → Walks A (p ∷ ps) n bytes result m
+Reads-more A p ps n k m bytes rest answer result reads e others =
+    Walks-more A p ps n k m bytes rest.now result (Steps-or A p n k bytes answer (Ok rest) reads e) others
+
+-- the reader of the first place answers nothing, and `?` hands its place on
+pub Reads-stop : {P N : Type 0} (A : Format P N) (p : P) (ps : List P) (n k m : N) (bytes : List ℕ) (answer : Option (Bor (List ℕ)))
+    (result : Result (Bor (List ℕ)) P) (e : P) → IsErr result × IsErrAnd result (λ x. x ≡ e) → Reads (A p n) bytes answer k
+    → Err e ≡ ok_or answer p → Walks A (p ∷ ps) n bytes result m
+Reads-stop A p ps n k m bytes answer result e by reads is =
+    Walks-stop A p ps n m bytes result e by (Steps-or A p n k bytes answer (Err e) reads is)
+
+-- the reader of the last place answers
+pub Reads-last : {P N : Type 0} (A : Format P N) (p : P) (n m : N) (bytes : List ℕ) (answer : Option (Bor (List ℕ)))
+    (result : Result (Bor (List ℕ)) P) → Reads (A p n) bytes answer m → result ≡ ok_or answer p → Walks A (p ∷ []) n bytes result m
+Reads-last A p n m bytes answer result reads e = Walks-last A p n m bytes result (Steps-or A p n m bytes answer result reads e)
 
 -- the first places stand, and then the others
 pub Stand-append : {P N : Type 0} (A : Format P N) (ps qs : List P) (n k m : N) (bytes mid rest : List ℕ) → Stand A ps n bytes mid k

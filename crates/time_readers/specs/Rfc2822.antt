@@ -43,6 +43,10 @@ IsYear true text after v = IsDigitRun 4 4 text after v × (1900 ≤ v)
 IsYear false text after v =
     NoCut (IsDigitRun 4 4) (text ++ after) × ((w : ℕ) × IsDigitRun 2 2 text after w × (v ≡ year_of_two w))
 
+-- what a reader takes, which says nothing
+abbrev pub IsSilent : Reader → Numbers → Form Numbers
+IsSilent reader n text after m = IsRead reader text after × (m ≡ n)
+
 -- blanks after a year of four digits, also comments after one of two
 abbrev pub year_blanks : Bool → Reader
 year_blanks true = fws
@@ -85,24 +89,24 @@ Asks ranged WeekdayName n text after m =
     (v : Option Weekday) × IsWeekdayPart text after v × (m ≡ record n { weekday = v })
 Asks ranged Day n text after m =
     (v : ℕ) × IsDigitRun 1 2 text after v × IsWithin ranged 1 31 v × (m ≡ record n { day = v })
-Asks ranged DayBlanks n text after m = IsRead cfws text after × (m ≡ n)
+Asks ranged DayBlanks n text after m = IsSilent cfws n text after m
 Asks ranged MonthName n text after m =
     (v : Month) × IsShortOf false month_name text after v × (m ≡ record n { month = v })
-Asks ranged MonthBlanks n text after m = IsRead cfws text after × (m ≡ n)
+Asks ranged MonthBlanks n text after m = IsSilent cfws n text after m
 Asks ranged Year n text after m =
     (full : Bool) × (v : ℕ) × IsYear full text after v × (m ≡ record n { year = v; year_is_full = full })
-Asks ranged YearBlanks n text after m = IsRead (year_blanks n.year_is_full) text after × (m ≡ n)
+Asks ranged YearBlanks n text after m = IsSilent (year_blanks n.year_is_full) n text after m
 Asks ranged Hour n text after m =
     (v : ℕ) × IsTwoDigits ranged 0 23 text after v × (m ≡ record n { hour = v })
-Asks ranged HourColon n text after m = IsRead opt_cfws_colon_opt_cfws text after × (m ≡ n)
+Asks ranged HourColon n text after m = IsSilent opt_cfws_colon_opt_cfws n text after m
 Asks ranged Minute n text after m =
     (v : ℕ) × IsTwoDigits ranged 0 59 text after v × (m ≡ record n { minute = v })
 Asks ranged Second n text after m =
     (v : Option ℕ) × IsSecond ranged text after v × (m ≡ record n { second = v })
-Asks ranged TimeBlanks n text after m = IsRead cfws text after × (m ≡ n)
+Asks ranged TimeBlanks n text after m = IsSilent cfws n text after m
 Asks ranged OffsetHour n text after m = IsZone n text after m ⊎ IsSignedHour ranged n text after m
 Asks ranged OffsetMinute n text after m = IsOffsetMinute ranged n.offset_sign n text after m
-Asks ranged EndBlanks n text after m = IsRead opt_cfws text after × (m ≡ n)
+Asks ranged EndBlanks n text after m = IsSilent opt_cfws n text after m
 
 -- the numbers before any place is read
 abbrev pub nothing_read : Numbers
@@ -120,11 +124,19 @@ nothing_read = record {
   offset_minute = pos 0;
 }
 
+-- the places of the date, of the time and of the offset, in order
+abbrev pub date_places : List Place
+date_places = WeekdayName ∷ Day ∷ DayBlanks ∷ MonthName ∷ MonthBlanks ∷ Year ∷ YearBlanks ∷ []
+
+abbrev pub time_places : List Place
+time_places = Hour ∷ HourColon ∷ Minute ∷ Second ∷ TimeBlanks ∷ []
+
+abbrev pub offset_places : List Place
+offset_places = OffsetHour ∷ OffsetMinute ∷ EndBlanks ∷ []
+
 -- the fifteen places in order
 abbrev pub places : List Place
-places =
-    WeekdayName ∷ Day ∷ DayBlanks ∷ MonthName ∷ MonthBlanks ∷ Year ∷ YearBlanks ∷ Hour ∷ HourColon ∷ Minute
-    ∷ Second ∷ TimeBlanks ∷ OffsetHour ∷ OffsetMinute ∷ EndBlanks ∷ []
+places = date_places ++ (time_places ++ offset_places)
 
 -- the bytes are the texts of the fifteen places, which say the numbers, and then the rest
 abbrev pub HasForm : Bool → List ℕ → List ℕ → Numbers → Type 0

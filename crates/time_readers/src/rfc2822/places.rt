@@ -4,8 +4,11 @@ ghost use Rattle.std.specs.Option.{option_copied};
 ghost use Rattle.time_values.specs.Refusal.{refusal_of_description};
 ghost use Rattle.time_values.specs.Sign.{signed_by};
 ghost use Rattle.time_readers.specs.Bytes.{is_negative};
-ghost use Rattle.time_readers.specs.Places.{Reads};
-ghost use Rattle.time_readers.specs.Rfc2822.{Asks, HasForm, FailsAt, fault};
+ghost use Rattle.time_readers.specs.MailBlanks as spec;
+ghost use Rattle.time_readers.specs.Places.{Reads, Walks};
+ghost use Rattle.time_readers.specs.Rfc2822 as Rfc2822;
+ghost use Rattle.time_readers.specs.Rfc2822.{Asks, IsSilent, date_places, time_places, offset_places, HasForm, FailsAt, fault};
+ghost use Rattle.time_readers.specs.declared.rfc2822.places.Numbers.{Numbers};
 ghost use Rattle.time_readers.specs.declared.rfc2822.places.Place.TheVariants as place;
 
 use crate::combinator::{ascii_char, four_digits, one_or_two_digits, sign, two_digits};
@@ -50,25 +53,6 @@ pub enum Place {
     /// Blanks or nothing.
     EndBlanks,
 }
-
-// The places in order.
-const PLACES: [Place; 15] = [
-    Place::WeekdayName,
-    Place::Day,
-    Place::DayBlanks,
-    Place::MonthName,
-    Place::MonthBlanks,
-    Place::Year,
-    Place::YearBlanks,
-    Place::Hour,
-    Place::HourColon,
-    Place::Minute,
-    Place::Second,
-    Place::TimeBlanks,
-    Place::OffsetHour,
-    Place::OffsetMinute,
-    Place::EndBlanks,
-];
 
 /// What the places of a text say.
 #[derive(Clone, Copy, Debug)]
@@ -125,13 +109,9 @@ pub fn read<const RANGED: bool>(input: &[u8]) -> Result<ParsedItem<'_, Numbers>,
         (λ e. FailsAt RANGED input.now e) }
 {
     let mut numbers = Numbers::NONE;
-    let mut rest = input;
-    for place in PLACES {
-        let Some(behind) = read_place::<RANGED>(place, rest, &mut numbers) else {
-            return Err(place);
-        };
-        rest = behind;
-    }
+    let rest = date::<RANGED>(input, &mut numbers)?;
+    let rest = time::<RANGED>(rest, &mut numbers)?;
+    let rest = offset::<RANGED>(rest, &mut numbers)?;
     Ok(ParsedItem(rest, numbers))
 }
 
@@ -160,30 +140,37 @@ pub fn place_fault(place: Place) -> ParseFromDescription
     ParseFromDescription::InvalidComponent(name)
 }
 
-// Reads one place.
-fn read_place<'a, const RANGED: bool>(
-    place: Place,
-    input: &'a [u8],
-    numbers: &mut Numbers,
-) -> Option<&'a [u8]>
-    ensures { Reads (Asks RANGED place numbers.old) input.now result numbers.new }
+#[inline]
+fn date<'a, const RANGED: bool>(input: &'a [u8], numbers: &mut Numbers) -> Result<&'a [u8], Place>
+    ensures { Walks (Asks RANGED) date_places numbers.old input.now result numbers.new }
 {
-    match place {
-        Place::WeekdayName => weekday_name(input, numbers),
-        Place::Day => day::<RANGED>(input, numbers),
-        Place::MonthName => month_name(input, numbers),
-        Place::Year => year(input, numbers),
-        Place::Hour => hour::<RANGED>(input, numbers),
-        Place::Minute => minute::<RANGED>(input, numbers),
-        Place::Second => second::<RANGED>(input, numbers),
-        Place::OffsetHour => offset_hour::<RANGED>(input, numbers),
-        Place::OffsetMinute => offset_minute::<RANGED>(input, numbers),
-        Place::DayBlanks | Place::MonthBlanks | Place::TimeBlanks => rest_of(cfws(input)),
-        Place::YearBlanks if numbers.year_is_full => rest_of(fws(input)),
-        Place::YearBlanks => rest_of(cfws(input)),
-        Place::HourColon => rest_of(opt_cfws_colon_opt_cfws(input)),
-        Place::EndBlanks => Some(opt_cfws(input).0),
-    }
+    let rest = weekday_name(input, numbers).ok_or(Place::WeekdayName)?;
+    let rest = day::<RANGED>(rest, numbers).ok_or(Place::Day)?;
+    let rest = blanks_with_comments(rest).ok_or(Place::DayBlanks)?;
+    let rest = month_name(rest, numbers).ok_or(Place::MonthName)?;
+    let rest = blanks_with_comments(rest).ok_or(Place::MonthBlanks)?;
+    let rest = year(rest, numbers).ok_or(Place::Year)?;
+    year_blanks(rest, numbers.year_is_full).ok_or(Place::YearBlanks)
+}
+
+#[inline]
+fn time<'a, const RANGED: bool>(input: &'a [u8], numbers: &mut Numbers) -> Result<&'a [u8], Place>
+    ensures { Walks (Asks RANGED) time_places numbers.old input.now result numbers.new }
+{
+    let rest = hour::<RANGED>(input, numbers).ok_or(Place::Hour)?;
+    let rest = hour_colon(rest).ok_or(Place::HourColon)?;
+    let rest = minute::<RANGED>(rest, numbers).ok_or(Place::Minute)?;
+    let rest = second::<RANGED>(rest, numbers).ok_or(Place::Second)?;
+    blanks_with_comments(rest).ok_or(Place::TimeBlanks)
+}
+
+#[inline]
+fn offset<'a, const RANGED: bool>(input: &'a [u8], numbers: &mut Numbers) -> Result<&'a [u8], Place>
+    ensures { Walks (Asks RANGED) offset_places numbers.old input.now result numbers.new }
+{
+    let rest = offset_hour::<RANGED>(input, numbers).ok_or(Place::OffsetHour)?;
+    let rest = offset_minute::<RANGED>(rest, numbers).ok_or(Place::OffsetMinute)?;
+    end_blanks(rest).ok_or(Place::EndBlanks)
 }
 
 // What is left behind what says nothing.
@@ -195,6 +182,43 @@ fn rest_of(answer: Option<ParsedItem<'_, ()>>) -> Option<&[u8]>
         Some(found) => Some(found.0),
         None => None,
     }
+}
+
+// Blanks with comments.
+#[inline]
+fn blanks_with_comments(input: &[u8]) -> Option<&[u8]>
+    ensures { (n : Numbers) → Reads (IsSilent spec.cfws n) input.now result n }
+{
+    rest_of(cfws(input))
+}
+
+// Blanks, without comments after a year of four digits.
+#[inline]
+fn year_blanks(input: &[u8], year_is_full: bool) -> Option<&[u8]>
+    ensures { (n : Numbers) → Reads (IsSilent (Rfc2822.year_blanks year_is_full) n) input.now result n }
+{
+    if year_is_full {
+        rest_of(fws(input))
+    } else {
+        rest_of(cfws(input))
+    }
+}
+
+// A colon between blanks.
+#[inline]
+fn hour_colon(input: &[u8]) -> Option<&[u8]>
+    ensures { (n : Numbers) → Reads (IsSilent spec.opt_cfws_colon_opt_cfws n) input.now result n }
+{
+    rest_of(opt_cfws_colon_opt_cfws(input))
+}
+
+// Blanks or nothing.
+#[inline]
+fn end_blanks(input: &[u8]) -> Option<&[u8]>
+    ensures { (n : Numbers) → Reads (IsSilent spec.opt_cfws n) input.now result n }
+{
+    let rest = opt_cfws(input);
+    Some(rest.0)
 }
 
 // The number with the sign.

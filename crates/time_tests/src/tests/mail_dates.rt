@@ -1,4 +1,5 @@
 //! The mail dates of RFC 2822: whole texts, and their blanks, comments and zone names.
+use std::alloc::{AllocError, Global};
 use std::test::Fail;
 use time_parsing::{Parsable, Rfc2822};
 use time_readers::rfc2822::{
@@ -289,6 +290,28 @@ fn mail_comments_in_one_another(rt: HostRuntime) {
     assert!(rt; left(cfws(&nested[1..63])) == Some(0));
     assert!(rt; is_no_comment(&nested));
     assert!(rt; is_no_comment(&[b'('; 1000]));
+}
+
+// The date with the part so many times between its year and its hour.
+fn with_blanks(alloc: Global, part: &[u8], times: usize) -> Result<Vec<u8>, AllocError> {
+    let mut text = Vec::new(alloc);
+    text.extend_from_slice(b"1 Jan 21 ")?;
+    for _ in 0..times {
+        text.extend_from_slice(part)?;
+    }
+    text.extend_from_slice(b"03:04 GMT")?;
+    Ok(text)
+}
+
+#[test]
+fn long_mail_dates(rt: HostRuntime) -> Result<(), Fail> {
+    let folded = with_blanks(rt.alloc(), b"\r\n ", 100_000)?;
+    assert!(rt; staged(&folded) == Ok(january(1)?));
+    let commented = with_blanks(rt.alloc(), b"(a)", 100_000)?;
+    assert!(rt; staged(&commented) == Ok(january(1)?));
+    let opened = with_blanks(rt.alloc(), b"(", 100_000)?;
+    assert!(rt; lacks(&opened, "hour"));
+    Ok(())
 }
 
 // The text begins with a zone name of so many hours, and so many bytes are left behind it.

@@ -58,21 +58,30 @@ weekdays_told =
       apart = told_apart key of (each_weekday (λ d. of (key d) ≡ Some d) (refl, refl, refl, refl, refl, refl, refl));
     }
 
--- names that begin with a capital and two small letters, which tell them apart
-pub record Titled {A : Type 0} (name_of : A → List ℕ) : Type 0 where
+month_one : (v w : Month) → month v ≡ month w → v ≡ w
+month_one v w e = cc
+
+pub weekday_one : (v w : Weekday) → weekday v ≡ weekday w → v ≡ w
+weekday_one v w e = cc
+
+-- values whose names begin with a capital and two small letters, which tell them apart
+pub record Titled {A : Type 0} (says : A → Value) (name_of : A → List ℕ) : Type 0 where
   pub told : Told (λ v. take 3 (name_of v)) 3
   pub title : (v : A) → is_title (take 3 (name_of v)) ≡ true
+  pub one : (v w : A) → says v ≡ says w → v ≡ w
 
-pub months_titled : Titled month_name
+pub months_titled : Titled month month_name
 months_titled = record {
   told = months_told;
   title = each_month (λ m. is_title (take 3 (month_name m)) ≡ true) (refl, refl, refl, refl, refl, refl, refl, refl, refl, refl, refl, refl);
+  one = month_one;
 }
 
-pub weekdays_titled : Titled weekday_name
+pub weekdays_titled : Titled weekday weekday_name
 weekdays_titled = record {
   told = weekdays_told;
   title = each_weekday (λ d. is_title (take 3 (weekday_name d)) ≡ true) (refl, refl, refl, refl, refl, refl, refl);
+  one = weekday_one;
 }
 
 same_capital : (a x : ℕ) → is_ascii_uppercase a ≡ true → is_ascii_uppercase x ≡ true → to_ascii_lowercase a ≡ to_ascii_lowercase x → a ≡ x
@@ -103,51 +112,45 @@ same_title (a ∷ b ∷ c ∷ []) _ h k e = absurd (false≢true k)
 same_title _ b h k e = absurd (false≢true h)
 
 -- a short name, as its three letters are read
-short_is_title : {A : Type 0} (name_of : A → List ℕ) → Titled name_of → (case_sensitive : Bool) (text rest : List ℕ) (v : A)
+short_is_title : {A : Type 0} (says : A → Value) (name_of : A → List ℕ) → Titled says name_of → (case_sensitive : Bool) (text rest : List ℕ) (v : A)
     → IsShortOf case_sensitive name_of text rest v → IsTitle case_sensitive text rest (letters_of name_of v)
-short_is_title name_of titled true text rest v p =
+short_is_title says name_of titled true text rest v p =
     (ap length p ∙ titled.told.length_is v, ap str_to_ascii_lowercase (sym p), λ t. ap is_title p ∙ titled.title v)
-short_is_title name_of titled false text rest v p =
+short_is_title says name_of titled false text rest v p =
     (IsNamed-length false (take 3 (name_of v)) text p ∙ titled.told.length_is v, sym p, λ t. absurd (false≢true t))
 
-title_is_short : {A : Type 0} (name_of : A → List ℕ) → Titled name_of → (case_sensitive : Bool) (text rest : List ℕ) (v : A)
+title_is_short : {A : Type 0} (says : A → Value) (name_of : A → List ℕ) → Titled says name_of → (case_sensitive : Bool) (text rest : List ℕ) (v : A)
     → IsTitle case_sensitive text rest (letters_of name_of v) → IsShortOf case_sensitive name_of text rest v
-title_is_short name_of titled true text rest v p = same_title text (take 3 (name_of v)) (p.2 refl) (titled.title v) (sym p.1)
-title_is_short name_of titled false text rest v p = sym p.1
+title_is_short says name_of titled true text rest v p = same_title text (take 3 (name_of v)) (p.2 refl) (titled.title v) (sym p.1)
+title_is_short says name_of titled false text rest v p = sym p.1
 
 -- no three letters, no short name
-pub no_letters : {A : Type 0} (says : A → Value) (name_of : A → List ℕ) → Titled name_of → (case_sensitive : Bool) (input : List ℕ)
+pub no_letters : {A : Type 0} (says : A → Value) (name_of : A → List ℕ) → Titled says name_of → (case_sensitive : Bool) (input : List ℕ)
     → NoCut (IsTitle case_sensitive) input → NoCut (Says says (IsShortOf case_sensitive name_of)) input
 no_letters says name_of titled case_sensitive input none = λ text rest v e s.
-    none text rest (letters_of name_of s.0) e (short_is_title name_of titled case_sensitive text rest s.0 s.2)
+    none text rest (letters_of name_of s.0) e (short_is_title says name_of titled case_sensitive text rest s.0 s.2)
 
 -- three letters with which no name begins
-pub no_short : {A : Type 0} (says : A → Value) (name_of : A → List ℕ) → Titled name_of → (case_sensitive : Bool)
+pub no_short : {A : Type 0} (says : A → Value) (name_of : A → List ℕ) → Titled says name_of → (case_sensitive : Bool)
     (input rest letters : List ℕ) → Cut (IsTitle case_sensitive) input rest letters → ((v : A) → letters ≢ letters_of name_of v)
     → NoCut (Says says (IsShortOf case_sensitive name_of)) input
 no_short says name_of titled case_sensitive input rest letters cut none = λ text rest' v e s.
-    let t = short_is_title name_of titled case_sensitive text rest' s.0 s.2 in
+    let t = short_is_title says name_of titled case_sensitive text rest' s.0 s.2 in
     let same = same_front cut.0 text rest rest' (cut.2.0 ∙ sym t.0) (sym cut.1 ∙ e) in
     none s.0 (cut.2.1 ∙ ap str_to_ascii_lowercase same.0 ∙ sym t.1)
 
 -- three letters with which a name begins
-pub is_short : {A : Type 0} (says : A → Value) (name_of : A → List ℕ) → Titled name_of → (case_sensitive : Bool)
+pub is_short : {A : Type 0} (says : A → Value) (name_of : A → List ℕ) → Titled says name_of → (case_sensitive : Bool)
     (input rest letters : List ℕ) (v : A) → Cut (IsTitle case_sensitive) input rest letters → letters ≡ letters_of name_of v
     → Cut (Says says (IsShortOf case_sensitive name_of)) input rest (says v)
 is_short says name_of titled case_sensitive input rest letters v cut e =
     let title = subst (IsTitle case_sensitive cut.0 rest) e cut.2 in
-    (cut.0, cut.1, (v, refl, title_is_short name_of titled case_sensitive cut.0 rest v title))
+    (cut.0, cut.1, (v, refl, title_is_short says name_of titled case_sensitive cut.0 rest v title))
 
 -- what a text spells, by the value that it says
 pub spelled : {A : Type 0} (says : A → Value) (S : Form A) → ((v w : A) → says v ≡ says w → v ≡ w) → (input rest : List ℕ) (v : A)
     → Cut (Says says S) input rest (says v) → Cut S input rest v
 spelled says S one input rest v (text, e, s) = (text, e, subst (S text rest) (sym (one v s.0 s.1)) s.2)
-
-pub month_one : (v w : Month) → month v ≡ month w → v ≡ w
-month_one v w e = cc
-
-pub weekday_one : (v w : Weekday) → weekday v ≡ weekday w → v ≡ w
-weekday_one v w e = cc
 
 -- a whole name, parted behind its first three letters
 name_parts : {A : Type 0} (name_of : A → List ℕ) (case_sensitive : Bool) (text : List ℕ) (v : A) → IsNamed case_sensitive (name_of v) text
@@ -164,23 +167,26 @@ no_long says name_of case_sensitive input none = λ text rest v e s.
     none p.front (p.back ++ rest) (says s.0) (e ∙ ap (λ t. t ++ rest) p.cut ∙ append_assoc p.front p.back rest) (s.0, refl, p.first)
 
 -- a short name whose ending doesn't stand
-pub no_ending : {A : Type 0} (says : A → Value) (name_of : A → List ℕ) → Titled name_of → (case_sensitive : Bool) (input rest : List ℕ) (v : A)
-    → Cut (IsShortOf case_sensitive name_of) input rest v → NoCut (IsEnding (drop 3 (name_of v)) case_sensitive) rest
-    → NoCut (Says says (IsNameOf case_sensitive name_of)) input
-no_ending says name_of titled case_sensitive input rest v cut none = λ text left w e s.
+pub no_ending : {A : Type 0} (says : A → Value) (name_of : A → List ℕ) → Titled says name_of → (case_sensitive : Bool)
+    (input rest ending : List ℕ) (v : A) → ending ≡ drop 3 (name_of v) → Cut (Says says (IsShortOf case_sensitive name_of)) input rest (says v)
+    → NoCut (IsEnding ending case_sensitive) rest → NoCut (Says says (IsNameOf case_sensitive name_of)) input
+no_ending says name_of titled case_sensitive input rest ending v is found none = λ text left w e s.
+    let cut = spelled says (IsShortOf case_sensitive name_of) titled.one input rest v found in
     let p = name_parts name_of case_sensitive text s.0 s.2 in
     let whole : p.front ++ (p.back ++ left) ≡ cut.0 ++ rest =
     sym (append_assoc p.front p.back left) ∙ ap (λ t. t ++ left) (sym p.cut) ∙ sym e ∙ cut.1 in
     let same = same_name case_sensitive (λ u. take 3 (name_of u)) 3 titled.told p.front cut.0 (p.back ++ left) rest s.0 v p.first cut.2 whole in
-    none p.back left tt (sym same.0) (subst (λ u. IsNamed case_sensitive (drop 3 (name_of u)) p.back) same.1 p.second)
+    none p.back left tt (sym same.0) (subst (λ n. IsNamed case_sensitive n p.back) (ap (λ u. drop 3 (name_of u)) same.1 ∙ sym is) p.second)
 
 -- a short name whose ending stands
-pub is_long : {A : Type 0} (says : A → Value) (name_of : A → List ℕ) (case_sensitive : Bool) (input rest left : List ℕ) (v : A)
-    → Cut (IsShortOf case_sensitive name_of) input rest v → Cut (IsEnding (drop 3 (name_of v)) case_sensitive) rest left tt
-    → Cut (Says says (IsNameOf case_sensitive name_of)) input left (says v)
-is_long says name_of case_sensitive input rest left v cut ending =
-    let named = IsNamed-append case_sensitive (take 3 (name_of v)) (drop 3 (name_of v)) cut.0 ending.0 cut.2 ending.2 in (
-      cut.0 ++ ending.0,
-      cut.1 ∙ ap (λ t. cut.0 ++ t) ending.1 ∙ sym (append_assoc cut.0 ending.0 left),
-      (v, refl, subst (λ n. IsNamed case_sensitive n (cut.0 ++ ending.0)) (take-append-drop 3 (name_of v)) named),
+pub is_long : {A : Type 0} (says : A → Value) (name_of : A → List ℕ) → Titled says name_of → (case_sensitive : Bool)
+    (input rest left ending : List ℕ) (v : A) → ending ≡ drop 3 (name_of v) → Cut (Says says (IsShortOf case_sensitive name_of)) input rest (says v)
+    → Cut (IsEnding ending case_sensitive) rest left tt → Cut (Says says (IsNameOf case_sensitive name_of)) input left (says v)
+is_long says name_of titled case_sensitive input rest left ending v is found last =
+    let cut = spelled says (IsShortOf case_sensitive name_of) titled.one input rest v found in
+    let second = subst (λ n. IsNamed case_sensitive n last.0) is last.2 in
+    let named = IsNamed-append case_sensitive (take 3 (name_of v)) (drop 3 (name_of v)) cut.0 last.0 cut.2 second in (
+      cut.0 ++ last.0,
+      cut.1 ∙ ap (λ t. cut.0 ++ t) last.1 ∙ sym (append_assoc cut.0 last.0 left),
+      (v, refl, subst (λ n. IsNamed case_sensitive n (cut.0 ++ last.0)) (take-append-drop 3 (name_of v)) named),
     )

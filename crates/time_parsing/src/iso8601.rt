@@ -23,15 +23,18 @@ use time_values::error::{Parse, ParseFromDescription};
 /// A text is a date or nothing, a time or nothing, and an offset or nothing, and at least one of them. A date
 /// is of the calendar, as `2021-01-02`, by the day of the year, as `2021-002`, or by the week, as `2020-W53-6`.
 /// A time has an hour, and may have a minute and a second; the last of them may have a fraction of any number
-/// of digits, behind `.` or `,`. Behind a date it needs its `T`. An offset is `Z`, or an hour with a sign, as
-/// `-05`, which may have a minute. Behind a date it needs a time before it.
+/// of digits, behind `.` or `,`, and what is left out is 0. Behind a date it needs its `T`. A leap second may
+/// stand in it. An offset is `Z`, or an hour with a sign, as `-05`, which may have a minute; such an offset
+/// leaves the second of the defaults. Behind a date an offset needs a time before it.
 ///
-/// Separators stand in the whole text, or nowhere. Each part is read in the way that the parts before it
-/// left open, and a part that can't be read leaves this as it was.
+/// A text is basic, without separators, or extended, with them. The first part that shows which of them settles
+/// it for those behind: in a basic text no colon is read, and in an extended one the colon before a minute may
+/// still be left out. A part that can't be read settles nothing, and puts nothing.
 ///
 /// Where none of the three can be read the refusal is the date's: an invalid component `year`, `month`, `day`,
-/// `ordinal`, `week` or `weekday`, or an invalid literal. A year above 9999 (of six digits behind a sign), a
-/// day above 31, an ordinal above 366 and a week above 53 refuse the date, and it has no other form then.
+/// `ordinal`, `week` or `weekday`, or an invalid literal, where a `-` is missing. A year of six digits above
+/// 9999, a day above 31, an ordinal above 366 and a week above 53 refuse the date, and no other form of it is
+/// tried then.
 #[derive(Clone, Copy, Debug, PartialEq, Eq)]
 pub struct Iso8601;
 

@@ -1,5 +1,8 @@
 //! Fractions of a unit.
+use super::time_of;
+use std::test::Fail;
 use time_readers::iso8601::{floor_fraction, round_fraction};
+use time_values::Time;
 
 #[test]
 fn iso_floors(rt: HostRuntime) {
@@ -55,4 +58,16 @@ fn iso_halves_of_the_last_digit(rt: HostRuntime) {
     let above = b"0000000005000000000000000000000000000000";
     assert!(rt; round_fraction(below, 1_000_000_000) == 0);
     assert!(rt; round_fraction(above, 1_000_000_000) == 1);
+}
+
+#[test]
+fn iso_fractions_of_many_digits(rt: HostRuntime) -> Result<(), Fail> {
+    let mut text = Vec::new(rt.alloc());
+    text.extend_from_slice(b"03:04:05,")?;
+    for _ in 0..100_000u32 {
+        text.push(b'4')?;
+    }
+    let wanted = Time::from_hms_nano(3, 4, 5, 444_444_444)?;
+    assert!(rt; time_of(text.as_slice()) == Ok(wanted));
+    Ok(())
 }

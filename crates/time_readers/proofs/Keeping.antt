@@ -30,7 +30,7 @@ minute_alone ranged true n m text after a = a.1 ∙ ap (λ x. record n { offset_
 minute_alone ranged false n m text after a = a.2 ∙ ap (λ x. record n { offset_minute = x.offset_minute }) (sym a.2)
 
 -- a place says no more than its own number
-alone : (ranged : Bool) → Alone (Asks ranged) with_place
+pub alone : (ranged : Bool) → Alone (Asks ranged) with_place
 alone ranged Year n m text after a = a.2 ∙ ap (λ x. record n { year = x.year }) (sym a.2)
 alone ranged YearDash n m text after a = a.1
 alone ranged Month n m text after a = a.3 ∙ ap (λ x. record n { month = x.month }) (sym a.3)

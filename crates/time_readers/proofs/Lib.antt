@@ -22,6 +22,8 @@ pub mod OneReading
 pub mod OneSpelling
 pub mod OpenComments
 pub mod PaddedRuns
+pub mod RangedForms
+pub mod RangedMail
 pub mod ReaderLemmas
 pub mod Repeats
 pub mod Runs

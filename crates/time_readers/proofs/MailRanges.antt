@@ -31,7 +31,7 @@ minute_alone : (ranged : Bool) (sign : Option Sign) (n m : Numbers) (text after 
 minute_alone ranged None n m text after a = a.1 ∙ ap (λ x. record n { offset_minute = x.offset_minute }) (sym a.1)
 minute_alone ranged (Some sign) n m text after a = a.2 ∙ ap (λ x. record n { offset_minute = x.offset_minute }) (sym a.2)
 
-alone : (ranged : Bool) → Alone (Asks ranged) with_place
+pub alone : (ranged : Bool) → Alone (Asks ranged) with_place
 alone ranged WeekdayName n m text after a = a.2 ∙ ap (λ x. record n { weekday = x.weekday }) (sym a.2)
 alone ranged Day n m text after a = a.3 ∙ ap (λ x. record n { day = x.day }) (sym a.3)
 alone ranged DayBlanks n m text after a = a.1
@@ -60,7 +60,7 @@ second_within : (ranged : Bool) (text after : List ℕ) (v : Option ℕ) → IsS
 second_within ranged text after None is = tt
 second_within ranged text after (Some v) is = is.4.1
 
-signed-abs : (b : Bool) (v : ℕ) → unsigned_abs (signed_by b (pos v)) ≡ v
+pub signed-abs : (b : Bool) (v : ℕ) → unsigned_abs (signed_by b (pos v)) ≡ v
 signed-abs false v = refl
 signed-abs true zero = refl
 signed-abs true (suc v) = refl

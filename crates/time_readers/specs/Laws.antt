@@ -1,8 +1,8 @@
 -- Laws of the definitions, each proved by the function of module `laws` that has it as its contract.
-use Rattle.std.specs.Prelude.{◌≡◌, ◌≤◌, ℕ, List, ◌∷◌, ◌++◌, length, Bool, Some, None}
+use Rattle.std.specs.Prelude.{◌≡◌, ◌≤◌, ◌↔◌, ℕ, List, ◌∷◌, ◌++◌, length, Bool, Some, None}
 use Rattle.time_readers.specs.Readers.{Reader, zero_or_more}
 use Rattle.time_readers.specs.declared.Padding.{Padding}
-use Rattle.time_readers.specs.Cuts.{AtMostOneCut}
+use Rattle.time_readers.specs.Cuts.{Form, AtMostOneCut}
 use Rattle.time_readers.specs.Digits.{IsDigitRun, IsPaddedRun}
 use Rattle.time_readers.specs.Bytes.{IsSign}
 use Rattle.time_readers.specs.IsoCuts.{IsCutOf, IsYear, IsSaid, IsNumber}
@@ -61,3 +61,8 @@ OneTimeRow = (kind : ExtendedKind) (bytes : List ℕ) → length (fitting time_r
 pub record OneFraction : Type 0 where
   pub floor : (digits : List ℕ) (unit m : ℕ) → IsFloor digits unit m → m ≡ floor_of digits unit
   pub rounded : (digits : List ℕ) (unit m : ℕ) → IsRounded digits unit m → m ≡ round_of digits unit
+
+-- a text with ranges is one without, whose numbers lie in them
+abbrev pub RangedForms : {N : Type 0} → Form N → Form N → (N → Type 0) → Type 0
+RangedForms {N} ranged formed InRanges =
+    (bytes rest : List ℕ) (n : N) → ranged bytes rest n ↔ (formed bytes rest n × InRanges n)

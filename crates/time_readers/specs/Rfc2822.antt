@@ -1,5 +1,5 @@
 -- The date and time of RFC 2822, section 3.3, by places.
-use Rattle.std.specs.Prelude.{◌≡◌, ◌≤◌, ℕ, ◌+◌, ◌⊎◌, List, [], ◌∷◌, ◌++◌, codes, Bool, true, false, Option, Some, None, ℤ, pos, nat_lt, if◌then◌else◌}
+use Rattle.std.specs.Prelude.{◌≡◌, ◌≤◌, ℕ, ◌+◌, ◌⊎◌, List, [], ◌∷◌, ◌++◌, codes, Bool, true, false, Option, Some, None, IfSome, ℤ, pos, unsigned_abs, nat_lt, if◌then◌else◌}
 use Rattle.time_values.specs.Refusal.{Refusal, literal, component}
 use Rattle.time_values.specs.Sign.{signed_by}
 use Rattle.time_values.specs.declared.month.Month.{Month}
@@ -157,3 +157,12 @@ fault Second = component (codes "second")
 fault OffsetHour = component (codes "offset hour")
 fault OffsetMinute = component (codes "offset minute")
 fault _ = literal
+
+-- the ranges of the numbers, which a text asks where ranges are asked
+pub record InRanges (n : Numbers) : Type 0 where
+  pub day : (1 ≤ n.day) × (n.day ≤ 31)
+  pub hour : (0 ≤ n.hour) × (n.hour ≤ 23)
+  pub minute : (0 ≤ n.minute) × (n.minute ≤ 59)
+  pub second : IfSome n.second (λ v. (0 ≤ v) × (v ≤ 60))
+  pub offset_hour : (0 ≤ unsigned_abs n.offset_hour) × (unsigned_abs n.offset_hour ≤ 25)
+  pub offset_minute : (0 ≤ unsigned_abs n.offset_minute) × (unsigned_abs n.offset_minute ≤ 59)

@@ -1,5 +1,5 @@
 -- RFC 3339, section 5.6, by places.
-use Rattle.std.specs.Prelude.{◌≡◌, ◌≢◌, ℕ, ◌⊎◌, List, [], ◌∷◌, ◌++◌, length, codes, Bool, true, false, Option, Some, None}
+use Rattle.std.specs.Prelude.{◌≡◌, ◌≢◌, ◌≤◌, ℕ, ◌⊎◌, List, [], ◌∷◌, ◌++◌, length, codes, Bool, true, false, Option, Some, None}
 use Rattle.time_values.specs.Refusal.{Refusal, literal, component}
 use Rattle.time_readers.specs.Cuts.{Form}
 use Rattle.time_readers.specs.Digits.{IsDigitRun, IsFraction}
@@ -121,3 +121,12 @@ fault Subsecond = component (codes "subsecond")
 fault OffsetHour = component (codes "offset hour")
 fault OffsetColon = literal
 fault OffsetMinute = component (codes "offset minute")
+
+-- the ranges of the numbers, which a text asks where ranges are asked
+pub record InRanges (n : Numbers) : Type 0 where
+  pub month : (1 ≤ n.month) × (n.month ≤ 12)
+  pub day : (1 ≤ n.day) × (n.day ≤ 31)
+  pub hour : (0 ≤ n.hour) × (n.hour ≤ 23)
+  pub minute : (0 ≤ n.minute) × (n.minute ≤ 59)
+  pub second : (0 ≤ n.second) × (n.second ≤ 60)
+  pub offset_minute : (0 ≤ n.offset_minute) × (n.offset_minute ≤ 59)

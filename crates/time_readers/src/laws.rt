@@ -1,8 +1,8 @@
 //! Laws of the definitions that the contracts of this crate cite: each function does nothing, and its
 //! contract is the law.
-ghost use Rattle.std.specs.Prelude.{ℕ, List, Bool};
+ghost use Rattle.std.specs.Prelude.{ℕ, List, Bool, true, false};
 ghost use Rattle.time_readers.specs.Readers.{Reader};
-ghost use Rattle.time_readers.specs.Laws.{OneDigitRun, OnePaddedRun, OneSpelling, OneForm, Takes, IsRepeated, IsoPiecesAreCuts, OneTimeRow, OneFraction};
+ghost use Rattle.time_readers.specs.Laws.{OneDigitRun, OnePaddedRun, OneSpelling, OneForm, Takes, IsRepeated, IsoPiecesAreCuts, OneTimeRow, OneFraction, RangedForms};
 ghost use Rattle.time_readers.specs.Rfc2822 as rfc2822;
 ghost use Rattle.time_readers.specs.Rfc3339 as rfc3339;
 
@@ -33,6 +33,12 @@ pub fn law_one_form()
 pub fn law_one_mail_date()
     ensures { (ranged : Bool) (bytes : List ℕ)
         → OneForm (rfc2822.Asks ranged) rfc2822.places rfc2822.nothing_read bytes }
+{}
+
+/// A text of RFC 3339, or a mail date, with its ranges is one without, whose numbers lie in the ranges.
+pub fn law_ranged_forms()
+    ensures rfc3339 { RangedForms (rfc3339.HasForm true) (rfc3339.HasForm false) rfc3339.InRanges }
+    ensures rfc2822 { RangedForms (rfc2822.HasForm true) (rfc2822.HasForm false) rfc2822.InRanges }
 {}
 
 /// A reader that takes a byte or more wherever it reads is repeated until it refuses.

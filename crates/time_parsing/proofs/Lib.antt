@@ -1,3 +1,5 @@
 pub mod EntryLemmas
 pub mod OneOutcome
+mod RecordedRfc3339
 pub mod ResolvedLemmas
+mod ToldMoment

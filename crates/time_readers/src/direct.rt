@@ -15,20 +15,27 @@ use std::num::NonZero;
 use time_values::error::{ComponentRange, Parse, ParseFromDescription, TryFromParsed};
 use time_values::{Date, Month, OffsetDateTime, Time, UtcOffset};
 
-// What a text says of a moment.
+/// What a text says of a moment.
 #[derive(Clone, Copy, Debug)]
-struct Said {
-    year: u16,
-    month: u8,
-    day: u8,
-    hour: u8,
-    minute: u8,
-    // 60 is a leap second.
-    second: u8,
-    nanosecond: u32,
-    // With its sign, as the minute.
-    offset_hour: i8,
-    offset_minute: i8,
+pub struct Said {
+    /// The year, 0 to 9999.
+    pub year: u16,
+    /// The number of the month, not 0.
+    pub month: u8,
+    /// The day of the month.
+    pub day: u8,
+    /// The hour.
+    pub hour: u8,
+    /// The minute.
+    pub minute: u8,
+    /// The second, of which 60 is a leap second.
+    pub second: u8,
+    /// The fraction of the second, in nanoseconds.
+    pub nanosecond: u32,
+    /// The hour of the offset, with its sign.
+    pub offset_hour: i8,
+    /// The minute of the offset, with its sign.
+    pub offset_minute: i8,
 }
 
 /// Parses a whole text of RFC 3339, section 5.6, as a moment.

@@ -10,7 +10,7 @@ use Rattle.time_readers.specs.declared.rfc2822.places.Place.TheVariants.{Weekday
 use Rattle.time_readers.specs.Ranged.{IsWithin}
 use Rattle.time_readers.specs.Rfc2822.{Asks, HasForm, IsZone, IsSignedHour, IsOffsetMinute, IsYear, IsSecond, places, nothing_read}
 use Rattle.time_readers.proofs.Runs.{IsDigitRun-below}
-use Rattle.time_readers.proofs.KeptNumbers.{Alone, Ignores, said}
+use Rattle.time_readers.proofs.KeptNumbers.{Alone, Ignores, said, said_behind}
 use Rattle.time_readers.proofs.MailZones.{zone-near}
 
 -- the numbers n with what place p may say taken from m
@@ -140,3 +140,19 @@ HasForm-in_places ranged bytes rest n s = record {
       told (λ x. x.offset_minute) within ranged (take 13 places) OffsetMinute (drop 14 places) n bytes rest s (search rules) (search rules)
       (λ j k text mid start a. minute_within ranged j.offset_sign j k text mid start a);
 }
+
+zone_said : (ranged : Bool) (s : Option Sign) (j k : Numbers) (text mid : List ℕ) → j.offset_sign ≡ s → j.offset_minute ≡ pos 0
+    → IsOffsetMinute ranged s j text mid k → k.offset_sign ≡ None → k.offset_minute ≡ pos 0
+zone_said ranged None j k text mid sign start a none = ap (λ x. x.offset_minute) a.1 ∙ start
+zone_said ranged (Some s) j k text mid sign start a none =
+    let same : k.offset_sign ≡ Some s = ap (λ x. x.offset_sign) a.2 ∙ sign in
+    absurd (cc)
+
+-- behind a zone name, which has no sign, the minute is 0
+pub HasForm-zone : (ranged : Bool) (bytes rest : List ℕ) (n : Numbers) → HasForm ranged bytes rest n
+    → n.offset_sign ≡ None → n.offset_minute ≡ pos 0
+HasForm-zone ranged bytes rest n s =
+    said_behind (Asks ranged) with_place (λ x. x.offset_minute) (λ x. (x.offset_sign, x.offset_minute))
+    (λ (x : Option Sign × ℤ). x.0 ≡ None → x.1 ≡ pos 0) (alone ranged) (take 13 places) OffsetMinute (drop 14 places)
+    nothing_read n bytes rest s (search rules) (search rules)
+    (λ j k text mid start a. zone_said ranged j.offset_sign j k text mid refl start a)

@@ -16,6 +16,7 @@ pub mod MailZones
 pub mod NameLemmas
 pub mod NotBoth
 pub mod NumberLemmas
+pub mod OneDirect
 pub mod OneForm
 pub mod OneMailDate
 pub mod OneReading

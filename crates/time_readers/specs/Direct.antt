@@ -1,5 +1,5 @@
 -- What the direct paths of RFC 3339 and RFC 2822 answer: a moment made of a text's numbers. `Y` is the greatest year.
-use Rattle.std.specs.Prelude.{◌≡◌, ◌⊎◌, ◌==◌, ℕ, pos, nat_le, true, false, if◌then◌else◌, List, [], ◌∷◌, codes, Option, Some, None, Result, Ok, Err, unwrap_or}
+use Rattle.std.specs.Prelude.{◌≡◌, ◌⊎◌, ◌==◌, ℕ, pos, nat_le, true, false, if◌then◌else◌, List, [], ◌∷◌, codes, Option, Some, None, Result, MatchResult, unwrap_or}
 use Rattle.std.specs.Option.{option_or}
 use Rattle.time_values.specs.Dates as Dates
 use Rattle.time_values.specs.DateRefusals.{calendar_date_refusal}
@@ -72,15 +72,16 @@ IsRefusedBehind Y (Some r) s rest e = e ≡ r
 IsRefusedBehind Y None s [] e = IsNotMade Y s e
 IsRefusedBehind Y None s (c ∷ rest) e = e ≡ trailing
 
--- A whole text whose places have their form, and the moment made of it; or the refusal of the first place that doesn't
--- have its form, or what is refused behind them.
-abbrev pub Direct : {P N : Type 0} → Form N → (List ℕ → P → Type 0) → (P → Refusal) → (N → Option Refusal) → (N → Said)
-    → ℕ → List ℕ → Result OffsetDateTime Parse → Type 0
-Direct {N = N} form fails fault last says Y bytes (Ok v) =
-    (n : N) × form bytes [] n × (last n ≡ None) × IsMade Y (says n) v
-Direct {P} {N} form fails fault last says Y bytes (Err e) =
-    ((p : P) × fails bytes p × (refusal_of e ≡ fault p))
-    ⊎ ((rest : List ℕ) × ((n : N) × form bytes rest n × IsRefusedBehind Y (last n) (says n) rest (refusal_of e)))
+-- the moment made of a whole text whose places have their form
+abbrev pub IsDirect : {N : Type 0} → Form N → (N → Option Refusal) → (N → Said) → ℕ → List ℕ → OffsetDateTime → Type 0
+IsDirect {N} form last says Y bytes v = (n : N) × form bytes [] n × (last n ≡ None) × IsMade Y (says n) v
+
+-- the refusal of the first place that doesn't have its form, or else what is refused behind them all
+abbrev pub RefusesDirectly : {P N : Type 0} → Form N → (List ℕ → P → Type 0) → (P → Refusal) → (N → Option Refusal) → (N → Said)
+    → ℕ → List ℕ → Refusal → Type 0
+RefusesDirectly {P} {N} form fails fault last says Y bytes e =
+    ((p : P) × fails bytes p × (e ≡ fault p))
+    ⊎ ((rest : List ℕ) × ((n : N) × form bytes rest n × IsRefusedBehind Y (last n) (says n) rest e))
 
 -- the range of the minute of an offset, which its place of RFC 3339 refuses
 abbrev pub minute_refusal : Numbers → Option Refusal
@@ -114,12 +115,25 @@ said_rfc2822 n = record {
   offset_minute = n.offset_minute;
 }
 
--- RFC 3339 on the direct path
+-- RFC 3339 on the direct path: its moments, its refusals, and what is answered
+abbrev pub IsDirectRfc3339 : ℕ → List ℕ → OffsetDateTime → Type 0
+IsDirectRfc3339 = IsDirect (rfc3339.HasForm false) minute_refusal said_rfc3339
+
+abbrev pub RefusesRfc3339 : ℕ → List ℕ → Refusal → Type 0
+RefusesRfc3339 =
+    RefusesDirectly (rfc3339.HasForm false) (rfc3339.FailsAt false) rfc3339.fault minute_refusal said_rfc3339
+
 abbrev pub DirectRfc3339 : ℕ → List ℕ → Result OffsetDateTime Parse → Type 0
-DirectRfc3339 =
-    Direct (rfc3339.HasForm false) (rfc3339.FailsAt false) rfc3339.fault minute_refusal said_rfc3339
+DirectRfc3339 Y bytes result =
+    MatchResult result (λ v. IsDirectRfc3339 Y bytes v) (λ e. RefusesRfc3339 Y bytes (refusal_of e))
 
 -- RFC 2822 on the direct path
+abbrev pub IsDirectRfc2822 : ℕ → List ℕ → OffsetDateTime → Type 0
+IsDirectRfc2822 = IsDirect (rfc2822.HasForm false) (λ n. None) said_rfc2822
+
+abbrev pub RefusesRfc2822 : ℕ → List ℕ → Refusal → Type 0
+RefusesRfc2822 = RefusesDirectly (rfc2822.HasForm false) (rfc2822.FailsAt false) rfc2822.fault (λ n. None) said_rfc2822
+
 abbrev pub DirectRfc2822 : ℕ → List ℕ → Result OffsetDateTime Parse → Type 0
-DirectRfc2822 =
-    Direct (rfc2822.HasForm false) (rfc2822.FailsAt false) rfc2822.fault (λ n. None) said_rfc2822
+DirectRfc2822 Y bytes result =
+    MatchResult result (λ v. IsDirectRfc2822 Y bytes v) (λ e. RefusesRfc2822 Y bytes (refusal_of e))

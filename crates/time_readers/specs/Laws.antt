@@ -1,5 +1,7 @@
 -- Laws of the definitions, each proved by the function of module `laws` that has it as its contract.
 use Rattle.std.specs.Prelude.{◌≡◌, ◌≤◌, ◌↔◌, ℕ, List, ◌∷◌, ◌++◌, length, Bool, Some, None}
+use Rattle.time_values.specs.Refusal.{Refusal}
+use Rattle.time_values.specs.declared.offset_date_time.OffsetDateTime.{OffsetDateTime}
 use Rattle.time_readers.specs.Readers.{Reader, zero_or_more}
 use Rattle.time_readers.specs.declared.Padding.{Padding}
 use Rattle.time_readers.specs.Cuts.{Form, AtMostOneCut}
@@ -66,3 +68,9 @@ pub record OneFraction : Type 0 where
 abbrev pub RangedForms : {N : Type 0} → Form N → Form N → (N → Type 0) → Type 0
 RangedForms {N} ranged formed InRanges =
     (bytes rest : List ℕ) (n : N) → ranged bytes rest n ↔ (formed bytes rest n × InRanges n)
+
+-- a direct path has one answer to a text: one moment or one refusal, and never both
+pub record OneDirect (value : List ℕ → OffsetDateTime → Type 0) (refuses : List ℕ → Refusal → Type 0) : Type 0 where
+  pub one_value : (bytes : List ℕ) (v w : OffsetDateTime) → value bytes v → value bytes w → v ≡ w
+  pub one_refusal : (bytes : List ℕ) (e f : Refusal) → refuses bytes e → refuses bytes f → e ≡ f
+  pub never_both : (bytes : List ℕ) (v : OffsetDateTime) (e : Refusal) → value bytes v → refuses bytes e → ⊥

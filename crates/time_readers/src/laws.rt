@@ -1,8 +1,10 @@
 //! Laws of the definitions that the contracts of this crate cite: each function does nothing, and its
 //! contract is the law.
 ghost use Rattle.std.specs.Prelude.{ℕ, List, Bool, true, false};
+ghost use Rattle.time_values.specs.Range.{greatest_year};
+ghost use Rattle.time_readers.specs.Direct.{IsDirectRfc3339, RefusesRfc3339, IsDirectRfc2822, RefusesRfc2822};
 ghost use Rattle.time_readers.specs.Readers.{Reader};
-ghost use Rattle.time_readers.specs.Laws.{OneDigitRun, OnePaddedRun, OneSpelling, OneForm, Takes, IsRepeated, IsoPiecesAreCuts, OneTimeRow, OneFraction, RangedForms};
+ghost use Rattle.time_readers.specs.Laws.{OneDigitRun, OnePaddedRun, OneSpelling, OneForm, Takes, IsRepeated, IsoPiecesAreCuts, OneTimeRow, OneFraction, RangedForms, OneDirect};
 ghost use Rattle.time_readers.specs.Rfc2822 as rfc2822;
 ghost use Rattle.time_readers.specs.Rfc3339 as rfc3339;
 
@@ -60,4 +62,10 @@ pub fn law_one_time_row()
 /// A fraction of a unit, cut or rounded, is one number.
 pub fn law_one_fraction()
     ensures { OneFraction }
+{}
+
+/// The direct paths of RFC 3339 and RFC 2822 have one answer to a text: one moment, or one refusal, and never both.
+pub fn law_one_direct()
+    ensures rfc3339 { OneDirect (IsDirectRfc3339 greatest_year) (RefusesRfc3339 greatest_year) }
+    ensures rfc2822 { OneDirect (IsDirectRfc2822 greatest_year) (RefusesRfc2822 greatest_year) }
 {}

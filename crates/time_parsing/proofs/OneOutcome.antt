@@ -1,9 +1,11 @@
 -- An exact format and a resolution that is one have one outcome.
-use Rattle.std.proofs.Common.{◌≡◌, ℕ, List, [], sym, ap, ◌∙◌, subst, ⊎_elim, Ok, Err}
+use Rattle.std.proofs.Common.{◌≡◌, ℕ, List, [], sym, ap, ◌∙◌, subst, ⊎_elim, None, Some, Ok, Err}
 use Rattle.time_values.specs.Refusal.{Refusal}
 use Rattle.time_record.specs.Laws.{OneResolution}
-use Rattle.time_record.specs.Record.{Record}
-use Rattle.time_parsing.specs.Outcome.{Reading, Refusing, Resolving, IsWhole, IsExact, OneOutcome}
+use Rattle.time_record.specs.Record.{Record, empty}
+use Rattle.time_parsing.specs.Outcome.{Reading, Refusing, Resolving, IsWhole, Path, over_record, direct, begun, IsExact, IsExactPath, OneOutcome, OneMomentOutcome}
+use Rattle.time_values.specs.Range.{greatest_year}
+use Rattle.time_record.specs.Resolution.{IsMoment}
 
 module _ (R : Reading) (F : Refusing) (exact : IsExact R F) where
   -- a text that is read whole is not refused
@@ -34,3 +36,16 @@ module _ (R : Reading) (F : Refusing) (exact : IsExact R F) where
       (λ here. ⊎_elim (λ there. ap Err (one_refusal b r e f here there)) (λ z. absurd (whole_or_refused b r z.0 e z.1 here)) y)
       (λ w. ⊎_elim (λ there. absurd (whole_or_refused b r w.0 f w.1 there))
       (λ z. one z.0 (Err e) (Err f) (subst (λ (p : Record). resolves p (Err e)) (same_record b r w.0 z.0 w.1 z.1) w.2) z.2) y) x
+
+-- an exact path has one outcome of a moment
+pub one_moment_outcome : (path : Path) (R : Reading) (F : Refusing) → IsExact R F → IsExactPath greatest_year path R F
+    → OneResolution (IsMoment greatest_year) → OneMomentOutcome greatest_year path R F
+one_moment_outcome over_record R F exact alone one b d x y p q =
+    one_outcome R F exact (IsMoment greatest_year) one b (begun d) x y p q
+one_moment_outcome (direct refused) R F exact alone one b (Some d) x y p q =
+    one_outcome R F exact (IsMoment greatest_year) one b d x y p q
+one_moment_outcome (direct refused) R F exact alone one b None (Ok v) (Ok w) p q =
+    one_outcome R F exact (IsMoment greatest_year) one b empty (Ok v) (Ok w) p q
+one_moment_outcome (direct refused) R F exact alone one b None (Ok v) (Err f) p q = absurd (alone.1 b v f p q)
+one_moment_outcome (direct refused) R F exact alone one b None (Err e) (Ok w) p q = absurd (alone.1 b w e q p)
+one_moment_outcome (direct refused) R F exact alone one b None (Err e) (Err f) p q = ap Err (alone.0 b e f p q)

@@ -1,12 +1,12 @@
 -- A moment of the record of a whole text is the outcome of the text.
-use Rattle.std.proofs.Common.{◌≡◌, ℕ, List, inl, inr, Result, Ok, Err, subst, MatchResult}
+use Rattle.std.proofs.Common.{◌≡◌, ℕ, List, inl, inr, Option, None, Some, Result, Ok, Err, subst, MatchResult}
 use Rattle.time_values.specs.Range.{greatest_year}
 use Rattle.time_values.specs.Refusal.{Refusal, refusal_of}
 use Rattle.time_values.specs.declared.error.Parse.{Parse}
 use Rattle.time_values.specs.declared.offset_date_time.OffsetDateTime.{OffsetDateTime}
 use Rattle.time_record.specs.Record.{Record}
 use Rattle.time_record.specs.Resolution.{IsMoment}
-use Rattle.time_parsing.specs.Outcome.{Reading, Refusing, seen, IsWhole, IsOutcome}
+use Rattle.time_parsing.specs.Outcome.{Reading, Refusing, begun, seen, direct, IsWhole, IsOutcome, IsMomentOutcome}
 
 read_moment : (reads : Reading) (refuses : Refusing) (bytes : List ℕ) (begin r : Record) (answer : Result OffsetDateTime Refusal)
     → IsWhole reads refuses bytes begin (Ok r) → IsMoment greatest_year r answer
@@ -23,3 +23,11 @@ resolved-outcome reads refuses bytes begin (Err e) (Ok v) whole same = absurd (c
 resolved-outcome reads refuses bytes begin (Err e) (Err f) whole same =
     let refusal : refusal_of e ≡ f = cc in
     inl (subst (λ x. IsWhole reads refuses bytes begin (Err x)) refusal whole)
+
+-- with defaults a direct path is over them
+pub over_defaults : (reads : Reading) (refuses : Refusing) (refused : List ℕ → Refusal → Type 0) (bytes : List ℕ)
+    (defaults : Option Record) (given : Record) (answer : Result OffsetDateTime Refusal) → defaults ≡ Some given
+    → IsOutcome (IsMoment greatest_year) reads refuses bytes (begun defaults) answer
+    → IsMomentOutcome greatest_year (direct refused) reads refuses bytes defaults answer
+over_defaults reads refuses refused bytes None given answer e outcome = absurd (cc)
+over_defaults reads refuses refused bytes (Some d) given answer e outcome = outcome

@@ -1,8 +1,12 @@
 pub mod DescriptionLaws
+pub mod DirectLaws
 pub mod Iso8601
 pub mod Iso8601Laws
 pub mod Outcome
+pub mod RecordedRfc2822
+pub mod RecordedRfc3339
 pub mod Rfc2822
 pub mod Rfc2822Laws
 pub mod Rfc3339
 pub mod Rfc3339Laws
+pub mod ToldMoment

@@ -1,9 +1,11 @@
 -- What a parse answers, over a format's reading and refusal, which are relations.
-use Rattle.std.specs.Prelude.{◌≡◌, ◌≢◌, ◌⊎◌, ℕ, List, [], Option, None, Some, Result, Ok, Err}
+use Rattle.std.specs.Prelude.{◌≡◌, ◌≢◌, ◌⊎◌, ◌↔◌, ℕ, List, [], Option, None, Some, Result, Ok, Err}
 use Rattle.std.specs.Borrow.{Bor}
 use Rattle.time_values.specs.Refusal.{Refusal, trailing, refusal_of}
 use Rattle.time_values.specs.declared.error.Parse.{Parse}
+use Rattle.time_values.specs.declared.offset_date_time.OffsetDateTime.{OffsetDateTime}
 use Rattle.time_record.specs.Record.{Record, empty}
+use Rattle.time_record.specs.Resolution.{IsMoment}
 
 -- what a format reads: bytes, the record before, the rest of the bytes, and the record after
 abbrev pub Reading : Type 1
@@ -63,3 +65,41 @@ OneOutcome {V} resolves reads refuses =
     (bytes : List ℕ) (begin : Record) (result other : Result V Refusal)
     → IsOutcome resolves reads refuses bytes begin result
     → IsOutcome resolves reads refuses bytes begin other → result ≡ other
+
+-- how a format reads a moment where no defaults are given: over a record, as all else, or directly, with these refusals
+pub data Path : Type 1 where
+  over_record : Path
+  direct : (List ℕ → Refusal → Type 0) → Path
+
+-- The outcome of a parse of a moment. On a direct path it is the moment that the text has over an empty record, and
+-- where it has none the direct refusal. With defaults each path is over them.
+abbrev pub IsMomentOutcome : ℕ → Path → Reading → Refusing → List ℕ → Option Record
+    → Result OffsetDateTime Refusal → Type 0
+IsMomentOutcome Y (direct refused) reads refuses bytes None (Ok v) =
+    IsOutcome (IsMoment Y) reads refuses bytes empty (Ok v)
+IsMomentOutcome Y (direct refused) reads refuses bytes None (Err e) = refused bytes e
+IsMomentOutcome Y (direct refused) reads refuses bytes (Some defaults) result =
+    IsOutcome (IsMoment Y) reads refuses bytes defaults result
+IsMomentOutcome Y over_record reads refuses bytes defaults result =
+    IsOutcome (IsMoment Y) reads refuses bytes (begun defaults) result
+
+-- a direct path refuses a text once, and none of which the record has a moment
+abbrev pub IsExactPath : ℕ → Path → Reading → Refusing → Type 0
+IsExactPath Y over_record reads refuses = Unit {0}
+IsExactPath Y (direct refused) reads refuses =
+    ((bytes : List ℕ) (e f : Refusal) → refused bytes e → refused bytes f → e ≡ f)
+    × ((bytes : List ℕ) (v : OffsetDateTime) (e : Refusal)
+    → IsOutcome (IsMoment Y) reads refuses bytes empty (Ok v) → refused bytes e → ⊥)
+
+-- a parse of a moment has one outcome
+abbrev pub OneMomentOutcome : ℕ → Path → Reading → Refusing → Type 0
+OneMomentOutcome Y path reads refuses =
+    (bytes : List ℕ) (defaults : Option Record) (result other : Result OffsetDateTime Refusal)
+    → IsMomentOutcome Y path reads refuses bytes defaults result
+    → IsMomentOutcome Y path reads refuses bytes defaults other → result ≡ other
+
+-- the direct path makes the moments that the record has
+abbrev pub SameMoments : ℕ → Reading → Refusing → (List ℕ → OffsetDateTime → Type 0) → Type 0
+SameMoments Y reads refuses direct_moment =
+    (bytes : List ℕ) (v : OffsetDateTime)
+    → direct_moment bytes v ↔ IsOutcome (IsMoment Y) reads refuses bytes empty (Ok v)

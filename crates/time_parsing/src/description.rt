@@ -4,6 +4,7 @@ ghost use Rattle.time_values.specs.Range.{greatest_year};
 ghost use Rattle.time_readers.specs.Shape.{borrowed_shape, owned_shape, v3_shape};
 ghost use Rattle.time_readers.specs.Tree.{sequence, trees};
 ghost use Rattle.time_record.specs.Reading.{Reads, Refuses};
+ghost use Rattle.time_parsing.specs.Outcome.{over_record};
 ghost use Rattle.time_parsing.specs.DescriptionLaws.{tree_exact};
 ghost use Rattle.time_parsing.specs.Outcome.{ParsesInto};
 
@@ -38,6 +39,8 @@ impl Parsable for BorrowedFormatItem<'_> {
 
     ghost refuses = { λ s. Refuses greatest_year (borrowed_shape s) };
 
+    ghost path = { λ _. over_record };
+
     fn parse_into<'a>(&self, input: &'a [u8], parsed: &mut Parsed) -> Result<&'a [u8], Parse> {
         read_item(self, input, parsed)
     }
@@ -51,12 +54,16 @@ impl Parsable for BorrowedFormatItem<'_> {
     }
 
     ghost exact = { λ s. tree_exact greatest_year (borrowed_shape s) };
+
+    ghost exact_path = { λ _. tt };
 }
 
 impl Parsable for OwnedFormatItem {
     ghost reads = { λ s. Reads greatest_year (owned_shape s) };
 
     ghost refuses = { λ s. Refuses greatest_year (owned_shape s) };
+
+    ghost path = { λ _. over_record };
 
     fn parse_into<'a>(&self, input: &'a [u8], parsed: &mut Parsed) -> Result<&'a [u8], Parse> {
         read_item(self, input, parsed)
@@ -71,12 +78,16 @@ impl Parsable for OwnedFormatItem {
     }
 
     ghost exact = { λ s. tree_exact greatest_year (owned_shape s) };
+
+    ghost exact_path = { λ _. tt };
 }
 
 impl Parsable for FormatDescriptionV3<'_> {
     ghost reads = { λ s. Reads greatest_year (v3_shape s.inner) };
 
     ghost refuses = { λ s. Refuses greatest_year (v3_shape s.inner) };
+
+    ghost path = { λ _. over_record };
 
     fn parse_into<'a>(&self, input: &'a [u8], parsed: &mut Parsed) -> Result<&'a [u8], Parse> {
         match parsed.parse_v3(input, &self.inner) {
@@ -94,12 +105,16 @@ impl Parsable for FormatDescriptionV3<'_> {
     }
 
     ghost exact = { λ s. tree_exact greatest_year (v3_shape s.inner) };
+
+    ghost exact_path = { λ _. tt };
 }
 
 impl<'i, I: AnyFormatItem> Parsable for Items<'i, I> {
     ghost reads = { λ s. Reads greatest_year (sequence (trees (map I.shape s.0.now))) };
 
     ghost refuses = { λ s. Refuses greatest_year (sequence (trees (map I.shape s.0.now))) };
+
+    ghost path = { λ _. over_record };
 
     fn parse_into<'a>(&self, input: &'a [u8], parsed: &mut Parsed) -> Result<&'a [u8], Parse> {
         match parsed.parse_items(input, self.0) {
@@ -117,4 +132,6 @@ impl<'i, I: AnyFormatItem> Parsable for Items<'i, I> {
     }
 
     ghost exact = { λ s. tree_exact greatest_year (sequence (trees (map I.shape s.0.now))) };
+
+    ghost exact_path = { λ _. tt };
 }

@@ -6,6 +6,7 @@ ghost use Rattle.time_readers.specs.IsoAnswers.{Gives, GivesForm, GivesPart, Giv
 ghost use Rattle.time_readers.specs.IsoDates.{iso_date};
 ghost use Rattle.time_record.specs.Record.{put_all};
 ghost use Rattle.time_parsing.specs.Iso8601 as spec;
+ghost use Rattle.time_parsing.specs.Outcome.{over_record};
 ghost use Rattle.time_parsing.specs.Rfc3339.{without_offset_sign};
 
 use crate::Parsable;
@@ -201,6 +202,8 @@ impl Parsable for Iso8601 {
 
     ghost refuses = { λ _. Refuses greatest_year };
 
+    ghost path = { λ _. over_record };
+
     fn parse_into<'a>(&self, input: &'a [u8], parsed: &mut Parsed) -> Result<&'a [u8], Parse> {
         let mut begun = *parsed;
         begun.allow_leap_second();
@@ -224,4 +227,6 @@ impl Parsable for Iso8601 {
     ghost use Rattle.time_parsing.specs.Iso8601Laws.{iso8601_exact};
 
     ghost exact = { λ _. iso8601_exact greatest_year };
+
+    ghost exact_path = { λ _. tt };
 }

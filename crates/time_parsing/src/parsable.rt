@@ -3,7 +3,7 @@ ghost use Rattle.std.specs.Prelude.{◌≡◌, MatchResult};
 ghost use Rattle.time_values.specs.Range.{greatest_year};
 ghost use Rattle.time_values.specs.Refusal.{refusal_of};
 ghost use Rattle.time_record.specs.Resolution.{IsDated, IsTimed, IsOffset, IsPlain, IsUtcMoment, IsMoment, IsTimestamp};
-ghost use Rattle.time_parsing.specs.Outcome.{Reading, Refusing, begun, seen, ParsesInto, IsWhole, IsOutcome, IsExact};
+ghost use Rattle.time_parsing.specs.Outcome.{Reading, Refusing, begun, seen, ParsesInto, IsWhole, IsOutcome, IsExact, Path, over_record, IsMomentOutcome, IsExactPath};
 
 use std::convert::TryFrom;
 use time_record::Parsed;
@@ -20,6 +20,9 @@ pub trait Parsable {
 
     // Nothing is read, with this refusal.
     ghost refuses: { Self → Refusing };
+
+    // How a moment is read without defaults: over a record, or directly.
+    ghost path: { Self → Path };
 
     /// Reads a front of the input over the record, and answers the unread rest. What the text says
     /// replaces what the record had. A refusal leaves the record as it was.
@@ -102,14 +105,15 @@ pub trait Parsable {
         }
     }
 
-    /// The date, time and offset of the whole input, read over the defaults.
+    /// The date, time and offset of the whole input, read over the defaults. Without defaults a format
+    /// may take a direct path, which has the same values and refusals of its own.
     fn parse_offset_date_time(
         &self,
         input: &[u8],
         defaults: Option<Parsed>,
     ) -> Result<OffsetDateTime, Parse>
-        ensures { IsOutcome (IsMoment greatest_year) (reads self.now) (refuses self.now) input.now
-            (begun defaults) (seen result) };
+        ensures { IsMomentOutcome greatest_year (path self.now) (reads self.now) (refuses self.now) input.now
+            defaults (seen result) };
 
     /// The instant of the whole input, read over the defaults.
     fn parse_timestamp(&self, input: &[u8], defaults: Option<Parsed>) -> Result<Timestamp, Parse>
@@ -124,6 +128,9 @@ pub trait Parsable {
 
     // The format has one answer to a text over a record.
     ghost exact: { (s : Self) → IsExact (reads s) (refuses s) };
+
+    // Its direct path has one refusal, where it has no moment.
+    ghost exact_path: { (s : Self) → IsExactPath greatest_year (path s) (reads s) (refuses s) };
 }
 
 /// The date, time and offset of a record that was read, or else the error of its reading.
@@ -139,11 +146,13 @@ pub fn resolved(read: &Result<Parsed, Parse>) -> Result<OffsetDateTime, Parse>
     Ok(OffsetDateTime::try_from(parsed)?)
 }
 
-/// A reference to a format reads as the format does.
+/// A reference to a format reads as the format does, always over a record.
 impl<T: Parsable> Parsable for &T {
     ghost reads = { λ x. T.reads x.now };
 
     ghost refuses = { λ x. T.refuses x.now };
+
+    ghost path = { λ _. over_record };
 
     fn parse_into<'a>(&self, input: &'a [u8], parsed: &mut Parsed) -> Result<&'a [u8], Parse> {
         (**self).parse_into(input, parsed)
@@ -158,4 +167,6 @@ impl<T: Parsable> Parsable for &T {
     }
 
     ghost exact = { λ x. T.exact x.now };
+
+    ghost exact_path = { λ _. tt };
 }

@@ -4,12 +4,15 @@ ghost use Rattle.std.specs.Option.{ForSome};
 ghost use Rattle.std.specs.Int.{IsInRange};
 ghost use Rattle.time_values.specs.Range.{greatest_year};
 ghost use Rattle.time_record.specs.Record.{put_all};
+ghost use Rattle.time_readers.specs.Direct.{RefusesRfc2822};
+ghost use Rattle.time_parsing.specs.Outcome.{direct};
 ghost use Rattle.time_parsing.specs.Rfc3339.{without_offset_sign};
 ghost use Rattle.time_parsing.specs.Rfc2822.{date_entries, time_entries, offset_entries};
 
 use crate::Parsable;
 use crate::parsable::resolved;
 use std::num::NonZero;
+use time_readers::direct;
 use time_readers::rfc2822::{Numbers, place_fault, read};
 use time_record::Parsed;
 use time_values::OffsetDateTime;
@@ -77,6 +80,8 @@ impl Parsable for Rfc2822 {
 
     ghost refuses = { λ _. Refuses greatest_year };
 
+    ghost path = { λ _. direct (RefusesRfc2822 greatest_year) };
+
     fn parse_into<'a>(&self, input: &'a [u8], parsed: &mut Parsed) -> Result<&'a [u8], Parse> {
         match read::<true>(input) {
             Ok(found) => {
@@ -95,10 +100,17 @@ impl Parsable for Rfc2822 {
         input: &[u8],
         defaults: Option<Parsed>,
     ) -> Result<OffsetDateTime, Parse> {
-        resolved(&self.parse_internal(input, defaults))
+        match defaults {
+            None => direct::rfc2822(input),
+            Some(_) => resolved(&self.parse_internal(input, defaults)),
+        }
     }
 
     ghost use Rattle.time_parsing.specs.Rfc2822Laws.{rfc2822_exact};
 
     ghost exact = { λ _. rfc2822_exact greatest_year };
+
+    ghost use Rattle.time_parsing.specs.DirectLaws.{rfc2822_exact_path};
+
+    ghost exact_path = { λ _. rfc2822_exact_path };
 }

@@ -7,11 +7,14 @@ ghost use Rattle.time_values.specs.Range.{greatest_year};
 ghost use Rattle.time_values.specs.Sign.{signed_by};
 ghost use Rattle.time_values.specs.declared.month.Month.{Month as Month_};
 ghost use Rattle.time_record.specs.Record.{put_all};
+ghost use Rattle.time_readers.specs.Direct.{RefusesRfc3339};
+ghost use Rattle.time_parsing.specs.Outcome.{direct};
 ghost use Rattle.time_parsing.specs.Rfc3339.{date_entries, time_entries, offset_entries, without_offset_sign};
 
 use crate::Parsable;
 use crate::parsable::resolved;
 use std::num::NonZero;
+use time_readers::direct;
 use time_readers::rfc3339::{Numbers, place_fault, read};
 use time_record::Parsed;
 use time_values::error::Parse;
@@ -103,6 +106,8 @@ impl Parsable for Rfc3339 {
 
     ghost refuses = { λ _. Refuses greatest_year };
 
+    ghost path = { λ _. direct (RefusesRfc3339 greatest_year) };
+
     fn parse_into<'a>(&self, input: &'a [u8], parsed: &mut Parsed) -> Result<&'a [u8], Parse> {
         match read::<true>(input) {
             Ok(found) => {
@@ -121,10 +126,17 @@ impl Parsable for Rfc3339 {
         input: &[u8],
         defaults: Option<Parsed>,
     ) -> Result<OffsetDateTime, Parse> {
-        resolved(&self.parse_internal(input, defaults))
+        match defaults {
+            None => direct::rfc3339(input),
+            Some(_) => resolved(&self.parse_internal(input, defaults)),
+        }
     }
 
     ghost use Rattle.time_parsing.specs.Rfc3339Laws.{rfc3339_exact};
 
     ghost exact = { λ _. rfc3339_exact greatest_year };
+
+    ghost use Rattle.time_parsing.specs.DirectLaws.{rfc3339_exact_path};
+
+    ghost exact_path = { λ _. rfc3339_exact_path };
 }

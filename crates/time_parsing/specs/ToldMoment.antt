@@ -64,17 +64,20 @@ abbrev DatedBy : Option Row → Date → Type 0
 DatedBy row d =
     MatchOption row (◌≡◌ {A = Result Date Refusal} (Ok d) (Err insufficient)) (λ x. IsRowDate greatest_year x (Ok d))
 
-to_date : (r : Record) (row : Row) (d : Date) → first_row r ≡ Some row → HasRow greatest_year row d → IsDated greatest_year r (Ok d)
+to_date : (r : Record) (row : Row) (d : Date) → first_row r ≡ Some row → HasRow greatest_year row d
+    → IsDated greatest_year r (Ok d)
 unfolding IsDated
 to_date r row d e h = subst (λ x. DatedBy x d) (sym e) h
 
-of_date : (r : Record) (row : Row) (d : Date) → first_row r ≡ Some row → IsDated greatest_year r (Ok d) → HasRow greatest_year row d
+of_date : (r : Record) (row : Row) (d : Date) → first_row r ≡ Some row → IsDated greatest_year r (Ok d)
+    → HasRow greatest_year row d
 unfolding IsDated
 of_date r row d e h = subst (λ x. DatedBy x d) e h
 
 -- the time of a clock
 abbrev ClockGives : Clock → Time → Type 0
-ClockGives c t = Gives (time_refusal c.hour c.minute c.second c.nanosecond) (HasClock c.hour c.minute c.second c.nanosecond) (Ok t)
+ClockGives c t =
+    Gives (time_refusal c.hour c.minute c.second c.nanosecond) (HasClock c.hour c.minute c.second c.nanosecond) (Ok t)
 
 abbrev TimedBy : Option Clock → Time → Type 0
 TimedBy clock t = MatchOption clock (◌≡◌ {A = Result Time Refusal} (Ok t) (Err insufficient)) (λ c. ClockGives c t)
@@ -117,19 +120,22 @@ of_offset r s o hour minute second h =
 abbrev MomentBy : Option ℤ → Record → OffsetDateTime → Type 0
 MomentBy stamp r v =
     MatchOption stamp (IsMomentOfParts greatest_year r (Ok v))
-    (λ n. IsOkAnd {E = Refusal} (Ok v) (λ v. IsStamped greatest_year n r.subsecond (offset_date v) (offset_time v) × IsUtc (offset_of v)))
+    (λ n. IsOkAnd {E = Refusal} (Ok v)
+    (λ v. IsStamped greatest_year n r.subsecond (offset_date v) (offset_time v) × IsUtc (offset_of v)))
 
 to_parts : (r : Record) (v : OffsetDateTime) → r.unix_timestamp_nanos ≡ None → IsMomentOfParts greatest_year r (Ok v)
     → Resolution.IsMoment greatest_year r (Ok v)
 unfolding Resolution.IsMoment
 to_parts r v e h = subst (λ x. MomentBy x r v) (sym e) h
 
-of_parts : (r : Record) (v : OffsetDateTime) → r.unix_timestamp_nanos ≡ None → Resolution.IsMoment greatest_year r (Ok v)
+of_parts : (r : Record) (v : OffsetDateTime) → r.unix_timestamp_nanos ≡ None
+    → Resolution.IsMoment greatest_year r (Ok v)
     → IsMomentOfParts greatest_year r (Ok v)
 unfolding Resolution.IsMoment
 of_parts r v e h = subst (λ x. MomentBy x r v) e h
 
-pub made-resolves : (r : Record) (m : Month) (s : Said) (v : OffsetDateTime) → Tells r m s → m ≡ Dates.month (offset_date v)
+pub made-resolves : (r : Record) (m : Month) (s : Said) (v : OffsetDateTime) → Tells r m s
+    → m ≡ Dates.month (offset_date v)
     → IsMade greatest_year s v → Resolution.IsMoment greatest_year r (Ok v)
 unfolding IsMomentOfParts LeapSecondMayStand
 made-resolves r m s v t same made =
@@ -139,7 +145,8 @@ made-resolves r m s v t same made =
         or-none (date_refusal greatest_year s) (option_or (time_refusal s.hour s.minute second nanosecond)
         (offset_refusal s.offset_hour s.offset_minute (pos 0))) made.0 in
     let others =
-        or-none (time_refusal s.hour s.minute second nanosecond) (offset_refusal s.offset_hour s.offset_minute (pos 0))
+        or-none (time_refusal s.hour s.minute second nanosecond)
+        (offset_refusal s.offset_hour s.offset_minute (pos 0))
         refusals.1 in
     let row = by_month_and_day (pos s.year) m s.day in
     let date : HasParts (pos s.year) m s.day (offset_date v) = (made.1.date.year, sym same, made.1.date.day) in
@@ -193,7 +200,8 @@ accepted_ranges s none =
     let nanosecond = shown_nanosecond s in
     let clock = time_refusal s.hour s.minute second nanosecond in
     let refusals =
-        or-none (date_refusal greatest_year s) (option_or clock (offset_refusal s.offset_hour s.offset_minute (pos 0))) none in
+        or-none (date_refusal greatest_year s)
+        (option_or clock (offset_refusal s.offset_hour s.offset_minute (pos 0))) none in
     let others = or-none clock (offset_refusal s.offset_hour s.offset_minute (pos 0)) refusals.1 in
     let date =
         or-none (month_refusal s.month) (calendar_date_refusal greatest_year (pos s.year) s.month s.day) refusals.0 in
@@ -210,7 +218,8 @@ accepted_ranges s none =
     }
 
 -- a date that is there is refused by none of its parts
-dated-accepted : (s : Said) (m : Month) (d : Date) → s.year ≤ 9999 → month_number m ≡ s.month → month_refusal s.month ≡ None
+dated-accepted : (s : Said) (m : Month) (d : Date) → s.year ≤ 9999 → month_number m ≡ s.month
+    → month_refusal s.month ≡ None
     → HasParts (pos s.year) m s.day d → date_refusal greatest_year s ≡ None
 dated-accepted s m d year month named parts =
     let length : month_length (pos s.year) s.month ≡ month_length d.year (month_number d.month) =
@@ -220,10 +229,12 @@ dated-accepted s m d year month named parts =
     let high : s.day ≤ month_length (pos s.year) s.month =
         subst (λ n. n ≤ month_length (pos s.year) s.month) parts.2
         (subst (λ n. d.day ≤ n) (sym length) d.day_in.1) in
-    rw (named, le-leb s.year 9999 year, le-leb 1 s.day low, le-leb s.day (month_length (pos s.year) s.month) high) refl
+    rw (named, le-leb s.year 9999 year, le-leb 1 s.day low, le-leb s.day (month_length (pos s.year) s.month) high)
+    refl
 
 -- the parts of a moment of the record are those that are said
-by_parts : (r : Record) (m : Month) (s : Said) (v : OffsetDateTime) → Tells r m s → s.year ≤ 9999 → month_refusal s.month ≡ None
+by_parts : (r : Record) (m : Month) (s : Said) (v : OffsetDateTime) → Tells r m s → s.year ≤ 9999
+    → month_refusal s.month ≡ None
     → IsMomentOfParts greatest_year r (Ok v) → IsMade greatest_year s v
 unfolding IsMomentOfParts LeapSecondMayStand
 by_parts r m s v t year named (inl (e, refused, clash)) = absurd (Err-Ok v e clash)
@@ -235,7 +246,9 @@ by_parts r m s v t year named (inr (d, dated, inr (w, timed, inr (o, offset, jud
     let date = of_date r (by_month_and_day (pos s.year) m s.day) d t.row dated in
     let clock = given (time_refusal s.hour s.minute second nanosecond) (HasClock s.hour s.minute second nanosecond) w
         (of_time (stand_in r) (clock_said s) w t.clock timed) in
-    let parts = given (offset_refusal s.offset_hour s.offset_minute (pos 0)) (HasOffset s.offset_hour s.offset_minute (pos 0)) o
+    let parts =
+        given (offset_refusal s.offset_hour s.offset_minute (pos 0)) (HasOffset s.offset_hour s.offset_minute (pos 0))
+        o
         (of_offset r s o t.hour t.minute t.second offset) in
     let none = dated-accepted s m d year t.month named date in
     let is = judged.0 in
@@ -252,6 +265,7 @@ by_parts r m s v t year named (inr (d, dated, inr (w, timed, inr (o, offset, jud
         let at_end = judged.1 (t.leap ∙ eq-eqb s.second 60 leap) in
         rw (is.0, is.1, is.2) at_end)
 
-pub resolves-made : (r : Record) (m : Month) (s : Said) (v : OffsetDateTime) → Tells r m s → s.year ≤ 9999 → month_refusal s.month ≡ None
+pub resolves-made : (r : Record) (m : Month) (s : Said) (v : OffsetDateTime) → Tells r m s → s.year ≤ 9999
+    → month_refusal s.month ≡ None
     → Resolution.IsMoment greatest_year r (Ok v) → IsMade greatest_year s v
 resolves-made r m s v t year named moment = by_parts r m s v t year named (of_parts r v t.stamp moment)

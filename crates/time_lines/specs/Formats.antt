@@ -34,16 +34,6 @@ target_named name =
     if bytes_eq name (codes "staged") then Some target.Staged else
     if bytes_eq name (codes "timestamp") then Some target.Timestamp else None
 
--- the target, if the format supports it: `rfc3339` and `rfc2822` don't support `datetime` yet
-abbrev pub supported_target : Format → Option Target → Option Target
-supported_target format.Rfc3339 (Some target.DateTime) = None
-supported_target format.Rfc2822 (Some target.DateTime) = None
-supported_target format found = found
-
--- the target of that name, if there is one that the format supports
-abbrev pub target_for : Format → List ℕ → Option Target
-target_for format name = supported_target format (target_named name)
-
 -- a component, as a description before version 3 reads it
 abbrev pub part : Component → Tree
 part = component false

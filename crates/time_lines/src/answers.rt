@@ -38,7 +38,7 @@ fn write_value<F: Parsable, W: Write>(
     out: &mut W,
 ) -> io::Result<()>
     ensures { OnOk result
-        (Writes (IsAnswerFor greatest_year target (F.reads format.now) (F.refuses format.now) text.now)
+        (Writes (IsAnswerFor greatest_year target (F.path format.now) (F.reads format.now) (F.refuses format.now) text.now)
         (W.contents out.old) (W.contents out.new)) }
 {
     match target {
@@ -126,7 +126,7 @@ pub fn write_answer<W: Write>(line: &[u8], out: &mut W) -> io::Result<()>
     let Some(format) = find_format(format) else {
         return out.write_all(b"error: format");
     };
-    let Some(target) = find_target(format, target) else {
+    let Some(target) = find_target(target) else {
         return out.write_all(b"error: target");
     };
     write_parsed(format, target, text, out)

@@ -72,8 +72,8 @@ pub fn find_format(name: &[u8]) -> Option<Format>
     }
 }
 
-// The target of that name, if there is one.
-fn target_named(name: &[u8]) -> Option<Target>
+/// The target of that name, if there is one.
+pub fn find_target(name: &[u8]) -> Option<Target>
     ensures { result ≡ formats.target_named name.now }
 {
     if name == b"date".as_slice() {
@@ -94,16 +94,6 @@ fn target_named(name: &[u8]) -> Option<Target>
         Some(Target::Timestamp)
     } else {
         None
-    }
-}
-
-/// The target of that name, if there is one that the format supports.
-pub fn find_target(format: Format, name: &[u8]) -> Option<Target>
-    ensures { result ≡ formats.target_for format name.now }
-{
-    match (format, target_named(name)) {
-        (Format::Rfc3339 | Format::Rfc2822, Some(Target::DateTime)) => None,
-        (_, found) => found,
     }
 }
 

@@ -1,5 +1,5 @@
 -- The record of a mail date, over an empty one.
-use Rattle.std.proofs.Common.{◌≡◌, ◌≤◌, ℕ, pos, Bool, true, false, refl, sym, ap, ◌∙◌, subst, arith, List, [], Option, Some, None, Result, Ok, Err, IfSome}
+use Rattle.std.proofs.Common.{◌≡◌, ◌≤◌, ℕ, pos, Bool, true, false, refl, sym, ◌∙◌, subst, arith, List, [], Option, Some, None, Result, Ok, Err, IfSome}
 use Rattle.std.specs.Prelude.{◌==◌, if◌then◌else◌, unsigned_abs, is_none, unwrap_or}
 use Rattle.std.proofs.lemmas.Bool.{le-leb}
 use Rattle.std.proofs.lemmas.Option.{same_Some}
@@ -13,7 +13,7 @@ use Rattle.time_values.specs.declared.weekday.Weekday.{Weekday}
 use Rattle.time_values.proofs.NumberLemmas.{same_month}
 use Rattle.time_values.specs.declared.error.Parse.{Parse}
 use Rattle.time_readers.specs.Direct.{DirectRfc2822, IsDirectRfc2822, RefusesRfc2822, said_rfc2822, first_refusal}
-use Rattle.time_readers.specs.Rfc2822.{HasForm, InRanges}
+use Rattle.time_readers.specs.Rfc2822.{InRanges}
 use Rattle.time_readers.specs.declared.Sign.{Sign}
 use Rattle.time_readers.specs.declared.rfc2822.places.Numbers.{Numbers}
 use Rattle.time_readers.proofs.EachValue.{each_month}
@@ -46,37 +46,115 @@ put-recorded : (n : Numbers) (w : Option Weekday) (o : Option ℕ) (s : Option S
     → n.year ≤ 9999 → InRanges n → IfSome o (λ v. v ≤ 60)
     → put_all greatest_year (entries n) (with_leap_second (without_offset_sign empty)) ≡ Some (recorded n)
 put-recorded n None None None sw so ss year i sub =
-    rw (sw, so, ss, le-leb 1 n.day i.day.0, le-leb n.day 31 i.day.1,
-    le-leb n.year 9999 year, le-leb n.hour 23 i.hour.1, le-leb n.minute 59 i.minute.1, le-leb
-    (unsigned_abs n.offset_hour) 25 i.offset_hour.1) refl
+    rw (
+      sw,
+      so,
+      ss,
+      le-leb 1 n.day i.day.0,
+      le-leb n.day 31 i.day.1,
+      le-leb n.year 9999 year,
+      le-leb n.hour 23 i.hour.1,
+      le-leb n.minute 59 i.minute.1,
+      le-leb
+          (unsigned_abs n.offset_hour) 25 i.offset_hour.1,
+    ) refl
 put-recorded n None None (Some s) sw so ss year i sub =
-    rw (sw, so, ss, le-leb 1 n.day i.day.0, le-leb n.day 31 i.day.1, le-leb n.year 9999 year,
-    le-leb n.hour 23 i.hour.1, le-leb n.minute 59 i.minute.1, le-leb (unsigned_abs n.offset_hour) 25 i.offset_hour.1,
-    le-leb (unsigned_abs n.offset_minute) 59 i.offset_minute.1) refl
+    rw (
+      sw,
+      so,
+      ss,
+      le-leb 1 n.day i.day.0,
+      le-leb n.day 31 i.day.1,
+      le-leb n.year 9999 year,
+      le-leb n.hour 23 i.hour.1,
+      le-leb n.minute 59 i.minute.1,
+      le-leb (unsigned_abs n.offset_hour) 25 i.offset_hour.1,
+      le-leb (unsigned_abs n.offset_minute) 59 i.offset_minute.1,
+    ) refl
 put-recorded n None (Some v) None sw so ss year i sub =
-    rw (sw, so, ss, le-leb 1 n.day i.day.0, le-leb n.day 31 i.day.1, le-leb n.year 9999 year,
-    le-leb n.hour 23 i.hour.1, le-leb n.minute 59 i.minute.1, le-leb v 60 sub, le-leb (unsigned_abs n.offset_hour) 25
-    i.offset_hour.1) refl
+    rw (
+      sw,
+      so,
+      ss,
+      le-leb 1 n.day i.day.0,
+      le-leb n.day 31 i.day.1,
+      le-leb n.year 9999 year,
+      le-leb n.hour 23 i.hour.1,
+      le-leb n.minute 59 i.minute.1,
+      le-leb v 60 sub,
+      le-leb (unsigned_abs n.offset_hour) 25
+          i.offset_hour.1,
+    ) refl
 put-recorded n None (Some v) (Some s) sw so ss year i sub =
-    rw (sw, so, ss, le-leb 1 n.day i.day.0, le-leb n.day 31 i.day.1, le-leb n.year 9999 year,
-    le-leb n.hour 23 i.hour.1, le-leb n.minute 59 i.minute.1, le-leb v 60 sub, le-leb (unsigned_abs n.offset_hour) 25
-    i.offset_hour.1, le-leb (unsigned_abs n.offset_minute) 59 i.offset_minute.1) refl
+    rw (
+      sw,
+      so,
+      ss,
+      le-leb 1 n.day i.day.0,
+      le-leb n.day 31 i.day.1,
+      le-leb n.year 9999 year,
+      le-leb n.hour 23 i.hour.1,
+      le-leb n.minute 59 i.minute.1,
+      le-leb v 60 sub,
+      le-leb (unsigned_abs n.offset_hour) 25
+          i.offset_hour.1,
+      le-leb (unsigned_abs n.offset_minute) 59 i.offset_minute.1,
+    ) refl
 put-recorded n (Some w) None None sw so ss year i sub =
-    rw (sw, so, ss, le-leb 1 n.day i.day.0, le-leb n.day 31 i.day.1,
-    le-leb n.year 9999 year, le-leb n.hour 23 i.hour.1, le-leb n.minute 59 i.minute.1, le-leb
-    (unsigned_abs n.offset_hour) 25 i.offset_hour.1) refl
+    rw (
+      sw,
+      so,
+      ss,
+      le-leb 1 n.day i.day.0,
+      le-leb n.day 31 i.day.1,
+      le-leb n.year 9999 year,
+      le-leb n.hour 23 i.hour.1,
+      le-leb n.minute 59 i.minute.1,
+      le-leb
+          (unsigned_abs n.offset_hour) 25 i.offset_hour.1,
+    ) refl
 put-recorded n (Some w) None (Some s) sw so ss year i sub =
-    rw (sw, so, ss, le-leb 1 n.day i.day.0, le-leb n.day 31 i.day.1, le-leb n.year 9999 year,
-    le-leb n.hour 23 i.hour.1, le-leb n.minute 59 i.minute.1, le-leb (unsigned_abs n.offset_hour) 25 i.offset_hour.1,
-    le-leb (unsigned_abs n.offset_minute) 59 i.offset_minute.1) refl
+    rw (
+      sw,
+      so,
+      ss,
+      le-leb 1 n.day i.day.0,
+      le-leb n.day 31 i.day.1,
+      le-leb n.year 9999 year,
+      le-leb n.hour 23 i.hour.1,
+      le-leb n.minute 59 i.minute.1,
+      le-leb (unsigned_abs n.offset_hour) 25 i.offset_hour.1,
+      le-leb (unsigned_abs n.offset_minute) 59 i.offset_minute.1,
+    ) refl
 put-recorded n (Some w) (Some v) None sw so ss year i sub =
-    rw (sw, so, ss, le-leb 1 n.day i.day.0, le-leb n.day 31 i.day.1, le-leb n.year 9999 year,
-    le-leb n.hour 23 i.hour.1, le-leb n.minute 59 i.minute.1, le-leb v 60 sub, le-leb (unsigned_abs n.offset_hour) 25
-    i.offset_hour.1) refl
+    rw (
+      sw,
+      so,
+      ss,
+      le-leb 1 n.day i.day.0,
+      le-leb n.day 31 i.day.1,
+      le-leb n.year 9999 year,
+      le-leb n.hour 23 i.hour.1,
+      le-leb n.minute 59 i.minute.1,
+      le-leb v 60 sub,
+      le-leb (unsigned_abs n.offset_hour) 25
+          i.offset_hour.1,
+    ) refl
 put-recorded n (Some w) (Some v) (Some s) sw so ss year i sub =
-    rw (sw, so, ss, le-leb 1 n.day i.day.0, le-leb n.day 31 i.day.1, le-leb n.year 9999 year,
-    le-leb n.hour 23 i.hour.1, le-leb n.minute 59 i.minute.1, le-leb v 60 sub, le-leb (unsigned_abs n.offset_hour) 25
-    i.offset_hour.1, le-leb (unsigned_abs n.offset_minute) 59 i.offset_minute.1) refl
+    rw (
+      sw,
+      so,
+      ss,
+      le-leb 1 n.day i.day.0,
+      le-leb n.day 31 i.day.1,
+      le-leb n.year 9999 year,
+      le-leb n.hour 23 i.hour.1,
+      le-leb n.minute 59 i.minute.1,
+      le-leb v 60 sub,
+      le-leb (unsigned_abs n.offset_hour) 25
+          i.offset_hour.1,
+      le-leb (unsigned_abs n.offset_minute) 59 i.offset_minute.1,
+    ) refl
 
 clock-recorded : (n : Numbers) (o : Option ℕ) (b : Bool) → n.second ≡ o → (unwrap_or o 0 == 60) ≡ b
     → clock_of (stand_in (recorded n)) ≡ Some (clock_said (said_rfc2822 n))
@@ -139,11 +217,16 @@ direct-value bytes v (n, form, last, made) =
     let places = HasForm-in_places false bytes [] n form in
     let ranges = in_ranges n made.0 in
     let month : n.month ≡ Dates.month (offset_date v) =
-        same_month n.month (Dates.month (offset_date v)) (sym made.1.date.month) in
-    (recorded n, (n, (ranged_mail bytes [] n).1 (form, ranges),
-    put-recorded n n.weekday n.second n.offset_sign refl refl refl places.year.1 ranges
-    (second_of n.second ranges.second)),
-    made-resolves (recorded n) n.month (said_rfc2822 n) v (tells n (HasForm-zone false bytes [] n form)) month made)
+    same_month n.month (Dates.month (offset_date v)) (sym made.1.date.month) in (
+      recorded n,
+      (
+        n,
+        (ranged_mail bytes [] n).1 (form, ranges),
+        put-recorded n n.weekday n.second n.offset_sign refl refl refl places.year.1 ranges
+            (second_of n.second ranges.second),
+      ),
+      made-resolves (recorded n) n.month (said_rfc2822 n) v (tells n (HasForm-zone false bytes [] n form)) month made,
+    )
 
 month_named : (m : Month) → month_refusal (month_number m) ≡ None
 month_named = each_month (λ m. month_refusal (month_number m) ≡ None)
@@ -158,18 +241,21 @@ record-value bytes v (r, (n, form, put), moment) =
     let places = HasForm-in_places true bytes [] n form in
     let ranges = formed.1 in
     let told =
-        put-recorded n n.weekday n.second n.offset_sign refl refl refl places.year.1 ranges
-        (second_of n.second ranges.second) in
-    let same : r ≡ recorded n = same_Some r (recorded n) (sym put ∙ told) in
-    (n, formed.0, refl,
-    resolves-made (recorded n) n.month (said_rfc2822 n) v (tells n (HasForm-zone true bytes [] n form)) places.year.1
-    (month_named n.month) (subst (λ (x : Record). IsMoment greatest_year x (Ok v)) same moment))
+    put-recorded n n.weekday n.second n.offset_sign refl refl refl places.year.1 ranges
+    (second_of n.second ranges.second) in
+    let same : r ≡ recorded n = same_Some r (recorded n) (sym put ∙ told) in (
+      n,
+      formed.0,
+      refl,
+      resolves-made (recorded n) n.month (said_rfc2822 n) v (tells n (HasForm-zone true bytes [] n form)) places.year.1
+          (month_named n.month) (subst (λ (x : Record). IsMoment greatest_year x (Ok v)) same moment),
+    )
 
 -- the direct path's answer is the outcome of a parse
 pub direct-outcome : (bytes : List ℕ) (result : Result OffsetDateTime Parse)
     → DirectRfc2822 greatest_year bytes result
     → IsMomentOutcome greatest_year (direct (RefusesRfc2822 greatest_year)) (Reads greatest_year)
     (Refuses greatest_year) bytes None
-      (seen result)
+    (seen result)
 direct-outcome bytes (Ok v) answer = direct-value bytes v answer
 direct-outcome bytes (Err e) answer = answer

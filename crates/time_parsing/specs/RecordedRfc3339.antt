@@ -1,5 +1,5 @@
 -- The record of a text of RFC 3339, over an empty one.
-use Rattle.std.proofs.Common.{◌≡◌, ◌≢◌, ◌≤◌, ℕ, pos, Bool, true, false, refl, sym, ap, ◌∙◌, subst, inr, arith, List, [], Option, Some, None, Result, Ok, Err, IfSome}
+use Rattle.std.proofs.Common.{◌≡◌, ◌≢◌, ◌≤◌, ℕ, pos, Bool, true, false, refl, sym, ◌∙◌, subst, arith, List, [], Option, Some, None, Result, Ok, Err, IfSome}
 use Rattle.std.specs.Prelude.{◌==◌, if◌then◌else◌, unsigned_abs, nat_le}
 use Rattle.std.proofs.lemmas.Bool.{le-leb}
 use Rattle.std.proofs.lemmas.Bool.Decides.{nat_tests}
@@ -13,7 +13,7 @@ use Rattle.time_values.specs.declared.month.Month.{Month}
 use Rattle.time_values.specs.declared.offset_date_time.OffsetDateTime.{OffsetDateTime}
 use Rattle.time_values.specs.declared.error.Parse.{Parse}
 use Rattle.time_readers.specs.Direct.{DirectRfc3339, IsDirectRfc3339, RefusesRfc3339, said_rfc3339, first_refusal, minute_refusal}
-use Rattle.time_readers.specs.Rfc3339.{HasForm, InRanges}
+use Rattle.time_readers.specs.Rfc3339.{InRanges}
 use Rattle.time_readers.specs.declared.rfc3339.Numbers.{Numbers}
 use Rattle.time_readers.proofs.Keeping.{HasForm-in_places}
 use Rattle.time_readers.proofs.Made.{minute_stands}
@@ -48,22 +48,60 @@ put-recorded : (n : Numbers) (m : Month) (o : Option ℕ) (u : Bool) → n.subse
     → IfSome o (λ v. v ≤ 999999999) → n.offset_hour ≤ 25
     → put_all greatest_year (entries n m) (with_leap_second (without_offset_sign empty)) ≡ Some (recorded n m)
 put-recorded n m None true so su year i sub hour =
-    rw (so, su, le-leb n.year 9999 year, le-leb 1 n.day i.day.0, le-leb n.day 31 i.day.1, le-leb n.hour 23 i.hour.1,
-    le-leb n.minute 59 i.minute.1, le-leb n.second 60 i.second.1, near n.offset_is_negative n.offset_hour 25 hour,
-    near n.offset_is_negative n.offset_minute 59 i.offset_minute.1) refl
+    rw (
+      so,
+      su,
+      le-leb n.year 9999 year,
+      le-leb 1 n.day i.day.0,
+      le-leb n.day 31 i.day.1,
+      le-leb n.hour 23 i.hour.1,
+      le-leb n.minute 59 i.minute.1,
+      le-leb n.second 60 i.second.1,
+      near n.offset_is_negative n.offset_hour 25 hour,
+      near n.offset_is_negative n.offset_minute 59 i.offset_minute.1,
+    ) refl
 put-recorded n m None false so su year i sub hour =
-    rw (so, su, le-leb n.year 9999 year, le-leb 1 n.day i.day.0, le-leb n.day 31 i.day.1, le-leb n.hour 23 i.hour.1,
-    le-leb n.minute 59 i.minute.1, le-leb n.second 60 i.second.1, near n.offset_is_negative n.offset_hour 25 hour,
-    near n.offset_is_negative n.offset_minute 59 i.offset_minute.1) refl
+    rw (
+      so,
+      su,
+      le-leb n.year 9999 year,
+      le-leb 1 n.day i.day.0,
+      le-leb n.day 31 i.day.1,
+      le-leb n.hour 23 i.hour.1,
+      le-leb n.minute 59 i.minute.1,
+      le-leb n.second 60 i.second.1,
+      near n.offset_is_negative n.offset_hour 25 hour,
+      near n.offset_is_negative n.offset_minute 59 i.offset_minute.1,
+    ) refl
 put-recorded n m (Some v) true so su year i sub hour =
-    rw (so, su, le-leb n.year 9999 year, le-leb 1 n.day i.day.0, le-leb n.day 31 i.day.1, le-leb n.hour 23 i.hour.1,
-    le-leb n.minute 59 i.minute.1, le-leb n.second 60 i.second.1, le-leb v 999999999 sub,
-    near n.offset_is_negative n.offset_hour 25 hour, near n.offset_is_negative n.offset_minute 59 i.offset_minute.1)
+    rw (
+      so,
+      su,
+      le-leb n.year 9999 year,
+      le-leb 1 n.day i.day.0,
+      le-leb n.day 31 i.day.1,
+      le-leb n.hour 23 i.hour.1,
+      le-leb n.minute 59 i.minute.1,
+      le-leb n.second 60 i.second.1,
+      le-leb v 999999999 sub,
+      near n.offset_is_negative n.offset_hour 25 hour,
+      near n.offset_is_negative n.offset_minute 59 i.offset_minute.1,
+    )
     refl
 put-recorded n m (Some v) false so su year i sub hour =
-    rw (so, su, le-leb n.year 9999 year, le-leb 1 n.day i.day.0, le-leb n.day 31 i.day.1, le-leb n.hour 23 i.hour.1,
-    le-leb n.minute 59 i.minute.1, le-leb n.second 60 i.second.1, le-leb v 999999999 sub,
-    near n.offset_is_negative n.offset_hour 25 hour, near n.offset_is_negative n.offset_minute 59 i.offset_minute.1)
+    rw (
+      so,
+      su,
+      le-leb n.year 9999 year,
+      le-leb 1 n.day i.day.0,
+      le-leb n.day 31 i.day.1,
+      le-leb n.hour 23 i.hour.1,
+      le-leb n.minute 59 i.minute.1,
+      le-leb n.second 60 i.second.1,
+      le-leb v 999999999 sub,
+      near n.offset_is_negative n.offset_hour 25 hour,
+      near n.offset_is_negative n.offset_minute 59 i.offset_minute.1,
+    )
     refl
 
 clock-recorded : (n : Numbers) (m : Month) (b : Bool) (o : Option ℕ) → (n.second == 60) ≡ b → n.subsecond ≡ o
@@ -113,11 +151,18 @@ direct-value bytes v (n, form, last, made) =
     let minute = minute_within n last in
     let places = HasForm-in_places false bytes [] n form in
     let ranges = in_ranges n places.month_not_zero made.0 minute in
-    let month = made.1.date.month in
-    (recorded n m, (n, m, (ranged_forms bytes [] n).1 (form, ranges), month,
-    put-recorded n m n.subsecond n.is_utc refl refl places.year ranges places.subsecond
-    (omega (arith, places.offset_hour))),
-    made-resolves (recorded n m) m (said_rfc3339 n) v (tells n m month) refl made)
+    let month = made.1.date.month in (
+      recorded n m,
+      (
+        n,
+        m,
+        (ranged_forms bytes [] n).1 (form, ranges),
+        month,
+        put-recorded n m n.subsecond n.is_utc refl refl places.year ranges places.subsecond
+            (omega (arith, places.offset_hour)),
+      ),
+      made-resolves (recorded n m) m (said_rfc3339 n) v (tells n m month) refl made,
+    )
 
 -- and the record's value that of the direct path
 pub record-value : (bytes : List ℕ) (v : OffsetDateTime)
@@ -128,19 +173,22 @@ record-value bytes v (r, (n, m, form, month, put), moment) =
     let places = HasForm-in_places true bytes [] n form in
     let ranges = formed.1 in
     let told =
-        put-recorded n m n.subsecond n.is_utc refl refl places.year ranges places.subsecond
-        (omega (arith, places.offset_hour)) in
+    put-recorded n m n.subsecond n.is_utc refl refl places.year ranges places.subsecond
+    (omega (arith, places.offset_hour)) in
     let same : r ≡ recorded n m = same_Some r (recorded n m) (sym put ∙ told) in
-    let named : month_refusal n.month ≡ None = rw (le-leb n.month 12 ranges.month.1) refl in
-    (n, formed.0, minute_stands n ranges.offset_minute.1,
-    resolves-made (recorded n m) m (said_rfc3339 n) v (tells n m month) places.year named
-    (subst (λ (x : Record). IsMoment greatest_year x (Ok v)) same moment))
+    let named : month_refusal n.month ≡ None = rw (le-leb n.month 12 ranges.month.1) refl in (
+      n,
+      formed.0,
+      minute_stands n ranges.offset_minute.1,
+      resolves-made (recorded n m) m (said_rfc3339 n) v (tells n m month) places.year named
+          (subst (λ (x : Record). IsMoment greatest_year x (Ok v)) same moment),
+    )
 
 -- the direct path's answer is the outcome of a parse
 pub direct-outcome : (bytes : List ℕ) (result : Result OffsetDateTime Parse)
     → DirectRfc3339 greatest_year bytes result
     → IsMomentOutcome greatest_year (direct (RefusesRfc3339 greatest_year)) (Reads greatest_year)
     (Refuses greatest_year) bytes None
-      (seen result)
+    (seen result)
 direct-outcome bytes (Ok v) answer = direct-value bytes v answer
 direct-outcome bytes (Err e) answer = answer

@@ -1,27 +1,25 @@
 -- A record that tells of a moment what a text says of it resolves to that moment.
-use Rattle.std.proofs.Common.{◌≡◌, ◌≢◌, ◌≤◌, ℕ, ℤ, pos, Bool, true, false, refl, sym, ap, ◌∙◌, subst, inl, inr, arith, Option, Some, None, Result, Ok, Err, IsTrue, MatchOption, IsOkAnd}
-use Rattle.std.specs.Prelude.{◌==◌, if◌then◌else◌, unsigned_abs, nat_le, codes}
+use Rattle.std.proofs.Common.{◌≡◌, ◌≤◌, ℕ, ℤ, pos, refl, sym, ap, ◌∙◌, subst, inl, inr, arith, Option, Some, None, Result, Ok, Err, IsTrue, MatchOption, IsOkAnd}
+use Rattle.std.specs.Prelude.{◌==◌, if◌then◌else◌, unsigned_abs}
 use Rattle.std.proofs.lemmas.Bool.Decides.{nat_tests}
-use Rattle.std.specs.Int.{IsInRange}
 use Rattle.std.specs.Option.{option_or}
-use Rattle.std.proofs.lemmas.Bool.{le-leb, leb-true, eqb-true, eq-eqb, and_from}
+use Rattle.std.proofs.lemmas.Bool.{le-leb, eqb-true, eq-eqb}
 use Rattle.time_values.specs.Calendar.{month_length}
 use Rattle.time_values.specs.DateRefusals.{calendar_date_refusal}
 use Rattle.time_values.specs.Dates as Dates
 use Rattle.time_values.specs.Dates.{HasParts}
-use Rattle.time_values.specs.Instants.{IsLeapSecondMoment}
 use Rattle.time_values.specs.Month.{month_number, month_refusal}
-use Rattle.time_values.specs.Moments.{offset_date, offset_time, offset_of, offset_instant}
+use Rattle.time_values.specs.Moments.{offset_date, offset_time, offset_of}
 use Rattle.time_values.specs.Offsets.{HasOffset, IsUtc, offset_refusal}
 use Rattle.time_values.specs.Range.{greatest_year}
-use Rattle.time_values.specs.Refusal.{Refusal, range, insufficient}
+use Rattle.time_values.specs.Refusal.{Refusal, insufficient}
 use Rattle.time_values.specs.Times.{HasClock, time_refusal}
 use Rattle.time_values.specs.declared.date.Date.{Date}
 use Rattle.time_values.specs.declared.month.Month.{Month}
 use Rattle.time_values.specs.declared.offset_date_time.OffsetDateTime.{OffsetDateTime}
 use Rattle.time_values.specs.declared.time.Time.{Time}
 use Rattle.time_values.specs.declared.utc_offset.UtcOffset.{UtcOffset}
-use Rattle.time_readers.specs.Direct.{shown_second, shown_nanosecond, date_refusal, first_refusal, HasDate, IsMoment, LeapSecondMayStand, IsMade}
+use Rattle.time_readers.specs.Direct.{shown_second, shown_nanosecond, date_refusal, first_refusal, HasDate, LeapSecondMayStand, IsMade}
 use Rattle.time_readers.specs.declared.direct.Said.{Said}
 use Rattle.time_record.specs.Record.{Record}
 use Rattle.time_record.specs.Resolution as Resolution
@@ -142,23 +140,32 @@ made-resolves r m s v t same made =
     let second = shown_second s in
     let nanosecond = shown_nanosecond s in
     let refusals =
-        or-none (date_refusal greatest_year s) (option_or (time_refusal s.hour s.minute second nanosecond)
-        (offset_refusal s.offset_hour s.offset_minute (pos 0))) made.0 in
+    or-none (date_refusal greatest_year s) (option_or (time_refusal s.hour s.minute second nanosecond)
+    (offset_refusal s.offset_hour s.offset_minute (pos 0))) made.0 in
     let others =
-        or-none (time_refusal s.hour s.minute second nanosecond)
-        (offset_refusal s.offset_hour s.offset_minute (pos 0))
-        refusals.1 in
+    or-none (time_refusal s.hour s.minute second nanosecond)
+    (offset_refusal s.offset_hour s.offset_minute (pos 0))
+    refusals.1 in
     let row = by_month_and_day (pos s.year) m s.day in
     let date : HasParts (pos s.year) m s.day (offset_date v) = (made.1.date.year, sym same, made.1.date.day) in
     let clock = accepted (time_refusal s.hour s.minute second nanosecond) (HasClock s.hour s.minute second nanosecond)
-        (offset_time v) others.0 made.1.clock in
+    (offset_time v) others.0 made.1.clock in
     let offset = accepted (offset_refusal s.offset_hour s.offset_minute (pos 0))
-        (HasOffset s.offset_hour s.offset_minute (pos 0)) (offset_of v) others.1 made.1.offset in
+    (HasOffset s.offset_hour s.offset_minute (pos 0)) (offset_of v) others.1 made.1.offset in
     to_parts r v t.stamp
-    (inr (offset_date v, to_date r row (offset_date v) t.row date,
-    inr (offset_time v, to_time (stand_in r) (clock_said s) (offset_time v) t.clock clock,
-    inr (offset_of v, to_offset r s (offset_of v) t.hour t.minute t.second offset,
-    ((refl, refl, refl), λ leap. made.2 (leap_told r s t.leap leap))))))
+    (inr (
+      offset_date v,
+      to_date r row (offset_date v) t.row date,
+      inr (
+        offset_time v,
+        to_time (stand_in r) (clock_said s) (offset_time v) t.clock clock,
+        inr (
+          offset_of v,
+          to_offset r s (offset_of v) t.hour t.minute t.second offset,
+          ((refl, refl, refl), λ leap. made.2 (leap_told r s t.leap leap)),
+        ),
+      ),
+    ))
 
 Err-Ok : {A : Type 0} (a : A) (e : Refusal) → ◌≡◌ {A = Result A Refusal} (Ok a) (Err e) → ⊥
 Err-Ok a e h = cc
@@ -200,11 +207,11 @@ accepted_ranges s none =
     let nanosecond = shown_nanosecond s in
     let clock = time_refusal s.hour s.minute second nanosecond in
     let refusals =
-        or-none (date_refusal greatest_year s)
-        (option_or clock (offset_refusal s.offset_hour s.offset_minute (pos 0))) none in
+    or-none (date_refusal greatest_year s)
+    (option_or clock (offset_refusal s.offset_hour s.offset_minute (pos 0))) none in
     let others = or-none clock (offset_refusal s.offset_hour s.offset_minute (pos 0)) refusals.1 in
     let date =
-        or-none (month_refusal s.month) (calendar_date_refusal greatest_year (pos s.year) s.month s.day) refusals.0 in
+    or-none (month_refusal s.month) (calendar_date_refusal greatest_year (pos s.year) s.month s.day) refusals.0 in
     let day = day_accepted (pos s.year) s.month s.day date.1 in
     let offset = offset_accepted s.offset_hour s.offset_minute others.1 in
     record {
@@ -223,12 +230,12 @@ dated-accepted : (s : Said) (m : Month) (d : Date) → s.year ≤ 9999 → month
     → HasParts (pos s.year) m s.day d → date_refusal greatest_year s ≡ None
 dated-accepted s m d year month named parts =
     let length : month_length (pos s.year) s.month ≡ month_length d.year (month_number d.month) =
-        ap (λ y. month_length y s.month) (sym parts.0)
-        ∙ ap (month_length d.year) (sym month ∙ ap month_number (sym parts.1)) in
+    ap (λ y. month_length y s.month) (sym parts.0)
+    ∙ ap (month_length d.year) (sym month ∙ ap month_number (sym parts.1)) in
     let low : 1 ≤ s.day = subst (λ n. 1 ≤ n) parts.2 d.day_in.0 in
     let high : s.day ≤ month_length (pos s.year) s.month =
-        subst (λ n. n ≤ month_length (pos s.year) s.month) parts.2
-        (subst (λ n. d.day ≤ n) (sym length) d.day_in.1) in
+    subst (λ n. n ≤ month_length (pos s.year) s.month) parts.2
+    (subst (λ n. d.day ≤ n) (sym length) d.day_in.1) in
     rw (named, le-leb s.year 9999 year, le-leb 1 s.day low, le-leb s.day (month_length (pos s.year) s.month) high)
     refl
 
@@ -245,25 +252,28 @@ by_parts r m s v t year named (inr (d, dated, inr (w, timed, inr (o, offset, jud
     let nanosecond = shown_nanosecond s in
     let date = of_date r (by_month_and_day (pos s.year) m s.day) d t.row dated in
     let clock = given (time_refusal s.hour s.minute second nanosecond) (HasClock s.hour s.minute second nanosecond) w
-        (of_time (stand_in r) (clock_said s) w t.clock timed) in
+    (of_time (stand_in r) (clock_said s) w t.clock timed) in
     let parts =
-        given (offset_refusal s.offset_hour s.offset_minute (pos 0)) (HasOffset s.offset_hour s.offset_minute (pos 0))
-        o
-        (of_offset r s o t.hour t.minute t.second offset) in
+    given (offset_refusal s.offset_hour s.offset_minute (pos 0)) (HasOffset s.offset_hour s.offset_minute (pos 0))
+    o
+    (of_offset r s o t.hour t.minute t.second offset) in
     let none = dated-accepted s m d year t.month named date in
     let is = judged.0 in
     let told : HasDate s (offset_date v) = record {
       year = ap Dates.year is.0 ∙ date.0;
       month = ap (λ x. month_number (Dates.month x)) is.0 ∙ (ap month_number date.1 ∙ t.month);
       day = ap Dates.day is.0 ∙ date.2;
-    } in
-    (rw (none, clock.0, parts.0) refl, record {
-      date = told;
-      clock = subst (HasClock s.hour s.minute second nanosecond) (sym is.1) clock.1;
-      offset = subst (HasOffset s.offset_hour s.offset_minute (pos 0)) (sym is.2) parts.1;
-    }, λ leap.
-        let at_end = judged.1 (t.leap ∙ eq-eqb s.second 60 leap) in
-        rw (is.0, is.1, is.2) at_end)
+    } in (
+      rw (none, clock.0, parts.0) refl,
+      record {
+        date = told;
+        clock = subst (HasClock s.hour s.minute second nanosecond) (sym is.1) clock.1;
+        offset = subst (HasOffset s.offset_hour s.offset_minute (pos 0)) (sym is.2) parts.1;
+      },
+      λ leap.
+          let at_end = judged.1 (t.leap ∙ eq-eqb s.second 60 leap) in
+          rw (is.0, is.1, is.2) at_end,
+    )
 
 pub resolves-made : (r : Record) (m : Month) (s : Said) (v : OffsetDateTime) → Tells r m s → s.year ≤ 9999
     → month_refusal s.month ≡ None

@@ -51,9 +51,12 @@ pub along : {P N : Type 0} (A B : Format P N) (In : P → N → Type 0)
 unfolding Stand
 along A B In asked [] n m bytes rest back all s = s
 along A B In asked (p ∷ ps) n m bytes rest back all s =
-    let here = back.0 s.1 m s.0 rest s.3 (all p) in
-    (s.0, s.1, (s.2.0, s.2.1, asked p n s.1 s.2.0 s.0 here s.2.2),
-    along A B In asked ps s.1 m s.0 rest back.1 all s.3)
+    let here = back.0 s.1 m s.0 rest s.3 (all p) in (
+      s.0,
+      s.1,
+      (s.2.0, s.2.1, asked p n s.1 s.2.0 s.0 here s.2.2),
+      along A B In asked ps s.1 m s.0 rest back.1 all s.3,
+    )
 
 -- the numbers that a predicate looks at are kept by the places behind
 pub back_by : {P N X : Type 0} (A : Format P N) (with : P → N → N → N) (f : N → X) (Q : X → Type 0) → Alone A with

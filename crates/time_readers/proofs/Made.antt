@@ -49,9 +49,9 @@ pub behind : {P N : Type 0} (form : Form N) (fails : List ℕ → P → Type 0) 
     (says : N → Said) (Y : ℕ) (bytes rest : List ℕ) (n : N) (result : Result OffsetDateTime Parse)
     → form bytes rest n → last n ≡ None
     → MatchResult result (λ v. (rest ≡ []) × IsMade Y (says n) v)
-      (λ e. IsRefusedBehind Y None (says n) rest (refusal_of e))
+    (λ e. IsRefusedBehind Y None (says n) rest (refusal_of e))
     → MatchResult result (λ v. IsDirect form last says Y bytes v)
-      (λ e. RefusesDirectly form fails fault last says Y bytes (refusal_of e))
+    (λ e. RefusesDirectly form fails fault last says Y bytes (refusal_of e))
 behind form fails fault last says Y bytes rest n (Ok v) stands none made =
     (n, subst (λ r. form bytes r n) made.0 stands, none, made.1)
 behind form fails fault last says Y bytes rest n (Err e) stands none refused = inr (rest, (n, stands, rw none refused))

@@ -1,8 +1,6 @@
 -- A direct path has one answer.
-use Rattle.std.proofs.Common.{◌≡◌, ◌∙◌, ◌⊎◌, ℕ, List, [], ◌∷◌, pos, sym, ap, subst, inl, inr, Option, Some, None}
-use Rattle.time_values.specs.Instants.{IsLeapSecondMoment}
+use Rattle.std.proofs.Common.{◌≡◌, ◌∙◌, ℕ, List, [], ◌∷◌, pos, sym, ap, subst, inl, inr, Option, Some, None}
 use Rattle.time_values.specs.Moments.{offset_date, offset_time, offset_of}
-use Rattle.time_values.specs.Month.{month_number}
 use Rattle.time_values.specs.Range.{greatest_year}
 use Rattle.time_values.specs.Refusal.{Refusal}
 use Rattle.time_values.specs.declared.offset_date_time.OffsetDateTime.{OffsetDateTime}
@@ -62,7 +60,7 @@ module _ {P N : Type 0} (A : Format P N) (ps : List P) (start : N) (fault : P �
   one_refusal bytes e f (inr a) (inr b) =
       let same = (one bytes).one_reading a.0 b.0 a.1.0 b.1.0 a.1.1 b.1.1 in
       let here = subst (λ n. IsRefusedBehind greatest_year (last n) (says n) b.0 e) same.1
-          (subst (λ r. IsRefusedBehind greatest_year (last a.1.0) (says a.1.0) r e) same.0 a.1.2) in
+      (subst (λ r. IsRefusedBehind greatest_year (last a.1.0) (says a.1.0) r e) same.0 a.1.2) in
       one_behind (last b.1.0) (says b.1.0) b.0 e f here b.1.2
 
   one_value : (bytes : List ℕ) (v w : OffsetDateTime) → IsDirect (Stand A ps start) last says greatest_year bytes v
@@ -77,7 +75,7 @@ module _ {P N : Type 0} (A : Format P N) (ps : List P) (start : N) (fault : P �
   never_both bytes v e a (inr b) =
       let same = (one bytes).one_reading b.0 [] b.1.0 a.0 b.1.1 a.1 in
       let here = subst (λ n. IsRefusedBehind greatest_year (last n) (says n) [] e) same.1
-          (subst (λ r. IsRefusedBehind greatest_year (last b.1.0) (says b.1.0) r e) same.0 b.1.2) in
+      (subst (λ r. IsRefusedBehind greatest_year (last b.1.0) (says b.1.0) r e) same.0 b.1.2) in
       made_or_behind (last a.0) (says a.0) v e a.2 a.3 here
 
   pub one_direct : OneDirect (IsDirect (Stand A ps start) last says greatest_year)

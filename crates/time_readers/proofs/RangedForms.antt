@@ -1,5 +1,5 @@
 -- Texts of RFC 3339 with ranges are those without, whose numbers lie in the ranges.
-use Rattle.std.proofs.Common.{◌≡◌, ℕ, List, [], ◌∷◌, ap, drop, subst, rules, Bool, true, false}
+use Rattle.std.proofs.Common.{ℕ, List, [], ◌∷◌, ap, drop, subst, rules, Bool, true, false}
 use Rattle.time_readers.specs.Laws.{RangedForms}
 use Rattle.time_readers.specs.Places.{Stand}
 use Rattle.time_readers.specs.Ranged.{IsWithin}
@@ -72,15 +72,49 @@ behind : {X : Type 0} (f : Numbers → X) (Q : X → Type 0) (ps : List Place) �
 behind f Q = back_by (Asks false) with_place f Q (alone false)
 
 back : Back (Asks false) In places
-back =
-    (λ k m b r s i. tt, (λ k m b r s i. tt,
-    (behind (λ n. n.month) (IsWithin true 1 12) (drop 3 places) (search rules), (λ k m b r s i. tt,
-    (behind (λ n. n.day) (IsWithin true 1 31) (drop 5 places) (search rules), (λ k m b r s i. tt,
-    (behind (λ n. n.hour) (IsWithin true 0 23) (drop 7 places) (search rules), (λ k m b r s i. tt,
-    (behind (λ n. n.minute) (IsWithin true 0 59) (drop 9 places) (search rules), (λ k m b r s i. tt,
-    (behind (λ n. n.second) (IsWithin true 0 60) (drop 11 places) (search rules), (λ k m b r s i. tt,
-    (λ k m b r s i. tt, (λ k m b r s i. tt,
-    (behind (λ n. n.offset_minute) (IsWithin true 0 59) [] tt, tt)))))))))))))))
+back = (
+  λ k m b r s i. tt,
+  (
+    λ k m b r s i. tt,
+    (
+      behind (λ n. n.month) (IsWithin true 1 12) (drop 3 places) (search rules),
+      (
+        λ k m b r s i. tt,
+        (
+          behind (λ n. n.day) (IsWithin true 1 31) (drop 5 places) (search rules),
+          (
+            λ k m b r s i. tt,
+            (
+              behind (λ n. n.hour) (IsWithin true 0 23) (drop 7 places) (search rules),
+              (
+                λ k m b r s i. tt,
+                (
+                  behind (λ n. n.minute) (IsWithin true 0 59) (drop 9 places) (search rules),
+                  (
+                    λ k m b r s i. tt,
+                    (
+                      behind (λ n. n.second) (IsWithin true 0 60) (drop 11 places) (search rules),
+                      (
+                        λ k m b r s i. tt,
+                        (
+                          λ k m b r s i. tt,
+                          (
+                            λ k m b r s i. tt,
+                            (behind (λ n. n.offset_minute) (IsWithin true 0 59) [] tt, tt),
+                          ),
+                        ),
+                      ),
+                    ),
+                  ),
+                ),
+              ),
+            ),
+          ),
+        ),
+      ),
+    ),
+  ),
+)
 
 all_back : (ps : List Place) → Back (Asks true) (λ p n. Unit {0}) ps
 all_back [] = tt
@@ -110,6 +144,10 @@ in_ranges bytes rest n s =
 
 pub ranged_forms : RangedForms (HasForm true) (HasForm false) InRanges
 ranged_forms bytes rest n = (
-    λ s. (along (Asks true) (Asks false) (λ p m. Unit {0}) (λ p m k text after i a. formed p m k text after a) places
-        nothing_read n bytes rest (all_back places) (λ p. tt) s, in_ranges bytes rest n s),
-    λ s. along (Asks false) (Asks true) In ranged places nothing_read n bytes rest back (in_place n s.1) s.0)
+  λ s. (
+    along (Asks true) (Asks false) (λ p m. Unit {0}) (λ p m k text after i a. formed p m k text after a) places
+        nothing_read n bytes rest (all_back places) (λ p. tt) s,
+    in_ranges bytes rest n s,
+  ),
+  λ s. along (Asks false) (Asks true) In ranged places nothing_read n bytes rest back (in_place n s.1) s.0,
+)

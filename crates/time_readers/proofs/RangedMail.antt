@@ -1,5 +1,5 @@
 -- Mail dates with ranges are those without, whose numbers lie in the ranges.
-use Rattle.std.proofs.Common.{◌≡◌, ◌⊎◌, ℕ, List, [], ◌∷◌, ap, sym, ◌∙◌, drop, subst, inl, inr, rules, Bool, true, false, Option, Some, None, IfSome, pos, unsigned_abs}
+use Rattle.std.proofs.Common.{◌⊎◌, ℕ, List, [], ◌∷◌, ap, drop, subst, inl, inr, rules, Bool, true, false, Option, Some, None, IfSome, pos, unsigned_abs}
 use Rattle.time_values.specs.Sign.{signed_by}
 use Rattle.time_readers.specs.Bytes.{is_negative}
 use Rattle.time_readers.specs.Laws.{RangedForms}
@@ -118,16 +118,49 @@ behind : {X : Type 0} (f : Numbers → X) (Q : X → Type 0) (ps : List Place) �
 behind f Q = back_by (Asks false) with_place f Q (alone false)
 
 back : Back (Asks false) In places
-back =
-    (λ k m b r s i. tt, (behind (λ n. n.day) (IsWithin true 1 31) (drop 2 places) (search rules),
-    (λ k m b r s i. tt, (λ k m b r s i. tt, (λ k m b r s i. tt, (λ k m b r s i. tt, (λ k m b r s i. tt,
-    (behind (λ n. n.hour) (IsWithin true 0 23) (drop 8 places) (search rules), (λ k m b r s i. tt,
-    (behind (λ n. n.minute) (IsWithin true 0 59) (drop 10 places) (search rules),
-    (behind (λ n. n.second) (λ v. IfSome v (IsWithin true 0 60)) (drop 11 places) (search rules),
-    (λ k m b r s i. tt,
-    (behind (λ n. n.offset_hour) (λ v. IsWithin true 0 25 (unsigned_abs v)) (drop 13 places) (search rules),
-    (behind (λ n. n.offset_minute) (λ v. IsWithin true 0 59 (unsigned_abs v)) (drop 14 places) (search rules),
-    (λ k m b r s i. tt, tt)))))))))))))))
+back = (
+  λ k m b r s i. tt,
+  (
+    behind (λ n. n.day) (IsWithin true 1 31) (drop 2 places) (search rules),
+    (
+      λ k m b r s i. tt,
+      (
+        λ k m b r s i. tt,
+        (
+          λ k m b r s i. tt,
+          (
+            λ k m b r s i. tt,
+            (
+              λ k m b r s i. tt,
+              (
+                behind (λ n. n.hour) (IsWithin true 0 23) (drop 8 places) (search rules),
+                (
+                  λ k m b r s i. tt,
+                  (
+                    behind (λ n. n.minute) (IsWithin true 0 59) (drop 10 places) (search rules),
+                    (
+                      behind (λ n. n.second) (λ v. IfSome v (IsWithin true 0 60)) (drop 11 places) (search rules),
+                      (
+                        λ k m b r s i. tt,
+                        (
+                          behind (λ n. n.offset_hour) (λ v. IsWithin true 0 25 (unsigned_abs v)) (drop 13 places) (search rules),
+                          (
+                            behind (λ n. n.offset_minute) (λ v. IsWithin true 0 59 (unsigned_abs v)) (drop 14 places) (search rules),
+                            (λ k m b r s i. tt, tt),
+                          ),
+                        ),
+                      ),
+                    ),
+                  ),
+                ),
+              ),
+            ),
+          ),
+        ),
+      ),
+    ),
+  ),
+)
 
 all_back : (ps : List Place) → Back (Asks true) (λ p n. Unit {0}) ps
 all_back [] = tt
@@ -164,6 +197,10 @@ in_ranges bytes rest n s =
 
 pub ranged_mail : RangedForms (HasForm true) (HasForm false) InRanges
 ranged_mail bytes rest n = (
-    λ s. (along (Asks true) (Asks false) (λ p m. Unit {0}) (λ p m k text after i a. formed p m k text after a) places
-        nothing_read n bytes rest (all_back places) (λ p. tt) s, in_ranges bytes rest n s),
-    λ s. along (Asks false) (Asks true) In ranged places nothing_read n bytes rest back (in_place n s.1) s.0)
+  λ s. (
+    along (Asks true) (Asks false) (λ p m. Unit {0}) (λ p m k text after i a. formed p m k text after a) places
+        nothing_read n bytes rest (all_back places) (λ p. tt) s,
+    in_ranges bytes rest n s,
+  ),
+  λ s. along (Asks false) (Asks true) In ranged places nothing_read n bytes rest back (in_place n s.1) s.0,
+)

@@ -77,8 +77,8 @@ abbrev pub IsDirect : {N : Type 0} → Form N → (N → Option Refusal) → (N 
 IsDirect {N} form last says Y bytes v = (n : N) × form bytes [] n × (last n ≡ None) × IsMade Y (says n) v
 
 -- the refusal of the first place that doesn't have its form, or else what is refused behind them all
-abbrev pub RefusesDirectly : {P N : Type 0} → Form N → (List ℕ → P → Type 0) → (P → Refusal) → (N → Option Refusal) → (N → Said)
-    → ℕ → List ℕ → Refusal → Type 0
+abbrev pub RefusesDirectly : {P N : Type 0} → Form N → (List ℕ → P → Type 0) → (P → Refusal) → (N → Option Refusal)
+    → (N → Said) → ℕ → List ℕ → Refusal → Type 0
 RefusesDirectly {P} {N} form fails fault last says Y bytes e =
     ((p : P) × fails bytes p × (e ≡ fault p))
     ⊎ ((rest : List ℕ) × ((n : N) × form bytes rest n × IsRefusedBehind Y (last n) (says n) rest e))

@@ -30,7 +30,11 @@ const BY_RFC3339: [(&str, &str, &str); 12] = [
     ),
     ("timestamp", "1970-01-01T00:00:00.000000001Z", "1\n"),
     ("timestamp", "1969-12-31T23:59:59Z", "-1000000000\n"),
-    ("datetime", "2021-01-02T03:04:05Z", "error: target\n"),
+    (
+        "datetime",
+        "2021-01-02T03:04:05Z",
+        "2021-01-02 03:04:05.000000000 +00:00:00\n",
+    ),
     (
         "utc",
         "9999-12-31T23:59:59.999999999-23:59",
@@ -80,7 +84,11 @@ const BY_RFC2822: [(&str, &str, &str); 12] = [
         "2021-01-02 03:04:00.000000000\n",
     ),
     ("timestamp", "1 Jan 1970 00:01 -0001", "120000000000\n"),
-    ("datetime", "02 Jan 2021 03:04 GMT", "error: target\n"),
+    (
+        "datetime",
+        "02 Jan 2021 03:04 GMT",
+        "2021-01-02 03:04:00.000000000 +00:00:00\n",
+    ),
     ("staged", "02 Jan 2021\r03:04 +0000", LITERAL),
     (
         "staged",
@@ -260,6 +268,115 @@ const BY_LOCAL: [(&str, &str, &str); 9] = [
         "error: the 'offset hour' component could not be parsed\n",
     ),
 ];
+
+const DIRECT_3339: [(&str, &str, &str); 12] = [
+    (
+        "datetime",
+        "1985-04-12T23:20:50.52Z",
+        "1985-04-12 23:20:50.520000000 +00:00:00\n",
+    ),
+    (
+        "datetime",
+        "1990-12-31T15:59:60-08:00",
+        "1990-12-31 15:59:59.999999999 -08:00:00\n",
+    ),
+    (
+        "datetime",
+        "1990-12-30T23:59:60Z",
+        "error: second is out of range for the other components\n",
+    ),
+    (
+        "datetime",
+        "2021-13-01T00:00:00Z",
+        "error: month is out of range\n",
+    ),
+    ("staged", "2021-13-01T00:00:00Z", MONTH),
+    ("datetime", "2021-13-01T00:00:00Zx", TRAILING),
+    ("staged", "2021-13-01T00:00:00Zx", MONTH),
+    (
+        "datetime",
+        "9999-12-31T23:59:59.999999999-23:59",
+        "9999-12-31 23:59:59.999999999 -23:59:00\n",
+    ),
+    (
+        "datetime",
+        "2021-01-02T03:04:05.1234567899Z",
+        "2021-01-02 03:04:05.123456789 +00:00:00\n",
+    ),
+    (
+        "datetime",
+        "2021-01-02\u{e9}03:04:05Z",
+        "error: the 'hour' component could not be parsed\n",
+    ),
+    (
+        "datetime",
+        "",
+        "error: the 'year' component could not be parsed\n",
+    ),
+    (
+        "datetime",
+        "2021-01-02T03:04:05+05:60x",
+        "error: minutes is out of range\n",
+    ),
+];
+
+const DIRECT_2822: [(&str, &str, &str); 8] = [
+    (
+        "datetime",
+        "Mon, 02 Jan 2021 03:04:05 +0607",
+        "2021-01-02 03:04:05.000000000 +06:07:00\n",
+    ),
+    (
+        "datetime",
+        "02 Jan 49 03:04 EST",
+        "2049-01-02 03:04:00.000000000 -05:00:00\n",
+    ),
+    (
+        "datetime",
+        "02 Jan 2021 03:04 -0030",
+        "2021-01-02 03:04:00.000000000 -00:30:00\n",
+    ),
+    (
+        "datetime",
+        "02 (a(b\\)c)) Jan 2021 03:04 +0000",
+        SECOND_OF_JANUARY,
+    ),
+    ("datetime", "02 Jan 2021\r03:04 +0000", LITERAL),
+    (
+        "datetime",
+        "1 Jan 2021 24:00 GMT",
+        "error: hour is out of range\n",
+    ),
+    (
+        "datetime",
+        "1 Jan 2021 03:04:61 GMT",
+        "error: second is out of range\n",
+    ),
+    (
+        "datetime",
+        "1 Jan 2021 03:04 -2600",
+        "error: hours is out of range\n",
+    ),
+];
+
+#[test]
+fn direct_parses(rt: HostRuntime) -> Result<(), Fail> {
+    let formats: [(&str, &[(&str, &str, &str)]); 2] = [
+        ("rfc3339", &DIRECT_3339),
+        ("rfc2822", &DIRECT_2822),
+    ];
+    for (format, rows) in formats {
+        for (target, text, line) in rows {
+            let written = answer(rt.alloc(), format, target, text.as_bytes())?;
+            assert_eq!(rt;
+                written.as_slice(),
+                line.as_bytes(),
+                "{format} {target} {text}"
+            );
+        }
+    }
+    Ok(())
+}
 
 #[test]
 fn whole_parses(rt: HostRuntime) -> Result<(), Fail> {

@@ -119,3 +119,26 @@ fn direct_refusals_of_mail_dates(rt: HostRuntime) {
     assert!(rt; direct::rfc2822(b"0 Jan 2021 03:04 GMT") == range("day", true));
     assert!(rt; direct::rfc2822(b"1 Jan 2021 03:04 -2560") == range("minutes", false));
 }
+
+// Without defaults the formats take their direct paths, and a reference to one doesn't.
+#[test]
+fn paths_of_formats(rt: HostRuntime) -> Result<(), Fail> {
+    let month: &[u8] = b"2021-13-01T00:00:00Z";
+    assert!(rt; Rfc3339.parse_offset_date_time(month, None) == range("month", false));
+    assert!(rt; staged(month) == component("month"));
+    let reference = &Rfc3339;
+    assert!(rt;
+        <&Rfc3339 as Parsable>::parse_offset_date_time(&reference, month, None)
+            == component("month")
+    );
+    let hours: &[u8] = b"1 Jan 2021 03:04 -2600";
+    assert!(rt; Rfc2822.parse_offset_date_time(hours, None) == range("hours", false));
+    let mut epoch = Parsed::new();
+    epoch.set_unix_timestamp_nanos(0);
+    let date = Date::from_calendar_date(1970, Month::January, 1)?;
+    let half = Time::from_hms_nano(0, 0, 0, 500_000_000)?;
+    let wanted = Ok(OffsetDateTime::new_in_offset(date, half, UtcOffset::UTC));
+    let text: &[u8] = b"2021-01-02T03:04:05.5Z";
+    assert!(rt; Rfc3339.parse_offset_date_time(text, Some(epoch)) == wanted);
+    Ok(())
+}

@@ -14,7 +14,7 @@ returns-in-Some c =
     let reads = Reads greatest_year in
     let refuses = Refuses greatest_year in
     let outcome =
-        resolved-outcome reads refuses c.args.input.now (begun c.args.defaults) c.parse_internal.result
-        (seen c.resolved.result) c.parse_internal.ensures c.resolved.ensures in
+    resolved-outcome reads refuses c.args.input.now (begun c.args.defaults) c.parse_internal.result
+    (seen c.resolved.result) c.parse_internal.ensures c.resolved.ensures in
     over_defaults reads refuses (RefusesRfc2822 greatest_year) c.args.input.now c.args.defaults c.in-Some.field-0
     (seen c.resolved.result) c.in-Some.is outcome

@@ -1,5 +1,6 @@
 pub mod CutLemmas
 pub mod EachValue
+pub mod ExactRuns
 pub mod Fractions
 mod IsoCuts
 pub mod IsoFractions
@@ -30,4 +31,7 @@ pub mod Repeats
 pub mod Runs
 pub mod ShortNames
 pub mod Walking
+pub mod WordBytes
+pub mod WordDigits
+pub mod WordJoins
 pub mod Zulu

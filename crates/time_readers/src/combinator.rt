@@ -7,6 +7,8 @@ ghost use Rattle.time_readers.specs.Cuts.{Finds};
 ghost use Rattle.time_readers.specs.Digits.{IsDigit, AllDigits, digits_value, NoDigitFirst, NoSpaceFirst, IsDigitRun, IsDigitRunUpTo, IsPaddedRunUpTo, IsFraction};
 ghost use Rattle.time_readers.specs.Bytes.{IsByte, IsByteIgnoringCase, IsDigitByte, IsSign};
 
+mod words;
+
 use crate::{Integer, Padding, ParsedItem, Sign};
 
 // How many nanoseconds a one counts so many places after the point of a second.
@@ -104,7 +106,46 @@ pub fn exactly_n_digits<const N: u8>(input: &[u8]) -> Option<ParsedItem<'_, u32>
     requires most { N ≤ 9 }
     ensures { Finds (IsDigitRun N N) (λ v. v) input.now result }
 {
-    digit_run(input, usize::from(N), usize::from(N))
+    if N < 4 {
+        return exact_run(input, N);
+    }
+    if N == 9 {
+        return nine_digits(input);
+    }
+    digits_of_word::<N>(input)
+}
+
+// Reads exactly nine digits.
+#[inline]
+fn nine_digits(input: &[u8]) -> Option<ParsedItem<'_, u32>>
+    ensures { Finds (IsDigitRun 9 9) (λ v. v) input.now result }
+{
+    let eight = digits_of_word::<8>(input)?;
+    let ninth = any_digit(eight.0)?;
+    Some(ParsedItem(ninth.0, 10 * eight.1 + u32::from(ninth.1 - b'0')))
+}
+
+// Reads exactly `N` digits, at once where eight bytes are left.
+#[inline]
+fn digits_of_word<const N: u8>(input: &[u8]) -> Option<ParsedItem<'_, u32>>
+    requires least { 4 ≤ N }
+    requires most { N ≤ 8 }
+    ensures { Finds (IsDigitRun N N) (λ v. v) input.now result }
+{
+    let Some(first) = input.first_chunk::<8>() else {
+        return exact_run(input, N);
+    };
+    let value = words::join_bytes(first, N)?;
+    Some(ParsedItem(&input[usize::from(N)..], value))
+}
+
+// Reads exactly `n` digits, one after another.
+#[inline]
+fn exact_run(input: &[u8], n: u8) -> Option<ParsedItem<'_, u32>>
+    requires { n ≤ 9 }
+    ensures { Finds (IsDigitRun n n) (λ v. v) input.now result }
+{
+    digit_run(input, usize::from(n), usize::from(n))
 }
 
 /// Reads exactly `N` digits under the padding: with [`Padding::None`] 1 to `N` digits, with

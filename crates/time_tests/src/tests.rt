@@ -15,3 +15,4 @@ mod records;
 mod two_paths;
 mod values;
 mod whole_parses;
+mod word_digits;

@@ -29,6 +29,7 @@ pub mod RangedMail
 pub mod ReaderLemmas
 pub mod Repeats
 pub mod Runs
+pub mod ShortCuts
 pub mod ShortNames
 pub mod Walking
 pub mod WordBytes

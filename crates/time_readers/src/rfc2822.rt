@@ -1,5 +1,5 @@
 //! The mail dates of RFC 2822: blanks, comments and zone names, and the date and time by their places.
-ghost use Rattle.std.specs.Prelude.{◌≡◌, ◌==◌, option_map};
+ghost use Rattle.std.specs.Prelude.{◌≡◌, ◌≢◌, ◌==◌, ◌⊎◌, IsTrue, option_map};
 ghost use Rattle.std.specs.Option.{option_copied};
 ghost use Rattle.time_readers.specs.Readers.{one_of, char, ◌or◌};
 ghost use Rattle.time_readers.specs.MailBlanks as spec;
@@ -20,7 +20,31 @@ const MOST_COMMENTS: u8 = 31;
 /// These are CR LF and one or more blanks; or one or more blanks, and then any number of times CR LF and one
 /// or more blanks. It refuses where neither stands first, and where, in the second form, no blank follows a
 /// CR LF. A CR or LF alone is no blank.
+#[inline]
 pub fn fws(input: &[u8]) -> Option<ParsedItem<'_, ()>>
+    ensures { option_map (λ p. p.0.now) result ≡ spec.fws input.now }
+{
+    if input.len() >= 2 && is_one_blank(input[0], input[1]) {
+        return Some(ParsedItem(&input[1..], ()));
+    }
+    folded_blanks(input)
+}
+
+// Whether the first byte is a blank, and the second neither a blank nor a CR. Most often they are a space and
+// what is printed.
+#[inline]
+fn is_one_blank(first: u8, second: u8) -> bool
+    ensures { IsTrue result → ((first ≡ 32) ⊎ (first ≡ 9)) × (second ≢ 32) × (second ≢ 9) × (second ≢ 13) }
+{
+    (first == b' ' && second >= 0x21)
+        || ((first == b' ' || first == b'\t')
+            && second != b' '
+            && second != b'\t'
+            && second != b'\r')
+}
+
+// Reads blanks, folded over lines or not.
+fn folded_blanks(input: &[u8]) -> Option<ParsedItem<'_, ()>>
     ensures { option_map (λ p. p.0.now) result ≡ spec.fws input.now }
 {
     if let Some(rest) = line_fold(input) {
@@ -144,7 +168,18 @@ fn blanks_or_comment(input: &[u8]) -> Option<&[u8]>
 /// and comments again, 31 in one another at most. The byte behind a backslash is no NUL, CR, LF or byte above
 /// 127. A comment that isn't of this form isn't read. It refuses where neither blanks nor a comment stand
 /// first.
+#[inline]
 pub fn cfws(input: &[u8]) -> Option<ParsedItem<'_, ()>>
+    ensures { option_map (λ p. p.0.now) result ≡ spec.cfws input.now }
+{
+    if input.len() >= 2 && input[1] != b'(' && is_one_blank(input[0], input[1]) {
+        return Some(ParsedItem(&input[1..], ()));
+    }
+    blanks_and_comments(input)
+}
+
+// Reads blanks and comments, one or more of them.
+fn blanks_and_comments(input: &[u8]) -> Option<ParsedItem<'_, ()>>
     ensures { option_map (λ p. p.0.now) result ≡ spec.cfws input.now }
 {
     let mut rest = blanks_or_comment(input)?;
@@ -156,9 +191,14 @@ pub fn cfws(input: &[u8]) -> Option<ParsedItem<'_, ()>>
 
 /// Reads blanks and comments where [`cfws`] does, and else nothing: `[CFWS]` of RFC 2822, section 3.2.3.
 /// Answers what is left, and never refuses.
+#[inline]
 pub fn opt_cfws(input: &[u8]) -> ParsedItem<'_, ()>
     ensures { Some result.0.now ≡ spec.opt_cfws input.now }
 {
+    // Above `(` stand no blanks, and no comment begins.
+    if let [b')'..=u8::MAX, ..] = input {
+        return ParsedItem(input, ());
+    }
     match cfws(input) {
         Some(found) => found,
         None => ParsedItem(input, ()),
@@ -167,9 +207,13 @@ pub fn opt_cfws(input: &[u8]) -> ParsedItem<'_, ()>
 
 /// Reads a colon, with the blanks and comments before and behind it by [`opt_cfws`], as it stands in the
 /// time of RFC 2822, sections 3.3 and 4.3. Answers what is left behind them, and refuses where no colon stands.
+#[inline]
 pub fn opt_cfws_colon_opt_cfws(input: &[u8]) -> Option<ParsedItem<'_, ()>>
     ensures { option_map (λ p. p.0.now) result ≡ spec.opt_cfws_colon_opt_cfws input.now }
 {
+    if input.len() >= 2 && input[0] == b':' && input[1] > b'(' {
+        return Some(ParsedItem(&input[1..], ()));
+    }
     let rest = opt_cfws(input).0;
     let rest = one::<b':'>(rest)?;
     Some(opt_cfws(rest))

@@ -2,6 +2,7 @@ pub mod CutLemmas
 pub mod EachValue
 pub mod ExactRuns
 pub mod Fractions
+pub mod FrontPlaces
 mod IsoCuts
 pub mod IsoFractions
 pub mod IsoPieces
@@ -14,6 +15,7 @@ pub mod MailBlanks
 pub mod MailPlaces
 pub mod MailRanges
 pub mod MailZones
+pub mod Masks
 pub mod NameLemmas
 pub mod NotBoth
 pub mod NumberLemmas

@@ -23,7 +23,7 @@ Walks-more A p ps n k m bytes mid (Err e) first others = record {
   stops = others.stops;
 }
 
-Walks-here : {P N : Type 0} (A : Format P N) (p : P) (ps : List P) (n m : N) (bytes : List ℕ) (e : P) → (e ≡ p) × NoCut (A p n) bytes
+pub Walks-here : {P N : Type 0} (A : Format P N) (p : P) (ps : List P) (n m : N) (bytes : List ℕ) (e : P) → (e ≡ p) × NoCut (A p n) bytes
     → Walks A (p ∷ ps) n bytes (Err e) m
 unfolding Stand
 Walks-here A p ps n m bytes e (same, stops) = subst (λ q. Walks A (p ∷ ps) n bytes (Err q) m) (sym same) (record {

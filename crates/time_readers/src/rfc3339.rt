@@ -2,10 +2,13 @@
 ghost use Rattle.std.specs.Prelude.{◌≡◌, ◌≢◌, ℕ, false, List, [], ◌∷◌, MatchResult};
 ghost use Rattle.time_values.specs.Refusal.{refusal_of_description};
 ghost use Rattle.time_readers.specs.Cuts.{Cut, NoCut};
-ghost use Rattle.time_readers.specs.Places.{Steps, Walks};
+ghost use Rattle.time_readers.specs.Front.{front_places, clock_places};
+ghost use Rattle.time_readers.specs.Places.{Stand, StopsAt, Steps, Walks};
 ghost use Rattle.time_readers.specs.Ranged.{IsTwoDigits};
-ghost use Rattle.time_readers.specs.Rfc3339.{Asks, date_places, time_places, offset_places, HasForm, FailsAt, fault};
+ghost use Rattle.time_readers.specs.Rfc3339.{Asks, nothing_read, date_places, offset_places, HasForm, FailsAt, fault};
 ghost use Rattle.time_readers.specs.declared.rfc3339.Place.TheVariants as place;
+
+mod front;
 
 use crate::combinator::{ascii_char, ascii_char_ignore_case, four_digits, fraction, sign};
 use crate::{ParsedItem, ranged};
@@ -100,10 +103,26 @@ pub fn read<const RANGED: bool>(input: &[u8]) -> Result<ParsedItem<'_, Numbers>,
         (λ p. HasForm RANGED input.now p.0.now p.1)
         (λ e. FailsAt RANGED input.now e) }
 {
+    let found = to_second::<RANGED>(input)?;
+    let mut numbers = found.1;
+    let rest = subsecond::<RANGED>(found.0, &mut numbers)?;
+    let end = offset::<RANGED>(rest, &mut numbers)?;
+    Ok(ParsedItem(end, numbers))
+}
+
+// The places up to the second: at once where they lie in their ranges, else one after another.
+#[inline]
+fn to_second<const RANGED: bool>(input: &[u8]) -> Result<ParsedItem<'_, Numbers>, Place>
+    ensures { MatchResult result
+        (λ p. Stand (Asks RANGED) front_places nothing_read input.now p.0.now p.1)
+        (λ e. StopsAt (Asks RANGED) front_places nothing_read input.now e) }
+{
+    if let Some(found) = front::front(input) {
+        return Ok(found);
+    }
     let mut numbers = Numbers::NONE;
     let rest = date::<RANGED>(input, &mut numbers)?;
     let rest = time::<RANGED>(rest, &mut numbers)?;
-    let rest = offset::<RANGED>(rest, &mut numbers)?;
     Ok(ParsedItem(rest, numbers))
 }
 
@@ -145,15 +164,14 @@ fn date<'a, const RANGED: bool>(input: &'a [u8], numbers: &mut Numbers) -> Resul
 
 #[inline]
 fn time<'a, const RANGED: bool>(input: &'a [u8], numbers: &mut Numbers) -> Result<&'a [u8], Place>
-    ensures { Walks (Asks RANGED) time_places numbers.old input.now result numbers.new }
+    ensures { Walks (Asks RANGED) clock_places numbers.old input.now result numbers.new }
 {
     let rest = separator(input)?;
     let rest = hour::<RANGED>(rest, numbers)?;
     let rest = literal::<b':'>(rest, Place::HourColon)?;
     let rest = minute::<RANGED>(rest, numbers)?;
     let rest = literal::<b':'>(rest, Place::MinuteColon)?;
-    let rest = second::<RANGED>(rest, numbers)?;
-    subsecond::<RANGED>(rest, numbers)
+    second::<RANGED>(rest, numbers)
 }
 
 #[inline]

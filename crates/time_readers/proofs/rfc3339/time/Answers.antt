@@ -40,15 +40,6 @@ returns-in_err-rest-5 g c =
     (Walks-stop _ _ _ _ _ _ _ _ c.from_residual-in_err-rest-5.ensures
     (c.in_err-rest-5.ensures.0, NoCut-byte _ 58 _ c.in_err-rest-5.ensures.1 (λ text after m asks. asks.0))))))
 
-pub returns-in_err-rest-6 : goal.returns-in_err-rest-6
-returns-in_err-rest-6 g c =
-    Walks-byte _ _ _ _ _ _ _ _ c.in_ok-rest.ensures.0 c.in_ok-rest.ensures.1 (refl, refl)
-    (Walks-more _ _ _ _ _ _ _ _ _ c.in_ok-rest-2.ensures
-    (Walks-byte _ _ _ _ _ _ _ _ 58 c.in_ok-rest-3.ensures (refl, refl)
-    (Walks-more _ _ _ _ _ _ _ _ _ c.in_ok-rest-4.ensures
-    (Walks-byte _ _ _ _ _ _ _ _ 58 c.in_ok-rest-5.ensures (refl, refl)
-    (Walks-stop _ _ _ _ _ _ _ _ c.from_residual-in_err-rest-6.ensures c.in_err-rest-6.ensures)))))
-
 pub returns : goal.returns
 returns g c =
     Walks-byte _ _ _ _ _ _ _ _ c.in_ok-rest.ensures.0 c.in_ok-rest.ensures.1 (refl, refl)
@@ -56,4 +47,4 @@ returns g c =
     (Walks-byte _ _ _ _ _ _ _ _ 58 c.in_ok-rest-3.ensures (refl, refl)
     (Walks-more _ _ _ _ _ _ _ _ _ c.in_ok-rest-4.ensures
     (Walks-byte _ _ _ _ _ _ _ _ 58 c.in_ok-rest-5.ensures (refl, refl)
-    (Walks-more _ _ _ _ _ _ _ _ _ c.in_ok-rest-6.ensures (Walks-last _ _ _ _ _ _ c.subsecond.ensures))))))
+    (Walks-last _ _ _ _ _ _ c.second.ensures)))))

@@ -1,0 +1,12 @@
+use Rattle.std.proofs.Common.{arith, take, subst}
+use Rattle.std.proofs.lemmas.List.{take_all, length-take-le}
+use Rattle.std.proofs.lemmas.Bool.{eqb-true}
+use Rattle.time_readers.specs.Front.{AllWithin}
+use Rattle.time_readers.proofs.Masks.{all_within}
+use Rattle.time_readers.proofs.rfc3339.front.is_within.Goals as goal
+
+pub returns : goal.returns
+returns c = λ all.
+    let whole = take_all 16 c.args.bytes.now (omega arith) in
+    let long = length-take-le 16 c.args.bytes.now (omega arith) in
+    subst (AllWithin c.args.least c.args.greatest) whole (all_within c.args.least c.args.greatest (take 16 c.args.bytes.now) (omega arith) (eqb-true _ _ all))

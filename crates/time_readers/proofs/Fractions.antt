@@ -112,6 +112,24 @@ fraction_cut s mid rest value unit greatest cut worth over =
       record { digits = read.digits; enough = omega (arith, length-append text more, run.enough); ends = over.3; is = read.is },
     )
 
+-- nine digits, and those that are dropped
+pub fraction_nine : (s mid rest : List ℕ) (value : ℕ) → Cut (IsDigitRun 9 9) s mid value
+    → (digits : List ℕ) × (mid ≡ digits ++ rest) × AllDigits digits × NoDigitFirst rest → Cut IsFraction s rest value
+fraction_nine s mid rest value cut over =
+    let run = cut.2 in
+    let long : length cut.0 ≡ 9 = omega (arith, run.enough, run.within) in
+    let up_to : IsDigitRun 1 9 cut.0 mid value = record {
+      digits = run.digits;
+      enough = omega arith;
+      within = run.within;
+      ends = run.ends;
+      is = run.is;
+    } in
+    let count = read_count s cut.0 mid cut.1 in
+    let worth : 1 ≡ 10 ^ (9 - (length s - length mid)) = sym (ap (λ k. 10 ^ (9 - k)) (count ∙ long)) in
+    let found = fraction_cut s mid rest value 1 value (cut.0, cut.1, (up_to, omega arith)) worth over in
+    subst (λ v. Cut IsFraction s rest v) (omega arith) found
+
 -- up to 32 digits
 pub long_fraction_cut : (s rest : List ℕ) (value unit greatest k : ℕ) → Cut (IsDigitRunUpTo greatest 1 9) s rest value
     → unit ≡ 10 ^ (9 - (length s - length rest)) → k ≤ length rest → k ≤ 23 → AllDigits (take k rest)

@@ -120,13 +120,6 @@ all_back : (ps : List Place) → Back (Asks true) (λ p n. Unit {0}) ps
 all_back [] = tt
 all_back (p ∷ ps) = (λ k m b r s i. tt, all_back ps)
 
--- places that stand within their ranges stand
-pub Stand-formed : (ranged : Bool) (ps : List Place) (n m : Numbers) (bytes rest : List ℕ) → Stand (Asks true) ps n bytes rest m
-    → Stand (Asks ranged) ps n bytes rest m
-Stand-formed true ps n m bytes rest s = s
-Stand-formed false ps n m bytes rest s =
-    along (Asks true) (Asks false) (λ p m. Unit {0}) (λ p m k text after i a. formed p m k text after a) ps n m bytes rest (all_back ps) (λ p. tt) s
-
 in_place : (n : Numbers) → InRanges n → (p : Place) → In p n
 in_place n i Month = i.month
 in_place n i Day = i.day
@@ -152,7 +145,8 @@ in_ranges bytes rest n s =
 pub ranged_forms : RangedForms (HasForm true) (HasForm false) InRanges
 ranged_forms bytes rest n = (
   λ s. (
-    Stand-formed false places nothing_read n bytes rest s,
+    along (Asks true) (Asks false) (λ p m. Unit {0}) (λ p m k text after i a. formed p m k text after a) places
+        nothing_read n bytes rest (all_back places) (λ p. tt) s,
     in_ranges bytes rest n s,
   ),
   λ s. along (Asks false) (Asks true) In ranged places nothing_read n bytes rest back (in_place n s.1) s.0,

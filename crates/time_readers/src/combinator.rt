@@ -244,6 +244,11 @@ fn nanoseconds_of_place(digits: usize) -> u32
 pub(crate) fn fraction(input: &[u8]) -> Option<ParsedItem<'_, u32>>
     ensures { Finds IsFraction (λ v. v) input.now result }
 {
+    if input.len() > 8 {
+        if let Some(nine) = nine_digits(input) {
+            return Some(ParsedItem(without_digits(nine.0), nine.1));
+        }
+    }
     let Some(found) = n_to_m_digits::<1, 9, u32>(input) else {
         return None;
     };

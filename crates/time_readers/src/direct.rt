@@ -80,7 +80,7 @@ pub fn rfc2822(input: &[u8]) -> Result<OffsetDateTime, Parse>
 }
 
 // What the numbers of RFC 3339 say.
-#[inline]
+#[inline(always)]
 fn said_rfc3339(numbers: rfc3339::Numbers) -> Said
     requires hour { numbers.offset_hour ≤ 23 }
     requires minute { numbers.offset_minute ≤ 59 }
@@ -100,7 +100,7 @@ fn said_rfc3339(numbers: rfc3339::Numbers) -> Said
 }
 
 // The number with its sign.
-#[inline]
+#[inline(always)]
 fn signed(is_negative: bool, value: u8) -> i8
     requires { value ≤ 59 }
     ensures { result ≡ signed_by is_negative (pos value) }
@@ -110,7 +110,7 @@ fn signed(is_negative: bool, value: u8) -> i8
 }
 
 // What the numbers of a mail date say.
-#[inline]
+#[inline(always)]
 fn said_rfc2822(numbers: rfc2822::Numbers) -> Said
     ensures { result ≡ said_rfc2822 numbers }
 {
@@ -128,6 +128,7 @@ fn said_rfc2822(numbers: rfc2822::Numbers) -> Said
 }
 
 // The moment of a text behind which nothing remains.
+#[inline(always)]
 fn whole(rest: &[u8], said: Said) -> Result<OffsetDateTime, Parse>
     requires year { said.year ≤ greatest_year }
     requires month { said.month ≢ 0 }
@@ -145,6 +146,7 @@ fn whole(rest: &[u8], said: Said) -> Result<OffsetDateTime, Parse>
 }
 
 // The moment of the numbers.
+#[inline(always)]
 #[tactic(auto, using(crate::proofs::Made::not_made))]
 fn moment(said: Said) -> Result<OffsetDateTime, ComponentRange>
     requires year { said.year ≤ greatest_year }
@@ -164,7 +166,7 @@ fn moment(said: Said) -> Result<OffsetDateTime, ComponentRange>
 }
 
 // Whether a leap second is said only where one may stand.
-#[inline]
+#[inline(always)]
 #[tactic(auto, unfolding(crate::specs::Direct::LeapSecondMayStand))]
 fn leap_second_may_stand(said: Said, moment: OffsetDateTime) -> bool
     ensures { IsTrue result ↔ LeapSecondMayStand greatest_year said moment }
@@ -173,6 +175,7 @@ fn leap_second_may_stand(said: Said, moment: OffsetDateTime) -> bool
 }
 
 // The moment that a calendar and a clock show, wherever a leap second stands.
+#[inline(always)]
 #[tactic(auto, using(crate::proofs::Made::accepted, crate::proofs::Made::refused))]
 fn shown(said: Said) -> Result<OffsetDateTime, ComponentRange>
     requires year { said.year ≤ greatest_year }
@@ -188,7 +191,7 @@ fn shown(said: Said) -> Result<OffsetDateTime, ComponentRange>
 }
 
 // The date.
-#[inline]
+#[inline(always)]
 fn date(said: Said) -> Result<Date, ComponentRange>
     requires year { said.year ≤ greatest_year }
     requires month { said.month ≢ 0 }
@@ -199,7 +202,7 @@ fn date(said: Said) -> Result<Date, ComponentRange>
 }
 
 // The month of a number.
-#[inline]
+#[inline(always)]
 fn month(number: u8) -> Result<Month, ComponentRange>
     requires { number ≢ 0 }
     ensures { Constructs (month_refusal number) (λ m. month_number m ≡ number) result }
@@ -211,7 +214,7 @@ fn month(number: u8) -> Result<Month, ComponentRange>
 }
 
 // The time that a clock shows.
-#[inline]
+#[inline(always)]
 fn clock(said: Said) -> Result<Time, ComponentRange>
     ensures { Constructs (time_refusal said.hour said.minute (shown_second said) (shown_nanosecond said))
         (HasClock said.hour said.minute (shown_second said) (shown_nanosecond said)) result }

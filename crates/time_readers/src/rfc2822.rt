@@ -20,7 +20,7 @@ const MOST_COMMENTS: u8 = 31;
 /// These are CR LF and one or more blanks; or one or more blanks, and then any number of times CR LF and one
 /// or more blanks. It refuses where neither stands first, and where, in the second form, no blank follows a
 /// CR LF. A CR or LF alone is no blank.
-#[inline]
+#[inline(always)]
 pub fn fws(input: &[u8]) -> Option<ParsedItem<'_, ()>>
     ensures { option_map (λ p. p.0.now) result ≡ spec.fws input.now }
 {
@@ -32,7 +32,7 @@ pub fn fws(input: &[u8]) -> Option<ParsedItem<'_, ()>>
 
 // Whether the first byte is a blank, and the second neither a blank nor a CR. Most often they are a space and
 // what is printed.
-#[inline]
+#[inline(always)]
 fn is_one_blank(first: u8, second: u8) -> bool
     ensures { IsTrue result → ((first ≡ 32) ⊎ (first ≡ 9)) × (second ≢ 32) × (second ≢ 9) × (second ≢ 13) }
 {
@@ -168,7 +168,7 @@ fn blanks_or_comment(input: &[u8]) -> Option<&[u8]>
 /// and comments again, 31 in one another at most. The byte behind a backslash is no NUL, CR, LF or byte above
 /// 127. A comment that isn't of this form isn't read. It refuses where neither blanks nor a comment stand
 /// first.
-#[inline]
+#[inline(always)]
 pub fn cfws(input: &[u8]) -> Option<ParsedItem<'_, ()>>
     ensures { option_map (λ p. p.0.now) result ≡ spec.cfws input.now }
 {
@@ -191,11 +191,14 @@ fn blanks_and_comments(input: &[u8]) -> Option<ParsedItem<'_, ()>>
 
 /// Reads blanks and comments where [`cfws`] does, and else nothing: `[CFWS]` of RFC 2822, section 3.2.3.
 /// Answers what is left, and never refuses.
-#[inline]
+#[inline(always)]
 pub fn opt_cfws(input: &[u8]) -> ParsedItem<'_, ()>
     ensures { Some result.0.now ≡ spec.opt_cfws input.now }
 {
-    // Above `(` stand no blanks, and no comment begins.
+    if input.is_empty() {
+        return ParsedItem(input, ());
+    }
+    // No blank and no comment begins with a byte above `(`.
     if let [b')'..=u8::MAX, ..] = input {
         return ParsedItem(input, ());
     }
@@ -207,13 +210,20 @@ pub fn opt_cfws(input: &[u8]) -> ParsedItem<'_, ()>
 
 /// Reads a colon, with the blanks and comments before and behind it by [`opt_cfws`], as it stands in the
 /// time of RFC 2822, sections 3.3 and 4.3. Answers what is left behind them, and refuses where no colon stands.
-#[inline]
+#[inline(always)]
 pub fn opt_cfws_colon_opt_cfws(input: &[u8]) -> Option<ParsedItem<'_, ()>>
     ensures { option_map (λ p. p.0.now) result ≡ spec.opt_cfws_colon_opt_cfws input.now }
 {
     if input.len() >= 2 && input[0] == b':' && input[1] > b'(' {
         return Some(ParsedItem(&input[1..], ()));
     }
+    colon_between_blanks(input)
+}
+
+// Reads a colon, with the blanks and comments before and behind it.
+fn colon_between_blanks(input: &[u8]) -> Option<ParsedItem<'_, ()>>
+    ensures { option_map (λ p. p.0.now) result ≡ spec.opt_cfws_colon_opt_cfws input.now }
+{
     let rest = opt_cfws(input).0;
     let rest = one::<b':'>(rest)?;
     Some(opt_cfws(rest))

@@ -110,14 +110,14 @@ pub fn read<const RANGED: bool>(input: &[u8]) -> Result<ParsedItem<'_, Numbers>,
     Ok(ParsedItem(end, numbers))
 }
 
-// The places up to the second: at once where they lie in their ranges, else one after another.
-#[inline]
+// The places up to the second: at once where all stand, else one after another.
+#[inline(always)]
 fn to_second<const RANGED: bool>(input: &[u8]) -> Result<ParsedItem<'_, Numbers>, Place>
     ensures { MatchResult result
         (λ p. Stand (Asks RANGED) front_places nothing_read input.now p.0.now p.1)
         (λ e. StopsAt (Asks RANGED) front_places nothing_read input.now e) }
 {
-    if let Some(found) = front::front(input) {
+    if let Some(found) = front::front::<RANGED>(input) {
         return Ok(found);
     }
     let mut numbers = Numbers::NONE;

@@ -140,7 +140,7 @@ pub fn place_fault(place: Place) -> ParseFromDescription
     ParseFromDescription::InvalidComponent(name)
 }
 
-#[inline]
+#[inline(always)]
 fn date<'a, const RANGED: bool>(input: &'a [u8], numbers: &mut Numbers) -> Result<&'a [u8], Place>
     ensures { Walks (Asks RANGED) date_places numbers.old input.now result numbers.new }
 {
@@ -153,7 +153,7 @@ fn date<'a, const RANGED: bool>(input: &'a [u8], numbers: &mut Numbers) -> Resul
     year_blanks(rest, numbers.year_is_full).ok_or(Place::YearBlanks)
 }
 
-#[inline]
+#[inline(always)]
 fn time<'a, const RANGED: bool>(input: &'a [u8], numbers: &mut Numbers) -> Result<&'a [u8], Place>
     ensures { Walks (Asks RANGED) time_places numbers.old input.now result numbers.new }
 {
@@ -164,7 +164,7 @@ fn time<'a, const RANGED: bool>(input: &'a [u8], numbers: &mut Numbers) -> Resul
     blanks_with_comments(rest).ok_or(Place::TimeBlanks)
 }
 
-#[inline]
+#[inline(always)]
 fn offset<'a, const RANGED: bool>(input: &'a [u8], numbers: &mut Numbers) -> Result<&'a [u8], Place>
     ensures { Walks (Asks RANGED) offset_places numbers.old input.now result numbers.new }
 {
@@ -174,7 +174,7 @@ fn offset<'a, const RANGED: bool>(input: &'a [u8], numbers: &mut Numbers) -> Res
 }
 
 // What is left behind what says nothing.
-#[inline]
+#[inline(always)]
 fn rest_of(answer: Option<ParsedItem<'_, ()>>) -> Option<&[u8]>
     ensures { option_copied result ≡ option_map (λ p. p.0.now) answer.entry }
 {
@@ -185,7 +185,7 @@ fn rest_of(answer: Option<ParsedItem<'_, ()>>) -> Option<&[u8]>
 }
 
 // Blanks with comments.
-#[inline]
+#[inline(always)]
 fn blanks_with_comments(input: &[u8]) -> Option<&[u8]>
     ensures { (n : Numbers) → Reads (IsSilent spec.cfws n) input.now result n }
 {
@@ -193,7 +193,7 @@ fn blanks_with_comments(input: &[u8]) -> Option<&[u8]>
 }
 
 // Blanks, without comments after a year of four digits.
-#[inline]
+#[inline(always)]
 fn year_blanks(input: &[u8], year_is_full: bool) -> Option<&[u8]>
     ensures { (n : Numbers) → Reads (IsSilent (Rfc2822.year_blanks year_is_full) n) input.now result n }
 {
@@ -205,7 +205,7 @@ fn year_blanks(input: &[u8], year_is_full: bool) -> Option<&[u8]>
 }
 
 // A colon between blanks.
-#[inline]
+#[inline(always)]
 fn hour_colon(input: &[u8]) -> Option<&[u8]>
     ensures { (n : Numbers) → Reads (IsSilent spec.opt_cfws_colon_opt_cfws n) input.now result n }
 {
@@ -213,7 +213,7 @@ fn hour_colon(input: &[u8]) -> Option<&[u8]>
 }
 
 // Blanks or nothing.
-#[inline]
+#[inline(always)]
 fn end_blanks(input: &[u8]) -> Option<&[u8]>
     ensures { (n : Numbers) → Reads (IsSilent spec.opt_cfws n) input.now result n }
 {
@@ -222,7 +222,7 @@ fn end_blanks(input: &[u8]) -> Option<&[u8]>
 }
 
 // The number with the sign.
-#[inline]
+#[inline(always)]
 fn with_sign(sign: Sign, value: u8) -> i8
     requires { value ≤ 99 }
     ensures { result ≡ signed_by (is_negative sign) (pos value) }
@@ -235,6 +235,7 @@ fn with_sign(sign: Sign, value: u8) -> i8
 }
 
 // Blanks, and then nothing or a weekday's name, a comma and blanks.
+#[inline(always)]
 fn weekday_name<'a>(input: &'a [u8], numbers: &mut Numbers) -> Option<&'a [u8]>
     ensures { Reads (Asks false place.WeekdayName numbers.old) input.now result numbers.new }
 {
@@ -252,7 +253,7 @@ fn weekday_name<'a>(input: &'a [u8], numbers: &mut Numbers) -> Option<&'a [u8]>
 }
 
 // One or two digits: 1 to 31 where ranges are asked.
-#[inline]
+#[inline(always)]
 fn day<'a, const RANGED: bool>(input: &'a [u8], numbers: &mut Numbers) -> Option<&'a [u8]>
     ensures { Reads (Asks RANGED place.Day numbers.old) input.now result numbers.new }
 {
@@ -265,7 +266,7 @@ fn day<'a, const RANGED: bool>(input: &'a [u8], numbers: &mut Numbers) -> Option
 }
 
 // The first three letters of a month's name, in any case.
-#[inline]
+#[inline(always)]
 fn month_name<'a>(input: &'a [u8], numbers: &mut Numbers) -> Option<&'a [u8]>
     ensures { Reads (Asks false place.MonthName numbers.old) input.now result numbers.new }
 {
@@ -279,7 +280,7 @@ fn month_name<'a>(input: &'a [u8], numbers: &mut Numbers) -> Option<&'a [u8]>
 
 // Four digits of 1900 or later, or where four don't stand two, of which those below 50 are years from 2000 on
 // and the others from 1900 on.
-#[inline]
+#[inline(always)]
 fn year<'a>(input: &'a [u8], numbers: &mut Numbers) -> Option<&'a [u8]>
     ensures { Reads (Asks false place.Year numbers.old) input.now result numbers.new }
 {
@@ -299,7 +300,7 @@ fn year<'a>(input: &'a [u8], numbers: &mut Numbers) -> Option<&'a [u8]>
 }
 
 // Two digits: 0 to 23 where ranges are asked.
-#[inline]
+#[inline(always)]
 fn hour<'a, const RANGED: bool>(input: &'a [u8], numbers: &mut Numbers) -> Option<&'a [u8]>
     ensures { Reads (Asks RANGED place.Hour numbers.old) input.now result numbers.new }
 {
@@ -309,7 +310,7 @@ fn hour<'a, const RANGED: bool>(input: &'a [u8], numbers: &mut Numbers) -> Optio
 }
 
 // Two digits: 0 to 59 where ranges are asked.
-#[inline]
+#[inline(always)]
 fn minute<'a, const RANGED: bool>(input: &'a [u8], numbers: &mut Numbers) -> Option<&'a [u8]>
     ensures { Reads (Asks RANGED place.Minute numbers.old) input.now result numbers.new }
 {
@@ -319,7 +320,7 @@ fn minute<'a, const RANGED: bool>(input: &'a [u8], numbers: &mut Numbers) -> Opt
 }
 
 // Nothing where no colon stands, or a colon with blanks and two digits: 0 to 60 where ranges are asked.
-#[inline]
+#[inline(always)]
 fn second<'a, const RANGED: bool>(input: &'a [u8], numbers: &mut Numbers) -> Option<&'a [u8]>
     ensures { Reads (Asks RANGED place.Second numbers.old) input.now result numbers.new }
 {
@@ -333,7 +334,7 @@ fn second<'a, const RANGED: bool>(input: &'a [u8], numbers: &mut Numbers) -> Opt
 }
 
 // A zone name, or a sign and two digits: 0 to 25 where ranges are asked.
-#[inline]
+#[inline(always)]
 fn offset_hour<'a, const RANGED: bool>(input: &'a [u8], numbers: &mut Numbers) -> Option<&'a [u8]>
     ensures { Reads (Asks RANGED place.OffsetHour numbers.old) input.now result numbers.new }
 {
@@ -350,7 +351,7 @@ fn offset_hour<'a, const RANGED: bool>(input: &'a [u8], numbers: &mut Numbers) -
 }
 
 // Two digits behind a signed hour, 0 to 59 where ranges are asked, and nothing behind a zone name.
-#[inline]
+#[inline(always)]
 fn offset_minute<'a, const RANGED: bool>(input: &'a [u8], numbers: &mut Numbers) -> Option<&'a [u8]>
     ensures { Reads (Asks RANGED place.OffsetMinute numbers.old) input.now result numbers.new }
 {

@@ -4,8 +4,8 @@ ghost use Rattle.time_readers.specs.Front.{AllWithin, pair_at, front_places};
 ghost use Rattle.time_readers.specs.Places.{Stand};
 ghost use Rattle.time_readers.specs.Rfc3339.{Asks, nothing_read};
 
-use crate::ParsedItem;
 use crate::rfc3339::Numbers;
+use crate::{ParsedItem, ranged};
 use std::simd::prelude::*;
 
 // The least and the greatest byte at each of the first sixteen places.
@@ -36,11 +36,10 @@ fn pairs(bytes: &[u8; 16]) -> [u8; 8]
     (tens * u8x8::splat(10) + ones).to_array()
 }
 
-// Reads the places from the year to the second at once, where each stands and lies in its range. `None`
-// says nothing.
+// Reads the places from the year to the second at once. `None` says nothing.
 #[inline(always)]
-pub(super) fn front(text: &[u8]) -> Option<ParsedItem<'_, Numbers>>
-    ensures { IfSome result (λ p. Stand (Asks true) front_places nothing_read text.now p.0.now p.1) }
+pub(super) fn front<const RANGED: bool>(text: &[u8]) -> Option<ParsedItem<'_, Numbers>>
+    ensures { IfSome result (λ p. Stand (Asks RANGED) front_places nothing_read text.now p.0.now p.1) }
 {
     let (first, rest) = text.split_first_chunk::<16>()?;
     if !is_within(first, LEAST, GREATEST) {
@@ -51,7 +50,11 @@ pub(super) fn front(text: &[u8]) -> Option<ParsedItem<'_, Numbers>>
     };
     let second = (*tens - b'0') * 10 + (*ones - b'0');
     let [century, in_century, month, day, hour, minute, _, _] = pairs(first);
-    if month == 0 || month > 12 || day == 0 || day > 31 || hour > 23 {
+    if month == 0
+        || !ranged::is_within::<RANGED>(month, 1, 12)
+        || !ranged::is_within::<RANGED>(day, 1, 31)
+        || !ranged::is_within::<RANGED>(hour, 0, 23)
+    {
         return None;
     }
     Some(ParsedItem(

@@ -7,7 +7,7 @@ use Rattle.time_readers.proofs.FrontPlaces.{front_lists}
 use Rattle.time_readers.proofs.rfc3339.front.front.Goals as goal
 
 pub returns : goal.returns
-returns c =
+returns g c =
     let text = c.args.text.now in
     let first = c.in_ok-first.first.now in
     let rest = c.in_ok-first.rest.now in
@@ -26,6 +26,10 @@ returns c =
     let day = ap (λ xs. get_or xs 3 0) numbers in
     let hour = ap (λ xs. get_or xs 4 0) numbers in
     let minute = ap (λ xs. get_or xs 5 0) numbers in
-    let stands = front_lists text first rest _ _ _ _ _ _ cut long short within colon sec0 sec1 (λ i. century i * 100 + in_century i) month (omega arith) (omega arith) day (omega arith) (omega arith) hour (omega arith) minute refl (omega arith) in
+    let month_in = c.is_within-else-month-eq0.ensures.0 c.if-not-is_within-2.false in
+    let day_in = c.is_within-else-not-is_within-2.ensures.0 c.if-not-is_within-3.false in
+    let hour_in = c.is_within-else-not-is_within-3.ensures.0 c.if-not-is_within-4.false in
+    let stands = front_lists _ text first rest _ _ _ _ _ _ cut long short within colon sec0 sec1
+    (λ i. century i * 100 + in_century i) month c.if-month-eq0.false month_in day day_in hour hour_in minute refl (omega arith) in
     let all = take_all (length rest - 3) (drop 3 rest) (omega (arith, length-drop 3 rest)) in
     rw all stands

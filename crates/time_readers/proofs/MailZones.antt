@@ -1,5 +1,5 @@
 -- Zone names: by the bytes that are left, what is left behind them, and how far their hours are from UTC.
-use Rattle.std.proofs.Common.{◌≡◌, ℕ, ◌-◌, ◌<◌, ◌≤◌, List, [], ◌∷◌, ◌++◌, length, take, drop, get_or, refl, ap, sym, ◌∙◌, subst, arith, rules, Bool, true, false, Option, Some, None, ℤ, pos, unsigned_abs, option_map, if◌then◌else◌, bytes_eq, codes}
+use Rattle.std.proofs.Common.{◌≡◌, ◌⊎◌, inl, inr, ℕ, ◌-◌, ◌<◌, ◌≤◌, List, [], ◌∷◌, ◌++◌, length, take, drop, get_or, refl, ap, sym, ◌∙◌, subst, arith, rules, Bool, true, false, Option, Some, None, ℤ, pos, unsigned_abs, option_map, if◌then◌else◌, bytes_eq, codes}
 use Rattle.std.proofs.lemmas.Option.{same_Some, none-some, some_pair_parts}
 use Rattle.std.specs.Char.{to_ascii_lowercase}
 use Rattle.std.specs.Str.{str_to_ascii_lowercase}
@@ -21,6 +21,24 @@ zone-short [] h = refl
 zone-short (a ∷ []) h = refl
 zone-short (a ∷ b ∷ []) h = refl
 zone-short (a ∷ b ∷ c ∷ s) h = absurd (omega arith)
+
+zone_plus : (s : List ℕ) → zone_literal (43 ∷ s) ≡ None
+unfolding zone_literal hours_of
+zone_plus [] = refl
+zone_plus (b ∷ []) = refl
+zone_plus (b ∷ c ∷ s) = refl
+
+zone_minus : (s : List ℕ) → zone_literal (45 ∷ s) ≡ None
+unfolding zone_literal hours_of
+zone_minus [] = refl
+zone_minus (b ∷ []) = refl
+zone_minus (b ∷ c ∷ s) = refl
+
+-- no zone name begins with a sign
+pub zone-sign : (s : List ℕ) → 1 ≤ length s → (get_or s 0 0 ≡ 43) ⊎ (get_or s 0 0 ≡ 45) → zone_literal s ≡ None
+zone-sign [] h first = absurd (omega arith)
+zone-sign (c ∷ s) h (inl e) = ap (λ d. zone_literal (d ∷ s)) e ∙ zone_plus s
+zone-sign (c ∷ s) h (inr e) = ap (λ d. zone_literal (d ∷ s)) e ∙ zone_minus s
 
 military_leaves : (c : ℕ) (s : List ℕ) (b : Bool) (hours : ℤ) (r : List ℕ) → if◌then◌else◌ {A = Option (ℤ × List ℕ)} b (Some (pos 0, s)) None ≡ Some (hours, r)
     → (text : List ℕ) × (c ∷ s ≡ text ++ r)

@@ -24,29 +24,28 @@ const MOST_COMMENTS: u8 = 31;
 pub fn fws(input: &[u8]) -> Option<ParsedItem<'_, ()>>
     ensures { option_map (λ p. p.0.now) result ≡ spec.fws input.now }
 {
-    if input.len() >= 2 && is_one_blank(input[0], input[1]) {
+    // A space, and then what is printed.
+    if input.len() >= 2 && input[0] == b' ' && input[1] > b' ' {
         return Some(ParsedItem(&input[1..], ()));
     }
     folded_blanks(input)
 }
 
-// Whether the first byte is a blank, and the second neither a blank nor a CR. Most often they are a space and
-// what is printed.
-#[inline(always)]
+// Whether the first byte is a blank, and the second neither a blank nor a CR.
+#[inline]
 fn is_one_blank(first: u8, second: u8) -> bool
     ensures { IsTrue result → ((first ≡ 32) ⊎ (first ≡ 9)) × (second ≢ 32) × (second ≢ 9) × (second ≢ 13) }
 {
-    (first == b' ' && second >= 0x21)
-        || ((first == b' ' || first == b'\t')
-            && second != b' '
-            && second != b'\t'
-            && second != b'\r')
+    (first == b' ' || first == b'\t') && second != b' ' && second != b'\t' && second != b'\r'
 }
 
 // Reads blanks, folded over lines or not.
 fn folded_blanks(input: &[u8]) -> Option<ParsedItem<'_, ()>>
     ensures { option_map (λ p. p.0.now) result ≡ spec.fws input.now }
 {
+    if input.len() >= 2 && is_one_blank(input[0], input[1]) {
+        return Some(ParsedItem(&input[1..], ()));
+    }
     if let Some(rest) = line_fold(input) {
         return Some(ParsedItem(rest, ()));
     }
@@ -172,7 +171,8 @@ fn blanks_or_comment(input: &[u8]) -> Option<&[u8]>
 pub fn cfws(input: &[u8]) -> Option<ParsedItem<'_, ()>>
     ensures { option_map (λ p. p.0.now) result ≡ spec.cfws input.now }
 {
-    if input.len() >= 2 && input[1] != b'(' && is_one_blank(input[0], input[1]) {
+    // A space, and then a byte above `(`.
+    if input.len() >= 2 && input[0] == b' ' && input[1] > b'(' {
         return Some(ParsedItem(&input[1..], ()));
     }
     blanks_and_comments(input)
@@ -182,6 +182,9 @@ pub fn cfws(input: &[u8]) -> Option<ParsedItem<'_, ()>>
 fn blanks_and_comments(input: &[u8]) -> Option<ParsedItem<'_, ()>>
     ensures { option_map (λ p. p.0.now) result ≡ spec.cfws input.now }
 {
+    if input.len() >= 2 && input[1] != b'(' && is_one_blank(input[0], input[1]) {
+        return Some(ParsedItem(&input[1..], ()));
+    }
     let mut rest = blanks_or_comment(input)?;
     while let Some(more) = blanks_or_comment(rest) {
         rest = more;
@@ -238,6 +241,10 @@ fn colon_between_blanks(input: &[u8]) -> Option<ParsedItem<'_, ()>>
 pub fn zone_literal(input: &[u8]) -> Option<ParsedItem<'_, i8>>
     ensures { option_map (λ p. (p.1, p.0.now)) result ≡ zone_literal input.now }
 {
+    // No name begins with a sign.
+    if let [b'+' | b'-', ..] = input {
+        return None;
+    }
     if let [first, second, third, rest @ ..] = input {
         let hours = hours_of([*first, *second, *third])?;
         return Some(ParsedItem(rest, hours));

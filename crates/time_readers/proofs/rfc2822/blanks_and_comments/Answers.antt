@@ -1,9 +1,16 @@
-use Rattle.std.proofs.Common.{ap, sym, ◌∙◌, option_map, option_and_then}
+use Rattle.std.proofs.Common.{Some, refl, ap, sym, ◌∙◌, arith, option_map, option_and_then}
+use Rattle.time_readers.proofs.CutLemmas.{take-drop}
+use Rattle.time_readers.proofs.ShortCuts.{cfws-short}
 use Rattle.time_readers.specs.Readers.{zero_or_more}
 use Rattle.time_readers.specs.MailBlanks.{cfws}
 use Rattle.time_readers.proofs.Repeats.{takes-shorter, zero_or_more-none, zero_or_more-more}
 use Rattle.time_readers.proofs.MailBlanks.{blanks_or_comment, blanks_or_comment-takes}
 use Rattle.time_readers.proofs.rfc2822.blanks_and_comments.Goals as goal
+
+pub returns-then-is_one_blank : goal.returns-then-is_one_blank
+returns-then-is_one_blank c =
+    ap Some (take-drop c.args.input.now 1 (omega arith))
+    ∙ sym (cfws-short c.args.input.now c.if-input-ge2.true (c.if-is_one_blank.ensures refl) c.if-input-ne40.true)
 
 pub returns-in_err-rest : goal.returns-in_err-rest
 unfolding cfws

@@ -1,6 +1,13 @@
-use Rattle.std.proofs.Common.{ap, sym, ◌∙◌, option_map}
+use Rattle.std.proofs.Common.{Some, refl, ap, sym, ◌∙◌, arith, option_map}
+use Rattle.time_readers.proofs.CutLemmas.{take-drop}
+use Rattle.time_readers.proofs.ShortCuts.{fws-short}
 use Rattle.time_readers.proofs.MailBlanks.{fws-fold, fws-none, fws-blanks, more_lines-line, line-shorter, more_lines-stop, more_lines-end}
 use Rattle.time_readers.proofs.rfc2822.folded_blanks.Goals as goal
+
+pub returns-then-is_one_blank : goal.returns-then-is_one_blank
+returns-then-is_one_blank c =
+    ap Some (take-drop c.args.input.now 1 (omega arith))
+    ∙ sym (fws-short c.args.input.now c.if-input-ge2.true (c.if-is_one_blank.ensures refl))
 
 pub returns-in-Some : goal.returns-in-Some
 returns-in-Some c = sym (fws-fold _ _ (sym c.in-Some.ensures))

@@ -47,7 +47,8 @@ ninth_none s mid a eight none text rest v e run =
     let c = get_or text 8 0 in
     let split : text ≡ take 8 text ++ c ∷ [] = sym (take_all 9 text (omega arith)) ∙ take_more text 8 0 (omega arith) in
     let cut : s ≡ take 8 text ++ c ∷ rest = e ∙ ap (λ t. t ++ rest) split ∙ append_assoc (take 8 text) (c ∷ []) rest in
-    let same = IsDigitRun-unique 8 8 8 eight.0 (take 8 text) mid (c ∷ rest) a (digits_value (take 8 text)) eight.2 (eight_first text rest v run (c ∷ rest)) (sym eight.1 ∙ cut) in
+    let same = IsDigitRun-unique 8 8 8 eight.0 (take 8 text) mid (c ∷ rest) a (digits_value (take 8 text)) eight.2 (eight_first text rest v run (c ∷ rest))
+    (sym eight.1 ∙ cut) in
     none (c ∷ []) rest c same.1 (refl, AllDigits-at text 8 run.digits (omega arith))
 
 -- a digit follows eight

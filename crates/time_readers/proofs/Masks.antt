@@ -38,7 +38,9 @@ and_masks true false = refl
 and_masks false true = refl
 and_masks false false = refl
 
-tops_both : (s t : ℕ → ℕ → Bool) (xs ys zs ws : List ℕ) → map (top 7) (zip2 (λ a b. bit_and a b) (zip2 (λ a b. cond (s a b) 255 0) xs ys) (zip2 (λ a b. cond (t a b) 255 0) zs ws)) ≡ zip2 (λ a b. a && b) (zip2 s xs ys) (zip2 t zs ws)
+tops_both : (s t : ℕ → ℕ → Bool) (xs ys zs ws : List ℕ)
+    → map (top 7) (zip2 (λ a b. bit_and a b) (zip2 (λ a b. cond (s a b) 255 0) xs ys) (zip2 (λ a b. cond (t a b) 255 0) zs ws)) ≡ zip2 (λ a b. a && b)
+    (zip2 s xs ys) (zip2 t zs ws)
 tops_both s t [] ys zs ws = refl
 tops_both s t (x ∷ xs) [] zs ws = refl
 tops_both s t (x ∷ xs) (y ∷ ys) [] ws = refl
@@ -57,10 +59,13 @@ within_both (l ∷ ls) [] bs all = tt
 within_both (l ∷ ls) (g ∷ gs) [] all = tt
 
 -- what `all` says of two comparisons of sixteen bytes joined by `&`
-pub all_within : (ls gs bs : List ℕ) → length bs ≤ 16 → mask_l (map (top 7) (zip2 (λ a b. bit_and a b) (zip2 (λ a b. cond (leb a b) 255 0) ls bs) (zip2 (λ a b. cond (leb a b) 255 0) bs gs))) % 18446744073709551616 ≡ 65535 → AllWithin ls gs bs
+pub all_within : (ls gs bs : List ℕ) → length bs ≤ 16
+    → mask_l (map (top 7) (zip2 (λ a b. bit_and a b) (zip2 (λ a b. cond (leb a b) 255 0) ls bs) (zip2 (λ a b. cond
+    (leb a b) 255 0) bs gs))) % 18446744073709551616 ≡ 65535 → AllWithin ls gs bs
 all_within ls gs bs short all =
     let both = zip2 (λ a b. a && b) (zip2 leb ls bs) (zip2 leb bs gs) in
     let few : length both ≤ 16 = omega (arith, zip2-le_left (λ a b. a && b) (zip2 leb ls bs) (zip2 leb bs gs), zip2-le_right leb ls bs) in
-    let same : mask_l (map (top 7) (zip2 (λ a b. bit_and a b) (zip2 (λ a b. cond (leb a b) 255 0) ls bs) (zip2 (λ a b. cond (leb a b) 255 0) bs gs))) % 2 ^ 64 ≡ mask_l both = ap (λ ms. mask_l ms % 2 ^ 64) (tops_both leb leb ls bs bs gs) ∙ mask_l-mod both 64 (omega arith) in
+    let same : mask_l (map (top 7) (zip2 (λ a b. bit_and a b) (zip2 (λ a b. cond (leb a b) 255 0) ls bs) (zip2 (λ a b. cond
+    (leb a b) 255 0) bs gs))) % 2 ^ 64 ≡ mask_l both = ap (λ ms. mask_l ms % 2 ^ 64) (tops_both leb leb ls bs bs gs) ∙ mask_l-mod both 64 (omega arith) in
     let full : mask_l both + 1 ≡ 2 ^ 16 = omega arith in
     within_both ls gs bs (full_mask both 16 few full)

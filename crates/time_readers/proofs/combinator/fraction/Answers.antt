@@ -16,5 +16,7 @@ overflow_mul-nanoseconds c =
     omega arith
 
 pub returns : goal.returns
-returns c = fraction_cut c.args.input.now c.in-Some-n_to_m_digits.found.0.now c.without_digits-2.result.now c.in-Some-n_to_m_digits.found.1 c.nanoseconds_of_place.result
-    4294967295 c.in-Some-n_to_m_digits.ensures c.nanoseconds_of_place.ensures c.without_digits-2.ensures
+returns c =
+    let found = c.in-Some-n_to_m_digits.found in
+    fraction_cut c.args.input.now found.0.now c.without_digits-2.result.now found.1 c.nanoseconds_of_place.result 4294967295
+    c.in-Some-n_to_m_digits.ensures c.nanoseconds_of_place.ensures c.without_digits-2.ensures

@@ -23,15 +23,18 @@ returns-then-not-are_digits c = λ digits.
 
 pub overflow_mul-pairs : goal.overflow_mul-pairs
 overflow_mul-pairs c =
-    let found = (right c.args.word c.args.n (64 - 8 * c.from.result) (omega arith) (omega arith) (omega arith) (omega arith)).0 (both _ _ _ _ c.if-not-are_digits.false) in
+    let found = (right c.args.word c.args.n (64 - 8 * c.from.result) (omega arith) (omega arith) (omega arith) (omega arith)).0
+    (both _ _ _ _ c.if-not-are_digits.false) in
     omega arith
 
 pub overflow_add-pairs : goal.overflow_add-pairs
 overflow_add-pairs c =
-    let found = (right c.args.word c.args.n (64 - 8 * c.from.result) (omega arith) (omega arith) (omega arith) (omega arith)).0 (both _ _ _ _ c.if-not-are_digits.false) in
+    let found = (right c.args.word c.args.n (64 - 8 * c.from.result) (omega arith) (omega arith) (omega arith) (omega arith)).0
+    (both _ _ _ _ c.if-not-are_digits.false) in
     omega arith
 
 pub returns : goal.returns
 returns c =
-    let found = (right c.args.word c.args.n (64 - 8 * c.from.result) (omega arith) (omega arith) (omega arith) (omega arith)).0 (both _ _ _ _ c.if-not-are_digits.false) in
+    let found = (right c.args.word c.args.n (64 - 8 * c.from.result) (omega arith) (omega arith) (omega arith) (omega arith)).0
+    (both _ _ _ _ c.if-not-are_digits.false) in
     (found.0, found.1.0)

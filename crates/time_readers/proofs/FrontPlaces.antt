@@ -4,7 +4,7 @@ use Rattle.std.proofs.lemmas.Simd.{pick_l_whole}
 use Rattle.time_readers.specs.Front.{AllWithin, pair_at, front_places}
 use Rattle.time_readers.specs.Digits.{IsDigit, IsDigitRun}
 use Rattle.time_readers.specs.Places.{Stand}
-use Rattle.time_readers.specs.Rfc3339.{Asks, nothing_read}
+use Rattle.time_readers.specs.Rfc3339.{Asks}
 use Rattle.time_readers.specs.Ranged.{IsTwoDigits, IsWithin}
 use Rattle.time_readers.specs.declared.rfc3339.Numbers.{Numbers}
 use Rattle.time_readers.specs.declared.rfc3339.front.TheConstants.{LEAST, GREATEST}
@@ -37,14 +37,14 @@ four_digits a b c d rest v p q r s is = record {
 }
 
 -- the numbers of a date and a time
-abbrev pub front_numbers : ℕ → ℕ → ℕ → ℕ → ℕ → ℕ → Numbers
-front_numbers year month day hour minute second =
-    record nothing_read { year = year; month = month; day = day; hour = hour; minute = minute; second = second }
+abbrev pub front_numbers : Numbers → ℕ → ℕ → ℕ → ℕ → ℕ → ℕ → Numbers
+front_numbers n year month day hour minute second =
+    record n { year = year; month = month; day = day; hour = hour; minute = minute; second = second }
 
 one_byte : (c d : ℕ) (rest : List ℕ) → c ≡ d → c ∷ rest ≡ (d ∷ []) ++ rest
 one_byte c d rest e = ap (λ x. x ∷ rest) e
 
-front_stands : (ranged : Bool) (y0 y1 y2 y3 a m0 m1 b d0 d1 s h0 h1 c n0 n1 e s0 s1 : ℕ) (rest : List ℕ) (year month day hour minute second : ℕ)
+front_stands : (ranged : Bool) (n : Numbers) (y0 y1 y2 y3 a m0 m1 b d0 d1 s h0 h1 c n0 n1 e s0 s1 : ℕ) (rest : List ℕ) (year month day hour minute second : ℕ)
     → AllWithin LEAST GREATEST (y0 ∷ y1 ∷ y2 ∷ y3 ∷ a ∷ m0 ∷ m1 ∷ b ∷ d0 ∷ d1 ∷ s ∷ h0 ∷ h1 ∷ c ∷ n0 ∷ n1 ∷ [])
     → e ≡ 58 → IsDigit s0 → IsDigit s1
     → year ≡ ((y0 - 48) * 10 + (y1 - 48)) * 100 + ((y2 - 48) * 10 + (y3 - 48))
@@ -53,11 +53,11 @@ front_stands : (ranged : Bool) (y0 y1 y2 y3 a m0 m1 b d0 d1 s h0 h1 c n0 n1 e s0
     → hour ≡ (h0 - 48) * 10 + (h1 - 48) → IsWithin ranged 0 23 hour
     → minute ≡ (n0 - 48) * 10 + (n1 - 48)
     → second ≡ (s0 - 48) * 10 + (s1 - 48) → second ≤ 60
-    → Stand (Asks ranged) front_places nothing_read
+    → Stand (Asks ranged) front_places n
     (y0 ∷ y1 ∷ y2 ∷ y3 ∷ a ∷ m0 ∷ m1 ∷ b ∷ d0 ∷ d1 ∷ s ∷ h0 ∷ h1 ∷ c ∷ n0 ∷ n1 ∷ e ∷ s0 ∷ s1 ∷ rest) rest
-    (front_numbers year month day hour minute second)
+    (front_numbers n year month day hour minute second)
 unfolding Stand
-front_stands ranged y0 y1 y2 y3 a m0 m1 b d0 d1 s h0 h1 c n0 n1 e s0 s1 rest year month day hour minute second (
+front_stands ranged n y0 y1 y2 y3 a m0 m1 b d0 d1 s h0 h1 c n0 n1 e s0 s1 rest year month day hour minute second (
   y0l,
   y0g,
   (
@@ -170,7 +170,7 @@ three_first (a ∷ []) h = absurd (omega arith)
 three_first (a ∷ b ∷ []) h = absurd (omega arith)
 three_first (a ∷ b ∷ c ∷ xs) h = refl
 
-pub front_lists : (ranged : Bool) (text first rest : List ℕ) (year month day hour minute second : ℕ)
+pub front_lists : (ranged : Bool) (n : Numbers) (text first rest : List ℕ) (year month day hour minute second : ℕ)
     → text ≡ first ++ rest → length first ≡ 16 → 3 ≤ length rest
     → AllWithin LEAST GREATEST first
     → get_or rest 0 0 ≡ 58 → IsDigit (get_or rest 1 0) → IsDigit (get_or rest 2 0)
@@ -180,12 +180,12 @@ pub front_lists : (ranged : Bool) (text first rest : List ℕ) (year month day h
     → hour ≡ pair_at first 11 → IsWithin ranged 0 23 hour
     → minute ≡ pair_at first 14
     → second ≡ pair_at rest 1 → second ≤ 60
-    → Stand (Asks ranged) front_places nothing_read text (drop 3 rest) (front_numbers year month day hour minute second)
-front_lists ranged text first rest year month day hour minute second cut l short w
+    → Stand (Asks ranged) front_places n text (drop 3 rest) (front_numbers n year month day hour minute second)
+front_lists ranged n text first rest year month day hour minute second cut l short w
     colon sec0 sec1 yeq meq positive month_in deq day_in heq hour_in neq seq shigh =
     let f = pick_l_whole 0 first 16 l in
     let r = three_first rest short in
-    subst (λ t. Stand (Asks ranged) front_places nothing_read t (drop 3 rest) (front_numbers year month day hour minute second))
+    subst (λ t. Stand (Asks ranged) front_places n t (drop 3 rest) (front_numbers n year month day hour minute second))
     ((λ i. f i ++ r i) ∙ sym cut)
-    (front_stands ranged _ _ _ _ _ _ _ _ _ _ _ _ _ _ _ _ _ _ _ (drop 3 rest) year month day hour minute second
+    (front_stands ranged n _ _ _ _ _ _ _ _ _ _ _ _ _ _ _ _ _ _ _ (drop 3 rest) year month day hour minute second
     (subst (AllWithin LEAST GREATEST) (sym f) w) colon sec0 sec1 yeq meq positive month_in deq day_in heq hour_in neq seq shigh)

@@ -122,6 +122,18 @@ pub StopsAt-by : {P N : Type 0} (A : Format P N) (ps qs : List P) (n : N) (bytes
 StopsAt-by A ps qs n bytes (Ok v) e Q by stops = let h = by.0 in cc
 StopsAt-by A ps qs n bytes (Err x) e Q by stops = subst (λ y. StopsAt A (ps ++ qs) n bytes y) (sym by.1) (StopsAt-append A ps qs n bytes e stops)
 
+-- the first places don't all stand, and `?` hands that on
+pub Walks-by : {P N : Type 0} (A : Format P N) (ps qs : List P) (n m : N) (bytes : List ℕ) (result : Result (Bor (List ℕ)) P) (e : P)
+    → IsErr result × IsErrAnd result (λ x. x ≡ e) → StopsAt A ps n bytes e → Walks A (ps ++ qs) n bytes result m
+Walks-by A ps qs n m bytes (Ok rest) e by stops = let h = by.0 in cc
+Walks-by A ps qs n m bytes (Err x) e by stops = subst (λ y. StopsAt A (ps ++ qs) n bytes y) (sym by.1) (StopsAt-append A ps qs n bytes e stops)
+
+-- the first places stand, and the others answer
+pub Walks-after : {P N : Type 0} (A : Format P N) (ps qs : List P) (n k m : N) (bytes mid : List ℕ) (result : Result (Bor (List ℕ)) P)
+    → Stand A ps n bytes mid k → Walks A qs k mid result m → Walks A (ps ++ qs) n bytes result m
+Walks-after A ps qs n k m bytes mid (Ok rest) first others = Stand-append A ps qs n k m bytes mid rest.now first others
+Walks-after A ps qs n k m bytes mid (Err e) first others = StopsAt-after A ps qs n k bytes mid e first others
+
 -- places that stand, cut in two
 pub Stand-split : {P N : Type 0} (A : Format P N) (ps qs : List P) (n m : N) (bytes rest : List ℕ) → Stand A (ps ++ qs) n bytes rest m
     → (mid : List ℕ) × ((k : N) × Stand A ps n bytes mid k × Stand A qs k mid rest m)

@@ -3,9 +3,9 @@ ghost use Rattle.std.specs.Prelude.{◌≡◌, ◌≢◌, ℕ, false, List, [], 
 ghost use Rattle.time_values.specs.Refusal.{refusal_of_description};
 ghost use Rattle.time_readers.specs.Cuts.{Cut, NoCut};
 ghost use Rattle.time_readers.specs.Front.{front_places, clock_places};
-ghost use Rattle.time_readers.specs.Places.{Stand, StopsAt, Steps, Walks};
+ghost use Rattle.time_readers.specs.Places.{Steps, Walks};
 ghost use Rattle.time_readers.specs.Ranged.{IsTwoDigits};
-ghost use Rattle.time_readers.specs.Rfc3339.{Asks, nothing_read, date_places, offset_places, HasForm, FailsAt, fault};
+ghost use Rattle.time_readers.specs.Rfc3339.{Asks, date_places, offset_places, HasForm, FailsAt, fault};
 ghost use Rattle.time_readers.specs.declared.rfc3339.Place.TheVariants as place;
 
 mod front;
@@ -103,27 +103,26 @@ pub fn read<const RANGED: bool>(input: &[u8]) -> Result<ParsedItem<'_, Numbers>,
         (λ p. HasForm RANGED input.now p.0.now p.1)
         (λ e. FailsAt RANGED input.now e) }
 {
-    let found = to_second::<RANGED>(input)?;
-    let mut numbers = found.1;
-    let rest = subsecond::<RANGED>(found.0, &mut numbers)?;
+    let mut numbers = Numbers::NONE;
+    let rest = to_second::<RANGED>(input, &mut numbers)?;
+    let rest = subsecond::<RANGED>(rest, &mut numbers)?;
     let end = offset::<RANGED>(rest, &mut numbers)?;
     Ok(ParsedItem(end, numbers))
 }
 
 // The places up to the second: at once where all stand, else one after another.
 #[inline(always)]
-fn to_second<const RANGED: bool>(input: &[u8]) -> Result<ParsedItem<'_, Numbers>, Place>
-    ensures { MatchResult result
-        (λ p. Stand (Asks RANGED) front_places nothing_read input.now p.0.now p.1)
-        (λ e. StopsAt (Asks RANGED) front_places nothing_read input.now e) }
+fn to_second<'a, const RANGED: bool>(
+    input: &'a [u8],
+    numbers: &mut Numbers,
+) -> Result<&'a [u8], Place>
+    ensures { Walks (Asks RANGED) front_places numbers.old input.now result numbers.new }
 {
-    if let Some(found) = front::front::<RANGED>(input) {
-        return Ok(found);
+    if let Some(rest) = front::front::<RANGED>(input, numbers) {
+        return Ok(rest);
     }
-    let mut numbers = Numbers::NONE;
-    let rest = date::<RANGED>(input, &mut numbers)?;
-    let rest = time::<RANGED>(rest, &mut numbers)?;
-    Ok(ParsedItem(rest, numbers))
+    let rest = date::<RANGED>(input, numbers)?;
+    time::<RANGED>(rest, numbers)
 }
 
 /// The refusal of a text whose first place that doesn't stand is this one: an invalid literal where one

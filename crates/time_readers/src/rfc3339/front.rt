@@ -1,11 +1,11 @@
 //! The date and time of RFC 3339 up to the second, nineteen bytes at once.
-ghost use Rattle.std.specs.Prelude.{IsTrue, IfSome, ◌≡◌, ◌∷◌, [], map, true};
+ghost use Rattle.std.specs.Prelude.{IsTrue, MatchOption, ◌≡◌, ◌∷◌, [], map, true};
 ghost use Rattle.time_readers.specs.Front.{AllWithin, pair_at, front_places};
 ghost use Rattle.time_readers.specs.Places.{Stand};
-ghost use Rattle.time_readers.specs.Rfc3339.{Asks, nothing_read};
+ghost use Rattle.time_readers.specs.Rfc3339.{Asks};
 
+use crate::ranged;
 use crate::rfc3339::Numbers;
-use crate::{ParsedItem, ranged};
 use std::simd::prelude::*;
 
 // The least and the greatest byte at each of the first sixteen places.
@@ -36,10 +36,15 @@ fn pairs(bytes: &[u8; 16]) -> [u8; 8]
     (tens * u8x8::splat(10) + ones).to_array()
 }
 
-// Reads the places from the year to the second at once. `None` says nothing.
+// Reads the places from the year to the second at once. `None` says nothing, and leaves the numbers.
 #[inline(always)]
-pub(super) fn front<const RANGED: bool>(text: &[u8]) -> Option<ParsedItem<'_, Numbers>>
-    ensures { IfSome result (λ p. Stand (Asks RANGED) front_places nothing_read text.now p.0.now p.1) }
+pub(super) fn front<'a, const RANGED: bool>(
+    text: &'a [u8],
+    numbers: &mut Numbers,
+) -> Option<&'a [u8]>
+    ensures { MatchOption result
+        (numbers.new ≡ numbers.old)
+        (λ rest. Stand (Asks RANGED) front_places numbers.old text.now rest.now numbers.new) }
 {
     let (first, rest) = text.split_first_chunk::<16>()?;
     if !is_within(first, LEAST, GREATEST) {
@@ -57,16 +62,11 @@ pub(super) fn front<const RANGED: bool>(text: &[u8]) -> Option<ParsedItem<'_, Nu
     {
         return None;
     }
-    Some(ParsedItem(
-        rest,
-        Numbers {
-            year: u16::from(century) * 100 + u16::from(in_century),
-            month,
-            day,
-            hour,
-            minute,
-            second,
-            ..Numbers::NONE
-        },
-    ))
+    numbers.year = u16::from(century) * 100 + u16::from(in_century);
+    numbers.month = month;
+    numbers.day = day;
+    numbers.hour = hour;
+    numbers.minute = minute;
+    numbers.second = second;
+    Some(rest)
 }

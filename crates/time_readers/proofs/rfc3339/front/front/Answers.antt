@@ -6,6 +6,9 @@ use Rattle.time_readers.specs.declared.rfc3339.front.TheConstants.{LEAST, GREATE
 use Rattle.time_readers.proofs.FrontPlaces.{front_lists}
 use Rattle.time_readers.proofs.rfc3339.front.front.Goals as goal
 
+pub returns-in_err-first : goal.returns-in_err-first
+returns-in_err-first g c = rw c.from_residual.ensures refl
+
 pub returns : goal.returns
 returns g c =
     let text = c.args.text.now in
@@ -29,7 +32,7 @@ returns g c =
     let month_in = c.is_within-else-month-eq0.ensures.0 c.if-not-is_within-2.false in
     let day_in = c.is_within-else-not-is_within-2.ensures.0 c.if-not-is_within-3.false in
     let hour_in = c.is_within-else-not-is_within-3.ensures.0 c.if-not-is_within-4.false in
-    let stands = front_lists _ text first rest _ _ _ _ _ _ cut long short within colon sec0 sec1
+    let stands = front_lists _ c.args.numbers.now text first rest _ _ _ _ _ _ cut long short within colon sec0 sec1
     (λ i. century i * 100 + in_century i) month c.if-month-eq0.false month_in day day_in hour hour_in minute refl (omega arith) in
     let all = take_all (length rest - 3) (drop 3 rest) (omega (arith, length-drop 3 rest)) in
     rw all stands

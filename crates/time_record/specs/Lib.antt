@@ -1,4 +1,6 @@
 pub mod Record
+pub mod Cells
+pub mod Inverse
 pub mod Layout
 pub mod Rows
 pub mod Resolution

@@ -1,16 +1,20 @@
 //! What a reading of a date and time leaves.
 mod builders;
+mod cells;
 mod component;
+mod debug;
 mod getters;
 mod parse;
 mod setters;
+#[cfg(test)]
+mod tests;
 mod try_from;
 
 ghost use Rattle.std.specs.Prelude.{◌≡◌, true, false};
 ghost use Rattle.time_record.specs.Record.{empty};
 
+use crate::parsed::cells::{LEAP_SECOND_ALLOWED, OFFSET_IS_NEGATIVE};
 use std::marker::Model;
-use time_values::{Month, Weekday};
 
 /// The components of a date and time, as far as they are known.
 ///
@@ -18,39 +22,21 @@ use time_values::{Month, Weekday};
 /// by hand. For each component there is a getter, a setter `set_..` and a builder `with_..`. A
 /// setter answers `None` and changes nothing where the value is out of range, and a builder then
 /// answers `None`.
-#[derive(Clone, Copy, Debug)]
+#[derive(Clone, Copy)]
 pub struct Parsed {
-    year: Option<i32>,
-    year_century: Option<i16>,
-    year_last_two: Option<u8>,
-    iso_year: Option<i32>,
-    iso_year_century: Option<i16>,
-    iso_year_last_two: Option<u8>,
-    month: Option<Month>,
-    sunday_week_number: Option<u8>,
-    monday_week_number: Option<u8>,
-    iso_week_number: Option<u8>,
-    weekday: Option<Weekday>,
-    ordinal: Option<u16>,
-    day: Option<u8>,
-    hour_24: Option<u8>,
-    hour_12: Option<u8>,
-    hour_12_is_pm: Option<bool>,
-    minute: Option<u8>,
-    second: Option<u8>,
-    subsecond: Option<u32>,
-    offset_hour: Option<i8>,
-    offset_minute: Option<i8>,
-    offset_second: Option<i8>,
-    unix_timestamp_nanos: Option<i128>,
-    offset_is_negative: bool,
-    year_century_is_negative: bool,
-    iso_year_century_is_negative: bool,
-    leap_second_allowed: bool,
+    // Which options are there, and the flags.
+    mask: u32,
+    // The values of the options, or 0, by size.
+    bytes: [i8; 16],
+    shorts: [i16; 3],
+    words: [i32; 3],
+    stamp: i128,
 }
 
 impl Model for Parsed {
-    ghost use Rattle.time_record.specs.Record.{Record, IsInRanges};
+    ghost use Rattle.time_record.specs.Record.{Record};
+    ghost use Rattle.time_record.specs.Cells.{IsSound};
+    ghost use Rattle.time_record.specs.Inverse.{mask_back, bytes_back, shorts_back, words_back, stamp_back};
     ghost use Rattle.time_values.specs.Range.{greatest_year};
 
     ghost Value = { Record };
@@ -59,9 +45,17 @@ impl Model for Parsed {
 
     ghost view = { record_of };
 
-    ghost invariant = { λ a. IsInRanges greatest_year (record_of a) };
+    ghost invariant = { λ a. IsSound greatest_year a.mask a.bytes a.shorts a.words a.stamp };
 
     ghost inverse = { fields_of };
+
+    ghost inverse_ok = { λ a sound i. record {
+      mask = mask_back a.mask a.bytes a.shorts a.words a.stamp greatest_year sound i;
+      bytes = bytes_back a.mask a.bytes a.shorts a.words a.stamp greatest_year sound i;
+      shorts = shorts_back a.mask a.bytes a.shorts a.words a.stamp greatest_year sound i;
+      words = words_back a.mask a.bytes a.shorts a.words a.stamp greatest_year sound i;
+      stamp = stamp_back a.mask a.bytes a.shorts a.words a.stamp greatest_year sound i;
+    } };
 }
 
 impl Default for Parsed {
@@ -81,33 +75,11 @@ impl Parsed {
         ensures { result ≡ empty }
     {
         Parsed {
-            year: None,
-            year_century: None,
-            year_last_two: None,
-            iso_year: None,
-            iso_year_century: None,
-            iso_year_last_two: None,
-            month: None,
-            sunday_week_number: None,
-            monday_week_number: None,
-            iso_week_number: None,
-            weekday: None,
-            ordinal: None,
-            day: None,
-            hour_24: None,
-            hour_12: None,
-            hour_12_is_pm: None,
-            minute: None,
-            second: None,
-            subsecond: None,
-            offset_hour: None,
-            offset_minute: None,
-            offset_second: None,
-            unix_timestamp_nanos: None,
-            offset_is_negative: false,
-            year_century_is_negative: false,
-            iso_year_century_is_negative: false,
-            leap_second_allowed: false,
+            mask: 0,
+            bytes: [0; 16],
+            shorts: [0; 3],
+            words: [0; 3],
+            stamp: 0,
         }
     }
 
@@ -117,7 +89,7 @@ impl Parsed {
     pub fn allow_leap_second(&mut self)
         ensures { self.new ≡ record self.old { leap_second_allowed = true } }
     {
-        self.leap_second_allowed = true;
+        self.set_flag(LEAP_SECOND_ALLOWED, true);
     }
 
     // Whether a second of 60 may stand for a leap second.
@@ -125,7 +97,7 @@ impl Parsed {
     fn is_leap_second_allowed(&self) -> bool
         ensures { result ≡ self.now.leap_second_allowed }
     {
-        self.leap_second_allowed
+        self.flag(LEAP_SECOND_ALLOWED)
     }
 
     /// Clears the flag of a negative offset, which a reading of an offset's hour sets.
@@ -133,6 +105,6 @@ impl Parsed {
     pub fn forget_offset_sign(&mut self)
         ensures { self.new ≡ record self.old { offset_is_negative = false } }
     {
-        self.offset_is_negative = false;
+        self.set_flag(OFFSET_IS_NEGATIVE, false);
     }
 }

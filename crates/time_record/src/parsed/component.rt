@@ -18,6 +18,7 @@ ghost use Rattle.time_record.specs.Components.{component_fault, put_offset_hour,
 ghost use Rattle.time_record.specs.Record.{Sets};
 
 use crate::Parsed;
+use crate::parsed::cells::OFFSET_IS_NEGATIVE;
 use time_readers::{Component, ParsedItem};
 use time_values::error::ParseFromDescription;
 
@@ -123,7 +124,7 @@ impl Parsed {
             self.old result self.new }
     {
         self.set_offset_hour(value)?;
-        self.offset_is_negative = is_negative;
+        self.set_flag(OFFSET_IS_NEGATIVE, is_negative);
         Some(())
     }
 }

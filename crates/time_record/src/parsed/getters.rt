@@ -1,12 +1,19 @@
 //! What is known of each component; `None` where nothing is.
-ghost use Rattle.std.specs.Prelude.{◌≡◌, ◌≤◌, false, IfSome, unsigned_abs};
+ghost use Rattle.std.specs.Prelude.{◌≡◌, ◌≤◌, ◌≤ℤ◌, pos, false, IfSome, unsigned_abs};
 ghost use Rattle.std.specs.Option.{option_map};
 ghost use Rattle.std.specs.Int.NonZero.{non_zero_u8_get, non_zero_u16_get};
 ghost use Rattle.time_values.specs.Range.{greatest_year};
 ghost use Rattle.time_values.specs.Sign.{signed_by};
 ghost use Rattle.time_record.specs.Record.{InRange, year_is, year_century_is, year_last_two_is, iso_year_is, iso_year_century_is, iso_year_last_two_is, sunday_week_number_is, monday_week_number_is, iso_week_number_is, ordinal_is, day_is, hour_24_is, hour_12_is, minute_is, second_is, subsecond_is, offset_hour_is, offset_minute_is, offset_second_is, unix_timestamp_nanos_is};
+ghost use Rattle.time_record.specs.Cells.{month_in, weekday_in};
 
 use crate::Parsed;
+use crate::parsed::cells::{
+    DAY, HOUR_12, HOUR_12_IS_PM, HOUR_24, ISO_WEEK_NUMBER, ISO_YEAR, ISO_YEAR_CENTURY,
+    ISO_YEAR_CENTURY_IS_NEGATIVE, ISO_YEAR_LAST_TWO, MINUTE, MONDAY_WEEK_NUMBER, MONTH,
+    OFFSET_HOUR, OFFSET_IS_NEGATIVE, OFFSET_MINUTE, OFFSET_SECOND, ORDINAL, SECOND, SUBSECOND,
+    SUNDAY_WEEK_NUMBER, WEEKDAY, YEAR, YEAR_CENTURY, YEAR_CENTURY_IS_NEGATIVE, YEAR_LAST_TWO,
+};
 use std::num::NonZero;
 use time_values::{Month, Weekday};
 
@@ -17,7 +24,7 @@ impl Parsed {
         ensures value { result ≡ self.now.year }
         ensures in_range { IfSome result (λ v. InRange greatest_year (year_is v)) }
     {
-        self.year
+        self.word(YEAR)
     }
 
     /// The calendar year without its last two digits, from -99 to 99.
@@ -28,7 +35,7 @@ impl Parsed {
         ensures value { result ≡ self.now.year_century }
         ensures in_range { IfSome result (λ v. InRange greatest_year (year_century_is v false)) }
     {
-        self.year_century
+        self.short(YEAR_CENTURY)
     }
 
     /// Whether the century is negative, -0 included; `None` where no century is known.
@@ -37,10 +44,8 @@ impl Parsed {
         ensures { result ≡ option_map (λ _. self.now.year_century_is_negative)
             self.now.year_century }
     {
-        match self.year_century {
-            Some(_) => Some(self.year_century_is_negative),
-            None => None,
-        }
+        self.short(YEAR_CENTURY)?;
+        Some(self.flag(YEAR_CENTURY_IS_NEGATIVE))
     }
 
     /// The last two digits of the calendar year, from 0 to 99.
@@ -49,7 +54,7 @@ impl Parsed {
         ensures value { result ≡ self.now.year_last_two }
         ensures in_range { IfSome result (λ v. InRange greatest_year (year_last_two_is v)) }
     {
-        self.year_last_two
+        Some(self.byte(YEAR_LAST_TWO)? as u8)
     }
 
     /// The year of the ISO 8601 week date, from -9999 to 9999.
@@ -58,7 +63,7 @@ impl Parsed {
         ensures value { result ≡ self.now.iso_year }
         ensures in_range { IfSome result (λ v. InRange greatest_year (iso_year_is v)) }
     {
-        self.iso_year
+        self.word(ISO_YEAR)
     }
 
     /// The year of the ISO 8601 week date without its last two digits, from -99 to 99.
@@ -70,7 +75,7 @@ impl Parsed {
         ensures in_range { IfSome result
             (λ v. InRange greatest_year (iso_year_century_is v false)) }
     {
-        self.iso_year_century
+        self.short(ISO_YEAR_CENTURY)
     }
 
     /// Whether the ISO century is negative, -0 included; `None` where no ISO century is known.
@@ -79,10 +84,8 @@ impl Parsed {
         ensures { result ≡ option_map (λ _. self.now.iso_year_century_is_negative)
             self.now.iso_year_century }
     {
-        match self.iso_year_century {
-            Some(_) => Some(self.iso_year_century_is_negative),
-            None => None,
-        }
+        self.short(ISO_YEAR_CENTURY)?;
+        Some(self.flag(ISO_YEAR_CENTURY_IS_NEGATIVE))
     }
 
     /// The last two digits of the year of the ISO 8601 week date, from 0 to 99.
@@ -91,7 +94,7 @@ impl Parsed {
         ensures value { result ≡ self.now.iso_year_last_two }
         ensures in_range { IfSome result (λ v. InRange greatest_year (iso_year_last_two_is v)) }
     {
-        self.iso_year_last_two
+        Some(self.byte(ISO_YEAR_LAST_TWO)? as u8)
     }
 
     /// The month of the year.
@@ -99,7 +102,7 @@ impl Parsed {
     pub fn month(&self) -> Option<Month>
         ensures { result ≡ self.now.month }
     {
-        self.month
+        Some(month_of(self.byte(MONTH)?))
     }
 
     /// The week of the year, where week 1 begins on the first Sunday, from 0 to 53.
@@ -108,7 +111,7 @@ impl Parsed {
         ensures value { result ≡ self.now.sunday_week_number }
         ensures in_range { IfSome result (λ v. InRange greatest_year (sunday_week_number_is v)) }
     {
-        self.sunday_week_number
+        Some(self.byte(SUNDAY_WEEK_NUMBER)? as u8)
     }
 
     /// The week of the year, where week 1 begins on the first Monday, from 0 to 53.
@@ -117,7 +120,7 @@ impl Parsed {
         ensures value { result ≡ self.now.monday_week_number }
         ensures in_range { IfSome result (λ v. InRange greatest_year (monday_week_number_is v)) }
     {
-        self.monday_week_number
+        Some(self.byte(MONDAY_WEEK_NUMBER)? as u8)
     }
 
     /// The week of the ISO 8601 week date, where week 1 holds 4 January, from 1 to 53.
@@ -127,7 +130,7 @@ impl Parsed {
         ensures in_range { IfSome result
             (λ v. InRange greatest_year (iso_week_number_is (non_zero_u8_get v))) }
     {
-        NonZero::<u8>::new(self.iso_week_number?)
+        NonZero::<u8>::new(self.byte(ISO_WEEK_NUMBER)? as u8)
     }
 
     /// The day of the week.
@@ -135,7 +138,7 @@ impl Parsed {
     pub fn weekday(&self) -> Option<Weekday>
         ensures { result ≡ self.now.weekday }
     {
-        self.weekday
+        Some(weekday_of(self.byte(WEEKDAY)?))
     }
 
     /// The day of the year, from 1 to 366.
@@ -145,7 +148,7 @@ impl Parsed {
         ensures in_range { IfSome result
             (λ v. InRange greatest_year (ordinal_is (non_zero_u16_get v))) }
     {
-        NonZero::<u16>::new(self.ordinal?)
+        NonZero::<u16>::new(self.short(ORDINAL)? as u16)
     }
 
     /// The day of the month, from 1 to 31.
@@ -154,7 +157,7 @@ impl Parsed {
         ensures value { option_map non_zero_u8_get result ≡ self.now.day }
         ensures in_range { IfSome result (λ v. InRange greatest_year (day_is (non_zero_u8_get v))) }
     {
-        NonZero::<u8>::new(self.day?)
+        NonZero::<u8>::new(self.byte(DAY)? as u8)
     }
 
     /// The hour of the day, from 0 to 23.
@@ -163,7 +166,7 @@ impl Parsed {
         ensures value { result ≡ self.now.hour_24 }
         ensures in_range { IfSome result (λ v. InRange greatest_year (hour_24_is v)) }
     {
-        self.hour_24
+        Some(self.byte(HOUR_24)? as u8)
     }
 
     /// The hour of the half day, where 12 comes before 1, from 1 to 12.
@@ -173,7 +176,7 @@ impl Parsed {
         ensures in_range { IfSome result
             (λ v. InRange greatest_year (hour_12_is (non_zero_u8_get v))) }
     {
-        NonZero::<u8>::new(self.hour_12?)
+        NonZero::<u8>::new(self.byte(HOUR_12)? as u8)
     }
 
     /// Whether `hour_12` lies in the second half of the day.
@@ -181,7 +184,7 @@ impl Parsed {
     pub fn hour_12_is_pm(&self) -> Option<bool>
         ensures { result ≡ self.now.hour_12_is_pm }
     {
-        self.hour_12_is_pm
+        Some(self.byte(HOUR_12_IS_PM)? == 1)
     }
 
     /// The minute of the hour, from 0 to 59.
@@ -190,7 +193,7 @@ impl Parsed {
         ensures value { result ≡ self.now.minute }
         ensures in_range { IfSome result (λ v. InRange greatest_year (minute_is v)) }
     {
-        self.minute
+        Some(self.byte(MINUTE)? as u8)
     }
 
     /// The second of the minute, from 0 to 60, where 60 is a leap second.
@@ -199,7 +202,7 @@ impl Parsed {
         ensures value { result ≡ self.now.second }
         ensures in_range { IfSome result (λ v. InRange greatest_year (second_is v)) }
     {
-        self.second
+        Some(self.byte(SECOND)? as u8)
     }
 
     /// The nanoseconds of the second, from 0 to 999999999.
@@ -208,7 +211,7 @@ impl Parsed {
         ensures value { result ≡ self.now.subsecond }
         ensures in_range { IfSome result (λ v. InRange greatest_year (subsecond_is v)) }
     {
-        self.subsecond
+        Some(self.word(SUBSECOND)? as u32)
     }
 
     /// The whole hours of the offset from UTC, from -25 to 25.
@@ -217,7 +220,7 @@ impl Parsed {
         ensures value { result ≡ self.now.offset_hour }
         ensures in_range { IfSome result (λ v. InRange greatest_year (offset_hour_is v)) }
     {
-        self.offset_hour
+        self.byte(OFFSET_HOUR)
     }
 
     /// The absolute value of the minutes of the offset from UTC, from 0 to 59.
@@ -241,8 +244,8 @@ impl Parsed {
             self.now.offset_minute }
         ensures in_range { IfSome result (λ v. InRange greatest_year (offset_minute_is v)) }
     {
-        let value = self.offset_minute?;
-        Some(if self.offset_is_negative {
+        let value = self.byte(OFFSET_MINUTE)?;
+        Some(if self.flag(OFFSET_IS_NEGATIVE) {
             -value
         } else {
             value
@@ -270,8 +273,8 @@ impl Parsed {
             self.now.offset_second }
         ensures in_range { IfSome result (λ v. InRange greatest_year (offset_second_is v)) }
     {
-        let value = self.offset_second?;
-        Some(if self.offset_is_negative {
+        let value = self.byte(OFFSET_SECOND)?;
+        Some(if self.flag(OFFSET_IS_NEGATIVE) {
             -value
         } else {
             value
@@ -285,6 +288,47 @@ impl Parsed {
         ensures value { result ≡ self.now.unix_timestamp_nanos }
         ensures in_range { IfSome result (λ v. InRange greatest_year (unix_timestamp_nanos_is v)) }
     {
-        self.unix_timestamp_nanos
+        self.stamp()
+    }
+}
+
+// The month of its number, 1 to 12.
+#[inline]
+fn month_of(number: i8) -> Month
+    requires low { pos 1 ≤ℤ number }
+    requires high { number ≤ℤ pos 12 }
+    ensures { result ≡ month_in number }
+{
+    match number {
+        1 => Month::January,
+        2 => Month::February,
+        3 => Month::March,
+        4 => Month::April,
+        5 => Month::May,
+        6 => Month::June,
+        7 => Month::July,
+        8 => Month::August,
+        9 => Month::September,
+        10 => Month::October,
+        11 => Month::November,
+        _ => Month::December,
+    }
+}
+
+// The weekday of its number, 0 for Monday to 6 for Sunday.
+#[inline]
+fn weekday_of(number: i8) -> Weekday
+    requires low { pos 0 ≤ℤ number }
+    requires high { number ≤ℤ pos 6 }
+    ensures { result ≡ weekday_in number }
+{
+    match number {
+        0 => Weekday::Monday,
+        1 => Weekday::Tuesday,
+        2 => Weekday::Wednesday,
+        3 => Weekday::Thursday,
+        4 => Weekday::Friday,
+        5 => Weekday::Saturday,
+        _ => Weekday::Sunday,
     }
 }

@@ -5,6 +5,12 @@ ghost use Rattle.time_values.specs.Range.{greatest_year};
 ghost use Rattle.time_record.specs.Record.{put, Sets, year_is, year_century_is, year_last_two_is, iso_year_is, iso_year_century_is, iso_year_last_two_is, month_is, sunday_week_number_is, monday_week_number_is, iso_week_number_is, weekday_is, ordinal_is, day_is, hour_24_is, hour_12_is, hour_12_is_pm_is, minute_is, second_is, subsecond_is, offset_hour_is, offset_minute_is, offset_second_is, unix_timestamp_nanos_is};
 
 use crate::Parsed;
+use crate::parsed::cells::{
+    DAY, HOUR_12, HOUR_12_IS_PM, HOUR_24, ISO_WEEK_NUMBER, ISO_YEAR, ISO_YEAR_CENTURY,
+    ISO_YEAR_CENTURY_IS_NEGATIVE, ISO_YEAR_LAST_TWO, MINUTE, MONDAY_WEEK_NUMBER, MONTH,
+    OFFSET_HOUR, OFFSET_MINUTE, OFFSET_SECOND, ORDINAL, SECOND, SUBSECOND, SUNDAY_WEEK_NUMBER,
+    WEEKDAY, YEAR, YEAR_CENTURY, YEAR_CENTURY_IS_NEGATIVE, YEAR_LAST_TWO,
+};
 use std::num::NonZero;
 use time_values::{MAX_YEAR, Month, Timestamp, Weekday};
 
@@ -17,7 +23,7 @@ impl Parsed {
         if value < -MAX_YEAR || value > MAX_YEAR {
             return None;
         }
-        self.year = Some(value);
+        self.put_word(YEAR, value);
         Some(())
     }
 
@@ -32,8 +38,9 @@ impl Parsed {
         if i32::from(value) < -MAX_YEAR / 100 || i32::from(value) > MAX_YEAR / 100 {
             return None;
         }
-        self.year_century = Some(value);
-        self.year_century_is_negative = value < 0 || value == 0 && is_negative;
+        let negative = value < 0 || value == 0 && is_negative;
+        self.put_short(YEAR_CENTURY, value);
+        self.set_flag(YEAR_CENTURY_IS_NEGATIVE, negative);
         Some(())
     }
 
@@ -46,7 +53,7 @@ impl Parsed {
         if value > 99 {
             return None;
         }
-        self.year_last_two = Some(value);
+        self.put_byte(YEAR_LAST_TWO, value as i8);
         Some(())
     }
 
@@ -58,7 +65,7 @@ impl Parsed {
         if value < -MAX_YEAR || value > MAX_YEAR {
             return None;
         }
-        self.iso_year = Some(value);
+        self.put_word(ISO_YEAR, value);
         Some(())
     }
 
@@ -73,8 +80,9 @@ impl Parsed {
         if i32::from(value) < -MAX_YEAR / 100 || i32::from(value) > MAX_YEAR / 100 {
             return None;
         }
-        self.iso_year_century = Some(value);
-        self.iso_year_century_is_negative = value < 0 || value == 0 && is_negative;
+        let negative = value < 0 || value == 0 && is_negative;
+        self.put_short(ISO_YEAR_CENTURY, value);
+        self.set_flag(ISO_YEAR_CENTURY_IS_NEGATIVE, negative);
         Some(())
     }
 
@@ -88,7 +96,7 @@ impl Parsed {
         if value > 99 {
             return None;
         }
-        self.iso_year_last_two = Some(value);
+        self.put_byte(ISO_YEAR_LAST_TWO, value as i8);
         Some(())
     }
 
@@ -97,7 +105,7 @@ impl Parsed {
     pub fn set_month(&mut self, value: Month) -> Option<()>
         ensures { Sets (put greatest_year (month_is value) self.old) self.old result self.new }
     {
-        self.month = Some(value);
+        self.put_byte(MONTH, value.number() as i8);
         Some(())
     }
 
@@ -111,7 +119,7 @@ impl Parsed {
         if value > 53 {
             return None;
         }
-        self.sunday_week_number = Some(value);
+        self.put_byte(SUNDAY_WEEK_NUMBER, value as i8);
         Some(())
     }
 
@@ -125,7 +133,7 @@ impl Parsed {
         if value > 53 {
             return None;
         }
-        self.monday_week_number = Some(value);
+        self.put_byte(MONDAY_WEEK_NUMBER, value as i8);
         Some(())
     }
 
@@ -139,7 +147,7 @@ impl Parsed {
         if value.get() > 53 {
             return None;
         }
-        self.iso_week_number = Some(value.get());
+        self.put_byte(ISO_WEEK_NUMBER, value.get() as i8);
         Some(())
     }
 
@@ -148,7 +156,7 @@ impl Parsed {
     pub fn set_weekday(&mut self, value: Weekday) -> Option<()>
         ensures { Sets (put greatest_year (weekday_is value) self.old) self.old result self.new }
     {
-        self.weekday = Some(value);
+        self.put_byte(WEEKDAY, value.number_days_from_monday() as i8);
         Some(())
     }
 
@@ -161,7 +169,7 @@ impl Parsed {
         if value.get() > 366 {
             return None;
         }
-        self.ordinal = Some(value.get());
+        self.put_short(ORDINAL, value.get() as i16);
         Some(())
     }
 
@@ -174,7 +182,7 @@ impl Parsed {
         if value.get() > 31 {
             return None;
         }
-        self.day = Some(value.get());
+        self.put_byte(DAY, value.get() as i8);
         Some(())
     }
 
@@ -186,7 +194,7 @@ impl Parsed {
         if value > 23 {
             return None;
         }
-        self.hour_24 = Some(value);
+        self.put_byte(HOUR_24, value as i8);
         Some(())
     }
 
@@ -200,7 +208,7 @@ impl Parsed {
         if value.get() > 12 {
             return None;
         }
-        self.hour_12 = Some(value.get());
+        self.put_byte(HOUR_12, value.get() as i8);
         Some(())
     }
 
@@ -210,7 +218,7 @@ impl Parsed {
         ensures { Sets (put greatest_year (hour_12_is_pm_is value) self.old)
             self.old result self.new }
     {
-        self.hour_12_is_pm = Some(value);
+        self.put_byte(HOUR_12_IS_PM, value as i8);
         Some(())
     }
 
@@ -222,7 +230,7 @@ impl Parsed {
         if value > 59 {
             return None;
         }
-        self.minute = Some(value);
+        self.put_byte(MINUTE, value as i8);
         Some(())
     }
 
@@ -235,7 +243,7 @@ impl Parsed {
         if value > 60 {
             return None;
         }
-        self.second = Some(value);
+        self.put_byte(SECOND, value as i8);
         Some(())
     }
 
@@ -247,7 +255,7 @@ impl Parsed {
         if value > 999_999_999 {
             return None;
         }
-        self.subsecond = Some(value);
+        self.put_word(SUBSECOND, value as i32);
         Some(())
     }
 
@@ -261,7 +269,7 @@ impl Parsed {
         if value.unsigned_abs() > 25 {
             return None;
         }
-        self.offset_hour = Some(value);
+        self.put_byte(OFFSET_HOUR, value);
         Some(())
     }
 
@@ -288,7 +296,7 @@ impl Parsed {
         if value.unsigned_abs() > 59 {
             return None;
         }
-        self.offset_minute = Some(value);
+        self.put_byte(OFFSET_MINUTE, value);
         Some(())
     }
 
@@ -315,7 +323,7 @@ impl Parsed {
         if value.unsigned_abs() > 59 {
             return None;
         }
-        self.offset_second = Some(value);
+        self.put_byte(OFFSET_SECOND, value);
         Some(())
     }
 
@@ -329,7 +337,7 @@ impl Parsed {
         if Timestamp::from_nanoseconds(value).is_err() {
             return None;
         }
-        self.unix_timestamp_nanos = Some(value);
+        self.put_stamp(value);
         Some(())
     }
 }

@@ -6,10 +6,11 @@ ghost use Rattle.time_values.specs.Range.{greatest_year};
 ghost use Rattle.time_values.specs.Refusal.{range};
 ghost use Rattle.time_values.specs.Weekday.{days_from_monday};
 ghost use Rattle.time_values.specs.declared.date.Date.{Date};
-ghost use Rattle.time_record.specs.Rows.{year_of, full_year, full_iso_year, by_ordinal, by_month_and_day, by_iso_week, IsRowDate, IsWeekDate};
+ghost use Rattle.time_record.specs.Rows.{year_of, first_row, full_year, full_iso_year, by_ordinal, by_month_and_day, by_iso_week, IsRowDate, IsWeekDate};
 ghost use Rattle.time_record.specs.Resolution.{IsDated, parsed_seen};
 
 use crate::Parsed;
+use crate::parsed::cells::{DAY, MONTH, YEAR};
 use std::convert::TryFrom;
 use std::num::NonZero;
 use time_values::error::{ComponentRange, TryFromParsed};
@@ -27,39 +28,65 @@ impl TryFrom<Parsed> for Date {
     ghost try_from_gives = { λ p r. IsDated greatest_year p (parsed_seen r) };
 
     #[inline]
-    #[tactic(auto, unfolding(crate::specs::Resolution::IsDated))]
     fn try_from(parsed: Parsed) -> Result<Date, TryFromParsed> {
-        let year = calendar_year(&parsed);
-        if let (Some(year), Some(ordinal)) = (year, parsed.ordinal()) {
-            return ordinal_date(year, ordinal);
-        }
-        if let (Some(year), Some(month), Some(day)) = (year, parsed.month(), parsed.day()) {
-            return calendar_date(year, month, day);
-        }
-        let weekday = parsed.weekday();
-        if let (Some(year), Some(week), Some(weekday)) = (
-            iso_year(&parsed),
-            parsed.iso_week_number(),
-            weekday,
-        ) {
-            return iso_week_date(year, week, weekday);
-        }
-        if let (Some(year), Some(week), Some(weekday)) = (
-            year,
-            parsed.sunday_week_number(),
-            weekday,
-        ) {
-            return week_date(year, week, weekday, Weekday::Sunday);
-        }
-        if let (Some(year), Some(week), Some(weekday)) = (
-            year,
-            parsed.monday_week_number(),
-            weekday,
-        ) {
-            return week_date(year, week, weekday, Weekday::Monday);
-        }
-        Err(TryFromParsed::InsufficientInformation)
+        date_of(&parsed)
     }
+}
+
+// The date of a record.
+#[inline]
+#[tactic(auto, unfolding(crate::specs::Resolution::IsDated))]
+pub(super) fn date_of(parsed: &Parsed) -> Result<Date, TryFromParsed>
+    ensures { IsDated greatest_year parsed.now (parsed_seen result) }
+{
+    match year_month_day(parsed) {
+        Some((year, month, day)) => calendar_date(year, month, day),
+        None => date_of_rows(parsed),
+    }
+}
+
+// The year, month and day where they are the row of a record, as in most: all three are there, and
+// no ordinal is before them.
+#[inline]
+fn year_month_day(parsed: &Parsed) -> Option<(i32, Month, NonZero<u8>)>
+    ensures row { IfSome result (λ p. first_row parsed.now
+        ≡ Some (by_month_and_day p.0 p.1 (non_zero_u8_get p.2))) }
+    ensures in_range { IfSome result (λ p. IsTrue (is_year greatest_year p.0)) }
+{
+    if !parsed.has(YEAR, MONTH, DAY) || parsed.ordinal().is_some() {
+        return None;
+    }
+    Some((parsed.year()?, parsed.month()?, parsed.day()?))
+}
+
+// The date of a record by the first of its rows.
+#[inline]
+#[tactic(auto, unfolding(crate::specs::Resolution::IsDated))]
+fn date_of_rows(parsed: &Parsed) -> Result<Date, TryFromParsed>
+    ensures { IsDated greatest_year parsed.now (parsed_seen result) }
+{
+    let year = calendar_year(parsed);
+    if let (Some(year), Some(ordinal)) = (year, parsed.ordinal()) {
+        return ordinal_date(year, ordinal);
+    }
+    if let (Some(year), Some(month), Some(day)) = (year, parsed.month(), parsed.day()) {
+        return calendar_date(year, month, day);
+    }
+    let weekday = parsed.weekday();
+    if let (Some(year), Some(week), Some(weekday)) = (
+        iso_year(parsed),
+        parsed.iso_week_number(),
+        weekday,
+    ) {
+        return iso_week_date(year, week, weekday);
+    }
+    if let (Some(year), Some(week), Some(weekday)) = (year, parsed.sunday_week_number(), weekday) {
+        return week_date(year, week, weekday, Weekday::Sunday);
+    }
+    if let (Some(year), Some(week), Some(weekday)) = (year, parsed.monday_week_number(), weekday) {
+        return week_date(year, week, weekday, Weekday::Monday);
+    }
+    Err(TryFromParsed::InsufficientInformation)
 }
 
 // The year, or where there is none that of the century and the two last digits.
@@ -128,6 +155,7 @@ fn calendar_date(year: i32, month: Month, day: NonZero<u8>) -> Result<Date, TryF
 }
 
 // The date of an ISO 8601 year, week and weekday.
+#[inline]
 fn iso_week_date(year: i32, week: NonZero<u8>, weekday: Weekday) -> Result<Date, TryFromParsed>
     requires { IsTrue (is_year greatest_year year) }
     ensures { IsRowDate greatest_year (by_iso_week year (non_zero_u8_get week) weekday)
@@ -138,6 +166,7 @@ fn iso_week_date(year: i32, week: NonZero<u8>, weekday: Weekday) -> Result<Date,
 
 // The date of a year, week and weekday, where week 1 begins on the year's first day of the weekday
 // `start`.
+#[inline]
 fn week_date(year: i32, week: u8, weekday: Weekday, start: Weekday) -> Result<Date, TryFromParsed>
     requires { IsTrue (is_year greatest_year year) }
     ensures { MatchResult (parsed_seen result)

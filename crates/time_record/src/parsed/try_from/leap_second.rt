@@ -14,16 +14,18 @@ pub(super) fn is_leap_second(parsed: &Parsed) -> bool
     parsed.is_leap_second_allowed() && parsed.second() == Some(60)
 }
 
-// The record with the last nanosecond before a leap second in its place.
+// The second and the subsecond of a record, with the last nanosecond before a leap second in its
+// place.
 #[inline]
-pub(super) fn stand_in(mut parsed: Parsed) -> Parsed
-    ensures { result ≡ Resolution.stand_in parsed }
+pub(super) fn stand_in(parsed: &Parsed) -> (Option<u8>, Option<u32>)
+    ensures { record parsed.now { second = result.0; subsecond = result.1 }
+        ≡ Resolution.stand_in parsed.now }
 {
-    if is_leap_second(&parsed) {
-        let _ = parsed.set_second(59);
-        let _ = parsed.set_subsecond(999_999_999);
+    if is_leap_second(parsed) {
+        (Some(59), Some(999_999_999))
+    } else {
+        (parsed.second(), parsed.subsecond())
     }
-    parsed
 }
 
 // The refusal of a leap second that is at no month's end in UTC.

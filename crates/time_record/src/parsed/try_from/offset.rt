@@ -17,12 +17,20 @@ impl TryFrom<Parsed> for UtcOffset {
     ghost try_from_gives = { λ p r. IsOffset p (parsed_seen r) };
 
     #[inline]
-    #[tactic(auto, unfolding(crate::specs::Resolution::IsOffset))]
     fn try_from(parsed: Parsed) -> Result<UtcOffset, TryFromParsed> {
-        match parsed.offset_hour() {
-            Some(hour) => offset_of_hour(hour, &parsed),
-            None => Err(TryFromParsed::InsufficientInformation),
-        }
+        offset_of(&parsed)
+    }
+}
+
+// The offset of a record.
+#[inline]
+#[tactic(auto, unfolding(crate::specs::Resolution::IsOffset))]
+pub(super) fn offset_of(parsed: &Parsed) -> Result<UtcOffset, TryFromParsed>
+    ensures { IsOffset parsed.now (parsed_seen result) }
+{
+    match parsed.offset_hour() {
+        Some(hour) => offset_of_hour(hour, parsed),
+        None => Err(TryFromParsed::InsufficientInformation),
     }
 }
 

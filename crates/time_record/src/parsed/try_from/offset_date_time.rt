@@ -2,16 +2,19 @@
 ghost use Rattle.std.specs.Prelude.{◌≤◌, IsOkAnd, IsTrue};
 ghost use Rattle.std.specs.Option.{ForSome};
 ghost use Rattle.time_values.specs.Instants.{is_instant};
-ghost use Rattle.time_values.specs.Moments.{offset_date, offset_time, offset_of};
+ghost use Rattle.time_values.specs.Moments as Moments;
 ghost use Rattle.time_values.specs.Offsets.{IsUtc};
 ghost use Rattle.time_values.specs.Range.{greatest_year};
 ghost use Rattle.time_record.specs.Resolution.{IsMoment, IsMomentOfParts, IsStamped, parsed_seen};
 
 use crate::Parsed;
+use crate::parsed::try_from::date::date_of;
 use crate::parsed::try_from::leap_second::{is_leap_second, misplaced, stand_in};
+use crate::parsed::try_from::offset::offset_of;
+use crate::parsed::try_from::time::time_with;
 use std::convert::TryFrom;
+use time_values::OffsetDateTime;
 use time_values::error::TryFromParsed;
-use time_values::{Date, OffsetDateTime, Time, UtcOffset};
 
 /// The moment of the timestamp, at offset 0 and with a known subsecond in place of its own, or
 /// else the date, time and offset of the record, with their refusals in that order.
@@ -28,18 +31,19 @@ impl TryFrom<Parsed> for OffsetDateTime {
     fn try_from(parsed: Parsed) -> Result<OffsetDateTime, TryFromParsed> {
         match parsed.unix_timestamp_nanos() {
             Some(nanos) => moment_at(nanos, parsed.subsecond()),
-            None => moment_of_parts(parsed),
+            None => moment_of_parts(&parsed),
         }
     }
 }
 
 // The moment of a timestamp, with that nanosecond of its second where one is given.
+#[inline]
 fn moment_at(nanos: i128, subsecond: Option<u32>) -> Result<OffsetDateTime, TryFromParsed>
     requires nanos { IsTrue (is_instant greatest_year nanos) }
     requires subsecond { ForSome subsecond (λ n. n ≤ 999_999_999) }
     ensures { IsOkAnd (parsed_seen result)
-        (λ v. IsStamped greatest_year nanos subsecond (offset_date v) (offset_time v)
-        × IsUtc (offset_of v)) }
+        (λ v. IsStamped greatest_year nanos subsecond (Moments.offset_date v) (Moments.offset_time v)
+        × IsUtc (Moments.offset_of v)) }
 {
     let moment = OffsetDateTime::from_unix_timestamp_nanos(nanos)?;
     match subsecond {
@@ -49,15 +53,17 @@ fn moment_at(nanos: i128, subsecond: Option<u32>) -> Result<OffsetDateTime, TryF
 }
 
 // The moment of a date, a time and an offset.
+#[inline]
 #[tactic(auto, unfolding(crate::specs::Resolution::IsMomentOfParts))]
-fn moment_of_parts(parsed: Parsed) -> Result<OffsetDateTime, TryFromParsed>
-    ensures { IsMomentOfParts greatest_year parsed (parsed_seen result) }
+fn moment_of_parts(parsed: &Parsed) -> Result<OffsetDateTime, TryFromParsed>
+    ensures { IsMomentOfParts greatest_year parsed.now (parsed_seen result) }
 {
-    let date = Date::try_from(parsed)?;
-    let time = Time::try_from(stand_in(parsed))?;
-    let offset = UtcOffset::try_from(parsed)?;
+    let date = date_of(parsed)?;
+    let (second, subsecond) = stand_in(parsed);
+    let time = time_with(parsed, second, subsecond)?;
+    let offset = offset_of(parsed)?;
     let moment = OffsetDateTime::new_in_offset(date, time, offset);
-    if is_leap_second(&parsed) && !moment.is_valid_leap_second_stand_in() {
+    if is_leap_second(parsed) && !moment.is_valid_leap_second_stand_in() {
         return Err(misplaced());
     }
     Ok(moment)

@@ -3,9 +3,11 @@ ghost use Rattle.time_values.specs.Range.{greatest_year};
 ghost use Rattle.time_record.specs.Resolution.{IsPlain, parsed_seen};
 
 use crate::Parsed;
+use crate::parsed::try_from::date::date_of;
+use crate::parsed::try_from::time::time_of;
 use std::convert::TryFrom;
+use time_values::PlainDateTime;
 use time_values::error::TryFromParsed;
-use time_values::{Date, PlainDateTime, Time};
 
 /// The date and the time of the record, with their refusals, the date's first.
 impl TryFrom<Parsed> for PlainDateTime {
@@ -16,8 +18,8 @@ impl TryFrom<Parsed> for PlainDateTime {
     #[inline]
     #[tactic(auto, unfolding(crate::specs::Resolution::IsPlain))]
     fn try_from(parsed: Parsed) -> Result<PlainDateTime, TryFromParsed> {
-        let date = Date::try_from(parsed)?;
-        let time = Time::try_from(parsed)?;
+        let date = date_of(&parsed)?;
+        let time = time_of(&parsed)?;
         Ok(PlainDateTime::new(date, time))
     }
 }

@@ -19,22 +19,41 @@ impl TryFrom<Parsed> for Time {
     ghost try_from_gives = { λ p r. IsTimed p (parsed_seen r) };
 
     #[inline]
-    #[tactic(auto, unfolding(crate::specs::Resolution::IsTimed))]
     fn try_from(parsed: Parsed) -> Result<Time, TryFromParsed> {
-        let Some(hour) = hour_of_day(&parsed) else {
-            return Err(TryFromParsed::InsufficientInformation);
-        };
-        match (parsed.minute(), parsed.second(), parsed.subsecond()) {
-            (None, None, None) => Ok(Time::from_hms_nano(hour, 0, 0, 0)?),
-            (Some(minute), None, None) => Ok(Time::from_hms_nano(hour, minute, 0, 0)?),
-            (Some(minute), Some(second), None) => {
-                Ok(Time::from_hms_nano(hour, minute, second, 0)?)
-            }
-            (Some(minute), Some(second), Some(subsecond)) => {
-                Ok(Time::from_hms_nano(hour, minute, second, subsecond)?)
-            }
-            _ => Err(TryFromParsed::InsufficientInformation),
+        time_of(&parsed)
+    }
+}
+
+// The time of a record.
+#[inline]
+pub(super) fn time_of(parsed: &Parsed) -> Result<Time, TryFromParsed>
+    ensures { IsTimed parsed.now (parsed_seen result) }
+{
+    time_with(parsed, parsed.second(), parsed.subsecond())
+}
+
+// The time of a record, with that second and subsecond in place of its own.
+#[inline]
+#[tactic(auto, unfolding(crate::specs::Resolution::IsTimed))]
+pub(super) fn time_with(
+    parsed: &Parsed,
+    second: Option<u8>,
+    subsecond: Option<u32>,
+) -> Result<Time, TryFromParsed>
+    ensures { IsTimed (record parsed.now { second = second; subsecond = subsecond })
+        (parsed_seen result) }
+{
+    let Some(hour) = hour_of_day(parsed) else {
+        return Err(TryFromParsed::InsufficientInformation);
+    };
+    match (parsed.minute(), second, subsecond) {
+        (None, None, None) => Ok(Time::from_hms_nano(hour, 0, 0, 0)?),
+        (Some(minute), None, None) => Ok(Time::from_hms_nano(hour, minute, 0, 0)?),
+        (Some(minute), Some(second), None) => { Ok(Time::from_hms_nano(hour, minute, second, 0)?) }
+        (Some(minute), Some(second), Some(subsecond)) => {
+            Ok(Time::from_hms_nano(hour, minute, second, subsecond)?)
         }
+        _ => Err(TryFromParsed::InsufficientInformation),
     }
 }
 

@@ -23,7 +23,7 @@ impl TryFrom<Parsed> for Timestamp {
         if let Some(nanos) = parsed.unix_timestamp_nanos() {
             return Ok(Timestamp::from_nanoseconds(nanos)?);
         }
-        match moment_of_parts(parsed) {
+        match moment_of_parts(&parsed) {
             Ok(moment) => Ok(Timestamp::from(moment)),
             Err(_) => Err(TryFromParsed::InsufficientInformation),
         }

@@ -7,10 +7,13 @@ ghost use Rattle.time_values.specs.Range.{greatest_year};
 ghost use Rattle.time_record.specs.Resolution.{IsInUtc, IsOffsetOrUtc, IsStamped, IsUtcMoment, IsUtcMomentOfParts, parsed_seen};
 
 use crate::Parsed;
+use crate::parsed::try_from::date::date_of;
 use crate::parsed::try_from::leap_second::{is_leap_second, misplaced, stand_in};
+use crate::parsed::try_from::offset::offset_of;
+use crate::parsed::try_from::time::time_with;
 use std::convert::TryFrom;
 use time_values::error::{ComponentRange, TryFromParsed};
-use time_values::{Date, OffsetDateTime, Time, UtcDateTime, UtcOffset};
+use time_values::{OffsetDateTime, UtcDateTime, UtcOffset};
 
 /// The moment of the timestamp, with a known subsecond in place of its own, or else that of the
 /// date, time and offset of the record, with their refusals in that order. Without an offset's
@@ -29,12 +32,13 @@ impl TryFrom<Parsed> for UtcDateTime {
     fn try_from(parsed: Parsed) -> Result<UtcDateTime, TryFromParsed> {
         match parsed.unix_timestamp_nanos() {
             Some(nanos) => moment_at(nanos, parsed.subsecond()),
-            None => moment_of_parts(parsed),
+            None => moment_of_parts(&parsed),
         }
     }
 }
 
 // The moment of a timestamp, with that nanosecond of its second where one is given.
+#[inline]
 fn moment_at(nanos: i128, subsecond: Option<u32>) -> Result<UtcDateTime, TryFromParsed>
     requires nanos { IsTrue (is_instant greatest_year nanos) }
     requires subsecond { ForSome subsecond (λ n. n ≤ 999_999_999) }
@@ -49,32 +53,36 @@ fn moment_at(nanos: i128, subsecond: Option<u32>) -> Result<UtcDateTime, TryFrom
 }
 
 // The moment of a date, a time and an offset.
+#[inline]
 #[tactic(auto, unfolding(crate::specs::Resolution::IsUtcMomentOfParts))]
-pub(super) fn moment_of_parts(parsed: Parsed) -> Result<UtcDateTime, TryFromParsed>
-    ensures { IsUtcMomentOfParts greatest_year parsed (parsed_seen result) }
+pub(super) fn moment_of_parts(parsed: &Parsed) -> Result<UtcDateTime, TryFromParsed>
+    ensures { IsUtcMomentOfParts greatest_year parsed.now (parsed_seen result) }
 {
-    let date = Date::try_from(parsed)?;
-    let time = Time::try_from(stand_in(parsed))?;
+    let date = date_of(parsed)?;
+    let (second, subsecond) = stand_in(parsed);
+    let time = time_with(parsed, second, subsecond)?;
     let offset = offset_or_utc(parsed)?;
     let moment = in_utc(OffsetDateTime::new_in_offset(date, time, offset))?;
-    if is_leap_second(&parsed) && !moment.is_valid_leap_second_stand_in() {
+    if is_leap_second(parsed) && !moment.is_valid_leap_second_stand_in() {
         return Err(misplaced());
     }
     Ok(moment)
 }
 
 // The offset of a record, or without its hour none.
+#[inline]
 #[tactic(auto, unfolding(crate::specs::Resolution::IsOffset, crate::specs::Resolution::IsOffsetOrUtc))]
-fn offset_or_utc(parsed: Parsed) -> Result<UtcOffset, TryFromParsed>
-    ensures { IsOffsetOrUtc parsed (parsed_seen result) }
+fn offset_or_utc(parsed: &Parsed) -> Result<UtcOffset, TryFromParsed>
+    ensures { IsOffsetOrUtc parsed.now (parsed_seen result) }
 {
     match parsed.offset_hour() {
-        Some(_) => UtcOffset::try_from(parsed),
+        Some(_) => offset_of(parsed),
         None => Ok(UtcOffset::UTC),
     }
 }
 
 // The same moment in UTC.
+#[inline]
 fn in_utc(moment: OffsetDateTime) -> Result<UtcDateTime, TryFromParsed>
     ensures { IsInUtc greatest_year (instant greatest_year moment.date moment.time moment.offset)
         (parsed_seen result) }

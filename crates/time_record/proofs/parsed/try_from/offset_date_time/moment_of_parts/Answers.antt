@@ -10,21 +10,21 @@ pub returns-in_err-time : goal.returns-in_err-time
 unfolding IsMomentOfParts
 returns-in_err-time c =
     let p = err_from_is_err_and c.from_residual-in_err-time.result c.from_residual-in_err-time.ensures.1 in
-    let timed = rw c.stand_in.ensures at c.in_err-time.ensures in
+    let timed = rw c.stand_in-second.ensures at c.in_err-time.ensures in
     rw (p.1, p.2) (Then-next c.in_ok-date.date c.in_ok-date.ensures (inl (_, timed, refl)))
 
 pub returns-in_err-offset : goal.returns-in_err-offset
 unfolding IsMomentOfParts
 returns-in_err-offset c =
     let p = err_from_is_err_and c.from_residual-in_err-offset.result c.from_residual-in_err-offset.ensures.1 in
-    let timed = rw c.stand_in.ensures at c.in_ok-time.ensures in
+    let timed = rw c.stand_in-second.ensures at c.in_ok-time.ensures in
     rw (p.1, p.2) (Then-next c.in_ok-date.date c.in_ok-date.ensures
     (Then-next c.in_ok-time.time timed (inl (_, c.in_err-offset.ensures, refl))))
 
 pub returns-then-not-is_valid_leap_second_stand_in : goal.returns-then-not-is_valid_leap_second_stand_in
 unfolding IsMomentOfParts
 returns-then-not-is_valid_leap_second_stand_in c =
-    let timed = rw c.stand_in.ensures at c.in_ok-time.ensures in
+    let timed = rw c.stand_in-second.ensures at c.in_ok-time.ensures in
     let parts = c.new_in_offset-moment.ensures in
     let judged = rw (parts.date, parts.time, parts.offset) at c.is_valid_leap_second_stand_in.ensures in
     let leap = sym c.is_leap_second.ensures ∙ c.if-is_leap_second.true in
@@ -36,7 +36,7 @@ returns-then-not-is_valid_leap_second_stand_in c =
 pub returns : goal.returns
 unfolding IsMomentOfParts
 returns c =
-    let timed = rw c.stand_in.ensures at c.in_ok-time.ensures in
+    let timed = rw c.stand_in-second.ensures at c.in_ok-time.ensures in
     let parts = c.new_in_offset-moment.ensures in
     Then-next c.in_ok-date.date c.in_ok-date.ensures
     (Then-next c.in_ok-time.time timed

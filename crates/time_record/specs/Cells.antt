@@ -1,0 +1,247 @@
+-- How the options lie in a mask and rows of cells: option i is there where bit i is set, and its value is cell i.
+-- `Y` is the greatest year.
+use Rattle.std.specs.Prelude.{◌≡◌, ℕ, ◌+◌, ◌-◌, ◌*◌, ◌/◌, ◌^◌, ◌<◌, ◌≤ℤ◌, ℤ, pos, neg_ℤ, unsigned_abs, zero, suc, Bool, true, false, Option, Some, None, is_some, if◌then◌else◌, ◌==◌, nat_lt, List, [], ◌∷◌, length, slice_index_or, ⊤}
+use Rattle.std.specs.Option.{option_map, unwrap_or}
+use Rattle.std.specs.Int.{bit_at}
+use Rattle.time_values.specs.declared.month.Month.{Month}
+use Rattle.time_values.specs.declared.weekday.Weekday.{Weekday}
+use Rattle.time_values.specs.Instants.{first_instant, last_instant}
+use Rattle.time_values.specs.Month.{month_number}
+use Rattle.time_values.specs.Weekday.{days_from_monday}
+use Rattle.time_values.proofs.NumberLemmas.{month_at, weekday_at}
+use Rattle.time_record.specs.Record.{Record}
+
+-- whether bit i of a mask is set
+abbrev pub bit : ℕ → ℕ → Bool
+bit mask i = bit_at mask i == 1
+
+-- cells 0 to 15 are bytes, 16 to 18 shorts, 19 to 21 words, and 22 is the timestamp
+abbrev pub pick : ℕ → ℤ → ℤ → ℤ → ℤ → ℤ
+pick i byte short word stamp =
+    if nat_lt i 16 then byte
+    else (if nat_lt i 19 then short
+    else (if nat_lt i 22 then word
+    else (if i == 22 then stamp else pos 0)))
+
+-- the value of cell i
+abbrev pub value_at : List ℤ → List ℤ → List ℤ → ℤ → ℕ → ℤ
+value_at bytes shorts words stamp i =
+    pick i (slice_index_or bytes i (pos 0)) (slice_index_or shorts (i - 16) (pos 0))
+    (slice_index_or words (i - 19) (pos 0)) stamp
+
+-- f with x at k
+abbrev pub changed : {T : Type 0} → (ℕ → T) → ℕ → T → ℕ → T
+changed f k x i = if i == k then x else f i
+
+-- the value of cell i, where its bit is set
+abbrev pub option_at : (ℕ → Bool) → (ℕ → ℤ) → ℕ → Option ℤ
+option_at set value i = if set i then Some (value i) else None
+
+-- what a cell stands for, and back
+abbrev pub is_one : ℤ → Bool
+is_one v = unsigned_abs v == 1
+
+abbrev pub bool_cell : Bool → ℤ
+bool_cell true = pos 1
+bool_cell false = pos 0
+
+abbrev pub month_in : ℤ → Month
+month_in v = month_at (unsigned_abs v)
+
+abbrev pub month_cell : Month → ℤ
+month_cell m = pos (month_number m)
+
+abbrev pub weekday_in : ℤ → Weekday
+weekday_in v = weekday_at (unsigned_abs v)
+
+abbrev pub weekday_cell : Weekday → ℤ
+weekday_cell w = pos (days_from_monday w)
+
+-- the record of those options and flags
+abbrev pub build : (ℕ → Option ℤ) → (ℕ → Bool) → Record
+build option set = record {
+  year = option 19;
+  year_century = option 16;
+  year_last_two = option_map unsigned_abs (option 0);
+  iso_year = option 20;
+  iso_year_century = option 17;
+  iso_year_last_two = option_map unsigned_abs (option 1);
+  month = option_map month_in (option 2);
+  sunday_week_number = option_map unsigned_abs (option 3);
+  monday_week_number = option_map unsigned_abs (option 4);
+  iso_week_number = option_map unsigned_abs (option 5);
+  weekday = option_map weekday_in (option 6);
+  ordinal = option_map unsigned_abs (option 18);
+  day = option_map unsigned_abs (option 7);
+  hour_24 = option_map unsigned_abs (option 8);
+  hour_12 = option_map unsigned_abs (option 9);
+  hour_12_is_pm = option_map is_one (option 10);
+  minute = option_map unsigned_abs (option 11);
+  second = option_map unsigned_abs (option 12);
+  subsecond = option_map unsigned_abs (option 21);
+  offset_hour = option 13;
+  offset_minute = option 14;
+  offset_second = option 15;
+  unix_timestamp_nanos = option 22;
+  offset_is_negative = set 23;
+  year_century_is_negative = set 24;
+  iso_year_century_is_negative = set 25;
+  leap_second_allowed = set 26;
+}
+
+-- the least and the greatest value of each cell
+abbrev pub lows : ℕ → List ℤ
+lows Y =
+    (pos 0) ∷ (pos 0) ∷ (pos 1) ∷ (pos 0) ∷
+    (pos 0) ∷ (pos 1) ∷ (pos 0) ∷ (pos 1) ∷
+    (pos 0) ∷ (pos 1) ∷ (pos 0) ∷ (pos 0) ∷
+    (pos 0) ∷ (neg_ℤ (pos 25)) ∷ (neg_ℤ (pos 59)) ∷ (neg_ℤ (pos 59)) ∷
+    (neg_ℤ (pos (Y / 100))) ∷ (neg_ℤ (pos (Y / 100))) ∷ (pos 1) ∷ (neg_ℤ (pos Y)) ∷
+    (neg_ℤ (pos Y)) ∷ (pos 0) ∷ (first_instant Y) ∷ []
+
+abbrev pub highs : ℕ → List ℤ
+highs Y =
+    (pos 99) ∷ (pos 99) ∷ (pos 12) ∷ (pos 53) ∷
+    (pos 53) ∷ (pos 53) ∷ (pos 6) ∷ (pos 31) ∷
+    (pos 23) ∷ (pos 12) ∷ (pos 1) ∷ (pos 59) ∷
+    (pos 60) ∷ (pos 25) ∷ (pos 59) ∷ (pos 59) ∷
+    (pos (Y / 100)) ∷ (pos (Y / 100)) ∷ (pos 366) ∷ (pos Y) ∷
+    (pos Y) ∷ (pos 999_999_999) ∷ (last_instant Y) ∷ []
+
+abbrev pub InCell : ℕ → ℕ → ℤ → Type 0
+InCell Y i v = (slice_index_or (lows Y) i (pos 0) ≤ℤ v) × (v ≤ℤ slice_index_or (highs Y) i (pos 0))
+
+-- a value that is there is in its range, and one that is not is 0
+abbrev pub IsCell : ℕ → ℕ → Bool → ℤ → Type 0
+IsCell Y i true v = InCell Y i v
+IsCell Y i false v = v ≡ pos 0
+
+-- what the fields of a `Parsed` keep
+pub record IsSound (Y mask : ℕ) (bytes shorts words : List ℤ) (stamp : ℤ) : Type 0 where
+  pub in_mask : mask < 2 ^ 27
+  pub bytes_length : length bytes ≡ 16
+  pub shorts_length : length shorts ≡ 3
+  pub words_length : length words ≡ 3
+  pub cells : (i : ℕ) → i < 23 → IsCell Y i (bit mask i) (value_at bytes shorts words stamp i)
+
+-- the record with cell k put in its option
+abbrev pub put_cell : ℕ → ℤ → Record → Record
+put_cell k v r = record {
+  year = if 19 == k then Some v else r.year;
+  year_century = if 16 == k then Some v else r.year_century;
+  year_last_two = if 0 == k then Some (unsigned_abs v) else r.year_last_two;
+  iso_year = if 20 == k then Some v else r.iso_year;
+  iso_year_century = if 17 == k then Some v else r.iso_year_century;
+  iso_year_last_two = if 1 == k then Some (unsigned_abs v) else r.iso_year_last_two;
+  month = if 2 == k then Some (month_in v) else r.month;
+  sunday_week_number = if 3 == k then Some (unsigned_abs v) else r.sunday_week_number;
+  monday_week_number = if 4 == k then Some (unsigned_abs v) else r.monday_week_number;
+  iso_week_number = if 5 == k then Some (unsigned_abs v) else r.iso_week_number;
+  weekday = if 6 == k then Some (weekday_in v) else r.weekday;
+  ordinal = if 18 == k then Some (unsigned_abs v) else r.ordinal;
+  day = if 7 == k then Some (unsigned_abs v) else r.day;
+  hour_24 = if 8 == k then Some (unsigned_abs v) else r.hour_24;
+  hour_12 = if 9 == k then Some (unsigned_abs v) else r.hour_12;
+  hour_12_is_pm = if 10 == k then Some (is_one v) else r.hour_12_is_pm;
+  minute = if 11 == k then Some (unsigned_abs v) else r.minute;
+  second = if 12 == k then Some (unsigned_abs v) else r.second;
+  subsecond = if 21 == k then Some (unsigned_abs v) else r.subsecond;
+  offset_hour = if 13 == k then Some v else r.offset_hour;
+  offset_minute = if 14 == k then Some v else r.offset_minute;
+  offset_second = if 15 == k then Some v else r.offset_second;
+  unix_timestamp_nanos = if 22 == k then Some v else r.unix_timestamp_nanos;
+  offset_is_negative = r.offset_is_negative;
+  year_century_is_negative = r.year_century_is_negative;
+  iso_year_century_is_negative = r.iso_year_century_is_negative;
+  leap_second_allowed = r.leap_second_allowed;
+}
+
+-- the record with flag k set so
+abbrev pub put_flag : ℕ → Bool → Record → Record
+put_flag k on r = record r {
+  offset_is_negative = if 23 == k then on else r.offset_is_negative;
+  year_century_is_negative = if 24 == k then on else r.year_century_is_negative;
+  iso_year_century_is_negative = if 25 == k then on else r.iso_year_century_is_negative;
+  leap_second_allowed = if 26 == k then on else r.leap_second_allowed;
+}
+
+-- the option of cell 16 + k of a record is what was read of it
+abbrev pub ReadsWide : ℕ → Record → Option ℤ → Type 0
+ReadsWide zero r o = r.year_century ≡ o
+ReadsWide (suc zero) r o = r.iso_year_century ≡ o
+ReadsWide (suc (suc zero)) r o = r.ordinal ≡ option_map unsigned_abs o
+ReadsWide (suc (suc (suc zero))) r o = r.year ≡ o
+ReadsWide (suc (suc (suc (suc zero)))) r o = r.iso_year ≡ o
+ReadsWide (suc (suc (suc (suc (suc zero))))) r o = r.subsecond ≡ option_map unsigned_abs o
+ReadsWide (suc (suc (suc (suc (suc (suc zero)))))) r o = r.unix_timestamp_nanos ≡ o
+ReadsWide (suc (suc (suc (suc (suc (suc (suc k))))))) r o = ⊤
+
+-- the same of cell 8 + k
+abbrev pub ReadsClock : ℕ → Record → Option ℤ → Type 0
+ReadsClock zero r o = r.hour_24 ≡ option_map unsigned_abs o
+ReadsClock (suc zero) r o = r.hour_12 ≡ option_map unsigned_abs o
+ReadsClock (suc (suc zero)) r o = r.hour_12_is_pm ≡ option_map is_one o
+ReadsClock (suc (suc (suc zero))) r o = r.minute ≡ option_map unsigned_abs o
+ReadsClock (suc (suc (suc (suc zero)))) r o = r.second ≡ option_map unsigned_abs o
+ReadsClock (suc (suc (suc (suc (suc zero))))) r o = r.offset_hour ≡ o
+ReadsClock (suc (suc (suc (suc (suc (suc zero)))))) r o = r.offset_minute ≡ o
+ReadsClock (suc (suc (suc (suc (suc (suc (suc zero))))))) r o = r.offset_second ≡ o
+ReadsClock (suc (suc (suc (suc (suc (suc (suc (suc k)))))))) r o = ReadsWide k r o
+
+-- and of cell k
+abbrev pub Reads : ℕ → Record → Option ℤ → Type 0
+Reads zero r o = r.year_last_two ≡ option_map unsigned_abs o
+Reads (suc zero) r o = r.iso_year_last_two ≡ option_map unsigned_abs o
+Reads (suc (suc zero)) r o = r.month ≡ option_map month_in o
+Reads (suc (suc (suc zero))) r o = r.sunday_week_number ≡ option_map unsigned_abs o
+Reads (suc (suc (suc (suc zero)))) r o = r.monday_week_number ≡ option_map unsigned_abs o
+Reads (suc (suc (suc (suc (suc zero))))) r o = r.iso_week_number ≡ option_map unsigned_abs o
+Reads (suc (suc (suc (suc (suc (suc zero)))))) r o = r.weekday ≡ option_map weekday_in o
+Reads (suc (suc (suc (suc (suc (suc (suc zero))))))) r o = r.day ≡ option_map unsigned_abs o
+Reads (suc (suc (suc (suc (suc (suc (suc (suc k)))))))) r o = ReadsClock k r o
+
+-- the number of those bits, the lowest first
+abbrev pub from_bits : List Bool → ℕ
+from_bits [] = 0
+from_bits (true ∷ bits) = from_bits bits * 2 + 1
+from_bits (false ∷ bits) = from_bits bits * 2 + 0
+
+-- which options of a record are there, and its flags
+abbrev pub bits_of : Record → List Bool
+bits_of r =
+    is_some r.year_last_two ∷ is_some r.iso_year_last_two ∷ is_some r.month ∷
+    is_some r.sunday_week_number ∷ is_some r.monday_week_number ∷ is_some r.iso_week_number ∷
+    is_some r.weekday ∷ is_some r.day ∷ is_some r.hour_24 ∷
+    is_some r.hour_12 ∷ is_some r.hour_12_is_pm ∷ is_some r.minute ∷
+    is_some r.second ∷ is_some r.offset_hour ∷ is_some r.offset_minute ∷
+    is_some r.offset_second ∷ is_some r.year_century ∷ is_some r.iso_year_century ∷
+    is_some r.ordinal ∷ is_some r.year ∷ is_some r.iso_year ∷
+    is_some r.subsecond ∷ is_some r.unix_timestamp_nanos ∷ r.offset_is_negative ∷
+    r.year_century_is_negative ∷ r.iso_year_century_is_negative ∷ r.leap_second_allowed ∷ []
+
+-- one of these
+abbrev pub holds : Record → ℕ → Bool
+holds r k = slice_index_or (bits_of r) k false
+
+abbrev pub mask_of : Record → ℕ
+mask_of r = from_bits (bits_of r)
+
+abbrev pub or_zero : Option ℤ → ℤ
+or_zero o = unwrap_or o (pos 0)
+
+abbrev pub bytes_of : Record → List ℤ
+bytes_of r =
+    or_zero (option_map pos r.year_last_two) ∷ or_zero (option_map pos r.iso_year_last_two) ∷
+    or_zero (option_map month_cell r.month) ∷ or_zero (option_map pos r.sunday_week_number) ∷
+    or_zero (option_map pos r.monday_week_number) ∷ or_zero (option_map pos r.iso_week_number) ∷
+    or_zero (option_map weekday_cell r.weekday) ∷ or_zero (option_map pos r.day) ∷
+    or_zero (option_map pos r.hour_24) ∷ or_zero (option_map pos r.hour_12) ∷
+    or_zero (option_map bool_cell r.hour_12_is_pm) ∷ or_zero (option_map pos r.minute) ∷
+    or_zero (option_map pos r.second) ∷ or_zero r.offset_hour ∷
+    or_zero r.offset_minute ∷ or_zero r.offset_second ∷ []
+
+abbrev pub shorts_of : Record → List ℤ
+shorts_of r = or_zero r.year_century ∷ or_zero r.iso_year_century ∷ or_zero (option_map pos r.ordinal) ∷ []
+
+abbrev pub words_of : Record → List ℤ
+words_of r = or_zero r.year ∷ or_zero r.iso_year ∷ or_zero (option_map pos r.subsecond) ∷ []

@@ -35,27 +35,19 @@ pub struct Parsed {
 
 impl Model for Parsed {
     ghost use Rattle.time_record.specs.Record.{Record};
-    ghost use Rattle.time_record.specs.Cells.{IsSound};
-    ghost use Rattle.time_record.specs.Inverse.{mask_back, bytes_back, shorts_back, words_back, stamp_back};
     ghost use Rattle.time_values.specs.Range.{greatest_year};
 
     ghost Value = { Record };
 
-    ghost use Rattle.time_record.specs.Layout.{record_of, fields_of};
+    ghost use Rattle.time_record.specs.Layout.{record_of, fields_of, fields_back, AreSound};
 
     ghost view = { record_of };
 
-    ghost invariant = { λ a. IsSound greatest_year a.mask a.bytes a.shorts a.words a.stamp };
+    ghost invariant = { AreSound greatest_year };
 
     ghost inverse = { fields_of };
 
-    ghost inverse_ok = { λ a sound i. record {
-      mask = mask_back a.mask a.bytes a.shorts a.words a.stamp greatest_year sound i;
-      bytes = bytes_back a.mask a.bytes a.shorts a.words a.stamp greatest_year sound i;
-      shorts = shorts_back a.mask a.bytes a.shorts a.words a.stamp greatest_year sound i;
-      words = words_back a.mask a.bytes a.shorts a.words a.stamp greatest_year sound i;
-      stamp = stamp_back a.mask a.bytes a.shorts a.words a.stamp greatest_year sound i;
-    } };
+    ghost inverse_ok = { fields_back greatest_year };
 }
 
 impl Default for Parsed {

@@ -6,7 +6,7 @@ use Rattle.time_record.specs.Inverse.{bytes_back, mask_back, shorts_back, stamp_
 use Rattle.time_record.specs.declared.parsed.Parsed.TheInside.{Inside}
 
 -- the record that the fields hold
-abbrev pub record_of : Inside → Record
+unfoldable pub record_of : Inside → Record
 record_of a = build (option_at (bit a.mask) (value_at a.bytes a.shorts a.words a.stamp)) (bit a.mask)
 
 -- the fields that hold a record
@@ -25,7 +25,7 @@ AreSound Y a = IsSound Y a.mask a.bytes a.shorts a.words a.stamp
 
 -- they come back from their record
 pub fields_back : (Y : ℕ) (a : Inside) → AreSound Y a → fields_of (record_of a) ≡ a
-unfolding fields_of
+unfolding fields_of record_of
 fields_back Y a sound i = record {
   mask = mask_back a.mask a.bytes a.shorts a.words a.stamp Y sound i;
   bytes = bytes_back a.mask a.bytes a.shorts a.words a.stamp Y sound i;

@@ -63,6 +63,7 @@ impl Default for Parsed {
 impl Parsed {
     /// Nothing is known, and no flag stands.
     #[inline]
+    #[tactic(auto, unfolding(crate::specs::Layout::record_of))]
     pub fn new() -> Parsed
         ensures { result ≡ empty }
     {

@@ -4,10 +4,12 @@ use Rattle.std.specs.Prelude.{FitsSigned}
 use Rattle.std.proofs.lemmas.Int.{to_z-of_z}
 use Rattle.time_values.specs.Range.{greatest_year}
 use Rattle.time_record.specs.Cells.{value_at}
+use Rattle.time_record.specs.Layout.{record_of}
 use Rattle.time_record.proofs.CellLemmas.{read_in_cell, reads_none, reads_some, value_byte}
 use Rattle.time_record.proofs.parsed.Parsed.byte.Goals as goal
 
 pub returns-then-is_set-clause-value : goal.returns-then-is_set-clause-value
+unfolding record_of
 returns-then-is_set-clause-value c =
     let self = c.self.inside in
     let index = c.args.index in
@@ -28,6 +30,7 @@ returns-then-is_set-clause-in_range c =
     (sym c.if-is_set.true ∙ c.is_set.ensures) (value ∙ sym (to_z-of_z w8 _ fits))
 
 pub returns-else-is_set-clause-value : goal.returns-else-is_set-clause-value
+unfolding record_of
 returns-else-is_set-clause-value c =
     let self = c.self.inside in
     reads_none self.mask self.bytes self.shorts self.words self.stamp c.args.index _ c.self.view_is

@@ -1,8 +1,10 @@
 use Rattle.std.proofs.Common.{◌∙◌}
+use Rattle.time_record.specs.Layout.{record_of}
 use Rattle.time_record.proofs.CellLemmas.{bit_holds}
 use Rattle.time_record.proofs.parsed.Parsed.flag.Goals as goal
 
 pub returns : goal.returns
+unfolding record_of
 returns c =
     let self = c.self.inside in
     c.is_set.ensures

@@ -1,9 +1,11 @@
 use Rattle.std.proofs.Common.{◌≡◌, ◌&&◌, ℕ, Bool, cond, eqb, ap, ◌∙◌, true}
 use Rattle.time_record.specs.Cells.{bit, changed, holds}
+use Rattle.time_record.specs.Layout.{record_of}
 use Rattle.time_record.proofs.CellLemmas.{bit_holds, three_set}
 use Rattle.time_record.proofs.parsed.Parsed.has.Goals as goal
 
 pub returns : goal.returns
+unfolding record_of
 returns c =
     let self = c.self.inside in
     let cells = c.with_bit-cells.result in

@@ -4,6 +4,7 @@ use Rattle.std.proofs.lemmas.Int.{to_z-of_z}
 use Rattle.std.proofs.lemmas.List.{length-set}
 use Rattle.time_values.specs.Range.{greatest_year}
 use Rattle.time_record.specs.Cells.{bit, put_cell, value_at}
+use Rattle.time_record.specs.Layout.{record_of}
 use Rattle.time_record.proofs.CellLemmas.{put_is, sound_after, value_set_byte}
 use Rattle.time_record.proofs.parsed.Parsed.put_byte.Goals as goal
 
@@ -21,6 +22,7 @@ invariant_of-self c =
     (value_set_byte self.bytes self.shorts self.words self.stamp index v c.self.told.0 (omega arith)) c.requires.in_range)
 
 pub returns : goal.returns
+unfolding record_of
 returns c =
     let self = c.self.inside in
     let index = c.args.index in

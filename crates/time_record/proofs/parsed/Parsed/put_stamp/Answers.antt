@@ -4,6 +4,7 @@ use Rattle.std.proofs.lemmas.Int.{to_z-of_z}
 use Rattle.time_values.specs.Range.{greatest_year}
 use Rattle.time_values.proofs.InstantLemmas.{is_instant-IsInstant}
 use Rattle.time_record.specs.Cells.{bit, put_cell, value_at}
+use Rattle.time_record.specs.Layout.{record_of}
 use Rattle.time_record.proofs.CellLemmas.{put_is, sound_after, value_set_stamp}
 use Rattle.time_record.proofs.parsed.Parsed.put_stamp.Goals as goal
 
@@ -18,6 +19,7 @@ invariant_of-self c =
     ((is_instant-IsInstant greatest_year v).0 c.requires))
 
 pub returns : goal.returns
+unfolding record_of
 returns c =
     let self = c.self.inside in
     let v = c.args.value in

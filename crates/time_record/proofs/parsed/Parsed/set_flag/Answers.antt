@@ -1,6 +1,7 @@
 use Rattle.std.proofs.Common.{ap, ◌∙◌}
 use Rattle.time_values.specs.Range.{greatest_year}
 use Rattle.time_record.specs.Cells.{bit, put_flag, value_at}
+use Rattle.time_record.specs.Layout.{record_of}
 use Rattle.time_record.proofs.CellLemmas.{flag_is, sound_flag}
 use Rattle.time_record.proofs.parsed.Parsed.set_flag.Goals as goal
 
@@ -11,6 +12,7 @@ invariant_of-self c =
     c.self.invariant c.with_flag-self-inside.ensures.after c.requires.past c.with_flag-self-inside.ensures.bits
 
 pub returns : goal.returns
+unfolding record_of
 returns c =
     let self = c.self.inside in
     flag_is (bit self.mask) (bit c.with_flag-self-inside.result) (value_at self.bytes self.shorts self.words self.stamp)

@@ -4,10 +4,12 @@ use Rattle.std.specs.Prelude.{FitsSigned}
 use Rattle.std.proofs.lemmas.Int.{to_z-of_z}
 use Rattle.time_values.specs.Range.{greatest_year}
 use Rattle.time_values.proofs.InstantLemmas.{is_instant-IsInstant}
+use Rattle.time_record.specs.Layout.{record_of}
 use Rattle.time_record.proofs.CellLemmas.{read_in_cell, reads_none, reads_some}
 use Rattle.time_record.proofs.parsed.Parsed.stamp.Goals as goal
 
 pub returns-then-is_set-clause-value : goal.returns-then-is_set-clause-value
+unfolding record_of
 returns-then-is_set-clause-value c =
     let self = c.self.inside in
     let fits : FitsSigned w128 self.stamp = search rules in
@@ -23,6 +25,7 @@ returns-then-is_set-clause-in_range c =
     (sym c.if-is_set.true ∙ c.is_set.ensures) (sym (to_z-of_z w128 _ fits)))
 
 pub returns-else-is_set-clause-value : goal.returns-else-is_set-clause-value
+unfolding record_of
 returns-else-is_set-clause-value c =
     let self = c.self.inside in
     sym (reads_none self.mask self.bytes self.shorts self.words self.stamp 22 _ c.self.view_is

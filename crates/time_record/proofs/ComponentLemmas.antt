@@ -72,7 +72,7 @@ unfolding IsFault
 refuses_component Y w c b r e h is = record { unread = h; fault = is }
 
 -- What is spelled between characters is spelled; and what is spelled is so, but for an `Ignore`.
-Spells-part : (c : Component) (text rest : List ℕ) (v : Value) → Spells true c text rest v → Spells false c text rest v
+pub Spells-part : (c : Component) (text rest : List ℕ) (v : Value) → Spells true c text rest v → Spells false c text rest v
 Spells-part (Ignore m) text rest v s = (s.0, s.1, tt)
 Spells-part c text rest v s = s
 

@@ -14,25 +14,25 @@ abbrev pub trees_from : {X : Type 0} → (X → Tree) → ℕ → List X → Tre
 trees_from f i xs = trees (map f (drop i xs))
 
 module _ {X : Type 0} (f : X → Tree) (xs : List X) (i : ℕ) where
-  trees_from-item : (x : X) → i < length xs → x ≡ get_or xs i x → trees_from f i xs ≡ more (f x) (trees_from f (i + 1) xs)
+  pub trees_from-item : (x : X) → i < length xs → x ≡ get_or xs i x → trees_from f i xs ≡ more (f x) (trees_from f (i + 1) xs)
   trees_from-item x within is =
       at_drop_more (λ ys. trees (map f ys)) xs i x within ∙ ap (λ y. more (f y) (trees_from f (i + 1) xs)) (sym is)
 
-  trees_from-end : length xs ≤ i → trees_from f i xs ≡ none
+  pub trees_from-end : length xs ≤ i → trees_from f i xs ≡ none
   trees_from-end end = at_drop_all (λ ys. trees (map f ys)) xs i end
 
 -- What is read after a tree that reads, or after none.
 module _ (Y : ℕ) (t : Tree) (ts : Trees) (b : List ℕ) (r : Record) where
-  ReadsAll-more : (mid : List ℕ) (q : Record) (rest : List ℕ) (r' : Record) → Reads Y t b r mid q →
+  pub ReadsAll-more : (mid : List ℕ) (q : Record) (rest : List ℕ) (r' : Record) → Reads Y t b r mid q →
       ReadsAll Y ts mid q rest r' → ReadsAll Y (more t ts) b r rest r'
   unfolding ReadsAll
   ReadsAll-more mid q rest r' h hs = (mid, q, h, hs)
 
-  RefusesAll-here : (e : Refusal) → Refuses Y t b r e → RefusesAll Y (more t ts) b r e
+  pub RefusesAll-here : (e : Refusal) → Refuses Y t b r e → RefusesAll Y (more t ts) b r e
   unfolding ReadsAll IsFaultAll
   RefusesAll-here e h = record { unread = λ rest r' k. h.unread k.0 k.1 k.2; fault = inl (h.unread, h.fault) }
 
-  RefusesAll-more : (mid : List ℕ) (q : Record) (e : Refusal) → Reads Y t b r mid q → RefusesAll Y ts mid q e → RefusesAll Y (more t ts) b r e
+  pub RefusesAll-more : (mid : List ℕ) (q : Record) (e : Refusal) → Reads Y t b r mid q → RefusesAll Y ts mid q e → RefusesAll Y (more t ts) b r e
   unfolding ReadsAll IsFaultAll
   RefusesAll-more mid q e h hs = record {
     unread = λ rest r' k.

@@ -7,4 +7,6 @@ pub mod Resolution
 pub mod Components
 pub mod Reading
 pub mod Answer
+pub mod Count
+pub mod Clean
 pub mod Laws

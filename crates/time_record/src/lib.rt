@@ -4,7 +4,9 @@
 mod format_item;
 pub mod laws;
 mod parsed;
+mod tries;
 mod walk;
 
 pub use format_item::AnyFormatItem;
 pub use parsed::Parsed;
+pub use tries::Tries;

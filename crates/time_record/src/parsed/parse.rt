@@ -5,12 +5,13 @@ ghost use Rattle.time_readers.specs.Shape.{v3_shape};
 ghost use Rattle.time_readers.specs.Spelling.{BeginsCharacter};
 ghost use Rattle.time_readers.specs.Tree as tree;
 ghost use Rattle.time_record.specs.Answer.{Answers};
+ghost use Rattle.time_record.specs.Count.{CountsAll};
 ghost use Rattle.time_record.specs.Record.{Record};
 
-use crate::Parsed;
 use crate::format_item::AnyFormatItem;
 use crate::parsed::component::Part;
 use crate::walk::v3::walk_v3;
+use crate::{Parsed, Tries};
 use time_readers::component::parse_ignore;
 use time_readers::{Component, FormatDescriptionV3Inner};
 use time_values::error::ParseFromDescription;
@@ -30,23 +31,25 @@ impl Parsed {
         item.parse_item(self, input)
     }
 
-    /// Reads items one after the other, each on what the one before left, as `parse_item` does.
+    /// Reads items one after the other, each on what the one before left, as `parse_item` does, and counts the items
+    /// that are begun.
     ///
     /// An error is that of the first item that does not read, and the record is then as it was
-    /// before all of them.
-    #[tactic(auto, using(crate::proofs::Steps::sequence_steps))]
-    pub fn parse_items<'a, I: AnyFormatItem>(
+    /// before all of them; the count has risen all the same.
+    pub fn parse_items_counted<'a, I: AnyFormatItem>(
         &mut self,
         input: &'a [u8],
         items: &[I],
+        tries: &mut Tries,
     ) -> Result<&'a [u8], ParseFromDescription>
-        ensures { Answers greatest_year (tree.sequence (tree.trees (map I.shape items.now)))
+        ensures answers { Answers greatest_year (tree.sequence (tree.trees (map I.shape items.now)))
             input.now self.old result self.new }
+        ensures counts { CountsAll greatest_year (tree.trees (map I.shape items.now)) input.now self.old tries.old tries.new }
     {
         let before = *self;
         let mut rest = input;
         for item in items {
-            match item.parse_item(self, rest) {
+            match item.parse_item_counted(self, rest, tries) {
                 Ok(unread) => rest = unread,
                 Err(fault) => {
                     *self = before;
@@ -55,6 +58,21 @@ impl Parsed {
             }
         }
         Ok(rest)
+    }
+
+    /// Reads items one after the other, each on what the one before left, as `parse_item` does.
+    ///
+    /// An error is that of the first item that does not read, and the record is then as it was
+    /// before all of them.
+    pub fn parse_items<'a, I: AnyFormatItem>(
+        &mut self,
+        input: &'a [u8],
+        items: &[I],
+    ) -> Result<&'a [u8], ParseFromDescription>
+        ensures { Answers greatest_year (tree.sequence (tree.trees (map I.shape items.now)))
+            input.now self.old result self.new }
+    {
+        self.parse_items_counted(input, items, &mut Tries::new())
     }
 
     /// Reads a literal in front of the input: these very bytes.

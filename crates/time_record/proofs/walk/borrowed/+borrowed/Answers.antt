@@ -1,11 +1,50 @@
 use Rattle.std.proofs.Common.{refl, arith}
-use Rattle.time_record.proofs.Steps.{Continues-refuses, Keeps-refuses}
+use Rattle.time_record.proofs.Counting.{CountsAll-end, CountsAll-refuses, CountsAll-reads, CountsFirst-end, CountsFirst-reads, CountsFirst-refuses}
+use Rattle.time_record.proofs.Steps.{Continues-refuses, Continues-reads, Continues-end, Keeps-reads, Keeps-refuses, Keeps-fault, Keeps-nothing}
 use Rattle.time_record.proofs.walk.borrowed.+borrowed.Goals as goal
 
-pub walk_borrowed_all-returns-in-Err : goal.walk_borrowed_all-returns-in-Err
-walk_borrowed_all-returns-in-Err t c =
-    (Continues-refuses c.loop-item.invariant (omega arith) c.item-item.is c.in-Err.ensures.0, refl)
+pub walk_borrowed_all-returns-in-Err-clause-answers : goal.walk_borrowed_all-returns-in-Err-clause-answers
+walk_borrowed_all-returns-in-Err-clause-answers t c =
+    (Continues-refuses c.loop-item.invariant.0 (omega arith) c.item-item.is c.in-Err.ensures.answers.0, refl)
+
+pub walk_borrowed_all-returns-in-Err-clause-counts : goal.walk_borrowed_all-returns-in-Err-clause-counts
+walk_borrowed_all-returns-in-Err-clause-counts t c =
+    CountsAll-refuses _ c.loop-item.invariant.1 (omega arith) c.item-item.is _ c.in-Err.ensures.counts c.in-Err.ensures.answers.0.unread
+
+pub walk_borrowed_all-loop-item-preserved : goal.walk_borrowed_all-loop-item-preserved
+walk_borrowed_all-loop-item-preserved t c = (
+  Continues-reads c.loop-item.invariant.0 (omega arith) c.item-item.is c.in-Ok.ensures.answers,
+  CountsAll-reads _ c.loop-item.invariant.1 (omega arith) c.item-item.is _ c.in-Ok.ensures.counts _ _ c.in-Ok.ensures.answers,
+)
+
+pub walk_borrowed_all-returns-clause-answers : goal.walk_borrowed_all-returns-clause-answers
+walk_borrowed_all-returns-clause-answers t c = Continues-end c.loop-item.invariant.0 (omega arith)
+
+pub walk_borrowed_all-returns-clause-counts : goal.walk_borrowed_all-returns-clause-counts
+walk_borrowed_all-returns-clause-counts t c = CountsAll-end _ c.loop-item.invariant.1 (omega arith)
+
+pub walk_borrowed_first-returns-in-Ok-clause-answers : goal.walk_borrowed_first-returns-in-Ok-clause-answers
+walk_borrowed_first-returns-in-Ok-clause-answers t c = Keeps-reads c.loop-item.invariant.0 (omega arith) c.item-item.is _ _ c.in-Ok.ensures.answers
+
+pub walk_borrowed_first-returns-in-Ok-clause-counts : goal.walk_borrowed_first-returns-in-Ok-clause-counts
+walk_borrowed_first-returns-in-Ok-clause-counts t c =
+    CountsFirst-reads _ c.loop-item.invariant.1 (omega arith) c.item-item.is _ _ c.loop-item.invariant.0.same c.in-Ok.ensures.counts _ _ c.in-Ok.ensures.answers
 
 pub walk_borrowed_first-loop-item-preserved : goal.walk_borrowed_first-loop-item-preserved
-walk_borrowed_first-loop-item-preserved t c =
-    Keeps-refuses c.loop-item.invariant (omega arith) c.item-item.is _ c.in-Err.ensures c.or-first_fault.ensures
+walk_borrowed_first-loop-item-preserved t c = (
+  Keeps-refuses c.loop-item.invariant.0 (omega arith) c.item-item.is _ c.in-Err.ensures.answers c.or-first_fault.ensures,
+  CountsFirst-refuses _ c.loop-item.invariant.1 (omega arith) c.item-item.is _ _ c.loop-item.invariant.0.same
+      c.in-Err.ensures.counts c.in-Err.ensures.answers.0.unread,
+)
+
+pub walk_borrowed_first-returns-in-Some-clause-answers : goal.walk_borrowed_first-returns-in-Some-clause-answers
+walk_borrowed_first-returns-in-Some-clause-answers t c = Keeps-fault c.loop-item.invariant.0 _ (omega arith) c.in-Some.is
+
+pub walk_borrowed_first-returns-in-Some-clause-counts : goal.walk_borrowed_first-returns-in-Some-clause-counts
+walk_borrowed_first-returns-in-Some-clause-counts t c = CountsFirst-end _ c.loop-item.invariant.1 (omega arith)
+
+pub walk_borrowed_first-returns-in-None-clause-answers : goal.walk_borrowed_first-returns-in-None-clause-answers
+walk_borrowed_first-returns-in-None-clause-answers t c = Keeps-nothing c.loop-item.invariant.0 (omega arith) c.in-None.is
+
+pub walk_borrowed_first-returns-in-None-clause-counts : goal.walk_borrowed_first-returns-in-None-clause-counts
+walk_borrowed_first-returns-in-None-clause-counts t c = CountsFirst-end _ c.loop-item.invariant.1 (omega arith)

@@ -1,7 +1,0 @@
-use Rattle.time_values.specs.Range.{greatest_year}
-use Rattle.time_record.proofs.Steps.{Continues}
-use Rattle.time_record.proofs.parsed.Parsed.parse_items.Given as goal
-
-abbrev pub invariant-loop-item : goal.invariant-loop-item
-invariant-loop-item g l =
-    Continues greatest_year g.I.AnyFormatItem.shape l.items l.item-index l.fn.input l.fn.self l.rest l.self

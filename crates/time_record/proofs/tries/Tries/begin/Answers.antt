@@ -1,0 +1,18 @@
+use Rattle.std.proofs.Common.{arith}
+use Rattle.time_record.proofs.Counting.{Counts-literal, Counts-component, Counts-sequence, Counts-optional, Counts-first_of}
+use Rattle.time_record.proofs.tries.Tries.begin.Goals as goal
+
+pub returns-clause-literal : goal.returns-clause-literal
+returns-clause-literal c = λ text b r. Counts-literal _ b r _ _ (omega arith) text
+
+pub returns-clause-component : goal.returns-clause-component
+returns-clause-component c = λ w item b r. Counts-component _ b r _ _ (omega arith) w item
+
+pub returns-clause-sequence : goal.returns-clause-sequence
+returns-clause-sequence c = λ ts b r after. Counts-sequence _ b r _ _ after (omega arith) ts
+
+pub returns-clause-optional : goal.returns-clause-optional
+returns-clause-optional c = λ t b r after. Counts-optional _ b r _ _ after (omega arith) t
+
+pub returns-clause-first_of : goal.returns-clause-first_of
+returns-clause-first_of c = λ ts b r after. Counts-first_of _ b r _ _ after (omega arith) ts

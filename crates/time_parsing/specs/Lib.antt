@@ -1,3 +1,4 @@
+pub mod Canonical
 pub mod DescriptionLaws
 pub mod DirectLaws
 pub mod Iso8601
@@ -10,3 +11,4 @@ pub mod Rfc2822Laws
 pub mod Rfc3339
 pub mod Rfc3339Laws
 pub mod ToldMoment
+pub mod TreeLaws

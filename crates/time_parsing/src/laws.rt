@@ -1,12 +1,16 @@
 //! Laws of parsing: each function does nothing, and its contract is the law.
 ghost use Rattle.time_values.specs.Range.{greatest_year};
 ghost use Rattle.time_record.specs.Resolution.{IsDated, IsTimed, IsOffset, IsPlain, IsUtcMoment, IsMoment, IsTimestamp};
-ghost use Rattle.time_readers.specs.Direct.{IsDirectRfc3339, IsDirectRfc2822};
-ghost use Rattle.time_parsing.specs.Outcome.{OneOutcome, OneMomentOutcome, SameMoments};
+ghost use Rattle.time_readers.specs.Direct.{IsDirectRfc3339, IsDirectRfc2822, RefusesRfc3339};
+ghost use Rattle.time_parsing.specs.Canonical.{ReadsBack};
+ghost use Rattle.time_parsing.specs.Outcome.{OneOutcome, OneMomentOutcome, SameMoments, direct};
 ghost use Rattle.time_parsing.specs.Rfc2822 as Rfc2822;
 ghost use Rattle.time_parsing.specs.Rfc3339 as Rfc3339;
+ghost use Rattle.time_parsing.specs.TreeLaws.{JoinedReads, JoinedRefuses, Flattens, OptionalAsFirst, AnswersAlike, WholeCharacters, LeavesSuffix};
 
 use crate::Parsable;
+pub use crate::canonical::text_3339;
+use time_record::AnyFormatItem;
 
 /// A parse has one outcome, whatever the format, the defaults and the target.
 pub fn law_one_outcome<T: Parsable>(format: &T)
@@ -26,4 +30,50 @@ pub fn law_two_paths()
         (IsDirectRfc3339 greatest_year) }
     ensures rfc2822 { SameMoments greatest_year (Rfc2822.Reads greatest_year) (Rfc2822.Refuses greatest_year)
         (IsDirectRfc2822 greatest_year) }
+{}
+
+/// A list that is two lists joined reads as the one, and then as the other on what the one left. It is refused where
+/// either of them is, with that fault; and the record is then as it was before both, as after every refusal.
+pub fn law_joined_lists()
+    ensures reads { JoinedReads greatest_year }
+    ensures refuses { JoinedRefuses greatest_year }
+{}
+
+/// A list inside a list may be flattened: the same is read, and the same is refused.
+#[tactic(auto, using(crate::proofs::JoinedLists::flattens))]
+pub fn law_flattened()
+    ensures { Flattens greatest_year }
+{}
+
+/// An optional item reads as the first of it and the empty list, and neither is ever refused.
+#[tactic(auto, using(crate::proofs::TreeLemmas::optional_as_first))]
+pub fn law_optional_as_first()
+    ensures { OptionalAsFirst greatest_year }
+{}
+
+/// Two items of one shape, whatever their types, give the same results, and leave the same record.
+pub fn law_equal_shapes<I: AnyFormatItem, J: AnyFormatItem>(item: &I, other: &J)
+    ensures { AnswersAlike greatest_year (I.shape item.now) (J.shape other.now) }
+{}
+
+/// A version-3 description reads as the same description of another type, where no `Ignore` of those that are begun ends
+/// inside a character. It is the tree that they are but for the marks that a version-3 description puts on its
+/// components.
+#[tactic(auto, using(crate::proofs::WholeCharacters::whole_characters))]
+pub fn law_whole_characters()
+    ensures { WholeCharacters greatest_year }
+{}
+
+/// What a description leaves unread is a suffix of the input.
+#[tactic(auto, using(crate::proofs::TreeLemmas::leaves_suffix))]
+pub fn law_suffix()
+    ensures { LeavesSuffix greatest_year }
+{}
+
+/// The text that [`text_3339`] writes of a moment is read back by [`Rfc3339`](crate::Rfc3339) as that moment, without
+/// defaults, directly and over a record.
+#[tactic(auto, using(crate::proofs::ReadBack::read_back))]
+pub fn law_read_back()
+    ensures { ReadsBack greatest_year (direct (RefusesRfc3339 greatest_year)) (Rfc3339.Reads greatest_year)
+        (Rfc3339.Refuses greatest_year) }
 {}

@@ -1,6 +1,7 @@
 //! Parses whole texts into date-time values.
 #![tactic(auto)]
 
+mod canonical;
 mod description;
 mod iso8601;
 pub mod laws;

@@ -1,6 +1,7 @@
 mod callers;
 mod components_of_readers;
 mod conversions;
+mod counted_and_laws;
 mod days;
 mod debug_texts;
 mod descriptions;

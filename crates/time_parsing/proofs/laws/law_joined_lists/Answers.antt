@@ -1,0 +1,8 @@
+use Rattle.time_parsing.proofs.JoinedLists.{joined_reads, joined_refuses}
+use Rattle.time_parsing.proofs.laws.law_joined_lists.Goals as goal
+
+pub returns-clause-reads : goal.returns-clause-reads
+returns-clause-reads c = joined_reads _
+
+pub returns-clause-refuses : goal.returns-clause-refuses
+returns-clause-refuses c = joined_refuses _

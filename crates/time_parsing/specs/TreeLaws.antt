@@ -1,0 +1,70 @@
+-- Laws of reading trees. `Y` is the greatest year.
+use Rattle.std.specs.Prelude.{◌≡◌, ◌↔◌, ◌⊎◌, ℕ, List, [], ◌∷◌, ◌++◌, Result, Ok, Err}
+use Rattle.std.specs.Borrow.{Bor}
+use Rattle.time_values.specs.Refusal.{Refusal, refusal_of_description}
+use Rattle.time_values.specs.declared.error.ParseFromDescription.{ParseFromDescription}
+use Rattle.time_readers.specs.Tree.{Tree, sequence, optional, first_of, none, trees}
+use Rattle.time_record.specs.Answer.{Answers}
+use Rattle.time_record.specs.Clean.{Clean, unmarked}
+use Rattle.time_record.specs.Reading.{Reads, Refuses}
+use Rattle.time_record.specs.Record.{Record}
+
+-- Reading a list that is two joined is reading the one, and then the other on what the one left.
+abbrev pub JoinedReads : ℕ → Type 0
+JoinedReads Y =
+    (xs ys : List Tree) (bytes : List ℕ) (r : Record) (rest : List ℕ) (q : Record)
+    → Reads Y (sequence (trees (xs ++ ys))) bytes r rest q
+    ↔ ((mid : List ℕ) × (m : Record) × Reads Y (sequence (trees xs)) bytes r mid m
+    × Reads Y (sequence (trees ys)) mid m rest q)
+
+-- It is refused where the one is, or where the other is on what the one left, and with that fault.
+abbrev pub JoinedRefuses : ℕ → Type 0
+JoinedRefuses Y =
+    (xs ys : List Tree) (bytes : List ℕ) (r : Record) (e : Refusal)
+    → Refuses Y (sequence (trees (xs ++ ys))) bytes r e
+    ↔ (Refuses Y (sequence (trees xs)) bytes r e
+    ⊎ ((mid : List ℕ) × (m : Record) × Reads Y (sequence (trees xs)) bytes r mid m
+    × Refuses Y (sequence (trees ys)) mid m e))
+
+-- what the one tree reads of the bytes over the record, the other reads too, and its faults are the same
+pub record AlikeOn (Y : ℕ) (t u : Tree) (bytes : List ℕ) (r : Record) : Type 0 where
+  pub reads : (rest : List ℕ) (q : Record) → Reads Y t bytes r rest q ↔ Reads Y u bytes r rest q
+  pub refuses : (e : Refusal) → Refuses Y t bytes r e ↔ Refuses Y u bytes r e
+
+-- the same of all bytes and records
+abbrev pub Alike : ℕ → Tree → Tree → Type 0
+Alike Y t u = (bytes : List ℕ) (r : Record) → AlikeOn Y t u bytes r
+
+-- A list inside a list may be flattened.
+abbrev pub Flattens : ℕ → Type 0
+Flattens Y =
+    (before inside behind : List Tree)
+    → Alike Y (sequence (trees (before ++ sequence (trees inside) ∷ behind)))
+    (sequence (trees (before ++ (inside ++ behind))))
+
+-- An optional tree is the first of it and the empty list.
+abbrev pub OptionalAsFirst : ℕ → Type 0
+OptionalAsFirst Y = (t : Tree) → Alike Y (optional t) (first_of (trees (t ∷ sequence none ∷ [])))
+
+-- what an item answers, without where it lies in memory
+abbrev pub told : Result (Bor (List ℕ)) ParseFromDescription → Result (List ℕ) Refusal
+told (Ok rest) = Ok rest.now
+told (Err e) = Err (refusal_of_description e)
+
+-- Equal trees answer the same, and leave the same record.
+abbrev pub AnswersAlike : ℕ → Tree → Tree → Type 0
+AnswersAlike Y t u =
+    (bytes : List ℕ) (old : Record) (result other : Result (Bor (List ℕ)) ParseFromDescription) (new other_new : Record)
+    → t ≡ u → Answers Y t bytes old result new → Answers Y u bytes old other other_new
+    → (told result ≡ told other) × (new ≡ other_new)
+
+-- Where no `Ignore` ends inside a character, it makes no difference which of them are marked to end between two.
+abbrev pub WholeCharacters : ℕ → Type 0
+WholeCharacters Y =
+    (t u : Tree) (bytes : List ℕ) (r : Record) → unmarked t ≡ u → Clean Y u bytes r → AlikeOn Y t u bytes r
+
+-- What is left is a suffix of what was there.
+abbrev pub LeavesSuffix : ℕ → Type 0
+LeavesSuffix Y =
+    (t : Tree) (bytes : List ℕ) (r : Record) (rest : List ℕ) (q : Record)
+    → Reads Y t bytes r rest q → (front : List ℕ) × (bytes ≡ front ++ rest)

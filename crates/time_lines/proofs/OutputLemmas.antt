@@ -1,6 +1,6 @@
 -- Answers, line by line. `Y` is the greatest year.
-use Rattle.std.proofs.Common.{◌≡◌, ℕ, List, [], ◌∷◌, ◌++◌, refl, sym, ap, ◌∙◌, subst, append_assoc, Option, Result, Ok, Err, OnOk}
-use Rattle.std.specs.Io.KnownBytes.{Appends}
+use Rattle.std.proofs.Common.{◌≡◌, ℕ, List, [], ◌∷◌, ◌++◌, refl, sym, ap, ◌∙◌, subst, append_assoc, append-nil, Option, None, Some, Result, Ok, Err, OnOk}
+use Rattle.std.specs.Io.KnownBytes.{Appends, Keeps, append_known}
 use Rattle.time_readers.specs.Tree.{Tree}
 use Rattle.time_lines.specs.declared.formats.Target.{Target}
 use Rattle.time_lines.specs.Output.{IsAnswer, IsDescribed, AreAnswers, WithLineFeed, Writes}
@@ -32,3 +32,19 @@ pub Writes-described : {E : Type 0} (r : Result (Unit {0}) E) (Y : ℕ) (tree sa
     → OnOk r (Writes (IsDescribed Y same target bytes) a b)
 Writes-described r Y tree same target bytes a b e h =
     subst (λ (t : Tree). OnOk r (Writes (IsDescribed Y t target bytes) a b)) e h
+
+-- nothing waits behind what a writer holds
+pub append_known-none : (a : Option (List ℕ)) (waiting : List ℕ) → waiting ≡ [] → Appends a (append_known a waiting) []
+append_known-none None waiting e = tt
+append_known-none (Some s) waiting e = ap (λ t. s ++ t) e
+
+-- what waits is written in the end
+pub Writes-waiting : {E : Type 0} (r : Result (Unit {0}) E) (P : List ℕ → Type 0) (a b c : Option (List ℕ))
+    (waiting none : List ℕ) → Writes P a (append_known b waiting)
+    → OnOk r (Keeps (append_known b waiting) (append_known c none)) → OnOk r (none ≡ []) → OnOk r (Writes P a c)
+Writes-waiting (Err e) P a b c waiting none w kept is = tt
+Writes-waiting (Ok u) P None b c waiting none w kept is = (w.0, w.1, tt)
+Writes-waiting (Ok u) P (Some s) None c waiting none w kept is = absurd w.2
+Writes-waiting (Ok u) P (Some s) (Some t) None waiting none w kept is = absurd kept
+Writes-waiting (Ok u) P (Some s) (Some t) (Some v) waiting none w kept is =
+    (w.0, w.1, sym (append-nil v) ∙ ap (λ x. v ++ x) (sym is) ∙ kept ∙ w.2)

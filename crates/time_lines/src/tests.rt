@@ -212,7 +212,7 @@ fn statuses(rt: HostRuntime) -> Result<(), Fail> {
         let answer = serve(alloc, &mut make_source(INPUT, most, NEVER), &mut page);
         assert_eq!(rt; answer, Ok(()));
         assert_eq!(rt; page.text.as_slice(), OUTPUT.as_bytes());
-        assert_eq!(rt; page.writes, 3);
+        assert_eq!(rt; page.writes, 1);
     }
     for at in 0..=INPUT.len() {
         let mut page = Page::new(alloc, NEVER);
@@ -220,14 +220,95 @@ fn statuses(rt: HostRuntime) -> Result<(), Fail> {
         assert_eq!(rt; answer, Err(Stop::Unread), "read {at}");
         assert_eq!(rt; page.text.len(), 0);
     }
-    for at in 0..3usize {
-        let mut page = Page::new(alloc, at);
-        let answer = serve(alloc, &mut make_source(INPUT, 65536, NEVER), &mut page);
-        assert_eq!(rt; answer, Err(Stop::Unwritten), "write {at}");
-    }
+    let mut page = Page::new(alloc, 0);
+    let answer = serve(alloc, &mut make_source(INPUT, 65536, NEVER), &mut page);
+    assert_eq!(rt; answer, Err(Stop::Unwritten));
     assert_eq!(rt; Stop::Unread.status(), 2);
     assert_eq!(rt; Stop::Memory.status(), 2);
     assert_eq!(rt; Stop::Unwritten.status(), 1);
+    Ok(())
+}
+
+#[test]
+fn failed_writes(rt: HostRuntime) -> Result<(), Fail> {
+    let alloc = rt.alloc();
+    let mut input = Vec::new(alloc);
+    let mut output = Vec::new(alloc);
+    for _ in 0..2000 {
+        input.extend_from_slice(INPUT)?;
+        input.push(b'\n')?;
+        output.extend_from_slice(OUTPUT.as_bytes())?;
+    }
+    let mut page = Page::new(alloc, NEVER);
+    run(input.as_slice(), &mut page)?;
+    assert!(rt; page.text.as_slice() == output.as_slice());
+    assert_eq!(rt; page.writes, 3);
+    for at in 0..3usize {
+        let mut page = Page::new(alloc, at);
+        assert!(rt; run(input.as_slice(), &mut page).is_err(), "write {at}");
+    }
+    Ok(())
+}
+
+/// How many bytes the program reads at once, and how many bytes of answers it writes at once.
+const BUFFER: usize = 65536;
+
+// 5459 answers of 12 bytes and two of 14 fill the buffer, to the last byte.
+#[test]
+fn full_buffer(rt: HostRuntime) -> Result<(), Fail> {
+    let alloc = rt.alloc();
+    for (more, writes) in [("", 1), ("\n", 2), ("x\ty\t\n", 2)] {
+        let mut input = vec![in alloc; b'\n'; 5459]?;
+        input.extend_from_slice(b"x\ty\t\nx\ty\t\n")?;
+        input.extend_from_slice(more.as_bytes())?;
+        let mut page = Page::new(alloc, NEVER);
+        run(input.as_slice(), &mut page)?;
+        assert_eq!(rt; page.writes, writes, "{more:?}");
+        let (full, rest) = page.text.as_slice().split_at(page.text.len().min(BUFFER));
+        assert_eq!(rt; full.len(), BUFFER);
+        assert!(rt; full.ends_with(b"error: line\nerror: format\nerror: format\n"));
+        let mut last = Page::new(alloc, NEVER);
+        run(more.as_bytes(), &mut last)?;
+        assert_eq!(rt; rest, last.text.as_slice(), "{more:?}");
+    }
+    Ok(())
+}
+
+#[test]
+fn long_lines(rt: HostRuntime) -> Result<(), Fail> {
+    let alloc = rt.alloc();
+    for length in [
+        0,
+        1,
+        127,
+        128,
+        129,
+        BUFFER - 1,
+        BUFFER,
+        BUFFER + 1,
+        2 * BUFFER,
+        200000,
+    ] {
+        let mut input = Vec::new(alloc);
+        input.extend_from_slice(INPUT)?;
+        input.push(b'\n')?;
+        input.extend_from_slice(vec![in alloc; b'x'; length]?.as_slice())?;
+        input.push(b'\n')?;
+        input.extend_from_slice(INPUT)?;
+        let mut output = Vec::new(alloc);
+        output.extend_from_slice(OUTPUT.as_bytes())?;
+        output.extend_from_slice(b"error: line\n")?;
+        output.extend_from_slice(OUTPUT.as_bytes())?;
+        let mut page = Page::new(alloc, NEVER);
+        let answer = serve(
+            alloc,
+            &mut make_source(input.as_slice(), BUFFER, NEVER),
+            &mut page,
+        );
+        assert_eq!(rt; answer, Ok(()));
+        assert_eq!(rt; page.text.as_slice(), output.as_slice(), "{length}");
+        assert_eq!(rt; page.writes, 1);
+    }
     Ok(())
 }
 

@@ -4,8 +4,11 @@ use Rattle.time_values.specs.Range.{greatest_year}
 use Rattle.time_lines.specs.Lines.{lines_of}
 use Rattle.time_lines.specs.Output.{AreAnswers}
 use Rattle.time_lines.proofs.LinesLemmas.{Appends-more}
-use Rattle.time_lines.proofs.OutputLemmas.{AreAnswers-more}
+use Rattle.time_lines.proofs.OutputLemmas.{AreAnswers-more, Writes-waiting, append_known-none}
 use Rattle.time_lines.proofs.serving.run.Goals as goal
+
+pub loop-rest-init : goal.loop-rest-init
+loop-rest-init g c = ([], append_known-none _ _ c.new-waiting.ensures, λ others h. h)
 
 pub loop-rest-preserved : goal.loop-rest-preserved
 loop-rest-preserved g c =
@@ -17,4 +20,6 @@ pub returns : goal.returns
 returns g c =
     let so_far = c.loop-rest.invariant in
     let none : c.loop-rest.rest.now ≡ [] = grind (arith, common_steps) in
+    Writes-waiting _ _ _ _ _ _ _
     (so_far.0 ++ [], so_far.2 [] (subst (λ r. AreAnswers greatest_year (lines_of r) []) (sym none) refl), rw append-nil so_far.1)
+    c.write_waiting.ensures.moved c.write_waiting.ensures.none

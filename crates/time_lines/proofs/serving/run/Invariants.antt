@@ -1,6 +1,6 @@
--- What was written so far, with the answers to what is left, is the answers to all.
+-- What was written so far or waits, with the answers to what is left, is the answers to all.
 use Rattle.std.proofs.Common.{◌++◌, List, ℕ, length}
-use Rattle.std.specs.Io.KnownBytes.{Appends}
+use Rattle.std.specs.Io.KnownBytes.{Appends, append_known}
 use Rattle.time_values.specs.Range.{greatest_year}
 use Rattle.time_lines.specs.Lines.{lines_of}
 use Rattle.time_lines.specs.Output.{AreAnswers}
@@ -8,7 +8,7 @@ use Rattle.time_lines.proofs.serving.run.Given as goal
 
 abbrev pub invariant-loop-rest : goal.invariant-loop-rest
 invariant-loop-rest g l = (written : List ℕ)
-    × Appends (g.W.Write.contents l.initial.out) (g.W.Write.contents l.out) written
+    × Appends (g.W.Write.contents l.initial.out) (append_known (g.W.Write.contents l.out) l.waiting.items) written
     × ((others : List ℕ) → AreAnswers greatest_year (lines_of l.rest) others
     → AreAnswers greatest_year (lines_of l.initial.rest) (written ++ others))
 

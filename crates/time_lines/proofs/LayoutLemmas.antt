@@ -1,5 +1,8 @@
 -- Layouts, as they are written piece by piece.
-use Rattle.std.proofs.Common.{◌≡◌, ℕ, ◌<◌, List, ◌++◌, ap, ◌∙◌, sym, arith, ℤ, pos, int_lt, unsigned_abs, codes, append_assoc}
+use Rattle.std.proofs.Common.{◌≡◌, ℕ, ◌+◌, ◌<◌, List, [], ◌∷◌, ◌++◌, length, take, drop, take_at, ap, ◌∙◌, sym, arith, ℤ, pos, int_lt, unsigned_abs, codes, append_assoc, append-nil, length-append, length-drop}
+use Rattle.std.proofs.lemmas.List.{drop_all}
+use borrow.Rule.Slice.PartMut.{put_mid}
+use Rattle.time_values.specs.Calendar.{month_length}
 use Rattle.std.proofs.lemmas.Bool.Decides.{nat_tests}
 use Rattle.time_values.specs.Month.{month_number}
 use Rattle.time_values.specs.declared.date.Date.{Date}
@@ -14,25 +17,39 @@ five : (a b c d e f : List ℕ) → a ++ (b ++ c ++ d ++ e ++ f) ≡ a ++ b ++ c
 five a b c d e f = simp append_assoc
 
 -- a date whose year has four digits
-pub date_text-small : (d : Date) (z w : ℤ) (n m k : ℕ) (text : List ℕ)
-    → z ≡ d.year → w ≡ z → n ≡ unsigned_abs z → n < 10000 → m ≡ month_number d.month → k ≡ d.day
+pub date_text-small : (d : Date) (n m k : ℕ) (text : List ℕ)
+    → n ≡ unsigned_abs d.year → n < 10000 → m ≡ month_number d.month → k ≡ d.day
     → text ≡ fixed 4 n ++ codes "-" ++ fixed 2 m ++ codes "-" ++ fixed 2 k
-    → minus_if (int_lt w (pos 0)) ++ text ≡ date_text d
-date_text-small d z w n m k text zy wz nz small mm kk is =
+    → minus_if (int_lt d.year (pos 0)) ++ text ≡ date_text d
+date_text-small d n m k text nz small mm kk is =
+    let sign = minus_if (int_lt d.year (pos 0)) in
     let digits : fixed 4 n ≡ four_digits (unsigned_abs d.year) =
-    sym (four_digits-small n small) ∙ ap four_digits (nz ∙ ap unsigned_abs zy) in
-    let sign : minus_if (int_lt w (pos 0)) ≡ minus_if (int_lt d.year (pos 0)) =
-    ap (λ (x : ℤ). minus_if (int_lt x (pos 0))) (wz ∙ zy) in
-    ap (λ t. minus_if (int_lt w (pos 0)) ++ t) is
-    ∙ five (minus_if (int_lt w (pos 0))) (fixed 4 n) (codes "-") (fixed 2 m) (codes "-") (fixed 2 k)
-    ∙ ap (λ t. t ++ fixed 4 n ++ codes "-" ++ fixed 2 m ++ codes "-" ++ fixed 2 k) sign
-    ∙ ap (λ t. minus_if (int_lt d.year (pos 0)) ++ t ++ codes "-" ++ fixed 2 m ++ codes "-" ++ fixed 2 k) digits
+    sym (four_digits-small n small) ∙ ap four_digits nz in
+    ap (λ t. sign ++ t) is
+    ∙ five sign (fixed 4 n) (codes "-") (fixed 2 m) (codes "-") (fixed 2 k)
+    ∙ ap (λ t. sign ++ t ++ codes "-" ++ fixed 2 m ++ codes "-" ++ fixed 2 k) digits
     ∙ ap (λ t. year_text d.year ++ codes "-" ++ fixed 2 t ++ codes "-" ++ fixed 2 k) mm
     ∙ ap (λ t. year_text d.year ++ codes "-" ++ fixed 2 (month_number d.month) ++ codes "-" ++ fixed 2 t) kk
 
--- two texts with a space between them
-pub spaced : (x x' y y' : List ℕ) → x ≡ x' → y ≡ y' → x ++ (codes " " ++ y) ≡ x' ++ codes " " ++ y'
-spaced x x' y y' p q = rw (p, q) (simp append_assoc)
+-- an array of spaces, in which two texts were put, each after the other and a space
+pub joined : (d t rest xs : List ℕ) (a k : ℕ) → xs ≡ d ++ 32 ∷ rest → a ≡ length d + 1 → length rest ≡ k
+    → put_mid a k xs t ≡ d ++ codes " " ++ t
+joined d t rest xs a k e p q =
+    let split : xs ≡ (d ++ codes " ") ++ rest = e ∙ sym (append_assoc d (codes " ") rest) in
+    let long : length xs ≡ a + k = omega (arith, ap length e, length-append d (32 ∷ rest)) in
+    let front : take a xs ≡ d ++ codes " " = ap (take a) split ∙ take_at _ _ a (omega (arith, length-append d (codes " "))) in
+    let none : drop k (drop a xs) ≡ [] = drop_all k _ (omega (arith, length-drop a xs, long)) in
+    rw (front, none) (ap (λ l. d ++ codes " " ++ l) (append-nil t))
+
+-- the sign before two texts is one before the first
+pub signed : (sign d t x y text : List ℕ) → text ≡ d ++ codes " " ++ t → sign ++ d ≡ x → t ≡ y
+    → sign ++ text ≡ x ++ codes " " ++ y
+signed sign d t x y text e p q =
+    let behind : sign ++ (d ++ codes " " ++ t) ≡ (sign ++ d) ++ codes " " ++ t = simp append_assoc in
+    ap (λ l. sign ++ l) e ∙ behind ∙ ap (λ l. l ++ codes " " ++ t) p ∙ ap (λ l. x ++ codes " " ++ l) q
+
+pub month_length-below : (y : ℤ) (m : ℕ) → month_length y m < 100
+month_length-below y m = grind (arith, nat_tests)
 
 pub same_date_time : (d d' : Date) (t t' : Time) → d ≡ d' → t ≡ t' → date_time_text d t ≡ date_time_text d' t'
 same_date_time d d' t t' p q = ap (λ (x : Date). date_time_text x t) p ∙ ap (date_time_text d') q

@@ -6,6 +6,7 @@ use Rattle.std.specs.Prelude.{IfSome}
 use Rattle.std.specs.Io.KnownBytes.{Appends, Consumes, IsAtEnd}
 use Rattle.std.proofs.lemmas.Bool.Decides.{nat_tests}
 use Rattle.std.proofs.lemmas.List.{take_all, length-drop}
+use Rattle.memchr.specs.Find.{Nowhere, NoneBefore, Passes, is_byte}
 use Rattle.time_lines.specs.Lines.{lines_of, onto_first, cut_at_tab}
 
 -- the rest of a slice, as the range `n..` of it reads
@@ -58,6 +59,22 @@ pub cut_at_tab-none : (xs : List ℕ) → ((k : ℕ) → k < length xs → get_o
 cut_at_tab-none [] before = refl
 cut_at_tab-none (x ∷ xs) before =
     past_tab x xs (before 0 (omega arith)) ∙ ap (option_map (λ cut. (x ∷ cut.0, cut.1))) (cut_at_tab-none xs (λ k below. before (suc k) (omega arith)))
+
+-- what a search for a byte found
+passed : (a : ℕ) (xs : List ℕ) (k : ℕ) → Passes (is_byte a) xs k → get_or xs k 0 ≡ a
+passed a xs k h = grind (arith, nat_tests)
+
+passes : (a : ℕ) (xs : List ℕ) (k : ℕ) → get_or xs k 0 ≡ a → Passes (is_byte a) xs k
+passes a xs k h = grind (arith, nat_tests)
+
+pub lines_of-found : (xs : List ℕ) (n : ℕ)
+    → NoneBefore (Passes (is_byte 10) xs) 0 (length xs) n → Passes (is_byte 10) xs n
+    → lines_of xs ≡ take n xs ∷ lines_of (drop (n + 1) xs)
+lines_of-found xs n first here =
+    lines_of-cut xs n first.high (passed 10 xs n here) (λ k below is. first.before k (omega arith) below (passes 10 xs k is))
+
+pub lines_of-none : (xs : List ℕ) → 0 < length xs → Nowhere (Passes (is_byte 10) xs) 0 (length xs) → lines_of xs ≡ xs ∷ []
+lines_of-none xs h nowhere = lines_of-whole xs h (λ k below is. nowhere k (omega arith) below (passes 10 xs k is))
 
 pub Appends-more : (a b c : Option (List ℕ)) (x y : List ℕ) → Appends a b x → Appends b c y → Appends a c (x ++ y)
 Appends-more None b c x y p q = tt

@@ -48,3 +48,13 @@ Writes-waiting (Ok u) P (Some s) None c waiting none w kept is = absurd w.2
 Writes-waiting (Ok u) P (Some s) (Some t) None waiting none w kept is = absurd kept
 Writes-waiting (Ok u) P (Some s) (Some t) (Some v) waiting none w kept is =
     (w.0, w.1, sym (append-nil v) ∙ ap (λ x. v ++ x) (sym is) ∙ kept ∙ w.2)
+
+-- what is put behind what waits, after a write of what waited or none
+pub Appends-waiting : (a b c : Option (List ℕ)) (x y z written more : List ℕ) → Appends a (append_known b x) written
+    → Keeps (append_known b x) (append_known c y) → Appends (Some y) (Some z) more
+    → Appends a (append_known c z) (written ++ more)
+Appends-waiting None b c x y z written more p kept q = tt
+Appends-waiting (Some s) None c x y z written more p kept q = absurd p
+Appends-waiting (Some s) (Some t) None x y z written more p kept q = absurd kept
+Appends-waiting (Some s) (Some t) (Some v) x y z written more p kept q =
+    ap (λ l. v ++ l) q ∙ sym (append_assoc v y more) ∙ ap (λ l. l ++ more) (kept ∙ p) ∙ append_assoc s written more

@@ -1,100 +1,151 @@
 //! Lays values out as text.
-ghost use Rattle.std.specs.Prelude.{◌≡◌, ℕ, ◌+◌, ◌%◌, List, ◌++◌, ◌∷◌, codes, OnOk};
+ghost use Rattle.std.specs.Prelude.{◌≡◌, ℕ, ◌+◌, ◌/◌, ◌%◌, ◌<◌, List, ◌++◌, ◌∷◌, codes, OnOk};
 ghost use Rattle.std.specs.Io.KnownBytes.{Appends};
 ghost use Rattle.time_lines.specs.Layout.{fixed, minus_if};
-ghost use Rattle.time_lines.specs.Values.{date_text, time_text, offset_text, date_time_text, plain_text, utc_text, offset_date_time_text, timestamp_text};
+ghost use Rattle.time_values.specs.Dates as Dates;
+ghost use Rattle.time_values.specs.Moments.{offset_date};
+ghost use Rattle.time_lines.specs.Values.{is_negative, date_text, time_text, offset_text, date_time_text, plain_text, utc_text, offset_date_time_text, timestamp_text};
 
 use std::io;
 use std::io::Write;
 use time_values::{Date, OffsetDateTime, PlainDateTime, Time, Timestamp, UtcDateTime, UtcOffset};
 
-// The last decimal digit of a number.
+// The digits of each number below 100.
+static PAIRS: [u8; 200] =
+    *b"00010203040506070809101112131415161718192021222324252627282930313233343536373839404142434445464748495051525354555657585960616263646566676869707172737475767778798081828384858687888990919293949596979899";
+
+// The two digits of a number below 100.
 #[inline]
-fn digit(n: u32) -> u8
-    ensures { result ≡ 48 + n % 10 }
+#[tactic(auto, using(crate::proofs::DigitLemmas::pairs_at))]
+fn pair(n: u32) -> (u8, u8)
+    requires { n < 100 }
+    ensures tens { result.0 ≡ 48 + n / 10 }
+    ensures ones { result.1 ≡ 48 + n % 10 }
 {
-    b'0' + (n % 10) as u8
+    let at = n as usize * 2;
+    (PAIRS[at], PAIRS[at + 1])
 }
 
 // `YYYY-MM-DD`.
+#[inline]
 #[tactic(auto, unfolding(crate::specs::Layout::digits_before, crate::specs::Layout::fixed))]
 fn date_bytes(year: u32, month: u8, day: u8) -> [u8; 10]
+    requires year_in { year < 10000 }
+    requires month_in { month < 100 }
+    requires day_in { day < 100 }
     ensures { result ≡ fixed 4 year ++ codes "-" ++ fixed 2 month ++ codes "-" ++ fixed 2 day }
 {
-    let month = u32::from(month);
-    let day = u32::from(day);
-    [
-        digit(year / 10 / 10 / 10),
-        digit(year / 10 / 10),
-        digit(year / 10),
-        digit(year),
-        b'-',
-        digit(month / 10),
-        digit(month),
-        b'-',
-        digit(day / 10),
-        digit(day),
-    ]
+    let (y1, y2) = pair(year / 100);
+    let (y3, y4) = pair(year % 100);
+    let (m1, m2) = pair(u32::from(month));
+    let (d1, d2) = pair(u32::from(day));
+    [y1, y2, y3, y4, b'-', m1, m2, b'-', d1, d2]
 }
 
 // `HH:MM:SS.nnnnnnnnn`.
-#[tactic(auto, unfolding(crate::specs::Layout::digits_before, crate::specs::Layout::fixed))]
+#[inline]
 fn time_bytes(hour: u8, minute: u8, second: u8, nanosecond: u32) -> [u8; 18]
+    requires hour_in { hour < 100 }
+    requires minute_in { minute < 100 }
+    requires second_in { second < 100 }
+    requires nanosecond_in { nanosecond < 1_000_000_000 }
     ensures { result ≡ fixed 2 hour ++ codes ":" ++ fixed 2 minute ++ codes ":" ++ fixed 2 second
         ++ codes "." ++ fixed 9 nanosecond }
 {
-    let hour = u32::from(hour);
-    let minute = u32::from(minute);
-    let second = u32::from(second);
-    let n = nanosecond;
+    let (h1, h2) = pair(u32::from(hour));
+    let (m1, m2) = pair(u32::from(minute));
+    let (s1, s2) = pair(u32::from(second));
+    let n1 = b'0' + (nanosecond / 100_000_000) as u8;
+    let (n2, n3) = pair(nanosecond / 1_000_000 % 100);
+    let (n4, n5) = pair(nanosecond / 10_000 % 100);
+    let (n6, n7) = pair(nanosecond / 100 % 100);
+    let (n8, n9) = pair(nanosecond % 100);
     [
-        digit(hour / 10),
-        digit(hour),
-        b':',
-        digit(minute / 10),
-        digit(minute),
-        b':',
-        digit(second / 10),
-        digit(second),
-        b'.',
-        digit(n / 10 / 10 / 10 / 10 / 10 / 10 / 10 / 10),
-        digit(n / 10 / 10 / 10 / 10 / 10 / 10 / 10),
-        digit(n / 10 / 10 / 10 / 10 / 10 / 10),
-        digit(n / 10 / 10 / 10 / 10 / 10),
-        digit(n / 10 / 10 / 10 / 10),
-        digit(n / 10 / 10 / 10),
-        digit(n / 10 / 10),
-        digit(n / 10),
-        digit(n),
+        h1, h2, b':', m1, m2, b':', s1, s2, b'.', n1, n2, n3, n4, n5, n6, n7, n8, n9,
     ]
 }
 
 // `HH:MM:SS`, after the sign that it is handed.
+#[inline]
 #[tactic(auto, unfolding(crate::specs::Layout::digits_before, crate::specs::Layout::fixed))]
 fn offset_bytes(sign: u8, hours: u8, minutes: u8, seconds: u8) -> [u8; 9]
+    requires hours_in { hours < 100 }
+    requires minutes_in { minutes < 100 }
+    requires seconds_in { seconds < 100 }
     ensures { result ≡ sign ∷ fixed 2 hours ++ codes ":" ++ fixed 2 minutes ++ codes ":" ++ fixed 2 seconds }
 {
-    let hours = u32::from(hours);
-    let minutes = u32::from(minutes);
-    let seconds = u32::from(seconds);
-    [
-        sign,
-        digit(hours / 10),
-        digit(hours),
-        b':',
-        digit(minutes / 10),
-        digit(minutes),
-        b':',
-        digit(seconds / 10),
-        digit(seconds),
-    ]
+    let (h1, h2) = pair(u32::from(hours));
+    let (m1, m2) = pair(u32::from(minutes));
+    let (s1, s2) = pair(u32::from(seconds));
+    [sign, h1, h2, b':', m1, m2, b':', s1, s2]
 }
 
-// Writes a minus, or nothing.
-fn write_minus<W: Write>(is_negative: bool, out: &mut W) -> io::Result<()>
-    ensures { OnOk result (Appends (W.contents out.old) (W.contents out.new) (minus_if is_negative)) }
+// `YYYY-MM-DD`, of a negative year without its sign.
+#[inline]
+fn lay_date(date: Date) -> [u8; 10]
+    ensures { minus_if (is_negative (Dates.year date)) ++ result ≡ date_text date }
 {
-    if is_negative {
+    date_bytes(
+        date.year().unsigned_abs(),
+        date.month().number(),
+        date.day(),
+    )
+}
+
+// `HH:MM:SS.nnnnnnnnn`.
+#[inline]
+fn lay_time(time: Time) -> [u8; 18]
+    ensures { result ≡ time_text time }
+{
+    time_bytes(time.hour(), time.minute(), time.second(), time.nanosecond())
+}
+
+// `+HH:MM:SS`, with `-` where a part is negative.
+#[inline]
+fn lay_offset(offset: UtcOffset) -> [u8; 9]
+    ensures { result ≡ offset_text offset }
+{
+    let (hours, minutes, seconds) = offset.as_hms();
+    let sign = if hours < 0 || minutes < 0 || seconds < 0 {
+        b'-'
+    } else {
+        b'+'
+    };
+    offset_bytes(
+        sign,
+        hours.unsigned_abs(),
+        minutes.unsigned_abs(),
+        seconds.unsigned_abs(),
+    )
+}
+
+// Date and time with a space between them, of a negative year without its sign.
+#[inline]
+fn lay_date_time(date: Date, time: Time) -> [u8; 29]
+    ensures { minus_if (is_negative (Dates.year date)) ++ result ≡ date_time_text date time }
+{
+    let mut text = [b' '; 29];
+    text[..10].copy_from_slice(&lay_date(date));
+    text[11..].copy_from_slice(&lay_time(time));
+    text
+}
+
+// Date, time and offset with spaces between them, of a negative year without its sign.
+#[inline]
+fn lay_moment(moment: OffsetDateTime) -> [u8; 39]
+    ensures { minus_if (is_negative (Dates.year (offset_date moment))) ++ result ≡ offset_date_time_text moment }
+{
+    let mut text = [b' '; 39];
+    text[..29].copy_from_slice(&lay_date_time(moment.date(), moment.time()));
+    text[30..].copy_from_slice(&lay_offset(moment.offset()));
+    text
+}
+
+// Writes a minus before a negative year.
+fn write_sign<W: Write>(date: Date, out: &mut W) -> io::Result<()>
+    ensures { OnOk result (Appends (W.contents out.old) (W.contents out.new) (minus_if (is_negative (Dates.year date)))) }
+{
+    if date.year() < 0 {
         out.write_all(b"-")
     } else {
         Ok(())
@@ -116,9 +167,8 @@ impl Layout for Date {
     ghost text = { date_text };
 
     fn write_to<W: Write>(self, out: &mut W) -> io::Result<()> {
-        let year = self.year();
-        write_minus(year < 0, out)?;
-        out.write_all(&date_bytes(year.unsigned_abs(), self.month().number(), self.day()))
+        write_sign(self, out)?;
+        out.write_all(&lay_date(self))
     }
 }
 
@@ -127,7 +177,7 @@ impl Layout for Time {
     ghost text = { time_text };
 
     fn write_to<W: Write>(self, out: &mut W) -> io::Result<()> {
-        out.write_all(&time_bytes(self.hour(), self.minute(), self.second(), self.nanosecond()))
+        out.write_all(&lay_time(self))
     }
 }
 
@@ -136,18 +186,7 @@ impl Layout for UtcOffset {
     ghost text = { offset_text };
 
     fn write_to<W: Write>(self, out: &mut W) -> io::Result<()> {
-        let (hours, minutes, seconds) = self.as_hms();
-        let sign = if hours < 0 || minutes < 0 || seconds < 0 {
-            b'-'
-        } else {
-            b'+'
-        };
-        out.write_all(&offset_bytes(
-            sign,
-            hours.unsigned_abs(),
-            minutes.unsigned_abs(),
-            seconds.unsigned_abs(),
-        ))
+        out.write_all(&lay_offset(self))
     }
 }
 
@@ -155,9 +194,8 @@ impl Layout for UtcOffset {
 fn write_date_time<W: Write>(date: Date, time: Time, out: &mut W) -> io::Result<()>
     ensures { OnOk result (Appends (W.contents out.old) (W.contents out.new) (date_time_text date time)) }
 {
-    date.write_to(out)?;
-    out.write_all(b" ")?;
-    time.write_to(out)
+    write_sign(date, out)?;
+    out.write_all(&lay_date_time(date, time))
 }
 
 /// Date and time.
@@ -184,9 +222,8 @@ impl Layout for OffsetDateTime {
     ghost text = { offset_date_time_text };
 
     fn write_to<W: Write>(self, out: &mut W) -> io::Result<()> {
-        write_date_time(self.date(), self.time(), out)?;
-        out.write_all(b" ")?;
-        self.offset().write_to(out)
+        write_sign(self.date(), out)?;
+        out.write_all(&lay_moment(self))
     }
 }
 

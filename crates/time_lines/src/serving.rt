@@ -1,12 +1,11 @@
 //! Answers whole inputs.
-ghost use Rattle.std.specs.Io.KnownBytes.{Keeps, append_known};
-ghost use Rattle.std.specs.Prelude.{◌≡◌, [], OnOk, IfOk, IfSome};
+ghost use Rattle.std.specs.Prelude.{◌≡◌, OnOk, IfOk, IfSome};
 ghost use Rattle.time_values.specs.Range.{greatest_year};
 ghost use Rattle.time_lines.specs.Output.{IsAnswer, WithLineFeed, Writes, WritesAnswers};
 
 use crate::answers::write_answer;
 use crate::cuts::first_line;
-use arrayvec::ArrayVec;
+use crate::waiting::Waiting;
 use std::alloc::{Allocator, Global};
 use std::io;
 use std::io::{Read, Write};
@@ -36,70 +35,13 @@ impl Stop {
     }
 }
 
-// Writes the answer to a line and LF, in pieces.
-fn write_pieces<W: Write>(line: &[u8], out: &mut W) -> io::Result<()>
+// Writes the answer to a line, and LF.
+fn write_line<W: Write>(line: &[u8], out: &mut W) -> io::Result<()>
     ensures { OnOk result (Writes (WithLineFeed (IsAnswer greatest_year line.now))
         (W.contents out.old) (W.contents out.new)) }
 {
     write_answer(line, out)?;
     out.write_all(b"\n")
-}
-
-// More bytes than any answer has, with its LF.
-const LONGEST: usize = 128;
-
-// How many bytes of answers may wait for one write.
-const MOST_WAITING: usize = 65536;
-
-// Writes what waits, and leaves nothing waiting.
-fn write_waiting<W: Write>(waiting: &mut ArrayVec<u8, MOST_WAITING>, out: &mut W) -> io::Result<()>
-    ensures moved { OnOk result (Keeps (append_known (W.contents out.old) waiting.old.items)
-        (append_known (W.contents out.new) waiting.new.items)) }
-    ensures none { OnOk result (waiting.new.items ≡ []) }
-{
-    out.write_all(waiting.as_slice())?;
-    waiting.clear();
-    Ok(())
-}
-
-// Makes room for so many bytes more, where an empty buffer has it, by a write of what waits.
-fn make_room<W: Write>(
-    length: usize,
-    waiting: &mut ArrayVec<u8, MOST_WAITING>,
-    out: &mut W,
-) -> io::Result<()>
-    ensures { OnOk result (Keeps (append_known (W.contents out.old) waiting.old.items)
-        (append_known (W.contents out.new) waiting.new.items)) }
-{
-    if waiting.remaining_capacity() < length {
-        return write_waiting(waiting, out);
-    }
-    Ok(())
-}
-
-// Puts the answer to a line and LF behind what waits. By its type an error's name could have any length:
-// an answer that doesn't fit its own buffer, which no error of the libraries has, is written in pieces
-// behind what waits.
-fn write_line<W: Write>(
-    line: &[u8],
-    waiting: &mut ArrayVec<u8, MOST_WAITING>,
-    out: &mut W,
-) -> io::Result<()>
-    ensures { OnOk result (Writes (WithLineFeed (IsAnswer greatest_year line.now))
-        (append_known (W.contents out.old) waiting.old.items)
-        (append_known (W.contents out.new) waiting.new.items)) }
-{
-    let mut answer = ArrayVec::<u8, LONGEST>::new();
-    match write_pieces(line, &mut answer) {
-        Ok(()) => {
-            make_room(answer.len(), waiting, out)?;
-            waiting.write_all(answer.as_slice())
-        }
-        Err(_) => {
-            write_waiting(waiting, out)?;
-            write_pieces(line, out)
-        }
-    }
 }
 
 /// Writes the answer to each line of the input, and takes no memory.
@@ -109,14 +51,15 @@ fn write_line<W: Write>(
 pub fn run<W: Write>(input: &[u8], out: &mut W) -> Result<(), io::Error>
     ensures { OnOk result (WritesAnswers greatest_year (W.contents out.old) (W.contents out.new) input.now) }
 {
-    let mut waiting = ArrayVec::<u8, MOST_WAITING>::new();
+    let mut waiting = Waiting::new();
     let mut rest = input;
     while !rest.is_empty() {
         let (line, after) = first_line(rest);
-        write_line(line, &mut waiting, out)?;
+        waiting.make_room(out)?;
+        write_line(line, &mut waiting)?;
         rest = after;
     }
-    write_waiting(&mut waiting, out)
+    waiting.write_all_to(out)
 }
 
 // After so many reads an input counts as one without an end.

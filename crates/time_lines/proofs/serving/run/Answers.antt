@@ -3,8 +3,7 @@ use Rattle.std.proofs.lemmas.Grind.{common_steps}
 use Rattle.time_values.specs.Range.{greatest_year}
 use Rattle.time_lines.specs.Lines.{lines_of}
 use Rattle.time_lines.specs.Output.{AreAnswers}
-use Rattle.time_lines.proofs.LinesLemmas.{Appends-more}
-use Rattle.time_lines.proofs.OutputLemmas.{AreAnswers-more, Writes-waiting, append_known-none}
+use Rattle.time_lines.proofs.OutputLemmas.{AreAnswers-more, Appends-waiting, Writes-waiting, append_known-none}
 use Rattle.time_lines.proofs.serving.run.Goals as goal
 
 pub loop-rest-init : goal.loop-rest-init
@@ -14,7 +13,7 @@ pub loop-rest-preserved : goal.loop-rest-preserved
 loop-rest-preserved g c =
     let so_far = c.loop-rest.invariant in
     let more = c.in_ok-write_line.ensures in
-    (so_far.0 ++ more.0, Appends-more _ _ _ _ _ so_far.1 more.2, AreAnswers-more greatest_year _ _ _ _ _ _ c.first_line.ensures.line more.1 so_far.2)
+    (so_far.0 ++ more.0, Appends-waiting _ _ _ _ _ _ _ _ so_far.1 c.in_ok-make_room.ensures more.2, AreAnswers-more greatest_year _ _ _ _ _ _ c.first_line.ensures.line more.1 so_far.2)
 
 pub returns : goal.returns
 returns g c =
@@ -22,4 +21,4 @@ returns g c =
     let none : c.loop-rest.rest.now ≡ [] = grind (arith, common_steps) in
     Writes-waiting _ _ _ _ _ _ _
     (so_far.0 ++ [], so_far.2 [] (subst (λ r. AreAnswers greatest_year (lines_of r) []) (sym none) refl), rw append-nil so_far.1)
-    c.write_waiting.ensures.moved c.write_waiting.ensures.none
+    c.write_all_to.ensures.moved c.write_all_to.ensures.none

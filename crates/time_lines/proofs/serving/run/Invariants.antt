@@ -8,7 +8,7 @@ use Rattle.time_lines.proofs.serving.run.Given as goal
 
 abbrev pub invariant-loop-rest : goal.invariant-loop-rest
 invariant-loop-rest g l = (written : List ℕ)
-    × Appends (g.W.Write.contents l.initial.out) (append_known (g.W.Write.contents l.out) l.waiting.items) written
+    × Appends (g.W.Write.contents l.initial.out) (append_known (g.W.Write.contents l.out) l.waiting.bytes.items) written
     × ((others : List ℕ) → AreAnswers greatest_year (lines_of l.rest) others
     → AreAnswers greatest_year (lines_of l.initial.rest) (written ++ others))
 

@@ -232,6 +232,7 @@ impl Layout for Timestamp {
     ghost text = { timestamp_text };
 
     fn write_to<W: Write>(self, out: &mut W) -> io::Result<()> {
-        write!(out, "{}", self.nanoseconds())
+        let mut buffer = itoa::Buffer::new();
+        out.write_all(buffer.format(self.nanoseconds()).as_bytes())
     }
 }

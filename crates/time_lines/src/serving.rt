@@ -1,5 +1,5 @@
 //! Answers whole inputs.
-ghost use Rattle.std.specs.Prelude.{◌≡◌, OnOk, IfOk, IfSome};
+ghost use Rattle.std.specs.Prelude.{◌≡◌, OnOk, IfOk, IfSome, Some};
 ghost use Rattle.time_values.specs.Range.{greatest_year};
 ghost use Rattle.time_lines.specs.Output.{IsAnswer, WithLineFeed, Writes, WritesAnswers};
 
@@ -8,7 +8,7 @@ use crate::cuts::first_line;
 use crate::waiting::Waiting;
 use std::alloc::{Allocator, Global};
 use std::io;
-use std::io::{Read, Write};
+use std::io::{ErrorKind, Read, Write};
 
 /// Why the program stopped before its end.
 #[derive(Clone, Copy, Debug, PartialEq, Eq)]
@@ -35,13 +35,22 @@ impl Stop {
     }
 }
 
-// Writes the answer to a line, and LF.
-fn write_line<W: Write>(line: &[u8], out: &mut W) -> io::Result<()>
+// Nothing more fits.
+#[derive(Clone, Copy)]
+struct Full;
+
+// Puts the answer to a line, and LF, behind what waits. The error is a small one, since each line hands it on.
+fn add_line(line: &[u8], waiting: &mut Waiting) -> Result<(), Full>
     ensures { OnOk result (Writes (WithLineFeed (IsAnswer greatest_year line.now))
-        (W.contents out.old) (W.contents out.new)) }
+        (Some waiting.old.bytes.items) (Some waiting.new.bytes.items)) }
 {
-    write_answer(line, out)?;
-    out.write_all(b"\n")
+    let Ok(()) = write_answer(line, waiting) else {
+        return Err(Full);
+    };
+    match waiting.write_all(b"\n") {
+        Ok(()) => Ok(()),
+        Err(_) => Err(Full),
+    }
 }
 
 /// Writes the answer to each line of the input, and takes no memory.
@@ -56,7 +65,9 @@ pub fn run<W: Write>(input: &[u8], out: &mut W) -> Result<(), io::Error>
     while !rest.is_empty() {
         let (line, after) = first_line(rest);
         waiting.make_room(out)?;
-        write_line(line, &mut waiting)?;
+        let Ok(()) = add_line(line, &mut waiting) else {
+            return Err(io::Error::from(ErrorKind::WriteZero));
+        };
         rest = after;
     }
     waiting.write_all_to(out)

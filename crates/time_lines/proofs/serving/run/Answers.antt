@@ -12,8 +12,11 @@ loop-rest-init g c = ([], append_known-none _ _ c.new-waiting.ensures, λ others
 pub loop-rest-preserved : goal.loop-rest-preserved
 loop-rest-preserved g c =
     let so_far = c.loop-rest.invariant in
-    let more = c.in_ok-write_line.ensures in
-    (so_far.0 ++ more.0, Appends-waiting _ _ _ _ _ _ _ _ so_far.1 c.in_ok-make_room.ensures more.2, AreAnswers-more greatest_year _ _ _ _ _ _ c.first_line.ensures.line more.1 so_far.2)
+    let more = c.in-Ok.ensures in (
+      so_far.0 ++ more.0,
+      Appends-waiting _ _ _ _ _ _ _ _ so_far.1 c.in_ok-make_room.ensures more.2,
+      AreAnswers-more greatest_year _ _ _ _ _ _ c.first_line.ensures.line more.1 so_far.2,
+    )
 
 pub returns : goal.returns
 returns g c =

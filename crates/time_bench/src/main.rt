@@ -3,9 +3,9 @@
 //! `time_bench FORMAT TARGET TIMES TEXT` prints a sum that depends on each answer.
 #![tactic(auto)]
 
+mod answers;
 mod descriptions;
 mod sums;
-mod weights;
 
 use std::env::{self, Env};
 use std::io;

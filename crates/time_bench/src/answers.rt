@@ -1,0 +1,111 @@
+//! The types of answer that a text is parsed for, and what one adds to a sum.
+
+use time_parsing::Parsable;
+use time_record::Parsed;
+use time_values::error::Parse;
+use time_values::{Date, OffsetDateTime, PlainDateTime, Time, Timestamp, UtcDateTime, UtcOffset};
+
+/// A type of value that a text is parsed for.
+pub trait Answer: Copy {
+    /// Parses a text for such a value, without defaults.
+    fn parse<F: Parsable>(format: &F, text: &[u8]) -> Result<Self, Parse>;
+
+    /// What the value adds to a sum.
+    fn weight(self) -> i128;
+}
+
+impl Answer for Date {
+    fn parse<F: Parsable>(format: &F, text: &[u8]) -> Result<Date, Parse> {
+        format.parse_date(text, None)
+    }
+
+    fn weight(self) -> i128 {
+        i128::from(self.year()) + i128::from(self.month().number()) + i128::from(self.day())
+    }
+}
+
+impl Answer for Time {
+    fn parse<F: Parsable>(format: &F, text: &[u8]) -> Result<Time, Parse> {
+        format.parse_time(text, None)
+    }
+
+    fn weight(self) -> i128 {
+        i128::from(self.hour())
+            + i128::from(self.minute())
+            + i128::from(self.second())
+            + i128::from(self.nanosecond())
+    }
+}
+
+impl Answer for UtcOffset {
+    fn parse<F: Parsable>(format: &F, text: &[u8]) -> Result<UtcOffset, Parse> {
+        format.parse_offset(text, None)
+    }
+
+    fn weight(self) -> i128 {
+        let (hours, minutes, seconds) = self.as_hms();
+        i128::from(hours)
+            .wrapping_add(i128::from(minutes))
+            .wrapping_add(i128::from(seconds))
+    }
+}
+
+impl Answer for PlainDateTime {
+    fn parse<F: Parsable>(format: &F, text: &[u8]) -> Result<PlainDateTime, Parse> {
+        format.parse_plain_date_time(text, None)
+    }
+
+    fn weight(self) -> i128 {
+        self.date().weight().wrapping_add(self.time().weight())
+    }
+}
+
+impl Answer for UtcDateTime {
+    fn parse<F: Parsable>(format: &F, text: &[u8]) -> Result<UtcDateTime, Parse> {
+        format.parse_utc_date_time(text, None)
+    }
+
+    fn weight(self) -> i128 {
+        self.date().weight().wrapping_add(self.time().weight())
+    }
+}
+
+impl Answer for OffsetDateTime {
+    fn parse<F: Parsable>(format: &F, text: &[u8]) -> Result<OffsetDateTime, Parse> {
+        format.parse_offset_date_time(text, None)
+    }
+
+    fn weight(self) -> i128 {
+        self.date()
+            .weight()
+            .wrapping_add(self.time().weight())
+            .wrapping_add(self.offset().weight())
+    }
+}
+
+impl Answer for Timestamp {
+    fn parse<F: Parsable>(format: &F, text: &[u8]) -> Result<Timestamp, Parse> {
+        format.parse_timestamp(text, None)
+    }
+
+    fn weight(self) -> i128 {
+        self.nanoseconds()
+    }
+}
+
+/// A date, time and offset that are read over an empty record.
+#[derive(Clone, Copy)]
+pub struct Staged(OffsetDateTime);
+
+impl Answer for Staged {
+    fn parse<F: Parsable>(format: &F, text: &[u8]) -> Result<Staged, Parse> {
+        match format.parse_offset_date_time(text, Some(Parsed::new())) {
+            Ok(moment) => Ok(Staged(moment)),
+            Err(e) => Err(e),
+        }
+    }
+
+    fn weight(self) -> i128 {
+        self.0.weight()
+    }
+}

@@ -11,7 +11,7 @@ pub trait Answer: Copy {
     fn parse<F: Parsable>(format: &F, text: &[u8]) -> Result<Self, Parse>;
 
     /// What the value adds to a sum.
-    fn weight(self) -> i128;
+    fn weight(self) -> i64;
 }
 
 impl Answer for Date {
@@ -19,8 +19,9 @@ impl Answer for Date {
         format.parse_date(text, None)
     }
 
-    fn weight(self) -> i128 {
-        i128::from(self.year()) + i128::from(self.month().number()) + i128::from(self.day())
+    #[inline]
+    fn weight(self) -> i64 {
+        i64::from(self.year()) + i64::from(self.month().number()) + i64::from(self.day())
     }
 }
 
@@ -29,11 +30,12 @@ impl Answer for Time {
         format.parse_time(text, None)
     }
 
-    fn weight(self) -> i128 {
-        i128::from(self.hour())
-            + i128::from(self.minute())
-            + i128::from(self.second())
-            + i128::from(self.nanosecond())
+    #[inline]
+    fn weight(self) -> i64 {
+        i64::from(self.hour())
+            + i64::from(self.minute())
+            + i64::from(self.second())
+            + i64::from(self.nanosecond())
     }
 }
 
@@ -42,11 +44,12 @@ impl Answer for UtcOffset {
         format.parse_offset(text, None)
     }
 
-    fn weight(self) -> i128 {
+    #[inline]
+    fn weight(self) -> i64 {
         let (hours, minutes, seconds) = self.as_hms();
-        i128::from(hours)
-            .wrapping_add(i128::from(minutes))
-            .wrapping_add(i128::from(seconds))
+        i64::from(hours)
+            .wrapping_add(i64::from(minutes))
+            .wrapping_add(i64::from(seconds))
     }
 }
 
@@ -55,7 +58,8 @@ impl Answer for PlainDateTime {
         format.parse_plain_date_time(text, None)
     }
 
-    fn weight(self) -> i128 {
+    #[inline]
+    fn weight(self) -> i64 {
         self.date().weight().wrapping_add(self.time().weight())
     }
 }
@@ -65,7 +69,8 @@ impl Answer for UtcDateTime {
         format.parse_utc_date_time(text, None)
     }
 
-    fn weight(self) -> i128 {
+    #[inline]
+    fn weight(self) -> i64 {
         self.date().weight().wrapping_add(self.time().weight())
     }
 }
@@ -75,7 +80,8 @@ impl Answer for OffsetDateTime {
         format.parse_offset_date_time(text, None)
     }
 
-    fn weight(self) -> i128 {
+    #[inline]
+    fn weight(self) -> i64 {
         self.date()
             .weight()
             .wrapping_add(self.time().weight())
@@ -88,8 +94,9 @@ impl Answer for Timestamp {
         format.parse_timestamp(text, None)
     }
 
-    fn weight(self) -> i128 {
-        self.nanoseconds()
+    #[inline]
+    fn weight(self) -> i64 {
+        (self.nanoseconds() % 1_000_000_007) as i64
     }
 }
 
@@ -105,7 +112,8 @@ impl Answer for Staged {
         }
     }
 
-    fn weight(self) -> i128 {
+    #[inline]
+    fn weight(self) -> i64 {
         self.0.weight()
     }
 }

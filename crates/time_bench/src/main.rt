@@ -13,7 +13,7 @@ use std::process::ExitCode;
 use sums::sum_by_name;
 
 // The sum that the arguments ask for, if they are a format, a target, a number and a text.
-fn sum_of_arguments<R: Env + Alloc>(rt: &R) -> io::Result<Option<i128>> {
+fn sum_of_arguments<R: Env + Alloc>(rt: &R) -> io::Result<Option<i64>> {
     let mut arguments = env::args(rt)?.skip(1);
     let format = arguments.next();
     let target = arguments.next();

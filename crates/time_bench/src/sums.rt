@@ -10,8 +10,8 @@ use time_readers::BorrowedFormatItem;
 use time_values::{Date, OffsetDateTime, PlainDateTime, Time, Timestamp, UtcDateTime, UtcOffset};
 
 // The sum over so many parses.
-fn sum<V: Answer, F: Parsable>(format: &F, times: u64, text: &[u8]) -> i128 {
-    let mut sum = 0i128;
+fn sum<V: Answer, F: Parsable>(format: &F, times: u64, text: &[u8]) -> i64 {
+    let mut sum = 0i64;
     for _ in 0..times {
         let weight = match V::parse(format, black_box(text)) {
             Ok(value) => value.weight(),
@@ -23,7 +23,7 @@ fn sum<V: Answer, F: Parsable>(format: &F, times: u64, text: &[u8]) -> i128 {
 }
 
 // The sum over so many parses for the target of that name, if there is one.
-fn sum_for<F: Parsable>(format: &F, target: &[u8], times: u64, text: &[u8]) -> Option<i128> {
+fn sum_for<F: Parsable>(format: &F, target: &[u8], times: u64, text: &[u8]) -> Option<i64> {
     match target {
         b"date" => Some(sum::<Date, F>(format, times, text)),
         b"time" => Some(sum::<Time, F>(format, times, text)),
@@ -38,7 +38,7 @@ fn sum_for<F: Parsable>(format: &F, target: &[u8], times: u64, text: &[u8]) -> O
 }
 
 // The same by the description of a time on a clock of 12 hours.
-fn sum_of_clocks(target: &[u8], times: u64, text: &[u8]) -> Option<i128> {
+fn sum_of_clocks(target: &[u8], times: u64, text: &[u8]) -> Option<i64> {
     let fraction = BorrowedFormatItem::Compound(&FRACTION_ITEMS);
     let seconds = second_items(&fraction);
     let seconds = BorrowedFormatItem::Compound(&seconds);
@@ -47,7 +47,7 @@ fn sum_of_clocks(target: &[u8], times: u64, text: &[u8]) -> Option<i128> {
 }
 
 // The same by the description of a date, time and offset, or of a year and its day.
-fn sum_of_local(target: &[u8], times: u64, text: &[u8]) -> Option<i128> {
+fn sum_of_local(target: &[u8], times: u64, text: &[u8]) -> Option<i64> {
     let lists = [
         BorrowedFormatItem::Compound(&DATE_TIME_ITEMS),
         BorrowedFormatItem::Compound(&ORDINAL_ITEMS),
@@ -58,7 +58,7 @@ fn sum_of_local(target: &[u8], times: u64, text: &[u8]) -> Option<i128> {
 /// The sum over so many parses of the text, if there are a format and a target of those names.
 ///
 /// A value adds its parts, a timestamp its nanoseconds, and a refusal 1. The sum wraps.
-pub fn sum_by_name(format: &[u8], target: &[u8], times: u64, text: &[u8]) -> Option<i128> {
+pub fn sum_by_name(format: &[u8], target: &[u8], times: u64, text: &[u8]) -> Option<i64> {
     match format {
         b"rfc3339" => sum_for(&Rfc3339, target, times, text),
         b"rfc2822" => sum_for(&Rfc2822, target, times, text),

@@ -31,6 +31,7 @@ pub trait Parsable {
 
     /// The record of the whole input, read over the defaults. Where bytes remain it refuses as
     /// [`ParseFromDescription::UnexpectedTrailingCharacters`].
+    #[inline]
     fn parse_internal(&self, input: &[u8], defaults: Option<Parsed>) -> Result<Parsed, Parse>
         ensures { IsWhole (reads self.now) (refuses self.now) input.now (begun defaults) (seen result) }
     {
@@ -134,6 +135,7 @@ pub trait Parsable {
 }
 
 /// The date, time and offset of a record that was read, or else the error of its reading.
+#[inline]
 pub fn resolved(read: &Result<Parsed, Parse>) -> Result<OffsetDateTime, Parse>
     ensures { MatchResult read.now
         (λ parsed. IsMoment greatest_year parsed (seen result))

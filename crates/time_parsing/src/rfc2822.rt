@@ -26,6 +26,7 @@ use time_values::error::Parse;
 pub struct Rfc2822;
 
 // Puts the weekday, where it stands, day, month and year.
+#[inline(always)]
 fn put_date(numbers: Numbers, parsed: &mut Parsed)
     requires day { IsInRange 1 31 numbers.day }
     requires year { numbers.year ≤ greatest_year }
@@ -43,6 +44,7 @@ fn put_date(numbers: Numbers, parsed: &mut Parsed)
 }
 
 // Puts hour, minute and, where it stands, the second.
+#[inline(always)]
 fn put_time(numbers: Numbers, parsed: &mut Parsed)
     requires hour { numbers.hour ≤ 23 }
     requires minute { numbers.minute ≤ 59 }
@@ -57,6 +59,7 @@ fn put_time(numbers: Numbers, parsed: &mut Parsed)
 }
 
 // Puts the offset, and forgets the sign that an offset hour of a description had left.
+#[inline(always)]
 fn put_offset(numbers: Numbers, parsed: &mut Parsed)
     requires hour { unsigned_abs numbers.offset_hour ≤ 25 }
     requires minute { unsigned_abs numbers.offset_minute ≤ 59 }
@@ -82,6 +85,7 @@ impl Parsable for Rfc2822 {
 
     ghost path = { λ _. direct (RefusesRfc2822 greatest_year) };
 
+    #[inline(always)]
     fn parse_into<'a>(&self, input: &'a [u8], parsed: &mut Parsed) -> Result<&'a [u8], Parse> {
         match read::<true>(input) {
             Ok(found) => {
@@ -95,6 +99,7 @@ impl Parsable for Rfc2822 {
         }
     }
 
+    #[inline(always)]
     fn parse_offset_date_time(
         &self,
         input: &[u8],

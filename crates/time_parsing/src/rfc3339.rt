@@ -38,6 +38,7 @@ fn with_sign(is_negative: bool, value: u8) -> i8
 }
 
 // The month of a number from 1 to 12.
+#[inline(always)]
 fn month(number: u8) -> Month
     requires { IsInRange 1 12 number }
     ensures { month_number result ≡ number }
@@ -52,6 +53,7 @@ fn month(number: u8) -> Month
 }
 
 // Puts year, month and day.
+#[inline(always)]
 fn put_date(numbers: Numbers, parsed: &mut Parsed)
     requires year { numbers.year ≤ greatest_year }
     requires month { IsInRange 1 12 numbers.month }
@@ -69,6 +71,7 @@ fn put_date(numbers: Numbers, parsed: &mut Parsed)
 }
 
 // Puts hour, minute, second and, where it stands, the fraction of the second.
+#[inline(always)]
 fn put_time(numbers: Numbers, parsed: &mut Parsed)
     requires hour { numbers.hour ≤ 23 }
     requires minute { numbers.minute ≤ 59 }
@@ -85,6 +88,7 @@ fn put_time(numbers: Numbers, parsed: &mut Parsed)
 }
 
 // Puts the offset, and forgets the sign that an offset hour of a description had left.
+#[inline(always)]
 fn put_offset(numbers: Numbers, parsed: &mut Parsed)
     requires hour { numbers.offset_hour ≤ 23 }
     requires minute { numbers.offset_minute ≤ 59 }
@@ -108,6 +112,7 @@ impl Parsable for Rfc3339 {
 
     ghost path = { λ _. direct (RefusesRfc3339 greatest_year) };
 
+    #[inline(always)]
     fn parse_into<'a>(&self, input: &'a [u8], parsed: &mut Parsed) -> Result<&'a [u8], Parse> {
         match read::<true>(input) {
             Ok(found) => {
@@ -121,6 +126,7 @@ impl Parsable for Rfc3339 {
         }
     }
 
+    #[inline(always)]
     fn parse_offset_date_time(
         &self,
         input: &[u8],

@@ -22,6 +22,11 @@ use time_values::error::Parse;
 ///
 /// Blanks and comments may stand between its parts. A weekday is read, and not compared with the date. The
 /// year may have two digits, and the offset may be a zone name, as `GMT`.
+///
+/// The first place that doesn't have its form, or whose number is out of its range, is refused as it is by
+/// [`place_fault`]. But a moment without defaults is read by [`direct::rfc2822`], which asks the places for their form
+/// alone, then refuses bytes that remain, and then the first of `day`, `hour`, `minute`, `second`, `hours` and
+/// `minutes` that the calendar refuses, as out of range.
 #[derive(Clone, Copy, Debug, PartialEq, Eq)]
 pub struct Rfc2822;
 

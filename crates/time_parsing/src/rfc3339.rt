@@ -23,6 +23,11 @@ use time_values::{Month, OffsetDateTime};
 /// The format of RFC 3339, as `1985-04-12T23:20:50.52Z`.
 ///
 /// Any one byte may stand between the date and the time, and `Z` may be a small letter.
+///
+/// The first place that doesn't have its form, or whose number is out of its range, is refused as it is by
+/// [`place_fault`]. But a moment without defaults is read by [`direct::rfc3339`], which asks the places for their form
+/// alone, then refuses bytes that remain, and then the first of `month`, `day`, `hour`, `minute` and `second` that the
+/// calendar refuses, as out of range; of an offset's minute above 59 it refuses `minutes` so, where it stands.
 #[derive(Clone, Copy, Debug, PartialEq, Eq)]
 pub struct Rfc3339;
 

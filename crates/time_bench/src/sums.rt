@@ -57,7 +57,7 @@ fn sum_of_local(target: &[u8], times: u64, text: &[u8]) -> Option<i64> {
 
 /// The sum over so many parses of the text, if there are a format and a target of those names.
 ///
-/// A value adds its parts, a timestamp its nanoseconds, and a refusal 1. The sum wraps.
+/// A value adds its parts, a timestamp what its nanoseconds leave of 1,000,000,007, and a refusal 1. The sum wraps.
 pub fn sum_by_name(format: &[u8], target: &[u8], times: u64, text: &[u8]) -> Option<i64> {
     match format {
         b"rfc3339" => sum_for(&Rfc3339, target, times, text),

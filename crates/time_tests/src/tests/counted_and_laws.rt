@@ -23,51 +23,64 @@ const MINUTE: BorrowedFormatItem<'static> = BorrowedFormatItem::Component(Compon
     },
 ));
 
-// How the hour and the minute, or else the hour alone, are read: the answer, and the items that were begun.
-fn counted<'a>(
-    input: &'a [u8],
-    parsed: &mut Parsed,
-) -> (Result<&'a [u8], ParseFromDescription>, u64) {
+// What an answer is, how many items were begun, and the hour and the minute of the record behind it.
+type Seen<'a> = (
+    Result<&'a [u8], ParseFromDescription>,
+    u64,
+    Option<u8>,
+    Option<u8>,
+);
+
+// Reads the items over a record of the hour 7.
+fn seen<'a>(input: &'a [u8], items: &[BorrowedFormatItem<'_>]) -> Seen<'a> {
+    let mut parsed = Parsed::new();
+    let _ = parsed.set_hour_24(7);
+    let mut tries = Tries::new();
+    let answer = parsed.parse_items_counted(input, items, &mut tries);
+    (answer, tries.count(), parsed.hour_24(), parsed.minute())
+}
+
+#[test]
+fn counted_choices(rt: HostRuntime) {
     let whole = [HOUR, COLON, MINUTE];
     let choice = [BorrowedFormatItem::Compound(&whole), HOUR];
     let items = [BorrowedFormatItem::First(&choice)];
-    let mut tries = Tries::new();
-    let answer = parsed.parse_items_counted(input, &items, &mut tries);
-    (answer, tries.count())
+    for (input, answer, tries, hour, minute) in [
+        (b"12x".as_slice(), Ok(b"x".as_slice()), 5, 12, None),
+        (
+            b"1x",
+            Err(ParseFromDescription::InvalidComponent("hour")),
+            4,
+            7,
+            None,
+        ),
+        (b"12:34", Ok(b""), 5, 12, Some(34)),
+    ] {
+        assert!(rt; seen(input, &items) == (answer, tries, Some(hour), minute));
+    }
 }
 
 #[test]
-fn counted_choices(rt: HostRuntime) -> Result<(), Fail> {
-    let mut parsed = Parsed::new();
-    let (answer, tries) = counted(b"12x", &mut parsed);
-    assert!(rt; answer == Ok(b"x".as_slice()));
-    assert_eq!(rt; tries, 5);
-    assert_eq!(rt; parsed.hour_24(), Some(12));
-    assert_eq!(rt; parsed.minute(), None);
-    let (answer, tries) = counted(b"1x", &mut parsed);
-    assert!(rt; answer == Err(ParseFromDescription::InvalidComponent("hour")));
-    assert_eq!(rt; tries, 4);
-    assert_eq!(rt; parsed.hour_24(), Some(12));
-    let (answer, tries) = counted(b"12:34", &mut parsed);
-    assert!(rt; answer == Ok(b"".as_slice()));
-    assert_eq!(rt; tries, 5);
-    assert_eq!(rt; parsed.minute(), Some(34));
-    Ok(())
-}
-
-#[test]
-fn counted_options(rt: HostRuntime) -> Result<(), Fail> {
-    let mut parsed = Parsed::new();
-    let mut tries = Tries::new();
+fn counted_options(rt: HostRuntime) {
     let option = [BorrowedFormatItem::Optional(&MINUTE)];
-    let answer = parsed.parse_items_counted(b"x", &option, &mut tries);
-    assert!(rt; answer == Ok(b"x".as_slice()));
-    assert_eq!(rt; tries.count(), 2);
-    let answer = COLON.parse_item_counted(&mut parsed, b"x", &mut tries);
-    assert!(rt; answer == Err(ParseFromDescription::InvalidLiteral));
-    assert_eq!(rt; tries.count(), 3);
+    let unread = (Ok(b"x".as_slice()), 2, Some(7), None);
+    assert!(rt; seen(b"x", &option) == unread);
+    let refused = (Err(ParseFromDescription::InvalidLiteral), 1, Some(7), None);
+    assert!(rt; seen(b"x", &[COLON]) == refused);
+}
+
+// The count goes on from call to call, and a call that doesn't count answers the same.
+#[test]
+fn counted_on(rt: HostRuntime) {
+    let mut parsed = Parsed::new();
+    let mut tries = Tries::new();
+    for begun in [1, 2] {
+        let answer = COLON.parse_item_counted(&mut parsed, b"x", &mut tries);
+        assert!(rt; answer == Err(ParseFromDescription::InvalidLiteral));
+        assert!(rt; tries.count() == begun);
+    }
+    let option = [BorrowedFormatItem::Optional(&MINUTE)];
     assert!(rt; parsed.parse_items(b"x", &option) == Ok(b"x".as_slice()));
-    Ok(())
 }
 
 // An item that hands on to a borrowed one, and counts how often it is asked to.
@@ -93,48 +106,68 @@ impl AnyFormatItem for Watched<'_> {
     }
 }
 
-#[test]
-fn begun_once(rt: HostRuntime) -> Result<(), Fail> {
-    let (hour, colon, minute) = (Cell::new(0), Cell::new(0), Cell::new(0));
+// A list of an hour, a colon and a minute, whose items count how often each is asked.
+fn clock_of(input: &[u8], calls: &[Cell<u32>; 3]) -> (bool, u64) {
+    let [hour, colon, minute] = calls;
     let items = [
         Watched {
             item: HOUR,
-            calls: &hour,
+            calls: hour,
         },
         Watched {
             item: COLON,
-            calls: &colon,
+            calls: colon,
         },
         Watched {
             item: MINUTE,
-            calls: &minute,
+            calls: minute,
         },
     ];
     let mut tries = Tries::new();
-    let answer = Parsed::new().parse_items_counted(b"12x", &items, &mut tries);
-    assert!(rt; answer == Err(ParseFromDescription::InvalidLiteral));
-    assert_eq!(rt; tries.count(), 2);
-    assert_eq!(rt; hour.get(), 1);
-    assert_eq!(rt; colon.get(), 1);
-    assert_eq!(rt; minute.get(), 0);
+    let answer = Parsed::new().parse_items_counted(input, &items, &mut tries);
+    (
+        answer == Err(ParseFromDescription::InvalidLiteral),
+        tries.count(),
+    )
+}
+
+#[test]
+fn begun_once(rt: HostRuntime) {
+    let calls = [Cell::new(0), Cell::new(0), Cell::new(0)];
+    assert!(rt; clock_of(b"12x", &calls) == (true, 2));
+    let [hour, colon, minute] = &calls;
+    assert!(rt; (hour.get(), colon.get(), minute.get()) == (1, 1, 0));
+}
+
+// What reads that text as that value: the direct path by both calls, and the record.
+fn read_back(text: &[u8], value: OffsetDateTime) -> [bool; 3] {
+    [
+        Rfc3339.parse_offset_date_time(text, None) == Ok(value),
+        Rfc3339.parse_offset_date_time(text, Some(Parsed::new())) == Ok(value),
+        direct::rfc3339(text) == Ok(value),
+    ]
+}
+
+#[test]
+fn canonical_text_of_the_first_year(rt: HostRuntime) -> Result<(), Fail> {
+    let date = Date::from_calendar_date(0, Month::January, 1)?;
+    let time = Time::from_hms_nano(0, 0, 0, 0)?;
+    let offset = UtcOffset::from_hms(-23, -59, 0)?;
+    let value = OffsetDateTime::new_in_offset(date, time, offset);
+    let text = b"0000-01-01T00:00:00.000000000-23:59".as_slice();
+    assert!(rt; text_3339(value).as_slice() == text);
+    assert!(rt; read_back(text, value) == [true; 3]);
     Ok(())
 }
 
 #[test]
-fn canonical_texts(rt: HostRuntime) -> Result<(), Fail> {
-    let date = Date::from_calendar_date(0, Month::January, 1)?;
-    let time = Time::from_hms_nano(0, 0, 0, 0)?;
-    let offset = UtcOffset::from_hms(-23, -59, 0)?;
-    let text = text_3339(OffsetDateTime::new_in_offset(date, time, offset));
-    assert!(rt; text.as_slice() == b"0000-01-01T00:00:00.000000000-23:59".as_slice());
+fn canonical_text_behind_utc(rt: HostRuntime) -> Result<(), Fail> {
     let date = Date::from_calendar_date(2021, Month::January, 2)?;
     let time = Time::from_hms_nano(3, 4, 5, 500_000_000)?;
     let offset = UtcOffset::from_hms(0, -30, 0)?;
     let value = OffsetDateTime::new_in_offset(date, time, offset);
-    let text = text_3339(value);
-    assert!(rt; text.as_slice() == b"2021-01-02T03:04:05.500000000-00:30".as_slice());
-    assert!(rt; Rfc3339.parse_offset_date_time(&text, None) == Ok(value));
-    assert!(rt; Rfc3339.parse_offset_date_time(&text, Some(Parsed::new())) == Ok(value));
-    assert!(rt; direct::rfc3339(&text) == Ok(value));
+    let text = b"2021-01-02T03:04:05.500000000-00:30".as_slice();
+    assert!(rt; text_3339(value).as_slice() == text);
+    assert!(rt; read_back(text, value) == [true; 3]);
     Ok(())
 }

@@ -14,21 +14,21 @@ use Rattle.time_values.specs.Instants.{IsInstant, is_instant, first_instant, las
 use Rattle.time_values.proofs.YearLemmas.{days_of_years_closed, year_end}
 use Rattle.time_values.proofs.DateLemmas.{ordinal_in}
 
-pub epoch_day_is : epoch_day greatest_year ≡ 4_371_587
+pub epoch_day_is : epoch_day greatest_year ≡ 365_961_662
 epoch_day_is = omega (arith, days_of_years_closed greatest_year (years_before greatest_year (pos 1970)) refl)
 
-pub day_limit_is : day_limit greatest_year ≡ 7_304_484
+pub day_limit_is : day_limit greatest_year ≡ 730_484_634
 day_limit_is = omega (arith, days_of_years_closed greatest_year (2 * greatest_year + 1) refl)
 
 pub day_number_in : (d : Date) → day_number greatest_year d < day_limit greatest_year
 day_number_in d = omega (arith, ordinal_in d, year_end greatest_year d.year refl d.year_in)
 
 -- the limits of instants
-pub first_instant_is : first_instant greatest_year ≡ neg_ℤ (pos 377_705_116_800_000_000_000)
+pub first_instant_is : first_instant greatest_year ≡ neg_ℤ (pos 31_619_087_596_800_000_000_000)
 unfolding first_instant
 first_instant_is = rw epoch_day_is refl
 
-pub last_instant_is : last_instant greatest_year ≡ pos 253_402_300_799_999_999_999
+pub last_instant_is : last_instant greatest_year ≡ pos 31_494_784_780_799_999_999_999
 unfolding last_instant
 last_instant_is = rw (epoch_day_is, day_limit_is) refl
 
@@ -41,7 +41,7 @@ is_instant-IsInstant Y n = between_tested (first_instant Y) (last_instant Y) n
 
 -- the definitions, for a proof that does not unfold them
 pub clock_nanos_is : (d : Date) (t : Time)
-    → clock_nanos greatest_year d t ≡ (pos (day_number greatest_year d) -ℤ pos 4_371_587) *ℤ pos nanos_per_day +ℤ pos (nanos_of_day t)
+    → clock_nanos greatest_year d t ≡ (pos (day_number greatest_year d) -ℤ pos 365_961_662) *ℤ pos nanos_per_day +ℤ pos (nanos_of_day t)
 unfolding clock_nanos
 clock_nanos_is d t = rw epoch_day_is
 

@@ -9,7 +9,7 @@ use crate::days::{MAX_YEAR, leap_day, year_length};
 use crate::error::ComponentRange;
 use crate::{Month, Weekday, days};
 
-/// A day of the proleptic Gregorian calendar, in the years -9999 to 9999.
+/// A day of the proleptic Gregorian calendar, in the years -999999 to 999999.
 #[derive(Clone, Copy, Debug, PartialEq, Eq)]
 pub struct Date {
     year: i32,
@@ -24,22 +24,22 @@ impl Date {
     ghost use Rattle.time_values.specs.DateRefusals.{calendar_date_refusal, ordinal_date_refusal};
     ghost use Rattle.time_values.specs.Refusal.{Constructs};
 
-    /// The first date, -9999-01-01, a Monday.
+    /// The first date, -999999-01-01, a Monday.
     pub const MIN: Date = Date {
         year: -MAX_YEAR,
         month: Month::January,
         day: 1,
     };
 
-    /// The last date, 9999-12-31, a Friday.
+    /// The last date, 999999-12-31, a Friday.
     pub const MAX: Date = Date {
         year: MAX_YEAR,
         month: Month::December,
         day: 31,
     };
 
-    /// The date with this year, month and day of the month, from 1. Refused as `year` outside -9999
-    /// to 9999, then as conditional `day` where the month has no such day.
+    /// The date with this year, month and day of the month, from 1. Refused as `year` outside
+    /// -999999 to 999999, then as conditional `day` where the month has no such day.
     pub fn from_calendar_date(year: i32, month: Month, day: u8) -> Result<Date, ComponentRange>
         ensures { Constructs (calendar_date_refusal greatest_year year (month_number month) day)
             (Dates.HasParts year month day) result }
@@ -60,8 +60,8 @@ impl Date {
         Ok(Date { year, month, day })
     }
 
-    /// The day at that place in the year, from 1. Refused as `year` outside -9999 to 9999, then as
-    /// conditional `ordinal` where the year has no such day.
+    /// The day at that place in the year, from 1. Refused as `year` outside -999999 to 999999, then
+    /// as conditional `ordinal` where the year has no such day.
     pub fn from_ordinal_date(year: i32, ordinal: u16) -> Result<Date, ComponentRange>
         ensures { Constructs (ordinal_date_refusal greatest_year year ordinal)
             (λ d. (Dates.year d ≡ year) × (Dates.ordinal d ≡ ordinal)) result }
@@ -96,7 +96,7 @@ impl Date {
         }
     }
 
-    /// The year, -9999 to 9999.
+    /// The year, -999999 to 999999.
     #[inline]
     pub fn year(self) -> i32
         ensures { result ≡ Dates.year self }
@@ -199,9 +199,9 @@ impl Date {
         week
     }
 
-    /// The day of that year, week and weekday by ISO 8601. Refused as `year` outside -9999 to 9999,
-    /// then as conditional `week` where the year has no such week, then as conditional `weekday`
-    /// where the day lies past `Date::MAX`.
+    /// The day of that year, week and weekday by ISO 8601. Refused as `year` outside -999999 to
+    /// 999999, then as conditional `week` where the year has no such week, then as conditional
+    /// `weekday` where the day lies past `Date::MAX`.
     pub fn from_iso_week_date(year: i32, week: u8, weekday: Weekday) -> Result<Date, ComponentRange>
         ensures { ConstructsIsoDate greatest_year year week (days_from_monday weekday) result }
     {

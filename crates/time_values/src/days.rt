@@ -5,7 +5,7 @@ ghost use Rattle.time_values.specs.Calendar as Calendar;
 ghost use Rattle.time_values.specs.Range.{greatest_year};
 
 /// The greatest year that a [`Date`](crate::Date) has; the least one is its negative.
-pub const MAX_YEAR: i32 = 9999;
+pub const MAX_YEAR: i32 = 999_999;
 
 /// The number of days that there are.
 pub const DAY_LIMIT: u32 = 365 * YEARS + YEARS / 4 - YEARS / 100 + YEARS / 400;

@@ -31,7 +31,7 @@ impl OffsetDateTime {
     }
 
     /// The moment that many nanoseconds after 1970-01-01T00:00:00Z, at offset 0. Refused as
-    /// `timestamp` outside -377705116800000000000 to 253402300799999999999.
+    /// `timestamp` outside -31619087596800000000000 to 31494784780799999999999.
     pub fn from_unix_timestamp_nanos(nanos: i128) -> Result<OffsetDateTime, ComponentRange>
         ensures { Constructs (Instants.timestamp_refusal greatest_year nanos)
             (λ o. (offset_instant greatest_year o ≡ nanos)

@@ -35,7 +35,7 @@ impl UtcDateTime {
     }
 
     /// The moment that many nanoseconds after 1970-01-01T00:00:00Z. Refused as `timestamp` outside
-    /// -377705116800000000000 to 253402300799999999999.
+    /// -31619087596800000000000 to 31494784780799999999999.
     pub fn from_unix_timestamp_nanos(nanos: i128) -> Result<UtcDateTime, ComponentRange>
         ensures { Constructs (Instants.timestamp_refusal greatest_year nanos)
             (λ u. utc_instant greatest_year u ≡ nanos) result }

@@ -1,4 +1,4 @@
-use Rattle.std.proofs.Common.{false, refl, None}
+use Rattle.std.proofs.Common.{false, refl, None, arith}
 use Rattle.time_values.specs.Range.{greatest_year}
 use Rattle.time_readers.specs.Direct.{said_rfc2822}
 use Rattle.time_readers.specs.Rfc2822.{HasForm, FailsAt, fault}
@@ -10,7 +10,7 @@ pub whole-requires-clause-year : goal.whole-requires-clause-year
 whole-requires-clause-year c =
     let found = c.in-Ok.found in
     let year = (HasForm-in_places false c.args.input.now found.0.now found.1 c.in-Ok.ensures).year in
-    rw c.said_rfc2822.ensures year.1
+    rw c.said_rfc2822.ensures (omega (arith, year.1))
 
 pub returns-in-Ok : goal.returns-in-Ok
 returns-in-Ok c =

@@ -1,4 +1,4 @@
-use Rattle.std.proofs.Common.{false, refl, inr}
+use Rattle.std.proofs.Common.{false, refl, inr, arith}
 use Rattle.time_values.specs.Range.{greatest_year}
 use Rattle.time_readers.specs.Direct.{minute_refusal, said_rfc3339}
 use Rattle.time_readers.specs.Rfc3339.{HasForm, FailsAt, fault}
@@ -26,7 +26,8 @@ said_rfc3339-requires-clause-hour c =
 pub whole-requires-clause-year : goal.whole-requires-clause-year
 whole-requires-clause-year c =
     let found = c.in-Ok.found in
-    rw c.said_rfc3339.ensures (HasForm-in_places false c.args.input.now found.0.now found.1 c.in-Ok.ensures).year
+    let year = (HasForm-in_places false c.args.input.now found.0.now found.1 c.in-Ok.ensures).year in
+    rw c.said_rfc3339.ensures (omega (arith, year))
 
 pub whole-requires-clause-month : goal.whole-requires-clause-month
 whole-requires-clause-month c =

@@ -9,7 +9,7 @@ use std::num::NonZero;
 use time_values::{Month, Weekday};
 
 impl Parsed {
-    /// With the calendar year, from -9999 to 9999. `None` outside.
+    /// With the calendar year, from -999999 to 999999. `None` outside.
     #[inline]
     pub fn with_year(mut self, value: i32) -> Option<Parsed>
         ensures { result ≡ put greatest_year (year_is value) self }
@@ -18,7 +18,7 @@ impl Parsed {
         Some(self)
     }
 
-    /// With the calendar year without its last two digits, from -99 to 99, negative by its sign,
+    /// With the calendar year without its last two digits, from -9999 to 9999, negative by its sign,
     /// and for a 0 by `is_negative`. `None` outside the range.
     #[inline]
     pub fn with_year_century(mut self, value: i16, is_negative: bool) -> Option<Parsed>
@@ -37,7 +37,7 @@ impl Parsed {
         Some(self)
     }
 
-    /// With the year of the ISO 8601 week date, from -9999 to 9999. `None` outside.
+    /// With the year of the ISO 8601 week date, from -999999 to 999999. `None` outside.
     #[inline]
     pub fn with_iso_year(mut self, value: i32) -> Option<Parsed>
         ensures { result ≡ put greatest_year (iso_year_is value) self }
@@ -46,7 +46,7 @@ impl Parsed {
         Some(self)
     }
 
-    /// With the year of the ISO 8601 week date without its last two digits, from -99 to 99,
+    /// With the year of the ISO 8601 week date without its last two digits, from -9999 to 9999,
     /// negative by its sign, and for a 0 by `is_negative`. `None` outside the range.
     #[inline]
     pub fn with_iso_year_century(mut self, value: i16, is_negative: bool) -> Option<Parsed>
@@ -233,8 +233,8 @@ impl Parsed {
         Some(self)
     }
 
-    /// With the nanoseconds since 1970-01-01T00:00:00Z, from -377705116800000000000 to
-    /// 253402300799999999999. `None` outside.
+    /// With the nanoseconds since 1970-01-01T00:00:00Z, from -31619087596800000000000 to
+    /// 31494784780799999999999. `None` outside.
     #[inline]
     pub fn with_unix_timestamp_nanos(mut self, value: i128) -> Option<Parsed>
         ensures { result ≡ put greatest_year (unix_timestamp_nanos_is value) self }

@@ -18,7 +18,7 @@ use std::num::NonZero;
 use time_values::{Month, Weekday};
 
 impl Parsed {
-    /// The calendar year, from -9999 to 9999.
+    /// The calendar year, from -999999 to 999999.
     #[inline]
     pub fn year(&self) -> Option<i32>
         ensures value { result ≡ self.now.year }
@@ -27,7 +27,7 @@ impl Parsed {
         self.word(YEAR)
     }
 
-    /// The calendar year without its last two digits, from -99 to 99.
+    /// The calendar year without its last two digits, from -9999 to 9999.
     ///
     /// A 0 has no sign here: `year_century_is_negative` tells it.
     #[inline]
@@ -57,7 +57,7 @@ impl Parsed {
         Some(self.byte(YEAR_LAST_TWO)? as u8)
     }
 
-    /// The year of the ISO 8601 week date, from -9999 to 9999.
+    /// The year of the ISO 8601 week date, from -999999 to 999999.
     #[inline]
     pub fn iso_year(&self) -> Option<i32>
         ensures value { result ≡ self.now.iso_year }
@@ -66,7 +66,7 @@ impl Parsed {
         self.word(ISO_YEAR)
     }
 
-    /// The year of the ISO 8601 week date without its last two digits, from -99 to 99.
+    /// The year of the ISO 8601 week date without its last two digits, from -9999 to 9999.
     ///
     /// A 0 has no sign here: `iso_year_century_is_negative` tells it.
     #[inline]
@@ -281,8 +281,8 @@ impl Parsed {
         })
     }
 
-    /// The nanoseconds since 1970-01-01T00:00:00Z, from -377705116800000000000 to
-    /// 253402300799999999999.
+    /// The nanoseconds since 1970-01-01T00:00:00Z, from -31619087596800000000000 to
+    /// 31494784780799999999999.
     #[inline]
     pub fn unix_timestamp_nanos(&self) -> Option<i128>
         ensures value { result ≡ self.now.unix_timestamp_nanos }

@@ -15,7 +15,7 @@ use std::num::NonZero;
 use time_values::{MAX_YEAR, Month, Timestamp, Weekday};
 
 impl Parsed {
-    /// Sets the calendar year, from -9999 to 9999. `None` and unchanged outside.
+    /// Sets the calendar year, from -999999 to 999999. `None` and unchanged outside.
     #[inline]
     pub fn set_year(&mut self, value: i32) -> Option<()>
         ensures { Sets (put greatest_year (year_is value) self.old) self.old result self.new }
@@ -27,7 +27,7 @@ impl Parsed {
         Some(())
     }
 
-    /// Sets the calendar year without its last two digits, from -99 to 99, and whether it is
+    /// Sets the calendar year without its last two digits, from -9999 to 9999, and whether it is
     /// negative: by its sign, and for a 0 by `is_negative`. `None` and unchanged outside the
     /// range.
     #[inline]
@@ -57,7 +57,8 @@ impl Parsed {
         Some(())
     }
 
-    /// Sets the year of the ISO 8601 week date, from -9999 to 9999. `None` and unchanged outside.
+    /// Sets the year of the ISO 8601 week date, from -999999 to 999999. `None` and unchanged
+    /// outside.
     #[inline]
     pub fn set_iso_year(&mut self, value: i32) -> Option<()>
         ensures { Sets (put greatest_year (iso_year_is value) self.old) self.old result self.new }
@@ -69,7 +70,7 @@ impl Parsed {
         Some(())
     }
 
-    /// Sets the year of the ISO 8601 week date without its last two digits, from -99 to 99, and
+    /// Sets the year of the ISO 8601 week date without its last two digits, from -9999 to 9999, and
     /// whether it is negative: by its sign, and for a 0 by `is_negative`. `None` and unchanged
     /// outside the range.
     #[inline]
@@ -327,8 +328,8 @@ impl Parsed {
         Some(())
     }
 
-    /// Sets the nanoseconds since 1970-01-01T00:00:00Z, from -377705116800000000000 to
-    /// 253402300799999999999. `None` and unchanged outside.
+    /// Sets the nanoseconds since 1970-01-01T00:00:00Z, from -31619087596800000000000 to
+    /// 31494784780799999999999. `None` and unchanged outside.
     #[inline]
     pub fn set_unix_timestamp_nanos(&mut self, value: i128) -> Option<()>
         ensures { Sets (put greatest_year (unix_timestamp_nanos_is value) self.old)

@@ -43,7 +43,7 @@ recorded n = record (with_leap_second (without_offset_sign empty)) {
 
 put-recorded : (n : Numbers) (w : Option Weekday) (o : Option ℕ) (s : Option Sign) → n.weekday ≡ w → n.second ≡ o
     → n.offset_sign ≡ s
-    → n.year ≤ 9999 → InRanges n → IfSome o (λ v. v ≤ 60)
+    → n.year ≤ greatest_year → InRanges n → IfSome o (λ v. v ≤ 60)
     → put_all greatest_year (entries n) (with_leap_second (without_offset_sign empty)) ≡ Some (recorded n)
 put-recorded n None None None sw so ss year i sub =
     rw (
@@ -52,7 +52,7 @@ put-recorded n None None None sw so ss year i sub =
       ss,
       le-leb 1 n.day i.day.0,
       le-leb n.day 31 i.day.1,
-      le-leb n.year 9999 year,
+      le-leb n.year greatest_year year,
       le-leb n.hour 23 i.hour.1,
       le-leb n.minute 59 i.minute.1,
       le-leb
@@ -65,7 +65,7 @@ put-recorded n None None (Some s) sw so ss year i sub =
       ss,
       le-leb 1 n.day i.day.0,
       le-leb n.day 31 i.day.1,
-      le-leb n.year 9999 year,
+      le-leb n.year greatest_year year,
       le-leb n.hour 23 i.hour.1,
       le-leb n.minute 59 i.minute.1,
       le-leb (unsigned_abs n.offset_hour) 25 i.offset_hour.1,
@@ -78,7 +78,7 @@ put-recorded n None (Some v) None sw so ss year i sub =
       ss,
       le-leb 1 n.day i.day.0,
       le-leb n.day 31 i.day.1,
-      le-leb n.year 9999 year,
+      le-leb n.year greatest_year year,
       le-leb n.hour 23 i.hour.1,
       le-leb n.minute 59 i.minute.1,
       le-leb v 60 sub,
@@ -92,7 +92,7 @@ put-recorded n None (Some v) (Some s) sw so ss year i sub =
       ss,
       le-leb 1 n.day i.day.0,
       le-leb n.day 31 i.day.1,
-      le-leb n.year 9999 year,
+      le-leb n.year greatest_year year,
       le-leb n.hour 23 i.hour.1,
       le-leb n.minute 59 i.minute.1,
       le-leb v 60 sub,
@@ -107,7 +107,7 @@ put-recorded n (Some w) None None sw so ss year i sub =
       ss,
       le-leb 1 n.day i.day.0,
       le-leb n.day 31 i.day.1,
-      le-leb n.year 9999 year,
+      le-leb n.year greatest_year year,
       le-leb n.hour 23 i.hour.1,
       le-leb n.minute 59 i.minute.1,
       le-leb
@@ -120,7 +120,7 @@ put-recorded n (Some w) None (Some s) sw so ss year i sub =
       ss,
       le-leb 1 n.day i.day.0,
       le-leb n.day 31 i.day.1,
-      le-leb n.year 9999 year,
+      le-leb n.year greatest_year year,
       le-leb n.hour 23 i.hour.1,
       le-leb n.minute 59 i.minute.1,
       le-leb (unsigned_abs n.offset_hour) 25 i.offset_hour.1,
@@ -133,7 +133,7 @@ put-recorded n (Some w) (Some v) None sw so ss year i sub =
       ss,
       le-leb 1 n.day i.day.0,
       le-leb n.day 31 i.day.1,
-      le-leb n.year 9999 year,
+      le-leb n.year greatest_year year,
       le-leb n.hour 23 i.hour.1,
       le-leb n.minute 59 i.minute.1,
       le-leb v 60 sub,
@@ -147,7 +147,7 @@ put-recorded n (Some w) (Some v) (Some s) sw so ss year i sub =
       ss,
       le-leb 1 n.day i.day.0,
       le-leb n.day 31 i.day.1,
-      le-leb n.year 9999 year,
+      le-leb n.year greatest_year year,
       le-leb n.hour 23 i.hour.1,
       le-leb n.minute 59 i.minute.1,
       le-leb v 60 sub,
@@ -222,7 +222,7 @@ direct-value bytes v (n, form, last, made) =
       (
         n,
         (ranged_mail bytes [] n).1 (form, ranges),
-        put-recorded n n.weekday n.second n.offset_sign refl refl refl places.year.1 ranges
+        put-recorded n n.weekday n.second n.offset_sign refl refl refl (omega (arith, places.year)) ranges
             (second_of n.second ranges.second),
       ),
       made-resolves (recorded n) n.month (said_rfc2822 n) v (tells n (HasForm-zone false bytes [] n form)) month made,
@@ -241,14 +241,14 @@ record-value bytes v (r, (n, form, put), moment) =
     let places = HasForm-in_places true bytes [] n form in
     let ranges = formed.1 in
     let told =
-    put-recorded n n.weekday n.second n.offset_sign refl refl refl places.year.1 ranges
+    put-recorded n n.weekday n.second n.offset_sign refl refl refl (omega (arith, places.year)) ranges
     (second_of n.second ranges.second) in
     let same : r ≡ recorded n = same_Some r (recorded n) (sym put ∙ told) in (
       n,
       formed.0,
       refl,
-      resolves-made (recorded n) n.month (said_rfc2822 n) v (tells n (HasForm-zone true bytes [] n form)) places.year.1
-          (month_named n.month) (subst (λ (x : Record). IsMoment greatest_year x (Ok v)) same moment),
+      resolves-made (recorded n) n.month (said_rfc2822 n) v (tells n (HasForm-zone true bytes [] n form))
+          (omega (arith, places.year)) (month_named n.month) (subst (λ (x : Record). IsMoment greatest_year x (Ok v)) same moment),
     )
 
 -- the direct path's answer is the outcome of a parse

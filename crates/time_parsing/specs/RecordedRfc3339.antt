@@ -44,14 +44,14 @@ near : (b : Bool) (v most : ℕ) → v ≤ most → nat_le (unsigned_abs (signed
 near b v most h = rw (signed-abs b v) (le-leb v most h)
 
 put-recorded : (n : Numbers) (m : Month) (o : Option ℕ) (u : Bool) → n.subsecond ≡ o → n.is_utc ≡ u
-    → n.year ≤ 9999 → InRanges n
+    → n.year ≤ greatest_year → InRanges n
     → IfSome o (λ v. v ≤ 999999999) → n.offset_hour ≤ 25
     → put_all greatest_year (entries n m) (with_leap_second (without_offset_sign empty)) ≡ Some (recorded n m)
 put-recorded n m None true so su year i sub hour =
     rw (
       so,
       su,
-      le-leb n.year 9999 year,
+      le-leb n.year greatest_year year,
       le-leb 1 n.day i.day.0,
       le-leb n.day 31 i.day.1,
       le-leb n.hour 23 i.hour.1,
@@ -64,7 +64,7 @@ put-recorded n m None false so su year i sub hour =
     rw (
       so,
       su,
-      le-leb n.year 9999 year,
+      le-leb n.year greatest_year year,
       le-leb 1 n.day i.day.0,
       le-leb n.day 31 i.day.1,
       le-leb n.hour 23 i.hour.1,
@@ -77,7 +77,7 @@ put-recorded n m (Some v) true so su year i sub hour =
     rw (
       so,
       su,
-      le-leb n.year 9999 year,
+      le-leb n.year greatest_year year,
       le-leb 1 n.day i.day.0,
       le-leb n.day 31 i.day.1,
       le-leb n.hour 23 i.hour.1,
@@ -92,7 +92,7 @@ put-recorded n m (Some v) false so su year i sub hour =
     rw (
       so,
       su,
-      le-leb n.year 9999 year,
+      le-leb n.year greatest_year year,
       le-leb 1 n.day i.day.0,
       le-leb n.day 31 i.day.1,
       le-leb n.hour 23 i.hour.1,
@@ -158,7 +158,7 @@ direct-value bytes v (n, form, last, made) =
         m,
         (ranged_forms bytes [] n).1 (form, ranges),
         month,
-        put-recorded n m n.subsecond n.is_utc refl refl places.year ranges places.subsecond
+        put-recorded n m n.subsecond n.is_utc refl refl (omega (arith, places.year)) ranges places.subsecond
             (omega (arith, places.offset_hour)),
       ),
       made-resolves (recorded n m) m (said_rfc3339 n) v (tells n m month) refl made,
@@ -173,14 +173,14 @@ record-value bytes v (r, (n, m, form, month, put), moment) =
     let places = HasForm-in_places true bytes [] n form in
     let ranges = formed.1 in
     let told =
-    put-recorded n m n.subsecond n.is_utc refl refl places.year ranges places.subsecond
+    put-recorded n m n.subsecond n.is_utc refl refl (omega (arith, places.year)) ranges places.subsecond
     (omega (arith, places.offset_hour)) in
     let same : r ≡ recorded n m = same_Some r (recorded n m) (sym put ∙ told) in
     let named : month_refusal n.month ≡ None = rw (le-leb n.month 12 ranges.month.1) refl in (
       n,
       formed.0,
       minute_stands n ranges.offset_minute.1,
-      resolves-made (recorded n m) m (said_rfc3339 n) v (tells n m month) places.year named
+      resolves-made (recorded n m) m (said_rfc3339 n) v (tells n m month) (omega (arith, places.year)) named
           (subst (λ (x : Record). IsMoment greatest_year x (Ok v)) same moment),
     )
 

@@ -225,7 +225,7 @@ accepted_ranges s none =
     }
 
 -- a date that is there is refused by none of its parts
-dated-accepted : (s : Said) (m : Month) (d : Date) → s.year ≤ 9999 → month_number m ≡ s.month
+dated-accepted : (s : Said) (m : Month) (d : Date) → s.year ≤ greatest_year → month_number m ≡ s.month
     → month_refusal s.month ≡ None
     → HasParts (pos s.year) m s.day d → date_refusal greatest_year s ≡ None
 dated-accepted s m d year month named parts =
@@ -236,11 +236,11 @@ dated-accepted s m d year month named parts =
     let high : s.day ≤ month_length (pos s.year) s.month =
     subst (λ n. n ≤ month_length (pos s.year) s.month) parts.2
     (subst (λ n. d.day ≤ n) (sym length) d.day_in.1) in
-    rw (named, le-leb s.year 9999 year, le-leb 1 s.day low, le-leb s.day (month_length (pos s.year) s.month) high)
+    rw (named, le-leb s.year greatest_year year, le-leb 1 s.day low, le-leb s.day (month_length (pos s.year) s.month) high)
     refl
 
 -- the parts of a moment of the record are those that are said
-by_parts : (r : Record) (m : Month) (s : Said) (v : OffsetDateTime) → Tells r m s → s.year ≤ 9999
+by_parts : (r : Record) (m : Month) (s : Said) (v : OffsetDateTime) → Tells r m s → s.year ≤ greatest_year
     → month_refusal s.month ≡ None
     → IsMomentOfParts greatest_year r (Ok v) → IsMade greatest_year s v
 unfolding IsMomentOfParts LeapSecondMayStand
@@ -275,7 +275,7 @@ by_parts r m s v t year named (inr (d, dated, inr (w, timed, inr (o, offset, jud
           rw (is.0, is.1, is.2) at_end,
     )
 
-pub resolves-made : (r : Record) (m : Month) (s : Said) (v : OffsetDateTime) → Tells r m s → s.year ≤ 9999
+pub resolves-made : (r : Record) (m : Month) (s : Said) (v : OffsetDateTime) → Tells r m s → s.year ≤ greatest_year
     → month_refusal s.month ≡ None
     → Resolution.IsMoment greatest_year r (Ok v) → IsMade greatest_year s v
 resolves-made r m s v t year named moment = by_parts r m s v t year named (of_parts r v t.stamp moment)

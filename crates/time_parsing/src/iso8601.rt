@@ -33,9 +33,8 @@ use time_values::error::{Parse, ParseFromDescription};
 /// still be left out. A part that can't be read settles nothing, and puts nothing.
 ///
 /// Where none of the three can be read the refusal is the date's: an invalid component `year`, `month`, `day`,
-/// `ordinal`, `week` or `weekday`, or an invalid literal, where a `-` is missing. A year of six digits above
-/// 9999, a day above 31, an ordinal above 366 and a week above 53 refuse the date, and no other form of it is
-/// tried then.
+/// `ordinal`, `week` or `weekday`, or an invalid literal, where a `-` is missing. A day above 31, an ordinal
+/// above 366 and a week above 53 refuse the date, and no other form of it is tried then.
 #[derive(Clone, Copy, Debug, PartialEq, Eq)]
 pub struct Iso8601;
 

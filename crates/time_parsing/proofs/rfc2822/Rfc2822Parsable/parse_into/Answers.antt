@@ -1,4 +1,4 @@
-use Rattle.std.proofs.Common.{◌≡◌, ◌∙◌, ◌≤◌, ℕ, Option, Some, IfSome, true, ap, subst, sym}
+use Rattle.std.proofs.Common.{◌≡◌, ◌∙◌, ◌≤◌, ℕ, Option, Some, IfSome, true, ap, arith, subst, sym}
 use Rattle.time_values.specs.Range.{greatest_year}
 use Rattle.time_readers.specs.Ranged.{IsWithin}
 use Rattle.time_readers.proofs.MailRanges.{InPlaces, HasForm-in_places}
@@ -15,7 +15,7 @@ pub put_date-requires-clause-day : goal.put_date-requires-clause-day
 put_date-requires-clause-day c = (in_places (goal.at.put_date-requires-clause-day c).In-Ok).day
 
 pub put_date-requires-clause-year : goal.put_date-requires-clause-year
-put_date-requires-clause-year c = (in_places (goal.at.put_date-requires-clause-year c).In-Ok).year.1
+put_date-requires-clause-year c = omega (arith, (in_places (goal.at.put_date-requires-clause-year c).In-Ok).year)
 
 pub put_time-requires-clause-hour : goal.put_time-requires-clause-hour
 put_time-requires-clause-hour c = (in_places (goal.at.put_time-requires-clause-hour c).In-Ok).hour.1

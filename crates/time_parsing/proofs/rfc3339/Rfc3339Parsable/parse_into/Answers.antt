@@ -11,7 +11,7 @@ in_places : (c : In-Ok) → InPlaces true c.in-Ok.found.1
 in_places c = HasForm-in_places true c.args.input.now c.in-Ok.found.0.now c.in-Ok.found.1 c.in-Ok.ensures
 
 pub put_date-requires-clause-year : goal.put_date-requires-clause-year
-put_date-requires-clause-year c = (in_places (goal.at.put_date-requires-clause-year c).In-Ok).year
+put_date-requires-clause-year c = omega (arith, (in_places (goal.at.put_date-requires-clause-year c).In-Ok).year)
 
 pub put_date-requires-clause-month : goal.put_date-requires-clause-month
 put_date-requires-clause-month c = (in_places (goal.at.put_date-requires-clause-month c).In-Ok).month

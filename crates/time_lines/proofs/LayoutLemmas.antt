@@ -1,33 +1,52 @@
 -- Layouts, as they are written piece by piece.
-use Rattle.std.proofs.Common.{◌≡◌, ℕ, ◌+◌, ◌<◌, List, [], ◌∷◌, ◌++◌, length, take, drop, take_at, ap, ◌∙◌, sym, arith, ℤ, pos, int_lt, unsigned_abs, codes, append_assoc, append-nil, length-append, length-drop}
+use Rattle.std.proofs.Common.{◌≡◌, ℕ, ◌+◌, ◌/◌, ◌%◌, ◌^◌, ◌<◌, ◌≤◌, Bool, true, false, nat_lt, refl, List, [], ◌∷◌, ◌++◌, length, take, drop, take_at, ap, ◌∙◌, sym, arith, ℤ, pos, int_lt, unsigned_abs, codes, append_assoc, append-nil, length-append, length-drop}
 use Rattle.std.proofs.lemmas.List.{drop_all}
 use borrow.Rule.Slice.PartMut.{put_mid}
 use Rattle.time_values.specs.Calendar.{month_length}
 use Rattle.std.proofs.lemmas.Bool.Decides.{nat_tests}
 use Rattle.time_values.specs.Month.{month_number}
 use Rattle.time_values.specs.declared.date.Date.{Date}
-use Rattle.time_lines.specs.Layout.{fixed, four_digits, minus_if, year_text}
+use Rattle.time_lines.specs.Layout.{digits_before, fixed, four_digits, leading_digits, minus_if, year_front, year_text}
 use Rattle.time_values.specs.declared.time.Time.{Time}
 use Rattle.time_lines.specs.Values.{date_text, date_time_text}
+use Rattle.time_lines.proofs.DigitLemmas.{digits_two}
+use Rattle.itoa.proofs.Decimal.{decimal_four, pair}
 
-four_digits-small : (n : ℕ) → n < 10000 → four_digits n ≡ fixed 4 n
-four_digits-small n h = grind (arith, nat_tests)
+-- four digits, two at a time
+fixed_four : (n : ℕ) → n < 10000 → fixed 4 n ≡ pair (n / 100) ++ pair (n % 100)
+unfolding digits_before fixed
+fixed_four n h =
+    let a : n / 100 % 100 ≡ n / 100 = omega arith in
+    rw (digits_two 2 n [], digits_two 0 (n / 100) _, a) refl
+
+-- the last four digits stand behind those before them
+leading_digits-then : (n : ℕ) (b : Bool) → nat_lt n 10000 ≡ b → n < 2 ^ 64 → leading_digits n ++ fixed 4 (n % 10000) ≡ four_digits n
+leading_digits-then n true e fits =
+    let small : n < 10000 = grind (arith, nat_tests) in
+    let same : n % 10000 ≡ n = omega arith in
+    rw (e, same) refl
+leading_digits-then n false e fits =
+    let large : 10000 ≤ n = grind (arith, nat_tests) in
+    rw (e, fixed_four (n % 10000) (omega arith), decimal_four n large fits) refl
 
 five : (a b c d e f : List ℕ) → a ++ (b ++ c ++ d ++ e ++ f) ≡ a ++ b ++ c ++ d ++ e ++ f
 five a b c d e f = simp append_assoc
 
--- a date whose year has four digits
-pub date_text-small : (d : Date) (n m k : ℕ) (text : List ℕ)
-    → n ≡ unsigned_abs d.year → n < 10000 → m ≡ month_number d.month → k ≡ d.day
-    → text ≡ fixed 4 n ++ codes "-" ++ fixed 2 m ++ codes "-" ++ fixed 2 k
-    → minus_if (int_lt d.year (pos 0)) ++ text ≡ date_text d
-date_text-small d n m k text nz small mm kk is =
+-- a date behind the front of its year
+pub date_text-behind : (d : Date) (n m k : ℕ) (text : List ℕ)
+    → n ≡ unsigned_abs d.year → n < 2 ^ 64 → m ≡ month_number d.month → k ≡ d.day
+    → text ≡ fixed 4 (n % 10000) ++ codes "-" ++ fixed 2 m ++ codes "-" ++ fixed 2 k
+    → year_front d.year ++ text ≡ date_text d
+date_text-behind d n m k text nz fits mm kk is =
     let sign = minus_if (int_lt d.year (pos 0)) in
-    let digits : fixed 4 n ≡ four_digits (unsigned_abs d.year) =
-    sym (four_digits-small n small) ∙ ap four_digits nz in
-    ap (λ t. sign ++ t) is
-    ∙ five sign (fixed 4 n) (codes "-") (fixed 2 m) (codes "-") (fixed 2 k)
-    ∙ ap (λ t. sign ++ t ++ codes "-" ++ fixed 2 m ++ codes "-" ++ fixed 2 k) digits
+    let front = year_front d.year in
+    let digits : leading_digits (unsigned_abs d.year) ++ fixed 4 (n % 10000) ≡ four_digits (unsigned_abs d.year) =
+    ap (λ x. leading_digits x ++ fixed 4 (n % 10000)) (sym nz) ∙ leading_digits-then n (nat_lt n 10000) refl fits ∙ ap four_digits nz in
+    let year : front ++ fixed 4 (n % 10000) ≡ year_text d.year =
+    append_assoc sign (leading_digits (unsigned_abs d.year)) (fixed 4 (n % 10000)) ∙ ap (λ t. sign ++ t) digits in
+    ap (λ t. front ++ t) is
+    ∙ five front (fixed 4 (n % 10000)) (codes "-") (fixed 2 m) (codes "-") (fixed 2 k)
+    ∙ ap (λ t. t ++ codes "-" ++ fixed 2 m ++ codes "-" ++ fixed 2 k) year
     ∙ ap (λ t. year_text d.year ++ codes "-" ++ fixed 2 t ++ codes "-" ++ fixed 2 k) mm
     ∙ ap (λ t. year_text d.year ++ codes "-" ++ fixed 2 (month_number d.month) ++ codes "-" ++ fixed 2 t) kk
 

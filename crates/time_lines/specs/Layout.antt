@@ -22,3 +22,11 @@ four_digits n = if nat_lt n 10000 then fixed 4 n else decimal n
 -- a year, with four digits at least
 abbrev pub year_text : ℤ → List ℕ
 year_text y = minus_if (int_lt y (pos 0)) ++ four_digits (unsigned_abs y)
+
+-- the digits before the last four
+abbrev pub leading_digits : ℕ → List ℕ
+leading_digits n = if nat_lt n 10000 then [] else decimal (n / 10000)
+
+-- what stands before the last four digits of a year
+abbrev pub year_front : ℤ → List ℕ
+year_front y = minus_if (int_lt y (pos 0)) ++ leading_digits (unsigned_abs y)

@@ -1,7 +1,7 @@
 //! Lays values out as text.
 ghost use Rattle.std.specs.Prelude.{◌≡◌, ℕ, ◌+◌, ◌/◌, ◌%◌, ◌<◌, List, ◌++◌, ◌∷◌, codes, OnOk};
 ghost use Rattle.std.specs.Io.KnownBytes.{Appends};
-ghost use Rattle.time_lines.specs.Layout.{fixed, minus_if};
+ghost use Rattle.time_lines.specs.Layout.{fixed, leading_digits, minus_if, year_front};
 ghost use Rattle.time_values.specs.Dates as Dates;
 ghost use Rattle.time_values.specs.Moments.{offset_date};
 ghost use Rattle.time_lines.specs.Values.{is_negative, date_text, time_text, offset_text, date_time_text, plain_text, utc_text, offset_date_time_text, timestamp_text};
@@ -80,13 +80,13 @@ fn offset_bytes(sign: u8, hours: u8, minutes: u8, seconds: u8) -> [u8; 9]
     [sign, h1, h2, b':', m1, m2, b':', s1, s2]
 }
 
-// `YYYY-MM-DD`, of a negative year without its sign.
+// `YYYY-MM-DD`, with the last four digits of the year.
 #[inline]
 fn lay_date(date: Date) -> [u8; 10]
-    ensures { minus_if (is_negative (Dates.year date)) ++ result ≡ date_text date }
+    ensures { year_front (Dates.year date) ++ result ≡ date_text date }
 {
     date_bytes(
-        date.year().unsigned_abs(),
+        date.year().unsigned_abs() % 10_000,
         date.month().number(),
         date.day(),
     )
@@ -119,10 +119,10 @@ fn lay_offset(offset: UtcOffset) -> [u8; 9]
     )
 }
 
-// Date and time with a space between them, of a negative year without its sign.
+// Date and time with a space between them, with the last four digits of the year.
 #[inline]
 fn lay_date_time(date: Date, time: Time) -> [u8; 29]
-    ensures { minus_if (is_negative (Dates.year date)) ++ result ≡ date_time_text date time }
+    ensures { year_front (Dates.year date) ++ result ≡ date_time_text date time }
 {
     let mut text = [b' '; 29];
     text[..10].copy_from_slice(&lay_date(date));
@@ -130,10 +130,10 @@ fn lay_date_time(date: Date, time: Time) -> [u8; 29]
     text
 }
 
-// Date, time and offset with spaces between them, of a negative year without its sign.
+// Date, time and offset with spaces between them, with the last four digits of the year.
 #[inline]
 fn lay_moment(moment: OffsetDateTime) -> [u8; 39]
-    ensures { minus_if (is_negative (Dates.year (offset_date moment))) ++ result ≡ offset_date_time_text moment }
+    ensures { year_front (Dates.year (offset_date moment)) ++ result ≡ offset_date_time_text moment }
 {
     let mut text = [b' '; 39];
     text[..29].copy_from_slice(&lay_date_time(moment.date(), moment.time()));
@@ -152,6 +152,25 @@ fn write_sign<W: Write>(date: Date, out: &mut W) -> io::Result<()>
     }
 }
 
+// Writes the digits of a year before its last four.
+fn write_leading_digits<W: Write>(year: u32, out: &mut W) -> io::Result<()>
+    ensures { OnOk result (Appends (W.contents out.old) (W.contents out.new) (leading_digits year)) }
+{
+    if year < 10_000 {
+        return Ok(());
+    }
+    let mut buffer = itoa::Buffer::new();
+    out.write_all(buffer.format(year / 10_000).as_bytes())
+}
+
+// Writes what stands before the last four digits of a date's year.
+fn write_year_front<W: Write>(date: Date, out: &mut W) -> io::Result<()>
+    ensures { OnOk result (Appends (W.contents out.old) (W.contents out.new) (year_front (Dates.year date))) }
+{
+    write_sign(date, out)?;
+    write_leading_digits(date.year().unsigned_abs(), out)
+}
+
 /// A value that is written as text.
 pub trait Layout {
     // The text of the value.
@@ -162,12 +181,12 @@ pub trait Layout {
         ensures { OnOk result (Appends (W.contents out.old) (W.contents out.new) (text self)) };
 }
 
-/// `YYYY-MM-DD`, after a minus where the year is negative.
+/// `YYYY-MM-DD`, after a minus where the year is negative, and with all digits of a year past 9999.
 impl Layout for Date {
     ghost text = { date_text };
 
     fn write_to<W: Write>(self, out: &mut W) -> io::Result<()> {
-        write_sign(self, out)?;
+        write_year_front(self, out)?;
         out.write_all(&lay_date(self))
     }
 }
@@ -194,7 +213,7 @@ impl Layout for UtcOffset {
 fn write_date_time<W: Write>(date: Date, time: Time, out: &mut W) -> io::Result<()>
     ensures { OnOk result (Appends (W.contents out.old) (W.contents out.new) (date_time_text date time)) }
 {
-    write_sign(date, out)?;
+    write_year_front(date, out)?;
     out.write_all(&lay_date_time(date, time))
 }
 
@@ -222,7 +241,7 @@ impl Layout for OffsetDateTime {
     ghost text = { offset_date_time_text };
 
     fn write_to<W: Write>(self, out: &mut W) -> io::Result<()> {
-        write_sign(self.date(), out)?;
+        write_year_front(self.date(), out)?;
         out.write_all(&lay_moment(self))
     }
 }

@@ -3,4 +3,4 @@ use Rattle.time_lines.proofs.layout.OffsetDateTimeLayout.write_to.Goals as goal
 
 pub returns : goal.returns
 returns g c =
-    Appends-then _ _ _ _ _ _ _ (rw c.date.ensures at c.in_ok-write_sign.ensures) c.write_all.ensures.bytes c.lay_moment.ensures
+    Appends-then _ _ _ _ _ _ _ (rw c.date.ensures at c.in_ok-write_year_front.ensures) c.write_all.ensures.bytes c.lay_moment.ensures

@@ -6,6 +6,7 @@ use std::io::{ErrorKind, Read, Write};
 use std::test::Fail;
 
 mod whole_parses;
+mod wide_years;
 
 /// Bytes that come a few at a time, with a read that fails.
 #[derive(Drop)]

@@ -16,4 +16,5 @@ mod records;
 mod two_paths;
 mod values;
 mod whole_parses;
+mod wide_years;
 mod word_digits;

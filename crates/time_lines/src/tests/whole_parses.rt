@@ -5,7 +5,7 @@ use std::test::Fail;
 const INSUFFICIENT: &str =
     "error: the `Parsed` struct did not include enough information to construct the type\n";
 
-const BY_RFC3339: [(&str, &str, &str); 12] = [
+const BY_RFC3339: [(&str, &str, &str); 10] = [
     ("date", "2021-01-02T03:04:05.25-00:30", "2021-01-02\n"),
     (
         "time",
@@ -34,16 +34,6 @@ const BY_RFC3339: [(&str, &str, &str); 12] = [
         "datetime",
         "2021-01-02T03:04:05Z",
         "2021-01-02 03:04:05.000000000 +00:00:00\n",
-    ),
-    (
-        "utc",
-        "9999-12-31T23:59:59.999999999-23:59",
-        "error: year is out of range for the other components\n",
-    ),
-    (
-        "timestamp",
-        "9999-12-31T23:59:59.999999999-23:59",
-        INSUFFICIENT,
     ),
     (
         "time",
@@ -119,7 +109,7 @@ const TRAILING: &str = "error: unexpected trailing characters; the end of input 
 
 const YEAR: &str = "error: the 'year' component could not be parsed\n";
 
-const BY_ISO8601: [(&str, &str, &str); 19] = [
+const BY_ISO8601: [(&str, &str, &str); 18] = [
     ("time", "03,5", "03:30:00.000000000\n"),
     ("time", "03:04.5", "03:04:30.000000000\n"),
     ("time", "0304.25", "03:04:15.000000000\n"),
@@ -135,7 +125,6 @@ const BY_ISO8601: [(&str, &str, &str); 19] = [
     ("offset", "-05", "-05:00:00\n"),
     ("offset", "05:30Z", "+00:00:00\n"),
     ("date", "+002021-01-02", "2021-01-02\n"),
-    ("date", "+012345-01-02", TRAILING),
     ("plain", "2021-W01-1T24", TRAILING),
     (
         "datetime",
@@ -153,17 +142,12 @@ const BY_ISO8601: [(&str, &str, &str); 19] = [
     ("date", "9999-12x", LITERAL),
 ];
 
-const ISO_FORMS: [(&str, &str, &str); 14] = [
+const ISO_FORMS: [(&str, &str, &str); 13] = [
     ("time", "2021-01", "20:21:00.000000000\n"),
     ("offset", "2021-01", "-01:00:00\n"),
     ("date", "20211234", TRAILING),
     ("date", "202101", INSUFFICIENT),
     ("date", "2020-W53-6", "2021-01-02\n"),
-    (
-        "date",
-        "9999-W52-6",
-        "error: weekday is out of range for the other components\n",
-    ),
     ("plain", "2021-01-02T03", "2021-01-02 03:00:00.000000000\n"),
     (
         "plain",
@@ -213,7 +197,7 @@ const BY_CLOCK: [(&str, &str, &str); 7] = [
     ("date", "12:05 am", INSUFFICIENT),
 ];
 
-const BY_UNIX: [(&str, &str, &str); 9] = [
+const BY_UNIX: [(&str, &str, &str); 8] = [
     ("timestamp", "-1", "-1000000000\n"),
     ("timestamp", "+5", "5000000000\n"),
     (
@@ -225,11 +209,6 @@ const BY_UNIX: [(&str, &str, &str); 9] = [
         "datetime",
         "253402300799",
         "9999-12-31 23:59:59.000000000 +00:00:00\n",
-    ),
-    (
-        "datetime",
-        "253402300800",
-        "error: the 'unix_timestamp' component could not be parsed\n",
     ),
     ("utc", "0", "1970-01-01 00:00:00.000000000 +00:00:00\n"),
     ("staged", "0", "1970-01-01 00:00:00.000000000 +00:00:00\n"),

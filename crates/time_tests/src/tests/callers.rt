@@ -127,7 +127,7 @@ fn callers_of_formats(rt: HostRuntime) -> Result<(), Fail> {
     assert!(rt; date_in(2021, b"03-04", &description) == Ok(march));
     assert!(rt; date_in(2021, b"02-29", &description).is_err());
     assert!(rt; date_in(2024, b"02-29", &description).is_ok());
-    assert!(rt; date_in(10000, b"03-04", &description).is_err());
+    assert!(rt; date_in(1_000_000, b"03-04", &description).is_err());
     assert!(rt; date_in(1999, b"2021-03-04T00:00:00Z", &Rfc3339).is_ok());
     Ok(())
 }

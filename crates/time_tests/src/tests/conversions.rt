@@ -89,7 +89,7 @@ fn conversions_of_iso_weeks(rt: HostRuntime) -> Result<(), Fail> {
     for (century, last_two, week, weekday, seen) in [
         (20, 20, 53, 5, Ok((2021, 1, 2))),
         (20, 21, 53, 0, Err(out_for_others("week"))),
-        (99, 99, 52, 5, Err(out_for_others("weekday"))),
+        (9999, 99, 52, 5, Err(out_for_others("weekday"))),
     ] {
         let parsed = record_of(&[
             (Field::IsoYearCentury, century),
@@ -131,8 +131,8 @@ fn conversions_of_centuries(rt: HostRuntime) -> Result<(), Fail> {
     for (century, is_negative, last_two, year) in [
         (0, true, 5, -5),
         (0, false, 5, 5),
-        (-99, true, 99, -9999),
-        (99, false, 99, 9999),
+        (-9999, true, 99, -999_999),
+        (9999, false, 99, 999_999),
     ] {
         let parsed = century_day(century, is_negative, last_two).ok_or("refused")?;
         assert!(rt; dated(parsed) == Ok((year, 1, 1)), "{year}");
@@ -246,7 +246,7 @@ fn stamped(parsed: Parsed) -> Result<i128, TryFromParsed> {
 
 // A record of the first midnight, at an offset of whole hours where one is given.
 fn first_midnight(offset: Option<i128>) -> Option<Parsed> {
-    let year = (Field::Year, -9999);
+    let year = (Field::Year, -999_999);
     let ordinal = (Field::Ordinal, 1);
     let hour = (Field::Hour24, 0);
     match offset {
@@ -275,7 +275,7 @@ fn conversions_of_moments_in_utc(rt: HostRuntime) -> Result<(), Fail> {
     assert!(rt; OffsetDateTime::try_from(utc) == Err(UNKNOWN));
     assert!(rt; UtcDateTime::try_from(utc) == Ok(UtcDateTime::new(Date::MIN, midnight)));
     let west = first_midnight(Some(-1)).ok_or("refused")?;
-    assert!(rt; stamped(west) == Ok(-377_705_113_200_000_000_000));
+    assert!(rt; stamped(west) == Ok(-31_619_087_593_200_000_000_000));
     Ok(())
 }
 

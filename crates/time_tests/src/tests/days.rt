@@ -1,4 +1,4 @@
-//! Each day of 400 years, against a count from day to day.
+//! Each day of 400 years here and there, against a count from day to day.
 use std::num::NonZero;
 use std::process::Abort;
 use std::test::Fail;
@@ -24,7 +24,7 @@ const NANOS_PER_DAY: i128 = 86_400_000_000_000;
 
 impl Counted {
     // 1 January 1900, a Monday, which is 25,567 days before 1 January 1970.
-    const START: Counted = Counted {
+    const IN_1900: Counted = Counted {
         year: 1900,
         month: 1,
         day: 1,
@@ -35,6 +35,35 @@ impl Counted {
         iso_year: 1900,
         iso_week: 1,
         nanos: -25_567 * NANOS_PER_DAY,
+    };
+
+    // 1 January -999999, a Monday, 365,961,662 days before.
+    const FIRST: Counted = Counted {
+        year: -999_999,
+        iso_year: -999_999,
+        nanos: -365_961_662 * NANOS_PER_DAY,
+        ..Counted::IN_1900
+    };
+
+    // 1 January -200, a Wednesday, 792,576 days before.
+    const BEFORE_0: Counted = Counted {
+        year: -200,
+        weekday: 2,
+        monday_week: 0,
+        iso_year: -200,
+        nanos: -792_576 * NANOS_PER_DAY,
+        ..Counted::IN_1900
+    };
+
+    // 1 January 999600, a Saturday, 364,376,875 days after.
+    const IN_999600: Counted = Counted {
+        year: 999_600,
+        weekday: 5,
+        monday_week: 0,
+        iso_year: 999_599,
+        iso_week: 52,
+        nanos: 364_376_875 * NANOS_PER_DAY,
+        ..Counted::IN_1900
     };
 
     fn days_in_month(&self) -> u8 {
@@ -113,18 +142,44 @@ fn agree(rt: &impl Abort, counted: &Counted, date: Date) -> Result<(), Component
     Ok(())
 }
 
-#[test]
-fn days_of_400_years(rt: HostRuntime) -> Result<(), Fail> {
-    let mut counted = Counted::START;
-    for _ in 0..146_097 {
+// The getters agree with the count on so many days, behind which a year begins on a weekday.
+fn agree_on_days(
+    rt: &impl Abort,
+    start: Counted,
+    days: u32,
+    year: i32,
+    weekday: u8,
+) -> Result<(), Fail> {
+    let mut counted = start;
+    for _ in 0..days {
         let month = Month::from_number(NonZero::<u8>::new(counted.month).ok_or("zero")?)?;
         let date = Date::from_calendar_date(counted.year, month, counted.day)?;
-        agree(&rt, &counted, date)?;
+        agree(rt, &counted, date)?;
         counted.step();
     }
-    assert!(rt; counted.year == 2300);
+    assert!(rt; counted.year == year);
     assert!(rt; counted.month == 1);
     assert!(rt; counted.day == 1);
-    assert!(rt; counted.weekday == 0);
+    assert!(rt; counted.weekday == weekday);
     Ok(())
+}
+
+#[test]
+fn days_of_400_years(rt: HostRuntime) -> Result<(), Fail> {
+    agree_on_days(&rt, Counted::IN_1900, 146_097, 2300, 0)
+}
+
+#[test]
+fn days_of_the_first_400_years(rt: HostRuntime) -> Result<(), Fail> {
+    agree_on_days(&rt, Counted::FIRST, 146_097, -999_599, 0)
+}
+
+#[test]
+fn days_around_the_year_0(rt: HostRuntime) -> Result<(), Fail> {
+    agree_on_days(&rt, Counted::BEFORE_0, 146_462, 201, 3)
+}
+
+#[test]
+fn days_of_the_last_400_years(rt: HostRuntime) -> Result<(), Fail> {
+    agree_on_days(&rt, Counted::IN_999600, 146_097, 1_000_000, 5)
 }

@@ -245,13 +245,9 @@ fn components_refused(rt: HostRuntime) {
         (padded!(WeekNumberIso, Zero), "00", "week number"),
         (padded!(WeekNumberSunday, Zero), "54", "week number"),
         (padded!(WeekNumberMonday, Zero), "54", "week number"),
-        (
-            signed!(CalendarYearFullExtendedRange, Zero),
-            "+012345",
-            "year",
-        ),
+        (signed!(CalendarYearFullExtendedRange, Zero), "+202", "year"),
         (signed!(CalendarYearFullStandardRange, Zero), "202", "year"),
-        (signed!(IsoYearFullExtendedRange, Zero), "-010000", "year"),
+        (signed!(IsoYearFullExtendedRange, Zero), "-010", "year"),
         (signed!(IsoYearFullStandardRange, Zero), "+202", "year"),
         (
             signed!(CalendarYearCenturyStandardRange, Zero),
@@ -260,10 +256,10 @@ fn components_refused(rt: HostRuntime) {
         ),
         (
             signed!(CalendarYearCenturyExtendedRange, Zero),
-            "+0100",
+            "+1",
             "year",
         ),
-        (signed!(IsoYearCenturyExtendedRange, Zero), "-0100", "year"),
+        (signed!(IsoYearCenturyExtendedRange, Zero), "-1", "year"),
         (signed!(IsoYearCenturyStandardRange, Zero), "x", "year"),
         (padded!(CalendarYearLastTwo, Zero), "1", "year"),
         (padded!(IsoYearLastTwo, Zero), "1", "year"),
@@ -279,22 +275,22 @@ fn components_refused(rt: HostRuntime) {
         (padded!(OffsetSecond, Zero), "60", "offset second"),
         (
             timestamp!(UnixTimestampSecond),
-            "253402300800",
+            "31494784780800",
             "unix_timestamp",
         ),
         (
             timestamp!(UnixTimestampMillisecond),
-            "253402300800000",
+            "31494784780800000",
             "unix_timestamp",
         ),
         (
             timestamp!(UnixTimestampMicrosecond),
-            "253402300800000000",
+            "31494784780800000000",
             "unix_timestamp",
         ),
         (
             timestamp!(UnixTimestampNanosecond),
-            "253402300800000000000",
+            "31494784780800000000000",
             "unix_timestamp",
         ),
     ] {

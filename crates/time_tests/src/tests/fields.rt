@@ -35,11 +35,11 @@ pub(crate) enum Field {
 
 // Each option, with the least and the greatest number that it takes.
 pub(crate) const RANGES: [(Field, i128, i128); 25] = [
-    (Field::Year, -9_999, 9_999),
-    (Field::YearCentury, -99, 99),
+    (Field::Year, -999_999, 999_999),
+    (Field::YearCentury, -9_999, 9_999),
     (Field::YearLastTwo, 0, 99),
-    (Field::IsoYear, -9_999, 9_999),
-    (Field::IsoYearCentury, -99, 99),
+    (Field::IsoYear, -999_999, 999_999),
+    (Field::IsoYearCentury, -9_999, 9_999),
     (Field::IsoYearLastTwo, 0, 99),
     (Field::Month, 1, 12),
     (Field::SundayWeekNumber, 0, 53),
@@ -61,8 +61,8 @@ pub(crate) const RANGES: [(Field, i128, i128); 25] = [
     (Field::OffsetSecondSigned, -59, 59),
     (
         Field::UnixTimestampNanos,
-        -377_705_116_800_000_000_000,
-        253_402_300_799_999_999_999,
+        -31_619_087_596_800_000_000_000,
+        31_494_784_780_799_999_999_999,
     ),
 ];
 

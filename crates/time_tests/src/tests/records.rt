@@ -30,7 +30,7 @@ fn digits_and_record(rt: HostRuntime) -> Result<(), Fail> {
     assert!(rt; Parsed::new().with_ordinal(past).is_none());
     assert!(rt;
         Parsed::new()
-            .with_unix_timestamp_nanos(253402300800000000000)
+            .with_unix_timestamp_nanos(31494784780800000000000)
             .is_none()
     );
     Ok(())
@@ -84,10 +84,10 @@ fn iso_century_sign(century: i16, is_negative: bool) -> Option<bool> {
 #[test]
 fn signs_of_centuries(rt: HostRuntime) {
     for (century, sign, is_negative) in [
-        (-99, false, true),
+        (-9999, false, true),
         (0, false, false),
         (0, true, true),
-        (99, true, false),
+        (9999, true, false),
     ] {
         assert!(rt; century_sign(century, sign) == Some(is_negative));
         assert!(rt; iso_century_sign(century, sign) == Some(is_negative));

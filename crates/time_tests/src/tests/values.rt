@@ -60,8 +60,8 @@ fn months_in_leap_years(rt: HostRuntime) {
 #[test]
 fn calendar_dates(rt: HostRuntime) -> Result<(), Fail> {
     for (year, month, day) in [
-        (-9999, Month::January, 1),
-        (9999, Month::December, 31),
+        (-999_999, Month::January, 1),
+        (999_999, Month::December, 31),
         (2020, Month::February, 29),
         (0, Month::February, 29),
         (2021, Month::April, 30),
@@ -72,8 +72,8 @@ fn calendar_dates(rt: HostRuntime) -> Result<(), Fail> {
         assert_eq!(rt; date.day(), day);
     }
     for (year, month, day, refusal) in [
-        (-10000, Month::January, 1, out("year")),
-        (10000, Month::January, 32, out("year")),
+        (-1_000_000, Month::January, 1, out("year")),
+        (1_000_000, Month::January, 32, out("year")),
         (2021, Month::February, 29, out_for_others("day")),
         (1900, Month::February, 29, out_for_others("day")),
         (2021, Month::April, 31, out_for_others("day")),
@@ -82,8 +82,8 @@ fn calendar_dates(rt: HostRuntime) -> Result<(), Fail> {
     ] {
         assert!(rt; Date::from_calendar_date(year, month, day) == Err(refusal));
     }
-    assert!(rt; Date::MIN == Date::from_calendar_date(-9999, Month::January, 1)?);
-    assert!(rt; Date::MAX == Date::from_calendar_date(9999, Month::December, 31)?);
+    assert!(rt; Date::MIN == Date::from_calendar_date(-999_999, Month::January, 1)?);
+    assert!(rt; Date::MAX == Date::from_calendar_date(999_999, Month::December, 31)?);
     assert!(rt; Date::MIN.weekday() == Weekday::Monday);
     assert!(rt; Date::MAX.weekday() == Weekday::Friday);
     Ok(())
@@ -92,8 +92,8 @@ fn calendar_dates(rt: HostRuntime) -> Result<(), Fail> {
 #[test]
 fn ordinal_dates(rt: HostRuntime) -> Result<(), Fail> {
     for (year, ordinal, month, day) in [
-        (-9999, 1, Month::January, 1),
-        (9999, 365, Month::December, 31),
+        (-999_999, 1, Month::January, 1),
+        (999_999, 365, Month::December, 31),
         (2020, 366, Month::December, 31),
         (2020, 60, Month::February, 29),
         (2021, 60, Month::March, 1),
@@ -105,8 +105,8 @@ fn ordinal_dates(rt: HostRuntime) -> Result<(), Fail> {
         assert_eq!(rt; date.ordinal(), ordinal);
     }
     for (year, ordinal, refusal) in [
-        (-10000, 1, out("year")),
-        (10000, 0, out("year")),
+        (-1_000_000, 1, out("year")),
+        (1_000_000, 0, out("year")),
         (2021, 0, out_for_others("ordinal")),
         (2021, 366, out_for_others("ordinal")),
         (2020, 367, out_for_others("ordinal")),
@@ -129,21 +129,21 @@ fn iso_week_dates(rt: HostRuntime) -> Result<(), Fail> {
     assert!(rt; is_in_week(saturday, 2020, 53, Weekday::Saturday));
     let monday = Date::from_calendar_date(2018, Month::December, 31)?;
     assert!(rt; is_in_week(monday, 2019, 1, Weekday::Monday));
-    assert!(rt; is_in_week(Date::MIN, -9999, 1, Weekday::Monday));
-    assert!(rt; is_in_week(Date::MAX, 9999, 52, Weekday::Friday));
+    assert!(rt; is_in_week(Date::MIN, -999_999, 1, Weekday::Monday));
+    assert!(rt; is_in_week(Date::MAX, 999_999, 52, Weekday::Friday));
     Ok(())
 }
 
 #[test]
 fn iso_week_dates_refused(rt: HostRuntime) {
     for (year, week, weekday, refusal) in [
-        (-10000, 1, Weekday::Monday, out("year")),
-        (10000, 0, Weekday::Monday, out("year")),
+        (-1_000_000, 1, Weekday::Monday, out("year")),
+        (1_000_000, 0, Weekday::Monday, out("year")),
         (2021, 0, Weekday::Monday, out_for_others("week")),
         (2021, 53, Weekday::Monday, out_for_others("week")),
         (2020, 54, Weekday::Monday, out_for_others("week")),
-        (9999, 53, Weekday::Monday, out_for_others("week")),
-        (9999, 52, Weekday::Saturday, out_for_others("weekday")),
+        (999_999, 53, Weekday::Monday, out_for_others("week")),
+        (999_999, 52, Weekday::Saturday, out_for_others("weekday")),
     ] {
         assert!(rt; Date::from_iso_week_date(year, week, weekday) == Err(refusal));
     }
@@ -211,9 +211,9 @@ fn offsets_refused(rt: HostRuntime) {
     }
 }
 
-const FIRST: i128 = -377_705_116_800_000_000_000;
+const FIRST: i128 = -31_619_087_596_800_000_000_000;
 
-const LAST: i128 = 253_402_300_799_999_999_999;
+const LAST: i128 = 31_494_784_780_799_999_999_999;
 
 fn midnight() -> Result<Time, ComponentRange> {
     Time::from_hms_nano(0, 0, 0, 0)

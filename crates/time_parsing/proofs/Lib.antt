@@ -6,3 +6,5 @@ pub mod TreeLemmas
 pub mod WholeCharacters
 pub mod CanonicalForm
 pub mod ReadBack
+pub mod KeptReadings
+pub mod KeptIsoTexts

@@ -248,7 +248,8 @@ record-value bytes v (r, (n, form, put), moment) =
       formed.0,
       refl,
       resolves-made (recorded n) n.month (said_rfc2822 n) v (tells n (HasForm-zone true bytes [] n form))
-          (omega (arith, places.year)) (month_named n.month) (subst (λ (x : Record). IsMoment greatest_year x (Ok v)) same moment),
+          (omega (arith, places.year)) (month_named n.month)
+          (subst (λ (x : Record). IsMoment greatest_year x (Ok v)) same moment),
     )
 
 -- the direct path's answer is the outcome of a parse

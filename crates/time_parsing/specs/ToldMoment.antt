@@ -236,8 +236,12 @@ dated-accepted s m d year month named parts =
     let high : s.day ≤ month_length (pos s.year) s.month =
     subst (λ n. n ≤ month_length (pos s.year) s.month) parts.2
     (subst (λ n. d.day ≤ n) (sym length) d.day_in.1) in
-    rw (named, le-leb s.year greatest_year year, le-leb 1 s.day low, le-leb s.day (month_length (pos s.year) s.month) high)
-    refl
+    rw (
+      named,
+      le-leb s.year greatest_year year,
+      le-leb 1 s.day low,
+      le-leb s.day (month_length (pos s.year) s.month) high,
+    ) refl
 
 -- the parts of a moment of the record are those that are said
 by_parts : (r : Record) (m : Month) (s : Said) (v : OffsetDateTime) → Tells r m s → s.year ≤ greatest_year

@@ -3,6 +3,8 @@ ghost use Rattle.time_values.specs.Range.{greatest_year};
 ghost use Rattle.time_record.specs.Resolution.{IsDated, IsTimed, IsOffset, IsPlain, IsUtcMoment, IsMoment, IsTimestamp};
 ghost use Rattle.time_readers.specs.Direct.{IsDirectRfc3339, IsDirectRfc2822, RefusesRfc3339};
 ghost use Rattle.time_parsing.specs.Canonical.{ReadsBack};
+ghost use Rattle.time_parsing.specs.Iso8601 as Iso8601;
+ghost use Rattle.time_parsing.specs.KeptReadings.{KeepsReadings, KeepsRecords, KeepsTexts};
 ghost use Rattle.time_parsing.specs.Outcome.{OneOutcome, OneMomentOutcome, SameMoments, direct};
 ghost use Rattle.time_parsing.specs.Rfc2822 as Rfc2822;
 ghost use Rattle.time_parsing.specs.Rfc3339 as Rfc3339;
@@ -76,4 +78,19 @@ pub fn law_suffix()
 pub fn law_read_back()
     ensures { ReadsBack greatest_year (direct (RefusesRfc3339 greatest_year)) (Rfc3339.Reads greatest_year)
         (Rfc3339.Refuses greatest_year) }
+{}
+
+/// Where years ran from -9999 to 9999 nothing was read otherwise. Each reading by a description in which nothing is
+/// optional and nothing is chosen stays one, with the same rest and record; so does each text that
+/// [`Rfc3339`](crate::Rfc3339), [`Rfc2822`](crate::Rfc2822) or [`Iso8601`](crate::Iso8601) reads whole, and each
+/// record of that range.
+///
+/// A choice may read otherwise: of the text `+012345`, the first of an extended year and the literal `+012345` was the
+/// literal, and is the year.
+pub fn law_kept_readings()
+    ensures readings { KeepsReadings 9999 greatest_year }
+    ensures rfc3339 { KeepsTexts (Rfc3339.Reads 9999) (Rfc3339.Reads greatest_year) }
+    ensures rfc2822 { KeepsTexts (Rfc2822.Reads 9999) (Rfc2822.Reads greatest_year) }
+    ensures iso8601 { KeepsTexts (Iso8601.Reads 9999) (Iso8601.Reads greatest_year) }
+    ensures records { KeepsRecords 9999 greatest_year }
 {}

@@ -3,7 +3,7 @@ pub mod EachValue
 pub mod ExactRuns
 pub mod Fractions
 pub mod FrontPlaces
-mod IsoCuts
+pub mod IsoCuts
 pub mod IsoFractions
 pub mod IsoPieces
 mod IsoRows

@@ -1,10 +1,10 @@
 -- Runs of digits under a padding.
-use Rattle.std.proofs.Common.{◌≡◌, ℕ, zero, suc, ◌+◌, ◌-◌, ◌^◌, ◌<◌, ◌≤◌, ◌⊎◌, List, ◌∷◌, ◌++◌, replicate, refl, ap, sym, ◌∙◌, inl, inr, arith, subst, append_assoc, Option, Some, None}
+use Rattle.std.proofs.Common.{◌≡◌, ℕ, zero, suc, ◌+◌, ◌-◌, ◌^◌, ◌<◌, ◌≤◌, ◌⊎◌, List, [], ◌∷◌, ◌++◌, length, replicate, refl, ap, sym, ◌∙◌, inl, inr, arith, subst, append_assoc, Option, Some, None}
 use Rattle.time_readers.specs.declared.Padding.{Padding}
 use Rattle.time_readers.specs.declared.Padding.TheVariants as padding
 use Rattle.time_readers.specs.declared.ParsedItem.{ParsedItem}
 use Rattle.time_readers.specs.Cuts.{Cut, NoCut, Finds}
-use Rattle.time_readers.specs.Digits.{NoSpaceFirst, IsDigitRun, IsSpacedRun, IsPaddedRun, IsDigitRunUpTo, IsPaddedRunUpTo}
+use Rattle.time_readers.specs.Digits.{AllDigits, NoSpaceFirst, IsDigitRun, IsSpacedRun, IsPaddedRun, IsDigitRunUpTo, IsPaddedRunUpTo}
 use Rattle.time_readers.proofs.CutLemmas.{IsUnique}
 use Rattle.time_readers.proofs.Runs.{IsDigitRun-unique, IsDigitRun-one, IsDigitRun-below, pow-mono}
 
@@ -85,6 +85,37 @@ pub IsPaddedRun-unique : (padding : Padding) (least most : ℕ) → IsUnique (Is
 IsPaddedRun-unique padding.Space least most = IsSpacedRun-unique least most
 IsPaddedRun-unique padding.Zero least most = IsDigitRun-one least most
 IsPaddedRun-unique padding.None least most = IsDigitRun-one 1 most
+
+no_space_first : (text rest : List ℕ) → 1 ≤ length text → AllDigits text → NoSpaceFirst (text ++ rest)
+no_space_first [] rest long digits = absurd (omega arith)
+no_space_first (c ∷ text) rest long digits = λ e. omega (arith, digits.0.0)
+
+-- as many digits as there are places are a run under each padding
+full_places : (padding : Padding) (places : ℕ) (text rest : List ℕ) (v : ℕ) → 1 ≤ places → IsDigitRun places places text rest v
+    → IsPaddedRun padding places places text rest v
+full_places padding.Zero places text rest v some run = run
+full_places padding.None places text rest v some run = record {
+  digits = run.digits;
+  enough = omega (arith, run.enough);
+  within = run.within;
+  ends = run.ends;
+  is = run.is;
+}
+full_places padding.Space places text rest v some run =
+    let all : places ≡ places - 0 = omega arith in
+    record {
+      spaces = 0;
+      digits = text;
+      cut = refl;
+      few = omega arith;
+      all = inr (no_space_first text rest (omega (arith, run.enough)) run.digits);
+      run = subst (λ n. IsDigitRun n n text rest v) all run;
+    }
+
+pub full_run : (padding : Padding) (least most : ℕ) (text rest : List ℕ) (v : ℕ) → 1 ≤ least → least ≡ most
+    → IsDigitRun least least text rest v → IsPaddedRun padding least most text rest v
+full_run padding least most text rest v some same run =
+    subst (λ n. IsPaddedRun padding least n text rest v) same (full_places padding least text rest v some run)
 
 -- a run of so many places has at most so many values
 pub IsPaddedRun-below : (padding : Padding) (least most : ℕ) (text rest : List ℕ) (v : ℕ) → IsPaddedRun padding least most text rest v → v < 10 ^ most

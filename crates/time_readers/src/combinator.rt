@@ -2,8 +2,8 @@
 //!
 //! Each answers the unread rest and the value exactly where its input begins with such a text, and `None`
 //! otherwise. A run of digits takes as many as it may, and nothing goes back.
-ghost use Rattle.std.specs.Prelude.{◌≡◌, ◌-◌, ◌^◌, ◌<◌, ◌≤◌, ◌⊎◌, ℕ, List, ◌++◌, MatchOption, IsTrue, ◌↔◌, length, take, drop, replicate};
-ghost use Rattle.time_readers.specs.Cuts.{Finds};
+ghost use Rattle.std.specs.Prelude.{◌≡◌, ◌-◌, ◌^◌, ◌<◌, ◌≤◌, ◌⊎◌, ℕ, List, ◌++◌, MatchOption, IfSome, IsTrue, ◌↔◌, length, take, drop, replicate};
+ghost use Rattle.time_readers.specs.Cuts.{Cut, Finds};
 ghost use Rattle.time_readers.specs.Digits.{IsDigit, AllDigits, digits_value, NoDigitFirst, NoSpaceFirst, IsDigitRun, IsDigitRunUpTo, IsPaddedRunUpTo, IsFraction};
 ghost use Rattle.time_readers.specs.Bytes.{IsByte, IsByteIgnoringCase, IsDigitByte, IsSign};
 
@@ -267,6 +267,19 @@ fn without_digits(input: &[u8]) -> &[u8]
         rest = tail;
     }
     rest
+}
+
+// Reads `N` digits, where the first `N` bytes are digits. `None` says nothing.
+#[inline]
+pub(crate) fn full_run<const N: u8, T: Integer>(input: &[u8]) -> Option<ParsedItem<'_, T>>
+    requires { N ≤ T.MAX_NUM_DIGITS }
+    ensures { IfSome result (λ found. Cut (IsDigitRun N N) input.now found.0.now (T.value found.1)) }
+{
+    let (digits, rest) = input.split_at_checked(usize::from(N))?;
+    if leading_digits(digits, usize::from(N)) < usize::from(N) {
+        return None;
+    }
+    Some(ParsedItem(rest, value_of_digits(digits)?))
 }
 
 // The run of digits with which the input begins, if it is long enough and its value fits.

@@ -6,10 +6,11 @@ ghost use Rattle.time_readers.specs.Cuts.{Finds};
 ghost use Rattle.time_readers.specs.Digits.{IsPaddedRun};
 ghost use Rattle.time_readers.specs.Spelling.{Says, SaysYear, SaysCentury, SaysTimestamp, SaysOffsetHour, IsSigned, number, signed, flagged, positive};
 
-use crate::combinator::{n_to_m_digits_padded, sign};
+use crate::combinator::{full_run, n_to_m_digits_padded, sign};
 use crate::{Integer, Padding, ParsedItem, Sign};
 
-// Reads `N` to `M` digits under the padding, where the type holds each number of `M` digits.
+// Reads `N` to `M` digits under the padding, where the type holds each number of `M` digits. Where
+// they are of one number, as many digits are one text under each padding, and are tried first.
 #[inline]
 pub(super) fn run<const N: u8, const M: u8, T: Integer>(
     input: &[u8],
@@ -21,6 +22,11 @@ pub(super) fn run<const N: u8, const M: u8, T: Integer>(
     requires fits { 10 ^ M ≤ T.greatest + 1 }
     ensures { Finds (IsPaddedRun padding N M) T.value input.now result }
 {
+    if N == M {
+        if let Some(found) = full_run::<N, T>(input) {
+            return Some(found);
+        }
+    }
     n_to_m_digits_padded::<N, M, T>(input, padding)
 }
 

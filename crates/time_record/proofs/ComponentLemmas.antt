@@ -1,5 +1,5 @@
 -- What reading a component answers.
-use Rattle.std.proofs.Common.{◌≡◌, ◌≢◌, ℕ, List, ◌++◌, Bool, Option, Some, None, Result, Ok, Err, Bor, true, false, refl, ap, sym, ◌∙◌, subst}
+use Rattle.std.proofs.Common.{◌≡◌, ◌≢◌, ℕ, ◌-◌, ◌≤◌, List, [], ◌∷◌, ◌++◌, length, take, drop, get_or, arith, Bool, Option, Some, None, Result, Ok, Err, Bor, true, false, refl, ap, sym, ◌∙◌, subst}
 use Rattle.time_readers.specs.declared.format_description.Component.{Component}
 use Rattle.time_values.specs.declared.error.ParseFromDescription.{ParseFromDescription}
 use Rattle.time_values.specs.Refusal.{Refusal, literal as of_literal}
@@ -12,6 +12,7 @@ use Rattle.time_record.specs.Answer.{Answers}
 use Rattle.time_record.specs.Components.{component_fault, put_value}
 use Rattle.time_record.specs.Reading.{IsFault, NoReading, Reads, Refuses}
 use Rattle.time_record.specs.Record.{Record, Sets}
+use Rattle.time_readers.proofs.CutLemmas.{first_byte}
 use Rattle.time_readers.proofs.OneSpelling.{Spells-unique}
 
 -- no text that spells
@@ -59,6 +60,15 @@ out_of_range Y w c b r x v q e cut sets is = put_out_of_range Y w c b r x v q e 
 pub reads_literal : (Y : ℕ) (t b : List ℕ) (r : Record) (x : List ℕ) → b ≡ t ++ x → Reads Y (literal t) b r x r
 unfolding Reads
 reads_literal Y t b r x e = (e, refl)
+
+-- a literal of one byte
+pub reads_byte : (Y : ℕ) (t b : List ℕ) (r : Record) → length t ≡ 1 → 1 ≤ length b → get_or t 0 0 ≡ get_or b 0 0 →
+    Reads Y (literal t) b r (take (length b - 1) (drop 1 b)) r
+reads_byte Y [] b r one some same = absurd (omega arith)
+reads_byte Y (c ∷ []) b r one some same =
+    let rest = take (length b - 1) (drop 1 b) in
+    reads_literal Y (c ∷ []) b r rest (first_byte b some ∙ ap (λ d. d ∷ rest) (sym same))
+reads_byte Y (c ∷ d ∷ t) b r one some same = absurd (omega arith)
 
 -- and one that does not
 pub refuses_literal : (Y : ℕ) (t b : List ℕ) (r : Record) → ((x : List ℕ) → b ≢ t ++ x) → Refuses Y (literal t) b r of_literal

@@ -2,7 +2,7 @@
 use Rattle.std.proofs.Common.{◌≡◌, ℕ, ◌+◌, ◌-◌, ◌^◌, ◌<◌, ◌≤◌, List, length, get_or, map, min, refl, sym, subst, inl, inr, arith, Bool}
 use Rattle.time_readers.specs.declared.format_description.Component.{Component}
 use Rattle.time_readers.specs.Tree.{Tree, Trees, literal, component, sequence, optional, first_of, none, more, trees}
-use Rattle.time_record.specs.Count.{places, places_of_all, Begins, BeginsAll, BeginsFirst, raised, Rises, Counts, CountsAll, CountsFirst}
+use Rattle.time_record.specs.Count.{places, places_of_all, Begins, BeginsAll, BeginsFirst, IsLeaf, raised, Rises, Counts, CountsAll, CountsFirst}
 use Rattle.time_record.specs.Reading.{Reads, NoReading}
 use Rattle.time_record.specs.Record.{Record}
 use Rattle.time_record.proofs.Steps.{trees_from, trees_from-item, trees_from-end}
@@ -40,6 +40,11 @@ module _ (Y : ℕ) (b : List ℕ) (r : Record) (old new : ℕ) (is : new ≡ rai
   pub Counts-component : (w : Bool) (c : Component) → Counts Y (component w c) b r old new
   unfolding Begins
   Counts-component w c = record { begun = 1; begins = refl; within = omega arith; rises = is }
+
+  pub Counts-leaf : (t : Tree) → IsLeaf t → Counts Y t b r old new
+  Counts-leaf (literal text) leaf = Counts-literal text
+  Counts-leaf (component w c) leaf = Counts-component w c
+  Counts-leaf t leaf = absurd leaf
 
 -- an item with what is inside it
 module _ (Y : ℕ) (b : List ℕ) (r : Record) (old mid new : ℕ) (is : mid ≡ raised old 1) where

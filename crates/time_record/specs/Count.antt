@@ -40,6 +40,12 @@ unfoldable mutual
       (k : ℕ) × Begins Y t bytes r k × (((mid : List ℕ) × (q : Record) × Reads Y t bytes r mid q × (n ≡ k))
       ⊎ (NoReading Y t bytes r × (m : ℕ) × BeginsFirst Y ts bytes r m × (n ≡ k + m)))
 
+-- a literal or a component, which has nothing inside it
+abbrev pub IsLeaf : Tree → Type 0
+IsLeaf (literal t) = Unit {0}
+IsLeaf (component whole c) = Unit {0}
+IsLeaf t = ⊥
+
 -- a count and so many more, where it doesn't pass the greatest number of 64 bits
 abbrev pub raised : ℕ → ℕ → ℕ
 raised old n = old + min n (2 ^ 64 - 1 - old)

@@ -7,7 +7,7 @@ ghost use Rattle.time_values.specs.Range.{greatest_year};
 ghost use Rattle.time_readers.specs.declared.format_description.Component.{Component};
 ghost use Rattle.time_readers.specs.Tree as tree;
 ghost use Rattle.time_readers.specs.Tree.{Tree, Trees};
-ghost use Rattle.time_record.specs.Count.{Counts, CountsAll, CountsFirst};
+ghost use Rattle.time_record.specs.Count.{Counts, CountsAll, CountsFirst, IsLeaf};
 ghost use Rattle.time_record.specs.Record.{Record};
 
 use std::marker::Model;
@@ -47,6 +47,7 @@ impl Tries {
         ensures literal { (text bytes : List ℕ) (r : Record) → Counts greatest_year (tree.literal text) bytes r self.old self.new }
         ensures component { (whole : Bool) (c : Component) (bytes : List ℕ) (r : Record) →
             Counts greatest_year (tree.component whole c) bytes r self.old self.new }
+        ensures leaf { (t : Tree) (bytes : List ℕ) (r : Record) → IsLeaf t → Counts greatest_year t bytes r self.old self.new }
         ensures sequence { (ts : Trees) (bytes : List ℕ) (r : Record) (after : ℕ) →
             CountsAll greatest_year ts bytes r self.new after → Counts greatest_year (tree.sequence ts) bytes r self.old after }
         ensures optional { (t : Tree) (bytes : List ℕ) (r : Record) (after : ℕ) →

@@ -13,7 +13,7 @@ ghost use Rattle.time_readers.specs.Spelling.{Spells, Value, flagged};
 ghost use Rattle.time_readers.specs.declared.format_description.Component.{Component};
 ghost use Rattle.time_readers.specs.declared.format_description.Component.TheVariants as component;
 ghost use Rattle.time_readers.specs.Tree as tree;
-ghost use Rattle.time_record.specs.Answer.{Answers};
+ghost use Rattle.time_record.specs.Answer.{Answers, MayRead};
 ghost use Rattle.time_record.specs.Components.{component_fault, put_offset_hour, put_value};
 ghost use Rattle.time_record.specs.Record.{Sets};
 
@@ -98,7 +98,41 @@ impl Parsed {
         }
     }
 
+    // Reads one of the commonest components, and puts its value. `None` says nothing, and nothing
+    // changed.
+    #[inline]
+    pub(crate) fn read_common<'a>(
+        &mut self,
+        input: &'a [u8],
+        component: Component,
+    ) -> Option<&'a [u8]>
+        ensures { MayRead greatest_year (tree.component false component) input.now self.old result self.new }
+    {
+        match component {
+            Component::CalendarYearFullStandardRange(modifiers) => self.try_read(input, modifiers),
+            Component::MonthNumerical(modifiers) => self.try_read(input, modifiers),
+            Component::Day(modifiers) => self.try_read(input, modifiers),
+            Component::Hour24(modifiers) => self.try_read(input, modifiers),
+            Component::Minute(modifiers) => self.try_read(input, modifiers),
+            Component::Second(modifiers) => self.try_read(input, modifiers),
+            Component::OffsetHour(modifiers) => self.try_read(input, modifiers),
+            Component::OffsetMinute(modifiers) => self.try_read(input, modifiers),
+            _ => None,
+        }
+    }
+
     // The same, by the component's modifiers.
+    #[inline(always)]
+    fn try_read<'a, P: Part>(&mut self, input: &'a [u8], part: P) -> Option<&'a [u8]>
+        ensures { MayRead greatest_year (tree.component false (P.component part))
+            input.now self.old result self.new }
+    {
+        let found = part.parse(input)?;
+        part.put(self, found.1)?;
+        Some(found.0)
+    }
+
+    // Reads a component by its modifiers, and puts its value.
     #[inline]
     fn read<'a, P: Part>(
         &mut self,

@@ -4,7 +4,7 @@ ghost use Rattle.time_values.specs.Range.{greatest_year};
 ghost use Rattle.time_readers.specs.Shape.{v3_shape};
 ghost use Rattle.time_readers.specs.Spelling.{BeginsCharacter};
 ghost use Rattle.time_readers.specs.Tree as tree;
-ghost use Rattle.time_record.specs.Answer.{Answers};
+ghost use Rattle.time_record.specs.Answer.{Answers, MayRead};
 ghost use Rattle.time_record.specs.Count.{CountsAll};
 ghost use Rattle.time_record.specs.Record.{Record};
 
@@ -88,6 +88,20 @@ impl Parsed {
         match input.strip_prefix(literal) {
             Some(rest) => Ok(rest),
             None => Err(ParseFromDescription::InvalidLiteral),
+        }
+    }
+
+    // Reads a literal of one byte. `None` says nothing.
+    #[inline(always)]
+    pub(crate) fn read_byte<'a>(input: &'a [u8], literal: &[u8]) -> Option<&'a [u8]>
+        ensures { (r : Record) → MayRead greatest_year (tree.literal literal.now) input.now r result r }
+    {
+        let [byte] = literal else {
+            return None;
+        };
+        match input {
+            [first, rest @ ..] if *first == *byte => Some(rest),
+            _ => None,
         }
     }
 

@@ -1,5 +1,5 @@
 use Rattle.std.proofs.Common.{arith}
-use Rattle.time_record.proofs.Counting.{Counts-literal, Counts-component, Counts-sequence, Counts-optional, Counts-first_of}
+use Rattle.time_record.proofs.Counting.{Counts-literal, Counts-component, Counts-leaf, Counts-sequence, Counts-optional, Counts-first_of}
 use Rattle.time_record.proofs.tries.Tries.begin.Goals as goal
 
 pub returns-clause-literal : goal.returns-clause-literal
@@ -7,6 +7,9 @@ returns-clause-literal c = λ text b r. Counts-literal _ b r _ _ (omega arith) t
 
 pub returns-clause-component : goal.returns-clause-component
 returns-clause-component c = λ w item b r. Counts-component _ b r _ _ (omega arith) w item
+
+pub returns-clause-leaf : goal.returns-clause-leaf
+returns-clause-leaf c = λ t b r leaf. Counts-leaf _ b r _ _ (omega arith) t leaf
 
 pub returns-clause-sequence : goal.returns-clause-sequence
 returns-clause-sequence c = λ ts b r after. Counts-sequence _ b r _ _ after (omega arith) ts

@@ -11,7 +11,7 @@ use crate::{Integer, Padding, ParsedItem, Sign};
 
 // Reads `N` to `M` digits under the padding, where the type holds each number of `M` digits. Where
 // they are of one number, as many digits are one text under each padding, and are tried first.
-#[inline]
+#[inline(always)]
 pub(super) fn run<const N: u8, const M: u8, T: Integer>(
     input: &[u8],
     padding: Padding,
@@ -72,8 +72,27 @@ fn sign_and_run<const N: u8, const M: u8, const A: u8, const B: u8, T: Integer>(
 }
 
 // Reads a year: four digits, or a sign and four to `MOST` digits.
-#[inline]
+#[inline(always)]
 pub(super) fn full_year<const MOST: u8>(
+    input: &[u8],
+    padding: Padding,
+    sign_is_mandatory: bool,
+) -> Option<ParsedItem<'_, i32>>
+    requires least { 4 ≤ MOST }
+    requires most { MOST ≤ 6 }
+    ensures { Finds (SaysYear sign_is_mandatory padding MOST) signed input.now result }
+{
+    if !sign_is_mandatory {
+        if let Some(year) = full_run::<4, u32>(input) {
+            return Some(ParsedItem(year.0, signed_year(Sign::Positive, year.1)));
+        }
+    }
+    any_full_year::<MOST>(input, padding, sign_is_mandatory)
+}
+
+// The same, where it isn't four digits alone.
+#[inline]
+fn any_full_year<const MOST: u8>(
     input: &[u8],
     padding: Padding,
     sign_is_mandatory: bool,
@@ -130,8 +149,25 @@ pub(super) fn timestamp<const MOST: u8>(
 }
 
 // Reads the hours of an offset. The bool says whether the sign is a minus.
-#[inline]
+#[inline(always)]
 pub(super) fn offset_hour(
+    input: &[u8],
+    padding: Padding,
+    sign_is_mandatory: bool,
+) -> Option<ParsedItem<'_, (i8, bool)>>
+    ensures { Finds (SaysOffsetHour sign_is_mandatory padding) (λ v. flagged v.0 v.1) input.now result }
+{
+    if let Some(sign) = sign(input) {
+        if let Some(hour) = full_run::<2, u8>(sign.0) {
+            return Some(ParsedItem(hour.0, signed_hour(sign.1, hour.1)));
+        }
+    }
+    any_offset_hour(input, padding, sign_is_mandatory)
+}
+
+// The same, where it isn't a sign and two digits.
+#[inline]
+fn any_offset_hour(
     input: &[u8],
     padding: Padding,
     sign_is_mandatory: bool,

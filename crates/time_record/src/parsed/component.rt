@@ -100,7 +100,7 @@ impl Parsed {
 
     // Reads one of the commonest components, and puts its value. `None` says nothing, and nothing
     // changed.
-    #[inline]
+    #[inline(always)]
     pub(crate) fn read_common<'a>(
         &mut self,
         input: &'a [u8],
@@ -112,9 +112,13 @@ impl Parsed {
             Component::CalendarYearFullStandardRange(modifiers) => self.try_read(input, modifiers),
             Component::MonthNumerical(modifiers) => self.try_read(input, modifiers),
             Component::Day(modifiers) => self.try_read(input, modifiers),
+            Component::Ordinal(modifiers) => self.try_read(input, modifiers),
+            Component::Hour12(modifiers) => self.try_read(input, modifiers),
             Component::Hour24(modifiers) => self.try_read(input, modifiers),
             Component::Minute(modifiers) => self.try_read(input, modifiers),
+            Component::Period(modifiers) => self.try_read(input, modifiers),
             Component::Second(modifiers) => self.try_read(input, modifiers),
+            Component::Subsecond(modifiers) => self.try_read(input, modifiers),
             Component::OffsetHour(modifiers) => self.try_read(input, modifiers),
             Component::OffsetMinute(modifiers) => self.try_read(input, modifiers),
             _ => None,

@@ -45,6 +45,7 @@ impl Parsable for BorrowedFormatItem<'_> {
         read_item(self, input, parsed)
     }
 
+    #[inline(always)]
     fn parse_offset_date_time(
         &self,
         input: &[u8],
@@ -69,6 +70,7 @@ impl Parsable for OwnedFormatItem {
         read_item(self, input, parsed)
     }
 
+    #[inline(always)]
     fn parse_offset_date_time(
         &self,
         input: &[u8],
@@ -96,6 +98,7 @@ impl Parsable for FormatDescriptionV3<'_> {
         }
     }
 
+    #[inline(always)]
     fn parse_offset_date_time(
         &self,
         input: &[u8],
@@ -123,6 +126,7 @@ impl<'i, I: AnyFormatItem> Parsable for Items<'i, I> {
         }
     }
 
+    #[inline(always)]
     fn parse_offset_date_time(
         &self,
         input: &[u8],

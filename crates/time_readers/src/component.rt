@@ -432,7 +432,7 @@ pub fn parse_subsecond(input: &[u8], modifiers: modifier::Subsecond) -> Option<P
 /// Reads the hours of an offset from UTC, in two places, with or without a sign. The bool says
 /// whether the sign is a minus. `None` where no such text stands, also where a mandatory sign is
 /// missing.
-#[inline]
+#[inline(always)]
 pub fn parse_offset_hour(
     input: &[u8],
     modifiers: modifier::OffsetHour,

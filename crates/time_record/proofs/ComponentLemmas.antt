@@ -8,7 +8,7 @@ use Rattle.time_readers.specs.declared.modifier.Ignore.{Ignore as Ignore'}
 use Rattle.time_readers.specs.Cuts.{Cut, NoCut}
 use Rattle.time_readers.specs.Spelling.{Value, nothing, BeginsCharacter, Spells}
 use Rattle.time_readers.specs.Tree.{component, literal}
-use Rattle.time_record.specs.Answer.{Answers}
+use Rattle.time_record.specs.Answer.{Answers, MayRead}
 use Rattle.time_record.specs.Components.{component_fault, put_value}
 use Rattle.time_record.specs.Reading.{IsFault, NoReading, Reads, Refuses}
 use Rattle.time_record.specs.Record.{Record, Sets}
@@ -91,18 +91,29 @@ Spells-whole : (c : Component) → ((m : Ignore') → c ≢ Ignore m) → (text 
 Spells-whole (Ignore m) n text rest v s = absurd (n m refl)
 Spells-whole c n text rest v s = s
 
--- any component but an `Ignore` answers the same between characters
+-- any component but an `Ignore` reads the same between characters
+Reads-whole : (Y : ℕ) (c : Component) (b : List ℕ) (r : Record) (x : List ℕ) (q : Record) → ((m : Ignore') → c ≢ Ignore m) →
+    Reads Y (component false c) b r x q → Reads Y (component true c) b r x q
+unfolding Reads
+Reads-whole Y c b r x q n h = record {
+  text = h.text;
+  value = h.value;
+  cut = h.cut;
+  spells = Spells-whole c n h.text x h.value h.spells;
+  puts = h.puts;
+}
+
+pub MayRead-whole : (Y : ℕ) (c : Component) (b : List ℕ) (r : Record) (result : Option (Bor (List ℕ))) (q : Record) →
+    ((m : Ignore') → c ≢ Ignore m) → MayRead Y (component false c) b r result q → MayRead Y (component true c) b r result q
+MayRead-whole Y c b r (Some rest) q n h = Reads-whole Y c b r rest.now q n h
+MayRead-whole Y c b r None q n h = h
+
+-- and answers the same
 pub Answers-whole : (Y : ℕ) (c : Component) (b : List ℕ) (r : Record) (result : Result (Bor (List ℕ)) ParseFromDescription)
     (q : Record) → ((m : Ignore') → c ≢ Ignore m) → Answers Y (component false c) b r result q →
     Answers Y (component true c) b r result q
 unfolding Reads IsFault
-Answers-whole Y c b r (Ok rest) q n h = record {
-  text = h.text;
-  value = h.value;
-  cut = h.cut;
-  spells = Spells-whole c n h.text rest.now h.value h.spells;
-  puts = h.puts;
-}
+Answers-whole Y c b r (Ok rest) q n h = Reads-whole Y c b r rest.now q n h
 Answers-whole Y c b r (Err e) q n h = (
   record {
     unread = λ x p k.

@@ -145,6 +145,21 @@ impl Parsed {
         }
     }
 
+    // Reads one of the commonest components, which are no `Ignore`.
+    #[inline(always)]
+    pub(crate) fn read_common_whole<'a>(
+        &mut self,
+        input: &'a [u8],
+        component: Component,
+    ) -> Option<&'a [u8]>
+        ensures { MayRead greatest_year (tree.component true component) input.now self.old result self.new }
+    {
+        match component {
+            Component::Ignore(_) => None,
+            _ => self.read_common(input, component),
+        }
+    }
+
     /// Reads the items of a version-3 description, as `parse_item` reads an item.
     ///
     /// In such a description an `Ignore` has to end between characters: it does not read where the

@@ -1,10 +1,10 @@
 //! The walk over owned items.
-ghost use Rattle.std.specs.Prelude.{map};
+ghost use Rattle.std.specs.Prelude.{map, IfSome};
 ghost use Rattle.time_values.specs.Range.{greatest_year};
 ghost use Rattle.time_readers.specs.Shape.{owned_shape};
 ghost use Rattle.time_readers.specs.Tree.{first_of, sequence, trees};
-ghost use Rattle.time_record.specs.Answer.{Answers};
-ghost use Rattle.time_record.specs.Count.{Counts, CountsAll, CountsFirst};
+ghost use Rattle.time_record.specs.Answer.{Answers, MayRead};
+ghost use Rattle.time_record.specs.Count.{Counts, CountsAll, CountsFirst, IsLeaf};
 
 use crate::{Parsed, Tries};
 use time_readers::OwnedFormatItem;
@@ -36,6 +36,41 @@ pub fn walk_owned<'a>(
     }
 }
 
+// The same, at once where the item is a common leaf.
+#[cycle(owned)]
+#[inline(always)]
+fn step_owned<'a>(
+    item: &OwnedFormatItem,
+    parsed: &mut Parsed,
+    input: &'a [u8],
+    tries: &mut Tries,
+) -> Result<&'a [u8], ParseFromDescription>
+    ensures answers { Answers greatest_year (owned_shape item.now) input.now parsed.old result parsed.new }
+    ensures counts { Counts greatest_year (owned_shape item.now) input.now parsed.old tries.old tries.new }
+{
+    match read_leaf(item, parsed, input) {
+        Some(rest) => {
+            tries.begin();
+            Ok(rest)
+        }
+        None => walk_owned(item, parsed, input, tries),
+    }
+}
+
+// Reads a common leaf. `None` says nothing, and nothing changed.
+#[inline(always)]
+fn read_leaf<'a>(item: &OwnedFormatItem, parsed: &mut Parsed, input: &'a [u8]) -> Option<&'a [u8]>
+    ensures read { MayRead greatest_year (owned_shape item.now) input.now parsed.old result parsed.new }
+    ensures leaf { IfSome result (λ rest. IsLeaf (owned_shape item.now)) }
+{
+    match item {
+        OwnedFormatItem::Literal(text) => Parsed::read_byte(input, text),
+        OwnedFormatItem::StringLiteral(text) => Parsed::read_byte(input, text.as_bytes()),
+        OwnedFormatItem::Component(component) => parsed.read_common(input, *component),
+        _ => None,
+    }
+}
+
 // Reads items one after the other, each on what the one before left.
 #[cycle(owned)]
 fn walk_owned_all<'a>(
@@ -51,7 +86,7 @@ fn walk_owned_all<'a>(
     let before = *parsed;
     let mut rest = input;
     for item in items {
-        match walk_owned(item, parsed, rest, tries) {
+        match step_owned(item, parsed, rest, tries) {
             Ok(unread) => rest = unread,
             Err(fault) => {
                 *parsed = before;

@@ -3,7 +3,7 @@ ghost use Rattle.std.specs.Prelude.{map};
 ghost use Rattle.time_values.specs.Range.{greatest_year};
 ghost use Rattle.time_readers.specs.Shape.{v3_shape};
 ghost use Rattle.time_readers.specs.Tree.{first_of, optional, sequence, trees};
-ghost use Rattle.time_record.specs.Answer.{Answers};
+ghost use Rattle.time_record.specs.Answer.{Answers, MayRead};
 
 use crate::Parsed;
 use time_readers::FormatDescriptionV3Inner;
@@ -41,6 +41,45 @@ pub fn walk_v3<'a>(
     }
 }
 
+// The same, at once where the item is a common leaf.
+#[cycle(v3)]
+#[inline(always)]
+fn step_v3<'a>(
+    item: &FormatDescriptionV3Inner<'_>,
+    parsed: &mut Parsed,
+    input: &'a [u8],
+) -> Result<&'a [u8], ParseFromDescription>
+    ensures { Answers greatest_year (v3_shape item.now) input.now parsed.old result parsed.new }
+{
+    match read_leaf(item, parsed, input) {
+        Some(rest) => Ok(rest),
+        None => walk_v3(item, parsed, input),
+    }
+}
+
+// Reads a common leaf. `None` says nothing, and nothing changed.
+#[inline(always)]
+fn read_leaf<'a>(
+    item: &FormatDescriptionV3Inner<'_>,
+    parsed: &mut Parsed,
+    input: &'a [u8],
+) -> Option<&'a [u8]>
+    ensures { MayRead greatest_year (v3_shape item.now) input.now parsed.old result parsed.new }
+{
+    match *item {
+        FormatDescriptionV3Inner::Component(component) => {
+            parsed.read_common_whole(input, component)
+        }
+        FormatDescriptionV3Inner::BorrowedLiteral(text) => {
+            Parsed::read_byte(input, text.as_bytes())
+        }
+        FormatDescriptionV3Inner::OwnedLiteral(ref text) => {
+            Parsed::read_byte(input, text.as_bytes())
+        }
+        _ => None,
+    }
+}
+
 // Reads items one after the other, each on what the one before left.
 #[cycle(v3)]
 #[tactic(auto, using(crate::proofs::Steps::sequence_steps))]
@@ -55,7 +94,7 @@ fn walk_v3_all<'a>(
     let before = *parsed;
     let mut rest = input;
     for item in items {
-        match walk_v3(item, parsed, rest) {
+        match step_v3(item, parsed, rest) {
             Ok(unread) => rest = unread,
             Err(fault) => {
                 *parsed = before;

@@ -20,7 +20,7 @@ impl Part for modifier::OffsetHour {
         ParseFromDescription::InvalidComponent("offset hour")
     }
 
-    #[inline]
+    #[inline(always)]
     fn parse(self, input: &[u8]) -> Option<ParsedItem<'_, (i8, bool)>> {
         parse_offset_hour(input, self)
     }

@@ -6,7 +6,7 @@ ghost use Rattle.time_readers.specs.Cuts.{Finds};
 ghost use Rattle.time_readers.specs.Digits.{IsPaddedRun};
 ghost use Rattle.time_readers.specs.Spelling.{Says, SaysYear, SaysCentury, SaysTimestamp, SaysOffsetHour, IsSigned, number, signed, flagged, positive};
 
-use crate::combinator::{full_run, n_to_m_digits_padded, sign};
+use crate::combinator::{full_run, n_to_m_digits_padded, one_or_two_digits, sign};
 use crate::{Integer, Padding, ParsedItem, Sign};
 
 // Reads `N` to `M` digits under the padding, where the type holds each number of `M` digits. Where
@@ -31,11 +31,14 @@ pub(super) fn run<const N: u8, const M: u8, T: Integer>(
 }
 
 // Reads a number in two places.
-#[inline]
+#[inline(always)]
 pub(super) fn two_places(input: &[u8], padding: Padding) -> Option<ParsedItem<'_, u8>>
     ensures { Finds (Says number (IsPaddedRun padding 2 2)) number input.now result }
 {
-    run::<2, 2, u8>(input, padding)
+    match padding {
+        Padding::None => one_or_two_digits(input),
+        _ => run::<2, 2, u8>(input, padding),
+    }
 }
 
 // Reads a sign and `N` to `M` digits under the padding. Without a sign, which then mustn't be

@@ -2,7 +2,7 @@
 ghost use Rattle.std.specs.Prelude.{map, IfSome};
 ghost use Rattle.time_values.specs.Range.{greatest_year};
 ghost use Rattle.time_readers.specs.Shape.{owned_shape};
-ghost use Rattle.time_readers.specs.Tree.{first_of, sequence, trees};
+ghost use Rattle.time_readers.specs.Tree.{first_of, optional, sequence, trees};
 ghost use Rattle.time_record.specs.Answer.{Answers, MayRead};
 ghost use Rattle.time_record.specs.Count.{Counts, CountsAll, CountsFirst, IsLeaf};
 
@@ -12,7 +12,6 @@ use time_values::error::ParseFromDescription;
 
 /// Reads an item in front of the input, and counts it and those inside it that are begun.
 #[cycle(owned)]
-#[tactic(auto, unfolding(crate::specs::Reading::Reads))]
 pub fn walk_owned<'a>(
     item: &OwnedFormatItem,
     parsed: &mut Parsed,
@@ -28,15 +27,12 @@ pub fn walk_owned<'a>(
         OwnedFormatItem::StringLiteral(text) => Parsed::parse_literal(input, text.as_bytes()),
         OwnedFormatItem::Component(component) => parsed.parse_component(input, *component),
         OwnedFormatItem::Compound(items) => walk_owned_all(items, parsed, input, tries),
-        OwnedFormatItem::Optional(item) => match walk_owned(item, parsed, input, tries) {
-            Ok(rest) => Ok(rest),
-            Err(_) => Ok(input),
-        },
+        OwnedFormatItem::Optional(item) => walk_owned_optional(item, parsed, input, tries),
         OwnedFormatItem::First(items) => walk_owned_first(items, parsed, input, tries),
     }
 }
 
-// The same, at once where the item is a common leaf.
+// The same, at once where the item is a common leaf, or may be missing.
 #[cycle(owned)]
 #[inline(always)]
 fn step_owned<'a>(
@@ -48,6 +44,10 @@ fn step_owned<'a>(
     ensures answers { Answers greatest_year (owned_shape item.now) input.now parsed.old result parsed.new }
     ensures counts { Counts greatest_year (owned_shape item.now) input.now parsed.old tries.old tries.new }
 {
+    if let OwnedFormatItem::Optional(item) = item {
+        tries.begin();
+        return walk_owned_optional(item, parsed, input, tries);
+    }
     match read_leaf(item, parsed, input) {
         Some(rest) => {
             tries.begin();
@@ -95,6 +95,25 @@ fn walk_owned_all<'a>(
         }
     }
     Ok(rest)
+}
+
+// Reads an item that may be missing.
+#[cycle(owned)]
+#[inline(always)]
+#[tactic(auto, unfolding(crate::specs::Reading::Reads))]
+fn walk_owned_optional<'a>(
+    item: &OwnedFormatItem,
+    parsed: &mut Parsed,
+    input: &'a [u8],
+    tries: &mut Tries,
+) -> Result<&'a [u8], ParseFromDescription>
+    ensures answers { Answers greatest_year (optional (owned_shape item.now)) input.now parsed.old result parsed.new }
+    ensures counts { Counts greatest_year (owned_shape item.now) input.now parsed.old tries.old tries.new }
+{
+    match walk_owned(item, parsed, input, tries) {
+        Ok(rest) => Ok(rest),
+        Err(_) => Ok(input),
+    }
 }
 
 // Reads the first of the items that reads. Where none does, the fault is the first one's.

@@ -127,6 +127,7 @@ impl Parsed {
 
     // The same, by the component's modifiers.
     #[inline(always)]
+    #[tactic(auto, using(crate::proofs::ComponentLemmas::spelled))]
     fn try_read<'a, P: Part>(&mut self, input: &'a [u8], part: P) -> Option<&'a [u8]>
         ensures { MayRead greatest_year (tree.component false (P.component part))
             input.now self.old result self.new }

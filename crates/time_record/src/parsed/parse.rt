@@ -93,6 +93,7 @@ impl Parsed {
 
     // Reads a literal of one byte. `None` says nothing.
     #[inline(always)]
+    #[tactic(auto, using(crate::proofs::ComponentLemmas::reads_byte))]
     pub(crate) fn read_byte<'a>(input: &'a [u8], literal: &[u8]) -> Option<&'a [u8]>
         ensures { (r : Record) → MayRead greatest_year (tree.literal literal.now) input.now r result r }
     {

@@ -57,7 +57,7 @@ module _ (Y Z : ℕ) (wider : Y ≤ Z) where
       let is = cond_some (in_range Y e) (put_here e r) q h in
       rw (in_range-wider e is.0) (ap Some is.1)
 
-  pub put_all-wider : (es : List Entry) (r q : Record) → put_all Y es r ≡ Some q → put_all Z es r ≡ Some q
+  put_all-wider : (es : List Entry) (r q : Record) → put_all Y es r ≡ Some q → put_all Z es r ≡ Some q
   put_all-wider [] r q h = h
   put_all-wider (e ∷ es) r q h =
       option_and_then_some (put_all Y es) (put Y e r) q h

@@ -4,7 +4,7 @@ use std::test::Fail;
 
 const UNIX_TIMESTAMP: &str = "error: the 'unix_timestamp' component could not be parsed\n";
 
-const LINES: [(&str, &str, &str, &str); 16] = [
+const LINES: [(&str, &str, &str, &str); 17] = [
     (
         "rfc3339",
         "utc",
@@ -69,6 +69,7 @@ const LINES: [(&str, &str, &str, &str); 16] = [
         "-31619087596800",
         "-999999-01-01 00:00:00.000000000 +00:00:00\n",
     ),
+    ("unix", "datetime", "-31619087596801", UNIX_TIMESTAMP),
     (
         "local",
         "utc",

@@ -163,10 +163,14 @@ fn write_leading_digits<W: Write>(year: u32, out: &mut W) -> io::Result<()>
     out.write_all(buffer.format(year / 10_000).as_bytes())
 }
 
-// Writes what stands before the last four digits of a date's year.
+// Writes what stands before the last four digits of a date's year: of most years nothing.
+#[inline]
 fn write_year_front<W: Write>(date: Date, out: &mut W) -> io::Result<()>
     ensures { OnOk result (Appends (W.contents out.old) (W.contents out.new) (year_front (Dates.year date))) }
 {
+    if date.year() >= 0 && date.year() < 10_000 {
+        return Ok(());
+    }
     write_sign(date, out)?;
     write_leading_digits(date.year().unsigned_abs(), out)
 }

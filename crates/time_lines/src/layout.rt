@@ -164,7 +164,7 @@ fn write_leading_digits<W: Write>(year: u32, out: &mut W) -> io::Result<()>
 }
 
 // Writes what stands before the last four digits of a date's year: of most years nothing.
-#[inline]
+#[inline(always)]
 fn write_year_front<W: Write>(date: Date, out: &mut W) -> io::Result<()>
     ensures { OnOk result (Appends (W.contents out.old) (W.contents out.new) (year_front (Dates.year date))) }
 {

@@ -1,5 +1,5 @@
 -- How the count of a list of items follows from those of its members. `Y` is the greatest year.
-use Rattle.std.proofs.Common.{◌≡◌, ℕ, ◌+◌, ◌-◌, ◌^◌, ◌<◌, ◌≤◌, List, length, get_or, map, min, refl, sym, subst, inl, inr, arith, Bool}
+use Rattle.std.proofs.Common.{◌≡◌, ℕ, ◌+◌, ◌<◌, ◌≤◌, List, length, get_or, map, refl, sym, subst, inl, inr, arith, Bool}
 use Rattle.time_readers.specs.declared.format_description.Component.{Component}
 use Rattle.time_readers.specs.Tree.{Tree, Trees, literal, component, sequence, optional, first_of, none, more, trees}
 use Rattle.time_record.specs.Count.{places, places_of_all, Begins, BeginsAll, BeginsFirst, IsLeaf, raised, Rises, Counts, CountsAll, CountsFirst}

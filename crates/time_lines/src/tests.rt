@@ -5,6 +5,7 @@ use std::io;
 use std::io::{ErrorKind, Read, Write};
 use std::test::Fail;
 
+mod hostile;
 mod whole_parses;
 mod wide_years;
 

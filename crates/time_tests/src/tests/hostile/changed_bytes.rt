@@ -19,18 +19,24 @@ const STAMPS: [&[u8]; 10] = [
     b"",
 ];
 
-const MAIL_DATES: [&[u8]; 10] = [
+const MAIL_DATES: [&[u8]; 8] = [
     b"Mon, 02 Jan 2021 03:04:05 +0607",
     b"02 Jan 49 03:04 EST",
     b"02 Jan 2021 03:04 -0030",
     b"02 Jan 2021 03:04 GMT (x)",
     b"02 (a(b\\)c)) Jan 2021 03:04 +0000",
-    b"02 ((((((((((((((((((((((((((((((())))))))))))))))))))))))))))))) Jan 2021 03:04 +0000",
-    b"02 (((((((((((((((((((((((((((((((()))))))))))))))))))))))))))))))) Jan 2021 03:04 +0000",
     b"02 Jan 2021\r03:04 +0000",
     b"02 Jan 1899 03:04 +0000",
     b"1 Jan 99 00:00 Z",
 ];
+
+// With a comment of 31 levels, which is read.
+const LEVELS_31: &[u8] =
+    b"02 ((((((((((((((((((((((((((((((())))))))))))))))))))))))))))))) Jan 2021 03:04 +0000";
+
+// With a comment of 32 levels, which is refused.
+const LEVELS_32: &[u8] =
+    b"02 (((((((((((((((((((((((((((((((()))))))))))))))))))))))))))))))) Jan 2021 03:04 +0000";
 
 // Without defaults and over an empty record the text has one moment, with one date, time and offset, or none.
 fn has_one_moment<F: Parsable>(format: &F, text: &[u8]) -> bool {
@@ -125,11 +131,28 @@ fn changed_bytes(rt: HostRuntime) -> Result<(), Fail> {
             "{text:?}"
         );
     }
+    Ok(())
+}
+
+#[test]
+fn changed_bytes_of_mail_dates(rt: HostRuntime) -> Result<(), Fail> {
     for text in MAIL_DATES {
         assert!(rt;
             is_right_if_changed(rt.alloc(), &Rfc2822, text)?,
             "{text:?}"
         );
     }
+    Ok(())
+}
+
+#[test]
+fn changed_bytes_of_deep_comments(rt: HostRuntime) -> Result<(), Fail> {
+    assert!(rt; is_right_if_changed(rt.alloc(), &Rfc2822, LEVELS_31)?);
+    Ok(())
+}
+
+#[test]
+fn changed_bytes_of_deeper_comments(rt: HostRuntime) -> Result<(), Fail> {
+    assert!(rt; is_right_if_changed(rt.alloc(), &Rfc2822, LEVELS_32)?);
     Ok(())
 }

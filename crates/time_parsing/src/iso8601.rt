@@ -39,6 +39,7 @@ use time_values::error::{Parse, ParseFromDescription};
 pub struct Iso8601;
 
 // The record with what a date says, or the fault of the first value that is out of its range.
+#[inline(always)]
 fn put_date(numbers: DateNumbers, parsed: Parsed) -> Result<Parsed, ParseFromDescription>
     ensures { MatchResult result
         (λ r. spec.put_or_fault greatest_year (spec.date_entries (iso_date numbers)) parsed ≡ Ok r)
@@ -83,6 +84,7 @@ fn put_date(numbers: DateNumbers, parsed: Parsed) -> Result<Parsed, ParseFromDes
 }
 
 // The record with what a time says.
+#[inline(always)]
 fn put_time(numbers: TimeNumbers, parsed: Parsed) -> Option<Parsed>
     ensures { result ≡ put_all greatest_year (spec.time_entries numbers) parsed }
 {
@@ -94,6 +96,7 @@ fn put_time(numbers: TimeNumbers, parsed: Parsed) -> Option<Parsed>
 }
 
 // The record with what an offset says, which forgets the sign that an offset hour of a description had left.
+#[inline(always)]
 fn put_offset(numbers: OffsetNumbers, mut parsed: Parsed) -> Option<Parsed>
     ensures { result ≡ put_all greatest_year (spec.offset_entries numbers) (without_offset_sign parsed) }
 {
@@ -110,6 +113,7 @@ fn put_offset(numbers: OffsetNumbers, mut parsed: Parsed) -> Option<Parsed>
 }
 
 // A date over the record.
+#[inline(always)]
 fn date_over(input: &[u8], begun: Parsed) -> Result<Part<'_, Parsed>, ParseFromDescription>
     ensures { GivesPartOrFault (λ r. r) (spec.date_over greatest_year input.now begun) result }
 {
@@ -127,6 +131,7 @@ fn date_over(input: &[u8], begun: Parsed) -> Result<Part<'_, Parsed>, ParseFromD
 }
 
 // A time of that kind over the record.
+#[inline(always)]
 fn time_over<'a>(
     input: &'a [u8],
     begun: Parsed,
@@ -149,6 +154,7 @@ fn time_over<'a>(
 }
 
 // An offset of that kind over the record.
+#[inline(always)]
 fn offset_over<'a>(
     input: &'a [u8],
     begun: Parsed,
@@ -166,6 +172,7 @@ fn offset_over<'a>(
 }
 
 // An offset behind a time, or nothing.
+#[inline(always)]
 fn behind_time<'a>(input: &'a [u8], begun: Parsed, kind: ExtendedKind) -> ParsedItem<'a, Parsed>
     ensures { spec.behind_time greatest_year kind input.now begun ≡ (result.0.now, result.1) }
 {
@@ -176,6 +183,7 @@ fn behind_time<'a>(input: &'a [u8], begun: Parsed, kind: ExtendedKind) -> Parsed
 }
 
 // The parts of a text over the record, or the date's fault where none can be read.
+#[inline(always)]
 fn read(input: &[u8], begun: Parsed) -> Result<ParsedItem<'_, Parsed>, ParseFromDescription>
     ensures { GivesForm (λ r. r) (spec.reading greatest_year input.now begun) result }
 {

@@ -31,6 +31,7 @@ pub enum DateNumbers {
 /// forms that stands counts. Where none does the fault is that of the third where a `W` stands, and else that
 /// of the first: an invalid component `year`, `month`, `day`, `week` or `weekday`, or an invalid literal where
 /// `-` is missing.
+#[inline(always)]
 #[tactic(auto, unfolding(crate::specs::IsoDates::date_text))]
 pub fn date(input: &[u8]) -> Result<Part<'_, DateNumbers>, ParseFromDescription>
     ensures { GivesPartOrFault spec.iso_date (spec.date_text input.now) result }
@@ -59,6 +60,7 @@ pub fn date(input: &[u8]) -> Result<Part<'_, DateNumbers>, ParseFromDescription>
 }
 
 // The first of the three forms that stands behind a year.
+#[inline(always)]
 #[tactic(auto, unfolding(crate::specs::IsoDates::forms))]
 fn behind_year(
     input: &[u8],
@@ -80,6 +82,7 @@ fn behind_year(
     }
 }
 
+#[inline(always)]
 fn month_and_day(
     input: &[u8],
     year: i32,
@@ -119,7 +122,7 @@ fn week_and_weekday(
 }
 
 // What follows a `-`, where the text is extended.
-#[inline]
+#[inline(always)]
 fn dash(input: &[u8], is_extended: bool) -> Option<&[u8]>
     ensures { Leaves (spec.dash is_extended input.now) result }
 {

@@ -21,6 +21,7 @@ pub enum OffsetNumbers {
 ///
 /// Where the text isn't basic and a colon follows, two digits of 0 to 59 have to stand behind it. Where none
 /// follows two digits may stand, and if they do they have to be 0 to 59. It refuses by `None`.
+#[inline(always)]
 #[tactic(auto, unfolding(crate::specs::IsoOffsets::offset_text))]
 pub fn offset(input: &[u8], kind: ExtendedKind) -> Option<ParsedItem<'_, OffsetNumbers>>
     ensures { Gives (spec.offset_text kind input.now) result }
@@ -39,7 +40,7 @@ pub fn offset(input: &[u8], kind: ExtendedKind) -> Option<ParsedItem<'_, OffsetN
 }
 
 // A part of an offset with its sign.
-#[inline]
+#[inline(always)]
 fn offset_part(sign: Sign, number: u8) -> i8
     requires { number ≤ 59 }
     ensures { result ≡ with_sign sign number }
@@ -52,6 +53,7 @@ fn offset_part(sign: Sign, number: u8) -> i8
 }
 
 // The minute of an offset, 0 where none stands.
+#[inline(always)]
 #[tactic(auto, unfolding(crate::specs::IsoOffsets::offset_minute))]
 fn offset_minute(input: &[u8], kind: ExtendedKind) -> Option<ParsedItem<'_, u8>>
     ensures is { Gives (spec.offset_minute kind input.now) result }

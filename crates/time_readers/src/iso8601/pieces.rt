@@ -11,6 +11,7 @@ use std::num::NonZero;
 use time_values::{Month, Weekday};
 
 /// Reads a year: a sign and six digits, or four digits.
+#[inline(always)]
 #[tactic(auto, unfolding(crate::specs::IsoPieces::year))]
 pub fn year(input: &[u8]) -> Option<ParsedItem<'_, i32>>
     ensures { Gives (spec.year input.now) result }
@@ -41,6 +42,7 @@ fn with_sign(sign: Sign, number: u32) -> i32
 }
 
 /// Reads a month: two digits of 01 to 12.
+#[inline(always)]
 #[tactic(auto, unfolding(crate::specs::IsoPieces::month))]
 pub fn month(input: &[u8]) -> Option<ParsedItem<'_, Month>>
     ensures { Gives (spec.month input.now) result }
@@ -56,7 +58,7 @@ pub fn month(input: &[u8]) -> Option<ParsedItem<'_, Month>>
 }
 
 /// Reads a week of the year: two digits, but not `00`.
-#[inline]
+#[inline(always)]
 #[tactic(auto, unfolding(crate::specs::IsoPieces::positive))]
 pub fn week(input: &[u8]) -> Option<ParsedItem<'_, NonZero<u8>>>
     ensures { GivesAs non_zero_u8_get (spec.positive 2 input.now) result }
@@ -69,7 +71,7 @@ pub fn week(input: &[u8]) -> Option<ParsedItem<'_, NonZero<u8>>>
 }
 
 /// Reads a day of the month: two digits, but not `00`.
-#[inline]
+#[inline(always)]
 pub fn day(input: &[u8]) -> Option<ParsedItem<'_, NonZero<u8>>>
     ensures { GivesAs non_zero_u8_get (spec.positive 2 input.now) result }
 {
@@ -77,6 +79,7 @@ pub fn day(input: &[u8]) -> Option<ParsedItem<'_, NonZero<u8>>>
 }
 
 /// Reads a day of the week: one digit of 1, which is Monday, to 7.
+#[inline(always)]
 #[tactic(auto, unfolding(crate::specs::IsoPieces::weekday))]
 pub fn dayk(input: &[u8]) -> Option<ParsedItem<'_, Weekday>>
     ensures { Gives (spec.weekday input.now) result }
@@ -105,7 +108,7 @@ fn numbered_weekday(number: u32) -> Option<Weekday>
 }
 
 /// Reads a day of the year: three digits, but not `000`.
-#[inline]
+#[inline(always)]
 #[tactic(auto, unfolding(crate::specs::IsoPieces::positive))]
 pub fn dayo(input: &[u8]) -> Option<ParsedItem<'_, NonZero<u16>>>
     ensures { GivesAs non_zero_u16_get (spec.positive 3 input.now) result }
@@ -118,7 +121,7 @@ pub fn dayo(input: &[u8]) -> Option<ParsedItem<'_, NonZero<u16>>>
 }
 
 /// Reads an hour: two digits of any value.
-#[inline]
+#[inline(always)]
 pub fn hour(input: &[u8]) -> Option<ParsedItem<'_, u8>>
     ensures { Gives (spec.digits 2 input.now) result }
 {
@@ -126,7 +129,7 @@ pub fn hour(input: &[u8]) -> Option<ParsedItem<'_, u8>>
 }
 
 /// Reads a minute: two digits of any value.
-#[inline]
+#[inline(always)]
 pub fn min(input: &[u8]) -> Option<ParsedItem<'_, u8>>
     ensures { Gives (spec.digits 2 input.now) result }
 {
@@ -135,6 +138,7 @@ pub fn min(input: &[u8]) -> Option<ParsedItem<'_, u8>>
 
 /// Reads two digits of any value, and a fraction if `.` or `,` stands behind them: all digits behind that.
 /// It refuses where none stands there.
+#[inline(always)]
 pub fn float(input: &[u8]) -> Option<ParsedItem<'_, (u8, Option<&[u8]>)>>
     ensures is { GivesAs (λ n. number_of n.0 n.1) (spec.number input.now) result }
     ensures digits { IfSome result (λ p. IfSome p.1.1 (λ d. AllDigits d.now)) }
@@ -152,7 +156,7 @@ pub fn float(input: &[u8]) -> Option<ParsedItem<'_, (u8, Option<&[u8]>)>>
 }
 
 // What follows that byte.
-#[inline]
+#[inline(always)]
 pub(super) fn byte<const C: u8>(input: &[u8]) -> Option<&[u8]>
     ensures { Leaves (spec.byte C input.now) result }
 {
@@ -163,7 +167,7 @@ pub(super) fn byte<const C: u8>(input: &[u8]) -> Option<&[u8]>
 }
 
 // What follows `.` or `,`.
-#[inline]
+#[inline(always)]
 #[tactic(auto, unfolding(crate::specs::IsoPieces::point))]
 fn point(input: &[u8]) -> Option<&[u8]>
     ensures { Leaves (spec.point input.now) result }
@@ -175,7 +179,7 @@ fn point(input: &[u8]) -> Option<&[u8]>
 }
 
 // A sign.
-#[inline]
+#[inline(always)]
 pub(super) fn sign(input: &[u8]) -> Option<ParsedItem<'_, Sign>>
     ensures { Gives (spec.sign input.now) result }
 {
@@ -183,7 +187,7 @@ pub(super) fn sign(input: &[u8]) -> Option<ParsedItem<'_, Sign>>
 }
 
 // Exactly so many digits.
-#[inline]
+#[inline(always)]
 fn exactly<const N: u8>(input: &[u8]) -> Option<ParsedItem<'_, u32>>
     requires least { 1 ≤ N }
     requires most { N ≤ 9 }
@@ -194,7 +198,7 @@ fn exactly<const N: u8>(input: &[u8]) -> Option<ParsedItem<'_, u32>>
 }
 
 // Two digits.
-#[inline]
+#[inline(always)]
 pub(super) fn two_digits(input: &[u8]) -> Option<ParsedItem<'_, u8>>
     ensures { Gives (spec.digits 2 input.now) result }
 {
@@ -202,7 +206,7 @@ pub(super) fn two_digits(input: &[u8]) -> Option<ParsedItem<'_, u8>>
 }
 
 // Two digits of a number up to the greatest.
-#[inline]
+#[inline(always)]
 #[tactic(auto, unfolding(crate::specs::IsoPieces::up_to))]
 pub(super) fn up_to<const GREATEST: u8>(input: &[u8]) -> Option<ParsedItem<'_, u8>>
     ensures is { Gives (spec.up_to GREATEST 2 input.now) result }

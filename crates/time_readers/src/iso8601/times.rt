@@ -32,6 +32,7 @@ pub struct TimeNumbers {
 /// parts below, cut to whole nanoseconds, and of a second the nanoseconds, rounded half up. Between the parts
 /// `:` stands in an extended text, and not in a basic one; a text of unknown kind becomes of the kind that is
 /// seen. It refuses by `None`, also a number out of its range, and a fraction of a second that rounds to 1.
+#[inline(always)]
 pub fn time<'a>(input: &'a [u8], kind: ExtendedKind, needs_t: bool) -> Option<Part<'a, TimeNumbers>>
     ensures { GivesPart (spec.time_text needs_t kind input.now) result }
 {
@@ -43,6 +44,7 @@ pub fn time<'a>(input: &'a [u8], kind: ExtendedKind, needs_t: bool) -> Option<Pa
 }
 
 // The text of a time behind its `T`.
+#[inline(always)]
 fn behind_t<'a>(input: &'a [u8], kind: ExtendedKind) -> Option<Part<'a, TimeNumbers>>
     ensures { GivesPart (spec.time_behind kind input.now) result }
 {
@@ -62,6 +64,7 @@ fn behind_t<'a>(input: &'a [u8], kind: ExtendedKind) -> Option<Part<'a, TimeNumb
 }
 
 // What stands behind a whole hour.
+#[inline(always)]
 fn behind_hour<'a>(input: &'a [u8], kind: ExtendedKind, hour: u8) -> Option<Part<'a, TimeNumbers>>
     requires { hour ≤ 23 }
     ensures { (bytes : List ℕ) → number bytes ≡ Some (input.now, plain hour)
@@ -80,6 +83,7 @@ fn behind_hour<'a>(input: &'a [u8], kind: ExtendedKind, hour: u8) -> Option<Part
 }
 
 // A minute behind a whole hour, if one stands there, and what stands behind it.
+#[inline(always)]
 fn minute_without_colon<'a>(
     input: &'a [u8],
     kind: ExtendedKind,
@@ -118,6 +122,7 @@ fn minute_without_colon<'a>(
 }
 
 // What stands behind a whole hour and a colon.
+#[inline(always)]
 fn minute_behind_colon<'a>(
     input: &'a [u8],
     kind: ExtendedKind,
@@ -144,6 +149,7 @@ fn minute_behind_colon<'a>(
 }
 
 // A second behind an hour and a minute without separators, if one stands there.
+#[inline(always)]
 fn basic_second(input: &[u8], numbers: TimeNumbers) -> Option<Part<'_, TimeNumbers>>
     ensures { GivesPart (spec.basic_second numbers input.now (number input.now)) result }
 {
@@ -158,6 +164,7 @@ fn basic_second(input: &[u8], numbers: TimeNumbers) -> Option<Part<'_, TimeNumbe
 }
 
 // A colon and a second behind an hour and a minute, if a colon stands there.
+#[inline(always)]
 fn extended_second(input: &[u8], numbers: TimeNumbers) -> Option<Part<'_, TimeNumbers>>
     ensures { GivesPart (spec.extended_second numbers input.now (byte 58 input.now)) result }
 {
@@ -172,6 +179,7 @@ fn extended_second(input: &[u8], numbers: TimeNumbers) -> Option<Part<'_, TimeNu
 }
 
 // The time with a second, unless that is past 60 or its fraction rounds to 1.
+#[inline(always)]
 fn with_second<'a>(
     second: ParsedItem<'a, (u8, Option<&'a [u8]>)>,
     numbers: TimeNumbers,
@@ -207,7 +215,7 @@ fn with_second<'a>(
 }
 
 // A whole hour and a whole minute.
-#[inline]
+#[inline(always)]
 fn hour_and_minute(hour: u8, minute: u8) -> TimeNumbers
     ensures { result ≡ spec.hour_and_minute hour minute }
 {

@@ -1,9 +1,9 @@
 //! The format of ISO 8601.
-ghost use Rattle.std.specs.Prelude.{◌≡◌, MatchResult, Ok, Err};
+ghost use Rattle.std.specs.Prelude.{◌≡◌, MatchOption, MatchResult, Some, None, false, true, Ok, Err};
 ghost use Rattle.time_values.specs.Range.{greatest_year};
 ghost use Rattle.time_values.specs.Refusal.{refusal_of_description};
-ghost use Rattle.time_readers.specs.IsoAnswers.{Gives, GivesForm, GivesPart, GivesPartOrFault};
 ghost use Rattle.time_readers.specs.IsoDates.{iso_date};
+ghost use Rattle.time_readers.specs.declared.iso8601.ExtendedKind.TheVariants.{Unknown};
 ghost use Rattle.time_record.specs.Record.{put_all};
 ghost use Rattle.time_parsing.specs.Iso8601 as spec;
 ghost use Rattle.time_parsing.specs.Outcome.{over_record};
@@ -11,9 +11,8 @@ ghost use Rattle.time_parsing.specs.Rfc3339.{without_offset_sign};
 
 use crate::Parsable;
 use crate::parsable::resolved;
-use time_readers::ParsedItem;
 use time_readers::iso8601::{
-    DateNumbers, ExtendedKind, OffsetNumbers, Part, TimeNumbers, date, offset, time,
+    DateNumbers, ExtendedKind, OffsetNumbers, TimeNumbers, date, offset, time,
 };
 use time_record::Parsed;
 use time_values::OffsetDateTime;
@@ -38,167 +37,207 @@ use time_values::error::{Parse, ParseFromDescription};
 #[derive(Clone, Copy, Debug, PartialEq, Eq)]
 pub struct Iso8601;
 
-// The record with what a date says, or the fault of the first value that is out of its range.
+// Puts what a date says, or answers the fault of the first value that is out of its range, and puts nothing.
 #[inline(always)]
-fn put_date(numbers: DateNumbers, parsed: Parsed) -> Result<Parsed, ParseFromDescription>
+fn put_date(numbers: DateNumbers, parsed: &mut Parsed) -> Result<(), ParseFromDescription>
     ensures { MatchResult result
-        (λ r. spec.put_or_fault greatest_year (spec.date_entries (iso_date numbers)) parsed ≡ Ok r)
-        (λ e. spec.put_or_fault greatest_year (spec.date_entries (iso_date numbers)) parsed
-        ≡ Err (refusal_of_description e)) }
+        (λ _. spec.put_or_fault greatest_year (spec.date_entries (iso_date numbers)) parsed.old ≡ Ok parsed.new)
+        (λ e. (spec.put_or_fault greatest_year (spec.date_entries (iso_date numbers)) parsed.old
+        ≡ Err (refusal_of_description e)) × (parsed.new ≡ parsed.old)) }
 {
+    let before = *parsed;
     match numbers {
         DateNumbers::Calendar(year, month, day) => {
-            let Some(parsed) = parsed.with_year(year) else {
+            if parsed.set_year(year).is_none() {
                 return Err(ParseFromDescription::InvalidComponent("year"));
-            };
-            let Some(parsed) = parsed.with_month(month) else {
-                return Err(ParseFromDescription::InvalidComponent("month"));
-            };
-            let Some(parsed) = parsed.with_day(day) else {
+            }
+            parsed.set_month(month);
+            if parsed.set_day(day).is_none() {
+                *parsed = before;
                 return Err(ParseFromDescription::InvalidComponent("day"));
-            };
-            Ok(parsed)
+            }
         }
         DateNumbers::Ordinal(year, ordinal) => {
-            let Some(parsed) = parsed.with_year(year) else {
+            if parsed.set_year(year).is_none() {
                 return Err(ParseFromDescription::InvalidComponent("year"));
-            };
-            let Some(parsed) = parsed.with_ordinal(ordinal) else {
+            }
+            if parsed.set_ordinal(ordinal).is_none() {
+                *parsed = before;
                 return Err(ParseFromDescription::InvalidComponent("ordinal"));
-            };
-            Ok(parsed)
+            }
         }
         DateNumbers::Week(year, week, weekday) => {
-            let Some(parsed) = parsed.with_iso_year(year) else {
+            if parsed.set_iso_year(year).is_none() {
                 return Err(ParseFromDescription::InvalidComponent("year"));
-            };
-            let Some(parsed) = parsed.with_iso_week_number(week) else {
+            }
+            if parsed.set_iso_week_number(week).is_none() {
+                *parsed = before;
                 return Err(ParseFromDescription::InvalidComponent("week"));
-            };
-            let Some(parsed) = parsed.with_weekday(weekday) else {
-                return Err(ParseFromDescription::InvalidComponent("weekday"));
-            };
-            Ok(parsed)
+            }
+            parsed.set_weekday(weekday);
         }
     }
+    Ok(())
 }
 
-// The record with what a time says.
+// Puts what a time says, or nothing.
 #[inline(always)]
-fn put_time(numbers: TimeNumbers, parsed: Parsed) -> Option<Parsed>
-    ensures { result ≡ put_all greatest_year (spec.time_entries numbers) parsed }
+fn put_time(numbers: TimeNumbers, parsed: &mut Parsed) -> Option<()>
+    ensures { MatchOption result
+        ((put_all greatest_year (spec.time_entries numbers) parsed.old ≡ None) × (parsed.new ≡ parsed.old))
+        (λ _. put_all greatest_year (spec.time_entries numbers) parsed.old ≡ Some parsed.new) }
 {
-    parsed
-        .with_hour_24(numbers.hour)?
-        .with_minute(numbers.minute)?
-        .with_second(numbers.second)?
-        .with_subsecond(numbers.subsecond)
-}
-
-// The record with what an offset says, which forgets the sign that an offset hour of a description had left.
-#[inline(always)]
-fn put_offset(numbers: OffsetNumbers, mut parsed: Parsed) -> Option<Parsed>
-    ensures { result ≡ put_all greatest_year (spec.offset_entries numbers) (without_offset_sign parsed) }
-{
-    parsed.forget_offset_sign();
-    match numbers {
-        OffsetNumbers::Zulu => parsed
-            .with_offset_hour(0)?
-            .with_offset_minute_signed(0)?
-            .with_offset_second_signed(0),
-        OffsetNumbers::Numeric(hour, minute) => parsed
-            .with_offset_hour(hour)?
-            .with_offset_minute_signed(minute),
+    if numbers.hour > 23
+        || numbers.minute > 59
+        || numbers.second > 60
+        || numbers.subsecond > 999_999_999
+    {
+        return None;
     }
+    parsed.set_hour_24(numbers.hour);
+    parsed.set_minute(numbers.minute);
+    parsed.set_second(numbers.second);
+    parsed.set_subsecond(numbers.subsecond);
+    Some(())
 }
 
-// A date over the record.
+// Puts what an offset says, and forgets the sign that an offset hour of a description had left; or puts nothing.
 #[inline(always)]
-fn date_over(input: &[u8], begun: Parsed) -> Result<Part<'_, Parsed>, ParseFromDescription>
-    ensures { GivesPartOrFault (λ r. r) (spec.date_over greatest_year input.now begun) result }
+fn put_offset(numbers: OffsetNumbers, parsed: &mut Parsed) -> Option<()>
+    ensures { MatchOption result
+        ((put_all greatest_year (spec.offset_entries numbers) (without_offset_sign parsed.old) ≡ None)
+        × (parsed.new ≡ parsed.old))
+        (λ _. put_all greatest_year (spec.offset_entries numbers) (without_offset_sign parsed.old)
+        ≡ Some parsed.new) }
+{
+    match numbers {
+        OffsetNumbers::Zulu => {
+            parsed.forget_offset_sign();
+            parsed.set_offset_hour(0);
+            parsed.set_offset_minute_signed(0);
+            parsed.set_offset_second_signed(0);
+        }
+        OffsetNumbers::Numeric(hour, minute) => {
+            if hour < -25 || hour > 25 || minute < -59 || minute > 59 {
+                return None;
+            }
+            parsed.forget_offset_sign();
+            parsed.set_offset_hour(hour);
+            parsed.set_offset_minute_signed(minute);
+        }
+    }
+    Some(())
+}
+
+// Reads a date over the record, and answers the rest and the kind behind it.
+#[inline(always)]
+fn date_over<'a>(
+    input: &'a [u8],
+    parsed: &mut Parsed,
+) -> Result<(&'a [u8], ExtendedKind), ParseFromDescription>
+    ensures { MatchResult result
+        (λ p. spec.date_over greatest_year input.now parsed.old
+        ≡ Ok (record { rest = p.0.now; value = parsed.new; kind = p.1 }))
+        (λ e. (spec.date_over greatest_year input.now parsed.old ≡ Err (refusal_of_description e))
+        × (parsed.new ≡ parsed.old)) }
 {
     match date(input) {
-        Ok(found) => match put_date(found.value, begun) {
-            Ok(parsed) => Ok(Part {
-                rest: found.rest,
-                value: parsed,
-                kind: found.kind,
-            }),
+        Ok(found) => match put_date(found.value, parsed) {
+            Ok(()) => Ok((found.rest, found.kind)),
             Err(fault) => Err(fault),
         },
         Err(fault) => Err(fault),
     }
 }
 
-// A time of that kind over the record.
+// Reads a time of that kind over the record, and answers the rest and the kind behind it.
 #[inline(always)]
 fn time_over<'a>(
     input: &'a [u8],
-    begun: Parsed,
+    parsed: &mut Parsed,
     kind: ExtendedKind,
     needs_t: bool,
-) -> Option<Part<'a, Parsed>>
-    ensures { GivesPart (spec.time_over greatest_year needs_t kind input.now begun) result }
+) -> Option<(&'a [u8], ExtendedKind)>
+    ensures { MatchOption result
+        ((spec.time_over greatest_year needs_t kind input.now parsed.old ≡ None) × (parsed.new ≡ parsed.old))
+        (λ p. spec.time_over greatest_year needs_t kind input.now parsed.old
+        ≡ Some (record { rest = p.0.now; value = parsed.new; kind = p.1 })) }
 {
     match time(input, kind, needs_t) {
-        Some(found) => match put_time(found.value, begun) {
-            Some(parsed) => Some(Part {
-                rest: found.rest,
-                value: parsed,
-                kind: found.kind,
-            }),
+        Some(found) => match put_time(found.value, parsed) {
+            Some(()) => Some((found.rest, found.kind)),
             None => None,
         },
         None => None,
     }
 }
 
-// An offset of that kind over the record.
+// Reads an offset of that kind over the record, and answers the rest.
 #[inline(always)]
 fn offset_over<'a>(
     input: &'a [u8],
-    begun: Parsed,
+    parsed: &mut Parsed,
     kind: ExtendedKind,
-) -> Option<ParsedItem<'a, Parsed>>
-    ensures { Gives (spec.offset_over greatest_year kind input.now begun) result }
+) -> Option<&'a [u8]>
+    ensures { MatchOption result
+        ((spec.offset_over greatest_year kind input.now parsed.old ≡ None) × (parsed.new ≡ parsed.old))
+        (λ rest. spec.offset_over greatest_year kind input.now parsed.old ≡ Some (rest.now, parsed.new)) }
 {
     match offset(input, kind) {
-        Some(found) => match put_offset(found.1, begun) {
-            Some(parsed) => Some(ParsedItem(found.0, parsed)),
+        Some(found) => match put_offset(found.1, parsed) {
+            Some(()) => Some(found.0),
             None => None,
         },
         None => None,
     }
 }
 
-// An offset behind a time, or nothing.
+// Reads an offset behind a time, or nothing, and answers the rest.
 #[inline(always)]
-fn behind_time<'a>(input: &'a [u8], begun: Parsed, kind: ExtendedKind) -> ParsedItem<'a, Parsed>
-    ensures { spec.behind_time greatest_year kind input.now begun ≡ (result.0.now, result.1) }
+fn behind_time<'a>(input: &'a [u8], parsed: &mut Parsed, kind: ExtendedKind) -> &'a [u8]
+    ensures { spec.behind_time greatest_year kind input.now parsed.old ≡ (result.now, parsed.new) }
 {
-    match offset_over(input, begun, kind) {
-        Some(found) => found,
-        None => ParsedItem(input, begun),
+    match offset_over(input, parsed, kind) {
+        Some(rest) => rest,
+        None => input,
     }
 }
 
-// The parts of a text over the record, or the date's fault where none can be read.
-#[inline(always)]
-fn read(input: &[u8], begun: Parsed) -> Result<ParsedItem<'_, Parsed>, ParseFromDescription>
-    ensures { GivesForm (λ r. r) (spec.reading greatest_year input.now begun) result }
+// Reads the parts of a text without a date, whose fault is given.
+#[inline(never)]
+fn without_date<'a>(
+    input: &'a [u8],
+    parsed: &mut Parsed,
+    fault: ParseFromDescription,
+) -> Result<&'a [u8], ParseFromDescription>
+    ensures { MatchResult result
+        (λ rest. spec.without_date greatest_year (refusal_of_description fault) input.now parsed.old
+        (spec.time_over greatest_year false Unknown input.now parsed.old) ≡ Ok (rest.now, parsed.new))
+        (λ e. spec.without_date greatest_year (refusal_of_description fault) input.now parsed.old
+        (spec.time_over greatest_year false Unknown input.now parsed.old) ≡ Err (refusal_of_description e)) }
 {
-    match date_over(input, begun) {
-        Ok(date) => match time_over(date.rest, date.value, date.kind, true) {
-            Some(time) => Ok(behind_time(time.rest, time.value, time.kind)),
-            None => Ok(ParsedItem(date.rest, date.value)),
+    if let Some(time) = time_over(input, parsed, ExtendedKind::Unknown, false) {
+        return Ok(behind_time(time.0, parsed, time.1));
+    }
+    match offset_over(input, parsed, ExtendedKind::Unknown) {
+        Some(rest) => Ok(rest),
+        None => Err(fault),
+    }
+}
+
+// Reads the parts of a text over the record, or answers the date's fault where none can be read.
+#[inline(always)]
+fn read<'a>(input: &'a [u8], parsed: &mut Parsed) -> Result<&'a [u8], ParseFromDescription>
+    ensures { MatchResult result
+        (λ rest. spec.reading greatest_year input.now parsed.old ≡ Ok (rest.now, parsed.new))
+        (λ e. spec.reading greatest_year input.now parsed.old ≡ Err (refusal_of_description e)) }
+{
+    match date_over(input, parsed) {
+        Ok(date) => match time_over(date.0, parsed, date.1, true) {
+            Some(time) => Ok(behind_time(time.0, parsed, time.1)),
+            None => Ok(date.0),
         },
-        Err(fault) => match time_over(input, begun, ExtendedKind::Unknown, false) {
-            Some(time) => Ok(behind_time(time.rest, time.value, time.kind)),
-            None => match offset_over(input, begun, ExtendedKind::Unknown) {
-                Some(found) => Ok(found),
-                None => Err(fault),
-            },
-        },
+        Err(fault) => without_date(input, parsed, fault),
     }
 }
 
@@ -211,15 +250,16 @@ impl Parsable for Iso8601 {
 
     ghost path = { λ _. over_record };
 
+    #[inline(never)]
     fn parse_into<'a>(&self, input: &'a [u8], parsed: &mut Parsed) -> Result<&'a [u8], Parse> {
-        let mut begun = *parsed;
-        begun.allow_leap_second();
-        match read(input, begun) {
-            Ok(found) => {
-                *parsed = found.1;
-                Ok(found.0)
+        let before = *parsed;
+        parsed.allow_leap_second();
+        match read(input, parsed) {
+            Ok(rest) => Ok(rest),
+            Err(fault) => {
+                *parsed = before;
+                Err(fault.into())
             }
-            Err(fault) => Err(fault.into()),
         }
     }
 

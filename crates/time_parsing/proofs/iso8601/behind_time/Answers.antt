@@ -8,4 +8,4 @@ returns-in-Some c = rw c.in-Some.ensures refl
 
 pub returns-in-None : goal.returns-in-None
 unfolding behind_time
-returns-in-None c = rw c.in-None.ensures refl
+returns-in-None c = rw (c.in-None.ensures.0, c.in-None.ensures.1) refl

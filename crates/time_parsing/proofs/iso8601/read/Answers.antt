@@ -8,16 +8,8 @@ returns-in-Some c = rw (c.in-Ok.ensures, c.in-Some.ensures, c.behind_time.ensure
 
 pub returns-in-None : goal.returns-in-None
 unfolding reading
-returns-in-None c = rw (c.in-Ok.ensures, c.in-None.ensures) refl
+returns-in-None c = rw (c.in-Ok.ensures, c.in-None.ensures.0, c.in-None.ensures.1) refl
 
-pub returns-in-Some-time_over : goal.returns-in-Some-time_over
+pub returns-in-Err : goal.returns-in-Err
 unfolding reading
-returns-in-Some-time_over c = rw (c.in-Err.ensures, c.in-Some-time_over.ensures, c.behind_time-in-Some-time_over.ensures) refl
-
-pub returns-in-Some-offset_over : goal.returns-in-Some-offset_over
-unfolding reading
-returns-in-Some-offset_over c = rw (c.in-Err.ensures, c.in-None-time_over.ensures, c.in-Some-offset_over.ensures) refl
-
-pub returns-in-None-offset_over : goal.returns-in-None-offset_over
-unfolding reading
-returns-in-None-offset_over c = rw (c.in-Err.ensures, c.in-None-time_over.ensures, c.in-None-offset_over.ensures) refl
+returns-in-Err c = rw c.in-Err.ensures.0 (rw c.in-Err.ensures.1 at c.without_date.ensures)

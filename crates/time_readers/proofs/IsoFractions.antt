@@ -106,3 +106,17 @@ round-is digits unit m is =
     omega (arith, add-mul (2 * m) 1 power, mul_assoc (m + 1) 2 power, add-mul (2 * m) 2 power) in
     let high = div_below all (2 * power) (m + 1) some (let h = is.high in omega arith) in
     omega arith
+
+-- as many digits as the unit has places say a whole number of it
+pub round_whole : (digits : List ℕ) (unit : ℕ) → 10 ^ length digits ≡ unit → digits_value digits ≡ round_of digits unit
+round_whole digits unit e =
+    let w = digits_value digits in
+    let power = 10 ^ length digits in
+    let some : 0 < power = ten_pow-pos (length digits) in
+    let low : (2 * w - 1) * power ≤ 2 * w * power = mul-le-mul_right power (let least : 2 * w - 1 ≤ 2 * w = omega arith in least) in
+    let high : (2 * w + 1) * power ≡ 2 * w * power + 1 * power = add-mul (2 * w) 1 power in
+    let above : 2 * w * power < (2 * w + 1) * power = omega arith in
+    round-is digits unit w (record {
+      low = subst (λ u. (2 * w - 1) * power ≤ 2 * w * u) e low;
+      high = subst (λ u. 2 * w * u < (2 * w + 1) * power) e above;
+    })

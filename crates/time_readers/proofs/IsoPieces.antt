@@ -21,6 +21,8 @@ use Rattle.time_readers.specs.Bytes.{IsByte, IsSign}
 use Rattle.time_readers.specs.Digits.{IsDigit, AllDigits, digits_value, NoDigitFirst, IsDigitRun}
 use Rattle.time_readers.specs.IsoPieces.{is_digit, all_digits, digits, leading_digits, byte, point, plain, fraction, behind_point, number, sign, months, numbered}
 use Rattle.time_readers.specs.IsoAnswers.{Gives}
+use Rattle.time_readers.specs.IsoFractions.{round_of}
+use Rattle.time_readers.proofs.IsoFractions.{round_whole}
 
 pub is_digit-true : (c : ℕ) → IsDigit c → is_digit c ≡ true
 is_digit-true c d = and_from (nat_le 48 c) (nat_le c 57) (le-leb 48 c d.0) (le-leb c 57 d.1)
@@ -208,3 +210,27 @@ month-refused n error h =
       | inl e ↦ absurd (rw e at h)
       | inr e ↦ numbered-past months n (leb-false n 12 e)
     ]
+
+-- no digit is counted
+none_counted : (s : List ℕ) (n : ℕ) → n ≡ 0 → (n ≡ 1) ⊎ NoDigitFirst (drop n s) → NoDigitFirst s
+none_counted s n e (inl one) = absurd (omega (arith, e, one))
+none_counted s n e (inr ends) = subst (λ k. NoDigitFirst (drop k s)) e ends
+
+-- a fraction of nine digits, which are nanoseconds
+pub number-nine : (s mid behind rest : List ℕ) (whole v : ℕ) → digits 2 s ≡ Some (mid, whole) → point mid ≡ Some behind
+    → Cut (IsDigitRun 9 9) behind rest v → (more : ℕ) → more ≡ 0 → (more ≡ 1) ⊎ NoDigitFirst (drop more rest)
+    → (d : List ℕ) × (number s ≡ Some (rest, fraction whole d)) × (round_of d 1_000_000_000 ≡ v) × (v < 1_000_000_000)
+number-nine s mid behind rest whole v e p cut more nothing counted =
+    let ends : NoDigitFirst rest = none_counted rest more nothing counted in
+    let text = cut.0 in
+    let run = cut.2 in
+    let long : length text ≡ 9 = omega (arith, run.enough, run.within) in
+    let front : take 9 behind ≡ text = ap (take 9) cut.1 ∙ ap (λ k. take k (text ++ rest)) (sym long) ∙ take-append_seam text rest in
+    let back : drop 9 behind ≡ rest = ap (drop 9) cut.1 ∙ ap (λ k. drop k (text ++ rest)) (sym long) ∙ drop-append_seam text rest in
+    let room : 9 ≤ length behind = omega (arith, ap length cut.1, length-append text rest) in
+    let leads = leading-are 9 behind room (subst AllDigits (sym front) run.digits) (inr (subst NoDigitFirst (sym back) ends)) in
+    let is = number-fraction s mid behind whole 9 e p leads (omega arith) room in
+    let same : Some (take (length behind - 9) (drop 9 behind), fraction whole (take 9 behind)) ≡ Some (rest, fraction whole text) =
+    rw (take-drop behind 9 room, back, front) refl in
+    let round = round_whole text 1_000_000_000 (ap (λ n. 10 ^ n) long) in
+    (text, is ∙ same, sym round ∙ sym run.is, IsDigitRun-below 9 9 text rest v run)

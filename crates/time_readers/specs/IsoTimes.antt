@@ -1,5 +1,5 @@
 -- The time of ISO 8601: a table of the texts that say one.
-use Rattle.std.specs.Prelude.{ℕ, ◌/◌, ◌%◌, List, [], ◌∷◌, ◌++◌, Bool, true, false, ◌&&◌, is_none, nat_le, nat_lt, if◌then◌else◌, Option, Some, None, option_map, option_and_then, option_to_list}
+use Rattle.std.specs.Prelude.{◌≡◌, ℕ, ◌/◌, ◌%◌, List, [], ◌∷◌, ◌++◌, Bool, true, false, ◌&&◌, is_none, nat_le, nat_lt, if◌then◌else◌, Option, Some, None, option_map, option_and_then, option_to_list}
 use Rattle.std.specs.Option.{option_or}
 use Rattle.time_readers.specs.declared.iso8601.ExtendedKind.{ExtendedKind}
 use Rattle.time_readers.specs.declared.iso8601.ExtendedKind.TheVariants.{Basic, Extended}
@@ -147,3 +147,9 @@ basic_second t bytes (Some f) = second_found t Basic f
 abbrev pub extended_second : TimeNumbers → List ℕ → Option (List ℕ) → Option (Found TimeNumbers)
 extended_second t bytes None = Some (record { rest = bytes; value = t; kind = Extended })
 extended_second t bytes (Some behind) = option_and_then (second_found t Extended) (number behind)
+
+-- a number that is such a second and so many nanoseconds of it
+abbrev pub IsSecond : Number → ℕ → ℕ → Type 0
+IsSecond n second nanoseconds =
+    (h m : ℕ) → says any_second n (hour_and_minute h m)
+    ≡ Some (record { hour = h; minute = m; second = second; subsecond = nanoseconds })

@@ -1,8 +1,9 @@
 //! The pieces of ISO 8601 texts. Each reads a text of a fixed form, or refuses by `None`.
-ghost use Rattle.std.specs.Prelude.{◌≡◌, ◌≤◌, ◌<◌, ◌^◌, IfSome};
+ghost use Rattle.std.specs.Prelude.{◌≡◌, ◌≤◌, ◌<◌, ◌^◌, ℕ, List, IfSome, Some};
 ghost use Rattle.std.specs.Int.NonZero.{non_zero_u8_get, non_zero_u16_get};
 ghost use Rattle.time_readers.specs.Digits.{AllDigits};
 ghost use Rattle.time_readers.specs.IsoAnswers.{Leaves, Gives, GivesAs, number_of};
+ghost use Rattle.time_readers.specs.IsoFractions.{round_of};
 ghost use Rattle.time_readers.specs.IsoPieces as spec;
 
 use crate::combinator::{self, ascii_char, exactly_n_digits, leading_digits};
@@ -153,6 +154,33 @@ pub fn float(input: &[u8]) -> Option<ParsedItem<'_, (u8, Option<&[u8]>)>>
     }
     let digits = &behind[..count];
     Some(ParsedItem(&behind[count..], (whole.1, Some(digits))))
+}
+
+// Two digits with neither `.` nor `,` behind them. `None` says nothing.
+#[inline(always)]
+pub(super) fn whole(input: &[u8]) -> Option<ParsedItem<'_, u8>>
+    ensures { IfSome result (λ p. spec.number input.now ≡ Some (p.0.now, spec.plain p.1)) }
+{
+    let found = two_digits(input)?;
+    match point(found.0) {
+        Some(_) => None,
+        None => Some(found),
+    }
+}
+
+// Two digits and the nanoseconds of a fraction of nine digits. `None` says nothing.
+#[inline(always)]
+pub(super) fn nine_places(input: &[u8]) -> Option<ParsedItem<'_, (u8, u32)>>
+    ensures { IfSome result (λ p. (digits : List ℕ) × (spec.number input.now ≡ Some (p.0.now, spec.fraction p.1.0 digits))
+        × (round_of digits 1_000_000_000 ≡ p.1.1) × (p.1.1 < 1_000_000_000)) }
+{
+    let whole = two_digits(input)?;
+    let behind = point(whole.0)?;
+    let found = exactly_n_digits::<9>(behind)?;
+    if leading_digits(found.0, 1) > 0 {
+        return None;
+    }
+    Some(ParsedItem(found.0, (whole.1, found.1)))
 }
 
 // What follows that byte.

@@ -4,12 +4,13 @@ ghost use Rattle.time_readers.specs.Digits.{AllDigits};
 ghost use Rattle.time_readers.specs.IsoAnswers.{GivesPart, number_of};
 ghost use Rattle.time_readers.specs.IsoFractions.{floor_of};
 ghost use Rattle.time_readers.specs.IsoKinds.{not_basic};
-ghost use Rattle.time_readers.specs.IsoPieces.{number, byte, plain};
+ghost use Rattle.time_readers.specs.IsoPieces.{Number, number, byte, plain};
+ghost use Rattle.time_readers.specs.IsoTimes.{IsSecond};
 ghost use Rattle.time_readers.specs.IsoTimes as spec;
 
 use crate::ParsedItem;
 use crate::iso8601::fractions::{floor_fraction, round_fraction};
-use crate::iso8601::pieces::{byte, float};
+use crate::iso8601::pieces::{byte, float, nine_places, whole};
 use crate::iso8601::{ExtendedKind, Part};
 
 /// What a time says. What isn't given in the text is 0.
@@ -34,6 +35,138 @@ pub struct TimeNumbers {
 /// seen. It refuses by `None`, also a number out of its range, and a fraction of a second that rounds to 1.
 #[inline(always)]
 pub fn time<'a>(input: &'a [u8], kind: ExtendedKind, needs_t: bool) -> Option<Part<'a, TimeNumbers>>
+    ensures { GivesPart (spec.time_text needs_t kind input.now) result }
+{
+    if let Some(behind) = byte::<b'T'>(input) {
+        if let Some(found) = clock(behind, kind) {
+            return Some(found);
+        }
+    }
+    any_time(input, kind, needs_t)
+}
+
+// A whole hour, a whole minute and a second, with separators or without. `None` says nothing.
+#[inline(always)]
+fn clock<'a>(input: &'a [u8], kind: ExtendedKind) -> Option<Part<'a, TimeNumbers>>
+    ensures { IfSome result (λ p. GivesPart (spec.time_behind kind input.now) (Some p)) }
+{
+    let hour = whole(input)?;
+    if hour.1 > 23 {
+        return None;
+    }
+    match byte::<b':'>(hour.0) {
+        Some(behind) => clock_with_colons(behind, kind, hour.1),
+        None => clock_without_colons(hour.0, kind, hour.1),
+    }
+}
+
+// What stands behind a whole hour, where it is a whole minute and a second. `None` says nothing.
+#[inline(always)]
+fn clock_without_colons<'a>(
+    input: &'a [u8],
+    kind: ExtendedKind,
+    hour: u8,
+) -> Option<Part<'a, TimeNumbers>>
+    requires hour { hour ≤ 23 }
+    requires no_colon { byte 58 input.now ≡ None }
+    ensures { (bytes : List ℕ) → number bytes ≡ Some (input.now, plain hour)
+        → IfSome result (λ p. GivesPart (spec.time_behind kind bytes) (Some p)) }
+{
+    if kind.is_extended() {
+        return None;
+    }
+    let minute = whole(input)?;
+    if minute.1 > 59 {
+        return None;
+    }
+    let found = second(minute.0)?;
+    Some(Part {
+        rest: found.0,
+        value: TimeNumbers {
+            hour,
+            minute: minute.1,
+            second: found.1.0,
+            subsecond: found.1.1,
+        },
+        kind: ExtendedKind::Basic,
+    })
+}
+
+// What stands behind a whole hour and a colon, where it is a whole minute, a colon and a second. `None` says nothing.
+#[inline(always)]
+fn clock_with_colons<'a>(
+    input: &'a [u8],
+    kind: ExtendedKind,
+    hour: u8,
+) -> Option<Part<'a, TimeNumbers>>
+    requires { hour ≤ 23 }
+    ensures { (bytes mid : List ℕ) → number bytes ≡ Some (mid, plain hour) → byte 58 mid ≡ Some input.now
+        → IfSome result (λ p. GivesPart (spec.time_behind kind bytes) (Some p)) }
+{
+    if !kind.maybe_extended() {
+        return None;
+    }
+    let minute = whole(input)?;
+    if minute.1 > 59 {
+        return None;
+    }
+    let behind = byte::<b':'>(minute.0)?;
+    let found = second(behind)?;
+    Some(Part {
+        rest: found.0,
+        value: TimeNumbers {
+            hour,
+            minute: minute.1,
+            second: found.1.0,
+            subsecond: found.1.1,
+        },
+        kind: ExtendedKind::Extended,
+    })
+}
+
+// A second of 0 to 60 and its nanoseconds.
+#[inline(always)]
+fn second(input: &[u8]) -> Option<ParsedItem<'_, (u8, u32)>>
+    ensures { IfSome result (λ p. (n : Number) × (number input.now ≡ Some (p.0.now, n))
+        × IsSecond n p.1.0 p.1.1) }
+{
+    if let Some(found) = whole(input) {
+        if found.1 > 60 {
+            return None;
+        }
+        return Some(ParsedItem(found.0, (found.1, 0)));
+    }
+    if let Some(found) = nine_places(input) {
+        if found.1.0 > 60 {
+            return None;
+        }
+        return Some(found);
+    }
+    rounded_second(input)
+}
+
+// A second of 0 to 60 and a fraction, rounded to nanoseconds.
+#[inline(never)]
+fn rounded_second(input: &[u8]) -> Option<ParsedItem<'_, (u8, u32)>>
+    ensures { IfSome result (λ p. (n : Number) × (number input.now ≡ Some (p.0.now, n))
+        × IsSecond n p.1.0 p.1.1) }
+{
+    let found = float(input)?;
+    let digits = found.1.1?;
+    let nanoseconds = round_fraction(digits, 1_000_000_000);
+    if found.1.0 > 60 || nanoseconds >= 1_000_000_000 {
+        return None;
+    }
+    Some(ParsedItem(found.0, (found.1.0, nanoseconds as u32)))
+}
+
+// The time of a text of any form.
+#[inline(never)]
+fn any_time<'a>(
+    input: &'a [u8],
+    kind: ExtendedKind,
+    needs_t: bool,
+) -> Option<Part<'a, TimeNumbers>>
     ensures { GivesPart (spec.time_text needs_t kind input.now) result }
 {
     match byte::<b'T'>(input) {

@@ -35,7 +35,10 @@ pub trait Parsable {
     fn parse_internal(&self, input: &[u8], defaults: Option<Parsed>) -> Result<Parsed, Parse>
         ensures { IsWhole (reads self.now) (refuses self.now) input.now (begun defaults) (seen result) }
     {
-        let mut parsed = defaults.unwrap_or(Parsed::new());
+        let mut parsed = Parsed::new();
+        if let Some(known) = defaults {
+            parsed = known;
+        }
         if self.parse_into(input, &mut parsed)?.is_empty() {
             Ok(parsed)
         } else {

@@ -1,7 +1,7 @@
 -- A moment of the record of a whole text is the outcome of the text.
-use Rattle.std.proofs.Common.{◌≡◌, ℕ, List, inl, inr, Option, None, Some, Result, Ok, Err, subst, MatchResult}
+use Rattle.std.proofs.Common.{◌≡◌, ◌≢◌, ◌⊎◌, ℕ, List, [], inl, inr, Option, None, Some, Result, Ok, Err, subst, MatchResult}
 use Rattle.time_values.specs.Range.{greatest_year}
-use Rattle.time_values.specs.Refusal.{Refusal, refusal_of}
+use Rattle.time_values.specs.Refusal.{Refusal, refusal_of, trailing}
 use Rattle.time_values.specs.declared.error.Parse.{Parse}
 use Rattle.time_values.specs.declared.offset_date_time.OffsetDateTime.{OffsetDateTime}
 use Rattle.time_record.specs.Record.{Record}
@@ -31,3 +31,15 @@ pub over_defaults : (reads : Reading) (refuses : Refusing) (refused : List ℕ �
     → IsMomentOutcome greatest_year (direct refused) reads refuses bytes defaults answer
 over_defaults reads refuses refused bytes None given answer e outcome = absurd (cc)
 over_defaults reads refuses refused bytes (Some d) given answer e outcome = outcome
+
+-- the moment of a record that was read up to a rest
+pub outcome_before : (reads : Reading) (refuses : Refusing) (bytes rest : List ℕ) (begin r : Record) (answer : Result OffsetDateTime Refusal)
+    → reads bytes begin rest r
+    → MatchResult answer
+    (λ v. (rest ≡ []) × IsMoment greatest_year r (Ok v))
+    (λ e. ((rest ≢ []) × (e ≡ trailing)) ⊎ ((rest ≡ []) × IsMoment greatest_year r (Err e)))
+    → IsOutcome (IsMoment greatest_year) reads refuses bytes begin answer
+outcome_before reads refuses bytes rest begin r (Ok v) read (end, moment) = (r, subst (λ x. reads bytes begin x r) end read, moment)
+outcome_before reads refuses bytes rest begin r (Err e) read (inl (more, is)) = inl (inr (rest, r, read, more, is))
+outcome_before reads refuses bytes rest begin r (Err e) read (inr (end, moment)) =
+    inr (r, subst (λ x. reads bytes begin x r) end read, moment)

@@ -1,7 +1,7 @@
 //! What can be parsed by.
-ghost use Rattle.std.specs.Prelude.{◌≡◌, MatchResult};
+ghost use Rattle.std.specs.Prelude.{◌≡◌, ◌≢◌, ◌⊎◌, [], Ok, Err, MatchResult};
 ghost use Rattle.time_values.specs.Range.{greatest_year};
-ghost use Rattle.time_values.specs.Refusal.{refusal_of};
+ghost use Rattle.time_values.specs.Refusal.{refusal_of, trailing};
 ghost use Rattle.time_record.specs.Resolution.{IsDated, IsTimed, IsOffset, IsPlain, IsUtcMoment, IsMoment, IsTimestamp};
 ghost use Rattle.time_parsing.specs.Outcome.{Reading, Refusing, begun, seen, ParsesInto, IsWhole, IsOutcome, IsExact, Path, over_record, IsMomentOutcome, IsExactPath};
 
@@ -138,7 +138,7 @@ pub trait Parsable {
 }
 
 /// The date, time and offset of a record that was read, or else the error of its reading.
-#[inline]
+#[inline(always)]
 pub fn resolved(read: &Result<Parsed, Parse>) -> Result<OffsetDateTime, Parse>
     ensures { MatchResult read.now
         (λ parsed. IsMoment greatest_year parsed (seen result))
@@ -149,6 +149,20 @@ pub fn resolved(read: &Result<Parsed, Parse>) -> Result<OffsetDateTime, Parse>
         Err(e) => return Err(e),
     };
     Ok(OffsetDateTime::try_from(parsed)?)
+}
+
+/// The date, time and offset of a record that was read up to this rest. Where bytes remain it refuses as
+/// [`ParseFromDescription::UnexpectedTrailingCharacters`].
+#[inline(always)]
+pub(crate) fn moment_before(rest: &[u8], parsed: &Parsed) -> Result<OffsetDateTime, Parse>
+    ensures { MatchResult (seen result)
+        (λ v. (rest.now ≡ []) × IsMoment greatest_year parsed.now (Ok v))
+        (λ e. ((rest.now ≢ []) × (e ≡ trailing)) ⊎ ((rest.now ≡ []) × IsMoment greatest_year parsed.now (Err e))) }
+{
+    if !rest.is_empty() {
+        return Err(ParseFromDescription::UnexpectedTrailingCharacters.into());
+    }
+    Ok(OffsetDateTime::try_from(*parsed)?)
 }
 
 /// A reference to a format reads as the format does, always over a record.

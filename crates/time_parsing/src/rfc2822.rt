@@ -10,7 +10,7 @@ ghost use Rattle.time_parsing.specs.Rfc3339.{without_offset_sign};
 ghost use Rattle.time_parsing.specs.Rfc2822.{date_entries, time_entries, offset_entries};
 
 use crate::Parsable;
-use crate::parsable::resolved;
+use crate::parsable::moment_before;
 use std::num::NonZero;
 use time_readers::direct;
 use time_readers::rfc2822::{Numbers, place_fault, read};
@@ -30,7 +30,8 @@ use time_values::error::Parse;
 #[derive(Clone, Copy, Debug, PartialEq, Eq)]
 pub struct Rfc2822;
 
-// Puts the weekday, where it stands, day, month and year.
+// Puts the weekday, where it stands, day, month and year. No setter refuses, here or below: said so, the compiler
+// knows which options are there.
 #[inline(always)]
 fn put_date(numbers: Numbers, parsed: &mut Parsed)
     requires day { IsInRange 1 31 numbers.day }
@@ -41,11 +42,19 @@ fn put_date(numbers: Numbers, parsed: &mut Parsed)
         unreachable!()
     };
     if let Some(weekday) = numbers.weekday {
-        parsed.set_weekday(weekday);
+        let Some(()) = parsed.set_weekday(weekday) else {
+            unreachable!()
+        };
     }
-    parsed.set_day(day);
-    parsed.set_month(numbers.month);
-    parsed.set_year(i32::from(numbers.year));
+    let Some(()) = parsed.set_day(day) else {
+        unreachable!()
+    };
+    let Some(()) = parsed.set_month(numbers.month) else {
+        unreachable!()
+    };
+    let Some(()) = parsed.set_year(i32::from(numbers.year)) else {
+        unreachable!()
+    };
 }
 
 // Puts hour, minute and, where it stands, the second.
@@ -56,10 +65,16 @@ fn put_time(numbers: Numbers, parsed: &mut Parsed)
     requires second { ForSome numbers.second (λ v. v ≤ 60) }
     ensures { put_all greatest_year (time_entries numbers) parsed.old ≡ Some parsed.new }
 {
-    parsed.set_hour_24(numbers.hour);
-    parsed.set_minute(numbers.minute);
+    let Some(()) = parsed.set_hour_24(numbers.hour) else {
+        unreachable!()
+    };
+    let Some(()) = parsed.set_minute(numbers.minute) else {
+        unreachable!()
+    };
     if let Some(second) = numbers.second {
-        parsed.set_second(second);
+        let Some(()) = parsed.set_second(second) else {
+            unreachable!()
+        };
     }
 }
 
@@ -72,12 +87,20 @@ fn put_offset(numbers: Numbers, parsed: &mut Parsed)
         (without_offset_sign parsed.old) ≡ Some parsed.new }
 {
     parsed.forget_offset_sign();
-    parsed.set_offset_hour(numbers.offset_hour);
+    let Some(()) = parsed.set_offset_hour(numbers.offset_hour) else {
+        unreachable!()
+    };
     if numbers.offset_sign.is_some() {
-        parsed.set_offset_minute_signed(numbers.offset_minute);
+        let Some(()) = parsed.set_offset_minute_signed(numbers.offset_minute) else {
+            unreachable!()
+        };
     } else {
-        parsed.set_offset_minute_signed(0);
-        parsed.set_offset_second_signed(0);
+        let Some(()) = parsed.set_offset_minute_signed(0) else {
+            unreachable!()
+        };
+        let Some(()) = parsed.set_offset_second_signed(0) else {
+            unreachable!()
+        };
     }
 }
 
@@ -112,7 +135,11 @@ impl Parsable for Rfc2822 {
     ) -> Result<OffsetDateTime, Parse> {
         match defaults {
             None => direct::rfc2822(input),
-            Some(_) => resolved(&self.parse_internal(input, defaults)),
+            Some(defaults) => {
+                let mut parsed = defaults;
+                let rest = self.parse_into(input, &mut parsed)?;
+                moment_before(rest, &parsed)
+            }
         }
     }
 

@@ -12,7 +12,7 @@ ghost use Rattle.time_parsing.specs.Outcome.{direct};
 ghost use Rattle.time_parsing.specs.Rfc3339.{date_entries, time_entries, offset_entries, without_offset_sign};
 
 use crate::Parsable;
-use crate::parsable::resolved;
+use crate::parsable::moment_before;
 use std::num::NonZero;
 use time_readers::direct;
 use time_readers::rfc3339::{Numbers, place_fault, read};
@@ -57,7 +57,7 @@ fn month(number: u8) -> Month
     }
 }
 
-// Puts year, month and day.
+// Puts year, month and day. No setter refuses, here or below: said so, the compiler knows which options are there.
 #[inline(always)]
 fn put_date(numbers: Numbers, parsed: &mut Parsed)
     requires year { numbers.year ≤ greatest_year }
@@ -70,9 +70,15 @@ fn put_date(numbers: Numbers, parsed: &mut Parsed)
     let Some(day) = NonZero::<u8>::new(numbers.day) else {
         unreachable!()
     };
-    parsed.set_year(i32::from(numbers.year));
-    parsed.set_month(month);
-    parsed.set_day(day);
+    let Some(()) = parsed.set_year(i32::from(numbers.year)) else {
+        unreachable!()
+    };
+    let Some(()) = parsed.set_month(month) else {
+        unreachable!()
+    };
+    let Some(()) = parsed.set_day(day) else {
+        unreachable!()
+    };
 }
 
 // Puts hour, minute, second and, where it stands, the fraction of the second.
@@ -84,11 +90,19 @@ fn put_time(numbers: Numbers, parsed: &mut Parsed)
     requires subsecond { ForSome numbers.subsecond (λ v. v < 1_000_000_000) }
     ensures { put_all greatest_year (time_entries numbers) parsed.old ≡ Some parsed.new }
 {
-    parsed.set_hour_24(numbers.hour);
-    parsed.set_minute(numbers.minute);
-    parsed.set_second(numbers.second);
+    let Some(()) = parsed.set_hour_24(numbers.hour) else {
+        unreachable!()
+    };
+    let Some(()) = parsed.set_minute(numbers.minute) else {
+        unreachable!()
+    };
+    let Some(()) = parsed.set_second(numbers.second) else {
+        unreachable!()
+    };
     if let Some(subsecond) = numbers.subsecond {
-        parsed.set_subsecond(subsecond);
+        let Some(()) = parsed.set_subsecond(subsecond) else {
+            unreachable!()
+        };
     }
 }
 
@@ -101,10 +115,17 @@ fn put_offset(numbers: Numbers, parsed: &mut Parsed)
 {
     let is_negative = numbers.offset_is_negative;
     parsed.forget_offset_sign();
-    parsed.set_offset_hour(with_sign(is_negative, numbers.offset_hour));
-    parsed.set_offset_minute_signed(with_sign(is_negative, numbers.offset_minute));
+    let Some(()) = parsed.set_offset_hour(with_sign(is_negative, numbers.offset_hour)) else {
+        unreachable!()
+    };
+    let Some(()) = parsed.set_offset_minute_signed(with_sign(is_negative, numbers.offset_minute))
+    else {
+        unreachable!()
+    };
     if numbers.is_utc {
-        parsed.set_offset_second_signed(0);
+        let Some(()) = parsed.set_offset_second_signed(0) else {
+            unreachable!()
+        };
     }
 }
 
@@ -139,7 +160,11 @@ impl Parsable for Rfc3339 {
     ) -> Result<OffsetDateTime, Parse> {
         match defaults {
             None => direct::rfc3339(input),
-            Some(_) => resolved(&self.parse_internal(input, defaults)),
+            Some(defaults) => {
+                let mut parsed = defaults;
+                let rest = self.parse_into(input, &mut parsed)?;
+                moment_before(rest, &parsed)
+            }
         }
     }
 

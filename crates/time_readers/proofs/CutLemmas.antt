@@ -13,6 +13,14 @@ pub first_byte : (s : List ℕ) → 1 ≤ length s → s ≡ get_or s 0 0 ∷ ta
 first_byte [] h = absurd (omega arith)
 first_byte (c ∷ s) h = ap (λ r. c ∷ r) (sym (take-drop (c ∷ s) 1 h))
 
+-- the first three bytes and a slice's tail
+pub first_three : (s : List ℕ) → 3 ≤ length s
+    → s ≡ (get_or s 0 0 ∷ get_or s 1 0 ∷ get_or s 2 0 ∷ []) ++ take (length s - 3) (drop 3 s)
+first_three [] h = absurd (omega arith)
+first_three (a ∷ []) h = absurd (omega arith)
+first_three (a ∷ b ∷ []) h = absurd (omega arith)
+first_three (a ∷ b ∷ c ∷ s) h = ap (λ r. a ∷ b ∷ c ∷ r) (sym (take-drop (a ∷ b ∷ c ∷ s) 3 h))
+
 -- a reader that finds by one form finds by an equal one
 pub Finds-same : {V A : Type 0} (S T : Form V) (view : A → V) (input : List ℕ) (answer : Option (ParsedItem A))
     → ((text rest : List ℕ) (v : V) → S text rest v → T text rest v)

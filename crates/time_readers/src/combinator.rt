@@ -52,7 +52,7 @@ pub fn n_to_m_digits<const N: u8, const M: u8, T: Integer>(
 }
 
 /// Reads one or two digits, as many as stand there, and answers their decimal value.
-#[inline]
+#[inline(always)]
 pub fn one_or_two_digits(input: &[u8]) -> Option<ParsedItem<'_, u8>>
     ensures { Finds (IsDigitRun 1 2) (λ v. v) input.now result }
 {
@@ -66,7 +66,7 @@ pub fn one_or_two_digits(input: &[u8]) -> Option<ParsedItem<'_, u8>>
 }
 
 // Reads exactly two digits, and answers their decimal value.
-#[inline]
+#[inline(always)]
 pub(crate) fn two_digits(input: &[u8]) -> Option<ParsedItem<'_, u8>>
     ensures { Finds (IsDigitRun 2 2) (λ v. v) input.now result }
 {
@@ -79,7 +79,7 @@ pub(crate) fn two_digits(input: &[u8]) -> Option<ParsedItem<'_, u8>>
 }
 
 // Reads exactly four digits, and answers their decimal value.
-#[inline]
+#[inline(always)]
 pub(crate) fn four_digits(input: &[u8]) -> Option<ParsedItem<'_, u16>>
     ensures { Finds (IsDigitRun 4 4) (λ v. v) input.now result }
 {
@@ -116,7 +116,7 @@ pub fn exactly_n_digits<const N: u8>(input: &[u8]) -> Option<ParsedItem<'_, u32>
 }
 
 // Reads exactly nine digits.
-#[inline]
+#[inline(always)]
 fn nine_digits(input: &[u8]) -> Option<ParsedItem<'_, u32>>
     ensures { Finds (IsDigitRun 9 9) (λ v. v) input.now result }
 {
@@ -126,7 +126,7 @@ fn nine_digits(input: &[u8]) -> Option<ParsedItem<'_, u32>>
 }
 
 // Reads exactly `N` digits, at once where eight bytes are left.
-#[inline]
+#[inline(always)]
 fn digits_of_word<const N: u8>(input: &[u8]) -> Option<ParsedItem<'_, u32>>
     requires least { 4 ≤ N }
     requires most { N ≤ 8 }
@@ -240,7 +240,7 @@ fn nanoseconds_of_place(digits: usize) -> u32
 
 // Reads the digits of a fraction of a second, as many as stand there, and answers nanoseconds: nine
 // digits count, later ones are dropped.
-#[inline]
+#[inline(always)]
 pub(crate) fn fraction(input: &[u8]) -> Option<ParsedItem<'_, u32>>
     ensures { Finds IsFraction (λ v. v) input.now result }
 {
@@ -249,6 +249,13 @@ pub(crate) fn fraction(input: &[u8]) -> Option<ParsedItem<'_, u32>>
             return Some(ParsedItem(without_digits(nine.0), nine.1));
         }
     }
+    fraction_by_digits(input)
+}
+
+// The same, one digit after another.
+fn fraction_by_digits(input: &[u8]) -> Option<ParsedItem<'_, u32>>
+    ensures { Finds IsFraction (λ v. v) input.now result }
+{
     let Some(found) = n_to_m_digits::<1, 9, u32>(input) else {
         return None;
     };
@@ -258,7 +265,7 @@ pub(crate) fn fraction(input: &[u8]) -> Option<ParsedItem<'_, u32>>
 }
 
 // What follows the digits with which the input begins.
-#[inline]
+#[inline(always)]
 fn without_digits(input: &[u8]) -> &[u8]
     ensures { (digits : List ℕ) × (input.now ≡ digits ++ result.now) × AllDigits digits × NoDigitFirst result.now }
 {

@@ -198,7 +198,7 @@ pub fn parse_iso_year_last_two(
 }
 
 /// Reads the first three letters of a month's English name. `None` where none stands.
-#[inline]
+#[inline(always)]
 pub fn parse_month_short(
     input: &[u8],
     modifiers: modifier::MonthShort,
@@ -280,7 +280,7 @@ pub fn parse_week_number_monday(
 }
 
 /// Reads the first three letters of a weekday's English name. `None` where none stands.
-#[inline]
+#[inline(always)]
 pub fn parse_weekday_short(
     input: &[u8],
     modifiers: modifier::WeekdayShort,

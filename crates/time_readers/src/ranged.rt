@@ -7,7 +7,7 @@ use crate::ParsedItem;
 use crate::combinator::two_digits;
 
 // Whether the number lies in the range, where that is asked.
-#[inline]
+#[inline(always)]
 pub(crate) fn is_within<const RANGED: bool>(value: u8, least: u8, most: u8) -> bool
     ensures { IsTrue result ↔ IsWithin RANGED least most value }
 {
@@ -15,7 +15,7 @@ pub(crate) fn is_within<const RANGED: bool>(value: u8, least: u8, most: u8) -> b
 }
 
 // Two digits, whose number lies in the range where that is asked.
-#[inline]
+#[inline(always)]
 pub(crate) fn two_digits_in<const RANGED: bool>(
     input: &[u8],
     least: u8,

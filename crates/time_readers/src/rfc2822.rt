@@ -238,6 +238,7 @@ fn colon_between_blanks(input: &[u8]) -> Option<ParsedItem<'_, ()>>
 /// Where three or more bytes are left, the first three have to be `EST`, `EDT`, `CST`, `CDT`, `MST`, `MDT`,
 /// `PST`, `PDT` or `GMT`. Where fewer are left, they have to be `UT` or to begin with one letter but `J`, of
 /// which the hours are 0. It refuses all else.
+#[inline(always)]
 pub fn zone_literal(input: &[u8]) -> Option<ParsedItem<'_, i8>>
     ensures { option_map (λ p. (p.1, p.0.now)) result ≡ zone_literal input.now }
 {
@@ -245,6 +246,13 @@ pub fn zone_literal(input: &[u8]) -> Option<ParsedItem<'_, i8>>
     if let [b'+' | b'-', ..] = input {
         return None;
     }
+    zone_name(input)
+}
+
+// Reads a zone name.
+fn zone_name(input: &[u8]) -> Option<ParsedItem<'_, i8>>
+    ensures { option_map (λ p. (p.1, p.0.now)) result ≡ zone_literal input.now }
+{
     if let [first, second, third, rest @ ..] = input {
         let hours = hours_of([*first, *second, *third])?;
         return Some(ParsedItem(rest, hours));

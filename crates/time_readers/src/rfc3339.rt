@@ -127,6 +127,8 @@ fn to_second<'a, const RANGED: bool>(
 
 /// The refusal of a text whose first place that doesn't stand is this one: an invalid literal where one
 /// fixed byte should stand, else an invalid component of the place's name.
+#[cold]
+#[inline(never)]
 pub fn place_fault(place: Place) -> ParseFromDescription
     ensures { refusal_of_description result ≡ fault place }
 {

@@ -5,7 +5,7 @@ ghost use Rattle.time_readers.specs.Words.{first_bytes};
 
 // Joins the first `n` bytes of the text in the word, of which the lowest byte is the first, where all are
 // digits.
-#[inline]
+#[inline(always)]
 fn join_word(word: u64, n: u8) -> Option<u32>
     requires least { 4 ≤ n }
     requires most { n ≤ 8 }
@@ -33,7 +33,7 @@ fn join_word(word: u64, n: u8) -> Option<u32>
 }
 
 // Joins the first `n` of eight bytes, where all are digits.
-#[inline]
+#[inline(always)]
 pub(super) fn join_bytes(bytes: &[u8; 8], n: u8) -> Option<u32>
     requires least { 4 ≤ n }
     requires most { n ≤ 8 }

@@ -10,18 +10,21 @@ use time_values::{Month, Weekday};
 
 // Reads three bytes as small letters. Where the case matters, they have to be a capital and two small
 // letters.
-#[inline]
+#[inline(always)]
 pub(super) fn three_letters(input: &[u8], case_sensitive: bool) -> Option<ParsedItem<'_, [u8; 3]>>
     ensures { Finds (IsTitle case_sensitive) (λ v. v) input.now result }
 {
     let [first, second, third, rest @ ..] = input else {
         return None;
     };
-    let letters = [*first, *second, *third];
-    if case_sensitive && !is_title(letters) {
+    if case_sensitive && !is_title([*first, *second, *third]) {
         return None;
     }
-    let small = letters.map(|letter| letter.to_ascii_lowercase());
+    let small = [
+        first.to_ascii_lowercase(),
+        second.to_ascii_lowercase(),
+        third.to_ascii_lowercase(),
+    ];
     Some(ParsedItem(rest, small))
 }
 
@@ -35,7 +38,7 @@ fn is_title(letters: [u8; 3]) -> bool
 }
 
 // The month whose name begins with these small letters.
-#[inline]
+#[inline(always)]
 pub(super) fn month_of(letters: [u8; 3]) -> Option<Month>
     ensures { IsWithLetters month_name letters result }
 {
@@ -57,7 +60,7 @@ pub(super) fn month_of(letters: [u8; 3]) -> Option<Month>
 }
 
 // The weekday whose name begins with these small letters.
-#[inline]
+#[inline(always)]
 pub(super) fn weekday_of(letters: [u8; 3]) -> Option<Weekday>
     ensures { IsWithLetters weekday_name letters result }
 {

@@ -117,6 +117,8 @@ pub fn read<const RANGED: bool>(input: &[u8]) -> Result<ParsedItem<'_, Numbers>,
 
 /// The refusal of a text whose first place that doesn't stand is this one: an invalid component of the
 /// place's name where a number or a name should stand, else an invalid literal.
+#[cold]
+#[inline(never)]
 pub fn place_fault(place: Place) -> ParseFromDescription
     ensures { refusal_of_description result ≡ fault place }
 {

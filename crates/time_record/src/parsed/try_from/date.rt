@@ -34,7 +34,7 @@ impl TryFrom<Parsed> for Date {
 }
 
 // The date of a record.
-#[inline]
+#[inline(always)]
 #[tactic(auto, unfolding(crate::specs::Resolution::IsDated))]
 pub(super) fn date_of(parsed: &Parsed) -> Result<Date, TryFromParsed>
     ensures { IsDated greatest_year parsed.now (parsed_seen result) }
@@ -47,7 +47,7 @@ pub(super) fn date_of(parsed: &Parsed) -> Result<Date, TryFromParsed>
 
 // The year, month and day where they are the row of a record, as in most: all three are there, and
 // no ordinal is before them.
-#[inline]
+#[inline(always)]
 fn year_month_day(parsed: &Parsed) -> Option<(i32, Month, NonZero<u8>)>
     ensures row { IfSome result (λ p. first_row parsed.now
         ≡ Some (by_month_and_day p.0 p.1 (non_zero_u8_get p.2))) }
@@ -60,7 +60,7 @@ fn year_month_day(parsed: &Parsed) -> Option<(i32, Month, NonZero<u8>)>
 }
 
 // The date of a record by the first of its rows.
-#[inline]
+#[inline(never)]
 #[tactic(auto, unfolding(crate::specs::Resolution::IsDated))]
 fn date_of_rows(parsed: &Parsed) -> Result<Date, TryFromParsed>
     ensures { IsDated greatest_year parsed.now (parsed_seen result) }

@@ -7,7 +7,7 @@ use crate::Parsed;
 use time_values::error::{ComponentRange, TryFromParsed};
 
 // Whether the record's second is a leap second that is allowed.
-#[inline]
+#[inline(always)]
 pub(super) fn is_leap_second(parsed: &Parsed) -> bool
     ensures { result ≡ Resolution.is_leap_second parsed.now }
 {
@@ -16,7 +16,7 @@ pub(super) fn is_leap_second(parsed: &Parsed) -> bool
 
 // The second and the subsecond of a record, with the last nanosecond before a leap second in its
 // place.
-#[inline]
+#[inline(always)]
 pub(super) fn stand_in(parsed: &Parsed) -> (Option<u8>, Option<u32>)
     ensures { record parsed.now { second = result.0; subsecond = result.1 }
         ≡ Resolution.stand_in parsed.now }

@@ -23,7 +23,7 @@ impl TryFrom<Parsed> for UtcOffset {
 }
 
 // The offset of a record.
-#[inline]
+#[inline(always)]
 #[tactic(auto, unfolding(crate::specs::Resolution::IsOffset))]
 pub(super) fn offset_of(parsed: &Parsed) -> Result<UtcOffset, TryFromParsed>
     ensures { IsOffset parsed.now (parsed_seen result) }
@@ -35,7 +35,7 @@ pub(super) fn offset_of(parsed: &Parsed) -> Result<UtcOffset, TryFromParsed>
 }
 
 // The offset of a record that has that hour.
-#[inline]
+#[inline(always)]
 #[tactic(auto, unfolding(crate::specs::Resolution::IsOffset))]
 fn offset_of_hour(hour: i8, parsed: &Parsed) -> Result<UtcOffset, TryFromParsed>
     requires { parsed.now.offset_hour ≡ Some hour }
@@ -46,7 +46,7 @@ fn offset_of_hour(hour: i8, parsed: &Parsed) -> Result<UtcOffset, TryFromParsed>
 }
 
 // The seconds of the offset, which count only below minutes.
-#[inline]
+#[inline(always)]
 fn second_below(parsed: &Parsed) -> i8
     ensures { result ≡ offset_seconds_of parsed.now }
 {

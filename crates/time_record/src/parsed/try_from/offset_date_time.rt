@@ -26,7 +26,7 @@ impl TryFrom<Parsed> for OffsetDateTime {
 
     ghost try_from_gives = { λ p r. IsMoment greatest_year p (parsed_seen r) };
 
-    #[inline]
+    #[inline(always)]
     #[tactic(auto, unfolding(crate::specs::Resolution::IsMoment))]
     fn try_from(parsed: Parsed) -> Result<OffsetDateTime, TryFromParsed> {
         match parsed.unix_timestamp_nanos() {
@@ -53,7 +53,7 @@ fn moment_at(nanos: i128, subsecond: Option<u32>) -> Result<OffsetDateTime, TryF
 }
 
 // The moment of a date, a time and an offset.
-#[inline]
+#[inline(always)]
 #[tactic(auto, unfolding(crate::specs::Resolution::IsMomentOfParts))]
 fn moment_of_parts(parsed: &Parsed) -> Result<OffsetDateTime, TryFromParsed>
     ensures { IsMomentOfParts greatest_year parsed.now (parsed_seen result) }

@@ -33,7 +33,7 @@ pub(super) fn time_of(parsed: &Parsed) -> Result<Time, TryFromParsed>
 }
 
 // The time of a record, with that second and subsecond in place of its own.
-#[inline]
+#[inline(always)]
 #[tactic(auto, unfolding(crate::specs::Resolution::IsTimed))]
 pub(super) fn time_with(
     parsed: &Parsed,
@@ -58,7 +58,7 @@ pub(super) fn time_with(
 }
 
 // The hour of the day, 0 to 23, by itself or by the half of the day.
-#[inline]
+#[inline(always)]
 fn hour_of_day(parsed: &Parsed) -> Option<u8>
     ensures { result ≡ hour_of parsed.now }
 {

@@ -147,6 +147,14 @@ is_short says name_of titled case_sensitive input rest letters v cut e =
     let title = subst (IsTitle case_sensitive cut.0 rest) e cut.2 in
     (cut.0, cut.1, (v, refl, title_is_short says name_of titled case_sensitive cut.0 rest v title))
 
+-- three letters that stand so in a name
+pub is_titled : {A : Type 0} (says : A → Value) (name_of : A → List ℕ) → Titled says name_of → (case_sensitive : Bool)
+    (input rest letters : List ℕ) (v : A) → input ≡ letters ++ rest → letters ≡ take 3 (name_of v)
+    → Cut (Says says (IsShortOf case_sensitive name_of)) input rest (says v)
+is_titled says name_of titled case_sensitive input rest letters v cut e =
+    is_short says name_of titled case_sensitive input rest (letters_of name_of v) v
+    (letters, cut, (ap length e ∙ titled.told.length_is v, ap str_to_ascii_lowercase (sym e), λ t. ap is_title e ∙ titled.title v)) refl
+
 -- what a text spells, by the value that it says
 pub spelled : {A : Type 0} (says : A → Value) (S : Form A) → ((v w : A) → says v ≡ says w → v ≡ w) → (input rest : List ℕ) (v : A)
     → Cut (Says says S) input rest (says v) → Cut S input rest v

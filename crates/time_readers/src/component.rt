@@ -16,7 +16,10 @@ mod numbers;
 use crate::{ParsedItem, Period, SubsecondDigits, TrailingInput, modifier};
 use fractions::{fraction, long_fraction};
 use letters::{period_of, two_letters, weekday_digit, weekday_from_monday};
-use names::{ending_of, month_ending, month_of, three_letters, weekday_ending, weekday_of};
+use names::{
+    ending_of, month_ending, month_of, three_letters, titled_month, titled_weekday, weekday_ending,
+    weekday_of,
+};
 use numbers::{century, full_year, offset_hour, offset_part, run, timestamp, two_places};
 use std::num::NonZero;
 use time_values::{Month, Weekday};
@@ -205,6 +208,11 @@ pub fn parse_month_short(
 ) -> Option<ParsedItem<'_, Month>>
     ensures { Finds (Spells false (component.MonthShort modifiers)) month input.now result }
 {
+    if let [first, second, third, rest @ ..] = input {
+        if let Some(month) = titled_month([*first, *second, *third]) {
+            return Some(ParsedItem(rest, month));
+        }
+    }
     let modifier::MonthShort { case_sensitive } = modifiers;
     let letters = three_letters(input, case_sensitive)?;
     let month = month_of(letters.1)?;
@@ -287,6 +295,11 @@ pub fn parse_weekday_short(
 ) -> Option<ParsedItem<'_, Weekday>>
     ensures { Finds (Spells false (component.WeekdayShort modifiers)) weekday input.now result }
 {
+    if let [first, second, third, rest @ ..] = input {
+        if let Some(weekday) = titled_weekday([*first, *second, *third]) {
+            return Some(ParsedItem(rest, weekday));
+        }
+    }
     let modifier::WeekdayShort { case_sensitive } = modifiers;
     let letters = three_letters(input, case_sensitive)?;
     let weekday = weekday_of(letters.1)?;

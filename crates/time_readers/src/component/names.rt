@@ -1,5 +1,5 @@
 //! Names of months and weekdays.
-ghost use Rattle.std.specs.Prelude.{◌≡◌, ◌↔◌, drop, IsTrue};
+ghost use Rattle.std.specs.Prelude.{◌≡◌, ◌↔◌, take, drop, IfSome, IsTrue};
 ghost use Rattle.time_readers.specs.Cuts.{Finds};
 ghost use Rattle.time_readers.specs.Names.{IsNamed, month_name, weekday_name};
 ghost use Rattle.time_readers.specs.ShortNames as ShortNames;
@@ -72,6 +72,45 @@ pub(super) fn weekday_of(letters: [u8; 3]) -> Option<Weekday>
         b"fri" => Some(Weekday::Friday),
         b"sat" => Some(Weekday::Saturday),
         b"sun" => Some(Weekday::Sunday),
+        _ => None,
+    }
+}
+
+// The month whose name begins with these letters as they stand. `None` says nothing.
+#[inline(always)]
+pub(super) fn titled_month(letters: [u8; 3]) -> Option<Month>
+    ensures { IfSome result (λ v. letters ≡ take 3 (month_name v)) }
+{
+    match &letters {
+        b"Jan" => Some(Month::January),
+        b"Feb" => Some(Month::February),
+        b"Mar" => Some(Month::March),
+        b"Apr" => Some(Month::April),
+        b"May" => Some(Month::May),
+        b"Jun" => Some(Month::June),
+        b"Jul" => Some(Month::July),
+        b"Aug" => Some(Month::August),
+        b"Sep" => Some(Month::September),
+        b"Oct" => Some(Month::October),
+        b"Nov" => Some(Month::November),
+        b"Dec" => Some(Month::December),
+        _ => None,
+    }
+}
+
+// The weekday whose name begins with these letters as they stand. `None` says nothing.
+#[inline(always)]
+pub(super) fn titled_weekday(letters: [u8; 3]) -> Option<Weekday>
+    ensures { IfSome result (λ v. letters ≡ take 3 (weekday_name v)) }
+{
+    match &letters {
+        b"Mon" => Some(Weekday::Monday),
+        b"Tue" => Some(Weekday::Tuesday),
+        b"Wed" => Some(Weekday::Wednesday),
+        b"Thu" => Some(Weekday::Thursday),
+        b"Fri" => Some(Weekday::Friday),
+        b"Sat" => Some(Weekday::Saturday),
+        b"Sun" => Some(Weekday::Sunday),
         _ => None,
     }
 }

@@ -19,4 +19,4 @@ returns-in-len3-up c =
     ∙ sym (zone-three _ c.in-len3-up.len_at_least)
 
 pub returns : goal.returns
-returns c = c.short_zone.ensures ∙ sym (zone-short _ c.in_default-input.len_below)
+returns c = c.short_zone.ensures ∙ sym (zone-short _ c.in_default.len_below)

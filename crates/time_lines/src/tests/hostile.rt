@@ -6,19 +6,13 @@ use std::alloc::{AllocError, Global};
 use std::io;
 use std::test::Fail;
 
-// The first moment that there is, and the one before it.
-const RANGE_ENDS: [(&str, &str, &str, &str); 5] = [
+// The first moment of the years of four digits, and the first that there is.
+const RANGE_ENDS: [(&str, &str, &str, &str); 7] = [
     (
         "unix",
         "datetime",
         "-377705116800",
         "-9999-01-01 00:00:00.000000000 +00:00:00\n",
-    ),
-    (
-        "unix",
-        "datetime",
-        "-377705116801",
-        "error: the 'unix_timestamp' component could not be parsed\n",
     ),
     (
         "local",
@@ -27,15 +21,33 @@ const RANGE_ENDS: [(&str, &str, &str, &str); 5] = [
         "-9999-01-01 00:00:00.000000000 +00:01:00\n",
     ),
     (
-        "local",
+        "unix",
+        "datetime",
+        "-31619087596800",
+        "-999999-01-01 00:00:00.000000000 +00:00:00\n",
+    ),
+    (
+        "unix",
+        "datetime",
+        "-31619087596801",
+        "error: the 'unix_timestamp' component could not be parsed\n",
+    ),
+    (
+        "iso8601",
+        "datetime",
+        "-999999-01-01T00:00:00+00:01",
+        "-999999-01-01 00:00:00.000000000 +00:01:00\n",
+    ),
+    (
+        "iso8601",
         "utc",
-        "-9999-01-01 00:00:00 +00:01",
+        "-999999-01-01T00:00:00+00:01",
         "error: year is out of range for the other components\n",
     ),
     (
-        "local",
+        "iso8601",
         "timestamp",
-        "-9999-01-01 00:00:00 +00:01",
+        "-999999-01-01T00:00:00+00:01",
         "error: the `Parsed` struct did not include enough information to construct the type\n",
     ),
 ];

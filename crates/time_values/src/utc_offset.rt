@@ -30,6 +30,7 @@ impl UtcOffset {
     /// The offset of these parts. Smaller parts take the sign of the first that is not 0. The first
     /// part that is out of range is refused: `hours` outside -25 to 25, `minutes` outside -59 to
     /// 59, `seconds` outside -59 to 59.
+    #[inline(always)]
     pub fn from_hms(hours: i8, minutes: i8, seconds: i8) -> Result<UtcOffset, ComponentRange>
         ensures { Constructs (offset_refusal hours minutes seconds) (HasOffset hours minutes seconds)
             result }
@@ -79,6 +80,7 @@ impl UtcOffset {
 }
 
 // x with the sign of the first number, where that is not 0.
+#[inline(always)]
 fn same_sign(sign: i8, x: i8) -> i8
     requires { IsBetween (neg_ℤ (pos 59)) (pos 59) x }
     ensures value { result ≡ Sign.same_sign sign x }

@@ -27,7 +27,7 @@ impl TryFrom<Parsed> for Date {
 
     ghost try_from_gives = { λ p r. IsDated greatest_year p (parsed_seen r) };
 
-    #[inline]
+    #[inline(always)]
     fn try_from(parsed: Parsed) -> Result<Date, TryFromParsed> {
         date_of(&parsed)
     }

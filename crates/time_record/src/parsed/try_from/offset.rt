@@ -16,7 +16,7 @@ impl TryFrom<Parsed> for UtcOffset {
 
     ghost try_from_gives = { λ p r. IsOffset p (parsed_seen r) };
 
-    #[inline]
+    #[inline(always)]
     fn try_from(parsed: Parsed) -> Result<UtcOffset, TryFromParsed> {
         offset_of(&parsed)
     }

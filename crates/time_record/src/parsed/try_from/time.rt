@@ -18,7 +18,7 @@ impl TryFrom<Parsed> for Time {
 
     ghost try_from_gives = { λ p r. IsTimed p (parsed_seen r) };
 
-    #[inline]
+    #[inline(always)]
     fn try_from(parsed: Parsed) -> Result<Time, TryFromParsed> {
         time_of(&parsed)
     }

@@ -174,11 +174,7 @@ fn time_over<'a>(
 
 // Reads an offset of that kind over the record, and answers the rest.
 #[inline(always)]
-fn offset_over<'a>(
-    input: &'a [u8],
-    parsed: &mut Parsed,
-    kind: ExtendedKind,
-) -> Option<&'a [u8]>
+fn offset_over<'a>(input: &'a [u8], parsed: &mut Parsed, kind: ExtendedKind) -> Option<&'a [u8]>
     ensures { MatchOption result
         ((spec.offset_over greatest_year kind input.now parsed.old ≡ None) × (parsed.new ≡ parsed.old))
         (λ rest. spec.offset_over greatest_year kind input.now parsed.old ≡ Some (rest.now, parsed.new)) }

@@ -162,11 +162,7 @@ fn rounded_second(input: &[u8]) -> Option<ParsedItem<'_, (u8, u32)>>
 
 // The time of a text of any form.
 #[inline(never)]
-fn any_time<'a>(
-    input: &'a [u8],
-    kind: ExtendedKind,
-    needs_t: bool,
-) -> Option<Part<'a, TimeNumbers>>
+fn any_time<'a>(input: &'a [u8], kind: ExtendedKind, needs_t: bool) -> Option<Part<'a, TimeNumbers>>
     ensures { GivesPart (spec.time_text needs_t kind input.now) result }
 {
     match byte::<b'T'>(input) {

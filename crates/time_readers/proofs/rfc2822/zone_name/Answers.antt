@@ -1,4 +1,4 @@
-use Rattle.std.proofs.Common.{◌≡◌, ap, sym, ◌∙◌, ◌-◌, length, take, drop, Some, option_map, rules, w8, SFits}
+use Rattle.std.proofs.Common.{ap, sym, ◌∙◌, ◌-◌, length, take, drop, Some, option_map, rules, w8, SFits}
 use Rattle.std.proofs.lemmas.Int.{to_z-of_z}
 use Rattle.time_readers.proofs.MailZones.{zone-three, zone-short}
 use Rattle.time_readers.proofs.rfc2822.zone_name.Goals as goal

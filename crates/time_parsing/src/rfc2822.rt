@@ -30,8 +30,8 @@ use time_values::error::Parse;
 #[derive(Clone, Copy, Debug, PartialEq, Eq)]
 pub struct Rfc2822;
 
-// Puts the weekday, where it stands, day, month and year. No setter refuses, here or below: said so, the compiler
-// knows which options are there.
+// Puts the weekday, where it stands, day, month and year. No setter refuses, here or below: said
+// so, the compiler knows which options are there.
 #[inline(always)]
 fn put_date(numbers: Numbers, parsed: &mut Parsed)
     requires day { IsInRange 1 31 numbers.day }

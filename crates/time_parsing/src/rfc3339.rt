@@ -57,7 +57,8 @@ fn month(number: u8) -> Month
     }
 }
 
-// Puts year, month and day. No setter refuses, here or below: said so, the compiler knows which options are there.
+// Puts year, month and day. No setter refuses, here or below: said so, the compiler knows which
+// options are there.
 #[inline(always)]
 fn put_date(numbers: Numbers, parsed: &mut Parsed)
     requires year { numbers.year ≤ greatest_year }

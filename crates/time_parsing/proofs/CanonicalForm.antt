@@ -1,10 +1,9 @@
 -- A canonical text has the form of RFC 3339.
-use Rattle.std.proofs.Common.{◌≡◌, ◌≢◌, ◌≤◌, ◌<◌, ◌+◌, ◌*◌, ◌^◌, ◌/◌, ◌%◌, ℕ, zero, suc, List, [], ◌∷◌, ◌++◌, length, take, Bool, false, Some, refl, sym, ap, ◌∙◌, inl, inr, arith, codes}
+use Rattle.std.proofs.Common.{◌≡◌, ◌≢◌, ◌≤◌, ◌<◌, ◌+◌, ◌^◌, ◌/◌, ◌%◌, ℕ, zero, suc, List, [], ◌∷◌, ◌++◌, length, take, false, Some, refl, sym, ap, ◌∙◌, inl, inr, arith, codes}
 use Rattle.std.specs.List.{concat}
 use Rattle.std.proofs.lemmas.List.{length-append}
 use Rattle.std.proofs.Math.Seq.{take-length}
 use Rattle.time_readers.specs.Bytes.{sign_byte, is_negative}
-use Rattle.time_readers.specs.Cuts.{Form}
 use Rattle.time_readers.specs.Digits.{AllDigits, digits_value, NoDigitFirst, IsDigitRun, IsFraction}
 use Rattle.time_readers.specs.Places.{Format, Stand}
 use Rattle.time_readers.specs.Rfc3339.{Asks, HasForm, nothing_read, time_places, offset_places}

@@ -1,11 +1,11 @@
 -- Lists that are joined, or flattened. `Y` is the greatest year.
-use Rattle.std.proofs.Common.{◌≡◌, ◌↔◌, ◌⊎◌, ℕ, List, [], ◌∷◌, ◌++◌, refl, sym, subst, inl, inr}
+use Rattle.std.proofs.Common.{◌↔◌, ◌⊎◌, ℕ, List, [], ◌∷◌, ◌++◌, refl, subst, inl, inr}
 use Rattle.time_values.specs.Refusal.{Refusal}
-use Rattle.time_readers.specs.Tree.{Tree, Trees, sequence, none, more, trees}
+use Rattle.time_readers.specs.Tree.{Tree, Trees, sequence, more, trees}
 use Rattle.time_record.specs.Reading.{Reads, ReadsAll, IsFault, IsFaultAll, Refuses, RefusesAll}
 use Rattle.time_record.specs.Record.{Record}
-use Rattle.time_record.proofs.Steps.{ReadsAll-more, RefusesAll-here, RefusesAll-more}
-use Rattle.time_parsing.specs.TreeLaws.{JoinedReads, JoinedRefuses, Alike, Flattens}
+use Rattle.time_record.proofs.Steps.{RefusesAll-here, RefusesAll-more}
+use Rattle.time_parsing.specs.TreeLaws.{JoinedReads, JoinedRefuses, Flattens}
 
 -- trees in turn, read in two parts
 abbrev ReadsBoth : ℕ → Trees → Trees → List ℕ → Record → List ℕ → Record → Type 0

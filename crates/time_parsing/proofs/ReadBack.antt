@@ -1,5 +1,5 @@
 -- A canonical text is read back.
-use Rattle.std.proofs.Common.{rules, ◌≡◌, ◌≢◌, ◌≤◌, ◌<◌, ◌^◌, ℕ, zero, suc, ℤ, pos, negsuc, neg_ℤ, unsigned_abs, Bool, true, false, Some, None, Ok, refl, sym, ap, ◌∙◌, subst, arith}
+use Rattle.std.proofs.Common.{rules, ◌≡◌, ◌≢◌, ◌≤◌, ◌<◌, ◌^◌, ℕ, zero, suc, ℤ, pos, negsuc, neg_ℤ, unsigned_abs, Bool, true, false, None, refl, sym, ap, ◌∙◌, subst, arith}
 use Rattle.std.specs.Prelude.{◌==◌, ◌||◌, if◌then◌else◌, int_lt}
 use Rattle.std.specs.Option.{option_or}
 use Rattle.std.proofs.lemmas.Bool.{le-leb}
@@ -22,7 +22,7 @@ use Rattle.time_values.specs.declared.time.Time.{Time}
 use Rattle.time_values.specs.declared.utc_offset.UtcOffset.{UtcOffset}
 use Rattle.time_values.proofs.NumberLemmas.{month_number_in}
 use Rattle.time_readers.specs.Bytes.{is_negative}
-use Rattle.time_readers.specs.Direct.{shown_second, shown_nanosecond, first_refusal, LeapSecondMayStand, IsMoment, IsDirectRfc3339, RefusesRfc3339, minute_refusal, said_rfc3339}
+use Rattle.time_readers.specs.Direct.{shown_second, shown_nanosecond, first_refusal, LeapSecondMayStand, IsMoment, IsDirectRfc3339, RefusesRfc3339, said_rfc3339}
 use Rattle.time_readers.specs.declared.Sign.TheVariants.{Negative, Positive}
 use Rattle.time_readers.specs.declared.direct.Said.{Said}
 use Rattle.time_readers.proofs.Made.{minute_stands}

@@ -1,10 +1,10 @@
 -- Optional trees, equal trees, and what a tree leaves. `Y` is the greatest year.
-use Rattle.std.proofs.Common.{◌≡◌, ◌↔◌, ℕ, List, [], ◌∷◌, ◌++◌, Result, Ok, Err, Bor, refl, ap, sym, ◌∙◌, subst, inl, inr, append_assoc}
+use Rattle.std.proofs.Common.{◌≡◌, ℕ, List, [], ◌∷◌, ◌++◌, Result, Ok, Err, Bor, refl, ap, sym, ◌∙◌, subst, inl, inr, append_assoc}
 use Rattle.time_values.specs.Refusal.{Refusal, refusal_of_description}
 use Rattle.time_values.specs.declared.error.ParseFromDescription.{ParseFromDescription}
 use Rattle.time_readers.specs.Tree.{Tree, Trees, literal, component, sequence, optional, first_of, none, more, trees}
 use Rattle.time_record.specs.Answer.{Answers}
-use Rattle.time_record.specs.Reading.{Reads, ReadsAll, ReadsSome, IsFault, IsFaultAll, Refuses}
+use Rattle.time_record.specs.Reading.{Reads, ReadsAll, ReadsSome, IsFault, Refuses}
 use Rattle.time_record.specs.Record.{Record}
 use Rattle.time_record.proofs.Unique.{Reads-unique, Refuses-unique, Reads-unrefused}
 use Rattle.time_parsing.specs.TreeLaws.{OptionalAsFirst, told, AnswersAlike, LeavesSuffix}

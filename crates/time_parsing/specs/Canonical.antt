@@ -1,6 +1,6 @@
 -- The canonical text of a moment by RFC 3339, section 5.6: with nine digits of a fraction, and an offset.
 use Rattle.std.specs.List.{concat}
-use Rattle.std.specs.Prelude.{◌≡◌, ℕ, zero, suc, ◌+◌, ◌/◌, ◌%◌, ℤ, pos, neg_ℤ, int_lt, unsigned_abs, List, [], ◌∷◌, ◌++◌, codes, Bool, ◌||◌, if◌then◌else◌, None, Ok}
+use Rattle.std.specs.Prelude.{◌≡◌, ℕ, zero, suc, ◌+◌, ◌/◌, ◌%◌, pos, neg_ℤ, int_lt, unsigned_abs, List, [], ◌∷◌, ◌++◌, codes, Bool, ◌||◌, if◌then◌else◌, None, Ok}
 use Rattle.time_values.specs.Calendar.{IsBetween}
 use Rattle.time_values.specs.Dates as Dates
 use Rattle.time_values.specs.Moments.{offset_date, offset_time, offset_of}

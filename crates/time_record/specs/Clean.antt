@@ -1,5 +1,5 @@
 -- Readings that leave each character whole. `Y` is the greatest year.
-use Rattle.std.specs.Prelude.{◌≡◌, ℕ, List, Bool, false}
+use Rattle.std.specs.Prelude.{◌≡◌, ℕ, List, false}
 use Rattle.time_readers.specs.declared.format_description.Component.{Component}
 use Rattle.time_readers.specs.declared.format_description.Component.TheVariants.{Ignore}
 use Rattle.time_readers.specs.declared.modifier.Ignore.{Ignore as Ignore'}

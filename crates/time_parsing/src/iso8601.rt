@@ -10,7 +10,7 @@ ghost use Rattle.time_parsing.specs.Outcome.{over_record};
 ghost use Rattle.time_parsing.specs.Rfc3339.{without_offset_sign};
 
 use crate::Parsable;
-use crate::parsable::resolved;
+use crate::parsable::moment_before;
 use time_readers::iso8601::{
     DateNumbers, ExtendedKind, OffsetNumbers, TimeNumbers, date, offset, time,
 };
@@ -246,7 +246,7 @@ impl Parsable for Iso8601 {
 
     ghost path = { λ _. over_record };
 
-    #[inline(never)]
+    #[inline(always)]
     fn parse_into<'a>(&self, input: &'a [u8], parsed: &mut Parsed) -> Result<&'a [u8], Parse> {
         let before = *parsed;
         parsed.allow_leap_second();
@@ -259,12 +259,18 @@ impl Parsable for Iso8601 {
         }
     }
 
+    #[inline(always)]
     fn parse_offset_date_time(
         &self,
         input: &[u8],
         defaults: Option<Parsed>,
     ) -> Result<OffsetDateTime, Parse> {
-        resolved(&self.parse_internal(input, defaults))
+        let mut parsed = Parsed::new();
+        if let Some(known) = defaults {
+            parsed = known;
+        }
+        let rest = self.parse_into(input, &mut parsed)?;
+        moment_before(rest, &parsed)
     }
 
     ghost use Rattle.time_parsing.specs.Iso8601Laws.{iso8601_exact};

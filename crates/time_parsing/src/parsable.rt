@@ -1,13 +1,14 @@
 //! What can be parsed by.
 ghost use Rattle.std.specs.Prelude.{◌≡◌, ◌≢◌, ◌⊎◌, [], Ok, Err, MatchResult};
 ghost use Rattle.time_values.specs.Range.{greatest_year};
-ghost use Rattle.time_values.specs.Refusal.{refusal_of, trailing};
+ghost use Rattle.time_values.specs.Refusal.{refusal_of, refusal_of_parsed, trailing};
+ghost use Rattle.time_values.specs.declared.error.TryFromParsed.{TryFromParsed as TryFromParsed_};
 ghost use Rattle.time_record.specs.Resolution.{IsDated, IsTimed, IsOffset, IsPlain, IsUtcMoment, IsMoment, IsTimestamp};
 ghost use Rattle.time_parsing.specs.Outcome.{Reading, Refusing, begun, seen, ParsesInto, IsWhole, IsOutcome, IsExact, Path, over_record, IsMomentOutcome, IsExactPath};
 
 use std::convert::TryFrom;
 use time_record::Parsed;
-use time_values::error::{Parse, ParseFromDescription};
+use time_values::error::{Parse, ParseFromDescription, TryFromParsed};
 use time_values::{Date, OffsetDateTime, PlainDateTime, Time, Timestamp, UtcDateTime, UtcOffset};
 
 /// A format that texts can be parsed by.
@@ -51,10 +52,9 @@ pub trait Parsable {
         ensures { IsOutcome (IsDated greatest_year) (reads self.now) (refuses self.now) input.now
             (begun defaults) (seen result) }
     {
-        match self.parse_internal(input, defaults) {
-            Ok(parsed) => Ok(Date::try_from(parsed)?),
-            Err(e) => Err(e),
-        }
+        let mut parsed = begin(defaults);
+        let rest = self.parse_into(input, &mut parsed)?;
+        value_before::<Date>(rest, &parsed)
     }
 
     /// The time of the whole input, read over the defaults.
@@ -62,10 +62,9 @@ pub trait Parsable {
         ensures { IsOutcome IsTimed (reads self.now) (refuses self.now) input.now
             (begun defaults) (seen result) }
     {
-        match self.parse_internal(input, defaults) {
-            Ok(parsed) => Ok(Time::try_from(parsed)?),
-            Err(e) => Err(e),
-        }
+        let mut parsed = begin(defaults);
+        let rest = self.parse_into(input, &mut parsed)?;
+        value_before::<Time>(rest, &parsed)
     }
 
     /// The offset of the whole input, read over the defaults.
@@ -73,10 +72,9 @@ pub trait Parsable {
         ensures { IsOutcome IsOffset (reads self.now) (refuses self.now) input.now
             (begun defaults) (seen result) }
     {
-        match self.parse_internal(input, defaults) {
-            Ok(parsed) => Ok(UtcOffset::try_from(parsed)?),
-            Err(e) => Err(e),
-        }
+        let mut parsed = begin(defaults);
+        let rest = self.parse_into(input, &mut parsed)?;
+        value_before::<UtcOffset>(rest, &parsed)
     }
 
     /// The date and time of the whole input, read over the defaults.
@@ -88,10 +86,9 @@ pub trait Parsable {
         ensures { IsOutcome (IsPlain greatest_year) (reads self.now) (refuses self.now) input.now
             (begun defaults) (seen result) }
     {
-        match self.parse_internal(input, defaults) {
-            Ok(parsed) => Ok(PlainDateTime::try_from(parsed)?),
-            Err(e) => Err(e),
-        }
+        let mut parsed = begin(defaults);
+        let rest = self.parse_into(input, &mut parsed)?;
+        value_before::<PlainDateTime>(rest, &parsed)
     }
 
     /// The date and time in UTC of the whole input, read over the defaults.
@@ -103,10 +100,9 @@ pub trait Parsable {
         ensures { IsOutcome (IsUtcMoment greatest_year) (reads self.now) (refuses self.now) input.now
             (begun defaults) (seen result) }
     {
-        match self.parse_internal(input, defaults) {
-            Ok(parsed) => Ok(UtcDateTime::try_from(parsed)?),
-            Err(e) => Err(e),
-        }
+        let mut parsed = begin(defaults);
+        let rest = self.parse_into(input, &mut parsed)?;
+        value_before::<UtcDateTime>(rest, &parsed)
     }
 
     /// The date, time and offset of the whole input, read over the defaults. Without defaults a format
@@ -124,10 +120,9 @@ pub trait Parsable {
         ensures { IsOutcome (IsTimestamp greatest_year) (reads self.now) (refuses self.now) input.now
             (begun defaults) (seen result) }
     {
-        match self.parse_internal(input, defaults) {
-            Ok(parsed) => Ok(Timestamp::try_from(parsed)?),
-            Err(e) => Err(e),
-        }
+        let mut parsed = begin(defaults);
+        let rest = self.parse_into(input, &mut parsed)?;
+        value_before::<Timestamp>(rest, &parsed)
     }
 
     // The format has one answer to a text over a record.
@@ -137,18 +132,35 @@ pub trait Parsable {
     ghost exact_path: { (s : Self) → IsExactPath greatest_year (path s) (reads s) (refuses s) };
 }
 
-/// The date, time and offset of a record that was read, or else the error of its reading.
+/// The record that a parse begins with. It is made before the defaults are looked at, since a choice between two
+/// records is made piece by piece.
 #[inline(always)]
-pub fn resolved(read: &Result<Parsed, Parse>) -> Result<OffsetDateTime, Parse>
-    ensures { MatchResult read.now
-        (λ parsed. IsMoment greatest_year parsed (seen result))
-        (λ e. seen result ≡ Err (refusal_of e)) }
+pub(crate) fn begin(defaults: Option<Parsed>) -> Parsed
+    ensures { result ≡ begun defaults }
 {
-    let parsed = match *read {
-        Ok(parsed) => parsed,
-        Err(e) => return Err(e),
-    };
-    Ok(OffsetDateTime::try_from(parsed)?)
+    let mut record = Parsed::new();
+    if let Some(defaults) = defaults {
+        record = defaults;
+    }
+    record
+}
+
+/// The value of a record that was read up to this rest. Where bytes remain it refuses as
+/// [`ParseFromDescription::UnexpectedTrailingCharacters`].
+#[inline(always)]
+fn value_before<V: TryFrom<Parsed, Error = TryFromParsed> + Drop>(
+    rest: &[u8],
+    parsed: &Parsed,
+) -> Result<V, Parse>
+    ensures { MatchResult (seen result)
+        (λ v. (rest.now ≡ []) × V.try_from_gives parsed.now (Ok v))
+        (λ e. ((rest.now ≢ []) × (e ≡ trailing))
+        ⊎ ((rest.now ≡ []) × ((f : TryFromParsed_) × V.try_from_gives parsed.now (Err f) × (e ≡ refusal_of_parsed f)))) }
+{
+    if !rest.is_empty() {
+        return Err(ParseFromDescription::UnexpectedTrailingCharacters.into());
+    }
+    Ok(V::try_from(*parsed)?)
 }
 
 /// The date, time and offset of a record that was read up to this rest. Where bytes remain it refuses as
@@ -159,10 +171,7 @@ pub(crate) fn moment_before(rest: &[u8], parsed: &Parsed) -> Result<OffsetDateTi
         (λ v. (rest.now ≡ []) × IsMoment greatest_year parsed.now (Ok v))
         (λ e. ((rest.now ≢ []) × (e ≡ trailing)) ⊎ ((rest.now ≡ []) × IsMoment greatest_year parsed.now (Err e))) }
 {
-    if !rest.is_empty() {
-        return Err(ParseFromDescription::UnexpectedTrailingCharacters.into());
-    }
-    Ok(OffsetDateTime::try_from(*parsed)?)
+    value_before(rest, parsed)
 }
 
 /// A reference to a format reads as the format does, always over a record.
@@ -182,7 +191,9 @@ impl<T: Parsable> Parsable for &T {
         input: &[u8],
         defaults: Option<Parsed>,
     ) -> Result<OffsetDateTime, Parse> {
-        resolved(&self.parse_internal(input, defaults))
+        let mut parsed = begin(defaults);
+        let rest = self.parse_into(input, &mut parsed)?;
+        moment_before(rest, &parsed)
     }
 
     ghost exact = { λ x. T.exact x.now };

@@ -40,6 +40,7 @@ impl Date {
 
     /// The date with this year, month and day of the month, from 1. Refused as `year` outside
     /// -999999 to 999999, then as conditional `day` where the month has no such day.
+    #[inline(always)]
     pub fn from_calendar_date(year: i32, month: Month, day: u8) -> Result<Date, ComponentRange>
         ensures { Constructs (calendar_date_refusal greatest_year year (month_number month) day)
             (Dates.HasParts year month day) result }

@@ -22,6 +22,7 @@ impl Time {
 
     /// The time with these parts. The first one that is out of range is refused: `hour` above 23,
     /// `minute` above 59, `second` above 59, `nanosecond` above 999999999.
+    #[inline(always)]
     pub fn from_hms_nano(
         hour: u8,
         minute: u8,

@@ -86,7 +86,9 @@ fn same_sign(sign: i8, x: i8) -> i8
     ensures value { result ≡ Sign.same_sign sign x }
     ensures bound { IsBetween (neg_ℤ (pos 59)) (pos 59) result }
 {
-    if sign > 0 {
+    if x == 0 {
+        0
+    } else if sign > 0 {
         x.abs()
     } else if sign < 0 {
         -x.abs()

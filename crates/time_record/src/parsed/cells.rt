@@ -226,10 +226,9 @@ impl Parsed {
         self.stamp = value;
     }
 
-    // A flag.
+    // A flag, or whether the option of a cell is there.
     #[inline]
     pub(super) fn flag(&self, index: usize) -> bool
-        requires past { 23 ≤ index }
         requires in_mask { index < 27 }
         ensures { result ≡ holds self.now index }
     {

@@ -311,7 +311,8 @@ fn month_of(number: i8) -> Month
         9 => Month::September,
         10 => Month::October,
         11 => Month::November,
-        _ => Month::December,
+        12 => Month::December,
+        _ => unreachable!(),
     }
 }
 

@@ -1,5 +1,5 @@
 //! The date of a record.
-ghost use Rattle.std.specs.Prelude.{◌≡◌, ◌+◌, ◌-◌, ◌/◌, ◌%◌, ◌≤◌, Some, None, IfSome, IsTrue, MatchResult, unsigned_abs, codes, true};
+ghost use Rattle.std.specs.Prelude.{◌≡◌, ◌+◌, ◌-◌, ◌/◌, ◌%◌, ◌≤◌, Some, None, Ok, IfSome, IsTrue, MatchResult, unsigned_abs, codes, true};
 ghost use Rattle.std.specs.Int.NonZero.{non_zero_u8_get, non_zero_u16_get};
 ghost use Rattle.time_values.specs.DateRefusals.{is_year};
 ghost use Rattle.time_values.specs.Range.{greatest_year};
@@ -10,7 +10,7 @@ ghost use Rattle.time_record.specs.Rows.{year_of, first_row, full_year, full_iso
 ghost use Rattle.time_record.specs.Resolution.{IsDated, parsed_seen};
 
 use crate::Parsed;
-use crate::parsed::cells::{DAY, MONTH, YEAR};
+use crate::parsed::cells::{DAY, MONTH, ORDINAL, YEAR};
 use std::convert::TryFrom;
 use std::num::NonZero;
 use time_values::error::{ComponentRange, TryFromParsed};
@@ -29,12 +29,28 @@ impl TryFrom<Parsed> for Date {
 
     #[inline(always)]
     fn try_from(parsed: Parsed) -> Result<Date, TryFromParsed> {
-        date_of(&parsed)
+        match usual_date(&parsed) {
+            Some(date) => Ok(date),
+            None => date_of(&parsed),
+        }
+    }
+}
+
+// The date of a record that has the usual components, year, month and day; `None` says nothing.
+#[inline(always)]
+#[tactic(auto, unfolding(crate::specs::Resolution::IsDated))]
+pub(super) fn usual_date(parsed: &Parsed) -> Option<Date>
+    ensures { IfSome result (λ d. IsDated greatest_year parsed.now (Ok d)) }
+{
+    let (year, month, day) = year_month_day(parsed)?;
+    match calendar_date(year, month, day) {
+        Ok(date) => Some(date),
+        Err(_) => None,
     }
 }
 
 // The date of a record.
-#[inline(always)]
+#[inline(never)]
 #[tactic(auto, unfolding(crate::specs::Resolution::IsDated))]
 pub(super) fn date_of(parsed: &Parsed) -> Result<Date, TryFromParsed>
     ensures { IsDated greatest_year parsed.now (parsed_seen result) }
@@ -53,14 +69,13 @@ fn year_month_day(parsed: &Parsed) -> Option<(i32, Month, NonZero<u8>)>
         ≡ Some (by_month_and_day p.0 p.1 (non_zero_u8_get p.2))) }
     ensures in_range { IfSome result (λ p. IsTrue (is_year greatest_year p.0)) }
 {
-    if !parsed.has(YEAR, MONTH, DAY) || parsed.ordinal().is_some() {
+    if !parsed.has(YEAR, MONTH, DAY) || parsed.flag(ORDINAL) {
         return None;
     }
     Some((parsed.year()?, parsed.month()?, parsed.day()?))
 }
 
 // The date of a record by the first of its rows.
-#[inline(never)]
 #[tactic(auto, unfolding(crate::specs::Resolution::IsDated))]
 fn date_of_rows(parsed: &Parsed) -> Result<Date, TryFromParsed>
     ensures { IsDated greatest_year parsed.now (parsed_seen result) }

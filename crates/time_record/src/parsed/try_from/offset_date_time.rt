@@ -1,5 +1,5 @@
 //! The moment of a record with its offset from UTC.
-ghost use Rattle.std.specs.Prelude.{◌≤◌, IsOkAnd, IsTrue};
+ghost use Rattle.std.specs.Prelude.{◌≤◌, IfSome, IsOkAnd, IsTrue, Ok};
 ghost use Rattle.std.specs.Option.{ForSome};
 ghost use Rattle.time_values.specs.Instants.{is_instant};
 ghost use Rattle.time_values.specs.Moments as Moments;
@@ -8,10 +8,10 @@ ghost use Rattle.time_values.specs.Range.{greatest_year};
 ghost use Rattle.time_record.specs.Resolution.{IsMoment, IsMomentOfParts, IsStamped, parsed_seen};
 
 use crate::Parsed;
-use crate::parsed::try_from::date::date_of;
+use crate::parsed::try_from::date::{date_of, usual_date};
 use crate::parsed::try_from::leap_second::{is_leap_second, misplaced, stand_in};
-use crate::parsed::try_from::offset::offset_of;
-use crate::parsed::try_from::time::time_with;
+use crate::parsed::try_from::offset::{offset_of, usual_offset};
+use crate::parsed::try_from::time::{time_with, usual_time};
 use std::convert::TryFrom;
 use time_values::OffsetDateTime;
 use time_values::error::TryFromParsed;
@@ -27,12 +27,50 @@ impl TryFrom<Parsed> for OffsetDateTime {
     ghost try_from_gives = { λ p r. IsMoment greatest_year p (parsed_seen r) };
 
     #[inline(always)]
-    #[tactic(auto, unfolding(crate::specs::Resolution::IsMoment))]
     fn try_from(parsed: Parsed) -> Result<OffsetDateTime, TryFromParsed> {
-        match parsed.unix_timestamp_nanos() {
-            Some(nanos) => moment_at(nanos, parsed.subsecond()),
-            None => moment_of_parts(&parsed),
+        match usual_moment(&parsed) {
+            Some(moment) => Ok(moment),
+            None => moment_of(&parsed),
         }
+    }
+}
+
+// The moment of a record that has the usual components; `None` says nothing.
+#[inline(always)]
+#[tactic(auto, unfolding(crate::specs::Resolution::IsMoment))]
+fn usual_moment(parsed: &Parsed) -> Option<OffsetDateTime>
+    ensures { IfSome result (λ v. IsMoment greatest_year parsed.now (Ok v)) }
+{
+    if parsed.unix_timestamp_nanos().is_some() {
+        return None;
+    }
+    usual_moment_of_parts(parsed)
+}
+
+// The moment of the usual components of a date, a time and an offset; `None` says nothing.
+#[inline(always)]
+#[tactic(auto, unfolding(crate::specs::Resolution::IsMomentOfParts))]
+fn usual_moment_of_parts(parsed: &Parsed) -> Option<OffsetDateTime>
+    ensures { IfSome result (λ v. IsMomentOfParts greatest_year parsed.now (Ok v)) }
+{
+    let date = usual_date(parsed)?;
+    let time = usual_time(parsed)?;
+    if is_leap_second(parsed) {
+        return None;
+    }
+    let offset = usual_offset(parsed)?;
+    Some(OffsetDateTime::new_in_offset(date, time, offset))
+}
+
+// The moment of a record.
+#[inline(never)]
+#[tactic(auto, unfolding(crate::specs::Resolution::IsMoment))]
+fn moment_of(parsed: &Parsed) -> Result<OffsetDateTime, TryFromParsed>
+    ensures { IsMoment greatest_year parsed.now (parsed_seen result) }
+{
+    match parsed.unix_timestamp_nanos() {
+        Some(nanos) => moment_at(nanos, parsed.subsecond()),
+        None => moment_of_parts(parsed),
     }
 }
 
@@ -53,7 +91,6 @@ fn moment_at(nanos: i128, subsecond: Option<u32>) -> Result<OffsetDateTime, TryF
 }
 
 // The moment of a date, a time and an offset.
-#[inline(always)]
 #[tactic(auto, unfolding(crate::specs::Resolution::IsMomentOfParts))]
 fn moment_of_parts(parsed: &Parsed) -> Result<OffsetDateTime, TryFromParsed>
     ensures { IsMomentOfParts greatest_year parsed.now (parsed_seen result) }

@@ -2,7 +2,7 @@ use Rattle.std.proofs.Common.{inl, refl}
 use Rattle.std.proofs.lemmas.Result.{err_from_is_err_and}
 use Rattle.time_record.specs.Resolution.{IsPlain}
 use Rattle.time_record.proofs.ResolutionLemmas.{Then-next}
-use Rattle.time_record.proofs.parsed.try_from.plain_date_time.PlainDateTimeTryFromParsed.try_from.Goals as goal
+use Rattle.time_record.proofs.parsed.try_from.plain_date_time.date_and_time.Goals as goal
 
 pub returns-in_err-time : goal.returns-in_err-time
 unfolding IsPlain

@@ -50,7 +50,7 @@ pub(super) fn usual_date(parsed: &Parsed) -> Option<Date>
 }
 
 // The date of a record.
-#[inline(never)]
+#[inline(always)]
 #[tactic(auto, unfolding(crate::specs::Resolution::IsDated))]
 pub(super) fn date_of(parsed: &Parsed) -> Result<Date, TryFromParsed>
     ensures { IsDated greatest_year parsed.now (parsed_seen result) }
@@ -76,6 +76,7 @@ fn year_month_day(parsed: &Parsed) -> Option<(i32, Month, NonZero<u8>)>
 }
 
 // The date of a record by the first of its rows.
+#[inline(never)]
 #[tactic(auto, unfolding(crate::specs::Resolution::IsDated))]
 fn date_of_rows(parsed: &Parsed) -> Result<Date, TryFromParsed>
     ensures { IsDated greatest_year parsed.now (parsed_seen result) }

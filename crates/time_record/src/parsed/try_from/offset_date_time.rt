@@ -8,6 +8,7 @@ ghost use Rattle.time_values.specs.Range.{greatest_year};
 ghost use Rattle.time_record.specs.Resolution.{IsMoment, IsMomentOfParts, IsStamped, parsed_seen};
 
 use crate::Parsed;
+use crate::parsed::cells::{DAY, HOUR_24, MINUTE, MONTH, SECOND, YEAR};
 use crate::parsed::try_from::date::{date_of, usual_date};
 use crate::parsed::try_from::leap_second::{is_leap_second, misplaced, stand_in};
 use crate::parsed::try_from::offset::{offset_of, usual_offset};
@@ -30,7 +31,7 @@ impl TryFrom<Parsed> for OffsetDateTime {
     fn try_from(parsed: Parsed) -> Result<OffsetDateTime, TryFromParsed> {
         match usual_moment(&parsed) {
             Some(moment) => Ok(moment),
-            None => moment_of(&parsed),
+            None => moment_or_refusal(&parsed),
         }
     }
 }
@@ -62,7 +63,21 @@ fn usual_moment_of_parts(parsed: &Parsed) -> Option<OffsetDateTime>
     Some(OffsetDateTime::new_in_offset(date, time, offset))
 }
 
-// The moment of a record.
+// The moment of a record. The refusals of the usual components stand in line, so that a record of which the compiler
+// knows that they are there needs no place in memory.
+#[inline(always)]
+#[tactic(auto, unfolding(crate::specs::Resolution::IsMoment))]
+fn moment_or_refusal(parsed: &Parsed) -> Result<OffsetDateTime, TryFromParsed>
+    ensures { IsMoment greatest_year parsed.now (parsed_seen result) }
+{
+    let is_usual = parsed.has(YEAR, MONTH, DAY) && parsed.has(HOUR_24, MINUTE, SECOND);
+    if !is_usual || parsed.unix_timestamp_nanos().is_some() {
+        return moment_of(parsed);
+    }
+    moment_of_parts(parsed)
+}
+
+// The moment of a record, whatever it has.
 #[inline(never)]
 #[tactic(auto, unfolding(crate::specs::Resolution::IsMoment))]
 fn moment_of(parsed: &Parsed) -> Result<OffsetDateTime, TryFromParsed>
@@ -91,6 +106,7 @@ fn moment_at(nanos: i128, subsecond: Option<u32>) -> Result<OffsetDateTime, TryF
 }
 
 // The moment of a date, a time and an offset.
+#[inline(always)]
 #[tactic(auto, unfolding(crate::specs::Resolution::IsMomentOfParts))]
 fn moment_of_parts(parsed: &Parsed) -> Result<OffsetDateTime, TryFromParsed>
     ensures { IsMomentOfParts greatest_year parsed.now (parsed_seen result) }

@@ -37,7 +37,7 @@ fn usual_date_and_time(parsed: &Parsed) -> Option<PlainDateTime>
 }
 
 // The date and the time of a record.
-#[inline(never)]
+#[inline(always)]
 #[tactic(auto, unfolding(crate::specs::Resolution::IsPlain))]
 fn date_and_time(parsed: &Parsed) -> Result<PlainDateTime, TryFromParsed>
     ensures { IsPlain greatest_year parsed.now (parsed_seen result) }

@@ -1,9 +1,12 @@
 -- Answers, line by line. `Y` is the greatest year.
-use Rattle.std.proofs.Common.{◌≡◌, ℕ, List, [], ◌∷◌, ◌++◌, refl, sym, ap, ◌∙◌, subst, append_assoc, append-nil, Option, None, Some, Result, Ok, Err, OnOk}
+use Rattle.std.proofs.Common.{◌≡◌, ℕ, List, [], ◌∷◌, ◌++◌, refl, sym, ap, ◌∙◌, subst, append_assoc, append-nil, Option, None, Some, Result, Ok, Err, OnOk, MatchOption}
 use Rattle.std.specs.Io.KnownBytes.{Appends, Keeps, append_known}
 use Rattle.time_readers.specs.Tree.{Tree}
+use Rattle.time_lines.specs.declared.formats.Format.{Format}
 use Rattle.time_lines.specs.declared.formats.Target.{Target}
-use Rattle.time_lines.specs.Output.{IsAnswer, IsDescribed, AreAnswers, WithLineFeed, Writes}
+use Rattle.time_lines.specs.Formats.{format_named, target_named}
+use Rattle.time_lines.specs.Lines.{cut_at_tab, BeginsNamed}
+use Rattle.time_lines.specs.Output.{IsAnswer, IsDescribed, IsParsed, AreAnswers, WithLineFeed, Writes}
 use Rattle.time_lines.proofs.LinesLemmas.{Appends-more}
 
 -- an answered line more is written
@@ -58,3 +61,20 @@ Appends-waiting (Some s) None c x y z written more p kept q = absurd p
 Appends-waiting (Some s) (Some t) None x y z written more p kept q = absurd kept
 Appends-waiting (Some s) (Some t) (Some v) x y z written more p kept q =
     ap (λ l. v ++ l) q ∙ sym (append_assoc v y more) ∙ ap (λ l. l ++ more) (kept ∙ p) ∙ append_assoc s written more
+
+-- the name of which bytes are, before TAB and the rest
+begun : {X : Type 0} (named : List ℕ → Option X) (bytes : List ℕ) (x : X) (rest : List ℕ) (o : Option (List ℕ × List ℕ))
+    → cut_at_tab bytes ≡ o → MatchOption o ⊥ (λ cut. (named cut.0 ≡ Some x) × (cut.1 ≡ rest))
+    → (name : List ℕ) × (cut_at_tab bytes ≡ Some (name, rest)) × (named name ≡ Some x)
+begun named bytes x rest None e h = absurd h
+begun named bytes x rest (Some cut) e h = (cut.0, e ∙ ap (λ r. Some (cut.0, r)) h.1, h.0)
+
+-- a line of known names is answered by the outcome of its text
+pub IsAnswer-named : (Y : ℕ) (line rest text : List ℕ) (f : Format) (t : Target) (answer : List ℕ)
+    → BeginsNamed format_named line f rest → BeginsNamed target_named rest t text
+    → IsParsed Y f t text answer → IsAnswer Y line answer
+unfolding IsAnswer
+IsAnswer-named Y line rest text f t answer b d is =
+    let front = begun format_named line f rest (cut_at_tab line) refl b in
+    let behind = begun target_named rest t text (cut_at_tab rest) refl d in
+    rw (front.1, behind.1, front.2, behind.2) is

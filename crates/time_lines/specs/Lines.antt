@@ -1,5 +1,5 @@
 -- The lines of an input, and the fields of a line.
-use Rattle.std.specs.Prelude.{ℕ, List, [], ◌∷◌, if◌then◌else◌, ◌==◌, Option, None, Some}
+use Rattle.std.specs.Prelude.{◌≡◌, ℕ, List, [], ◌∷◌, if◌then◌else◌, ◌==◌, Option, None, Some, MatchOption}
 use Rattle.std.specs.Option.{option_and_then, option_map}
 
 -- the byte b in front of the first of the lines
@@ -29,3 +29,7 @@ fields_of line =
     option_and_then
     (λ first. option_map (λ second. record { format = first.0; target = second.0; text = second.1 })
     (cut_at_tab first.1)) (cut_at_tab line)
+
+-- the bytes are a name of x, TAB and the rest
+abbrev pub BeginsNamed : {X : Type 0} → (List ℕ → Option X) → List ℕ → X → List ℕ → Type 0
+BeginsNamed named bytes x rest = MatchOption (cut_at_tab bytes) ⊥ (λ cut. (named cut.0 ≡ Some x) × (cut.1 ≡ rest))

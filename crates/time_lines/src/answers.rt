@@ -1,7 +1,9 @@
 //! The answer to a line.
-ghost use Rattle.std.specs.Prelude.{OnOk};
+ghost use Rattle.std.specs.Prelude.{ℕ, List, OnOk, codes, ◌++◌, MatchResult};
 ghost use Rattle.std.specs.Io.KnownBytes.{Appends};
 ghost use Rattle.time_values.specs.Range.{greatest_year};
+ghost use Rattle.time_values.specs.Refusal.{refusal_of};
+ghost use Rattle.time_values.specs.Texts.{refusal_text};
 ghost use Rattle.time_parsing.specs.Outcome.{seen};
 ghost use Rattle.time_lines.specs.Formats as formats;
 ghost use Rattle.time_lines.specs.Output.{IsAnswer, IsAnswerFor, IsDescribed, IsParsed, Writes};
@@ -11,32 +13,57 @@ ghost use Rattle.time_lines.specs.declared.formats.Format.TheVariants as format;
 use crate::cuts::cut_tab;
 use crate::formats::{
     Format, Target, clock_items, compound, date_items, find_format, find_target, first,
-    fraction_items, local_items, second_items, unix,
+    fraction_items, local_items, read_format, read_target, second_items, unix,
 };
 use crate::layout::Layout;
 use std::io;
-use std::io::Write;
+use std::io::{ErrorKind, Write};
 use time_parsing::{Iso8601, Parsable, Rfc2822, Rfc3339};
 use time_record::Parsed;
 use time_values::error::Parse;
 
+// A write failed. It is small, since each line hands it on.
+#[derive(Clone, Copy)]
+struct Unwritten;
+
+// Writes the error of a parse.
+#[cold]
+#[inline(never)]
+fn write_error<W: Write>(error: Parse, out: &mut W) -> Result<(), Unwritten>
+    ensures { OnOk result (Appends (W.contents out.old) (W.contents out.new) (codes "error: " ++ refusal_text (refusal_of error))) }
+{
+    match write!(out, "error: {error}") {
+        Ok(()) => Ok(()),
+        Err(_) => Err(Unwritten),
+    }
+}
+
 // Writes a value, or the error of its parse.
-fn write_outcome<V: Layout, W: Write>(outcome: Result<V, Parse>, out: &mut W) -> io::Result<()>
+#[inline(always)]
+fn write_outcome<V: Layout, W: Write>(
+    outcome: Result<V, Parse>,
+    out: &mut W,
+) -> Result<(), Unwritten>
     ensures { OnOk result (Appends (W.contents out.old) (W.contents out.new) (printed V.text (seen outcome))) }
 {
-    match outcome {
-        Ok(value) => value.write_to(out),
-        Err(e) => write!(out, "error: {e}"),
+    let value = match outcome {
+        Ok(value) => value,
+        Err(e) => return write_error(e, out),
+    };
+    match value.write_to(out) {
+        Ok(()) => Ok(()),
+        Err(_) => Err(Unwritten),
     }
 }
 
 // Writes the outcome of the text for the target.
+#[inline(always)]
 fn write_value<F: Parsable, W: Write>(
     format: &F,
     target: Target,
     text: &[u8],
     out: &mut W,
-) -> io::Result<()>
+) -> Result<(), Unwritten>
     ensures { OnOk result
         (Writes (IsAnswerFor greatest_year target (F.path format.now) (F.reads format.now) (F.refuses format.now) text.now)
         (W.contents out.old) (W.contents out.new)) }
@@ -59,7 +86,8 @@ fn write_value<F: Parsable, W: Write>(
 }
 
 // Writes the outcome of the text by a description of a date.
-fn write_ymd<W: Write>(target: Target, text: &[u8], out: &mut W) -> io::Result<()>
+#[inline(always)]
+fn write_ymd<W: Write>(target: Target, text: &[u8], out: &mut W) -> Result<(), Unwritten>
     ensures { OnOk result (Writes (IsDescribed greatest_year formats.ymd target text.now)
         (W.contents out.old) (W.contents out.new)) }
 {
@@ -68,7 +96,8 @@ fn write_ymd<W: Write>(target: Target, text: &[u8], out: &mut W) -> io::Result<(
 }
 
 // Writes the outcome of the text by a description of a time on a clock of 12 hours.
-fn write_clock<W: Write>(target: Target, text: &[u8], out: &mut W) -> io::Result<()>
+#[inline(always)]
+fn write_clock<W: Write>(target: Target, text: &[u8], out: &mut W) -> Result<(), Unwritten>
     ensures { OnOk result (Writes (IsDescribed greatest_year formats.clock target text.now)
         (W.contents out.old) (W.contents out.new)) }
 {
@@ -81,7 +110,8 @@ fn write_clock<W: Write>(target: Target, text: &[u8], out: &mut W) -> io::Result
 }
 
 // Writes the outcome of the text by a description of a date, time and offset, or of a year and its day.
-fn write_local<W: Write>(target: Target, text: &[u8], out: &mut W) -> io::Result<()>
+#[inline(always)]
+fn write_local<W: Write>(target: Target, text: &[u8], out: &mut W) -> Result<(), Unwritten>
     ensures { OnOk result (Writes (IsDescribed greatest_year formats.local target text.now)
         (W.contents out.old) (W.contents out.new)) }
 {
@@ -92,12 +122,13 @@ fn write_local<W: Write>(target: Target, text: &[u8], out: &mut W) -> io::Result
 }
 
 // Writes the outcome of the text by the format for the target.
+#[inline(always)]
 fn write_parsed<W: Write>(
     format: Format,
     target: Target,
     text: &[u8],
     out: &mut W,
-) -> io::Result<()>
+) -> Result<(), Unwritten>
     ensures { OnOk result (Writes (IsParsed greatest_year format target text.now)
         (W.contents out.old) (W.contents out.new)) }
 {
@@ -112,22 +143,59 @@ fn write_parsed<W: Write>(
     }
 }
 
-/// Writes the answer to a line, which is a format, TAB, a target, TAB and a text.
+// What a line asks for: a format, a target and a text; or else what is wrong with it.
+type Request<'a> = Result<(Format, Target, &'a [u8]), &'static [u8]>;
+
+// What the line asks for, field by field.
+#[cold]
+#[inline(never)]
 #[tactic(auto, unfolding(crate::specs::Output::IsAnswer))]
+fn cut_request(line: &[u8]) -> Request<'_>
+    ensures { MatchResult result
+        (λ asked. (answer : List ℕ) → IsParsed greatest_year asked.0 asked.1 asked.2.now answer → IsAnswer greatest_year line.now answer)
+        (λ wrong. IsAnswer greatest_year line.now wrong.now) }
+{
+    let Some((format, rest)) = cut_tab(line) else {
+        return Err(b"error: line".as_slice());
+    };
+    let Some((target, text)) = cut_tab(rest) else {
+        return Err(b"error: line".as_slice());
+    };
+    let Some(format) = find_format(format) else {
+        return Err(b"error: format".as_slice());
+    };
+    let Some(target) = find_target(target) else {
+        return Err(b"error: target".as_slice());
+    };
+    Ok((format, target, text))
+}
+
+// What the line asks for.
+#[inline(always)]
+fn request(line: &[u8]) -> Request<'_>
+    ensures { MatchResult result
+        (λ asked. (answer : List ℕ) → IsParsed greatest_year asked.0 asked.1 asked.2.now answer → IsAnswer greatest_year line.now answer)
+        (λ wrong. IsAnswer greatest_year line.now wrong.now) }
+{
+    if let Some((format, rest)) = read_format(line) {
+        if let Some((target, text)) = read_target(rest) {
+            return Ok((format, target, text));
+        }
+    }
+    cut_request(line)
+}
+
+/// Writes the answer to a line, which is a format, TAB, a target, TAB and a text.
+#[inline(always)]
 pub fn write_answer<W: Write>(line: &[u8], out: &mut W) -> io::Result<()>
     ensures { OnOk result (Writes (IsAnswer greatest_year line.now) (W.contents out.old) (W.contents out.new)) }
 {
-    let Some((format, rest)) = cut_tab(line) else {
-        return out.write_all(b"error: line");
+    let (format, target, text) = match request(line) {
+        Ok(asked) => asked,
+        Err(wrong) => return out.write_all(wrong),
     };
-    let Some((target, text)) = cut_tab(rest) else {
-        return out.write_all(b"error: line");
-    };
-    let Some(format) = find_format(format) else {
-        return out.write_all(b"error: format");
-    };
-    let Some(target) = find_target(target) else {
-        return out.write_all(b"error: target");
-    };
-    write_parsed(format, target, text, out)
+    match write_parsed(format, target, text, out) {
+        Ok(()) => Ok(()),
+        Err(Unwritten) => Err(io::Error::from(ErrorKind::WriteZero)),
+    }
 }

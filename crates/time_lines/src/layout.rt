@@ -81,7 +81,7 @@ fn offset_bytes(sign: u8, hours: u8, minutes: u8, seconds: u8) -> [u8; 9]
 }
 
 // `YYYY-MM-DD`, with the last four digits of the year.
-#[inline]
+#[inline(always)]
 fn lay_date(date: Date) -> [u8; 10]
     ensures { year_front (Dates.year date) ++ result ≡ date_text date }
 {
@@ -93,7 +93,7 @@ fn lay_date(date: Date) -> [u8; 10]
 }
 
 // `HH:MM:SS.nnnnnnnnn`.
-#[inline]
+#[inline(always)]
 fn lay_time(time: Time) -> [u8; 18]
     ensures { result ≡ time_text time }
 {
@@ -101,7 +101,7 @@ fn lay_time(time: Time) -> [u8; 18]
 }
 
 // `+HH:MM:SS`, with `-` where a part is negative.
-#[inline]
+#[inline(always)]
 fn lay_offset(offset: UtcOffset) -> [u8; 9]
     ensures { result ≡ offset_text offset }
 {
@@ -120,7 +120,7 @@ fn lay_offset(offset: UtcOffset) -> [u8; 9]
 }
 
 // Date and time with a space between them, with the last four digits of the year.
-#[inline]
+#[inline(always)]
 fn lay_date_time(date: Date, time: Time) -> [u8; 29]
     ensures { year_front (Dates.year date) ++ result ≡ date_time_text date time }
 {
@@ -131,7 +131,7 @@ fn lay_date_time(date: Date, time: Time) -> [u8; 29]
 }
 
 // Date, time and offset with spaces between them, with the last four digits of the year.
-#[inline]
+#[inline(always)]
 fn lay_moment(moment: OffsetDateTime) -> [u8; 39]
     ensures { year_front (Dates.year (offset_date moment)) ++ result ≡ offset_date_time_text moment }
 {
@@ -189,6 +189,7 @@ pub trait Layout {
 impl Layout for Date {
     ghost text = { date_text };
 
+    #[inline(always)]
     fn write_to<W: Write>(self, out: &mut W) -> io::Result<()> {
         write_year_front(self, out)?;
         out.write_all(&lay_date(self))
@@ -199,6 +200,7 @@ impl Layout for Date {
 impl Layout for Time {
     ghost text = { time_text };
 
+    #[inline(always)]
     fn write_to<W: Write>(self, out: &mut W) -> io::Result<()> {
         out.write_all(&lay_time(self))
     }
@@ -208,12 +210,14 @@ impl Layout for Time {
 impl Layout for UtcOffset {
     ghost text = { offset_text };
 
+    #[inline(always)]
     fn write_to<W: Write>(self, out: &mut W) -> io::Result<()> {
         out.write_all(&lay_offset(self))
     }
 }
 
 // Writes date and time with a space between them.
+#[inline(always)]
 fn write_date_time<W: Write>(date: Date, time: Time, out: &mut W) -> io::Result<()>
     ensures { OnOk result (Appends (W.contents out.old) (W.contents out.new) (date_time_text date time)) }
 {
@@ -225,6 +229,7 @@ fn write_date_time<W: Write>(date: Date, time: Time, out: &mut W) -> io::Result<
 impl Layout for PlainDateTime {
     ghost text = { plain_text };
 
+    #[inline(always)]
     fn write_to<W: Write>(self, out: &mut W) -> io::Result<()> {
         write_date_time(self.date(), self.time(), out)
     }
@@ -234,6 +239,7 @@ impl Layout for PlainDateTime {
 impl Layout for UtcDateTime {
     ghost text = { utc_text };
 
+    #[inline(always)]
     fn write_to<W: Write>(self, out: &mut W) -> io::Result<()> {
         write_date_time(self.date(), self.time(), out)?;
         out.write_all(b" +00:00:00")
@@ -244,6 +250,7 @@ impl Layout for UtcDateTime {
 impl Layout for OffsetDateTime {
     ghost text = { offset_date_time_text };
 
+    #[inline(always)]
     fn write_to<W: Write>(self, out: &mut W) -> io::Result<()> {
         write_year_front(self.date(), out)?;
         out.write_all(&lay_moment(self))
@@ -254,6 +261,7 @@ impl Layout for OffsetDateTime {
 impl Layout for Timestamp {
     ghost text = { timestamp_text };
 
+    #[inline(always)]
     fn write_to<W: Write>(self, out: &mut W) -> io::Result<()> {
         let mut buffer = itoa::Buffer::new();
         out.write_all(buffer.format(self.nanoseconds()).as_bytes())

@@ -40,6 +40,7 @@ impl Stop {
 struct Full;
 
 // Puts the answer to a line, and LF, behind what waits. The error is a small one, since each line hands it on.
+#[inline(always)]
 fn add_line(line: &[u8], waiting: &mut Waiting) -> Result<(), Full>
     ensures { OnOk result (Writes (WithLineFeed (IsAnswer greatest_year line.now))
         (Some waiting.old.bytes.items) (Some waiting.new.bytes.items)) }

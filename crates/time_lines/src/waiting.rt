@@ -62,7 +62,7 @@ impl Write for Waiting {
         Ok(())
     }
 
-    #[inline]
+    #[inline(always)]
     fn write_all(&mut self, buf: &[u8]) -> io::Result<()> {
         match self.bytes.try_extend_from_slice(buf) {
             Ok(()) => Ok(()),

@@ -5,21 +5,21 @@ use Rattle.time_lines.specs.Layout.{digits_before, fixed}
 use Rattle.time_lines.specs.declared.layout.TheConstants.{PAIRS}
 
 abbrev is_pair : ℕ → Bool
-is_pair p = eqb (get_or PAIRS (p * 2) 0) (48 + p / 10) && eqb (get_or PAIRS (p * 2 + 1) 0) (48 + p % 10)
+is_pair p = eqb (get_or PAIRS p 0) (48 + p / 10 + 256 * (48 + p % 10))
 
 abbrev are_pairs : ℕ → Bool
 are_pairs zero = true
 are_pairs (suc p) = is_pair p && are_pairs p
 
-below : (n p : ℕ) → T (are_pairs n) → p < n → (get_or PAIRS (p * 2) 0 ≡ 48 + p / 10) × (get_or PAIRS (p * 2 + 1) 0 ≡ 48 + p % 10)
+below : (n p : ℕ) → T (are_pairs n) → p < n → get_or PAIRS p 0 ≡ 48 + p / 10 + 256 * (48 + p % 10)
 below zero p t h = absurd (omega arith)
 below (suc n) p t h =
     elim (eq-zero-or-pos (n - p)) [
-      | inl z ↦ let e : p ≡ n = omega arith in let a = and_l _ (are_pairs n) t in rw e (eqb→eq _ _ (and_l _ _ a), eqb→eq _ _ (and_r _ _ a))
+      | inl z ↦ let e : p ≡ n = omega arith in rw e (eqb→eq _ _ (and_l _ (are_pairs n) t))
       | inr g ↦ below n p (and_r _ (are_pairs n) t) (omega arith)
     ]
 
-pub pairs_at : (p : ℕ) → p < 100 → (get_or PAIRS (p * 2) 0 ≡ 48 + p / 10) × (get_or PAIRS (p * 2 + 1) 0 ≡ 48 + p % 10)
+pub pairs_at : (p : ℕ) → p < 100 → get_or PAIRS p 0 ≡ 48 + p / 10 + 256 * (48 + p % 10)
 pairs_at p h = below 100 p tt h
 
 -- the last two digits of a number, in front of a text

@@ -33,3 +33,7 @@ fields_of line =
 -- the bytes are a name of x, TAB and the rest
 abbrev pub BeginsNamed : {X : Type 0} → (List ℕ → Option X) → List ℕ → X → List ℕ → Type 0
 BeginsNamed named bytes x rest = MatchOption (cut_at_tab bytes) ⊥ (λ cut. (named cut.0 ≡ Some x) × (cut.1 ≡ rest))
+
+-- bytes that a program holds
+pub record Items : Type 0 where
+  pub items : List ℕ

@@ -1,5 +1,5 @@
 //! The answer to a line.
-ghost use Rattle.std.specs.Prelude.{ℕ, List, OnOk, codes, ◌++◌, MatchResult};
+ghost use Rattle.std.specs.Prelude.{ℕ, List, OnOk, IfSome, codes, ◌++◌, MatchResult};
 ghost use Rattle.std.specs.Io.KnownBytes.{Appends};
 ghost use Rattle.time_values.specs.Range.{greatest_year};
 ghost use Rattle.time_values.specs.Refusal.{refusal_of};
@@ -170,19 +170,15 @@ fn cut_request(line: &[u8]) -> Request<'_>
     Ok((format, target, text))
 }
 
-// What the line asks for.
+// What the line asks for, where it begins with names that are known. `None` says nothing.
 #[inline(always)]
-fn request(line: &[u8]) -> Request<'_>
-    ensures { MatchResult result
-        (λ asked. (answer : List ℕ) → IsParsed greatest_year asked.0 asked.1 asked.2.now answer → IsAnswer greatest_year line.now answer)
-        (λ wrong. IsAnswer greatest_year line.now wrong.now) }
+fn read_request(line: &[u8]) -> Option<(Format, Target, &[u8])>
+    ensures { IfSome result
+        (λ asked. (answer : List ℕ) → IsParsed greatest_year asked.0 asked.1 asked.2.now answer → IsAnswer greatest_year line.now answer) }
 {
-    if let Some((format, rest)) = read_format(line) {
-        if let Some((target, text)) = read_target(rest) {
-            return Ok((format, target, text));
-        }
-    }
-    cut_request(line)
+    let (format, rest) = read_format(line)?;
+    let (target, text) = read_target(rest)?;
+    Some((format, target, text))
 }
 
 /// Writes the answer to a line, which is a format, TAB, a target, TAB and a text.
@@ -190,9 +186,12 @@ fn request(line: &[u8]) -> Request<'_>
 pub fn write_answer<W: Write>(line: &[u8], out: &mut W) -> io::Result<()>
     ensures { OnOk result (Writes (IsAnswer greatest_year line.now) (W.contents out.old) (W.contents out.new)) }
 {
-    let (format, target, text) = match request(line) {
-        Ok(asked) => asked,
-        Err(wrong) => return out.write_all(wrong),
+    let (format, target, text) = match read_request(line) {
+        Some(asked) => asked,
+        None => match cut_request(line) {
+            Ok(asked) => asked,
+            Err(wrong) => return out.write_all(wrong),
+        },
     };
     match write_parsed(format, target, text, out) {
         Ok(()) => Ok(()),

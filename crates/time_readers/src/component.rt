@@ -20,7 +20,7 @@ use names::{
     ending_of, month_ending, month_of, three_letters, titled_month, titled_weekday, weekday_ending,
     weekday_of,
 };
-use numbers::{century, full_year, offset_hour, offset_part, run, timestamp, two_places};
+use numbers::{century, full_year, offset_hour, offset_part, pair, run, timestamp, two_places};
 use std::num::NonZero;
 use time_values::{Month, Weekday};
 
@@ -242,7 +242,7 @@ pub fn parse_month_numerical(
     ensures { Finds (Spells false (component.MonthNumerical modifiers)) month input.now result }
 {
     let modifier::MonthNumerical { padding } = modifiers;
-    let number = run::<2, 2, u8>(input, padding)?;
+    let number = pair(input, padding)?;
     match Month::from_number(NonZero::<u8>::new(number.1)?) {
         Ok(month) => Some(ParsedItem(number.0, month)),
         Err(_) => None,
@@ -367,7 +367,7 @@ pub fn parse_day(input: &[u8], modifiers: modifier::Day) -> Option<ParsedItem<'_
     ensures { Finds (Spells false (component.Day modifiers)) (λ n. number n.value) input.now result }
 {
     let modifier::Day { padding } = modifiers;
-    let day = run::<2, 2, u8>(input, padding)?;
+    let day = pair(input, padding)?;
     Some(ParsedItem(day.0, NonZero::<u8>::new(day.1)?))
 }
 

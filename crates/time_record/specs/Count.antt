@@ -1,5 +1,5 @@
 -- How many items a reading begins, and how many there are. `Y` is the greatest year.
-use Rattle.std.specs.Prelude.{◌≡◌, ℕ, ◌+◌, ◌-◌, ◌^◌, ◌≤◌, ◌⊎◌, List, min}
+use Rattle.std.specs.Prelude.{◌≡◌, ℕ, zero, suc, ◌+◌, ◌-◌, ◌^◌, ◌≤◌, ◌⊎◌, List, min}
 use Rattle.time_readers.specs.Tree.{Tree, Trees, literal, component, sequence, optional, first_of, none, more}
 use Rattle.time_record.specs.Reading.{Reads, NoReading}
 use Rattle.time_record.specs.Record.{Record}
@@ -45,6 +45,13 @@ abbrev pub IsLeaf : Tree → Type 0
 IsLeaf (literal t) = Unit {0}
 IsLeaf (component whole c) = Unit {0}
 IsLeaf t = ⊥
+
+-- So many leaves in front are read one after another. `Y` is the greatest year.
+unfoldable pub ReadsLeaves : ℕ → Trees → ℕ → List ℕ → Record → List ℕ → Record → Type 0
+ReadsLeaves Y ts zero bytes r rest new = (rest ≡ bytes) × (new ≡ r)
+ReadsLeaves Y none (suc n) bytes r rest new = ⊥
+ReadsLeaves Y (more t ts) (suc n) bytes r rest new =
+    IsLeaf t × ((mid : List ℕ) × (q : Record) × Reads Y t bytes r mid q × ReadsLeaves Y ts n mid q rest new)
 
 -- a count and so many more, where it doesn't pass the greatest number of 64 bits
 abbrev pub raised : ℕ → ℕ → ℕ

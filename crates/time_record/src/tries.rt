@@ -7,7 +7,7 @@ ghost use Rattle.time_values.specs.Range.{greatest_year};
 ghost use Rattle.time_readers.specs.declared.format_description.Component.{Component};
 ghost use Rattle.time_readers.specs.Tree as tree;
 ghost use Rattle.time_readers.specs.Tree.{Tree, Trees};
-ghost use Rattle.time_record.specs.Count.{Counts, CountsAll, CountsFirst, IsLeaf};
+ghost use Rattle.time_record.specs.Count.{Counts, CountsAll, CountsFirst, IsLeaf, raised};
 ghost use Rattle.time_record.specs.Record.{Record};
 
 use std::marker::Model;
@@ -39,6 +39,14 @@ impl Tries {
         ensures { result ≡ self.now }
     {
         self.begun
+    }
+
+    // So many more are begun.
+    #[inline]
+    pub(crate) fn add(&mut self, items: usize)
+        ensures { self.new ≡ raised self.old items }
+    {
+        self.begun = self.begun.saturating_add(items as u64);
     }
 
     // One more is begun: it counts as 1, and as what is inside it.

@@ -4,9 +4,12 @@ ghost use Rattle.time_values.specs.Sign.{signed_by};
 ghost use Rattle.time_readers.specs.Bytes.{is_negative};
 ghost use Rattle.time_readers.specs.Cuts.{Finds};
 ghost use Rattle.time_readers.specs.Digits.{IsPaddedRun};
+ghost use Rattle.time_readers.specs.declared.Padding.TheVariants.{Space};
 ghost use Rattle.time_readers.specs.Spelling.{Says, SaysYear, SaysCentury, SaysTimestamp, SaysOffsetHour, IsSigned, number, signed, flagged, positive};
 
-use crate::combinator::{full_run, n_to_m_digits_padded, one_or_two_digits, sign};
+use crate::combinator::{
+    four_digits, full_run, n_to_m_digits_padded, one_or_two_digits, sign, two_digits,
+};
 use crate::{Integer, Padding, ParsedItem, Sign};
 
 // Reads `N` to `M` digits under the padding, where the type holds each number of `M` digits. Where
@@ -30,15 +33,36 @@ pub(super) fn run<const N: u8, const M: u8, T: Integer>(
     n_to_m_digits_padded::<N, M, T>(input, padding)
 }
 
+// Reads up to two digits in two places. Two digits are one text under each padding, and are tried first.
+#[inline(always)]
+pub(super) fn pair(input: &[u8], padding: Padding) -> Option<ParsedItem<'_, u8>>
+    ensures { Finds (IsPaddedRun padding 2 2) (λ v. v) input.now result }
+{
+    if let Some(found) = two_digits(input) {
+        return Some(found);
+    }
+    match padding {
+        Padding::Zero => None,
+        Padding::None => one_or_two_digits(input),
+        Padding::Space => spaced_pair(input),
+    }
+}
+
+// The same with a space for a missing digit.
+#[cold]
+#[inline(never)]
+fn spaced_pair(input: &[u8]) -> Option<ParsedItem<'_, u8>>
+    ensures { Finds (IsPaddedRun Space 2 2) (λ v. v) input.now result }
+{
+    run::<2, 2, u8>(input, Padding::Space)
+}
+
 // Reads a number in two places.
 #[inline(always)]
 pub(super) fn two_places(input: &[u8], padding: Padding) -> Option<ParsedItem<'_, u8>>
     ensures { Finds (Says number (IsPaddedRun padding 2 2)) number input.now result }
 {
-    match padding {
-        Padding::None => one_or_two_digits(input),
-        _ => run::<2, 2, u8>(input, padding),
-    }
+    pair(input, padding)
 }
 
 // Reads a sign and `N` to `M` digits under the padding. Without a sign, which then mustn't be
@@ -86,15 +110,16 @@ pub(super) fn full_year<const MOST: u8>(
     ensures { Finds (SaysYear sign_is_mandatory padding MOST) signed input.now result }
 {
     if !sign_is_mandatory {
-        if let Some(year) = full_run::<4, u32>(input) {
-            return Some(ParsedItem(year.0, signed_year(Sign::Positive, year.1)));
+        if let Some(year) = four_digits(input) {
+            return Some(ParsedItem(year.0, i32::from(year.1)));
         }
     }
     any_full_year::<MOST>(input, padding, sign_is_mandatory)
 }
 
 // The same, where it isn't four digits alone.
-#[inline]
+#[cold]
+#[inline(never)]
 fn any_full_year<const MOST: u8>(
     input: &[u8],
     padding: Padding,
@@ -161,7 +186,7 @@ pub(super) fn offset_hour(
     ensures { Finds (SaysOffsetHour sign_is_mandatory padding) (λ v. flagged v.0 v.1) input.now result }
 {
     if let Some(sign) = sign(input) {
-        if let Some(hour) = full_run::<2, u8>(sign.0) {
+        if let Some(hour) = two_digits(sign.0) {
             return Some(ParsedItem(hour.0, signed_hour(sign.1, hour.1)));
         }
     }
@@ -169,7 +194,8 @@ pub(super) fn offset_hour(
 }
 
 // The same, where it isn't a sign and two digits.
-#[inline]
+#[cold]
+#[inline(never)]
 fn any_offset_hour(
     input: &[u8],
     padding: Padding,
@@ -186,7 +212,7 @@ fn any_offset_hour(
 pub(super) fn offset_part(input: &[u8], padding: Padding) -> Option<ParsedItem<'_, i8>>
     ensures { Finds (Says positive (IsPaddedRun padding 2 2)) signed input.now result }
 {
-    let part = run::<2, 2, u8>(input, padding)?;
+    let part = pair(input, padding)?;
     Some(ParsedItem(part.0, part.1 as i8))
 }
 

@@ -50,6 +50,7 @@ pub trait Part: Copy {
 
 impl Parsed {
     // Reads a component, and puts its value.
+    #[inline(never)]
     pub(crate) fn read_component<'a>(
         &mut self,
         input: &'a [u8],
@@ -104,11 +105,11 @@ impl Parsed {
     pub(crate) fn read_common<'a>(
         &mut self,
         input: &'a [u8],
-        component: Component,
+        component: &Component,
     ) -> Option<&'a [u8]>
-        ensures { MayRead greatest_year (tree.component false component) input.now self.old result self.new }
+        ensures { MayRead greatest_year (tree.component false component.now) input.now self.old result self.new }
     {
-        match component {
+        match *component {
             Component::CalendarYearFullStandardRange(modifiers) => self.try_read(input, modifiers),
             Component::MonthNumerical(modifiers) => self.try_read(input, modifiers),
             Component::Day(modifiers) => self.try_read(input, modifiers),

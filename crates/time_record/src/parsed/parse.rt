@@ -151,11 +151,11 @@ impl Parsed {
     pub(crate) fn read_common_whole<'a>(
         &mut self,
         input: &'a [u8],
-        component: Component,
+        component: &Component,
     ) -> Option<&'a [u8]>
-        ensures { MayRead greatest_year (tree.component true component) input.now self.old result self.new }
+        ensures { MayRead greatest_year (tree.component true component.now) input.now self.old result self.new }
     {
-        match component {
+        match *component {
             Component::Ignore(_) => None,
             _ => self.read_common(input, component),
         }

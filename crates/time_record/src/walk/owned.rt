@@ -1,11 +1,12 @@
 //! The walk over owned items.
-ghost use Rattle.std.specs.Prelude.{map, IfSome};
+ghost use Rattle.std.specs.Prelude.{map};
 ghost use Rattle.time_values.specs.Range.{greatest_year};
 ghost use Rattle.time_readers.specs.Shape.{owned_shape};
 ghost use Rattle.time_readers.specs.Tree.{first_of, optional, sequence, trees};
-ghost use Rattle.time_record.specs.Answer.{Answers, MayRead};
-ghost use Rattle.time_record.specs.Count.{Counts, CountsAll, CountsFirst, IsLeaf};
+ghost use Rattle.time_record.specs.Answer.{Answers};
+ghost use Rattle.time_record.specs.Count.{Counts, CountsAll, CountsFirst};
 
+use crate::walk::{Leaf, read_leaves};
 use crate::{Parsed, Tries};
 use time_readers::OwnedFormatItem;
 use time_values::error::ParseFromDescription;
@@ -32,7 +33,7 @@ pub fn walk_owned<'a>(
     }
 }
 
-// The same, at once where the item is a common leaf, or may be missing.
+// The same; where the item may be missing, without a call for itself.
 #[cycle(owned)]
 #[inline(always)]
 fn step_owned<'a>(
@@ -48,26 +49,20 @@ fn step_owned<'a>(
         tries.begin();
         return walk_owned_optional(item, parsed, input, tries);
     }
-    match read_leaf(item, parsed, input) {
-        Some(rest) => {
-            tries.begin();
-            Ok(rest)
-        }
-        None => walk_owned(item, parsed, input, tries),
-    }
+    walk_owned(item, parsed, input, tries)
 }
 
-// Reads a common leaf. `None` says nothing, and nothing changed.
-#[inline(always)]
-fn read_leaf<'a>(item: &OwnedFormatItem, parsed: &mut Parsed, input: &'a [u8]) -> Option<&'a [u8]>
-    ensures read { MayRead greatest_year (owned_shape item.now) input.now parsed.old result parsed.new }
-    ensures leaf { IfSome result (λ rest. IsLeaf (owned_shape item.now)) }
-{
-    match item {
-        OwnedFormatItem::Literal(text) => Parsed::read_byte(input, text),
-        OwnedFormatItem::StringLiteral(text) => Parsed::read_byte(input, text.as_bytes()),
-        OwnedFormatItem::Component(component) => parsed.read_common(input, *component),
-        _ => None,
+impl Leaf for OwnedFormatItem {
+    ghost shape = { owned_shape };
+
+    #[inline(always)]
+    fn read_leaf<'a>(&self, parsed: &mut Parsed, input: &'a [u8]) -> Option<&'a [u8]> {
+        match self {
+            OwnedFormatItem::Literal(text) => Parsed::read_byte(input, text),
+            OwnedFormatItem::StringLiteral(text) => Parsed::read_byte(input, text.as_bytes()),
+            OwnedFormatItem::Component(component) => parsed.read_common(input, component),
+            _ => None,
+        }
     }
 }
 
@@ -84,15 +79,22 @@ fn walk_owned_all<'a>(
     ensures counts { CountsAll greatest_year (trees (map owned_shape items.now)) input.now parsed.old tries.old tries.new }
 {
     let before = *parsed;
+    let mut next = 0;
     let mut rest = input;
-    for item in items {
-        match step_owned(item, parsed, rest, tries) {
+    while next < items.len() {
+        let (later, unread) = read_leaves(items, next, parsed, rest);
+        tries.add(later - next);
+        if later >= items.len() {
+            return Ok(unread);
+        }
+        match step_owned(&items[later], parsed, unread, tries) {
             Ok(unread) => rest = unread,
             Err(fault) => {
                 *parsed = before;
                 return Err(fault);
             }
         }
+        next = later + 1;
     }
     Ok(rest)
 }

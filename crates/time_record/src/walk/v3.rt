@@ -3,9 +3,10 @@ ghost use Rattle.std.specs.Prelude.{map};
 ghost use Rattle.time_values.specs.Range.{greatest_year};
 ghost use Rattle.time_readers.specs.Shape.{v3_shape};
 ghost use Rattle.time_readers.specs.Tree.{first_of, optional, sequence, trees};
-ghost use Rattle.time_record.specs.Answer.{Answers, MayRead};
+ghost use Rattle.time_record.specs.Answer.{Answers};
 
 use crate::Parsed;
+use crate::walk::{Leaf, read_leaves};
 use time_readers::FormatDescriptionV3Inner;
 use time_values::error::ParseFromDescription;
 
@@ -41,42 +42,23 @@ pub fn walk_v3<'a>(
     }
 }
 
-// The same, at once where the item is a common leaf.
-#[cycle(v3)]
-#[inline(always)]
-fn step_v3<'a>(
-    item: &FormatDescriptionV3Inner<'_>,
-    parsed: &mut Parsed,
-    input: &'a [u8],
-) -> Result<&'a [u8], ParseFromDescription>
-    ensures { Answers greatest_year (v3_shape item.now) input.now parsed.old result parsed.new }
-{
-    match read_leaf(item, parsed, input) {
-        Some(rest) => Ok(rest),
-        None => walk_v3(item, parsed, input),
-    }
-}
+impl Leaf for FormatDescriptionV3Inner<'_> {
+    ghost shape = { v3_shape };
 
-// Reads a common leaf. `None` says nothing, and nothing changed.
-#[inline(always)]
-fn read_leaf<'a>(
-    item: &FormatDescriptionV3Inner<'_>,
-    parsed: &mut Parsed,
-    input: &'a [u8],
-) -> Option<&'a [u8]>
-    ensures { MayRead greatest_year (v3_shape item.now) input.now parsed.old result parsed.new }
-{
-    match *item {
-        FormatDescriptionV3Inner::Component(component) => {
-            parsed.read_common_whole(input, component)
+    #[inline(always)]
+    fn read_leaf<'a>(&self, parsed: &mut Parsed, input: &'a [u8]) -> Option<&'a [u8]> {
+        match self {
+            FormatDescriptionV3Inner::Component(component) => {
+                parsed.read_common_whole(input, component)
+            }
+            FormatDescriptionV3Inner::BorrowedLiteral(text) => {
+                Parsed::read_byte(input, text.as_bytes())
+            }
+            FormatDescriptionV3Inner::OwnedLiteral(text) => {
+                Parsed::read_byte(input, text.as_bytes())
+            }
+            _ => None,
         }
-        FormatDescriptionV3Inner::BorrowedLiteral(text) => {
-            Parsed::read_byte(input, text.as_bytes())
-        }
-        FormatDescriptionV3Inner::OwnedLiteral(ref text) => {
-            Parsed::read_byte(input, text.as_bytes())
-        }
-        _ => None,
     }
 }
 
@@ -92,15 +74,21 @@ fn walk_v3_all<'a>(
         input.now parsed.old result parsed.new }
 {
     let before = *parsed;
+    let mut next = 0;
     let mut rest = input;
-    for item in items {
-        match step_v3(item, parsed, rest) {
+    while next < items.len() {
+        let (later, unread) = read_leaves(items, next, parsed, rest);
+        if later >= items.len() {
+            return Ok(unread);
+        }
+        match walk_v3(&items[later], parsed, unread) {
             Ok(unread) => rest = unread,
             Err(fault) => {
                 *parsed = before;
                 return Err(fault);
             }
         }
+        next = later + 1;
     }
     Ok(rest)
 }

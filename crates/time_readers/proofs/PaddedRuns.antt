@@ -1,11 +1,11 @@
 -- Runs of digits under a padding.
-use Rattle.std.proofs.Common.{◌≡◌, ℕ, zero, suc, ◌+◌, ◌-◌, ◌^◌, ◌<◌, ◌≤◌, ◌⊎◌, List, [], ◌∷◌, ◌++◌, length, replicate, refl, ap, sym, ◌∙◌, inl, inr, arith, subst, append_assoc, Option, Some, None}
+use Rattle.std.proofs.Common.{◌≡◌, ℕ, zero, suc, ◌+◌, ◌-◌, ◌^◌, ◌<◌, ◌≤◌, ◌⊎◌, List, [], ◌∷◌, ◌++◌, length, replicate, take, drop, get_or, refl, ap, sym, ◌∙◌, inl, inr, arith, subst, append_assoc, Option, Some, None}
 use Rattle.time_readers.specs.declared.Padding.{Padding}
 use Rattle.time_readers.specs.declared.Padding.TheVariants as padding
 use Rattle.time_readers.specs.declared.ParsedItem.{ParsedItem}
 use Rattle.time_readers.specs.Cuts.{Cut, NoCut, Finds}
-use Rattle.time_readers.specs.Digits.{AllDigits, NoSpaceFirst, IsDigitRun, IsSpacedRun, IsPaddedRun, IsDigitRunUpTo, IsPaddedRunUpTo}
-use Rattle.time_readers.proofs.CutLemmas.{IsUnique}
+use Rattle.time_readers.specs.Digits.{IsDigit, AllDigits, NoSpaceFirst, IsDigitRun, IsSpacedRun, IsPaddedRun, IsDigitRunUpTo, IsPaddedRunUpTo}
+use Rattle.time_readers.proofs.CutLemmas.{IsUnique, take-drop}
 use Rattle.time_readers.proofs.Runs.{IsDigitRun-unique, IsDigitRun-one, IsDigitRun-below, pow-mono}
 
 no_space : (x y : List ℕ) → x ≡ 32 ∷ y → NoSpaceFirst x → ⊥
@@ -125,3 +125,37 @@ IsPaddedRun-below padding.Space least most text rest v p =
     omega arith
 IsPaddedRun-below padding.Zero least most text rest v p = IsDigitRun-below least most text rest v p
 IsPaddedRun-below padding.None least most text rest v p = IsDigitRun-below 1 most text rest v p
+
+-- a space and a digit
+pub spaced_digit_cut : (s : List ℕ) (v : ℕ) → 2 ≤ length s → get_or s 0 0 ≡ 32 → IsDigit (get_or s 1 0) → v ≡ get_or s 1 0 - 48 →
+    Cut (IsPaddedRun padding.Space 2 2) s (take (length s - 2) (drop 2 s)) v
+spaced_digit_cut [] v h i j k = absurd (omega arith)
+spaced_digit_cut (a ∷ []) v h i j k = absurd (omega arith)
+spaced_digit_cut (a ∷ b ∷ s) v h i j k = (
+  32 ∷ b ∷ [],
+  ap (λ c. c ∷ b ∷ s) i ∙ ap (λ r. 32 ∷ b ∷ r) (sym (take-drop (a ∷ b ∷ s) 2 h)),
+  record {
+    spaces = 1;
+    digits = b ∷ [];
+    cut = refl;
+    few = omega arith;
+    all = inl refl;
+    run = record { digits = (j, tt); enough = omega arith; within = omega arith; ends = inl refl; is = omega arith };
+  },
+)
+
+no_run_behind : (s text rest : List ℕ) (v : ℕ) → NoCut (IsDigitRun 2 2) s → (2 ≤ length s → get_or s 0 0 ≡ 32 → ¬ IsDigit (get_or s 1 0)) →
+    s ≡ text ++ rest → (spaces : ℕ) (digits : List ℕ) → text ≡ replicate spaces 32 ++ digits → spaces ≤ 1 →
+    IsDigitRun (2 - spaces) (2 - spaces) digits rest v → ⊥
+no_run_behind s text rest v none other e zero digits cut few run = none digits rest v (e ∙ ap (λ t. t ++ rest) cut) run
+no_run_behind s text rest v none other e (suc zero) [] cut few run = absurd (omega (arith, run.enough))
+no_run_behind s text rest v none other e (suc zero) (c ∷ []) cut few run =
+    let whole : s ≡ 32 ∷ c ∷ rest = e ∙ ap (λ t. t ++ rest) cut in
+    (subst (λ x. (2 ≤ length x → get_or x 0 0 ≡ 32 → ¬ IsDigit (get_or x 1 0)) → ⊥) (sym whole) (λ f. f (omega arith) refl run.digits.0)) other
+no_run_behind s text rest v none other e (suc zero) (c ∷ d ∷ digits) cut few run = absurd (omega (arith, run.within))
+no_run_behind s text rest v none other e (suc (suc spaces)) digits cut few run = absurd (omega arith)
+
+-- neither two digits nor a space and a digit
+pub no_spaced_digit : (s : List ℕ) → NoCut (IsDigitRun 2 2) s → (2 ≤ length s → get_or s 0 0 ≡ 32 → ¬ IsDigit (get_or s 1 0)) →
+    NoCut (IsPaddedRun padding.Space 2 2) s
+no_spaced_digit s none other text rest v e run = no_run_behind s text rest v none other e run.spaces run.digits run.cut run.few run.run

@@ -2,8 +2,8 @@
 ghost use Rattle.std.specs.Prelude.{◌≡◌, ◌+◌, ◌*◌, ◌^◌, ◌<◌, ◌≤◌, pos};
 ghost use Rattle.time_values.specs.Sign.{signed_by};
 ghost use Rattle.time_readers.specs.Bytes.{is_negative};
-ghost use Rattle.time_readers.specs.Cuts.{Finds};
-ghost use Rattle.time_readers.specs.Digits.{IsPaddedRun};
+ghost use Rattle.time_readers.specs.Cuts.{Finds, NoCut};
+ghost use Rattle.time_readers.specs.Digits.{IsDigitRun, IsPaddedRun};
 ghost use Rattle.time_readers.specs.declared.Padding.TheVariants.{Space};
 ghost use Rattle.time_readers.specs.Spelling.{Says, SaysYear, SaysCentury, SaysTimestamp, SaysOffsetHour, IsSigned, number, signed, flagged, positive};
 
@@ -44,17 +44,25 @@ pub(super) fn pair(input: &[u8], padding: Padding) -> Option<ParsedItem<'_, u8>>
     match padding {
         Padding::Zero => None,
         Padding::None => one_or_two_digits(input),
-        Padding::Space => spaced_pair(input),
+        Padding::Space => spaced_digit(input),
     }
 }
 
-// The same with a space for a missing digit.
-#[cold]
-#[inline(never)]
-fn spaced_pair(input: &[u8]) -> Option<ParsedItem<'_, u8>>
+// Reads a space and a digit, where two digits don't stand.
+#[inline(always)]
+#[tactic(auto, using(crate::proofs::PaddedRuns::no_spaced_digit))]
+fn spaced_digit(input: &[u8]) -> Option<ParsedItem<'_, u8>>
+    requires { NoCut (IsDigitRun 2 2) input.now }
     ensures { Finds (IsPaddedRun Space 2 2) (λ v. v) input.now result }
 {
-    run::<2, 2, u8>(input, Padding::Space)
+    let [space, digit, rest @ ..] = input else {
+        return None;
+    };
+    if *space == b' ' && b'0' <= *digit && *digit <= b'9' {
+        Some(ParsedItem(rest, *digit - b'0'))
+    } else {
+        None
+    }
 }
 
 // Reads a number in two places.

@@ -2,7 +2,7 @@
 use Rattle.std.proofs.Common.{◌≡◌, ℕ, zero, suc, ◌+◌, ◌-◌, ◌<◌, ◌≤◌, List, [], ◌∷◌, length, drop, get_or, map, refl, ap, sym, ◌∙◌, subst, inr, arith}
 use Rattle.std.proofs.Math.Seq.{drop-nil}
 use Rattle.time_values.specs.Refusal.{Refusal}
-use Rattle.time_readers.specs.Tree.{Tree, Trees, literal, component, none, more, trees}
+use Rattle.time_readers.specs.Tree.{Tree, literal, component, trees}
 use Rattle.time_record.specs.Count.{Begins, BeginsAll, IsLeaf, ReadsLeaves, raised}
 use Rattle.time_record.specs.Reading.{Reads, ReadsAll, RefusesAll}
 use Rattle.time_record.specs.Record.{Record}

@@ -13,7 +13,7 @@ use crate::Parsed;
 
 /// An item, which is read at once where it is a common leaf.
 pub trait Leaf {
-    /// The tree that the item is.
+    // The tree that the item is.
     ghost shape: { Self → Tree };
 
     /// Reads a common leaf. `None` says nothing, and nothing changed.
@@ -23,7 +23,7 @@ pub trait Leaf {
 }
 
 // Reads leaves one after the other from an index on, and answers the index of the first item that is not read
-// at once, and the rest. Since this loop calls nothing, it stays in registers.
+// at once, and the rest. No walk is called in this loop, so it keeps no room for a walk's result.
 #[inline(always)]
 fn read_leaves<'a, I: Leaf>(
     items: &[I],

@@ -17,14 +17,6 @@ pub record GoesOn (Y : ℕ) {X : Type 0} (f : X → Tree) (xs : List X) (first i
   pub leaves : (n : ℕ) (rest : List ℕ) (q : Record) → ReadsLeaves Y (trees_from f i xs) n b r rest q →
       ReadsLeaves Y (trees_from f first xs) ((i - first) + n) b0 r0 rest q
 
-module _ (Y : ℕ) {X : Type 0} (f : X → Tree) (xs : List X) (first : ℕ) where
-  pub GoesOn-start : (b : List ℕ) (r : Record) → first ≤ length xs → GoesOn Y f xs first first b r b r
-  GoesOn-start b r within = record {
-    least = omega arith;
-    within = within;
-    leaves = λ n rest q h. subst (λ m. ReadsLeaves Y (trees_from f first xs) m b r rest q) (omega arith) h;
-  }
-
 module _ {Y : ℕ} {X : Type 0} {f : X → Tree} {xs : List X} {first i : ℕ}
     {b0 : List ℕ} {r0 : Record} {b : List ℕ} {r : Record} (k : GoesOn Y f xs first i b0 r0 b r) where
   -- one more

@@ -9,11 +9,11 @@ use Rattle.time_readers.specs.Ranged.{IsTwoDigits, IsWithin}
 use Rattle.time_readers.specs.declared.rfc3339.Numbers.{Numbers}
 use Rattle.time_readers.specs.declared.rfc3339.front.TheConstants.{LEAST, GREATEST}
 
-within : (ranged : Bool) (least most v : ℕ) → least ≤ v → v ≤ most → IsWithin ranged least most v
+pub within : (ranged : Bool) (least most v : ℕ) → least ≤ v → v ≤ most → IsWithin ranged least most v
 within true least most v low high = (low, high)
 within false least most v low high = tt
 
-two_digits : (ranged : Bool) (least most a b : ℕ) (rest : List ℕ) (v : ℕ) → IsDigit a → IsDigit b → v ≡ (a - 48) * 10 + (b - 48)
+pub two_digits : (ranged : Bool) (least most a b : ℕ) (rest : List ℕ) (v : ℕ) → IsDigit a → IsDigit b → v ≡ (a - 48) * 10 + (b - 48)
     → IsWithin ranged least most v → IsTwoDigits ranged least most (a ∷ b ∷ []) rest v
 two_digits ranged least most a b rest v first second is range = (
   record {
@@ -26,7 +26,7 @@ two_digits ranged least most a b rest v first second is range = (
   range,
 )
 
-four_digits : (a b c d : ℕ) (rest : List ℕ) (v : ℕ) → IsDigit a → IsDigit b → IsDigit c → IsDigit d
+pub four_digits : (a b c d : ℕ) (rest : List ℕ) (v : ℕ) → IsDigit a → IsDigit b → IsDigit c → IsDigit d
     → v ≡ ((a - 48) * 10 + (b - 48)) * 100 + ((c - 48) * 10 + (d - 48)) → IsDigitRun 4 4 (a ∷ b ∷ c ∷ d ∷ []) rest v
 four_digits a b c d rest v p q r s is = record {
   digits = (p, (q, (r, (s, tt))));

@@ -12,6 +12,7 @@ pub mod Keeping
 pub mod KeptNumbers
 pub mod Made
 pub mod MailBlanks
+pub mod MailFront
 pub mod MailPlaces
 pub mod MailRanges
 pub mod MailZones

@@ -10,7 +10,7 @@ ghost use Rattle.time_readers.specs.declared.format_description.Component.TheVar
 
 mod fractions;
 mod letters;
-mod names;
+pub(crate) mod names;
 mod numbers;
 
 use crate::{ParsedItem, Period, SubsecondDigits, TrailingInput, modifier};

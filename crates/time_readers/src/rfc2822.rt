@@ -6,6 +6,7 @@ ghost use Rattle.time_readers.specs.MailBlanks as spec;
 ghost use Rattle.std.specs.Char.{to_ascii_lowercase};
 ghost use Rattle.time_readers.specs.MailZones.{hours_of, is_military, short_zone, zone_literal};
 
+mod front;
 mod places;
 
 use crate::ParsedItem;

@@ -78,7 +78,7 @@ pub(super) fn weekday_of(letters: [u8; 3]) -> Option<Weekday>
 
 // The month whose name begins with these letters as they stand. `None` says nothing.
 #[inline(always)]
-pub(super) fn titled_month(letters: [u8; 3]) -> Option<Month>
+pub(crate) fn titled_month(letters: [u8; 3]) -> Option<Month>
     ensures { IfSome result (λ v. letters ≡ take 3 (month_name v)) }
 {
     match &letters {

@@ -5,15 +5,17 @@ ghost use Rattle.time_values.specs.Refusal.{refusal_of_description};
 ghost use Rattle.time_values.specs.Sign.{signed_by};
 ghost use Rattle.time_readers.specs.Bytes.{is_negative};
 ghost use Rattle.time_readers.specs.MailBlanks as spec;
+ghost use Rattle.time_readers.specs.MailFront.{day_places, month_places, front_places};
 ghost use Rattle.time_readers.specs.Places.{Reads, Walks};
 ghost use Rattle.time_readers.specs.Rfc2822 as Rfc2822;
-ghost use Rattle.time_readers.specs.Rfc2822.{Asks, IsSilent, date_places, time_places, offset_places, HasForm, FailsAt, fault};
+ghost use Rattle.time_readers.specs.Rfc2822.{Asks, IsSilent, time_places, offset_places, HasForm, FailsAt, fault};
 ghost use Rattle.time_readers.specs.declared.rfc2822.places.Numbers.{Numbers};
 ghost use Rattle.time_readers.specs.declared.rfc2822.places.Place.TheVariants as place;
 
 use crate::combinator::{ascii_char, four_digits, one_or_two_digits, sign, two_digits};
 use crate::component::{parse_month_short, parse_weekday_short};
 use crate::ranged::{is_within, two_digits_in};
+use crate::rfc2822::front;
 use crate::rfc2822::{cfws, fws, opt_cfws, opt_cfws_colon_opt_cfws, zone_literal};
 use crate::{ParsedItem, Sign, modifier};
 use time_values::error::ParseFromDescription;
@@ -109,8 +111,8 @@ pub fn read<const RANGED: bool>(input: &[u8]) -> Result<ParsedItem<'_, Numbers>,
         (λ e. FailsAt RANGED input.now e) }
 {
     let mut numbers = Numbers::NONE;
-    let rest = date::<RANGED>(input, &mut numbers)?;
-    let rest = time::<RANGED>(rest, &mut numbers)?;
+    let rest = to_day::<RANGED>(input, &mut numbers)?;
+    let rest = to_offset::<RANGED>(rest, &mut numbers)?;
     let rest = offset::<RANGED>(rest, &mut numbers)?;
     Ok(ParsedItem(rest, numbers))
 }
@@ -143,12 +145,36 @@ pub fn place_fault(place: Place) -> ParseFromDescription
 }
 
 #[inline(always)]
-fn date<'a, const RANGED: bool>(input: &'a [u8], numbers: &mut Numbers) -> Result<&'a [u8], Place>
-    ensures { Walks (Asks RANGED) date_places numbers.old input.now result numbers.new }
+fn to_day<'a, const RANGED: bool>(input: &'a [u8], numbers: &mut Numbers) -> Result<&'a [u8], Place>
+    ensures { Walks (Asks RANGED) day_places numbers.old input.now result numbers.new }
 {
     let rest = weekday_name(input, numbers).ok_or(Place::WeekdayName)?;
-    let rest = day::<RANGED>(rest, numbers).ok_or(Place::Day)?;
-    let rest = blanks_with_comments(rest).ok_or(Place::DayBlanks)?;
+    day::<RANGED>(rest, numbers).ok_or(Place::Day)
+}
+
+// The places from behind the day to the offset: at once where all stand, else one after another.
+#[inline(always)]
+fn to_offset<'a, const RANGED: bool>(
+    input: &'a [u8],
+    numbers: &mut Numbers,
+) -> Result<&'a [u8], Place>
+    ensures { Walks (Asks RANGED) front_places numbers.old input.now result numbers.new }
+{
+    if let Some(rest) = front::front::<RANGED>(input, numbers) {
+        return Ok(rest);
+    }
+    let rest = month_and_year::<RANGED>(input, numbers)?;
+    time::<RANGED>(rest, numbers)
+}
+
+#[inline(always)]
+fn month_and_year<'a, const RANGED: bool>(
+    input: &'a [u8],
+    numbers: &mut Numbers,
+) -> Result<&'a [u8], Place>
+    ensures { Walks (Asks RANGED) month_places numbers.old input.now result numbers.new }
+{
+    let rest = blanks_with_comments(input).ok_or(Place::DayBlanks)?;
     let rest = month_name(rest, numbers).ok_or(Place::MonthName)?;
     let rest = blanks_with_comments(rest).ok_or(Place::MonthBlanks)?;
     let rest = year(rest, numbers).ok_or(Place::Year)?;

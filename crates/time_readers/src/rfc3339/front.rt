@@ -15,7 +15,7 @@ const GREATEST: [u8; 16] = *b"9999-19-39\xff29:59";
 
 // Whether each byte lies between the least and the greatest of its place.
 #[inline(always)]
-fn is_within(bytes: &[u8; 16], least: [u8; 16], greatest: [u8; 16]) -> bool
+pub(crate) fn is_within(bytes: &[u8; 16], least: [u8; 16], greatest: [u8; 16]) -> bool
     ensures { IsTrue result → AllWithin least greatest bytes.now }
 {
     let bytes = u8x16::from_slice(bytes);

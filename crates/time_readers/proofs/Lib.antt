@@ -13,6 +13,7 @@ pub mod KeptNumbers
 pub mod Made
 pub mod MailBlanks
 pub mod MailFront
+pub mod MailOffset
 pub mod MailPlaces
 pub mod MailRanges
 pub mod MailZones

@@ -1,5 +1,5 @@
 -- The places of a mail date from behind its day to its offset, of twenty bytes within their bounds.
-use Rattle.std.proofs.Common.{◌≡◌, ℕ, ◌+◌, ◌-◌, ◌*◌, ◌≤◌, ◌≢◌, Bool, List, [], ◌∷◌, ◌++◌, length, get_or, take, drop, refl, ap, sym, ◌∙◌, subst, inl, arith, true, false, Some}
+use Rattle.std.proofs.Common.{◌≡◌, ℕ, ◌+◌, ◌-◌, ◌*◌, ◌≤◌, Bool, List, [], ◌∷◌, ◌++◌, length, get_or, take, drop, refl, ap, sym, ◌∙◌, subst, inl, arith, true, Some}
 use Rattle.std.proofs.lemmas.Simd.{pick_l_whole}
 use Rattle.std.specs.Str.{str_to_ascii_lowercase}
 use Rattle.time_values.specs.declared.month.Month.{Month}
@@ -30,8 +30,8 @@ fws_at b c s is h = fws-short (b ∷ c ∷ s) (omega arith) (inl is, (λ e. omeg
 colon_at : (b c : ℕ) (s : List ℕ) → b ≡ 58 → 41 ≤ c → opt_cfws_colon_opt_cfws (b ∷ c ∷ s) ≡ Some (c ∷ s)
 colon_at b c s is h = colon-short (b ∷ c ∷ s) (omega arith) is h
 
-front_stands : (ranged : Bool) (n : Numbers) (x a b c y y0 y1 y2 y3 z h0 h1 p n0 n1 q s0 s1 w next : ℕ) (rest : List ℕ) (month : Month) (year hour minute second : ℕ)
-    → AllWithin LEAST GREATEST (x ∷ a ∷ b ∷ c ∷ y ∷ y0 ∷ y1 ∷ y2 ∷ y3 ∷ z ∷ h0 ∷ h1 ∷ p ∷ n0 ∷ n1 ∷ q ∷ [])
+front_stands : (ranged : Bool) (n : Numbers) (x a b c y y0 y1 y2 y3 z h0 h1 p n0 n1 q s0 s1 w next : ℕ) (rest : List ℕ)
+    (month : Month) (year hour minute second : ℕ) → AllWithin LEAST GREATEST (x ∷ a ∷ b ∷ c ∷ y ∷ y0 ∷ y1 ∷ y2 ∷ y3 ∷ z ∷ h0 ∷ h1 ∷ p ∷ n0 ∷ n1 ∷ q ∷ [])
     → IsDigit s0 → IsDigit s1 → w ≡ 32 → 41 ≤ next
     → a ∷ b ∷ c ∷ [] ≡ take 3 (month_name month)
     → year ≡ ((y0 - 48) * 10 + (y1 - 48)) * 100 + ((y2 - 48) * 10 + (y3 - 48)) → 1900 ≤ year
@@ -42,8 +42,27 @@ front_stands : (ranged : Bool) (n : Numbers) (x a b c y y0 y1 y2 y3 z h0 h1 p n0
     (x ∷ a ∷ b ∷ c ∷ y ∷ y0 ∷ y1 ∷ y2 ∷ y3 ∷ z ∷ h0 ∷ h1 ∷ p ∷ n0 ∷ n1 ∷ q ∷ s0 ∷ s1 ∷ w ∷ next ∷ rest) (next ∷ rest)
     (front_numbers n month year hour minute second)
 unfolding Stand
-front_stands ranged n x a b c y y0 y1 y2 y3 z h0 h1 p n0 n1 q s0 s1 w next rest month year hour minute second
-    (xl, xg, (al, ag, (bl, bg, (cl, cg, (yl, yg, (y0l, y0g, (y1l, y1g, (y2l, y2g, (y3l, y3g, (zl, zg, (h0l, h0g, (h1l, h1g, (pl, pg, (n0l, n0g, (n1l, n1g, (ql, qg, nothing))))))))))))))))
+front_stands ranged n x a b c y y0 y1 y2 y3 z h0 h1 p n0 n1 q s0 s1 w next rest month year hour minute second (
+  xl,
+  xg,
+  (
+    al,
+    ag,
+    (
+      bl,
+      bg,
+      (
+        cl,
+        cg,
+        (
+          yl,
+          yg,
+          (y0l, y0g, (y1l, y1g, (y2l, y2g, (y3l, y3g, (zl, zg, (h0l, h0g, (h1l, h1g, (pl, pg, (n0l, n0g, (n1l, n1g, (ql, qg, nothing))))))))))),
+        ),
+      ),
+    ),
+  ),
+)
     sec0 sec1 space printed named yeq late heq hour_in neq seq shigh =
     let blank1 : x ≡ 32 = omega arith in
     let blank2 : y ≡ 32 = omega arith in
@@ -51,33 +70,54 @@ front_stands ranged n x a b c y y0 y1 y2 y3 z h0 h1 p n0 n1 q s0 s1 w next rest 
     let colon1 : p ≡ 58 = omega arith in
     let colon2 : q ≡ 58 = omega arith in
     let minute_in = within ranged 0 59 minute (omega arith) (omega arith) in
-    let second_in = within ranged 0 60 second (omega arith) shigh in
-    (
-      _, _, (x ∷ [], refl, (cfws_at x a _ blank1 (omega arith), refl)),
+    let second_in = within ranged 0 60 second (omega arith) shigh in (
+      _,
+      _,
+      (x ∷ [], refl, (cfws_at x a _ blank1 (omega arith), refl)),
       (
-        _, _, (a ∷ b ∷ c ∷ [], refl, (month, ap str_to_ascii_lowercase named, refl)),
+        _,
+        _,
+        (a ∷ b ∷ c ∷ [], refl, (month, ap str_to_ascii_lowercase named, refl)),
         (
-          _, _, (y ∷ [], refl, (cfws_at y y0 _ blank2 (omega arith), refl)),
+          _,
+          _,
+          (y ∷ [], refl, (cfws_at y y0 _ blank2 (omega arith), refl)),
           (
-            _, _, (_, refl, (true, year, (four_digits y0 y1 y2 y3 _ year (y0l, y0g) (y1l, y1g) (y2l, y2g) (y3l, y3g) yeq, late), refl)),
+            _,
+            _,
+            (_, refl, (true, year, (four_digits y0 y1 y2 y3 _ year (y0l, y0g) (y1l, y1g) (y2l, y2g) (y3l, y3g) yeq, late), refl)),
             (
-              _, _, (z ∷ [], refl, (fws_at z h0 _ blank3 (omega arith), refl)),
+              _,
+              _,
+              (z ∷ [], refl, (fws_at z h0 _ blank3 (omega arith), refl)),
               (
-                _, _, (_, refl, (hour, two_digits ranged 0 23 h0 h1 _ hour (h0l, omega arith) (h1l, h1g) heq hour_in, refl)),
+                _,
+                _,
+                (_, refl, (hour, two_digits ranged 0 23 h0 h1 _ hour (h0l, omega arith) (h1l, h1g) heq hour_in, refl)),
                 (
-                  _, _, (p ∷ [], refl, (colon_at p n0 _ colon1 (omega arith), refl)),
+                  _,
+                  _,
+                  (p ∷ [], refl, (colon_at p n0 _ colon1 (omega arith), refl)),
                   (
-                    _, _, (_, refl, (minute, two_digits ranged 0 59 n0 n1 _ minute (n0l, omega arith) (n1l, n1g) neq minute_in, refl)),
+                    _,
+                    _,
+                    (_, refl, (minute, two_digits ranged 0 59 n0 n1 _ minute (n0l, omega arith) (n1l, n1g) neq minute_in, refl)),
                     (
-                      _, _, (
-                        _, refl, (
+                      _,
+                      _,
+                      (
+                        _,
+                        refl,
+                        (
                           Some second,
                           (q ∷ [], s0 ∷ s1 ∷ [], refl, colon_at q s0 _ colon2 (omega arith), two_digits ranged 0 60 s0 s1 _ second sec0 sec1 seq second_in),
                           refl,
                         ),
                       ),
                       (
-                        _, _, (w ∷ [], refl, (cfws_at w next rest space printed, refl)),
+                        _,
+                        _,
+                        (w ∷ [], refl, (cfws_at w next rest space printed, refl)),
                         (refl, refl),
                       ),
                     ),

@@ -100,7 +100,7 @@ pub(crate) fn titled_month(letters: [u8; 3]) -> Option<Month>
 
 // The weekday whose name begins with these letters as they stand. `None` says nothing.
 #[inline(always)]
-pub(super) fn titled_weekday(letters: [u8; 3]) -> Option<Weekday>
+pub(crate) fn titled_weekday(letters: [u8; 3]) -> Option<Weekday>
     ensures { IfSome result (λ v. letters ≡ take 3 (weekday_name v)) }
 {
     match &letters {

@@ -48,8 +48,9 @@ pub(super) fn front<'a, const RANGED: bool>(
         ones @ b'0'..=b'9',
         b' ',
         b')'..=u8::MAX,
-        ..,
-    ] = rest else {
+        ..
+    ] = rest
+    else {
         return None;
     };
     let second = (*tens - b'0') * 10 + (*ones - b'0');

@@ -1,22 +1,23 @@
 //! The date and time of RFC 2822, section 3.3, by fifteen places.
-ghost use Rattle.std.specs.Prelude.{◌≡◌, ◌≤◌, false, MatchResult, option_map, pos};
+ghost use Rattle.std.specs.Prelude.{◌≡◌, ◌≤◌, false, MatchOption, MatchResult, option_map, pos};
 ghost use Rattle.std.specs.Option.{option_copied};
 ghost use Rattle.time_values.specs.Refusal.{refusal_of_description};
 ghost use Rattle.time_values.specs.Sign.{signed_by};
 ghost use Rattle.time_readers.specs.Bytes.{is_negative};
+ghost use Rattle.time_readers.specs.Cuts.{Cut};
 ghost use Rattle.time_readers.specs.MailBlanks as spec;
 ghost use Rattle.time_readers.specs.MailFront.{day_places, month_places, front_places};
-ghost use Rattle.time_readers.specs.Places.{Reads, Walks};
+ghost use Rattle.time_readers.specs.Places.{Reads, Stand, Walks};
 ghost use Rattle.time_readers.specs.Rfc2822 as Rfc2822;
 ghost use Rattle.time_readers.specs.Rfc2822.{Asks, IsSilent, time_places, offset_places, HasForm, FailsAt, fault};
 ghost use Rattle.time_readers.specs.declared.rfc2822.places.Numbers.{Numbers};
 ghost use Rattle.time_readers.specs.declared.rfc2822.places.Place.TheVariants as place;
 
 use crate::combinator::{ascii_char, four_digits, one_or_two_digits, sign, two_digits};
+use crate::component::names::titled_weekday;
 use crate::component::{parse_month_short, parse_weekday_short};
 use crate::ranged::{is_within, two_digits_in};
-use crate::rfc2822::front;
-use crate::rfc2822::{cfws, fws, opt_cfws, opt_cfws_colon_opt_cfws, zone_literal};
+use crate::rfc2822::{cfws, front, fws, opt_cfws, opt_cfws_colon_opt_cfws, zone_literal};
 use crate::{ParsedItem, Sign, modifier};
 use time_values::error::ParseFromDescription;
 use time_values::{Month, Weekday};
@@ -192,8 +193,50 @@ fn time<'a, const RANGED: bool>(input: &'a [u8], numbers: &mut Numbers) -> Resul
     blanks_with_comments(rest).ok_or(Place::TimeBlanks)
 }
 
+// The places of the offset: at once where all stand and nothing follows, else one after another.
 #[inline(always)]
 fn offset<'a, const RANGED: bool>(input: &'a [u8], numbers: &mut Numbers) -> Result<&'a [u8], Place>
+    ensures { Walks (Asks RANGED) offset_places numbers.old input.now result numbers.new }
+{
+    if let Some(rest) = last_offset::<RANGED>(input, numbers) {
+        return Ok(rest);
+    }
+    any_offset::<RANGED>(input, numbers)
+}
+
+// A sign and four digits, behind which nothing follows. `None` says nothing, and leaves the numbers.
+#[inline(always)]
+fn last_offset<'a, const RANGED: bool>(input: &'a [u8], numbers: &mut Numbers) -> Option<&'a [u8]>
+    ensures { MatchOption result
+        (numbers.new ≡ numbers.old)
+        (λ rest. Stand (Asks RANGED) offset_places numbers.old input.now rest.now numbers.new) }
+{
+    let signed = sign(input)?;
+    let [
+        a @ b'0'..=b'9',
+        b @ b'0'..=b'9',
+        c @ b'0'..=b'9',
+        d @ b'0'..=b'9',
+    ] = signed.0
+    else {
+        return None;
+    };
+    let hour = 10 * (*a - b'0') + (*b - b'0');
+    let minute = 10 * (*c - b'0') + (*d - b'0');
+    if !is_within::<RANGED>(hour, 0, 25) || !is_within::<RANGED>(minute, 0, 59) {
+        return None;
+    }
+    numbers.offset_sign = Some(signed.1);
+    numbers.offset_hour = with_sign(signed.1, hour);
+    numbers.offset_minute = with_sign(signed.1, minute);
+    Some(&[])
+}
+
+#[inline(always)]
+fn any_offset<'a, const RANGED: bool>(
+    input: &'a [u8],
+    numbers: &mut Numbers,
+) -> Result<&'a [u8], Place>
     ensures { Walks (Asks RANGED) offset_places numbers.old input.now result numbers.new }
 {
     let rest = offset_hour::<RANGED>(input, numbers).ok_or(Place::OffsetHour)?;
@@ -262,9 +305,37 @@ fn with_sign(sign: Sign, value: u8) -> i8
     }
 }
 
-// Blanks, and then nothing or a weekday's name, a comma and blanks.
+// Blanks, and then nothing or a weekday's name, a comma and blanks: at once where it stands as usual.
 #[inline(always)]
 fn weekday_name<'a>(input: &'a [u8], numbers: &mut Numbers) -> Option<&'a [u8]>
+    ensures { Reads (Asks false place.WeekdayName numbers.old) input.now result numbers.new }
+{
+    match usual_weekday(input, numbers) {
+        Some(rest) => Some(rest),
+        None => any_weekday(input, numbers),
+    }
+}
+
+// A weekday's name with a capital and two small letters, a comma and one space. `None` says nothing, and
+// leaves the numbers.
+#[inline(always)]
+fn usual_weekday<'a>(input: &'a [u8], numbers: &mut Numbers) -> Option<&'a [u8]>
+    ensures { MatchOption result
+        (numbers.new ≡ numbers.old)
+        (λ rest. Cut (Asks false place.WeekdayName numbers.old) input.now rest.now numbers.new) }
+{
+    // No blank and no comment begins with a byte above `(`.
+    let [first, second, third, b',', b' ', b')'..=u8::MAX, ..] = input else {
+        return None;
+    };
+    let weekday = titled_weekday([*first, *second, *third])?;
+    numbers.weekday = Some(weekday);
+    Some(&input[5..])
+}
+
+// Blanks, and then nothing or a weekday's name, a comma and blanks.
+#[inline(always)]
+fn any_weekday<'a>(input: &'a [u8], numbers: &mut Numbers) -> Option<&'a [u8]>
     ensures { Reads (Asks false place.WeekdayName numbers.old) input.now result numbers.new }
 {
     let rest = opt_cfws(input).0;

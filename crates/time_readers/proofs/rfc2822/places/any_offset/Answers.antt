@@ -1,5 +1,5 @@
 use Rattle.time_readers.proofs.Walking.{Reads-more, Reads-stop, Reads-last}
-use Rattle.time_readers.proofs.rfc2822.places.offset.Goals as goal
+use Rattle.time_readers.proofs.rfc2822.places.any_offset.Goals as goal
 
 pub returns-in_err-rest : goal.returns-in_err-rest
 returns-in_err-rest g c =

@@ -12,6 +12,7 @@ mod fronts;
 mod hostile;
 mod iso_texts;
 mod mail_dates;
+mod mail_fronts;
 mod places;
 mod readme;
 mod records;

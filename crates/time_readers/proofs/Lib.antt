@@ -21,6 +21,7 @@ pub mod Masks
 pub mod NameLemmas
 pub mod NotBoth
 pub mod NumberLemmas
+pub mod OffsetBytes
 pub mod OneDirect
 pub mod OneForm
 pub mod OneMailDate
@@ -35,6 +36,7 @@ pub mod Repeats
 pub mod Runs
 pub mod ShortCuts
 pub mod ShortNames
+pub mod Threes
 pub mod Walking
 pub mod WordBytes
 pub mod WordDigits

@@ -78,6 +78,20 @@ pub(crate) fn two_digits(input: &[u8]) -> Option<ParsedItem<'_, u8>>
     }
 }
 
+// Reads exactly three digits, and answers their decimal value.
+#[inline(always)]
+fn three_digits(input: &[u8]) -> Option<ParsedItem<'_, u32>>
+    ensures { Finds (IsDigitRun 3 3) (λ v. v) input.now result }
+{
+    match input {
+        [a @ b'0'..=b'9', b @ b'0'..=b'9', c @ b'0'..=b'9', rest @ ..] => {
+            let low = u32::from(10 * (*b - b'0') + (*c - b'0'));
+            Some(ParsedItem(rest, 100 * u32::from(*a - b'0') + low))
+        }
+        _ => None,
+    }
+}
+
 // Reads exactly four digits, and answers their decimal value.
 #[inline(always)]
 pub(crate) fn four_digits(input: &[u8]) -> Option<ParsedItem<'_, u16>>
@@ -239,7 +253,7 @@ fn nanoseconds_of_place(digits: usize) -> u32
 }
 
 // Reads the digits of a fraction of a second, as many as stand there, and answers nanoseconds: nine
-// digits count, later ones are dropped.
+// digits count, later ones are dropped. Nine, six and three digits stand most often.
 #[inline(always)]
 pub(crate) fn fraction(input: &[u8]) -> Option<ParsedItem<'_, u32>>
     ensures { Finds IsFraction (λ v. v) input.now result }
@@ -249,7 +263,28 @@ pub(crate) fn fraction(input: &[u8]) -> Option<ParsedItem<'_, u32>>
             return Some(ParsedItem(without_digits(nine.0), nine.1));
         }
     }
+    if let Some(found) = fraction_by_threes(input) {
+        return Some(found);
+    }
     fraction_by_digits(input)
+}
+
+// The same of three digits or six, where no more stand. `None` says nothing.
+#[inline(always)]
+fn fraction_by_threes(input: &[u8]) -> Option<ParsedItem<'_, u32>>
+    ensures { IfSome result (λ found. Cut IsFraction input.now found.0.now found.1) }
+{
+    let first = three_digits(input)?;
+    let Some(second) = three_digits(first.0) else {
+        return match any_digit(first.0) {
+            Some(_) => None,
+            None => Some(ParsedItem(first.0, 1_000_000 * first.1)),
+        };
+    };
+    match any_digit(second.0) {
+        Some(_) => None,
+        None => Some(ParsedItem(second.0, 1_000_000 * first.1 + 1_000 * second.1)),
+    }
 }
 
 // The same, one digit after another.

@@ -8,7 +8,8 @@ ghost use Rattle.time_readers.specs.Ranged.{IsTwoDigits};
 ghost use Rattle.time_readers.specs.Rfc3339.{Asks, date_places, offset_places, HasForm, FailsAt, fault};
 ghost use Rattle.time_readers.specs.declared.rfc3339.Place.TheVariants as place;
 
-pub(crate) mod front;
+mod front;
+mod tail;
 
 use crate::combinator::{ascii_char, ascii_char_ignore_case, four_digits, fraction, sign};
 use crate::{ParsedItem, ranged};
@@ -175,8 +176,22 @@ fn time<'a, const RANGED: bool>(input: &'a [u8], numbers: &mut Numbers) -> Resul
     second::<RANGED>(rest, numbers)
 }
 
-#[inline]
+// The offset: at once where all of it stands, else one place after another.
+#[inline(always)]
 fn offset<'a, const RANGED: bool>(input: &'a [u8], numbers: &mut Numbers) -> Result<&'a [u8], Place>
+    ensures { Walks (Asks RANGED) offset_places numbers.old input.now result numbers.new }
+{
+    match tail::whole_offset::<RANGED>(input, numbers) {
+        Some(rest) => Ok(rest),
+        None => offset_by_places::<RANGED>(input, numbers),
+    }
+}
+
+#[inline]
+fn offset_by_places<'a, const RANGED: bool>(
+    input: &'a [u8],
+    numbers: &mut Numbers,
+) -> Result<&'a [u8], Place>
     ensures { Walks (Asks RANGED) offset_places numbers.old input.now result numbers.new }
 {
     let rest = offset_hour::<RANGED>(input, numbers)?;

@@ -9,7 +9,7 @@ use Rattle.time_readers.specs.Ranged.{IsTwoDigits, IsWithin}
 use Rattle.time_readers.specs.declared.rfc3339.Numbers.{Numbers}
 use Rattle.time_readers.specs.declared.rfc3339.front.TheConstants.{LEAST, GREATEST}
 
-within : (ranged : Bool) (least most v : ℕ) → least ≤ v → v ≤ most → IsWithin ranged least most v
+pub within : (ranged : Bool) (least most v : ℕ) → least ≤ v → v ≤ most → IsWithin ranged least most v
 within true least most v low high = (low, high)
 within false least most v low high = tt
 

@@ -4,13 +4,12 @@ use Rattle.std.specs.Char.{to_ascii_lowercase}
 use Rattle.time_readers.specs.Bytes.{sign_byte, is_negative}
 use Rattle.time_readers.specs.Digits.{IsDigit}
 use Rattle.time_readers.specs.Places.{Stand}
-use Rattle.time_readers.specs.Ranged.{IsWithin}
 use Rattle.time_readers.specs.Rfc3339.{Asks, offset_places, IsSignedHour, IsOffsetColon, IsOffsetMinute}
 use Rattle.time_readers.specs.declared.Sign.{Sign}
 use Rattle.time_readers.specs.declared.Sign.TheVariants.{Negative, Positive}
 use Rattle.time_readers.specs.declared.rfc3339.Numbers.{Numbers}
 use Rattle.time_readers.proofs.CutLemmas.{first_byte, take-drop}
-use Rattle.time_readers.proofs.FrontPlaces.{two_digits}
+use Rattle.time_readers.proofs.FrontPlaces.{two_digits, within}
 
 -- `Z`, in either case
 pub zulu_stands : (ranged : Bool) (n : Numbers) (text : List ℕ) → 1 ≤ length text
@@ -36,14 +35,14 @@ offset_numbers n negative hour minute =
 
 signed_stands : (ranged : Bool) (n : Numbers) (s : Sign) (a b c d : ℕ) (rest : List ℕ) (hour minute : ℕ) → n.is_utc ≡ false
     → IsDigit a → IsDigit b → IsDigit c → IsDigit d → hour ≡ (a - 48) * 10 + (b - 48) → hour ≤ 23
-    → minute ≡ (c - 48) * 10 + (d - 48) → IsWithin ranged 0 59 minute
+    → minute ≡ (c - 48) * 10 + (d - 48) → minute ≤ 59
     → Stand (Asks ranged) offset_places n (sign_byte s ∷ a ∷ b ∷ 58 ∷ c ∷ d ∷ rest) rest
     (offset_numbers n (is_negative s) hour minute)
 unfolding Stand
 signed_stands ranged n s a b c d rest hour minute utc p q r t heq hour_in meq minute_in =
     let k = record n { offset_is_negative = is_negative s; offset_hour = hour } in
     let m = offset_numbers n (is_negative s) hour minute in
-    let said = two_digits ranged 0 59 c d rest minute r t meq minute_in in
+    let said = two_digits ranged 0 59 c d rest minute r t meq (within ranged 0 59 minute (omega arith) minute_in) in
     let signed : IsSignedHour n (sign_byte s ∷ a ∷ b ∷ []) (58 ∷ c ∷ d ∷ rest) k = record {
       sign = s;
       digits = a ∷ b ∷ [];
@@ -82,7 +81,7 @@ bytes_stand : (ranged : Bool) (n : Numbers) (s : Sign) (text : List ℕ) (hour m
     → n.is_utc ≡ false → get_or text 0 0 ≡ sign_byte s → get_or text 3 0 ≡ 58 → IsDigit (get_or text 1 0) → IsDigit (get_or text 2 0)
     → IsDigit (get_or text 4 0) → IsDigit (get_or text 5 0)
     → hour ≡ (get_or text 1 0 - 48) * 10 + (get_or text 2 0 - 48) → hour ≤ 23
-    → minute ≡ (get_or text 4 0 - 48) * 10 + (get_or text 5 0 - 48) → IsWithin ranged 0 59 minute
+    → minute ≡ (get_or text 4 0 - 48) * 10 + (get_or text 5 0 - 48) → minute ≤ 59
     → Stand (Asks ranged) offset_places n text (take (length text - 6) (drop 6 text)) (offset_numbers n (is_negative s) hour minute)
 bytes_stand ranged n s text hour minute long utc first colon p q r t heq hour_in meq minute_in =
     let whole = six_first text long in
@@ -101,7 +100,7 @@ pub offset_stands : (ranged : Bool) (n : Numbers) (text : List ℕ) (hour minute
     → (get_or text 0 0 ≡ 43) ⊎ (get_or text 0 0 ≡ 45) → get_or text 3 0 ≡ 58 → IsDigit (get_or text 1 0) → IsDigit (get_or text 2 0)
     → IsDigit (get_or text 4 0) → IsDigit (get_or text 5 0)
     → hour ≡ (get_or text 1 0 - 48) * 10 + (get_or text 2 0 - 48) → hour ≤ 23
-    → minute ≡ (get_or text 4 0 - 48) * 10 + (get_or text 5 0 - 48) → IsWithin ranged 0 59 minute
+    → minute ≡ (get_or text 4 0 - 48) * 10 + (get_or text 5 0 - 48) → minute ≤ 59
     → Stand (Asks ranged) offset_places n text (take (length text - 6) (drop 6 text))
     (offset_numbers n (nat_eq (get_or text 0 0) 45) hour minute)
 offset_stands ranged n text hour minute long utc (inl plus) colon p q r t heq hour_in meq minute_in =

@@ -3,7 +3,6 @@ ghost use Rattle.std.specs.Prelude.{MatchOption, ◌≡◌};
 ghost use Rattle.time_readers.specs.Places.{Stand};
 ghost use Rattle.time_readers.specs.Rfc3339.{Asks, offset_places};
 
-use crate::ranged;
 use crate::rfc3339::Numbers;
 
 // Reads the places of the offset at once. `None` says nothing, and leaves the numbers.
@@ -25,7 +24,7 @@ pub(super) fn whole_offset<'a, const RANGED: bool>(
         a @ b'0'..=b'2',
         b @ b'0'..=b'9',
         b':',
-        c @ b'0'..=b'9',
+        c @ b'0'..=b'5',
         d @ b'0'..=b'9',
         rest @ ..,
     ] = text
@@ -33,12 +32,11 @@ pub(super) fn whole_offset<'a, const RANGED: bool>(
         return None;
     };
     let hour = 10 * (*a - b'0') + (*b - b'0');
-    let minute = 10 * (*c - b'0') + (*d - b'0');
-    if hour > 23 || !ranged::is_within::<RANGED>(minute, 0, 59) || numbers.is_utc {
+    if hour > 23 || numbers.is_utc {
         return None;
     }
     numbers.offset_is_negative = *sign == b'-';
     numbers.offset_hour = hour;
-    numbers.offset_minute = minute;
+    numbers.offset_minute = 10 * (*c - b'0') + (*d - b'0');
     Some(rest)
 }

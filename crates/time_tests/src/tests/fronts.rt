@@ -152,3 +152,51 @@ fn fronts(rt: HostRuntime) -> Result<(), Fail> {
     }
     Ok(())
 }
+
+// Texts, and what stands behind their seconds: the nanosecond, and the hours and minutes of the offset.
+const TAILS: [(&[u8], Option<(u32, i8, i8)>); 24] = [
+    (b"2021-01-02T03:04:05Z", Some((0, 0, 0))),
+    (b"2021-01-02T03:04:05z", Some((0, 0, 0))),
+    (b"2021-01-02T03:04:05+00:00", Some((0, 0, 0))),
+    (b"2021-01-02T03:04:05+23:59", Some((0, 23, 59))),
+    (b"2021-01-02T03:04:05-00:30", Some((0, 0, -30))),
+    (b"2021-01-02T03:04:05.1Z", Some((100_000_000, 0, 0))),
+    (b"2021-01-02T03:04:05.12Z", Some((120_000_000, 0, 0))),
+    (b"2021-01-02T03:04:05.123Z", Some((123_000_000, 0, 0))),
+    (b"2021-01-02T03:04:05.1234Z", Some((123_400_000, 0, 0))),
+    (b"2021-01-02T03:04:05.12345Z", Some((123_450_000, 0, 0))),
+    (
+        b"2021-01-02T03:04:05.123456-05:30",
+        Some((123_456_000, -5, -30)),
+    ),
+    (b"2021-01-02T03:04:05.1234567Z", Some((123_456_700, 0, 0))),
+    (b"2021-01-02T03:04:05.0000000019Z", Some((1, 0, 0))),
+    (b"2021-01-02T03:04:05.Z", None),
+    (b"2021-01-02T03:04:05.123", None),
+    (b"2021-01-02T03:04:05.123:Z", None),
+    (b"2021-01-02T03:04:05.123456/Z", None),
+    (b"2021-01-02T03:04:05", None),
+    (b"2021-01-02T03:04:05,05:30", None),
+    (b"2021-01-02T03:04:05+24:00", None),
+    (b"2021-01-02T03:04:05+05:60", None),
+    (b"2021-01-02T03:04:05+05;30", None),
+    (b"2021-01-02T03:04:05+05:3", None),
+    (b"2021-01-02T03:04:05+05:30Z", None),
+];
+
+// The nanosecond of a moment, and the hours and minutes of its offset.
+fn behind_second(moment: Result<OffsetDateTime, Parse>) -> Option<(u32, i8, i8)> {
+    let moment = moment.ok()?;
+    let (hours, minutes, _) = moment.offset().as_hms();
+    Some((moment.time().nanosecond(), hours, minutes))
+}
+
+#[test]
+fn tails(rt: HostRuntime) -> Result<(), Fail> {
+    for (text, wanted) in TAILS {
+        let over_a_record = Rfc3339.parse_offset_date_time(text, Some(Parsed::new()));
+        assert!(rt; behind_second(direct::rfc3339(text)) == wanted, "{text:?}");
+        assert!(rt; behind_second(over_a_record) == wanted, "{text:?}");
+    }
+    Ok(())
+}

@@ -17,4 +17,4 @@ returns g c =
     elim (cases_lt (get_or text 0 0) 44) [ inl low ↦ inl (omega arith) | inr high ↦ inr (omega arith) ] in
     offset_stands _ c.args.numbers.now text _ _ c.in-43.len_at_least c.if-numbers.false sign (omega arith)
     (omega arith, omega arith) (omega arith, omega arith) (omega arith, omega arith) (omega arith, omega arith)
-    (omega arith) (omega arith) (omega arith) (c.is_within.ensures.0 c.if-not-is_within.false)
+    (omega arith) (omega arith) (omega arith) (omega arith)

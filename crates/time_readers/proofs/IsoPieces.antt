@@ -1,5 +1,5 @@
 -- The pieces as functions are what the cuts of their relations say.
-use Rattle.std.proofs.Common.{◌≡◌, ℕ, zero, suc, ◌-◌, ◌<◌, ◌≤◌, ◌⊎◌, List, [], ◌∷◌, ◌++◌, length, length-append, take, drop, true, ◌&&◌, refl, ap, sym, ◌∙◌, subst, inl, inr, arith, ◌^◌, Option, Some, None, IfSome, Ok, Err}
+use Rattle.std.proofs.Common.{◌≡◌, ℕ, zero, suc, get_or, ◌-◌, ◌<◌, ◌≤◌, ◌⊎◌, List, [], ◌∷◌, ◌++◌, length, length-append, take, drop, true, ◌&&◌, refl, ap, sym, ◌∙◌, subst, inl, inr, arith, ◌^◌, Option, Some, None, IfSome, Ok, Err}
 use Rattle.std.specs.Prelude.{nat_le, nat_eq}
 use Rattle.std.proofs.lemmas.Bool.{le-leb, leb-true, leb-false, eq-eqb, eqb-true, and_parts, and_from, cases_Bool}
 use Rattle.std.proofs.lemmas.List.{take-append-drop, length-take-le}
@@ -140,7 +140,7 @@ pub number-fraction : (s mid behind : List ℕ) (whole count : ℕ) → digits 2
 unfolding number
 number-fraction s mid behind whole count e p leads some h = rw (e, p) (split_digits behind whole count leads some h)
 
-byte-first : (b : ℕ) (s rest : List ℕ) → byte b s ≡ Some rest → s ≡ b ∷ rest
+pub byte-first : (b : ℕ) (s rest : List ℕ) → byte b s ≡ Some rest → s ≡ b ∷ rest
 unfolding byte
 byte-first b [] rest e = absurd (none-some rest e)
 byte-first b (c ∷ s) rest e =
@@ -234,3 +234,13 @@ number-nine s mid behind rest whole v e p cut more nothing counted =
     rw (take-drop behind 9 room, back, front) refl in
     let round = round_whole text 1_000_000_000 (ap (λ n. 10 ^ n) long) in
     (text, is ∙ same, sym round ∙ sym run.is, IsDigitRun-below 9 9 text rest v run)
+
+-- one digit
+pub run_one : (s : List ℕ) (value : ℕ) → 1 ≤ length s → IsDigit (get_or s 0 0) → value ≡ get_or s 0 0 - 48
+    → Cut (IsDigitRun 1 1) s (take (length s - 1) (drop 1 s)) value
+run_one [] value h i e = absurd (omega arith)
+run_one (a ∷ s) value h i e = (
+  a ∷ [],
+  ap (λ r. a ∷ r) (sym (take-drop (a ∷ s) 1 h)),
+  record { digits = (i, tt); enough = omega arith; within = omega arith; ends = inl refl; is = omega arith },
+)

@@ -5,6 +5,7 @@ pub mod Fractions
 pub mod FrontPlaces
 pub mod IsoCuts
 pub mod IsoFractions
+pub mod IsoFront
 pub mod IsoPieces
 mod IsoRows
 pub mod IsoTimes

@@ -120,8 +120,11 @@ pub fn exactly_n_digits<const N: u8>(input: &[u8]) -> Option<ParsedItem<'_, u32>
     requires most { N ≤ 9 }
     ensures { Finds (IsDigitRun N N) (λ v. v) input.now result }
 {
-    if N < 4 {
+    if N < 3 {
         return exact_run(input, N);
+    }
+    if N == 3 {
+        return three_digits(input);
     }
     if N == 9 {
         return nine_digits(input);
@@ -131,7 +134,7 @@ pub fn exactly_n_digits<const N: u8>(input: &[u8]) -> Option<ParsedItem<'_, u32>
 
 // Reads exactly nine digits.
 #[inline(always)]
-fn nine_digits(input: &[u8]) -> Option<ParsedItem<'_, u32>>
+pub(crate) fn nine_digits(input: &[u8]) -> Option<ParsedItem<'_, u32>>
     ensures { Finds (IsDigitRun 9 9) (λ v. v) input.now result }
 {
     let eight = digits_of_word::<8>(input)?;

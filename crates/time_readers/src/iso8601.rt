@@ -7,6 +7,7 @@ ghost use Rattle.time_readers.specs.IsoKinds.{not_basic, is_extended, basic_wher
 
 mod dates;
 mod fractions;
+mod front;
 mod offsets;
 mod pieces;
 mod times;

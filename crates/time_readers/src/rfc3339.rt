@@ -8,7 +8,7 @@ ghost use Rattle.time_readers.specs.Ranged.{IsTwoDigits};
 ghost use Rattle.time_readers.specs.Rfc3339.{Asks, date_places, offset_places, HasForm, FailsAt, fault};
 ghost use Rattle.time_readers.specs.declared.rfc3339.Place.TheVariants as place;
 
-mod front;
+pub(crate) mod front;
 mod tail;
 
 use crate::combinator::{ascii_char, ascii_char_ignore_case, four_digits, fraction, sign};

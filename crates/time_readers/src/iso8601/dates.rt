@@ -5,6 +5,7 @@ ghost use Rattle.time_readers.specs.IsoAnswers.{Leaves, GivesForm, GivesPartOrFa
 ghost use Rattle.time_readers.specs.IsoDates as spec;
 
 use crate::ParsedItem;
+use crate::iso8601::front::calendar_date;
 use crate::iso8601::pieces::{byte, day, dayk, dayo, month, week, year};
 use crate::iso8601::{ExtendedKind, Part};
 use std::num::NonZero;
@@ -32,8 +33,19 @@ pub enum DateNumbers {
 /// of the first: an invalid component `year`, `month`, `day`, `week` or `weekday`, or an invalid literal where
 /// `-` is missing.
 #[inline(always)]
-#[tactic(auto, unfolding(crate::specs::IsoDates::date_text))]
 pub fn date(input: &[u8]) -> Result<Part<'_, DateNumbers>, ParseFromDescription>
+    ensures { GivesPartOrFault spec.iso_date (spec.date_text input.now) result }
+{
+    match calendar_date(input) {
+        Some(found) => Ok(found),
+        None => any_date(input),
+    }
+}
+
+// The date of a text, of any form.
+#[inline(always)]
+#[tactic(auto, unfolding(crate::specs::IsoDates::date_text))]
+fn any_date(input: &[u8]) -> Result<Part<'_, DateNumbers>, ParseFromDescription>
     ensures { GivesPartOrFault spec.iso_date (spec.date_text input.now) result }
 {
     let Some(found) = year(input) else {

@@ -1,12 +1,13 @@
 //! The pieces of ISO 8601 texts. Each reads a text of a fixed form, or refuses by `None`.
 ghost use Rattle.std.specs.Prelude.{◌≡◌, ◌≤◌, ◌<◌, ◌^◌, ℕ, List, IfSome, Some};
 ghost use Rattle.std.specs.Int.NonZero.{non_zero_u8_get, non_zero_u16_get};
-ghost use Rattle.time_readers.specs.Digits.{AllDigits};
+ghost use Rattle.time_readers.specs.Cuts.{Finds};
+ghost use Rattle.time_readers.specs.Digits.{AllDigits, IsDigitRun};
 ghost use Rattle.time_readers.specs.IsoAnswers.{Leaves, Gives, GivesAs, number_of};
 ghost use Rattle.time_readers.specs.IsoFractions.{round_of};
 ghost use Rattle.time_readers.specs.IsoPieces as spec;
 
-use crate::combinator::{self, ascii_char, exactly_n_digits, leading_digits};
+use crate::combinator::{self, ascii_char, exactly_n_digits, leading_digits, nine_digits};
 use crate::{ParsedItem, Sign};
 use std::num::NonZero;
 use time_values::{Month, Weekday};
@@ -85,7 +86,7 @@ pub fn day(input: &[u8]) -> Option<ParsedItem<'_, NonZero<u8>>>
 pub fn dayk(input: &[u8]) -> Option<ParsedItem<'_, Weekday>>
     ensures { Gives (spec.weekday input.now) result }
 {
-    let number = exactly::<1>(input)?;
+    let number = one_digit(input)?;
     match numbered_weekday(number.1) {
         Some(weekday) => Some(ParsedItem(number.0, weekday)),
         None => None,
@@ -93,7 +94,7 @@ pub fn dayk(input: &[u8]) -> Option<ParsedItem<'_, Weekday>>
 }
 
 // The weekday of a number, 1 for Monday.
-fn numbered_weekday(number: u32) -> Option<Weekday>
+fn numbered_weekday(number: u8) -> Option<Weekday>
     ensures { result ≡ spec.numbered spec.weekdays number }
 {
     match number {
@@ -176,7 +177,7 @@ pub(super) fn nine_places(input: &[u8]) -> Option<ParsedItem<'_, (u8, u32)>>
 {
     let whole = two_digits(input)?;
     let behind = point(whole.0)?;
-    let found = exactly_n_digits::<9>(behind)?;
+    let found = nine_digits(behind)?;
     if leading_digits(found.0, 1) > 0 {
         return None;
     }
@@ -231,6 +232,24 @@ pub(super) fn two_digits(input: &[u8]) -> Option<ParsedItem<'_, u8>>
     ensures { Gives (spec.digits 2 input.now) result }
 {
     combinator::two_digits(input)
+}
+
+// One digit.
+#[inline(always)]
+fn one_digit(input: &[u8]) -> Option<ParsedItem<'_, u8>>
+    ensures { Gives (spec.digits 1 input.now) result }
+{
+    run_of_one(input)
+}
+
+#[inline(always)]
+fn run_of_one(input: &[u8]) -> Option<ParsedItem<'_, u8>>
+    ensures { Finds (IsDigitRun 1 1) (λ v. v) input.now result }
+{
+    match input {
+        [a @ b'0'..=b'9', rest @ ..] => Some(ParsedItem(rest, *a - b'0')),
+        _ => None,
+    }
 }
 
 // Two digits of a number up to the greatest.

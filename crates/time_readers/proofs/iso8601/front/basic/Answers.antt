@@ -1,0 +1,15 @@
+use Rattle.std.proofs.Common.{◌∙◌, ap, sym, arith}
+use Rattle.time_readers.specs.IsoDates.{date_text}
+use Rattle.time_readers.specs.IsoPieces.{numbered, months}
+use Rattle.time_readers.proofs.CutLemmas.{take-drop}
+use Rattle.time_readers.proofs.IsoFront.{basic_date, first_eight}
+use Rattle.time_readers.proofs.iso8601.front.basic.Goals as goal
+
+pub returns : goal.returns
+returns c m month some =
+    let s = c.args.input.now in
+    rw (take-drop s 8 (omega arith), c.pair.ensures, c.pair-2.ensures, c.pair-4.ensures)
+    (ap date_text (first_eight s (omega arith)) ∙ basic_date _ _ _ _ _ _ _ _ _ _
+    (omega arith, omega arith) (omega arith, omega arith) (omega arith, omega arith) (omega arith, omega arith)
+    (omega arith, omega arith) (omega arith, omega arith) (omega arith, omega arith) (omega arith, omega arith)
+    (ap (numbered months) (sym c.pair-3.ensures) ∙ month) (λ e. some (c.pair-4.ensures ∙ e)))

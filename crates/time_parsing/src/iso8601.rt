@@ -10,7 +10,7 @@ ghost use Rattle.time_parsing.specs.Outcome.{over_record};
 ghost use Rattle.time_parsing.specs.Rfc3339.{without_offset_sign};
 
 use crate::Parsable;
-use crate::parsable::moment_before;
+use crate::parsable::{begin, moment_before};
 use time_readers::iso8601::{
     DateNumbers, ExtendedKind, OffsetNumbers, TimeNumbers, date, offset, time,
 };
@@ -265,10 +265,7 @@ impl Parsable for Iso8601 {
         input: &[u8],
         defaults: Option<Parsed>,
     ) -> Result<OffsetDateTime, Parse> {
-        let mut parsed = Parsed::new();
-        if let Some(known) = defaults {
-            parsed = known;
-        }
+        let mut parsed = begin(defaults);
         let rest = self.parse_into(input, &mut parsed)?;
         moment_before(rest, &parsed)
     }

@@ -1,6 +1,13 @@
 //! Parses whole texts into date-time values.
 #![tactic(auto)]
 
+// Puts a value into a record by a setter that can't refuse it. Said so, the compiler knows which options are there.
+macro_rules! put {
+    ($set:expr) => {
+        let Some(()) = $set else { unreachable!() };
+    };
+}
+
 mod canonical;
 mod description;
 mod iso8601;

@@ -30,8 +30,7 @@ use time_values::error::Parse;
 #[derive(Clone, Copy, Debug, PartialEq, Eq)]
 pub struct Rfc2822;
 
-// Puts the weekday, where it stands, day, month and year. No setter refuses, here or below: said
-// so, the compiler knows which options are there.
+// Puts the weekday, where it stands, day, month and year.
 #[inline(always)]
 fn put_date(numbers: Numbers, parsed: &mut Parsed)
     requires day { IsInRange 1 31 numbers.day }
@@ -42,19 +41,11 @@ fn put_date(numbers: Numbers, parsed: &mut Parsed)
         unreachable!()
     };
     if let Some(weekday) = numbers.weekday {
-        let Some(()) = parsed.set_weekday(weekday) else {
-            unreachable!()
-        };
+        put!(parsed.set_weekday(weekday));
     }
-    let Some(()) = parsed.set_day(day) else {
-        unreachable!()
-    };
-    let Some(()) = parsed.set_month(numbers.month) else {
-        unreachable!()
-    };
-    let Some(()) = parsed.set_year(i32::from(numbers.year)) else {
-        unreachable!()
-    };
+    put!(parsed.set_day(day));
+    put!(parsed.set_month(numbers.month));
+    put!(parsed.set_year(i32::from(numbers.year)));
 }
 
 // Puts hour, minute and, where it stands, the second.
@@ -65,16 +56,10 @@ fn put_time(numbers: Numbers, parsed: &mut Parsed)
     requires second { ForSome numbers.second (λ v. v ≤ 60) }
     ensures { put_all greatest_year (time_entries numbers) parsed.old ≡ Some parsed.new }
 {
-    let Some(()) = parsed.set_hour_24(numbers.hour) else {
-        unreachable!()
-    };
-    let Some(()) = parsed.set_minute(numbers.minute) else {
-        unreachable!()
-    };
+    put!(parsed.set_hour_24(numbers.hour));
+    put!(parsed.set_minute(numbers.minute));
     if let Some(second) = numbers.second {
-        let Some(()) = parsed.set_second(second) else {
-            unreachable!()
-        };
+        put!(parsed.set_second(second));
     }
 }
 
@@ -87,20 +72,12 @@ fn put_offset(numbers: Numbers, parsed: &mut Parsed)
         (without_offset_sign parsed.old) ≡ Some parsed.new }
 {
     parsed.forget_offset_sign();
-    let Some(()) = parsed.set_offset_hour(numbers.offset_hour) else {
-        unreachable!()
-    };
+    put!(parsed.set_offset_hour(numbers.offset_hour));
     if numbers.offset_sign.is_some() {
-        let Some(()) = parsed.set_offset_minute_signed(numbers.offset_minute) else {
-            unreachable!()
-        };
+        put!(parsed.set_offset_minute_signed(numbers.offset_minute));
     } else {
-        let Some(()) = parsed.set_offset_minute_signed(0) else {
-            unreachable!()
-        };
-        let Some(()) = parsed.set_offset_second_signed(0) else {
-            unreachable!()
-        };
+        put!(parsed.set_offset_minute_signed(0));
+        put!(parsed.set_offset_second_signed(0));
     }
 }
 

@@ -57,8 +57,7 @@ fn month(number: u8) -> Month
     }
 }
 
-// Puts year, month and day. No setter refuses, here or below: said so, the compiler knows which
-// options are there.
+// Puts year, month and day.
 #[inline(always)]
 fn put_date(numbers: Numbers, parsed: &mut Parsed)
     requires year { numbers.year ≤ greatest_year }
@@ -71,15 +70,9 @@ fn put_date(numbers: Numbers, parsed: &mut Parsed)
     let Some(day) = NonZero::<u8>::new(numbers.day) else {
         unreachable!()
     };
-    let Some(()) = parsed.set_year(i32::from(numbers.year)) else {
-        unreachable!()
-    };
-    let Some(()) = parsed.set_month(month) else {
-        unreachable!()
-    };
-    let Some(()) = parsed.set_day(day) else {
-        unreachable!()
-    };
+    put!(parsed.set_year(i32::from(numbers.year)));
+    put!(parsed.set_month(month));
+    put!(parsed.set_day(day));
 }
 
 // Puts hour, minute, second and, where it stands, the fraction of the second.
@@ -91,19 +84,11 @@ fn put_time(numbers: Numbers, parsed: &mut Parsed)
     requires subsecond { ForSome numbers.subsecond (λ v. v < 1_000_000_000) }
     ensures { put_all greatest_year (time_entries numbers) parsed.old ≡ Some parsed.new }
 {
-    let Some(()) = parsed.set_hour_24(numbers.hour) else {
-        unreachable!()
-    };
-    let Some(()) = parsed.set_minute(numbers.minute) else {
-        unreachable!()
-    };
-    let Some(()) = parsed.set_second(numbers.second) else {
-        unreachable!()
-    };
+    put!(parsed.set_hour_24(numbers.hour));
+    put!(parsed.set_minute(numbers.minute));
+    put!(parsed.set_second(numbers.second));
     if let Some(subsecond) = numbers.subsecond {
-        let Some(()) = parsed.set_subsecond(subsecond) else {
-            unreachable!()
-        };
+        put!(parsed.set_subsecond(subsecond));
     }
 }
 
@@ -116,17 +101,10 @@ fn put_offset(numbers: Numbers, parsed: &mut Parsed)
 {
     let is_negative = numbers.offset_is_negative;
     parsed.forget_offset_sign();
-    let Some(()) = parsed.set_offset_hour(with_sign(is_negative, numbers.offset_hour)) else {
-        unreachable!()
-    };
-    let Some(()) = parsed.set_offset_minute_signed(with_sign(is_negative, numbers.offset_minute))
-    else {
-        unreachable!()
-    };
+    put!(parsed.set_offset_hour(with_sign(is_negative, numbers.offset_hour)));
+    put!(parsed.set_offset_minute_signed(with_sign(is_negative, numbers.offset_minute)));
     if numbers.is_utc {
-        let Some(()) = parsed.set_offset_second_signed(0) else {
-            unreachable!()
-        };
+        put!(parsed.set_offset_second_signed(0));
     }
 }
 

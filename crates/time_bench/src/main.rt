@@ -10,7 +10,7 @@ mod sums;
 use std::env::{self, Env};
 use std::io;
 use std::process::ExitCode;
-use sums::sum_by_name;
+use sums::{Texts, sum_by_name};
 
 // The sum that the arguments ask for, if they are a format, a target, a number and a text.
 fn sum_of_arguments<R: Env + Alloc>(rt: &R) -> io::Result<Option<i64>> {
@@ -25,7 +25,12 @@ fn sum_of_arguments<R: Env + Alloc>(rt: &R) -> io::Result<Option<i64>> {
     let Ok(times) = times.parse::<u64>() else {
         return Ok(None);
     };
-    Ok(sum_by_name(format.as_bytes(), target.as_bytes(), times, text.as_bytes()))
+    let copy = text.clone()?;
+    let texts = Texts {
+        text: text.as_bytes(),
+        copy: copy.as_bytes(),
+    };
+    Ok(sum_by_name(format.as_bytes(), target.as_bytes(), times, texts))
 }
 
 fn main(rt: HostRuntime) -> io::Result<ExitCode> {

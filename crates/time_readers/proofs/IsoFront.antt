@@ -11,7 +11,7 @@ use Rattle.time_readers.specs.declared.iso8601.ExtendedKind.TheVariants.{Basic, 
 use Rattle.time_readers.proofs.IsoPieces.{digits-cut, byte-cut}
 use Rattle.time_readers.specs.IsoFront.{two}
 
-two_found : (a b : ℕ) (rest : List ℕ) → IsDigit a → IsDigit b → digits 2 (a ∷ b ∷ rest) ≡ Some (rest, two a b)
+pub two_found : (a b : ℕ) (rest : List ℕ) → IsDigit a → IsDigit b → digits 2 (a ∷ b ∷ rest) ≡ Some (rest, two a b)
 two_found a b rest p q =
     digits-cut 2 (a ∷ b ∷ rest) rest (two a b) (
       a ∷ b ∷ [],
@@ -43,10 +43,10 @@ day_found : (a b : ℕ) (rest : List ℕ) → IsDigit a → IsDigit b → two a 
 unfolding positive
 day_found a b rest p q some = rw (two_found a b rest p q, ne_eqb (two a b) 0 some) refl
 
-byte_found : (b c : ℕ) (rest : List ℕ) → c ≡ b → byte b (c ∷ rest) ≡ Some rest
+pub byte_found : (b c : ℕ) (rest : List ℕ) → c ≡ b → byte b (c ∷ rest) ≡ Some rest
 byte_found b c rest e = byte-cut b (c ∷ rest) rest (c ∷ [], refl, ap (λ x. x ∷ []) e)
 
-byte_missing : (b c : ℕ) (rest : List ℕ) → c ≢ b → byte b (c ∷ rest) ≡ None
+pub byte_missing : (b c : ℕ) (rest : List ℕ) → c ≢ b → byte b (c ∷ rest) ≡ None
 unfolding byte
 byte_missing b c rest e = rw (ne_eqb c b e) refl
 

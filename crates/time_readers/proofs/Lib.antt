@@ -4,6 +4,7 @@ pub mod ExactRuns
 pub mod Fractions
 pub mod FrontPlaces
 pub mod IsoCuts
+pub mod IsoDatesAndTimes
 pub mod IsoFractions
 pub mod IsoFront
 pub mod IsoPieces

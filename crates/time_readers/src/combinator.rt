@@ -120,8 +120,14 @@ pub fn exactly_n_digits<const N: u8>(input: &[u8]) -> Option<ParsedItem<'_, u32>
     requires most { N ≤ 9 }
     ensures { Finds (IsDigitRun N N) (λ v. v) input.now result }
 {
-    if N < 3 {
+    if N == 1 {
         return exact_run(input, N);
+    }
+    if N == 2 {
+        return match two_digits(input) {
+            Some(found) => Some(ParsedItem(found.0, u32::from(found.1))),
+            None => None,
+        };
     }
     if N == 3 {
         return three_digits(input);

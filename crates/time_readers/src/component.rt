@@ -15,7 +15,7 @@ mod numbers;
 
 use crate::{ParsedItem, Period, SubsecondDigits, TrailingInput, modifier};
 use fractions::{fraction, long_fraction};
-use letters::{period_of, two_letters, weekday_digit, weekday_from_monday};
+use letters::{capital_period, period_of, two_letters, weekday_digit, weekday_from_monday};
 use names::{
     ending_of, month_ending, month_of, three_letters, titled_month, titled_weekday, weekday_ending,
     weekday_of,
@@ -411,6 +411,17 @@ pub fn parse_second(input: &[u8], modifiers: modifier::Second) -> Option<ParsedI
 /// these letters in any case. `None` where none of them stands.
 #[inline]
 pub fn parse_period(input: &[u8], modifiers: modifier::Period) -> Option<ParsedItem<'_, Period>>
+    ensures { Finds (Spells false (component.Period modifiers)) period input.now result }
+{
+    match capital_period(input) {
+        Some(found) if modifiers.is_uppercase || !modifiers.case_sensitive => Some(found),
+        _ => any_period(input, modifiers),
+    }
+}
+
+// The same, in any letters.
+#[inline(always)]
+fn any_period(input: &[u8], modifiers: modifier::Period) -> Option<ParsedItem<'_, Period>>
     ensures { Finds (Spells false (component.Period modifiers)) period input.now result }
 {
     let modifier::Period {

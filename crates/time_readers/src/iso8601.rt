@@ -6,6 +6,7 @@ ghost use Rattle.std.specs.Prelude.{◌≡◌, true, false, MatchOption};
 ghost use Rattle.time_readers.specs.IsoKinds.{not_basic, is_extended, basic_where_unknown, extended_where_unknown};
 
 mod dates;
+mod dates_and_times;
 mod fractions;
 mod front;
 mod offsets;
@@ -13,6 +14,7 @@ mod pieces;
 mod times;
 
 pub use dates::{DateNumbers, date};
+pub use dates_and_times::{DateAndTime, date_and_time};
 pub use fractions::{floor_fraction, round_fraction};
 pub use offsets::{OffsetNumbers, offset};
 pub use pieces::{day, dayk, dayo, float, hour, min, month, week, year};

@@ -1,7 +1,7 @@
 //! Single digits and pairs of letters.
-ghost use Rattle.std.specs.Prelude.{◌≡◌, ◌≢◌, ◌<◌, ◌≤◌, MatchOption};
+ghost use Rattle.std.specs.Prelude.{◌≡◌, ◌≢◌, ◌<◌, ◌≤◌, MatchOption, IfSome, true};
 ghost use Rattle.time_values.specs.Weekday.{days_from_monday};
-ghost use Rattle.time_readers.specs.Cuts.{Finds};
+ghost use Rattle.time_readers.specs.Cuts.{Cut, Finds};
 ghost use Rattle.time_readers.specs.Letters as Letters;
 ghost use Rattle.time_readers.specs.Letters.{IsDayDigit, IsLetters};
 ghost use Rattle.time_readers.specs.Spelling as Spelling;
@@ -72,6 +72,18 @@ fn folded(letters: [u8; 2], case_sensitive: bool) -> [u8; 2]
     } else {
         let [first, second] = letters;
         [first.to_ascii_lowercase(), second.to_ascii_lowercase()]
+    }
+}
+
+// Reads `AM` or `PM`, in capitals. `None` says nothing.
+#[inline(always)]
+pub(super) fn capital_period(input: &[u8]) -> Option<ParsedItem<'_, Period>>
+    ensures { IfSome result (λ found. Cut (λ text rest v. text ≡ period_name true v) input.now found.0.now found.1) }
+{
+    match input {
+        [b'A', b'M', rest @ ..] => Some(ParsedItem(rest, Period::Am)),
+        [b'P', b'M', rest @ ..] => Some(ParsedItem(rest, Period::Pm)),
+        _ => None,
     }
 }
 

@@ -13,13 +13,13 @@ use time_values::Month;
 
 // The digits of a date of the calendar, by two, what follows the date, and its kind.
 #[derive(Clone, Copy)]
-struct Digits<'a> {
-    century: u8,
-    in_century: u8,
-    month: u8,
-    day: u8,
-    rest: &'a [u8],
-    kind: ExtendedKind,
+pub(super) struct Digits<'a> {
+    pub(super) century: u8,
+    pub(super) in_century: u8,
+    pub(super) month: u8,
+    pub(super) day: u8,
+    pub(super) rest: &'a [u8],
+    pub(super) kind: ExtendedKind,
 }
 
 // A date of the calendar whose year has four digits. `None` says nothing.
@@ -110,7 +110,7 @@ fn pair(tens: u8, ones: u8) -> u8
 
 // The date of these numbers, if there are such a month and such a day in some month.
 #[inline(always)]
-fn numbers(century: u8, in_century: u8, month: u8, day: u8) -> Option<DateNumbers>
+pub(super) fn numbers(century: u8, in_century: u8, month: u8, day: u8) -> Option<DateNumbers>
     ensures { IfSome result (λ d. (m : Month_) × (numbered months month ≡ Some m) × (day ≢ 0)
         × (iso_date d ≡ calendar (pos (century * 100 + in_century)) m day)) }
 {

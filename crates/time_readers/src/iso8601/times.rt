@@ -126,7 +126,7 @@ fn clock_with_colons<'a>(
 
 // A second of 0 to 60 and its nanoseconds.
 #[inline(always)]
-fn second(input: &[u8]) -> Option<ParsedItem<'_, (u8, u32)>>
+pub(super) fn second(input: &[u8]) -> Option<ParsedItem<'_, (u8, u32)>>
     ensures { IfSome result (λ p. (n : Number) × (number input.now ≡ Some (p.0.now, n))
         × IsSecond n p.1.0 p.1.1) }
 {

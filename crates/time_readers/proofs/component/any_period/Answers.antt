@@ -2,8 +2,8 @@ use Rattle.std.proofs.Common.{◌≡◌, ◌≢◌, ◌&&◌, ap, sym, ◌∙◌
 use Rattle.time_readers.specs.declared.format_description.Period.{Period}
 use Rattle.time_readers.specs.Names.{period_name}
 use Rattle.time_readers.proofs.ReaderLemmas.{no_letters, no_period}
-use Rattle.time_readers.proofs.component.parse_period.Goals as goal
-use Rattle.time_readers.proofs.component.parse_period.Goals.{then-is_uppercase, else-is_uppercase}
+use Rattle.time_readers.proofs.component.any_period.Goals as goal
+use Rattle.time_readers.proofs.component.any_period.Goals.{then-is_uppercase, else-is_uppercase}
 
 pub returns-in_err-letters : goal.returns-in_err-letters
 returns-in_err-letters c = rw c.from_residual.ensures

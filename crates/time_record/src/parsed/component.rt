@@ -1,14 +1,15 @@
 //! Components read into a record.
 mod dates;
+mod front;
 mod offsets;
 mod others;
 mod times;
 mod years;
 
-ghost use Rattle.std.specs.Prelude.{◌≡◌, false};
+ghost use Rattle.std.specs.Prelude.{◌≡◌, false, IfSome};
 ghost use Rattle.time_values.specs.Range.{greatest_year};
 ghost use Rattle.time_values.specs.Refusal.{refusal_of_description};
-ghost use Rattle.time_readers.specs.Cuts.{Finds};
+ghost use Rattle.time_readers.specs.Cuts.{Cut, Finds};
 ghost use Rattle.time_readers.specs.Spelling.{Spells, Value, flagged};
 ghost use Rattle.time_readers.specs.declared.format_description.Component.{Component};
 ghost use Rattle.time_readers.specs.declared.format_description.Component.TheVariants as component;
@@ -110,17 +111,25 @@ impl Parsed {
         ensures { MayRead greatest_year (tree.component false component.now) input.now self.old result self.new }
     {
         match *component {
-            Component::CalendarYearFullStandardRange(modifiers) => self.try_read(input, modifiers),
+            Component::CalendarYearFullStandardRange(modifiers) => {
+                self.put_found(input, modifiers, front::year(input, modifiers))
+            }
             Component::MonthNumerical(modifiers) => self.try_read(input, modifiers),
             Component::Day(modifiers) => self.try_read(input, modifiers),
-            Component::Ordinal(modifiers) => self.try_read(input, modifiers),
+            Component::Ordinal(modifiers) => {
+                self.put_found(input, modifiers, front::ordinal(input, modifiers))
+            }
             Component::Hour12(modifiers) => self.try_read(input, modifiers),
             Component::Hour24(modifiers) => self.try_read(input, modifiers),
             Component::Minute(modifiers) => self.try_read(input, modifiers),
             Component::Period(modifiers) => self.try_read(input, modifiers),
             Component::Second(modifiers) => self.try_read(input, modifiers),
-            Component::Subsecond(modifiers) => self.try_read(input, modifiers),
-            Component::OffsetHour(modifiers) => self.try_read(input, modifiers),
+            Component::Subsecond(modifiers) => {
+                self.put_found(input, modifiers, front::subsecond(input, modifiers))
+            }
+            Component::OffsetHour(modifiers) => {
+                self.put_found(input, modifiers, front::offset_hour(input, modifiers))
+            }
             Component::OffsetMinute(modifiers) => self.try_read(input, modifiers),
             _ => None,
         }
@@ -128,12 +137,27 @@ impl Parsed {
 
     // The same, by the component's modifiers.
     #[inline(always)]
-    #[tactic(auto, using(crate::proofs::ComponentLemmas::spelled))]
     fn try_read<'a, P: Part>(&mut self, input: &'a [u8], part: P) -> Option<&'a [u8]>
         ensures { MayRead greatest_year (tree.component false (P.component part))
             input.now self.old result self.new }
     {
-        let found = part.parse(input)?;
+        self.put_found(input, part, part.parse(input))
+    }
+
+    // Puts the value that was found in front of the input, if any.
+    #[inline(always)]
+    #[tactic(auto, using(crate::proofs::ComponentLemmas::spelled))]
+    fn put_found<'a, P: Part>(
+        &mut self,
+        input: &'a [u8],
+        part: P,
+        found: Option<ParsedItem<'a, P::Output>>,
+    ) -> Option<&'a [u8]>
+        requires { IfSome found (λ f. Cut (Spells false (P.component part)) input.now f.0.now (P.value f.1)) }
+        ensures { MayRead greatest_year (tree.component false (P.component part))
+            input.now self.old result self.new }
+    {
+        let found = found?;
         part.put(self, found.1)?;
         Some(found.0)
     }

@@ -8,3 +8,4 @@ pub mod CanonicalForm
 pub mod ReadBack
 pub mod KeptReadings
 pub mod KeptIsoTexts
+mod IsoWhole

@@ -3,6 +3,7 @@ pub mod DescriptionLaws
 pub mod DirectLaws
 pub mod Iso8601
 pub mod Iso8601Laws
+pub mod IsoValues
 pub mod KeptReadings
 pub mod Outcome
 pub mod RecordedRfc2822

@@ -53,7 +53,7 @@ accepted : {V : Type 0} (o : Option Refusal) (P : V → Type 0) (v : V) → o �
 accepted o P v none is = subst (λ x. Gives x P (Ok v)) (sym none) is
 
 -- what is refused nothing
-given : {V : Type 0} (o : Option Refusal) (P : V → Type 0) (v : V) → Gives o P (Ok v) → (o ≡ None) × P v
+pub given : {V : Type 0} (o : Option Refusal) (P : V → Type 0) (v : V) → Gives o P (Ok v) → (o ≡ None) × P v
 given None P v h = (refl, h)
 given (Some e) P v h = absurd h
 
@@ -192,13 +192,13 @@ second_accepted h m s n e = grind (arith, nat_tests)
 month_accepted : (m : ℕ) → month_refusal m ≡ None → m ≤ 12
 month_accepted m e = grind (arith, nat_tests)
 
-month_short : (y : ℤ) (m : ℕ) → month_length y m ≤ 31
+pub month_short : (y : ℤ) (m : ℕ) → month_length y m ≤ 31
 month_short y m = grind (arith, nat_tests)
 
 day_accepted : (y : ℤ) (m d : ℕ) → calendar_date_refusal greatest_year y m d ≡ None → (1 ≤ d) × (d ≤ month_length y m)
 day_accepted y m d e = (grind (arith, nat_tests), grind (arith, nat_tests))
 
-offset_accepted : (h m : ℤ) → offset_refusal h m (pos 0) ≡ None → (unsigned_abs h ≤ 25) × (unsigned_abs m ≤ 59)
+pub offset_accepted : (h m : ℤ) → offset_refusal h m (pos 0) ≡ None → (unsigned_abs h ≤ 25) × (unsigned_abs m ≤ 59)
 offset_accepted h m e = (grind (arith, nat_tests), grind (arith, nat_tests))
 
 pub accepted_ranges : (s : Said) → first_refusal greatest_year s ≡ None → Accepted s

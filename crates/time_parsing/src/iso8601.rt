@@ -1,22 +1,29 @@
 //! The format of ISO 8601.
-ghost use Rattle.std.specs.Prelude.{◌≡◌, MatchOption, MatchResult, Some, None, false, true, Ok, Err};
+ghost use Rattle.std.specs.Prelude.{◌≡◌, [], MatchOption, MatchResult, IfSome, Some, None, false, true, Ok, Err};
+ghost use Rattle.time_values.specs.Moments.{plain_date, plain_time};
 ghost use Rattle.time_values.specs.Range.{greatest_year};
 ghost use Rattle.time_values.specs.Refusal.{refusal_of_description};
 ghost use Rattle.time_readers.specs.IsoDates.{iso_date};
+ghost use Rattle.time_readers.specs.IsoDatesAndTimes.{GivesDateAndTime};
+ghost use Rattle.time_readers.specs.IsoOffsets.{offset_text};
 ghost use Rattle.time_readers.specs.declared.iso8601.ExtendedKind.TheVariants.{Unknown};
-ghost use Rattle.time_record.specs.Record.{put_all};
+ghost use Rattle.time_readers.specs.declared.iso8601.offsets.OffsetNumbers.{OffsetNumbers as OffsetNumbers_};
+ghost use Rattle.time_record.specs.Record.{empty, put_all};
+ghost use Rattle.time_record.specs.Resolution.{IsMoment, IsPlain};
 ghost use Rattle.time_parsing.specs.Iso8601 as spec;
-ghost use Rattle.time_parsing.specs.Outcome.{over_record};
+ghost use Rattle.time_parsing.specs.IsoValues.{date_said, time_said, IsOffsetSaid};
+ghost use Rattle.time_parsing.specs.Outcome.{over_record, IsOutcome};
 ghost use Rattle.time_parsing.specs.Rfc3339.{without_offset_sign};
 
 use crate::Parsable;
-use crate::parsable::{begin, moment_before};
+use crate::parsable::{begin, moment_before, value_before};
 use time_readers::iso8601::{
-    DateNumbers, ExtendedKind, OffsetNumbers, TimeNumbers, date, offset, time,
+    DateAndTime, DateNumbers, ExtendedKind, OffsetNumbers, TimeNumbers, date, date_and_time,
+    offset, time,
 };
 use time_record::Parsed;
-use time_values::OffsetDateTime;
 use time_values::error::{Parse, ParseFromDescription};
+use time_values::{Date, OffsetDateTime, PlainDateTime, Time, UtcOffset};
 
 /// The format of ISO 8601, as `2021-01-02T03:04:05Z` or `20210102T030405Z`.
 ///
@@ -237,6 +244,86 @@ fn read<'a>(input: &'a [u8], parsed: &mut Parsed) -> Result<&'a [u8], ParseFromD
     }
 }
 
+// The date and time of these numbers, unless they say no date of the calendar or a leap second. `None` says nothing.
+#[inline(always)]
+fn plain_of(date: DateNumbers, time: TimeNumbers) -> Option<PlainDateTime>
+    ensures { IfSome result (λ p. (iso_date date ≡ date_said (plain_date p)) × (time ≡ time_said (plain_time p))) }
+{
+    let DateNumbers::Calendar(year, month, day) = date else {
+        return None;
+    };
+    let date = Date::from_calendar_date(year, month, day.get());
+    let time = Time::from_hms_nano(time.hour, time.minute, time.second, time.subsecond);
+    match (date, time) {
+        (Ok(date), Ok(time)) => Some(PlainDateTime::new(date, time)),
+        _ => None,
+    }
+}
+
+// The offset of these numbers. `None` says nothing.
+#[inline(always)]
+fn offset_of(numbers: OffsetNumbers) -> Option<UtcOffset>
+    ensures { IfSome result (IsOffsetSaid numbers) }
+{
+    match numbers {
+        OffsetNumbers::Zulu => Some(UtcOffset::UTC),
+        OffsetNumbers::Numeric(hour, minute) => UtcOffset::from_hms(hour, minute, 0).ok(),
+    }
+}
+
+// The date and the time of a text that looks as if it began with a date of the calendar, whose year has four digits,
+// and a time. `None` says nothing, and is answered of other dates before they are read.
+#[inline(always)]
+fn usual_parts(input: &[u8]) -> Option<DateAndTime<'_>>
+    ensures { IfSome result (λ p. GivesDateAndTime input.now (Ok p)) }
+{
+    match input {
+        [_, _, _, _, b'-', _, _, b'-', _, _, b'T', ..]
+        | [_, _, _, _, b'0'..=b'1', _, _, _, b'T', ..] => date_and_time(input).ok(),
+        _ => None,
+    }
+}
+
+// The offset that is all of the bytes. `None` says nothing.
+#[inline(always)]
+fn whole_offset(input: &[u8], kind: ExtendedKind) -> Option<UtcOffset>
+    ensures { IfSome result (λ o. (n : OffsetNumbers_) × (offset_text kind input.now ≡ Some ([], n)) × IsOffsetSaid n o) }
+{
+    let found = offset(input, kind)?;
+    if !found.0.is_empty() {
+        return None;
+    }
+    offset_of(found.1)
+}
+
+// The date and time of a whole text, behind which an offset may stand. `None` says nothing.
+#[inline(always)]
+fn whole_plain(input: &[u8]) -> Option<PlainDateTime>
+    ensures { IfSome result (λ p. IsOutcome (IsPlain greatest_year) (spec.Reads greatest_year)
+        (spec.Refuses greatest_year) input.now empty (Ok p)) }
+{
+    let found = usual_parts(input)?;
+    let time = found.time?;
+    let plain = plain_of(found.date.value, time.value)?;
+    if !time.rest.is_empty() {
+        whole_offset(time.rest, time.kind)?;
+    }
+    Some(plain)
+}
+
+// The moment of a whole text. `None` says nothing.
+#[inline(always)]
+fn whole_moment(input: &[u8]) -> Option<OffsetDateTime>
+    ensures { IfSome result (λ v. IsOutcome (IsMoment greatest_year) (spec.Reads greatest_year)
+        (spec.Refuses greatest_year) input.now empty (Ok v)) }
+{
+    let found = usual_parts(input)?;
+    let time = found.time?;
+    let offset = whole_offset(time.rest, time.kind)?;
+    let plain = plain_of(found.date.value, time.value)?;
+    Some(OffsetDateTime::new_in_offset(plain.date(), plain.time(), offset))
+}
+
 impl Parsable for Iso8601 {
     ghost use Rattle.time_parsing.specs.Iso8601.{Reads, Refuses};
 
@@ -260,14 +347,35 @@ impl Parsable for Iso8601 {
     }
 
     #[inline(always)]
+    fn parse_plain_date_time(
+        &self,
+        input: &[u8],
+        defaults: Option<Parsed>,
+    ) -> Result<PlainDateTime, Parse> {
+        if defaults.is_none() {
+            if let Some(plain) = whole_plain(input) {
+                return Ok(plain);
+            }
+        }
+        let mut record = begin(defaults);
+        let rest = self.parse_into(input, &mut record)?;
+        Ok(value_before::<PlainDateTime>(rest, &record)?)
+    }
+
+    #[inline(always)]
     fn parse_offset_date_time(
         &self,
         input: &[u8],
         defaults: Option<Parsed>,
     ) -> Result<OffsetDateTime, Parse> {
+        if defaults.is_none() {
+            if let Some(moment) = whole_moment(input) {
+                return Ok(moment);
+            }
+        }
         let mut parsed = begin(defaults);
         let rest = self.parse_into(input, &mut parsed)?;
-        moment_before(rest, &parsed)
+        Ok(moment_before(rest, &parsed)?)
     }
 
     ghost use Rattle.time_parsing.specs.Iso8601Laws.{iso8601_exact};

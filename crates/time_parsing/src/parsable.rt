@@ -148,7 +148,7 @@ pub(crate) fn begin(defaults: Option<Parsed>) -> Parsed
 /// The value of a record that was read up to this rest. Where bytes remain it refuses as
 /// [`ParseFromDescription::UnexpectedTrailingCharacters`].
 #[inline(always)]
-fn value_before<V: TryFrom<Parsed, Error = TryFromParsed> + Drop>(
+pub(crate) fn value_before<V: TryFrom<Parsed, Error = TryFromParsed> + Drop>(
     rest: &[u8],
     parsed: &Parsed,
 ) -> Result<V, Parse>

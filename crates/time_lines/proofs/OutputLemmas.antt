@@ -52,6 +52,10 @@ Writes-waiting (Ok u) P (Some s) (Some t) None waiting none w kept is = absurd k
 Writes-waiting (Ok u) P (Some s) (Some t) (Some v) waiting none w kept is =
     (w.0, w.1, sym (append-nil v) ∙ ap (λ x. v ++ x) (sym is) ∙ kept ∙ w.2)
 
+pub Keeps-same : (a : Option (List ℕ)) → Keeps a a
+Keeps-same None = tt
+Keeps-same (Some s) = refl
+
 -- what is put behind what waits, after a write of what waited or none
 pub Appends-waiting : (a b c : Option (List ℕ)) (x y z written more : List ℕ) → Appends a (append_known b x) written
     → Keeps (append_known b x) (append_known c y) → Appends (Some y) (Some z) more

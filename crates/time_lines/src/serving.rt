@@ -65,7 +65,9 @@ pub fn run<W: Write>(input: &[u8], out: &mut W) -> Result<(), io::Error>
     let mut rest = input;
     while !rest.is_empty() {
         let (line, after) = first_line(rest);
-        waiting.make_room(out)?;
+        if waiting.is_nearly_full() {
+            waiting.write_all_to(out)?;
+        }
         let Ok(()) = add_line(line, &mut waiting) else {
             return Err(io::Error::from(ErrorKind::WriteZero));
         };

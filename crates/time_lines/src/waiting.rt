@@ -1,8 +1,8 @@
 //! Bytes that wait for one write.
 ghost use Rattle.std.specs.Io.KnownBytes.{Keeps, append_known};
-ghost use Rattle.std.specs.Prelude.{◌≡◌, ◌+◌, ◌≤◌, [], ◌++◌, length, take, OnOk, Some, IsTrue, false};
+ghost use Rattle.std.specs.Prelude.{◌≡◌, ◌+◌, ◌<◌, ◌≤◌, ◌↔◌, [], ◌++◌, length, take, OnOk, Some, IsTrue, false};
 ghost use Rattle.time_lines.specs.Lines.{Items};
-ghost use Rattle.time_lines.specs.declared.waiting.TheConstants.{MOST};
+ghost use Rattle.time_lines.specs.declared.waiting.TheConstants.{MOST, LONGEST};
 
 use std::io;
 use std::io::{ErrorKind, Write};
@@ -103,15 +103,12 @@ impl Waiting {
         Ok(())
     }
 
-    /// Makes room for an answer, by a write of what waits where little room is left.
-    pub fn make_room<W: Write>(&mut self, out: &mut W) -> io::Result<()>
-        ensures { OnOk result (Keeps (append_known (W.contents out.old) self.old.bytes.items)
-            (append_known (W.contents out.new) self.new.bytes.items)) }
+    /// Whether an answer may not fit behind what waits.
+    #[inline(always)]
+    pub fn is_nearly_full(&self) -> bool
+        ensures { IsTrue result ↔ (MOST < length self.now.bytes.items + LONGEST) }
     {
-        if self.bytes.room() < LONGEST {
-            return self.write_all_to(out);
-        }
-        Ok(())
+        self.bytes.room() < LONGEST
     }
 }
 

@@ -10,6 +10,7 @@ mod errors;
 mod fields;
 mod fronts;
 mod hostile;
+mod iso_dates_and_times;
 mod iso_fronts;
 mod iso_texts;
 mod mail_dates;

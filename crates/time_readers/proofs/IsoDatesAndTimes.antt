@@ -41,28 +41,33 @@ plain_found : (a b c : ℕ) (rest : List ℕ) → IsDigit a → IsDigit b → 48
 plain_found a b c rest p q r = number-plain (a ∷ b ∷ c ∷ rest) (c ∷ rest) (two a b) (two_found a b (c ∷ rest) p q) (no_point c rest r)
 
 extended_time : (t h0 h1 c n0 n1 e : ℕ) (rest : List ℕ)
-    → t ≡ 84 → IsDigit h0 → IsDigit h1 → c ≡ 58 → IsDigit n0 → IsDigit n1 → two n0 n1 ≤ 59 → e ≡ 58
+    → AllWithin (drop 10 LEAST) (drop 10 GREATEST) (t ∷ h0 ∷ h1 ∷ c ∷ n0 ∷ n1 ∷ []) → e ≡ 58
     → IsTime (t ∷ h0 ∷ h1 ∷ c ∷ n0 ∷ n1 ∷ e ∷ rest) (two h0 h1) (two n0 n1) rest Extended
-extended_time t h0 h1 c n0 n1 e rest te p0 p1 ce q0 q1 low ee n q s nanoseconds small found second =
+extended_time t h0 h1 c n0 n1 e rest (tl, tg, (h0l, h0g, (h1l, h1g, (cl, cg, (n0l, n0g, (n1l, n1g, nothing)))))) colon
+    n q s nanoseconds small found second =
     rw (
-      byte_found 84 t (h0 ∷ h1 ∷ c ∷ n0 ∷ n1 ∷ e ∷ rest) te,
+      byte_found 84 t (h0 ∷ h1 ∷ c ∷ n0 ∷ n1 ∷ e ∷ rest) (omega arith),
       colon_minute (h0 ∷ h1 ∷ c ∷ n0 ∷ n1 ∷ e ∷ rest) (c ∷ n0 ∷ n1 ∷ e ∷ rest) (two h0 h1)
-          (plain_found h0 h1 c (n0 ∷ n1 ∷ e ∷ rest) p0 p1 (omega arith)) small Extended (n0 ∷ n1 ∷ e ∷ rest) (e ∷ rest) (two n0 n1)
-          (Some rest) refl (byte_found 58 c (n0 ∷ n1 ∷ e ∷ rest) ce) (plain_found n0 n1 e rest q0 q1 (omega arith)) low
-          (byte_found 58 e rest ee),
+          (plain_found h0 h1 c (n0 ∷ n1 ∷ e ∷ rest) (h0l, omega arith) (h1l, h1g) (omega arith)) small Extended
+          (n0 ∷ n1 ∷ e ∷ rest) (e ∷ rest) (two n0 n1) (Some rest) refl
+          (byte_found 58 c (n0 ∷ n1 ∷ e ∷ rest) (omega arith))
+          (plain_found n0 n1 e rest (n0l, omega arith) (n1l, n1g) (omega arith)) (omega arith)
+          (byte_found 58 e rest colon),
       found,
       second (two h0 h1) (two n0 n1),
     ) refl
 
-basic_time : (t h0 h1 n0 n1 s0 : ℕ) (rest : List ℕ)
-    → t ≡ 84 → IsDigit h0 → IsDigit h1 → IsDigit n0 → IsDigit n1 → two n0 n1 ≤ 59 → 48 ≤ s0
+basic_time : (t h0 h1 n0 n1 s0 s1 z : ℕ) (rest : List ℕ)
+    → AllWithin (drop 8 BASIC_LEAST) (drop 8 BASIC_GREATEST) (t ∷ h0 ∷ h1 ∷ n0 ∷ n1 ∷ s0 ∷ s1 ∷ z ∷ [])
     → IsTime (t ∷ h0 ∷ h1 ∷ n0 ∷ n1 ∷ s0 ∷ rest) (two h0 h1) (two n0 n1) (s0 ∷ rest) Basic
-basic_time t h0 h1 n0 n1 s0 rest te p0 p1 q0 q1 low r n q s nanoseconds small found second =
+basic_time t h0 h1 n0 n1 s0 s1 z rest (tl, tg, (h0l, h0g, (h1l, h1g, (n0l, n0g, (n1l, n1g, (s0l, s0g, others))))))
+    n q s nanoseconds small found second =
     rw (
-      byte_found 84 t (h0 ∷ h1 ∷ n0 ∷ n1 ∷ s0 ∷ rest) te,
+      byte_found 84 t (h0 ∷ h1 ∷ n0 ∷ n1 ∷ s0 ∷ rest) (omega arith),
       minute_basic (h0 ∷ h1 ∷ n0 ∷ n1 ∷ s0 ∷ rest) (n0 ∷ n1 ∷ s0 ∷ rest) (two h0 h1)
-          (plain_found h0 h1 n0 (n1 ∷ s0 ∷ rest) p0 p1 (omega arith)) small Basic (s0 ∷ rest) (two n0 n1)
-          (Some (q, n)) refl (byte_missing 58 n0 (n1 ∷ s0 ∷ rest) (λ e. omega (arith, q0, e))) (plain_found n0 n1 s0 rest q0 q1 r) low
+          (plain_found h0 h1 n0 (n1 ∷ s0 ∷ rest) (h0l, omega arith) (h1l, h1g) n0l) small Basic (s0 ∷ rest) (two n0 n1)
+          (Some (q, n)) refl (byte_missing 58 n0 (n1 ∷ s0 ∷ rest) (λ e. omega (arith, n0g, e)))
+          (plain_found n0 n1 s0 rest (n0l, omega arith) (n1l, n1g) s0l) (omega arith)
           found,
       second (two h0 h1) (two n0 n1),
     ) refl
@@ -73,13 +78,11 @@ extended_bytes : (y0 y1 y2 y3 a m0 m1 b d0 d1 t h0 h1 c n0 n1 e : ℕ) (rest : L
     (t ∷ h0 ∷ h1 ∷ c ∷ n0 ∷ n1 ∷ e ∷ rest) Extended
     × IsTime (t ∷ h0 ∷ h1 ∷ c ∷ n0 ∷ n1 ∷ e ∷ rest) (two h0 h1) (two n0 n1) rest Extended
 extended_bytes y0 y1 y2 y3 a m0 m1 b d0 d1 t h0 h1 c n0 n1 e rest
-    (y0l, y0g, (y1l, y1g, (y2l, y2g, (y3l, y3g, (al, ag, (m0l, m0g, (m1l, m1g, (bl, bg, (d0l, d0g, (d1l, d1g,
-    (tl, tg, (h0l, h0g, (h1l, h1g, (cl, cg, (n0l, n0g, (n1l, n1g, nothing))))))))))))))))
+    (y0l, y0g, (y1l, y1g, (y2l, y2g, (y3l, y3g, (al, ag, (m0l, m0g, (m1l, m1g, (bl, bg, (d0l, d0g, (d1l, d1g, time))))))))))
     colon = (
       λ m month day. extended_date y0 y1 y2 y3 a m0 m1 b d0 d1 (t ∷ h0 ∷ h1 ∷ c ∷ n0 ∷ n1 ∷ e ∷ rest) m (y0l, y0g) (y1l, y1g) (y2l, y2g) (y3l, y3g)
           (omega arith) (m0l, omega arith) (m1l, m1g) (omega arith) (d0l, omega arith) (d1l, d1g) month day,
-      extended_time t h0 h1 c n0 n1 e rest (omega arith) (h0l, omega arith) (h1l, h1g) (omega arith) (n0l, omega arith) (n1l, n1g)
-          (omega arith) colon,
+      extended_time t h0 h1 c n0 n1 e rest time colon,
     )
 
 basic_bytes : (y0 y1 y2 y3 m0 m1 d0 d1 t h0 h1 n0 n1 s0 s1 z : ℕ) (rest : List ℕ)
@@ -88,12 +91,10 @@ basic_bytes : (y0 y1 y2 y3 m0 m1 d0 d1 t h0 h1 n0 n1 s0 s1 z : ℕ) (rest : List
     (t ∷ h0 ∷ h1 ∷ n0 ∷ n1 ∷ s0 ∷ s1 ∷ z ∷ rest) Basic
     × IsTime (t ∷ h0 ∷ h1 ∷ n0 ∷ n1 ∷ s0 ∷ s1 ∷ z ∷ rest) (two h0 h1) (two n0 n1) (s0 ∷ s1 ∷ z ∷ rest) Basic
 basic_bytes y0 y1 y2 y3 m0 m1 d0 d1 t h0 h1 n0 n1 s0 s1 z rest
-    (y0l, y0g, (y1l, y1g, (y2l, y2g, (y3l, y3g, (m0l, m0g, (m1l, m1g, (d0l, d0g, (d1l, d1g,
-    (tl, tg, (h0l, h0g, (h1l, h1g, (n0l, n0g, (n1l, n1g, (s0l, s0g, (s1l, s1g, (zl, zg, nothing)))))))))))))))) = (
+    (y0l, y0g, (y1l, y1g, (y2l, y2g, (y3l, y3g, (m0l, m0g, (m1l, m1g, (d0l, d0g, (d1l, d1g, time)))))))) = (
       λ m month day. basic_date y0 y1 y2 y3 m0 m1 d0 d1 (t ∷ h0 ∷ h1 ∷ n0 ∷ n1 ∷ s0 ∷ s1 ∷ z ∷ rest) m (y0l, y0g) (y1l, y1g) (y2l, y2g) (y3l, y3g)
           (m0l, omega arith) (m1l, m1g) (d0l, omega arith) (d1l, d1g) month day,
-      basic_time t h0 h1 n0 n1 s0 (s1 ∷ z ∷ rest) (omega arith) (h0l, omega arith) (h1l, h1g) (n0l, omega arith) (n1l, n1g)
-          (omega arith) s0l,
+      basic_time t h0 h1 n0 n1 s0 s1 z (s1 ∷ z ∷ rest) time,
     )
 
 pub basic_front : (text first rest : List ℕ) → text ≡ first ++ rest → length first ≡ 16 → AllWithin BASIC_LEAST BASIC_GREATEST first

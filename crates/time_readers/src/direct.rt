@@ -4,6 +4,7 @@
 //! parse over a record: `2021-13-01T00:00:00Z` is refused as a month out of range.
 ghost use Rattle.std.specs.Prelude.{◌≡◌, ◌≢◌, ◌≤◌, [], MatchResult, IsTrue, ◌↔◌, Some, None, pos, unsigned_abs};
 ghost use Rattle.time_values.specs.Month.{month_number, month_refusal};
+ghost use Rattle.time_values.specs.Offsets.{HasOffset, offset_refusal};
 ghost use Rattle.time_values.specs.Range.{greatest_year};
 ghost use Rattle.time_values.specs.Refusal.{Constructs, refusal_of, refusal_of_range};
 ghost use Rattle.time_values.specs.Sign.{signed_by};
@@ -176,7 +177,7 @@ fn leap_second_may_stand(said: Said, moment: OffsetDateTime) -> bool
 
 // The moment that a calendar and a clock show, wherever a leap second stands.
 #[inline(always)]
-#[tactic(auto, using(crate::proofs::Made::accepted, crate::proofs::Made::refused))]
+#[tactic(auto, using(crate::proofs::Made::accepted, crate::proofs::Made::refused, crate::proofs::Made::of_parts))]
 fn shown(said: Said) -> Result<OffsetDateTime, ComponentRange>
     requires year { said.year ≤ greatest_year }
     requires month { said.month ≢ 0 }
@@ -186,7 +187,7 @@ fn shown(said: Said) -> Result<OffsetDateTime, ComponentRange>
 {
     let date = date(said)?;
     let time = clock(said)?;
-    let offset = UtcOffset::from_hms(said.offset_hour, said.offset_minute, 0)?;
+    let offset = offset(said)?;
     Ok(OffsetDateTime::new_in_offset(date, time, offset))
 }
 
@@ -219,8 +220,22 @@ fn clock(said: Said) -> Result<Time, ComponentRange>
     ensures { Constructs (time_refusal said.hour said.minute (shown_second said) (shown_nanosecond said))
         (HasClock said.hour said.minute (shown_second said) (shown_nanosecond said)) result }
 {
-    if said.second == 60 {
-        return Time::from_hms_nano(said.hour, said.minute, 59, 999_999_999);
+    let (second, nanosecond) = if said.second == 60 {
+        (59, 999_999_999)
+    } else {
+        (said.second, said.nanosecond)
+    };
+    Time::from_hms_nano(said.hour, said.minute, second, nanosecond)
+}
+
+// The offset, at once where it is that of UTC.
+#[inline(always)]
+fn offset(said: Said) -> Result<UtcOffset, ComponentRange>
+    ensures { Constructs (offset_refusal said.offset_hour said.offset_minute (pos 0))
+        (HasOffset said.offset_hour said.offset_minute (pos 0)) result }
+{
+    if said.offset_hour == 0 && said.offset_minute == 0 {
+        return Ok(UtcOffset::UTC);
     }
-    Time::from_hms_nano(said.hour, said.minute, said.second, said.nanosecond)
+    UtcOffset::from_hms(said.offset_hour, said.offset_minute, 0)
 }

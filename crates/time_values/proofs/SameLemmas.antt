@@ -1,11 +1,12 @@
 -- What fixes a date, a time, an offset and a moment.
-use Rattle.std.proofs.Common.{◌≡◌, ℕ, suc, ◌+◌, ◌-◌, ◌%◌, ◌<◌, ◌≤◌, inl, inr, refl, sym, ap, ◌∙◌, arith, ℤ, pos, neg_ℤ, ◌+ℤ◌, ◌≤ℤ◌, ◌<ℤ◌}
+use Rattle.std.proofs.Common.{◌≡◌, ℕ, [], suc, ◌+◌, ◌-◌, ◌%◌, ◌<◌, ◌≤◌, inl, inr, refl, sym, ap, ◌∙◌, arith, ℤ, pos, neg_ℤ, ◌+ℤ◌, ◌≤ℤ◌, ◌<ℤ◌}
 use Rattle.std.proofs.lemmas.Bool.{cases_order}
 use Rattle.std.proofs.lemmas.Bool.Decides.{nat_tests}
 use Rattle.std.proofs.lemmas.Int.{ints, by_lt_z}
 use Rattle.std.proofs.Props.{props}
 use Rattle.std.specs.Int.{IsInRange}
 use mathlib.Core.HLevel.{is_prop→PathP}
+use Rattle.time_values.specs.declared.aligned.Aligned.{Aligned}
 use Rattle.time_values.specs.declared.date.Date.{Date}
 use Rattle.time_values.specs.declared.time.Time.{Time}
 use Rattle.time_values.specs.declared.utc_offset.UtcOffset.{UtcOffset}
@@ -61,12 +62,19 @@ same_ordinal y m d n e h k p q same =
       | inr (inr gt) ↦ absurd (omega (arith, ordinal_later y n e m d k h q.1 p.0 gt))
     ]
 
+same_aligned : (a b : Aligned) → a ≡ b
+same_aligned a b = λ i. record {
+  words = (a.no_words ∙ sym b.no_words) i;
+  no_words = is_prop→PathP (λ j. (a.no_words ∙ sym b.no_words) j ≡ []) (λ j. hlevel props) a.no_words b.no_words i;
+}
+
 -- dates with the same year, month and day are one date
 pub same_date_by_parts : (a b : Date) → a.year ≡ b.year → a.month ≡ b.month → a.day ≡ b.day → a ≡ b
 same_date_by_parts a b y m d = λ i. record {
   year = y i;
   month = m i;
   day = d i;
+  aligned = same_aligned a.aligned b.aligned i;
   year_in = is_prop→PathP (λ j. IsYear greatest_year (y j)) (λ j. hlevel props) a.year_in b.year_in i;
   day_in = is_prop→PathP (λ j. IsInRange 1 (month_length (y j) (month_number (m j))) (d j)) (λ j. hlevel props) a.day_in b.day_in i;
 }
@@ -124,6 +132,7 @@ same_time_by_parts a b h m s n = λ i. record {
   minute = m i;
   second = s i;
   nanosecond = n i;
+  aligned = same_aligned a.aligned b.aligned i;
   hour_in = is_prop→PathP (λ j. h j < 24) (λ j. hlevel props) a.hour_in b.hour_in i;
   minute_in = is_prop→PathP (λ j. m j < 60) (λ j. hlevel props) a.minute_in b.minute_in i;
   second_in = is_prop→PathP (λ j. s j < 60) (λ j. hlevel props) a.second_in b.second_in i;

@@ -5,16 +5,19 @@ ghost use Rattle.time_values.specs.Month.{month_number};
 ghost use Rattle.time_values.specs.Range.{greatest_year};
 ghost use Rattle.time_values.specs.Weekday.{days_from_monday};
 
+use crate::aligned::Aligned;
 use crate::days::{MAX_YEAR, leap_day, year_length};
 use crate::error::ComponentRange;
 use crate::{Month, Weekday, days};
+use std::fmt;
 
 /// A day of the proleptic Gregorian calendar, in the years -999999 to 999999.
-#[derive(Clone, Copy, Debug, PartialEq, Eq)]
+#[derive(Clone, Copy, PartialEq, Eq)]
 pub struct Date {
     year: i32,
     month: Month,
     day: u8,
+    aligned: Aligned,
     pub ghost year_in: { Calendar.IsYear greatest_year year },
     pub ghost day_in: { IsInRange 1 (Calendar.month_length year (month_number month)) day },
 }
@@ -29,6 +32,7 @@ impl Date {
         year: -MAX_YEAR,
         month: Month::January,
         day: 1,
+        aligned: Aligned::TO_WORDS,
     };
 
     /// The last date, 999999-12-31, a Friday.
@@ -36,6 +40,7 @@ impl Date {
         year: MAX_YEAR,
         month: Month::December,
         day: 31,
+        aligned: Aligned::TO_WORDS,
     };
 
     /// The date with this year, month and day of the month, from 1. Refused as `year` outside
@@ -58,7 +63,12 @@ impl Date {
                 conditional: true,
             });
         }
-        Ok(Date { year, month, day })
+        Ok(Date {
+            year,
+            month,
+            day,
+            aligned: Aligned::TO_WORDS,
+        })
     }
 
     /// The day at that place in the year, from 1. Refused as `year` outside -999999 to 999999, then
@@ -94,6 +104,7 @@ impl Date {
             year,
             month: Month::at(month),
             day,
+            aligned: Aligned::TO_WORDS,
         }
     }
 
@@ -232,6 +243,17 @@ impl Date {
             });
         };
         Ok(Date::at_ordinal(year, place))
+    }
+}
+
+// As it is derived, without what aligns.
+impl fmt::Debug for Date {
+    fn fmt<W: fmt::Write>(&self, f: &mut fmt::Formatter<W>) -> fmt::Result {
+        f.debug_struct("Date")
+            .field("year", &self.year)
+            .field("month", &self.month)
+            .field("day", &self.day)
+            .finish()
     }
 }
 

@@ -2,6 +2,7 @@
 //! the errors of their constructors and of parsing.
 #![tactic(auto)]
 
+mod aligned;
 mod date;
 mod days;
 pub mod error;

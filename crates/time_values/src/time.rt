@@ -1,14 +1,17 @@
 ghost use Rattle.std.specs.Prelude.{◌≡◌, ◌<◌, ◌↔◌, ◌+◌, ◌*◌, IsTrue};
 
+use crate::aligned::Aligned;
 use crate::error::ComponentRange;
+use std::fmt;
 
 /// A time of day, 00:00:00 to 23:59:59.999999999.
-#[derive(Clone, Copy, Debug, PartialEq, Eq)]
+#[derive(Clone, Copy, PartialEq, Eq)]
 pub struct Time {
     hour: u8,
     minute: u8,
     second: u8,
     nanosecond: u32,
+    aligned: Aligned,
     pub ghost hour_in: { hour < 24 },
     pub ghost minute_in: { minute < 60 },
     pub ghost second_in: { second < 60 },
@@ -46,6 +49,7 @@ impl Time {
                 minute,
                 second,
                 nanosecond,
+                aligned: Aligned::TO_WORDS,
             });
         };
         Err(ComponentRange {
@@ -106,6 +110,7 @@ impl Time {
             minute: (second % 3600 / 60) as u8,
             second: (second % 60) as u8,
             nanosecond: self.nanosecond,
+            aligned: Aligned::TO_WORDS,
         }
     }
 
@@ -120,6 +125,7 @@ impl Time {
             minute: (second % 3600 / 60) as u8,
             second: (second % 60) as u8,
             nanosecond: (nanos % 1_000_000_000) as u32,
+            aligned: Aligned::TO_WORDS,
         }
     }
 
@@ -148,5 +154,17 @@ impl Time {
         ensures { IsTrue result ↔ (nanos_of_day self + 1 ≡ 86_400_000_000_000) }
     {
         self.nanos_of_day() == 86_399_999_999_999
+    }
+}
+
+// As it is derived, without what aligns.
+impl fmt::Debug for Time {
+    fn fmt<W: fmt::Write>(&self, f: &mut fmt::Formatter<W>) -> fmt::Result {
+        f.debug_struct("Time")
+            .field("hour", &self.hour)
+            .field("minute", &self.minute)
+            .field("second", &self.second)
+            .field("nanosecond", &self.nanosecond)
+            .finish()
     }
 }

@@ -86,12 +86,9 @@ fn same_sign(sign: i8, x: i8) -> i8
     ensures value { result ≡ Sign.same_sign sign x }
     ensures bound { IsBetween (neg_ℤ (pos 59)) (pos 59) result }
 {
-    if x == 0 {
-        0
-    } else if sign > 0 {
-        x.abs()
-    } else if sign < 0 {
-        -x.abs()
+    // The product of two numbers is below 0 where their signs differ.
+    if i16::from(sign) * i16::from(x) < 0 {
+        -x
     } else {
         x
     }

@@ -1,11 +1,11 @@
 //! The moment of a record with its offset from UTC.
-ghost use Rattle.std.specs.Prelude.{◌≤◌, IfSome, IsOkAnd, IsTrue, Ok};
+ghost use Rattle.std.specs.Prelude.{◌≡◌, ◌≤◌, false, IfSome, IsOkAnd, IsTrue, Ok};
 ghost use Rattle.std.specs.Option.{ForSome};
-ghost use Rattle.time_values.specs.Instants.{is_instant};
+ghost use Rattle.time_values.specs.Instants.{is_instant, IsLeapSecondMoment};
 ghost use Rattle.time_values.specs.Moments as Moments;
 ghost use Rattle.time_values.specs.Offsets.{IsUtc};
 ghost use Rattle.time_values.specs.Range.{greatest_year};
-ghost use Rattle.time_record.specs.Resolution.{IsMoment, IsMomentOfParts, IsStamped, parsed_seen};
+ghost use Rattle.time_record.specs.Resolution.{IsMoment, IsMomentOfParts, IsStamped, is_leap_second, parsed_seen};
 
 use crate::Parsed;
 use crate::parsed::cells::{DAY, HOUR_24, MINUTE, MONTH, SECOND, YEAR};
@@ -116,8 +116,20 @@ fn moment_of_parts(parsed: &Parsed) -> Result<OffsetDateTime, TryFromParsed>
     let time = time_with(parsed, second, subsecond)?;
     let offset = offset_of(parsed)?;
     let moment = OffsetDateTime::new_in_offset(date, time, offset);
-    if is_leap_second(parsed) && !moment.is_valid_leap_second_stand_in() {
+    if !leap_second_may_stand(parsed, moment) {
         return Err(misplaced());
     }
     Ok(moment)
+}
+
+// Whether a leap second is known only where one may stand. The moment is a copy here, so that it stays in registers
+// where none is known.
+#[inline(always)]
+fn leap_second_may_stand(parsed: &Parsed, moment: OffsetDateTime) -> bool
+    ensures stands { IsTrue result → IsTrue (is_leap_second parsed.now)
+        → IsLeapSecondMoment greatest_year (Moments.offset_instant greatest_year moment) }
+    ensures misplaced { result ≡ false → IsTrue (is_leap_second parsed.now)
+        × (IsLeapSecondMoment greatest_year (Moments.offset_instant greatest_year moment) → ⊥) }
+{
+    !is_leap_second(parsed) || moment.is_valid_leap_second_stand_in()
 }

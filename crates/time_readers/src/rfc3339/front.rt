@@ -46,6 +46,10 @@ pub(super) fn front<'a, const RANGED: bool>(
         (numbers.new ≡ numbers.old)
         (λ rest. Stand (Asks RANGED) front_places numbers.old text.now rest.now numbers.new) }
 {
+    // One test of the length for all of the text.
+    if text.len() < 19 {
+        return None;
+    }
     let (first, rest) = text.split_first_chunk::<16>()?;
     if !is_within(first, LEAST, GREATEST) {
         return None;

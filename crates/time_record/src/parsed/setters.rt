@@ -267,7 +267,7 @@ impl Parsed {
         ensures { Sets (put greatest_year (offset_hour_is value) self.old)
             self.old result self.new }
     {
-        if value.unsigned_abs() > 25 {
+        if value < -25 || value > 25 {
             return None;
         }
         self.put_byte(OFFSET_HOUR, value);
@@ -294,7 +294,7 @@ impl Parsed {
         ensures { Sets (put greatest_year (offset_minute_is value) self.old)
             self.old result self.new }
     {
-        if value.unsigned_abs() > 59 {
+        if value < -59 || value > 59 {
             return None;
         }
         self.put_byte(OFFSET_MINUTE, value);
@@ -321,7 +321,7 @@ impl Parsed {
         ensures { Sets (put greatest_year (offset_second_is value) self.old)
             self.old result self.new }
     {
-        if value.unsigned_abs() > 59 {
+        if value < -59 || value > 59 {
             return None;
         }
         self.put_byte(OFFSET_SECOND, value);

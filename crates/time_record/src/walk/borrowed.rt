@@ -23,13 +23,19 @@ pub fn walk_borrowed<'a>(
     ensures counts { Counts greatest_year (borrowed_shape item.now) input.now parsed.old tries.old tries.new }
 {
     tries.begin();
+    // By `Ok(..?)` a result is handed on in parts. Otherwise it is kept in memory for the calls, and then copied.
     match item {
-        BorrowedFormatItem::Literal(text) => Parsed::parse_literal(input, text),
-        BorrowedFormatItem::StringLiteral(text) => Parsed::parse_literal(input, text.as_bytes()),
-        BorrowedFormatItem::Component(component) => parsed.parse_component(input, *component),
-        BorrowedFormatItem::Compound(items) => walk_borrowed_all(items, parsed, input, tries),
-        BorrowedFormatItem::Optional(item) => walk_borrowed_optional(item, parsed, input, tries),
-        BorrowedFormatItem::First(items) => walk_borrowed_first(items, parsed, input, tries),
+        BorrowedFormatItem::Literal(text) => Ok(Parsed::parse_literal(input, text)?),
+        BorrowedFormatItem::StringLiteral(text) => Ok(Parsed::parse_literal(
+            input,
+            text.as_bytes(),
+        )?),
+        BorrowedFormatItem::Component(component) => Ok(parsed.parse_component(input, *component)?),
+        BorrowedFormatItem::Compound(items) => Ok(walk_borrowed_all(items, parsed, input, tries)?),
+        BorrowedFormatItem::Optional(item) => Ok(walk_borrowed_optional(
+            item, parsed, input, tries,
+        )?),
+        BorrowedFormatItem::First(items) => Ok(walk_borrowed_first(items, parsed, input, tries)?),
     }
 }
 

@@ -23,13 +23,14 @@ pub fn walk_owned<'a>(
     ensures counts { Counts greatest_year (owned_shape item.now) input.now parsed.old tries.old tries.new }
 {
     tries.begin();
+    // By `Ok(..?)` a result is handed on in parts. Otherwise it is kept in memory for the calls, and then copied.
     match item {
-        OwnedFormatItem::Literal(text) => Parsed::parse_literal(input, text),
-        OwnedFormatItem::StringLiteral(text) => Parsed::parse_literal(input, text.as_bytes()),
-        OwnedFormatItem::Component(component) => parsed.parse_component(input, *component),
-        OwnedFormatItem::Compound(items) => walk_owned_all(items, parsed, input, tries),
-        OwnedFormatItem::Optional(item) => walk_owned_optional(item, parsed, input, tries),
-        OwnedFormatItem::First(items) => walk_owned_first(items, parsed, input, tries),
+        OwnedFormatItem::Literal(text) => Ok(Parsed::parse_literal(input, text)?),
+        OwnedFormatItem::StringLiteral(text) => Ok(Parsed::parse_literal(input, text.as_bytes())?),
+        OwnedFormatItem::Component(component) => Ok(parsed.parse_component(input, *component)?),
+        OwnedFormatItem::Compound(items) => Ok(walk_owned_all(items, parsed, input, tries)?),
+        OwnedFormatItem::Optional(item) => Ok(walk_owned_optional(item, parsed, input, tries)?),
+        OwnedFormatItem::First(items) => Ok(walk_owned_first(items, parsed, input, tries)?),
     }
 }
 

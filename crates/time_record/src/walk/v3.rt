@@ -19,26 +19,29 @@ pub fn walk_v3<'a>(
 ) -> Result<&'a [u8], ParseFromDescription>
     ensures { Answers greatest_year (v3_shape item.now) input.now parsed.old result parsed.new }
 {
+    // By `Ok(..?)` a result is handed on in parts. Otherwise it is kept in memory for the calls, and then copied.
     match *item {
         FormatDescriptionV3Inner::Component(component) => {
-            parsed.parse_whole_component(input, component)
+            Ok(parsed.parse_whole_component(input, component)?)
         }
         FormatDescriptionV3Inner::BorrowedLiteral(text) => {
-            Parsed::parse_literal(input, text.as_bytes())
+            Ok(Parsed::parse_literal(input, text.as_bytes())?)
         }
-        FormatDescriptionV3Inner::BorrowedCompound(items) => walk_v3_all(items, parsed, input),
+        FormatDescriptionV3Inner::BorrowedCompound(items) => Ok(walk_v3_all(items, parsed, input)?),
         FormatDescriptionV3Inner::BorrowedOptional { item, .. } => {
-            walk_v3_optional(item, parsed, input)
+            Ok(walk_v3_optional(item, parsed, input)?)
         }
-        FormatDescriptionV3Inner::BorrowedFirst(items) => walk_v3_first(items, parsed, input),
+        FormatDescriptionV3Inner::BorrowedFirst(items) => Ok(walk_v3_first(items, parsed, input)?),
         FormatDescriptionV3Inner::OwnedLiteral(ref text) => {
-            Parsed::parse_literal(input, text.as_bytes())
+            Ok(Parsed::parse_literal(input, text.as_bytes())?)
         }
-        FormatDescriptionV3Inner::OwnedCompound(ref items) => walk_v3_all(items, parsed, input),
+        FormatDescriptionV3Inner::OwnedCompound(ref items) => Ok(walk_v3_all(
+            items, parsed, input,
+        )?),
         FormatDescriptionV3Inner::OwnedOptional { ref item, .. } => {
-            walk_v3_optional(item, parsed, input)
+            Ok(walk_v3_optional(item, parsed, input)?)
         }
-        FormatDescriptionV3Inner::OwnedFirst(ref items) => walk_v3_first(items, parsed, input),
+        FormatDescriptionV3Inner::OwnedFirst(ref items) => Ok(walk_v3_first(items, parsed, input)?),
     }
 }
 

@@ -1,5 +1,5 @@
 -- A mask whose bits are all set.
-use Rattle.std.proofs.Common.{◌≡◌, ℕ, zero, suc, ◌+◌, ◌*◌, ◌^◌, ◌%◌, ◌≤◌, List, [], ◌∷◌, Bool, true, false, length, refl, ap, ◌∙◌, arith, pow-suc, mul_comm, bit_and}
+use Rattle.std.proofs.Common.{◌≡◌, ℕ, zero, suc, ◌+◌, ◌*◌, ◌^◌, ◌%◌, ◌≤◌, List, [], ◌∷◌, Bool, true, false, length, refl, ap, sym, ◌∙◌, arith, pow-suc, mul_comm, bit_and}
 use Rattle.std.proofs.lemmas.Simd.{mask_l-mod}
 use lib.Lanes.{mask_l, zip2, top}
 use Rattle.std.proofs.lemmas.Bool.{leb-true}
@@ -58,14 +58,14 @@ within_both [] gs bs all = tt
 within_both (l ∷ ls) [] bs all = tt
 within_both (l ∷ ls) (g ∷ gs) [] all = tt
 
--- what `all` says of two comparisons of sixteen bytes joined by `&`
-pub all_within : (ls gs bs : List ℕ) → length bs ≤ 16
+-- what `all` says of two comparisons of n bytes joined by `&`
+pub all_within : (n : ℕ) (ls gs bs : List ℕ) → length bs ≤ n → n ≤ 64
     → mask_l (map (top 7) (zip2 (λ a b. bit_and a b) (zip2 (λ a b. cond (leb a b) 255 0) ls bs) (zip2 (λ a b. cond
-    (leb a b) 255 0) bs gs))) % 18446744073709551616 ≡ 65535 → AllWithin ls gs bs
-all_within ls gs bs short all =
+    (leb a b) 255 0) bs gs))) % 18446744073709551616 + 1 ≡ 2 ^ n → AllWithin ls gs bs
+all_within n ls gs bs short wide all =
     let both = zip2 (λ a b. a && b) (zip2 leb ls bs) (zip2 leb bs gs) in
-    let few : length both ≤ 16 = omega (arith, zip2-le_left (λ a b. a && b) (zip2 leb ls bs) (zip2 leb bs gs), zip2-le_right leb ls bs) in
+    let few : length both ≤ n = omega (arith, zip2-le_left (λ a b. a && b) (zip2 leb ls bs) (zip2 leb bs gs), zip2-le_right leb ls bs) in
     let same : mask_l (map (top 7) (zip2 (λ a b. bit_and a b) (zip2 (λ a b. cond (leb a b) 255 0) ls bs) (zip2 (λ a b. cond
     (leb a b) 255 0) bs gs))) % 2 ^ 64 ≡ mask_l both = ap (λ ms. mask_l ms % 2 ^ 64) (tops_both leb leb ls bs bs gs) ∙ mask_l-mod both 64 (omega arith) in
-    let full : mask_l both + 1 ≡ 2 ^ 16 = omega arith in
-    within_both ls gs bs (full_mask both 16 few full)
+    let full : mask_l both + 1 ≡ 2 ^ n = ap (λ m. m + 1) (sym same) ∙ all in
+    within_both ls gs bs (full_mask both n few full)

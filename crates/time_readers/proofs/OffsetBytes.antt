@@ -1,13 +1,16 @@
 -- The places of an offset of one byte and of six.
-use Rattle.std.proofs.Common.{◌≡◌, ℕ, ◌+◌, ◌-◌, ◌*◌, ◌≤◌, ◌⊎◌, Bool, true, false, List, [], ◌∷◌, length, take, drop, get_or, refl, ap, sym, ◌∙◌, subst, inl, inr, arith, nat_eq}
+use Rattle.std.proofs.Common.{◌≡◌, ℕ, ◌+◌, ◌-◌, ◌*◌, ◌≤◌, ◌⊎◌, Bool, true, false, List, [], ◌∷◌, ◌++◌, length, take, drop, get_or, refl, ap, sym, ◌∙◌, subst, inl, inr, arith, nat_eq}
+use Rattle.std.proofs.lemmas.List.{drop_at, drop-drop, length-append}
 use Rattle.std.specs.Char.{to_ascii_lowercase}
 use Rattle.time_readers.specs.Bytes.{sign_byte, is_negative}
 use Rattle.time_readers.specs.Digits.{IsDigit}
+use Rattle.time_readers.specs.Front.{AllWithin, IsNearOffset}
 use Rattle.time_readers.specs.Places.{Stand}
 use Rattle.time_readers.specs.Rfc3339.{Asks, offset_places, IsSignedHour, IsOffsetColon, IsOffsetMinute}
 use Rattle.time_readers.specs.declared.Sign.{Sign}
 use Rattle.time_readers.specs.declared.Sign.TheVariants.{Negative, Positive}
 use Rattle.time_readers.specs.declared.rfc3339.Numbers.{Numbers}
+use Rattle.time_readers.specs.declared.rfc3339.tail.TheConstants.{LEAST, GREATEST}
 use Rattle.time_readers.proofs.CutLemmas.{first_byte, take-drop}
 use Rattle.time_readers.proofs.FrontPlaces.{two_digits, within}
 
@@ -107,3 +110,27 @@ offset_stands ranged n text hour minute long utc (inl plus) colon p q r t heq ho
     rw plus (bytes_stand ranged n Positive text hour minute long utc plus colon p q r t heq hour_in meq minute_in)
 offset_stands ranged n text hour minute long utc (inr minus) colon p q r t heq hour_in meq minute_in =
     rw minus (bytes_stand ranged n Negative text hour minute long utc minus colon p q r t heq hour_in meq minute_in)
+
+drop_at_end : (text before after : List ℕ) (n : ℕ) → text ≡ before ++ after → length before ≡ n → drop n text ≡ after
+drop_at_end text before after n ends at = ap (λ xs. drop n xs) ends ∙ drop_at before after n at
+
+behind_two : (bs : List ℕ) → AllWithin LEAST GREATEST bs → AllWithin (drop 2 LEAST) (drop 2 GREATEST) (drop 2 bs)
+behind_two [] all = tt
+behind_two (b ∷ []) all = tt
+behind_two (b ∷ c ∷ bs) all = all.2.2
+
+-- the range test of the eight bytes with which a text ends, for the six that an offset has
+pub near_offset : (text before offset last : List ℕ) → text ≡ before ++ offset → length offset ≡ 6 → 8 ≤ length text
+    → last ≡ drop (length text - 8) text → AllWithin LEAST GREATEST last → IsNearOffset offset
+near_offset text before offset last ends six long cut all =
+    let len : length text ≡ length before + 6 = omega (arith, ap length ends, length-append before offset) in
+    let at : length before ≡ length text - 8 + 2 = omega arith in
+    let same : drop 2 last ≡ offset =
+    ap (λ xs. drop 2 xs) cut ∙ drop-drop 2 (length text - 8) text ∙ drop_at_end text before offset (length text - 8 + 2) ends at in
+    let a = subst (AllWithin (drop 2 LEAST) (drop 2 GREATEST)) (same ∙ sym (six_first offset (omega arith))) (behind_two last all) in
+    let b = a.2 in
+    let c = b.2 in
+    let d = c.2 in
+    let e = d.2 in
+    let f = e.2 in
+    ((a.0, a.1), (b.0, b.1), (c.0, c.1), omega (arith, d.0, d.1), (e.0, e.1), (f.0, f.1))

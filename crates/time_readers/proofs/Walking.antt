@@ -142,3 +142,13 @@ Stand-split A [] qs n m bytes rest s = (bytes, (n, (refl, refl), s))
 Stand-split A (p ∷ ps) qs n m bytes rest s =
     let t = Stand-split A ps qs s.1 m s.0 rest s.3 in
     (t.0, (t.1.0, (s.0, s.1, s.2, t.1.1), t.1.2))
+
+-- what follows places that stand ends the bytes
+pub Stand-ends : {P N : Type 0} (A : Format P N) (ps : List P) (n m : N) (bytes rest : List ℕ) → Stand A ps n bytes rest m
+    → (before : List ℕ) × (bytes ≡ before ++ rest)
+unfolding Stand
+Stand-ends A [] n m bytes rest s = ([], sym s.0)
+Stand-ends A (p ∷ ps) n m bytes rest s =
+    let t = Stand-ends A ps s.1 m s.0 rest s.3 in
+    let cut = s.2 in
+    (cut.0 ++ t.0, cut.1 ∙ ap (λ r. cut.0 ++ r) t.1 ∙ sym (append_assoc cut.0 t.0 rest))

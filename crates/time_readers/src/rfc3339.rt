@@ -1,5 +1,5 @@
 //! The date and time of RFC 3339, section 5.6, by fifteen places.
-ghost use Rattle.std.specs.Prelude.{◌≡◌, ◌≢◌, ℕ, false, List, [], ◌∷◌, MatchResult};
+ghost use Rattle.std.specs.Prelude.{◌≡◌, ◌≢◌, ℕ, false, List, [], ◌∷◌, ◌++◌, MatchResult};
 ghost use Rattle.time_values.specs.Refusal.{refusal_of_description};
 ghost use Rattle.time_readers.specs.Cuts.{Cut, NoCut};
 ghost use Rattle.time_readers.specs.Front.{front_places, clock_places};
@@ -107,7 +107,7 @@ pub fn read<const RANGED: bool>(input: &[u8]) -> Result<ParsedItem<'_, Numbers>,
     let mut numbers = Numbers::NONE;
     let rest = to_second::<RANGED>(input, &mut numbers)?;
     let rest = subsecond::<RANGED>(rest, &mut numbers)?;
-    let end = offset::<RANGED>(rest, &mut numbers)?;
+    let end = offset::<RANGED>(input, rest, &mut numbers)?;
     Ok(ParsedItem(end, numbers))
 }
 
@@ -176,14 +176,19 @@ fn time<'a, const RANGED: bool>(input: &'a [u8], numbers: &mut Numbers) -> Resul
     second::<RANGED>(rest, numbers)
 }
 
-// The offset: at once where all of it stands, else one place after another.
+// The offset with which the text ends: at once where all of it stands, else one place after another.
 #[inline(always)]
-fn offset<'a, const RANGED: bool>(input: &'a [u8], numbers: &mut Numbers) -> Result<&'a [u8], Place>
-    ensures { Walks (Asks RANGED) offset_places numbers.old input.now result numbers.new }
+fn offset<'a, const RANGED: bool>(
+    text: &[u8],
+    rest: &'a [u8],
+    numbers: &mut Numbers,
+) -> Result<&'a [u8], Place>
+    requires ends { (before : List ℕ) × (text.now ≡ before ++ rest.now) }
+    ensures { Walks (Asks RANGED) offset_places numbers.old rest.now result numbers.new }
 {
-    match tail::whole_offset::<RANGED>(input, numbers) {
-        Some(rest) => Ok(rest),
-        None => offset_by_places::<RANGED>(input, numbers),
+    match tail::whole_offset::<RANGED>(text, rest, numbers) {
+        Some(end) => Ok(end),
+        None => offset_by_places::<RANGED>(rest, numbers),
     }
 }
 

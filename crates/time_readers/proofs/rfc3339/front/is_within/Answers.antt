@@ -1,4 +1,4 @@
-use Rattle.std.proofs.Common.{arith, take, subst}
+use Rattle.std.proofs.Common.{◌+◌, arith, ap, take, subst}
 use Rattle.std.proofs.lemmas.List.{take_all, length-take-le}
 use Rattle.std.proofs.lemmas.Bool.{eqb-true}
 use Rattle.time_readers.specs.Front.{AllWithin}
@@ -9,4 +9,5 @@ pub returns : goal.returns
 returns c = λ all.
     let whole = take_all 16 c.args.bytes.now (omega arith) in
     let long = length-take-le 16 c.args.bytes.now (omega arith) in
-    subst (AllWithin c.args.least c.args.greatest) whole (all_within c.args.least c.args.greatest (take 16 c.args.bytes.now) (omega arith) (eqb-true _ _ all))
+    let within = all_within 16 c.args.least c.args.greatest (take 16 c.args.bytes.now) (omega arith) (omega arith) (ap (λ m. m + 1) (eqb-true _ _ all)) in
+    subst (AllWithin c.args.least c.args.greatest) whole within

@@ -1,7 +1,0 @@
-use Rattle.time_readers.proofs.ReaderLemmas.{no_positive}
-use Rattle.time_readers.proofs.component.parse_ordinal.Goals as goal
-
-pub returns-in_err-new : goal.returns-in_err-new
-returns-in_err-new c = rw c.from_residual-in_err-new.ensures
-    (no_positive c.args.modifiers.padding 3 c.args.input.now c.in_ok-ordinal.ordinal.0.now c.in_ok-ordinal.ordinal.1 c.in_err-new.ensures
-    c.in_ok-ordinal.ensures)

@@ -8,16 +8,16 @@ use Rattle.time_record.specs.Reading as Description
 use Rattle.time_record.specs.Record.{empty}
 use Rattle.time_record.specs.Resolution.{IsDated, IsTimed, IsOffset, IsPlain, IsUtcMoment, IsMoment, IsTimestamp}
 use Rattle.time_record.proofs.ResolutionLemmas.{IsDated-one, IsTimed-one, IsOffset-one, IsPlain-one, IsUtcMoment-one, IsMoment-one, IsTimestamp-one}
-use Rattle.time_parsing.specs.DescriptionLaws.{tree_exact}
+use Rattle.time_parsing.specs.exact.DescriptionLaws.{tree_exact}
 use Rattle.time_parsing.specs.Outcome.{IsExact, IsExactPath, Path, over_record, direct, Reading, Refusing, Resolving}
-use Rattle.time_parsing.specs.DirectLaws.{rfc3339_exact_path, rfc2822_exact_path}
+use Rattle.time_parsing.specs.exact.DirectLaws.{rfc3339_exact_path, rfc2822_exact_path}
 use Rattle.time_readers.specs.Direct.{RefusesRfc3339, RefusesRfc2822}
 use Rattle.time_parsing.specs.Iso8601 as Iso8601
-use Rattle.time_parsing.specs.Iso8601Laws.{iso8601_exact}
+use Rattle.time_parsing.specs.exact.Iso8601Laws.{iso8601_exact}
 use Rattle.time_parsing.specs.Rfc2822 as Rfc2822
-use Rattle.time_parsing.specs.Rfc2822Laws.{rfc2822_exact}
+use Rattle.time_parsing.specs.exact.Rfc2822Laws.{rfc2822_exact}
 use Rattle.time_parsing.specs.Rfc3339 as Rfc3339
-use Rattle.time_parsing.specs.Rfc3339Laws.{rfc3339_exact}
+use Rattle.time_parsing.specs.exact.Rfc3339Laws.{rfc3339_exact}
 use Rattle.time_parsing.proofs.OneOutcome.{one_outcome, one_moment_outcome}
 use Rattle.time_lines.specs.Formats.{format_named, target_named, ymd, clock, unix, local}
 use Rattle.time_lines.specs.Lines.{lines_of, fields_of}

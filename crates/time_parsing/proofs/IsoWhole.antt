@@ -19,15 +19,15 @@ use Rattle.time_readers.specs.IsoOffsets.{offset_text}
 use Rattle.time_readers.specs.IsoPieces.{byte, sign}
 use Rattle.time_readers.specs.IsoTimes.{time_text}
 use Rattle.time_readers.specs.declared.iso8601.ExtendedKind.{ExtendedKind}
-use Rattle.time_readers.specs.declared.iso8601.offsets.OffsetNumbers.{OffsetNumbers}
-use Rattle.time_readers.specs.declared.iso8601.offsets.OffsetNumbers.TheVariants.{Zulu, Numeric}
-use Rattle.time_readers.specs.declared.iso8601.times.TimeNumbers.{TimeNumbers}
+use Rattle.time_readers.specs.declared.iso8601.OffsetNumbers.{OffsetNumbers}
+use Rattle.time_readers.specs.declared.iso8601.OffsetNumbers.TheVariants.{Zulu, Numeric}
+use Rattle.time_readers.specs.declared.iso8601.TimeNumbers.{TimeNumbers}
 use Rattle.time_record.specs.Record.{Record, empty}
 use Rattle.time_record.specs.Resolution.{IsDated, IsTimed, IsOffset, IsPlain, IsMoment, IsMomentOfParts, stand_in}
-use Rattle.time_parsing.specs.Iso8601.{reading, date_over, time_over, offset_over, behind_time, Reads}
-use Rattle.time_parsing.specs.IsoValues.{date_said, time_said, IsOffsetSaid}
+use Rattle.time_parsing.specs.Iso8601.{reading, date_over, time_over, offset_over, after_time, Reads}
+use Rattle.time_parsing.specs.IsoFast.{date_said, time_said, IsOffsetSaid}
 use Rattle.time_parsing.specs.Rfc3339.{with_leap_second}
-use Rattle.time_parsing.specs.ToldMoment.{given, month_short, offset_accepted}
+use Rattle.time_parsing.specs.exact.ToldMoment.{given, month_short, offset_accepted}
 
 -- The whole text is read over an empty record, which then resolves to that date and time; and where an offset stands,
 -- to the moment of all three.
@@ -71,7 +71,7 @@ parts_put : (bytes between rest : List ℕ) (k l : ExtendedKind) (x : IsoDate) (
     → time_text true k between ≡ Some (record { rest = rest; value = y; kind = l })
     → x ≡ date_said d → y ≡ time_said t
     → reading greatest_year bytes (with_leap_second empty)
-    ≡ Ok (behind_time greatest_year l rest (recorded d t None None None))
+    ≡ Ok (after_time greatest_year l rest (recorded d t None None None))
 unfolding reading date_over time_over
 parts_put bytes between rest k l x y d t date time said told =
     rw (
@@ -105,9 +105,9 @@ timed d t h m s =
 stood_in : (d : Date) (t : Time) (h m s : Option ℤ) → IsTimed (stand_in (recorded d t h m s)) (Ok t)
 stood_in d t h m s = rw (no_leap t) (timed d t h m s)
 
-nothing_behind : (l : ExtendedKind) (rest : List ℕ) (r : Record) → rest ≡ [] → behind_time greatest_year l rest r ≡ ([], r)
-unfolding behind_time offset_over offset_text byte sign
-nothing_behind l rest r end = rw end refl
+nothing_after : (l : ExtendedKind) (rest : List ℕ) (r : Record) → rest ≡ [] → after_time greatest_year l rest r ≡ ([], r)
+unfolding after_time offset_over offset_text byte sign
+nothing_after l rest r end = rw end refl
 
 unsaid : false ≡ true → ⊥
 unsaid clash = cc
@@ -135,7 +135,7 @@ plain_resolves h m s p =
     let t = plain_time p in
     inr (d, dated d t h m s, inr (t, timed d t h m s, (refl, refl)))
 
--- a date and a time with no bytes behind them
+-- a date and a time with no bytes after them
 pub plain-whole : (bytes between rest : List ℕ) (k l : ExtendedKind) (x : IsoDate) (y : TimeNumbers) (p : PlainDateTime)
     → date_text bytes ≡ Ok (record { rest = between; value = x; kind = k })
     → time_text true k between ≡ Some (record { rest = rest; value = y; kind = l })
@@ -147,21 +147,21 @@ plain-whole bytes between rest k l x y p date time end said told =
     let t = plain_time p in
     let r = recorded d t None None None in (
       r,
-      parts_put bytes between rest k l x y d t date time said told ∙ ap (λ q. Ok q) (nothing_behind l rest r end),
+      parts_put bytes between rest k l x y d t date time said told ∙ ap (λ q. Ok q) (nothing_after l rest r end),
       plain_resolves None None None p,
       tt,
     )
 
--- the offset is put behind them, in components that resolve to it
-offset_put : (l : ExtendedKind) (behind rest : List ℕ) (n : OffsetNumbers) (o : UtcOffset)
-    → offset_text l behind ≡ Some (rest, n) → IsOffsetSaid n o
+-- the offset is put after them, in components that resolve to it
+offset_put : (l : ExtendedKind) (after rest : List ℕ) (n : OffsetNumbers) (o : UtcOffset)
+    → offset_text l after ≡ Some (rest, n) → IsOffsetSaid n o
     → (h m s : Option ℤ)
-    × ((d : Date) (t : Time) → behind_time greatest_year l behind (recorded d t None None None) ≡ (rest, recorded d t h m s))
+    × ((d : Date) (t : Time) → after_time greatest_year l after (recorded d t None None None) ≡ (rest, recorded d t h m s))
     × ((d : Date) (t : Time) → IsOffset (recorded d t h m s) (Ok o))
-unfolding behind_time offset_over IsOffset
-offset_put l behind rest Zulu o text said =
+unfolding after_time offset_over IsOffset
+offset_put l after rest Zulu o text said =
     (Some (pos 0), Some (pos 0), Some (pos 0), λ d t. rw text refl, λ d t. said)
-offset_put l behind rest (Numeric hour minute) o text said =
+offset_put l after rest (Numeric hour minute) o text said =
     let parts = given (offset_refusal hour minute (pos 0)) (HasOffset hour minute (pos 0)) o said in
     let ranges = offset_accepted hour minute parts.0 in (
       Some hour,
@@ -171,23 +171,23 @@ offset_put l behind rest (Numeric hour minute) o text said =
       λ d t. said,
     )
 
--- a date, a time and an offset with no bytes behind them
-pub moment-whole : (bytes between behind : List ℕ) (k l : ExtendedKind) (x : IsoDate) (y : TimeNumbers) (n : OffsetNumbers)
+-- a date, a time and an offset with no bytes after them
+pub moment-whole : (bytes between after : List ℕ) (k l : ExtendedKind) (x : IsoDate) (y : TimeNumbers) (n : OffsetNumbers)
     (p : PlainDateTime) (o : UtcOffset)
     → date_text bytes ≡ Ok (record { rest = between; value = x; kind = k })
-    → time_text true k between ≡ Some (record { rest = behind; value = y; kind = l })
-    → offset_text l behind ≡ Some ([], n)
+    → time_text true k between ≡ Some (record { rest = after; value = y; kind = l })
+    → offset_text l after ≡ Some ([], n)
     → x ≡ date_said (plain_date p) → y ≡ time_said (plain_time p) → IsOffsetSaid n o
     → IsWholeText bytes p (Some o)
-moment-whole bytes between behind k l x y n p o date time offset said told shown =
+moment-whole bytes between after k l x y n p o date time offset said told shown =
     let d = plain_date p in
     let t = plain_time p in
-    let put = offset_put l behind [] n o offset shown in
+    let put = offset_put l after [] n o offset shown in
     let h = put.0 in
     let m = put.1 in
     let s = put.2 in (
       recorded d t h m s,
-      parts_put bytes between behind k l x y d t date time said told ∙ ap (λ q. Ok q) (put.3 d t),
+      parts_put bytes between after k l x y d t date time said told ∙ ap (λ q. Ok q) (put.3 d t),
       plain_resolves h m s p,
       λ v same_date same_time same_offset.
           subst (λ e. IsMoment greatest_year (recorded e t h m s) (Ok v)) same_date

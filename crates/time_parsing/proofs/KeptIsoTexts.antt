@@ -8,20 +8,20 @@ use Rattle.std.proofs.lemmas.Option.{none-some, same_Some, cond_some, some_pair_
 use Rattle.time_values.specs.Refusal.{Refusal, component}
 use Rattle.time_readers.specs.Bytes.{sign_byte}
 use Rattle.time_readers.specs.IsoAnswers.{Found}
-use Rattle.time_readers.specs.IsoDates.{IsoDate, calendar, ordinal, week, Form, need, dash, first_form, second_form, third_form, first_standing, forms, of_kind, behind_year, date_text}
-use Rattle.time_readers.specs.IsoOffsets.{minute_or_none, minute_behind, offset_minute, numeric, behind_hour, offset_text}
-use Rattle.time_readers.specs.IsoPieces.{byte, digits, sign, with_sign, year, year_behind, month, positive, up_to, weekday, number, at_most}
-use Rattle.time_readers.specs.IsoTimes.{time_behind, time_text}
+use Rattle.time_readers.specs.IsoDates.{IsoDate, calendar, ordinal, week, Form, need, dash, first_form, second_form, third_form, first_standing, forms, of_kind, after_year, date_text}
+use Rattle.time_readers.specs.IsoOffsets.{minute_or_none, minute_after, offset_minute, numeric, after_hour, offset_text}
+use Rattle.time_readers.specs.IsoPieces.{byte, digits, sign, with_sign, year, year_after, month, positive, up_to, weekday, number, at_most}
+use Rattle.time_readers.specs.IsoTimes.{time_after, time_text}
 use Rattle.time_readers.specs.declared.Sign.{Sign}
 use Rattle.time_readers.specs.declared.Sign.TheVariants.{Negative, Positive}
 use Rattle.time_readers.specs.declared.iso8601.ExtendedKind.{ExtendedKind}
 use Rattle.time_readers.specs.declared.iso8601.ExtendedKind.TheVariants.{Basic, Extended, Unknown}
-use Rattle.time_readers.specs.declared.iso8601.offsets.OffsetNumbers.{OffsetNumbers}
-use Rattle.time_readers.specs.declared.iso8601.offsets.OffsetNumbers.TheVariants.{Zulu, Numeric}
+use Rattle.time_readers.specs.declared.iso8601.OffsetNumbers.{OffsetNumbers}
+use Rattle.time_readers.specs.declared.iso8601.OffsetNumbers.TheVariants.{Zulu, Numeric}
 use Rattle.time_readers.proofs.IsoCuts.{digits-tells, said-tells, sign-tells}
 use Rattle.time_readers.proofs.Runs.{IsDigitRun-below}
 use Rattle.time_record.specs.Record.{Record, put_all}
-use Rattle.time_parsing.specs.Iso8601.{Reads, date_entries, time_entries, offset_entries, put_or_fault, result_and_then, with_value, date_over, time_over, offset_over, behind_time, behind_date, without_date, date_or_none, reading}
+use Rattle.time_parsing.specs.Iso8601.{Reads, date_entries, time_entries, offset_entries, put_or_fault, result_and_then, with_value, date_over, time_over, offset_over, after_time, after_date, without_date, date_or_none, reading}
 use Rattle.time_parsing.specs.KeptReadings.{KeepsTexts}
 use Rattle.time_parsing.specs.Rfc3339.{with_leap_second, without_offset_sign}
 
@@ -58,13 +58,13 @@ first_form-year : (extended : Bool) (y : ℤ) (b : List ℕ) → Says y (first_f
 first_form-year extended y b x h =
     need-Ok (month b) _ _ x h
     (λ m _ h1. need-Ok (dash extended m.0) _ _ x h1
-    (λ behind _ h2. need-Ok (positive 2 behind) _ _ x h2 (λ d _ h3. sym (ap (λ z. year_in z.1) (same_Ok _ x h3)))))
+    (λ after _ h2. need-Ok (positive 2 after) _ _ x h2 (λ d _ h3. sym (ap (λ z. year_in z.1) (same_Ok _ x h3)))))
 
 third_form-year : (extended : Bool) (y : ℤ) (b : List ℕ) → Says y (third_form extended y b)
 third_form-year extended y b x h =
     need-Ok (positive 2 b) _ _ x h
     (λ w _ h1. need-Ok (dash extended w.0) _ _ x h1
-    (λ behind _ h2. need-Ok (weekday behind) _ _ x h2 (λ d _ h3. sym (ap (λ z. year_in z.1) (same_Ok _ x h3)))))
+    (λ after _ h2. need-Ok (weekday after) _ _ x h2 (λ d _ h3. sym (ap (λ z. year_in z.1) (same_Ok _ x h3)))))
 
 standing-year : (y : ℤ) (f : Form) (s : Option (List ℕ × IsoDate)) (t : Option Form)
     → Says y f → ((x : List ℕ × IsoDate) → s ≡ Some x → year_in x.1 ≡ y) → ((g : Form) → t ≡ Some g → Says y g)
@@ -81,15 +81,15 @@ forms-year extended y b =
     (first_form-year extended y b)
     (λ x h. option_map_some (λ d. (d.0, ordinal y d.1)) (positive 3 b) x h (λ d _ is. sym (ap (λ z. year_in z.1) is)))
     (λ g h. option_map_some (third_form extended y) (byte 87 b) g h
-    (λ behind _ is x k. third_form-year extended y behind x (is ∙ k)))
+    (λ after _ is x k. third_form-year extended y after x (is ∙ k)))
 
 kind-year : (y : ℤ) (kind : ExtendedKind) (f : Form) (d : Found IsoDate) → Says y f → of_kind kind f ≡ Ok d → year_in d.value ≡ y
 kind-year y kind (Err e) d says h = absurd (Ok-Err d e h)
 kind-year y kind (Ok x) d says h = sym (ap (λ z. year_in z.value) (same_Ok _ d h)) ∙ says x refl
 
-behind-year : (y : ℤ) (b : List ℕ) (o : Option (List ℕ)) (d : Found IsoDate) → behind_year y b o ≡ Ok d → year_in d.value ≡ y
-behind-year y b None d h = kind-year y Basic (forms false y b) d (forms-year false y b) h
-behind-year y b (Some behind) d h = kind-year y Extended (forms true y behind) d (forms-year true y behind) h
+after-year : (y : ℤ) (b : List ℕ) (o : Option (List ℕ)) (d : Found IsoDate) → after_year y b o ≡ Ok d → year_in d.value ≡ y
+after-year y b None d h = kind-year y Basic (forms false y b) d (forms-year false y b) h
+after-year y b (Some after) d h = kind-year y Extended (forms true y after) d (forms-year true y after) h
 
 -- ---- how long texts are
 
@@ -118,30 +118,30 @@ minute_or_none-length : (b : List ℕ) (o : Option (List ℕ × ℕ)) (m : ℕ) 
 minute_or_none-length b None m h = let is = some_pair_parts b [] 0 m h in omega (arith, ap length is.0)
 minute_or_none-length b (Some f) m h = omega (arith, up_to-length 59 2 b [] m h)
 
-minute_behind-length : (b : List ℕ) (o : Option (List ℕ)) (m : ℕ) → byte 58 b ≡ o → minute_behind b o ≡ Some ([], m) → length b ≤ 3
-minute_behind-length b None m is h = omega (arith, minute_or_none-length b (digits 2 b) m h)
-minute_behind-length b (Some behind) m is h = omega (arith, byte-length 58 b behind is, up_to-length 59 2 behind [] m h)
+minute_after-length : (b : List ℕ) (o : Option (List ℕ)) (m : ℕ) → byte 58 b ≡ o → minute_after b o ≡ Some ([], m) → length b ≤ 3
+minute_after-length b None m is h = omega (arith, minute_or_none-length b (digits 2 b) m h)
+minute_after-length b (Some after) m is h = omega (arith, byte-length 58 b after is, up_to-length 59 2 after [] m h)
 
 offset_minute-length : (b : List ℕ) (m : ℕ) → offset_minute Unknown b ≡ Some ([], m) → length b ≤ 3
 unfolding offset_minute
-offset_minute-length b m h = minute_behind-length b (byte 58 b) m refl h
+offset_minute-length b m h = minute_after-length b (byte 58 b) m refl h
 
-behind_hour-length : (s : Sign) (f : List ℕ × ℕ) (o : OffsetNumbers) → behind_hour Unknown s f ≡ Some ([], o) → length f.0 ≤ 3
-behind_hour-length s f o h =
+after_hour-length : (s : Sign) (f : List ℕ × ℕ) (o : OffsetNumbers) → after_hour Unknown s f ≡ Some ([], o) → length f.0 ≤ 3
+after_hour-length s f o h =
     option_map_some (λ m. (m.0, numeric s f.1 m.1)) (offset_minute Unknown f.0) ([], o) h
     (λ m found is.
     let whole : offset_minute Unknown f.0 ≡ Some ([], m.1) = found ∙ ap (λ x. Some (x, m.1)) (ap (λ z. z.0) is) in
     offset_minute-length f.0 m.1 whole)
 
--- an offset behind a sign has at most five bytes
+-- an offset after a sign has at most five bytes
 offset-length : (s : Sign) (b : List ℕ) (o : OffsetNumbers) → offset_text Unknown (sign_byte s ∷ b) ≡ Some ([], o) → length b ≤ 5
 unfolding offset_text byte sign
 offset-length Negative b o h =
-    option_and_then_some (behind_hour Unknown Negative) (up_to 25 2 b) ([], o) h
-    (λ f found is. omega (arith, up_to-length 25 2 b f.0 f.1 found, behind_hour-length Negative f o is))
+    option_and_then_some (after_hour Unknown Negative) (up_to 25 2 b) ([], o) h
+    (λ f found is. omega (arith, up_to-length 25 2 b f.0 f.1 found, after_hour-length Negative f o is))
 offset-length Positive b o h =
-    option_and_then_some (behind_hour Unknown Positive) (up_to 25 2 b) ([], o) h
-    (λ f found is. omega (arith, up_to-length 25 2 b f.0 f.1 found, behind_hour-length Positive f o is))
+    option_and_then_some (after_hour Unknown Positive) (up_to 25 2 b) ([], o) h
+    (λ f found is. omega (arith, up_to-length 25 2 b f.0 f.1 found, after_hour-length Positive f o is))
 
 -- ---- a time
 
@@ -150,8 +150,8 @@ unfolding number digits
 no_number Negative b = rw (and-false (nat_le 2 (length (45 ∷ b)))) refl
 no_number Positive b = rw (and-false (nat_le 2 (length (43 ∷ b)))) refl
 
-no_row : (b : List ℕ) → number b ≡ None → time_behind Unknown b ≡ None
-unfolding time_behind
+no_row : (b : List ℕ) → number b ≡ None → time_after Unknown b ≡ None
+unfolding time_after
 no_row b none = rw none refl
 
 -- no time begins with a sign
@@ -162,20 +162,20 @@ no_time Positive b = no_row (43 ∷ b) (no_number Positive b)
 
 -- ---- a date of a longer year
 
--- a year of more than four digits has six behind a sign
+-- a year of more than four digits has six after a sign
 abbrev HasLongYear : List ℕ → Type 0
 HasLongYear b = (s : Sign) × (rest : List ℕ) × (b ≡ sign_byte s ∷ rest) × (6 ≤ length rest)
 
-long_year-behind : (b : List ℕ) (o : Option (List ℕ × Sign)) (y : List ℕ × ℤ) → sign b ≡ o → year_behind b o ≡ Some y
+long_year-after : (b : List ℕ) (o : Option (List ℕ × Sign)) (y : List ℕ × ℤ) → sign b ≡ o → year_after b o ≡ Some y
     → 9999 < unsigned_abs y.1 → HasLongYear b
-long_year-behind b None y none h long =
+long_year-after b None y none h long =
     option_map_some (λ f. (f.0, pos f.1)) (digits 4 b) y h
     (λ f found is.
     let cut = digits-tells 4 b f.0 f.1 found in
     let below = IsDigitRun-below 4 4 cut.0 f.0 f.1 cut.2 in
     let same : unsigned_abs y.1 ≡ f.1 = sym (ap (λ z. unsigned_abs z.1) is) in
     absurd (omega (arith, below, same, long)))
-long_year-behind b (Some s) y found h long =
+long_year-after b (Some s) y found h long =
     option_map_some (λ f. (f.0, with_sign s.1 f.1)) (digits 6 s.0) y h
     (λ f six _. (s.1, s.0, signed b s.0 s.1 found, omega (arith, digits-length 6 s.0 f.0 f.1 six)))
 
@@ -183,9 +183,9 @@ long_year : (b : List ℕ) (d : Found IsoDate) → date_text b ≡ Ok d → 9999
 unfolding date_text year
 long_year b d h long =
     need-Ok (year b) _ _ d h
-    (λ y found behind.
-    let same = behind-year y.1 y.0 (byte 45 y.0) d behind in
-    long_year-behind b (sign b) y refl found (omega (arith, ap unsigned_abs same, long)))
+    (λ y found after.
+    let same = after-year y.1 y.0 (byte 45 y.0) d after in
+    long_year-after b (sign b) y refl found (omega (arith, ap unsigned_abs same, long)))
 
 -- ---- over a record
 
@@ -204,22 +204,22 @@ module _ (Y Z : ℕ) where
   offset_over-same kind b r = λ i.
       option_and_then (λ o. option_map (λ q. (o.0, q)) (put_offset-same o.1 (without_offset_sign r) i)) (offset_text kind b)
 
-  behind_time-same : (kind : ExtendedKind) (b : List ℕ) (r : Record) → behind_time Y kind b r ≡ behind_time Z kind b r
-  unfolding behind_time
-  behind_time-same kind b r = ap (λ o. unwrap_or o (b, r)) (offset_over-same kind b r)
+  after_time-same : (kind : ExtendedKind) (b : List ℕ) (r : Record) → after_time Y kind b r ≡ after_time Z kind b r
+  unfolding after_time
+  after_time-same kind b r = ap (λ o. unwrap_or o (b, r)) (offset_over-same kind b r)
 
-  behind_date-same : (d : Found Record) (t : Option (Found Record)) → behind_date Y d t ≡ behind_date Z d t
-  behind_date-same d (Some t) = behind_time-same t.kind t.rest t.value
-  behind_date-same d None = refl
+  after_date-same : (d : Found Record) (t : Option (Found Record)) → after_date Y d t ≡ after_date Z d t
+  after_date-same d (Some t) = after_time-same t.kind t.rest t.value
+  after_date-same d None = refl
 
   without_date-same : (fault : Refusal) (b : List ℕ) (r : Record) (t : Option (Found Record)) → without_date Y fault b r t ≡ without_date Z fault b r t
-  without_date-same fault b r (Some t) = ap (λ x. Ok x) (behind_time-same t.kind t.rest t.value)
+  without_date-same fault b r (Some t) = ap (λ x. Ok x) (after_time-same t.kind t.rest t.value)
   without_date-same fault b r None = ap (λ o. need o fault (λ x. Ok x)) (offset_over-same Unknown b r)
 
   date_or_none-same : (b : List ℕ) (r : Record) (d : Result (Found Record) Refusal) → date_or_none Y b r d ≡ date_or_none Z b r d
   date_or_none-same b r (Ok d) =
       ap (λ x. Ok x)
-      (ap (behind_date Y d) (time_over-same true d.kind d.rest d.value) ∙ behind_date-same d (time_over Z true d.kind d.rest d.value))
+      (ap (after_date Y d) (time_over-same true d.kind d.rest d.value) ∙ after_date-same d (time_over Z true d.kind d.rest d.value))
   date_or_none-same b r (Err fault) =
       ap (without_date Y fault b r) (time_over-same false Unknown b r) ∙ without_date-same fault b r (time_over Z false Unknown b r)
 
@@ -237,23 +237,23 @@ module _ (Y : ℕ) where
   put_date-fault (ordinal y d) r out = rw out refl
   put_date-fault (week y w d) r out = rw out refl
 
-  -- behind a longer year no whole text is read as anything but a date
+  -- after a longer year no whole text is read as anything but a date
   no_offset : (b : List ℕ) (r q : Record) → HasLongYear b → offset_over Y Unknown b r ≡ Some ([], q) → ⊥
   unfolding offset_over
-  no_offset b r q (s, behind, is, long) h =
+  no_offset b r q (s, after, is, long) h =
       option_and_then_some (λ o. option_map (λ x. (o.0, x)) (put_all Y (offset_entries o.1) (without_offset_sign r)))
       (offset_text Unknown b) ([], q) h
       (λ o found put. option_map_some (λ x. (o.0, x)) (put_all Y (offset_entries o.1) (without_offset_sign r)) ([], q) put
       (λ p _ same.
-      let whole : offset_text Unknown (sign_byte s ∷ behind) ≡ Some ([], o.1) =
+      let whole : offset_text Unknown (sign_byte s ∷ after) ≡ Some ([], o.1) =
       ap (offset_text Unknown) (sym is) ∙ found ∙ ap (λ x. Some (x, o.1)) (ap (λ z. z.0) same) in
-      omega (arith, offset-length s behind o.1 whole, long)))
+      omega (arith, offset-length s after o.1 whole, long)))
 
   no_time_over : (b : List ℕ) (r : Record) → HasLongYear b → time_over Y false Unknown b r ≡ None
   unfolding time_over
-  no_time_over b r (s, behind, is, long) =
+  no_time_over b r (s, after, is, long) =
       ap (option_and_then (λ t. option_map (with_value t) (put_all Y (time_entries t.value) r)))
-      (ap (time_text false Unknown) is ∙ no_time s behind)
+      (ap (time_text false Unknown) is ∙ no_time s after)
 
   no_other : (fault : Refusal) (b : List ℕ) (r q : Record) → HasLongYear b
       → without_date Y fault b r (time_over Y false Unknown b r) ≡ Ok ([], q) → ⊥

@@ -28,7 +28,7 @@ use Rattle.time_readers.specs.declared.direct.Said.{Said}
 use Rattle.time_readers.proofs.Made.{minute_stands}
 use Rattle.time_parsing.specs.Canonical.{is_behind, offset_sign, canonical_text, HasCanonicalText, ReadsBack}
 use Rattle.time_parsing.specs.Outcome.{direct}
-use Rattle.time_parsing.specs.RecordedRfc3339.{direct-value}
+use Rattle.time_parsing.specs.exact.RecordedRfc3339.{direct-value}
 use Rattle.time_parsing.specs.Rfc3339.{Reads, Refuses}
 use Rattle.time_parsing.proofs.CanonicalForm.{numbers_of, canonical_form}
 

@@ -7,9 +7,9 @@ use Rattle.time_readers.specs.IsoTimes.{time_text}
 use Rattle.time_readers.specs.IsoOffsets.{offset_text}
 use Rattle.time_readers.specs.declared.iso8601.ExtendedKind.{ExtendedKind}
 use Rattle.time_readers.specs.declared.iso8601.ExtendedKind.TheVariants.{Unknown}
-use Rattle.time_readers.specs.declared.iso8601.times.TimeNumbers.{TimeNumbers}
-use Rattle.time_readers.specs.declared.iso8601.offsets.OffsetNumbers.{OffsetNumbers}
-use Rattle.time_readers.specs.declared.iso8601.offsets.OffsetNumbers.TheVariants.{Zulu, Numeric}
+use Rattle.time_readers.specs.declared.iso8601.TimeNumbers.{TimeNumbers}
+use Rattle.time_readers.specs.declared.iso8601.OffsetNumbers.{OffsetNumbers}
+use Rattle.time_readers.specs.declared.iso8601.OffsetNumbers.TheVariants.{Zulu, Numeric}
 use Rattle.time_record.specs.Record.{Record, Entry, put, put_all, year_is, iso_year_is, month_is, iso_week_number_is, weekday_is, ordinal_is, day_is, hour_24_is, minute_is, second_is, subsecond_is, offset_hour_is, offset_minute_is, offset_second_is}
 use Rattle.time_parsing.specs.Outcome.{Reading, Refusing}
 use Rattle.time_parsing.specs.Rfc3339.{without_offset_sign, with_leap_second}
@@ -41,7 +41,7 @@ abbrev pub result_and_then : {A B : Type 0} → (A → Result B Refusal) → Res
 result_and_then f (Err e) = Err e
 result_and_then f (Ok a) = f a
 
--- the rest and the kind behind a part, with another value
+-- the rest and the kind after a part, with another value
 abbrev pub with_value : {V W : Type 0} → Found V → W → Found W
 with_value f value = record { rest = f.rest; value = value; kind = f.kind }
 
@@ -62,27 +62,27 @@ offset_over Y kind bytes r =
     option_and_then (λ o. option_map (λ q. (o.0, q)) (put_all Y (offset_entries o.1) (without_offset_sign r)))
     (offset_text kind bytes)
 
--- behind a time: an offset, or nothing
-unfoldable pub behind_time : ℕ → ExtendedKind → List ℕ → Record → List ℕ × Record
-behind_time Y kind bytes r = unwrap_or (offset_over Y kind bytes r) (bytes, r)
+-- after a time: an offset, or nothing
+unfoldable pub after_time : ℕ → ExtendedKind → List ℕ → Record → List ℕ × Record
+after_time Y kind bytes r = unwrap_or (offset_over Y kind bytes r) (bytes, r)
 
--- behind a date: a time and what stands behind it, or nothing, and so no offset
-abbrev pub behind_date : ℕ → Found Record → Option (Found Record) → List ℕ × Record
-behind_date Y d (Some t) = behind_time Y t.kind t.rest t.value
-behind_date Y d None = (d.rest, d.value)
+-- after a date: a time and what stands after it, or nothing, and so no offset
+abbrev pub after_date : ℕ → Found Record → Option (Found Record) → List ℕ × Record
+after_date Y d (Some t) = after_time Y t.kind t.rest t.value
+after_date Y d None = (d.rest, d.value)
 
--- without a date, whose fault is given: a time and what stands behind it, or an offset, or else the fault
+-- without a date, whose fault is given: a time and what stands after it, or an offset, or else the fault
 abbrev pub without_date : ℕ → Refusal → List ℕ → Record → Option (Found Record) → Result (List ℕ × Record) Refusal
-without_date Y fault bytes r (Some t) = Ok (behind_time Y t.kind t.rest t.value)
+without_date Y fault bytes r (Some t) = Ok (after_time Y t.kind t.rest t.value)
 without_date Y fault bytes r None = need (offset_over Y Unknown bytes r) fault (λ o. Ok o)
 
--- the text with a date, behind which a time needs its `T`, or without one
+-- the text with a date, after which a time needs its `T`, or without one
 abbrev pub date_or_none : ℕ → List ℕ → Record → Result (Found Record) Refusal → Result (List ℕ × Record) Refusal
-date_or_none Y bytes r (Ok d) = Ok (behind_date Y d (time_over Y true d.kind d.rest d.value))
+date_or_none Y bytes r (Ok d) = Ok (after_date Y d (time_over Y true d.kind d.rest d.value))
 date_or_none Y bytes r (Err fault) = without_date Y fault bytes r (time_over Y false Unknown bytes r)
 
 -- A front of the bytes, which is a date or nothing, a time or nothing and an offset or nothing, and at least one of
--- them: the bytes behind it, and the record with what they say; or the fault of the date.
+-- them: the bytes after it, and the record with what they say; or the fault of the date.
 unfoldable pub reading : ℕ → List ℕ → Record → Result (List ℕ × Record) Refusal
 reading Y bytes r = date_or_none Y bytes r (date_over Y bytes r)
 

@@ -5,7 +5,7 @@ ghost use Rattle.time_readers.specs.Shape.{borrowed_shape, owned_shape, v3_shape
 ghost use Rattle.time_readers.specs.Tree.{sequence, trees};
 ghost use Rattle.time_record.specs.Reading.{Reads, Refuses};
 ghost use Rattle.time_parsing.specs.Outcome.{over_record};
-ghost use Rattle.time_parsing.specs.DescriptionLaws.{tree_exact};
+ghost use Rattle.time_parsing.specs.exact.DescriptionLaws.{tree_exact};
 ghost use Rattle.time_parsing.specs.Outcome.{ParsesInto};
 
 use crate::Parsable;

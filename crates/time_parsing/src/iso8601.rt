@@ -1,41 +1,39 @@
-//! The format of ISO 8601.
-ghost use Rattle.std.specs.Prelude.{◌≡◌, [], MatchOption, MatchResult, IfSome, Some, None, false, true, Ok, Err};
-ghost use Rattle.time_values.specs.Moments.{plain_date, plain_time};
+//! The format of ISO 8601, read over a record.
+//!
+//! `fast` makes a date and time, or a moment, of the numbers of a whole text, with no record, and is asked first where
+//! there are no defaults: what it doesn't answer is read over the record.
+ghost use Rattle.std.specs.Prelude.{◌≡◌, MatchOption, MatchResult, Some, None, false, true, Ok, Err};
 ghost use Rattle.time_values.specs.Range.{greatest_year};
 ghost use Rattle.time_values.specs.Refusal.{refusal_of_description};
 ghost use Rattle.time_readers.specs.IsoDates.{iso_date};
-ghost use Rattle.time_readers.specs.IsoDatesAndTimes.{GivesDateAndTime};
-ghost use Rattle.time_readers.specs.IsoOffsets.{offset_text};
 ghost use Rattle.time_readers.specs.declared.iso8601.ExtendedKind.TheVariants.{Unknown};
-ghost use Rattle.time_readers.specs.declared.iso8601.offsets.OffsetNumbers.{OffsetNumbers as OffsetNumbers_};
-ghost use Rattle.time_record.specs.Record.{empty, put_all};
-ghost use Rattle.time_record.specs.Resolution.{IsMoment, IsPlain};
+ghost use Rattle.time_record.specs.Record.{put_all};
 ghost use Rattle.time_parsing.specs.Iso8601 as spec;
-ghost use Rattle.time_parsing.specs.IsoValues.{date_said, time_said, IsOffsetSaid};
-ghost use Rattle.time_parsing.specs.Outcome.{over_record, IsOutcome};
+ghost use Rattle.time_parsing.specs.Outcome.{over_record};
 ghost use Rattle.time_parsing.specs.Rfc3339.{without_offset_sign};
+
+mod fast;
 
 use crate::Parsable;
 use crate::parsable::{begin, moment_before, value_before};
 use time_readers::iso8601::{
-    DateAndTime, DateNumbers, ExtendedKind, OffsetNumbers, TimeNumbers, date, date_and_time,
-    offset, time,
+    DateNumbers, ExtendedKind, OffsetNumbers, TimeNumbers, date, offset, time,
 };
 use time_record::Parsed;
 use time_values::error::{Parse, ParseFromDescription};
-use time_values::{Date, OffsetDateTime, PlainDateTime, Time, UtcOffset};
+use time_values::{OffsetDateTime, PlainDateTime};
 
 /// The format of ISO 8601, as `2021-01-02T03:04:05Z` or `20210102T030405Z`.
 ///
 /// A text is a date or nothing, a time or nothing, and an offset or nothing, and at least one of them. A date
 /// is of the calendar, as `2021-01-02`, by the day of the year, as `2021-002`, or by the week, as `2020-W53-6`.
 /// A time has an hour, and may have a minute and a second; the last of them may have a fraction of any number
-/// of digits, behind `.` or `,`, and what is left out is 0. Behind a date it needs its `T`. A leap second may
+/// of digits, after `.` or `,`, and what is left out is 0. After a date it needs its `T`. A leap second may
 /// stand in it. An offset is `Z`, or an hour with a sign, as `-05`, which may have a minute; such an offset
-/// leaves the second of the defaults. Behind a date an offset needs a time before it.
+/// leaves the second of the defaults. After a date an offset needs a time before it.
 ///
 /// A text is basic, without separators, or extended, with them. The first part that shows which of them settles
-/// it for those behind: in a basic text no colon is read, and in an extended one the colon before a minute may
+/// it for those after it: in a basic text no colon is read, and in an extended one the colon before a minute may
 /// still be left out. A part that can't be read settles nothing, and puts nothing.
 ///
 /// Where none of the three can be read the refusal is the date's: an invalid component `year`, `month`, `day`,
@@ -136,7 +134,7 @@ fn put_offset(numbers: OffsetNumbers, parsed: &mut Parsed) -> Option<()>
     Some(())
 }
 
-// Reads a date over the record, and answers the rest and the kind behind it.
+// Reads a date over the record, and answers the rest and the kind after it.
 #[inline(always)]
 fn date_over<'a>(
     input: &'a [u8],
@@ -157,7 +155,7 @@ fn date_over<'a>(
     }
 }
 
-// Reads a time of that kind over the record, and answers the rest and the kind behind it.
+// Reads a time of that kind over the record, and answers the rest and the kind after it.
 #[inline(always)]
 fn time_over<'a>(
     input: &'a [u8],
@@ -195,10 +193,10 @@ fn offset_over<'a>(input: &'a [u8], parsed: &mut Parsed, kind: ExtendedKind) -> 
     }
 }
 
-// Reads an offset behind a time, or nothing, and answers the rest.
+// Reads an offset after a time, or nothing, and answers the rest.
 #[inline(always)]
-fn behind_time<'a>(input: &'a [u8], parsed: &mut Parsed, kind: ExtendedKind) -> &'a [u8]
-    ensures { spec.behind_time greatest_year kind input.now parsed.old ≡ (result.now, parsed.new) }
+fn after_time<'a>(input: &'a [u8], parsed: &mut Parsed, kind: ExtendedKind) -> &'a [u8]
+    ensures { spec.after_time greatest_year kind input.now parsed.old ≡ (result.now, parsed.new) }
 {
     match offset_over(input, parsed, kind) {
         Some(rest) => rest,
@@ -220,7 +218,7 @@ fn without_date<'a>(
         (spec.time_over greatest_year false Unknown input.now parsed.old) ≡ Err (refusal_of_description e)) }
 {
     if let Some(time) = time_over(input, parsed, ExtendedKind::Unknown, false) {
-        return Ok(behind_time(time.0, parsed, time.1));
+        return Ok(after_time(time.0, parsed, time.1));
     }
     match offset_over(input, parsed, ExtendedKind::Unknown) {
         Some(rest) => Ok(rest),
@@ -237,91 +235,11 @@ fn read<'a>(input: &'a [u8], parsed: &mut Parsed) -> Result<&'a [u8], ParseFromD
 {
     match date_over(input, parsed) {
         Ok(date) => match time_over(date.0, parsed, date.1, true) {
-            Some(time) => Ok(behind_time(time.0, parsed, time.1)),
+            Some(time) => Ok(after_time(time.0, parsed, time.1)),
             None => Ok(date.0),
         },
         Err(fault) => without_date(input, parsed, fault),
     }
-}
-
-// The date and time of these numbers, unless they say no date of the calendar or a leap second. `None` says nothing.
-#[inline(always)]
-fn plain_of(date: DateNumbers, time: TimeNumbers) -> Option<PlainDateTime>
-    ensures { IfSome result (λ p. (iso_date date ≡ date_said (plain_date p)) × (time ≡ time_said (plain_time p))) }
-{
-    let DateNumbers::Calendar(year, month, day) = date else {
-        return None;
-    };
-    let date = Date::from_calendar_date(year, month, day.get());
-    let time = Time::from_hms_nano(time.hour, time.minute, time.second, time.subsecond);
-    match (date, time) {
-        (Ok(date), Ok(time)) => Some(PlainDateTime::new(date, time)),
-        _ => None,
-    }
-}
-
-// The offset of these numbers. `None` says nothing.
-#[inline(always)]
-fn offset_of(numbers: OffsetNumbers) -> Option<UtcOffset>
-    ensures { IfSome result (IsOffsetSaid numbers) }
-{
-    match numbers {
-        OffsetNumbers::Zulu => Some(UtcOffset::UTC),
-        OffsetNumbers::Numeric(hour, minute) => UtcOffset::from_hms(hour, minute, 0).ok(),
-    }
-}
-
-// The date and the time of a text that looks as if it began with a date of the calendar, whose year has four digits,
-// and a time. `None` says nothing, and is answered of other dates before they are read.
-#[inline(always)]
-fn usual_parts(input: &[u8]) -> Option<DateAndTime<'_>>
-    ensures { IfSome result (λ p. GivesDateAndTime input.now (Ok p)) }
-{
-    match input {
-        [_, _, _, _, b'-', _, _, b'-', _, _, b'T', ..]
-        | [_, _, _, _, b'0'..=b'1', _, _, _, b'T', ..] => date_and_time(input).ok(),
-        _ => None,
-    }
-}
-
-// The offset that is all of the bytes. `None` says nothing.
-#[inline(always)]
-fn whole_offset(input: &[u8], kind: ExtendedKind) -> Option<UtcOffset>
-    ensures { IfSome result (λ o. (n : OffsetNumbers_) × (offset_text kind input.now ≡ Some ([], n)) × IsOffsetSaid n o) }
-{
-    let found = offset(input, kind)?;
-    if !found.0.is_empty() {
-        return None;
-    }
-    offset_of(found.1)
-}
-
-// The date and time of a whole text, behind which an offset may stand. `None` says nothing.
-#[inline(always)]
-fn whole_plain(input: &[u8]) -> Option<PlainDateTime>
-    ensures { IfSome result (λ p. IsOutcome (IsPlain greatest_year) (spec.Reads greatest_year)
-        (spec.Refuses greatest_year) input.now empty (Ok p)) }
-{
-    let found = usual_parts(input)?;
-    let time = found.time?;
-    let plain = plain_of(found.date.value, time.value)?;
-    if !time.rest.is_empty() {
-        whole_offset(time.rest, time.kind)?;
-    }
-    Some(plain)
-}
-
-// The moment of a whole text. `None` says nothing.
-#[inline(always)]
-fn whole_moment(input: &[u8]) -> Option<OffsetDateTime>
-    ensures { IfSome result (λ v. IsOutcome (IsMoment greatest_year) (spec.Reads greatest_year)
-        (spec.Refuses greatest_year) input.now empty (Ok v)) }
-{
-    let found = usual_parts(input)?;
-    let time = found.time?;
-    let offset = whole_offset(time.rest, time.kind)?;
-    let plain = plain_of(found.date.value, time.value)?;
-    Some(OffsetDateTime::new_in_offset(plain.date(), plain.time(), offset))
 }
 
 impl Parsable for Iso8601 {
@@ -353,7 +271,7 @@ impl Parsable for Iso8601 {
         defaults: Option<Parsed>,
     ) -> Result<PlainDateTime, Parse> {
         if defaults.is_none() {
-            if let Some(plain) = whole_plain(input) {
+            if let Some(plain) = fast::date_time(input) {
                 return Ok(plain);
             }
         }
@@ -369,7 +287,7 @@ impl Parsable for Iso8601 {
         defaults: Option<Parsed>,
     ) -> Result<OffsetDateTime, Parse> {
         if defaults.is_none() {
-            if let Some(moment) = whole_moment(input) {
+            if let Some(moment) = fast::moment(input) {
                 return Ok(moment);
             }
         }
@@ -378,7 +296,7 @@ impl Parsable for Iso8601 {
         Ok(moment_before(rest, &parsed)?)
     }
 
-    ghost use Rattle.time_parsing.specs.Iso8601Laws.{iso8601_exact};
+    ghost use Rattle.time_parsing.specs.exact.Iso8601Laws.{iso8601_exact};
 
     ghost exact = { λ _. iso8601_exact greatest_year };
 

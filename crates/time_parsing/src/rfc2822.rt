@@ -120,11 +120,11 @@ impl Parsable for Rfc2822 {
         }
     }
 
-    ghost use Rattle.time_parsing.specs.Rfc2822Laws.{rfc2822_exact};
+    ghost use Rattle.time_parsing.specs.exact.Rfc2822Laws.{rfc2822_exact};
 
     ghost exact = { λ _. rfc2822_exact greatest_year };
 
-    ghost use Rattle.time_parsing.specs.DirectLaws.{rfc2822_exact_path};
+    ghost use Rattle.time_parsing.specs.exact.DirectLaws.{rfc2822_exact_path};
 
     ghost exact_path = { λ _. rfc2822_exact_path };
 }

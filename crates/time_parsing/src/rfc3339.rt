@@ -147,11 +147,11 @@ impl Parsable for Rfc3339 {
         }
     }
 
-    ghost use Rattle.time_parsing.specs.Rfc3339Laws.{rfc3339_exact};
+    ghost use Rattle.time_parsing.specs.exact.Rfc3339Laws.{rfc3339_exact};
 
     ghost exact = { λ _. rfc3339_exact greatest_year };
 
-    ghost use Rattle.time_parsing.specs.DirectLaws.{rfc3339_exact_path};
+    ghost use Rattle.time_parsing.specs.exact.DirectLaws.{rfc3339_exact_path};
 
     ghost exact_path = { λ _. rfc3339_exact_path };
 }

@@ -9,7 +9,7 @@ use Rattle.time_readers.specs.Bytes.{IsSign, sign_byte}
 use Rattle.time_readers.specs.Cuts.{Cut}
 use Rattle.time_readers.specs.Digits.{AllDigits, digits_value, NoDigitFirst, IsDigitRun}
 use Rattle.time_readers.specs.IsoCuts.{IsYear, IsSaid, IsPoint, NoPointFirst, IsNumber}
-use Rattle.time_readers.specs.IsoPieces.{is_digit, all_digits, digits, leading_digits, byte, point, Number, plain, fraction, behind_point, behind_whole, number, digits_saying, sign, with_sign, year_behind, year, month, weekday, positive, up_to, numbered, months, weekdays, not_zero, at_most}
+use Rattle.time_readers.specs.IsoPieces.{is_digit, all_digits, digits, leading_digits, byte, point, Number, plain, fraction, after_point, after_whole, number, digits_saying, sign, with_sign, year_after, year, month, weekday, positive, up_to, numbered, months, weekdays, not_zero, at_most}
 use Rattle.time_readers.specs.Laws.{IsoPiecesAreCuts}
 use Rattle.time_readers.specs.Spelling.{IsSigned}
 use Rattle.time_readers.specs.declared.Padding.TheVariants as padding
@@ -87,10 +87,10 @@ number-found s rest (fraction v (d ∷ ds)) cut =
     rw (whole, point-some f.mark ((d ∷ ds) ++ rest) f.is_point, front, back) refl
 
 -- what a function found is a cut
-leading-behind : (s : List ℕ) → s ≡ leading_digits s ++ drop (length (leading_digits s)) s
-leading-behind [] = refl
-leading-behind (c ∷ s) = elim (cases_Bool (is_digit c)) [
-  | inl e ↦ rw e (ap (λ r. c ∷ r) (leading-behind s))
+leading-after : (s : List ℕ) → s ≡ leading_digits s ++ drop (length (leading_digits s)) s
+leading-after [] = refl
+leading-after (c ∷ s) = elim (cases_Bool (is_digit c)) [
+  | inl e ↦ rw e (ap (λ r. c ∷ r) (leading-after s))
   | inr e ↦ rw e refl
 ]
 
@@ -101,14 +101,14 @@ leading-ends (c ∷ s) = elim (cases_Bool (is_digit c)) [
   | inr e ↦ rw e (λ d. both_ways (is_digit c) e (is_digit-true c d))
 ]
 
-point-tells : (s behind : List ℕ) → point s ≡ Some behind → (c : ℕ) × IsPoint c × (s ≡ c ∷ behind)
+point-tells : (s after : List ℕ) → point s ≡ Some after → (c : ℕ) × IsPoint c × (s ≡ c ∷ after)
 unfolding point byte
-point-tells [] behind e = absurd (none-some behind e)
-point-tells (c ∷ s) behind e = elim (cases_Bool (nat_eq c 46)) [
-  | inl f ↦ let same = same_Some s behind (rw f at e) in (c, inl (eqb-true c 46 f), ap (λ r. c ∷ r) same)
+point-tells [] after e = absurd (none-some after e)
+point-tells (c ∷ s) after e = elim (cases_Bool (nat_eq c 46)) [
+  | inl f ↦ let same = same_Some s after (rw f at e) in (c, inl (eqb-true c 46 f), ap (λ r. c ∷ r) same)
   | inr f ↦ elim (cases_Bool (nat_eq c 44)) [
-    | inl g ↦ let same = same_Some s behind (rw (f, g) at e) in (c, inr (eqb-true c 44 g), ap (λ r. c ∷ r) same)
-    | inr g ↦ absurd (none-some behind (rw (f, g) at e))
+    | inl g ↦ let same = same_Some s after (rw (f, g) at e) in (c, inr (eqb-true c 44 g), ap (λ r. c ∷ r) same)
+    | inr g ↦ absurd (none-some after (rw (f, g) at e))
   ]
 ]
 
@@ -116,46 +116,46 @@ no_point-tells : (s : List ℕ) → point s ≡ None → NoPointFirst s
 no_point-tells [] e = tt
 no_point-tells (c ∷ s) e = λ p. none-some s (sym e ∙ point-some c s p)
 
-digits-behind : (s mid behind rest : List ℕ) (v : ℕ) (n : Number) (ds : List ℕ) → Cut (IsDigitRun 2 2) s mid v
-    → (c : ℕ) × IsPoint c × (mid ≡ c ∷ behind) → leading_digits behind ≡ ds → behind_point v ds behind ≡ Some (rest, n)
+digits-after : (s mid after rest : List ℕ) (v : ℕ) (n : Number) (ds : List ℕ) → Cut (IsDigitRun 2 2) s mid v
+    → (c : ℕ) × IsPoint c × (mid ≡ c ∷ after) → leading_digits after ≡ ds → after_point v ds after ≡ Some (rest, n)
     → Cut IsNumber s rest n
-digits-behind s mid behind rest v n [] run mark leads e = absurd (none-some (rest, n) e)
-digits-behind s mid behind rest v n (d ∷ ds) run mark leads e =
-    let is = some_pair_parts (drop (length (d ∷ ds)) behind) rest (fraction v (d ∷ ds)) n e in
-    let back : behind ≡ (d ∷ ds) ++ rest =
-    leading-behind behind ∙ ap (λ l. l ++ drop (length l) behind) leads ∙ ap (λ r. (d ∷ ds) ++ r) is.0 in
-    let after : mid ≡ mark.0 ∷ ((d ∷ ds) ++ rest) = mark.2 ∙ ap (λ r. mark.0 ∷ r) back in
+digits-after s mid after rest v n [] run mark leads e = absurd (none-some (rest, n) e)
+digits-after s mid after rest v n (d ∷ ds) run mark leads e =
+    let is = some_pair_parts (drop (length (d ∷ ds)) after) rest (fraction v (d ∷ ds)) n e in
+    let back : after ≡ (d ∷ ds) ++ rest =
+    leading-after after ∙ ap (λ l. l ++ drop (length l) after) leads ∙ ap (λ r. (d ∷ ds) ++ r) is.0 in
+    let marked : mid ≡ mark.0 ∷ ((d ∷ ds) ++ rest) = mark.2 ∙ ap (λ r. mark.0 ∷ r) back in
     let ends : NoDigitFirst rest =
-    subst NoDigitFirst is.0 (subst (λ l. NoDigitFirst (drop (length l) behind)) leads (leading-ends behind)) in
+    subst NoDigitFirst is.0 (subst (λ l. NoDigitFirst (drop (length l) after)) leads (leading-ends after)) in
     subst (λ m. Cut IsNumber s rest m) is.1 (
       run.0 ++ mark.0 ∷ (d ∷ ds),
-      run.1 ∙ ap (λ r. run.0 ++ r) after ∙ sym (append_assoc run.0 (mark.0 ∷ (d ∷ ds)) rest),
+      run.1 ∙ ap (λ r. run.0 ++ r) marked ∙ sym (append_assoc run.0 (mark.0 ∷ (d ∷ ds)) rest),
       record {
         whole = run.0;
         mark = mark.0;
         cut = refl;
-        run = subst (λ r. IsDigitRun 2 2 run.0 r v) after run.2;
+        run = subst (λ r. IsDigitRun 2 2 run.0 r v) marked run.2;
         is_point = mark.1;
-        all = subst AllDigits leads (leading-all behind);
+        all = subst AllDigits leads (leading-all after);
         some = omega arith;
         ends = ends;
       },
     )
 
-whole-behind : (s mid rest : List ℕ) (v : ℕ) (n : Number) (p : Option (List ℕ)) → Cut (IsDigitRun 2 2) s mid v
-    → point mid ≡ p → behind_whole v mid p ≡ Some (rest, n) → Cut IsNumber s rest n
-whole-behind s mid rest v n None run none e =
+whole-after : (s mid rest : List ℕ) (v : ℕ) (n : Number) (p : Option (List ℕ)) → Cut (IsDigitRun 2 2) s mid v
+    → point mid ≡ p → after_whole v mid p ≡ Some (rest, n) → Cut IsNumber s rest n
+whole-after s mid rest v n None run none e =
     let is = some_pair_parts mid rest (plain v) n e in
     subst (λ m. Cut IsNumber s rest m) is.1
     (subst (λ r. Cut IsNumber s r (plain v)) is.0 (run.0, run.1, (run.2, no_point-tells mid none)))
-whole-behind s mid rest v n (Some behind) run mark e =
-    digits-behind s mid behind rest v n (leading_digits behind) run (point-tells mid behind mark) refl e
+whole-after s mid rest v n (Some after) run mark e =
+    digits-after s mid after rest v n (leading_digits after) run (point-tells mid after mark) refl e
 
 pub number-tells : (s rest : List ℕ) (n : Number) → number s ≡ Some (rest, n) → Cut IsNumber s rest n
 unfolding number
 number-tells s rest n e =
-    option_and_then_some (λ f. behind_whole f.1 f.0 (point f.0)) (digits 2 s) (rest, n) e
-    (λ x d h. whole-behind s x.0 rest x.1 n (point x.0) (digits-tells 2 s x.0 x.1 d) refl h)
+    option_and_then_some (λ f. after_whole f.1 f.0 (point f.0)) (digits 2 s) (rest, n) e
+    (λ x d h. whole-after s x.0 rest x.1 n (point x.0) (digits-tells 2 s x.0 x.1 d) refl h)
 
 -- so many digits, whose number says something
 said_by : {A : Type 0} (n : ℕ) (says : ℕ → Option A) (s mid rest : List ℕ) (v : ℕ) (a : A) (o : Option A)
@@ -218,7 +218,7 @@ year_signed s mid rest sg v (Some f) first d e =
     subst (λ r. Cut IsYear s r v) same.0 (cut.0, cut.1, ((sg, f.1), sym same.1, cut.2))
 
 year_by : (s rest : List ℕ) (v : ℤ) (o : Option (List ℕ × Sign))
-    → sign s ≡ o → year_behind s o ≡ Some (rest, v) → Cut IsYear s rest v
+    → sign s ≡ o → year_after s o ≡ Some (rest, v) → Cut IsYear s rest v
 year_by s rest v None d e = year_alone s rest v (digits 4 s) refl e
 year_by s rest v (Some f) d e =
     year_signed s f.0 rest f.1 v (digits 6 f.0) (sign-tells s f.0 f.1 d) refl e

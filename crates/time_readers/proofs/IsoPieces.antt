@@ -19,7 +19,7 @@ use Rattle.time_readers.specs.declared.Sign.{Sign}
 use Rattle.time_readers.specs.declared.Sign.TheVariants.{Negative, Positive}
 use Rattle.time_readers.specs.Bytes.{IsByte, IsSign}
 use Rattle.time_readers.specs.Digits.{IsDigit, AllDigits, digits_value, NoDigitFirst, IsDigitRun}
-use Rattle.time_readers.specs.IsoPieces.{is_digit, all_digits, digits, leading_digits, byte, point, plain, fraction, behind_point, number, sign, months, numbered}
+use Rattle.time_readers.specs.IsoPieces.{is_digit, all_digits, digits, leading_digits, byte, point, plain, fraction, after_point, number, sign, months, numbered}
 use Rattle.time_readers.specs.IsoAnswers.{Gives}
 use Rattle.time_readers.specs.IsoFractions.{round_of}
 use Rattle.time_readers.proofs.IsoFractions.{round_whole}
@@ -119,26 +119,26 @@ unfolding number
 number-plain s mid whole e p = rw (e, p) refl
 
 -- a point without a digit
-pub number-no_digit : (s mid behind : List ℕ) (whole count : ℕ) → digits 2 s ≡ Some (mid, whole) → point mid ≡ Some behind
-    → leading_digits behind ≡ take count behind → count ≡ 0 → number s ≡ None
+pub number-no_digit : (s mid after : List ℕ) (whole count : ℕ) → digits 2 s ≡ Some (mid, whole) → point mid ≡ Some after
+    → leading_digits after ≡ take count after → count ≡ 0 → number s ≡ None
 unfolding number
-number-no_digit s mid behind whole count e p leads nothing = rw (e, p, leads, nothing) refl
+number-no_digit s mid after whole count e p leads nothing = rw (e, p, leads, nothing) refl
 
-split_digits : (behind : List ℕ) (whole count : ℕ) → leading_digits behind ≡ take count behind → 1 ≤ count → count ≤ length behind
-    → behind_point whole (leading_digits behind) behind ≡ Some
-    (take (length behind - count) (drop count behind), fraction whole (take count behind))
-split_digits behind whole zero leads some h = absurd (omega arith)
+split_digits : (after : List ℕ) (whole count : ℕ) → leading_digits after ≡ take count after → 1 ≤ count → count ≤ length after
+    → after_point whole (leading_digits after) after ≡ Some
+    (take (length after - count) (drop count after), fraction whole (take count after))
+split_digits after whole zero leads some h = absurd (omega arith)
 split_digits [] whole (suc count) leads some h = absurd (omega arith)
 split_digits (c ∷ cs) whole (suc count) leads some h =
     let long = length-take-le count cs (omega arith) in
     let rest = take-drop (c ∷ cs) (suc count) h in
     rw (leads, rest, long) refl
 
-pub number-fraction : (s mid behind : List ℕ) (whole count : ℕ) → digits 2 s ≡ Some (mid, whole) → point mid ≡ Some behind
-    → leading_digits behind ≡ take count behind → 1 ≤ count → count ≤ length behind
-    → number s ≡ Some (take (length behind - count) (drop count behind), fraction whole (take count behind))
+pub number-fraction : (s mid after : List ℕ) (whole count : ℕ) → digits 2 s ≡ Some (mid, whole) → point mid ≡ Some after
+    → leading_digits after ≡ take count after → 1 ≤ count → count ≤ length after
+    → number s ≡ Some (take (length after - count) (drop count after), fraction whole (take count after))
 unfolding number
-number-fraction s mid behind whole count e p leads some h = rw (e, p) (split_digits behind whole count leads some h)
+number-fraction s mid after whole count e p leads some h = rw (e, p) (split_digits after whole count leads some h)
 
 pub byte-first : (b : ℕ) (s rest : List ℕ) → byte b s ≡ Some rest → s ≡ b ∷ rest
 unfolding byte
@@ -217,21 +217,21 @@ none_counted s n e (inl one) = absurd (omega (arith, e, one))
 none_counted s n e (inr ends) = subst (λ k. NoDigitFirst (drop k s)) e ends
 
 -- a fraction of nine digits, which are nanoseconds
-pub number-nine : (s mid behind rest : List ℕ) (whole v : ℕ) → digits 2 s ≡ Some (mid, whole) → point mid ≡ Some behind
-    → Cut (IsDigitRun 9 9) behind rest v → (more : ℕ) → more ≡ 0 → (more ≡ 1) ⊎ NoDigitFirst (drop more rest)
+pub number-nine : (s mid after rest : List ℕ) (whole v : ℕ) → digits 2 s ≡ Some (mid, whole) → point mid ≡ Some after
+    → Cut (IsDigitRun 9 9) after rest v → (more : ℕ) → more ≡ 0 → (more ≡ 1) ⊎ NoDigitFirst (drop more rest)
     → (d : List ℕ) × (number s ≡ Some (rest, fraction whole d)) × (round_of d 1_000_000_000 ≡ v) × (v < 1_000_000_000)
-number-nine s mid behind rest whole v e p cut more nothing counted =
+number-nine s mid after rest whole v e p cut more nothing counted =
     let ends : NoDigitFirst rest = none_counted rest more nothing counted in
     let text = cut.0 in
     let run = cut.2 in
     let long : length text ≡ 9 = omega (arith, run.enough, run.within) in
-    let front : take 9 behind ≡ text = ap (take 9) cut.1 ∙ ap (λ k. take k (text ++ rest)) (sym long) ∙ take-append_seam text rest in
-    let back : drop 9 behind ≡ rest = ap (drop 9) cut.1 ∙ ap (λ k. drop k (text ++ rest)) (sym long) ∙ drop-append_seam text rest in
-    let room : 9 ≤ length behind = omega (arith, ap length cut.1, length-append text rest) in
-    let leads = leading-are 9 behind room (subst AllDigits (sym front) run.digits) (inr (subst NoDigitFirst (sym back) ends)) in
-    let is = number-fraction s mid behind whole 9 e p leads (omega arith) room in
-    let same : Some (take (length behind - 9) (drop 9 behind), fraction whole (take 9 behind)) ≡ Some (rest, fraction whole text) =
-    rw (take-drop behind 9 room, back, front) refl in
+    let front : take 9 after ≡ text = ap (take 9) cut.1 ∙ ap (λ k. take k (text ++ rest)) (sym long) ∙ take-append_seam text rest in
+    let back : drop 9 after ≡ rest = ap (drop 9) cut.1 ∙ ap (λ k. drop k (text ++ rest)) (sym long) ∙ drop-append_seam text rest in
+    let room : 9 ≤ length after = omega (arith, ap length cut.1, length-append text rest) in
+    let leads = leading-are 9 after room (subst AllDigits (sym front) run.digits) (inr (subst NoDigitFirst (sym back) ends)) in
+    let is = number-fraction s mid after whole 9 e p leads (omega arith) room in
+    let same : Some (take (length after - 9) (drop 9 after), fraction whole (take 9 after)) ≡ Some (rest, fraction whole text) =
+    rw (take-drop after 9 room, back, front) refl in
     let round = round_whole text 1_000_000_000 (ap (λ n. 10 ^ n) long) in
     (text, is ∙ same, sym round ∙ sym run.is, IsDigitRun-below 9 9 text rest v run)
 

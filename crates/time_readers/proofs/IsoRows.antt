@@ -4,7 +4,7 @@ use Rattle.std.specs.Prelude.{nat_le}
 use Rattle.time_readers.specs.Laws.{OneTimeRow}
 use Rattle.time_readers.specs.declared.iso8601.ExtendedKind.{ExtendedKind}
 use Rattle.time_readers.specs.declared.iso8601.ExtendedKind.TheVariants.{Basic, Extended, Unknown}
-use Rattle.time_readers.specs.declared.iso8601.times.TimeNumbers.{TimeNumbers}
+use Rattle.time_readers.specs.declared.iso8601.TimeNumbers.{TimeNumbers}
 use Rattle.std.proofs.lemmas.Bool.{true≢false, false≢true}
 use Rattle.time_readers.specs.IsoKinds.{not_basic, is_extended}
 use Rattle.time_readers.specs.IsoPieces.{Number, plain, fraction, number, byte}
@@ -15,7 +15,7 @@ use Rattle.time_readers.proofs.IsoPieces.{colon-no_number}
 abbrev One : ExtendedKind → List ℕ → Type 0
 One kind b = length (fitting time_rows kind b) ≤ 1
 
--- A whole hour of 0 to 23, and no colon behind it.
+-- A whole hour of 0 to 23, and no colon after it.
 module _ (b m : List ℕ) (h : ℕ) (hour : number b ≡ Some (m, plain h)) (small : nat_le h 23 ≡ true) (none : byte 58 m ≡ None) where
   -- a minute and a second without separators
   basic_second_row : (kind : ExtendedKind) (r q : List ℕ) (w : ℕ) (s : Number) (t : Option TimeNumbers) → is_extended kind ≡ false
@@ -72,7 +72,7 @@ module _ (b m : List ℕ) (h : ℕ) (hour : number b ≡ Some (m, plain h)) (sma
   minute_fraction_row Unknown r d w true n l = rw (hour, small, none, n, l) (omega arith)
   minute_fraction_row Unknown r d w false n l = rw (hour, small, none, n, l) (omega arith)
 
-  -- what stands behind the hour
+  -- what stands after the hour
   no_colon_row : (kind : ExtendedKind) (s : Option (List ℕ × Number)) → number m ≡ s → One kind b
   no_colon_row Basic None n = rw (hour, small, none, n) (omega arith)
   no_colon_row Extended None n = rw (hour, small, none, n) (omega arith)
@@ -80,7 +80,7 @@ module _ (b m : List ℕ) (h : ℕ) (hour : number b ≡ Some (m, plain h)) (sma
   no_colon_row kind (Some (r, plain w)) n = minute_row kind r w (nat_le w 59) n refl
   no_colon_row kind (Some (r, fraction w d)) n = minute_fraction_row kind r d w (nat_le w 59) n refl
 
--- A whole hour of 0 to 23, and a colon behind it.
+-- A whole hour of 0 to 23, and a colon after it.
 module _ (b m y : List ℕ) (h : ℕ) (hour : number b ≡ Some (m, plain h)) (small : nat_le h 23 ≡ true) (colon : byte 58 m ≡ Some y) where
   -- a minute, a colon and a second
   colon_second_row : (kind : ExtendedKind) (r x q : List ℕ) (w : ℕ) (s : Number) (t : Option TimeNumbers) → not_basic kind ≡ true
@@ -125,19 +125,19 @@ module _ (b m y : List ℕ) (h : ℕ) (hour : number b ≡ Some (m, plain h)) (s
   colon_fraction_row Unknown r d w true k n l = rw (hour, small, colon, colon-no_number m y colon, n, l) (omega arith)
   colon_fraction_row Unknown r d w false k n l = rw (hour, small, colon, colon-no_number m y colon, n, l) (omega arith)
 
-  -- what stands behind the colon
-  behind_colon_row : (kind : ExtendedKind) (s : Option (List ℕ × Number)) → not_basic kind ≡ true → number y ≡ s → One kind b
-  behind_colon_row kind (Some (r, plain w)) k n = colon_whole_row kind r w (nat_le w 59) k n refl
-  behind_colon_row kind (Some (r, fraction w d)) k n = colon_fraction_row kind r d w (nat_le w 59) k n refl
-  behind_colon_row Basic None k n = absurd (false≢true k)
-  behind_colon_row Extended None k n = rw (hour, small, colon, colon-no_number m y colon, n) (omega arith)
-  behind_colon_row Unknown None k n = rw (hour, small, colon, colon-no_number m y colon, n) (omega arith)
+  -- what stands after the colon
+  after_colon_row : (kind : ExtendedKind) (s : Option (List ℕ × Number)) → not_basic kind ≡ true → number y ≡ s → One kind b
+  after_colon_row kind (Some (r, plain w)) k n = colon_whole_row kind r w (nat_le w 59) k n refl
+  after_colon_row kind (Some (r, fraction w d)) k n = colon_fraction_row kind r d w (nat_le w 59) k n refl
+  after_colon_row Basic None k n = absurd (false≢true k)
+  after_colon_row Extended None k n = rw (hour, small, colon, colon-no_number m y colon, n) (omega arith)
+  after_colon_row Unknown None k n = rw (hour, small, colon, colon-no_number m y colon, n) (omega arith)
 
   -- in a text that may be extended, or not
   colon_row : (kind : ExtendedKind) → One kind b
   colon_row Basic = rw (hour, small, colon, colon-no_number m y colon) (omega arith)
-  colon_row Extended = behind_colon_row Extended (number y) refl refl
-  colon_row Unknown = behind_colon_row Unknown (number y) refl refl
+  colon_row Extended = after_colon_row Extended (number y) refl refl
+  colon_row Unknown = after_colon_row Unknown (number y) refl refl
 
 -- a whole hour of 0 to 23
 hour_row : (kind : ExtendedKind) (b m : List ℕ) (h : ℕ) (c : Option (List ℕ)) → number b ≡ Some (m, plain h) → nat_le h 23 ≡ true

@@ -5,12 +5,12 @@ use Rattle.std.specs.Prelude.{option_and_then}
 use Rattle.std.proofs.lemmas.Bool.{le-leb, lt-leb, true≢false, false≢true}
 use Rattle.time_readers.specs.declared.iso8601.ExtendedKind.{ExtendedKind}
 use Rattle.time_readers.specs.declared.iso8601.ExtendedKind.TheVariants.{Basic, Extended, Unknown}
-use Rattle.time_readers.specs.declared.iso8601.times.TimeNumbers.{TimeNumbers}
+use Rattle.time_readers.specs.declared.iso8601.TimeNumbers.{TimeNumbers}
 use Rattle.time_readers.specs.IsoAnswers.{Found, number_of}
 use Rattle.time_readers.specs.IsoFractions.{floor_of}
 use Rattle.time_readers.specs.IsoKinds.{not_basic, is_extended, basic_where_unknown}
 use Rattle.time_readers.specs.IsoPieces.{Number, plain, fraction, number, byte}
-use Rattle.time_readers.specs.IsoTimes.{time_behind, says, any_second, past_hour, past_minute, hour_and_minute, second_found, basic_second, extended_second}
+use Rattle.time_readers.specs.IsoTimes.{time_after, says, any_second, past_hour, past_minute, hour_and_minute, second_found, basic_second, extended_second}
 use Rattle.time_readers.proofs.IsoPieces.{colon-no_number}
 
 -- that text, and what follows it
@@ -27,16 +27,16 @@ pub number_and_fraction : (s rest : List ℕ) (v : ℕ) (f : Option (Bor (List �
 number_and_fraction s rest v f d n e = n ∙ ap (λ (g : Option (Bor (List ℕ))). Some (rest, number_of v g)) e
 
 -- no number
-pub no_hour : (kind : ExtendedKind) (b : List ℕ) → number b ≡ None → time_behind kind b ≡ None
-unfolding time_behind
+pub no_hour : (kind : ExtendedKind) (b : List ℕ) → number b ≡ None → time_after kind b ≡ None
+unfolding time_after
 no_hour Basic b n = rw n refl
 no_hour Extended b n = rw n refl
 no_hour Unknown b n = rw n refl
 
 -- a number past the hours
 pub hour_past : (kind : ExtendedKind) (b m : List ℕ) (h : ℕ) (f : Option (Bor (List ℕ)))
-    → number b ≡ Some (m, number_of h f) → 23 < h → time_behind kind b ≡ None
-unfolding time_behind
+    → number b ≡ Some (m, number_of h f) → 23 < h → time_after kind b ≡ None
+unfolding time_after
 hour_past Basic b m h None n p = rw (n, lt-leb h 23 p) refl
 hour_past Basic b m h (Some d) n p = rw (n, lt-leb h 23 p) refl
 hour_past Extended b m h None n p = rw (n, lt-leb h 23 p) refl
@@ -47,24 +47,24 @@ hour_past Unknown b m h (Some d) n p = rw (n, lt-leb h 23 p) refl
 -- an hour and a fraction
 pub hour_and_fraction_stand : (kind : ExtendedKind) (b m d : List ℕ) (h : ℕ)
     → number b ≡ Some (m, fraction h d) → h ≤ 23
-    → time_behind kind b ≡ found m (past_hour (floor_of d 3_600_000_000_000) (hour_and_minute h 0)) kind
-unfolding time_behind
+    → time_after kind b ≡ found m (past_hour (floor_of d 3_600_000_000_000) (hour_and_minute h 0)) kind
+unfolding time_after
 hour_and_fraction_stand kind b m d h n l = rw (n, le-leb h 23 l) refl
 
--- A whole hour, and what stands behind it.
+-- A whole hour, and what stands after it.
 module _ (b m : List ℕ) (h : ℕ) (hour : number b ≡ Some (m, plain h)) (small : h ≤ 23) where
   -- nothing more
   pub hour_alone : (kind : ExtendedKind) → byte 58 m ≡ None → number m ≡ None
-      → time_behind kind b ≡ found m (hour_and_minute h 0) kind
-  unfolding time_behind
+      → time_after kind b ≡ found m (hour_and_minute h 0) kind
+  unfolding time_after
   hour_alone Basic c n = rw (hour, le-leb h 23 small, c, n) refl
   hour_alone Extended c n = rw (hour, le-leb h 23 small, c, n) refl
   hour_alone Unknown c n = rw (hour, le-leb h 23 small, c, n) refl
 
   -- a number past the minutes
   pub minute_past : (kind : ExtendedKind) (r : List ℕ) (w : ℕ) (f : Option (Bor (List ℕ)))
-      → byte 58 m ≡ None → number m ≡ Some (r, number_of w f) → 59 < w → time_behind kind b ≡ None
-  unfolding time_behind
+      → byte 58 m ≡ None → number m ≡ Some (r, number_of w f) → 59 < w → time_after kind b ≡ None
+  unfolding time_after
   minute_past Basic r w None c n p = rw (hour, le-leb h 23 small, c, n, lt-leb w 59 p) refl
   minute_past Basic r w (Some d) c n p = rw (hour, le-leb h 23 small, c, n, lt-leb w 59 p) refl
   minute_past Extended r w None c n p = rw (hour, le-leb h 23 small, c, n, lt-leb w 59 p) refl
@@ -75,19 +75,19 @@ module _ (b m : List ℕ) (h : ℕ) (hour : number b ≡ Some (m, plain h)) (sma
   -- a minute and a fraction
   pub minute_and_fraction_stand : (kind : ExtendedKind) (r d : List ℕ) (w : ℕ)
       → byte 58 m ≡ None → number m ≡ Some (r, fraction w d) → w ≤ 59
-      → time_behind kind b
+      → time_after kind b
       ≡ found r (past_minute (floor_of d 60_000_000_000) (hour_and_minute h w)) (basic_where_unknown kind)
-  unfolding time_behind
+  unfolding time_after
   minute_and_fraction_stand Basic r d w c n l = rw (hour, le-leb h 23 small, c, n, le-leb w 59 l) refl
   minute_and_fraction_stand Extended r d w c n l = rw (hour, le-leb h 23 small, c, n, le-leb w 59 l) refl
   minute_and_fraction_stand Unknown r d w c n l = rw (hour, le-leb h 23 small, c, n, le-leb w 59 l) refl
 
-  -- A whole minute, and what stands behind it, without separators: a number,
+  -- A whole minute, and what stands after it, without separators: a number,
   basic_number : (kind : ExtendedKind) (r q : List ℕ) (w : ℕ) (s : Number) (t : Option TimeNumbers)
       → is_extended kind ≡ false → byte 58 m ≡ None → number m ≡ Some (r, plain w) → w ≤ 59
       → number r ≡ Some (q, s) → says any_second s (hour_and_minute h w) ≡ t
-      → time_behind kind b ≡ second_found (hour_and_minute h w) Basic (q, s)
-  unfolding time_behind
+      → time_after kind b ≡ second_found (hour_and_minute h w) Basic (q, s)
+  unfolding time_after
   basic_number Basic r q w s None k c n l e i = rw (hour, le-leb h 23 small, c, n, le-leb w 59 l, e, i) refl
   basic_number Basic r q w s (Some t) k c n l e i = rw (hour, le-leb h 23 small, c, n, le-leb w 59 l, e, i) refl
   basic_number Extended r q w s t k c n l e i = absurd (true≢false k)
@@ -97,8 +97,8 @@ module _ (b m : List ℕ) (h : ℕ) (hour : number b ≡ Some (m, plain h)) (sma
   -- or no number
   pub minute_basic : (kind : ExtendedKind) (r : List ℕ) (w : ℕ) (s : Option (List ℕ × Number))
       → is_extended kind ≡ false → byte 58 m ≡ None → number m ≡ Some (r, plain w) → w ≤ 59 → number r ≡ s
-      → time_behind kind b ≡ basic_second (hour_and_minute h w) r s
-  unfolding time_behind
+      → time_after kind b ≡ basic_second (hour_and_minute h w) r s
+  unfolding time_after
   minute_basic kind r w (Some f) k c n l e =
       basic_number kind r f.0 w f.1 (says any_second f.1 (hour_and_minute h w)) k c n l e refl
   minute_basic Basic r w None k c n l e = rw (hour, le-leb h 23 small, c, n, le-leb w 59 l, e) refl
@@ -109,8 +109,8 @@ module _ (b m : List ℕ) (h : ℕ) (hour : number b ≡ Some (m, plain h)) (sma
   extended_number : (kind : ExtendedKind) (r x q : List ℕ) (w : ℕ) (s : Number) (t : Option TimeNumbers)
       → is_extended kind ≡ true → byte 58 m ≡ None → number m ≡ Some (r, plain w) → w ≤ 59
       → byte 58 r ≡ Some x → number x ≡ Some (q, s) → says any_second s (hour_and_minute h w) ≡ t
-      → time_behind kind b ≡ second_found (hour_and_minute h w) Extended (q, s)
-  unfolding time_behind
+      → time_after kind b ≡ second_found (hour_and_minute h w) Extended (q, s)
+  unfolding time_after
   extended_number Basic r x q w s t k c n l z e i = absurd (false≢true k)
   extended_number Extended r x q w s None k c n l z e i =
       rw (hour, le-leb h 23 small, c, n, le-leb w 59 l, z, e, i) refl
@@ -122,8 +122,8 @@ module _ (b m : List ℕ) (h : ℕ) (hour : number b ≡ Some (m, plain h)) (sma
   extended_colon : (kind : ExtendedKind) (r x : List ℕ) (w : ℕ) (s : Option (List ℕ × Number))
       → is_extended kind ≡ true → byte 58 m ≡ None → number m ≡ Some (r, plain w) → w ≤ 59
       → byte 58 r ≡ Some x → number x ≡ s
-      → time_behind kind b ≡ option_and_then (second_found (hour_and_minute h w) Extended) s
-  unfolding time_behind
+      → time_after kind b ≡ option_and_then (second_found (hour_and_minute h w) Extended) s
+  unfolding time_after
   extended_colon kind r x w (Some f) k c n l z e =
       extended_number kind r x f.0 w f.1 (says any_second f.1 (hour_and_minute h w)) k c n l z e refl
   extended_colon Basic r x w None k c n l z e = absurd (false≢true k)
@@ -133,25 +133,25 @@ module _ (b m : List ℕ) (h : ℕ) (hour : number b ≡ Some (m, plain h)) (sma
   -- or no colon
   pub minute_extended : (kind : ExtendedKind) (r : List ℕ) (w : ℕ) (x : Option (List ℕ))
       → is_extended kind ≡ true → byte 58 m ≡ None → number m ≡ Some (r, plain w) → w ≤ 59 → byte 58 r ≡ x
-      → time_behind kind b ≡ extended_second (hour_and_minute h w) r x
-  unfolding time_behind
+      → time_after kind b ≡ extended_second (hour_and_minute h w) r x
+  unfolding time_after
   minute_extended kind r w (Some x) k c n l z = extended_colon kind r x w (number x) k c n l z refl
   minute_extended Basic r w None k c n l z = absurd (false≢true k)
   minute_extended Extended r w None k c n l z = rw (hour, le-leb h 23 small, c, n, le-leb w 59 l, z) refl
   minute_extended Unknown r w None k c n l z = absurd (false≢true k)
 
-  -- A colon behind the hour, in a text without separators
+  -- A colon after the hour, in a text without separators
   pub colon_basic : (kind : ExtendedKind) (y : List ℕ)
-      → not_basic kind ≡ false → byte 58 m ≡ Some y → time_behind kind b ≡ None
-  unfolding time_behind
+      → not_basic kind ≡ false → byte 58 m ≡ Some y → time_after kind b ≡ None
+  unfolding time_after
   colon_basic Basic y k c = rw (hour, le-leb h 23 small, c, colon-no_number m y c) refl
   colon_basic Extended y k c = absurd (true≢false k)
   colon_basic Unknown y k c = absurd (true≢false k)
 
-  -- or with no number behind it
+  -- or with no number after it
   pub colon_no_minute : (kind : ExtendedKind) (y : List ℕ)
-      → not_basic kind ≡ true → byte 58 m ≡ Some y → number y ≡ None → time_behind kind b ≡ None
-  unfolding time_behind
+      → not_basic kind ≡ true → byte 58 m ≡ Some y → number y ≡ None → time_after kind b ≡ None
+  unfolding time_after
   colon_no_minute Basic y k c n = absurd (false≢true k)
   colon_no_minute Extended y k c n = rw (hour, le-leb h 23 small, c, colon-no_number m y c, n) refl
   colon_no_minute Unknown y k c n = rw (hour, le-leb h 23 small, c, colon-no_number m y c, n) refl
@@ -159,8 +159,8 @@ module _ (b m : List ℕ) (h : ℕ) (hour : number b ≡ Some (m, plain h)) (sma
   -- or a number past the minutes
   pub colon_minute_past : (kind : ExtendedKind) (y r : List ℕ) (w : ℕ) (f : Option (Bor (List ℕ)))
       → not_basic kind ≡ true → byte 58 m ≡ Some y → number y ≡ Some (r, number_of w f) → 59 < w
-      → time_behind kind b ≡ None
-  unfolding time_behind
+      → time_after kind b ≡ None
+  unfolding time_after
   colon_minute_past Basic y r w f k c n p = absurd (false≢true k)
   colon_minute_past Extended y r w None k c n p =
       rw (hour, le-leb h 23 small, c, colon-no_number m y c, n, lt-leb w 59 p) refl
@@ -174,20 +174,20 @@ module _ (b m : List ℕ) (h : ℕ) (hour : number b ≡ Some (m, plain h)) (sma
   -- a minute and a fraction
   pub colon_minute_and_fraction : (kind : ExtendedKind) (y r d : List ℕ) (w : ℕ)
       → not_basic kind ≡ true → byte 58 m ≡ Some y → number y ≡ Some (r, fraction w d) → w ≤ 59
-      → time_behind kind b ≡ found r (past_minute (floor_of d 60_000_000_000) (hour_and_minute h w)) Extended
-  unfolding time_behind
+      → time_after kind b ≡ found r (past_minute (floor_of d 60_000_000_000) (hour_and_minute h w)) Extended
+  unfolding time_after
   colon_minute_and_fraction Basic y r d w k c n l = absurd (false≢true k)
   colon_minute_and_fraction Extended y r d w k c n l =
       rw (hour, le-leb h 23 small, c, colon-no_number m y c, n, le-leb w 59 l) refl
   colon_minute_and_fraction Unknown y r d w k c n l =
       rw (hour, le-leb h 23 small, c, colon-no_number m y c, n, le-leb w 59 l) refl
 
-  -- A whole minute behind the colon, and behind it a colon and a number,
+  -- A whole minute after the colon, and after it a colon and a number,
   colon_number : (kind : ExtendedKind) (y r x q : List ℕ) (w : ℕ) (s : Number) (t : Option TimeNumbers)
       → not_basic kind ≡ true → byte 58 m ≡ Some y → number y ≡ Some (r, plain w) → w ≤ 59
       → byte 58 r ≡ Some x → number x ≡ Some (q, s) → says any_second s (hour_and_minute h w) ≡ t
-      → time_behind kind b ≡ second_found (hour_and_minute h w) Extended (q, s)
-  unfolding time_behind
+      → time_after kind b ≡ second_found (hour_and_minute h w) Extended (q, s)
+  unfolding time_after
   colon_number Basic y r x q w s t k c n l z e i = absurd (false≢true k)
   colon_number Extended y r x q w s None k c n l z e i =
       rw (hour, le-leb h 23 small, c, colon-no_number m y c, n, le-leb w 59 l, z, e, i) refl
@@ -202,8 +202,8 @@ module _ (b m : List ℕ) (h : ℕ) (hour : number b ≡ Some (m, plain h)) (sma
   colon_colon : (kind : ExtendedKind) (y r x : List ℕ) (w : ℕ) (s : Option (List ℕ × Number))
       → not_basic kind ≡ true → byte 58 m ≡ Some y → number y ≡ Some (r, plain w) → w ≤ 59
       → byte 58 r ≡ Some x → number x ≡ s
-      → time_behind kind b ≡ option_and_then (second_found (hour_and_minute h w) Extended) s
-  unfolding time_behind
+      → time_after kind b ≡ option_and_then (second_found (hour_and_minute h w) Extended) s
+  unfolding time_after
   colon_colon kind y r x w (Some f) k c n l z e =
       colon_number kind y r x f.0 w f.1 (says any_second f.1 (hour_and_minute h w)) k c n l z e refl
   colon_colon Basic y r x w None k c n l z e = absurd (false≢true k)
@@ -215,8 +215,8 @@ module _ (b m : List ℕ) (h : ℕ) (hour : number b ≡ Some (m, plain h)) (sma
   -- or no colon
   pub colon_minute : (kind : ExtendedKind) (y r : List ℕ) (w : ℕ) (x : Option (List ℕ))
       → not_basic kind ≡ true → byte 58 m ≡ Some y → number y ≡ Some (r, plain w) → w ≤ 59 → byte 58 r ≡ x
-      → time_behind kind b ≡ extended_second (hour_and_minute h w) r x
-  unfolding time_behind
+      → time_after kind b ≡ extended_second (hour_and_minute h w) r x
+  unfolding time_after
   colon_minute kind y r w (Some x) k c n l z = colon_colon kind y r x w (number x) k c n l z refl
   colon_minute Basic y r w None k c n l z = absurd (false≢true k)
   colon_minute Extended y r w None k c n l z =

@@ -8,7 +8,7 @@ use Rattle.time_readers.specs.declared.ParsedItem.{ParsedItem}
 use Rattle.time_readers.specs.declared.iso8601.ExtendedKind.{ExtendedKind}
 use Rattle.time_readers.specs.declared.iso8601.Part.{Part}
 
--- a text with which some bytes begin: the bytes behind it, what it says, and the kind after it
+-- a text with which some bytes begin: the bytes after it, what it says, and the kind after it
 pub record Found (V : Type 0) : Type 0 where
   pub rest : List ℕ
   pub value : V

@@ -39,7 +39,7 @@ pub record IsFractional (text rest : List ℕ) (v : ℕ) (digits : List ℕ) : T
   pub some : 1 ≤ length digits
   pub ends : NoDigitFirst rest
 
--- two digits with no point behind them, or with a fraction
+-- two digits with no point after them, or with a fraction
 abbrev pub IsNumber : Form Number
 IsNumber text rest (plain v) = IsDigitRun 2 2 text rest v × NoPointFirst rest
 IsNumber text rest (fraction v digits) = IsFractional text rest v digits

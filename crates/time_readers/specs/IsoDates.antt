@@ -5,8 +5,8 @@ use Rattle.time_values.specs.declared.month.Month.{Month}
 use Rattle.time_values.specs.declared.weekday.Weekday.{Weekday}
 use Rattle.time_readers.specs.declared.iso8601.ExtendedKind.{ExtendedKind}
 use Rattle.time_readers.specs.declared.iso8601.ExtendedKind.TheVariants.{Basic, Extended}
-use Rattle.time_readers.specs.declared.iso8601.dates.DateNumbers.{DateNumbers}
-use Rattle.time_readers.specs.declared.iso8601.dates.DateNumbers.TheVariants as numbers
+use Rattle.time_readers.specs.declared.iso8601.DateNumbers.{DateNumbers}
+use Rattle.time_readers.specs.declared.iso8601.DateNumbers.TheVariants as numbers
 use Rattle.time_readers.specs.IsoAnswers.{Found}
 use Rattle.time_readers.specs.IsoPieces.{year, month, weekday, positive, byte}
 
@@ -34,20 +34,20 @@ dash false bytes = Some bytes
 abbrev pub first_form : Bool → ℤ → List ℕ → Form
 first_form extended y bytes =
     need (month bytes) (component (codes "month")) (λ m.
-    need (dash extended m.0) literal (λ behind.
-    need (positive 2 behind) (component (codes "day")) (λ d.
+    need (dash extended m.0) literal (λ after.
+    need (positive 2 after) (component (codes "day")) (λ d.
     Ok (d.0, calendar y m.1 d.1))))
 
 -- a day of the year
 abbrev pub second_form : ℤ → List ℕ → Option (List ℕ × IsoDate)
 second_form y bytes = option_map (λ d. (d.0, ordinal y d.1)) (positive 3 bytes)
 
--- a week and a weekday, behind the `W`
+-- a week and a weekday, after the `W`
 abbrev pub third_form : Bool → ℤ → List ℕ → Form
 third_form extended y bytes =
     need (positive 2 bytes) (component (codes "week")) (λ w.
-    need (dash extended w.0) literal (λ behind.
-    need (weekday behind) (component (codes "weekday")) (λ d.
+    need (dash extended w.0) literal (λ after.
+    need (weekday after) (component (codes "weekday")) (λ d.
     Ok (d.0, week y w.1 d.1))))
 
 -- the first form that stands; and where none does the fault of the third where a `W` stood, and else of the first
@@ -57,7 +57,7 @@ first_standing (Err e) (Some a) third = Ok a
 first_standing (Err e) None (Some third) = third
 first_standing (Err e) None None = Err e
 
--- what stands behind a year
+-- what stands after a year
 unfoldable pub forms : Bool → ℤ → List ℕ → Form
 forms extended y bytes =
     first_standing (first_form extended y bytes) (second_form y bytes)
@@ -68,14 +68,14 @@ abbrev pub of_kind : ExtendedKind → Form → Result (Found IsoDate) Refusal
 of_kind kind (Err e) = Err e
 of_kind kind (Ok f) = Ok (record { rest = f.0; value = f.1; kind = kind })
 
--- `-` behind a year makes the kind extended, and else it is basic
-abbrev pub behind_year : ℤ → List ℕ → Option (List ℕ) → Result (Found IsoDate) Refusal
-behind_year y bytes None = of_kind Basic (forms false y bytes)
-behind_year y bytes (Some behind) = of_kind Extended (forms true y behind)
+-- `-` after a year makes the kind extended, and else it is basic
+abbrev pub after_year : ℤ → List ℕ → Option (List ℕ) → Result (Found IsoDate) Refusal
+after_year y bytes None = of_kind Basic (forms false y bytes)
+after_year y bytes (Some after) = of_kind Extended (forms true y after)
 
 -- the text of a date, or its fault
 unfoldable pub date_text : List ℕ → Result (Found IsoDate) Refusal
-date_text bytes = need (year bytes) (component (codes "year")) (λ y. behind_year y.1 y.0 (byte 45 y.0))
+date_text bytes = need (year bytes) (component (codes "year")) (λ y. after_year y.1 y.0 (byte 45 y.0))
 
 -- what a reader's numbers say
 abbrev pub iso_date : DateNumbers → IsoDate

@@ -1,4 +1,4 @@
--- The pieces of ISO 8601 texts, as functions from the bytes left: the bytes behind a text with which they begin, and
+-- The pieces of ISO 8601 texts, as functions from the bytes left: the bytes after a text with which they begin, and
 -- what it says; or nothing, where no such text stands there. Each finds exactly a cut (`law_iso_pieces`).
 use Rattle.std.specs.Prelude.{ℕ, zero, suc, ℤ, pos, slice_get, List, [], ◌∷◌, length, take, drop, Bool, true, ◌&&◌, nat_eq, nat_le, if◌then◌else◌, Option, Some, None, option_map, option_and_then}
 use Rattle.time_values.specs.Sign.{signed_by}
@@ -12,7 +12,7 @@ use Rattle.time_readers.specs.Readers.{Reader, one_of, ◌or◌}
 use Rattle.time_readers.specs.declared.Sign.{Sign}
 use Rattle.time_readers.specs.declared.Sign.TheVariants.{Negative, Positive}
 
--- what is left of the bytes behind a text, and what the text says
+-- what is left of the bytes after a text, and what the text says
 abbrev pub Piece : Type 0 → Type 0
 Piece V = List ℕ → Option (List ℕ × V)
 
@@ -55,13 +55,13 @@ sign (c ∷ cs) =
 abbrev pub with_sign : Sign → ℕ → ℤ
 with_sign s n = signed_by (is_negative s) (pos n)
 
--- six digits behind a sign, or four where no sign stands
-abbrev pub year_behind : List ℕ → Option (List ℕ × Sign) → Option (List ℕ × ℤ)
-year_behind bytes None = option_map (λ f. (f.0, pos f.1)) (digits 4 bytes)
-year_behind bytes (Some s) = option_map (λ f. (f.0, with_sign s.1 f.1)) (digits 6 s.0)
+-- six digits after a sign, or four where no sign stands
+abbrev pub year_after : List ℕ → Option (List ℕ × Sign) → Option (List ℕ × ℤ)
+year_after bytes None = option_map (λ f. (f.0, pos f.1)) (digits 4 bytes)
+year_after bytes (Some s) = option_map (λ f. (f.0, with_sign s.1 f.1)) (digits 6 s.0)
 
 unfoldable pub year : Piece ℤ
-year bytes = year_behind bytes (sign bytes)
+year bytes = year_after bytes (sign bytes)
 
 -- the months and the weekdays, whose numbers begin with 1
 abbrev pub months : List Month
@@ -106,17 +106,17 @@ pub data Number : Type 0 where
   plain : ℕ → Number
   fraction : ℕ → List ℕ → Number
 
--- a number of its whole part, of the digits behind a point, and of all bytes behind the point
-abbrev pub behind_point : ℕ → List ℕ → Piece Number
-behind_point whole [] bytes = None
-behind_point whole (d ∷ ds) bytes = Some (drop (length (d ∷ ds)) bytes, fraction whole (d ∷ ds))
+-- a number of its whole part, of the digits after a point, and of all bytes after the point
+abbrev pub after_point : ℕ → List ℕ → Piece Number
+after_point whole [] bytes = None
+after_point whole (d ∷ ds) bytes = Some (drop (length (d ∷ ds)) bytes, fraction whole (d ∷ ds))
 
--- a number of its whole part, of the bytes behind that, and of those behind a point, where one stands
-abbrev pub behind_whole : ℕ → List ℕ → Option (List ℕ) → Option (List ℕ × Number)
-behind_whole whole bytes None = Some (bytes, plain whole)
-behind_whole whole bytes (Some behind) = behind_point whole (leading_digits behind) behind
+-- a number of its whole part, of the bytes after that, and of those after a point, where one stands
+abbrev pub after_whole : ℕ → List ℕ → Option (List ℕ) → Option (List ℕ × Number)
+after_whole whole bytes None = Some (bytes, plain whole)
+after_whole whole bytes (Some after) = after_point whole (leading_digits after) after
 
--- Two digits and a fraction, which is `.` or `,` and all digits behind it, at least one; or two digits with neither
--- `.` nor `,` behind them.
+-- Two digits and a fraction, which is `.` or `,` and all digits after it, at least one; or two digits with neither
+-- `.` nor `,` after them.
 unfoldable pub number : Piece Number
-number bytes = option_and_then (λ f. behind_whole f.1 f.0 (point f.0)) (digits 2 bytes)
+number bytes = option_and_then (λ f. after_whole f.1 f.0 (point f.0)) (digits 2 bytes)

@@ -1,9 +1,9 @@
 -- The time of ISO 8601: a table of the texts that say one.
-use Rattle.std.specs.Prelude.{◌≡◌, ℕ, ◌/◌, ◌%◌, List, [], ◌∷◌, ◌++◌, Bool, true, false, ◌&&◌, is_none, nat_le, nat_lt, if◌then◌else◌, Option, Some, None, option_map, option_and_then, option_to_list}
+use Rattle.std.specs.Prelude.{ℕ, ◌/◌, ◌%◌, List, [], ◌∷◌, ◌++◌, Bool, true, false, ◌&&◌, is_none, nat_le, nat_lt, if◌then◌else◌, Option, Some, None, option_map, option_and_then, option_to_list}
 use Rattle.std.specs.Option.{option_or}
 use Rattle.time_readers.specs.declared.iso8601.ExtendedKind.{ExtendedKind}
 use Rattle.time_readers.specs.declared.iso8601.ExtendedKind.TheVariants.{Basic, Extended}
-use Rattle.time_readers.specs.declared.iso8601.times.TimeNumbers.{TimeNumbers}
+use Rattle.time_readers.specs.declared.iso8601.TimeNumbers.{TimeNumbers}
 use Rattle.time_readers.specs.IsoAnswers.{Found}
 use Rattle.time_readers.specs.IsoFractions.{floor_of, round_of}
 use Rattle.time_readers.specs.IsoKinds.{any, not_basic, not_extended, is_extended, as_before, basic, extended, basic_where_unknown}
@@ -64,7 +64,7 @@ nothing_given = record { hour = 0; minute = 0; second = 0; subsecond = 0 }
 abbrev pub hour_and_minute : ℕ → ℕ → TimeNumbers
 hour_and_minute h m = record nothing_given { hour = h; minute = m }
 
--- so many nanoseconds behind an hour, and behind a minute
+-- so many nanoseconds after an hour, and after a minute
 abbrev pub past_hour : ℕ → TimeNumbers → TimeNumbers
 past_hour n t = record t {
   minute = n / 60_000_000_000;
@@ -122,20 +122,20 @@ abbrev pub fitting : List Row → ExtendedKind → List ℕ → List (Found Time
 fitting [] kind bytes = []
 fitting (r ∷ rs) kind bytes = option_to_list (fits r kind bytes) ++ fitting rs kind bytes
 
--- the text of a time behind its `T`
-unfoldable pub time_behind : ExtendedKind → List ℕ → Option (Found TimeNumbers)
-time_behind kind bytes = first_row time_rows kind bytes
+-- the text of a time after its `T`
+unfoldable pub time_after : ExtendedKind → List ℕ → Option (Found TimeNumbers)
+time_after kind bytes = first_row time_rows kind bytes
 
-abbrev pub behind_t : Bool → ExtendedKind → List ℕ → Option (List ℕ) → Option (Found TimeNumbers)
-behind_t needed kind bytes (Some rest) = time_behind kind rest
-behind_t true kind bytes None = None
-behind_t false kind bytes None = time_behind kind bytes
+abbrev pub after_t : Bool → ExtendedKind → List ℕ → Option (List ℕ) → Option (Found TimeNumbers)
+after_t needed kind bytes (Some rest) = time_after kind rest
+after_t true kind bytes None = None
+after_t false kind bytes None = time_after kind bytes
 
 -- `T`, which may be needed, and the text of a time
 abbrev pub time_text : Bool → ExtendedKind → List ℕ → Option (Found TimeNumbers)
-time_text needed kind bytes = behind_t needed kind bytes (byte 84 bytes)
+time_text needed kind bytes = after_t needed kind bytes (byte 84 bytes)
 
--- What private functions answer: a second, of whose number the rest and what it says are given, and what stands behind
+-- What private functions answer: a second, of whose number the rest and what it says are given, and what stands after
 -- an hour and a minute without separators and with them.
 abbrev pub second_found : TimeNumbers → ExtendedKind → (List ℕ × Number) → Option (Found TimeNumbers)
 second_found t kind f = option_map (λ u. record { rest = f.0; value = u; kind = kind }) (says any_second f.1 t)
@@ -146,10 +146,4 @@ basic_second t bytes (Some f) = second_found t Basic f
 
 abbrev pub extended_second : TimeNumbers → List ℕ → Option (List ℕ) → Option (Found TimeNumbers)
 extended_second t bytes None = Some (record { rest = bytes; value = t; kind = Extended })
-extended_second t bytes (Some behind) = option_and_then (second_found t Extended) (number behind)
-
--- a number that is such a second and so many nanoseconds of it
-abbrev pub IsSecond : Number → ℕ → ℕ → Type 0
-IsSecond n second nanoseconds =
-    (h m : ℕ) → says any_second n (hour_and_minute h m)
-    ≡ Some (record { hour = h; minute = m; second = second; subsecond = nanoseconds })
+extended_second t bytes (Some after) = option_and_then (second_found t Extended) (number after)

@@ -2,23 +2,25 @@
 //!
 //! A text has separators, as `2021-01-02T03:04:05+06:07`, or none, as `20210102T030405+0607`:
 //! [`ExtendedKind`] says which of them it is, as far as that is known, and each part hands it to the next.
+//!
+//! `grammar` reads all of it, piece by piece. `fast` reads the commonest dates and times, many bytes in one step, and
+//! is asked first: what it doesn't answer `grammar` decides, so without it the same is read, in more steps.
 ghost use Rattle.std.specs.Prelude.{◌≡◌, true, false, MatchOption};
+ghost use Rattle.time_readers.specs.IsoAnswers.{GivesPart, GivesPartOrFault};
+ghost use Rattle.time_readers.specs.IsoDates.{iso_date, date_text};
+ghost use Rattle.time_readers.specs.IsoDatesAndTimes.{GivesDateAndTime};
 ghost use Rattle.time_readers.specs.IsoKinds.{not_basic, is_extended, basic_where_unknown, extended_where_unknown};
+ghost use Rattle.time_readers.specs.IsoTimes.{time_text};
 
-mod dates;
-mod dates_and_times;
-mod fractions;
-mod front;
-mod offsets;
-mod pieces;
-mod times;
+mod fast;
+mod grammar;
 
-pub use dates::{DateNumbers, date};
-pub use dates_and_times::{DateAndTime, date_and_time};
-pub use fractions::{floor_fraction, round_fraction};
-pub use offsets::{OffsetNumbers, offset};
-pub use pieces::{day, dayk, dayo, float, hour, min, month, week, year};
-pub use times::{TimeNumbers, time};
+pub use grammar::fractions::{floor_fraction, round_fraction};
+pub use grammar::offsets::offset;
+pub use grammar::pieces::{day, dayk, dayo, float, hour, min, month, week, year};
+use std::num::NonZero;
+use time_values::error::ParseFromDescription;
+use time_values::{Month, Weekday};
 
 /// Whether a text has separators.
 #[derive(Clone, Copy, Debug, PartialEq, Eq)]
@@ -94,4 +96,96 @@ pub struct Part<'a, V> {
     pub value: V,
     /// The kind after the part.
     pub kind: ExtendedKind,
+}
+
+/// What a date says. The values are as they stand in the text, within the ranges that two or three digits
+/// have there.
+#[derive(Clone, Copy, Debug)]
+pub enum DateNumbers {
+    /// A year, a month and a day.
+    Calendar(i32, Month, NonZero<u8>),
+    /// A year and a day of it.
+    Ordinal(i32, NonZero<u16>),
+    /// An ISO year, a week of it and a weekday.
+    Week(i32, NonZero<u8>, Weekday),
+}
+
+/// What a time says. What isn't given in the text is 0.
+#[derive(Clone, Copy, Debug)]
+pub struct TimeNumbers {
+    /// The hour, 0 to 23.
+    pub hour: u8,
+    /// The minute, 0 to 59.
+    pub minute: u8,
+    /// The second, 0 to 60, where 60 is a leap second.
+    pub second: u8,
+    /// The fraction of the second, in nanoseconds.
+    pub subsecond: u32,
+}
+
+/// The date of a text, and the time after it.
+#[derive(Clone, Copy, Debug)]
+pub struct DateAndTime<'a> {
+    /// The date, and all that follows it.
+    pub date: Part<'a, DateNumbers>,
+    /// The time that follows the date, if one does.
+    pub time: Option<Part<'a, TimeNumbers>>,
+}
+
+/// What an offset says.
+#[derive(Clone, Copy, Debug)]
+pub enum OffsetNumbers {
+    /// `Z`, for UTC.
+    Zulu,
+    /// The hour, up to 25, and the minute, up to 59, both with the sign. The minute is 0 where none stands.
+    Numeric(i8, i8),
+}
+
+/// Reads the date of a text, which makes its kind known, or answers its fault.
+///
+/// A year stands first, four digits or a sign and six. Then `-` says that the text is extended, and else it is
+/// basic. Then a month and a day stand, with `-` between them in an extended text; or three digits of a day of
+/// the year; or `W`, two digits of a week and one of a weekday, again with `-` between them. The first of these
+/// forms that stands counts. Where none does the fault is that of the third where a `W` stands, and else that
+/// of the first: an invalid component `year`, `month`, `day`, `week` or `weekday`, or an invalid literal where
+/// `-` is missing.
+#[inline(always)]
+pub fn date(input: &[u8]) -> Result<Part<'_, DateNumbers>, ParseFromDescription>
+    ensures { GivesPartOrFault iso_date (date_text input.now) result }
+{
+    match fast::date(input) {
+        Some(found) => Ok(found),
+        None => grammar::dates::date(input),
+    }
+}
+
+/// Reads the time of a text of that kind: `T`, which may be left out where it isn't needed, and then an hour,
+/// a minute and a second of two digits each, or fewer of them.
+///
+/// The last of them may have a fraction, `.` or `,` and one or more digits: of an hour or a minute it gives the
+/// parts below, cut to whole nanoseconds, and of a second the nanoseconds, rounded half up. Between the parts
+/// `:` stands in an extended text, and not in a basic one; a text of unknown kind becomes of the kind that is
+/// seen. It refuses by `None`, also a number out of its range, and a fraction of a second that rounds to 1.
+#[inline(always)]
+pub fn time<'a>(input: &'a [u8], kind: ExtendedKind, needs_t: bool) -> Option<Part<'a, TimeNumbers>>
+    ensures { GivesPart (time_text needs_t kind input.now) result }
+{
+    match fast::time(input, kind) {
+        Some(found) => Some(found),
+        None => grammar::times::time(input, kind, needs_t),
+    }
+}
+
+/// Reads the date of a text, and after it `T` and a time, where these stand there.
+///
+/// It answers what [`date`] answers, its fault too, and what [`time`] answers of the rest that the date leaves,
+/// where its `T` is needed.
+#[inline(always)]
+pub fn date_and_time(input: &[u8]) -> Result<DateAndTime<'_>, ParseFromDescription>
+    ensures { GivesDateAndTime input.now result }
+{
+    match fast::date_and_time(input) {
+        Some(found) => Ok(found),
+        None => grammar::dates_and_times::date_and_time(input),
+    }
 }

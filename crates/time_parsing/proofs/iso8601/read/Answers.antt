@@ -4,7 +4,7 @@ use Rattle.time_parsing.proofs.iso8601.read.Goals as goal
 
 pub returns-in-Some : goal.returns-in-Some
 unfolding reading
-returns-in-Some c = rw (c.in-Ok.ensures, c.in-Some.ensures, c.behind_time.ensures) refl
+returns-in-Some c = rw (c.in-Ok.ensures, c.in-Some.ensures, c.after_time.ensures) refl
 
 pub returns-in-None : goal.returns-in-None
 unfolding reading

@@ -1,5 +1,5 @@
-use Rattle.time_parsing.specs.RecordedRfc2822 as RecordedRfc2822
-use Rattle.time_parsing.specs.RecordedRfc3339 as RecordedRfc3339
+use Rattle.time_parsing.specs.exact.RecordedRfc2822 as RecordedRfc2822
+use Rattle.time_parsing.specs.exact.RecordedRfc3339 as RecordedRfc3339
 use Rattle.time_parsing.proofs.laws.law_two_paths.Goals as goal
 
 pub returns-clause-rfc3339 : goal.returns-clause-rfc3339

@@ -1,6 +1,6 @@
 use Rattle.time_values.specs.Range.{greatest_year}
 use Rattle.time_parsing.specs.Outcome.{seen}
-use Rattle.time_parsing.specs.RecordedRfc2822.{direct-outcome}
+use Rattle.time_parsing.specs.exact.RecordedRfc2822.{direct-outcome}
 use Rattle.time_parsing.specs.Rfc2822.{Reads, Refuses}
 use Rattle.time_parsing.proofs.ResolvedLemmas.{outcome_before}
 use Rattle.time_parsing.proofs.rfc2822.Rfc2822Parsable.parse_offset_date_time.Goals as goal

@@ -1,0 +1,262 @@
+-- The record of a mail date, over an empty one.
+use Rattle.std.proofs.Common.{◌≡◌, ◌≤◌, ℕ, pos, Bool, true, false, refl, sym, ◌∙◌, subst, arith, List, [], Option, Some, None, Result, Ok, Err, IfSome}
+use Rattle.std.specs.Prelude.{◌==◌, if◌then◌else◌, unsigned_abs, is_none, unwrap_or}
+use Rattle.std.proofs.lemmas.Bool.{le-leb}
+use Rattle.std.proofs.lemmas.Option.{same_Some}
+use Rattle.time_values.specs.Dates as Dates
+use Rattle.time_values.specs.Month.{month_number, month_refusal}
+use Rattle.time_values.specs.Moments.{offset_date}
+use Rattle.time_values.specs.Range.{greatest_year}
+use Rattle.time_values.specs.declared.month.Month.{Month}
+use Rattle.time_values.specs.declared.offset_date_time.OffsetDateTime.{OffsetDateTime}
+use Rattle.time_values.specs.declared.weekday.Weekday.{Weekday}
+use Rattle.time_values.proofs.NumberLemmas.{same_month}
+use Rattle.time_values.specs.declared.error.Parse.{Parse}
+use Rattle.time_readers.specs.Direct.{DirectRfc2822, IsDirectRfc2822, RefusesRfc2822, said_rfc2822, first_refusal}
+use Rattle.time_readers.specs.Rfc2822.{InRanges}
+use Rattle.time_readers.specs.declared.Sign.{Sign}
+use Rattle.time_readers.specs.declared.rfc2822.places.Numbers.{Numbers}
+use Rattle.time_readers.proofs.EachValue.{each_month}
+use Rattle.time_readers.proofs.MailRanges.{HasForm-in_places, HasForm-zone}
+use Rattle.time_readers.proofs.RangedMail.{ranged_mail}
+use Rattle.time_record.specs.Record.{Record, empty, put_all}
+use Rattle.time_record.specs.Resolution.{IsMoment, clock_of, stand_in, offset_seconds_of, offset_part, is_leap_second}
+use Rattle.time_parsing.specs.Outcome.{IsOutcome, IsMomentOutcome, direct, seen}
+use Rattle.time_parsing.specs.Rfc2822.{entries, Reads, Refuses}
+use Rattle.time_parsing.specs.Rfc3339.{without_offset_sign, with_leap_second}
+use Rattle.time_parsing.specs.exact.ToldMoment.{Tells, clock_said, accepted_ranges, made-resolves, resolves-made}
+
+-- the record with the numbers: a zone name, which has no sign, says also minute and second
+abbrev recorded : Numbers → Record
+recorded n = record (with_leap_second (without_offset_sign empty)) {
+  weekday = n.weekday;
+  day = Some n.day;
+  month = Some n.month;
+  year = Some (pos n.year);
+  hour_24 = Some n.hour;
+  minute = Some n.minute;
+  second = n.second;
+  offset_hour = Some n.offset_hour;
+  offset_minute = Some (if is_none n.offset_sign then pos 0 else n.offset_minute);
+  offset_second = if is_none n.offset_sign then Some (pos 0) else None;
+}
+
+put-recorded : (n : Numbers) (w : Option Weekday) (o : Option ℕ) (s : Option Sign) → n.weekday ≡ w → n.second ≡ o
+    → n.offset_sign ≡ s
+    → n.year ≤ greatest_year → InRanges n → IfSome o (λ v. v ≤ 60)
+    → put_all greatest_year (entries n) (with_leap_second (without_offset_sign empty)) ≡ Some (recorded n)
+put-recorded n None None None sw so ss year i sub =
+    rw (
+      sw,
+      so,
+      ss,
+      le-leb 1 n.day i.day.0,
+      le-leb n.day 31 i.day.1,
+      le-leb n.year greatest_year year,
+      le-leb n.hour 23 i.hour.1,
+      le-leb n.minute 59 i.minute.1,
+      le-leb
+          (unsigned_abs n.offset_hour) 25 i.offset_hour.1,
+    ) refl
+put-recorded n None None (Some s) sw so ss year i sub =
+    rw (
+      sw,
+      so,
+      ss,
+      le-leb 1 n.day i.day.0,
+      le-leb n.day 31 i.day.1,
+      le-leb n.year greatest_year year,
+      le-leb n.hour 23 i.hour.1,
+      le-leb n.minute 59 i.minute.1,
+      le-leb (unsigned_abs n.offset_hour) 25 i.offset_hour.1,
+      le-leb (unsigned_abs n.offset_minute) 59 i.offset_minute.1,
+    ) refl
+put-recorded n None (Some v) None sw so ss year i sub =
+    rw (
+      sw,
+      so,
+      ss,
+      le-leb 1 n.day i.day.0,
+      le-leb n.day 31 i.day.1,
+      le-leb n.year greatest_year year,
+      le-leb n.hour 23 i.hour.1,
+      le-leb n.minute 59 i.minute.1,
+      le-leb v 60 sub,
+      le-leb (unsigned_abs n.offset_hour) 25
+          i.offset_hour.1,
+    ) refl
+put-recorded n None (Some v) (Some s) sw so ss year i sub =
+    rw (
+      sw,
+      so,
+      ss,
+      le-leb 1 n.day i.day.0,
+      le-leb n.day 31 i.day.1,
+      le-leb n.year greatest_year year,
+      le-leb n.hour 23 i.hour.1,
+      le-leb n.minute 59 i.minute.1,
+      le-leb v 60 sub,
+      le-leb (unsigned_abs n.offset_hour) 25
+          i.offset_hour.1,
+      le-leb (unsigned_abs n.offset_minute) 59 i.offset_minute.1,
+    ) refl
+put-recorded n (Some w) None None sw so ss year i sub =
+    rw (
+      sw,
+      so,
+      ss,
+      le-leb 1 n.day i.day.0,
+      le-leb n.day 31 i.day.1,
+      le-leb n.year greatest_year year,
+      le-leb n.hour 23 i.hour.1,
+      le-leb n.minute 59 i.minute.1,
+      le-leb
+          (unsigned_abs n.offset_hour) 25 i.offset_hour.1,
+    ) refl
+put-recorded n (Some w) None (Some s) sw so ss year i sub =
+    rw (
+      sw,
+      so,
+      ss,
+      le-leb 1 n.day i.day.0,
+      le-leb n.day 31 i.day.1,
+      le-leb n.year greatest_year year,
+      le-leb n.hour 23 i.hour.1,
+      le-leb n.minute 59 i.minute.1,
+      le-leb (unsigned_abs n.offset_hour) 25 i.offset_hour.1,
+      le-leb (unsigned_abs n.offset_minute) 59 i.offset_minute.1,
+    ) refl
+put-recorded n (Some w) (Some v) None sw so ss year i sub =
+    rw (
+      sw,
+      so,
+      ss,
+      le-leb 1 n.day i.day.0,
+      le-leb n.day 31 i.day.1,
+      le-leb n.year greatest_year year,
+      le-leb n.hour 23 i.hour.1,
+      le-leb n.minute 59 i.minute.1,
+      le-leb v 60 sub,
+      le-leb (unsigned_abs n.offset_hour) 25
+          i.offset_hour.1,
+    ) refl
+put-recorded n (Some w) (Some v) (Some s) sw so ss year i sub =
+    rw (
+      sw,
+      so,
+      ss,
+      le-leb 1 n.day i.day.0,
+      le-leb n.day 31 i.day.1,
+      le-leb n.year greatest_year year,
+      le-leb n.hour 23 i.hour.1,
+      le-leb n.minute 59 i.minute.1,
+      le-leb v 60 sub,
+      le-leb (unsigned_abs n.offset_hour) 25
+          i.offset_hour.1,
+      le-leb (unsigned_abs n.offset_minute) 59 i.offset_minute.1,
+    ) refl
+
+clock-recorded : (n : Numbers) (o : Option ℕ) (b : Bool) → n.second ≡ o → (unwrap_or o 0 == 60) ≡ b
+    → clock_of (stand_in (recorded n)) ≡ Some (clock_said (said_rfc2822 n))
+clock-recorded n None b so leap = rw so refl
+clock-recorded n (Some v) true so leap = rw (so, leap) refl
+clock-recorded n (Some v) false so leap = rw (so, leap) refl
+
+leap-recorded : (n : Numbers) (o : Option ℕ) → n.second ≡ o
+    → is_leap_second (recorded n) ≡ (unwrap_or n.second 0 == 60)
+leap-recorded n None so = rw so refl
+leap-recorded n (Some v) so = rw so refl
+
+minute-recorded : (n : Numbers) (s : Option Sign) → n.offset_sign ≡ s → (s ≡ None → n.offset_minute ≡ pos 0)
+    → offset_part (recorded n) (recorded n).offset_minute ≡ n.offset_minute
+minute-recorded n None ss none = rw ss (sym (none refl))
+minute-recorded n (Some s) ss none = rw ss refl
+
+second-recorded : (n : Numbers) (s : Option Sign) → n.offset_sign ≡ s → offset_seconds_of (recorded n) ≡ pos 0
+second-recorded n None ss = rw ss refl
+second-recorded n (Some s) ss = rw ss refl
+
+tells : (n : Numbers) → (n.offset_sign ≡ None → n.offset_minute ≡ pos 0) → Tells (recorded n) n.month (said_rfc2822 n)
+tells n none = record {
+  row = refl;
+  month = refl;
+  clock = clock-recorded n n.second (unwrap_or n.second 0 == 60) refl refl;
+  hour = refl;
+  minute = minute-recorded n n.offset_sign refl none;
+  second = second-recorded n n.offset_sign refl;
+  leap = leap-recorded n n.second refl;
+  stamp = refl;
+}
+
+-- a second that stands is the one that is said
+second_within : (o : Option ℕ) → unwrap_or o 0 ≤ 60 → IfSome o (λ v. (0 ≤ v) × (v ≤ 60))
+second_within None h = tt
+second_within (Some v) h = (omega arith, h)
+
+second_of : (o : Option ℕ) → IfSome o (λ v. (0 ≤ v) × (v ≤ 60)) → IfSome o (λ v. v ≤ 60)
+second_of None h = tt
+second_of (Some v) h = h.1
+
+-- the ranges of numbers of which a moment is made
+in_ranges : (n : Numbers) → first_refusal greatest_year (said_rfc2822 n) ≡ None → InRanges n
+in_ranges n none =
+    let a = accepted_ranges (said_rfc2822 n) none in
+    record {
+      day = a.day;
+      hour = (omega arith, a.hour);
+      minute = (omega arith, a.minute);
+      second = second_within n.second a.second;
+      offset_hour = (omega arith, a.offset_hour);
+      offset_minute = (omega arith, a.offset_minute);
+    }
+
+-- the direct path's value is that of the record
+pub direct-value : (bytes : List ℕ) (v : OffsetDateTime) → IsDirectRfc2822 greatest_year bytes v
+    → IsOutcome (IsMoment greatest_year) (Reads greatest_year) (Refuses greatest_year) bytes empty (Ok v)
+direct-value bytes v (n, form, last, made) =
+    let places = HasForm-in_places false bytes [] n form in
+    let ranges = in_ranges n made.0 in
+    let month : n.month ≡ Dates.month (offset_date v) =
+    same_month n.month (Dates.month (offset_date v)) (sym made.1.date.month) in (
+      recorded n,
+      (
+        n,
+        (ranged_mail bytes [] n).1 (form, ranges),
+        put-recorded n n.weekday n.second n.offset_sign refl refl refl (omega (arith, places.year)) ranges
+            (second_of n.second ranges.second),
+      ),
+      made-resolves (recorded n) n.month (said_rfc2822 n) v (tells n (HasForm-zone false bytes [] n form)) month made,
+    )
+
+month_named : (m : Month) → month_refusal (month_number m) ≡ None
+month_named = each_month (λ m. month_refusal (month_number m) ≡ None)
+    (refl, refl, refl, refl, refl, refl, refl, refl, refl, refl, refl, refl)
+
+-- and the record's value that of the direct path
+pub record-value : (bytes : List ℕ) (v : OffsetDateTime)
+    → IsOutcome (IsMoment greatest_year) (Reads greatest_year) (Refuses greatest_year) bytes empty (Ok v)
+    → IsDirectRfc2822 greatest_year bytes v
+record-value bytes v (r, (n, form, put), moment) =
+    let formed = (ranged_mail bytes [] n).0 form in
+    let places = HasForm-in_places true bytes [] n form in
+    let ranges = formed.1 in
+    let told =
+    put-recorded n n.weekday n.second n.offset_sign refl refl refl (omega (arith, places.year)) ranges
+    (second_of n.second ranges.second) in
+    let same : r ≡ recorded n = same_Some r (recorded n) (sym put ∙ told) in (
+      n,
+      formed.0,
+      refl,
+      resolves-made (recorded n) n.month (said_rfc2822 n) v (tells n (HasForm-zone true bytes [] n form))
+          (omega (arith, places.year)) (month_named n.month)
+          (subst (λ (x : Record). IsMoment greatest_year x (Ok v)) same moment),
+    )
+
+-- the direct path's answer is the outcome of a parse
+pub direct-outcome : (bytes : List ℕ) (result : Result OffsetDateTime Parse)
+    → DirectRfc2822 greatest_year bytes result
+    → IsMomentOutcome greatest_year (direct (RefusesRfc2822 greatest_year)) (Reads greatest_year)
+    (Refuses greatest_year) bytes None
+    (seen result)
+direct-outcome bytes (Ok v) answer = direct-value bytes v answer
+direct-outcome bytes (Err e) answer = answer

@@ -1,0 +1,100 @@
+//! The commonest texts of ISO 8601, whole and with no record.
+//!
+//! Each function answers what the text says by the record, or `None`: not this form.
+ghost use Rattle.std.specs.Prelude.{◌≡◌, [], IfSome, Some, Ok};
+ghost use Rattle.time_values.specs.Moments.{plain_date, plain_time};
+ghost use Rattle.time_values.specs.Range.{greatest_year};
+ghost use Rattle.time_readers.specs.IsoDates.{iso_date};
+ghost use Rattle.time_readers.specs.IsoDatesAndTimes.{GivesDateAndTime};
+ghost use Rattle.time_readers.specs.IsoOffsets.{offset_text};
+ghost use Rattle.time_readers.specs.declared.iso8601.OffsetNumbers.{OffsetNumbers as OffsetNumbers_};
+ghost use Rattle.time_record.specs.Record.{empty};
+ghost use Rattle.time_record.specs.Resolution.{IsMoment, IsPlain};
+ghost use Rattle.time_parsing.specs.Iso8601.{Reads, Refuses};
+ghost use Rattle.time_parsing.specs.IsoFast.{date_said, time_said, IsOffsetSaid};
+ghost use Rattle.time_parsing.specs.Outcome.{IsOutcome};
+
+use time_readers::iso8601::{
+    DateAndTime, DateNumbers, ExtendedKind, OffsetNumbers, TimeNumbers, date_and_time, offset,
+};
+use time_values::{Date, OffsetDateTime, PlainDateTime, Time, UtcOffset};
+
+// The date and time of a whole text, after which an offset may stand. `None`: not this form.
+#[inline(always)]
+pub(super) fn date_time(input: &[u8]) -> Option<PlainDateTime>
+    ensures { IfSome result (λ p. IsOutcome (IsPlain greatest_year) (Reads greatest_year)
+        (Refuses greatest_year) input.now empty (Ok p)) }
+{
+    let found = parts(input)?;
+    let time = found.time?;
+    let plain = date_time_of(found.date.value, time.value)?;
+    if !time.rest.is_empty() {
+        offset_to_the_end(time.rest, time.kind)?;
+    }
+    Some(plain)
+}
+
+// The moment of a whole text. `None`: not this form.
+#[inline(always)]
+pub(super) fn moment(input: &[u8]) -> Option<OffsetDateTime>
+    ensures { IfSome result (λ v. IsOutcome (IsMoment greatest_year) (Reads greatest_year)
+        (Refuses greatest_year) input.now empty (Ok v)) }
+{
+    let found = parts(input)?;
+    let time = found.time?;
+    let offset = offset_to_the_end(time.rest, time.kind)?;
+    let plain = date_time_of(found.date.value, time.value)?;
+    Some(OffsetDateTime::new_in_offset(plain.date(), plain.time(), offset))
+}
+
+// The date and time of these numbers, unless they say no date of the calendar or a leap second. `None`: not this form.
+#[inline(always)]
+fn date_time_of(date: DateNumbers, time: TimeNumbers) -> Option<PlainDateTime>
+    ensures { IfSome result (λ p. (iso_date date ≡ date_said (plain_date p)) × (time ≡ time_said (plain_time p))) }
+{
+    let DateNumbers::Calendar(year, month, day) = date else {
+        return None;
+    };
+    let date = Date::from_calendar_date(year, month, day.get());
+    let time = Time::from_hms_nano(time.hour, time.minute, time.second, time.subsecond);
+    match (date, time) {
+        (Ok(date), Ok(time)) => Some(PlainDateTime::new(date, time)),
+        _ => None,
+    }
+}
+
+// The offset of these numbers. `None`: not this form.
+#[inline(always)]
+fn offset_of(numbers: OffsetNumbers) -> Option<UtcOffset>
+    ensures { IfSome result (IsOffsetSaid numbers) }
+{
+    match numbers {
+        OffsetNumbers::Zulu => Some(UtcOffset::UTC),
+        OffsetNumbers::Numeric(hour, minute) => UtcOffset::from_hms(hour, minute, 0).ok(),
+    }
+}
+
+// The date and the time of a text that looks as if it began with a date of the calendar, whose year has four digits,
+// and a time. `None`: not this form, which is seen before other dates are read.
+#[inline(always)]
+fn parts(input: &[u8]) -> Option<DateAndTime<'_>>
+    ensures { IfSome result (λ p. GivesDateAndTime input.now (Ok p)) }
+{
+    match input {
+        [_, _, _, _, b'-', _, _, b'-', _, _, b'T', ..]
+        | [_, _, _, _, b'0'..=b'1', _, _, _, b'T', ..] => date_and_time(input).ok(),
+        _ => None,
+    }
+}
+
+// The offset that is all of the bytes. `None`: not this form.
+#[inline(always)]
+fn offset_to_the_end(input: &[u8], kind: ExtendedKind) -> Option<UtcOffset>
+    ensures { IfSome result (λ o. (n : OffsetNumbers_) × (offset_text kind input.now ≡ Some ([], n)) × IsOffsetSaid n o) }
+{
+    let found = offset(input, kind)?;
+    if !found.0.is_empty() {
+        return None;
+    }
+    offset_of(found.1)
+}

@@ -1,0 +1,21 @@
+use Rattle.std.proofs.Common.{◌≡◌, ◌∙◌, ◌∷◌, length, ◌++◌, ap, sym, refl, arith}
+use Rattle.std.proofs.lemmas.List.{length-take-le, take-append-drop}
+use Rattle.time_readers.proofs.CutLemmas.{take-drop}
+use Rattle.time_readers.proofs.IsoPieces.{byte-first}
+use Rattle.time_readers.proofs.IsoDatesAndTimes.{extended_first_sixteen}
+use Rattle.time_readers.proofs.iso8601.fast.dates_and_times.extended_first_sixteen.Goals as goal
+
+pub returns : goal.returns
+returns c =
+    let text = c.args.input.now in
+    let first = c.in_ok-first.first.now in
+    let rest = c.in_ok-first.rest.now in
+    let after = c.in_ok-after.after.now in
+    let split = c.in_ok-first.ensures.cases in
+    let within = c.if-not-is_within.ensures refl in
+    let colon : rest ≡ 58 ∷ after = byte-first 58 rest after c.in_ok-after.ensures in
+    let cut : text ≡ first ++ 58 ∷ after =
+    sym (take-append-drop 16 text) ∙ (λ i. sym split.0 i ++ sym split.1 i) ∙ ap (λ r. first ++ r) colon in
+    let long : length first ≡ 16 = ap length split.0 ∙ length-take-le 16 text (omega arith) in
+    rw (c.extended_pairs.ensures within, take-drop text 10 (omega arith))
+    (extended_first_sixteen text first after cut long within)

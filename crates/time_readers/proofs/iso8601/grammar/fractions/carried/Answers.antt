@@ -1,0 +1,22 @@
+use Rattle.std.proofs.Common.{◌+◌, ◌-◌, ◌≡◌, arith, subst, sym, drop, refl}
+use Rattle.time_readers.specs.IsoFractions.{IsFloor}
+use Rattle.time_readers.proofs.IsoFractions.{digit_at, carry_below, floor_at}
+use Rattle.time_readers.proofs.iso8601.grammar.fractions.carried.Goals as goal
+
+pub overflow_sub-digit : goal.overflow_sub-digit
+overflow_sub-digit c = (digit_at c.args.digits.now (c.loop-count.count - 1) (omega arith) c.requires.digits).0
+
+pub loop-count-preserved : goal.loop-count-preserved
+loop-count-preserved c =
+    let s = c.args.digits.now in
+    let i = c.loop-count.count - 1 in
+    let back : i + 1 ≡ c.loop-count.count = omega arith in
+    let digit = digit_at s i (omega arith) c.requires.digits in
+    let small = carry_below c.from.result c.args.unit c.loop-count.carry (omega (arith, c.from.ensures)) c.loop-count.invariant.below in
+    record {
+      in_range = omega arith;
+      floor =
+          floor_at s i c.args.unit c.loop-count.carry _ (omega arith)
+          (subst (λ j. IsFloor (drop j s) c.args.unit c.loop-count.carry) (sym back) c.loop-count.invariant.floor) (rw c.from.ensures refl);
+      below = omega arith;
+    }

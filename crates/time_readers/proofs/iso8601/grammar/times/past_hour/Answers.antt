@@ -1,0 +1,7 @@
+use Rattle.std.proofs.Common.{refl}
+use Rattle.time_readers.proofs.IsoFractions.{floor-is}
+use Rattle.time_readers.proofs.iso8601.grammar.times.past_hour.Goals as goal
+
+pub returns : goal.returns
+returns c =
+    rw (floor-is c.args.digits.now 3_600_000_000_000 c.floor_fraction-nanoseconds.result c.floor_fraction-nanoseconds.ensures.floor) refl

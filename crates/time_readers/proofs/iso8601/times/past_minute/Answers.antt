@@ -1,7 +1,0 @@
-use Rattle.std.proofs.Common.{refl}
-use Rattle.time_readers.proofs.IsoFractions.{floor-is}
-use Rattle.time_readers.proofs.iso8601.times.past_minute.Goals as goal
-
-pub returns : goal.returns
-returns c =
-    rw (floor-is c.args.digits.now 60_000_000_000 c.floor_fraction-nanoseconds.result c.floor_fraction-nanoseconds.ensures.floor) refl

@@ -1,0 +1,42 @@
+-- What the short forms of ISO 8601 are.
+use Rattle.std.specs.Prelude.{◌≡◌, ◌≢◌, ◌≤◌, ℕ, ◌+◌, ◌*◌, ◌-◌, pos, List, true, Some, Ok}
+use Rattle.time_values.specs.declared.month.Month.{Month}
+use Rattle.time_readers.specs.IsoDates.{calendar, date_text}
+use Rattle.time_readers.specs.IsoPieces.{Number, number, numbered, months}
+use Rattle.time_readers.specs.IsoTimes.{time_text, says, any_second, hour_and_minute}
+use Rattle.time_readers.specs.declared.iso8601.fast.dates.CalendarDigits.{CalendarDigits}
+use Rattle.time_readers.specs.declared.iso8601.fast.dates_and_times.FirstSixteen.{FirstSixteen}
+
+-- the number of two digits
+abbrev pub two_digits : ℕ → ℕ → ℕ
+two_digits tens ones = (tens - 48) * 10 + (ones - 48)
+
+-- the text begins with the date of these digits, if they say a month and a day
+abbrev pub AreCalendarDigits : List ℕ → CalendarDigits → Type 0
+AreCalendarDigits text d =
+    (m : Month) → numbered months d.month ≡ Some m → d.day ≢ 0
+    → date_text text ≡ Ok (record {
+      rest = d.rest.now;
+      value = calendar (pos (d.century * 100 + d.in_century)) m d.day;
+      kind = d.kind;
+    })
+
+-- a number that is such a second and so many nanoseconds of it
+abbrev pub IsSecond : Number → ℕ → ℕ → Type 0
+IsSecond n second nanoseconds =
+    (h m : ℕ) → says any_second n (hour_and_minute h m)
+    ≡ Some (record { hour = h; minute = m; second = second; subsecond = nanoseconds })
+
+-- after the date of these digits stand `T`, that hour and that minute, and then a second makes it a time
+abbrev pub IsClock : FirstSixteen → Type 0
+IsClock f =
+    (n : Number) (rest : List ℕ) (s nanoseconds : ℕ) → f.hour ≤ 23
+    → number f.after.now ≡ Some (rest, n) → IsSecond n s nanoseconds
+    → time_text true f.date.kind f.date.rest.now ≡ Some (record {
+      rest = rest;
+      value = record { hour = f.hour; minute = f.minute; second = s; subsecond = nanoseconds };
+      kind = f.date.kind;
+    })
+
+abbrev pub IsFirstSixteen : List ℕ → FirstSixteen → Type 0
+IsFirstSixteen text f = AreCalendarDigits text f.date × IsClock f

@@ -1,0 +1,164 @@
+//! A date of the calendar and a time up to the second, by sixteen bytes.
+ghost use Rattle.std.specs.Prelude.{◌≡◌, ℕ, List, [], ◌∷◌, map, IfSome, Ok};
+ghost use Rattle.time_readers.specs.Block.{AllWithin, pair_at};
+ghost use Rattle.time_readers.specs.IsoDatesAndTimes.{GivesDateAndTime};
+ghost use Rattle.time_readers.specs.IsoFast.{IsFirstSixteen};
+
+use crate::combinator::block;
+use crate::iso8601::fast::dates::{CalendarDigits, date_of};
+use crate::iso8601::fast::times::second;
+use crate::iso8601::grammar::pieces::byte;
+use crate::iso8601::{DateAndTime, ExtendedKind, Part, TimeNumbers};
+use std::simd::prelude::*;
+
+// The least and the greatest byte at each of the first sixteen places, with separators and without. Without them
+// the last of the places is after the second.
+const LEAST: [u8; 16] = *b"0000-00-00T00:00";
+
+const GREATEST: [u8; 16] = *b"9999-19-39T29:59";
+
+const BASIC_LEAST: [u8; 16] = *b"00000000T000000\x00";
+
+const BASIC_GREATEST: [u8; 16] = *b"99991939T295959\xff";
+
+// The digits of a date and of the hour and minute after it, by two, and what stands where a second has to.
+#[derive(Clone, Copy)]
+struct FirstSixteen<'a> {
+    date: CalendarDigits<'a>,
+    hour: u8,
+    minute: u8,
+    after: &'a [u8],
+}
+
+// A date of the calendar and a time up to the second. `None`: not this form.
+#[inline(always)]
+pub(in crate::iso8601) fn date_and_time(input: &[u8]) -> Option<DateAndTime<'_>>
+    ensures { IfSome result (λ p. GivesDateAndTime input.now (Ok p)) }
+{
+    match extended_date_and_time(input) {
+        Some(found) => Some(found),
+        None => basic_date_and_time(input),
+    }
+}
+
+// A date of the calendar and a time up to the second, with separators. `None`: not this form.
+#[inline(always)]
+fn extended_date_and_time(input: &[u8]) -> Option<DateAndTime<'_>>
+    ensures { IfSome result (λ p. GivesDateAndTime input.now (Ok p)) }
+{
+    date_and_time_of(extended_first_sixteen(input)?)
+}
+
+// A date of the calendar and a time up to the second, without separators, and a byte after it. `None`: not this form.
+#[inline(always)]
+fn basic_date_and_time(input: &[u8]) -> Option<DateAndTime<'_>>
+    ensures { IfSome result (λ p. GivesDateAndTime input.now (Ok p)) }
+{
+    date_and_time_of(basic_first_sixteen(input)?)
+}
+
+// With separators, up to the colon before the second. `None`: not this form.
+#[inline(always)]
+fn extended_first_sixteen(input: &[u8]) -> Option<FirstSixteen<'_>>
+    ensures { IfSome result (IsFirstSixteen input.now) }
+{
+    let (first, rest) = input.split_first_chunk::<16>()?;
+    if !block::is_within(first, LEAST, GREATEST) {
+        return None;
+    }
+    let after = byte::<b':'>(rest)?;
+    let [century, in_century, month, day, hour, minute, _, _] = extended_pairs(first);
+    let date = CalendarDigits {
+        century,
+        in_century,
+        month,
+        day,
+        rest: &input[10..],
+        kind: ExtendedKind::Extended,
+    };
+    Some(FirstSixteen {
+        date,
+        hour,
+        minute,
+        after,
+    })
+}
+
+// Without separators, up to the second. `None`: not this form.
+#[inline(always)]
+fn basic_first_sixteen(input: &[u8]) -> Option<FirstSixteen<'_>>
+    ensures { IfSome result (IsFirstSixteen input.now) }
+{
+    let (first, _) = input.split_first_chunk::<16>()?;
+    if !block::is_within(first, BASIC_LEAST, BASIC_GREATEST) {
+        return None;
+    }
+    let [century, in_century, month, day, hour, minute, _, _] = basic_pairs(first);
+    let date = CalendarDigits {
+        century,
+        in_century,
+        month,
+        day,
+        rest: &input[8..],
+        kind: ExtendedKind::Basic,
+    };
+    Some(FirstSixteen {
+        date,
+        hour,
+        minute,
+        after: &input[13..],
+    })
+}
+
+// The numbers that the pairs of digits say.
+#[inline(always)]
+fn extended_pairs(bytes: &[u8; 16]) -> [u8; 8]
+    ensures { AllWithin LEAST GREATEST bytes.now
+        → result ≡ map (pair_at bytes.now) (0 ∷ 2 ∷ 5 ∷ 8 ∷ 11 ∷ 14 ∷ 14 ∷ 14 ∷ []) }
+{
+    let digits = u8x16::from_slice(bytes) - u8x16::splat(b'0');
+    let tens: u8x8 = digits.swizzle([0, 2, 5, 8, 11, 14, 14, 14]);
+    let ones: u8x8 = digits.swizzle([1, 3, 6, 9, 12, 15, 15, 15]);
+    (tens * u8x8::splat(10) + ones).to_array()
+}
+
+#[inline(always)]
+fn basic_pairs(bytes: &[u8; 16]) -> [u8; 8]
+    ensures { AllWithin BASIC_LEAST BASIC_GREATEST bytes.now
+        → result ≡ map (pair_at bytes.now) (0 ∷ 2 ∷ 4 ∷ 6 ∷ 9 ∷ 11 ∷ 11 ∷ 11 ∷ []) }
+{
+    let digits = u8x16::from_slice(bytes) - u8x16::splat(b'0');
+    let tens: u8x8 = digits.swizzle([0, 2, 4, 6, 9, 11, 11, 11]);
+    let ones: u8x8 = digits.swizzle([1, 3, 5, 7, 10, 12, 12, 12]);
+    (tens * u8x8::splat(10) + ones).to_array()
+}
+
+// The date and the time that begin so, with the second after them. `None`: not this form.
+#[inline(always)]
+fn date_and_time_of(first: FirstSixteen<'_>) -> Option<DateAndTime<'_>>
+    ensures { (text : List ℕ) → IsFirstSixteen text first.entry → IfSome result (λ p. GivesDateAndTime text (Ok p)) }
+{
+    if first.hour > 23 {
+        return None;
+    }
+    let digits = first.date;
+    let date = date_of(digits.century, digits.in_century, digits.month, digits.day)?;
+    let second = second(first.after)?;
+    Some(DateAndTime {
+        date: Part {
+            rest: digits.rest,
+            value: date,
+            kind: digits.kind,
+        },
+        time: Some(Part {
+            rest: second.0,
+            value: TimeNumbers {
+                hour: first.hour,
+                minute: first.minute,
+                second: second.1.0,
+                subsecond: second.1.1,
+            },
+            kind: digits.kind,
+        }),
+    })
+}

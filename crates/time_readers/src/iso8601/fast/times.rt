@@ -1,0 +1,158 @@
+//! An hour, a minute and a second after `T`.
+ghost use Rattle.std.specs.Prelude.{◌≡◌, ◌≤◌, ◌<◌, ℕ, List, Bool, IfSome, Some, None};
+ghost use Rattle.time_readers.specs.IsoAnswers.{GivesPart};
+ghost use Rattle.time_readers.specs.IsoFast.{IsSecond};
+ghost use Rattle.time_readers.specs.IsoFractions.{round_of};
+ghost use Rattle.time_readers.specs.IsoPieces.{Number, number, byte, plain, fraction};
+ghost use Rattle.time_readers.specs.IsoTimes as spec;
+
+use crate::ParsedItem;
+use crate::combinator::{leading_digits, nine_digits};
+use crate::iso8601::grammar::fractions::round_fraction;
+use crate::iso8601::grammar::pieces::{byte, float, point, two_digits};
+use crate::iso8601::{ExtendedKind, Part, TimeNumbers};
+
+// `T`, a whole hour, a whole minute and a second, with separators or without. `None`: not this form.
+#[inline(always)]
+pub(in crate::iso8601) fn time<'a>(
+    input: &'a [u8],
+    kind: ExtendedKind,
+) -> Option<Part<'a, TimeNumbers>>
+    ensures { (needed : Bool) → IfSome result (λ p. GivesPart (spec.time_text needed kind input.now) (Some p)) }
+{
+    after_t(byte::<b'T'>(input)?, kind)
+}
+
+// A whole hour, a whole minute and a second, with separators or without. `None`: not this form.
+#[inline(always)]
+fn after_t<'a>(input: &'a [u8], kind: ExtendedKind) -> Option<Part<'a, TimeNumbers>>
+    ensures { IfSome result (λ p. GivesPart (spec.time_after kind input.now) (Some p)) }
+{
+    let hour = whole_number(input)?;
+    if hour.1 > 23 {
+        return None;
+    }
+    match byte::<b':'>(hour.0) {
+        Some(after) => extended_time(after, kind, hour.1),
+        None => basic_time(hour.0, kind, hour.1),
+    }
+}
+
+// What stands after a whole hour, where it is a whole minute and a second. `None`: not this form.
+#[inline(always)]
+fn basic_time<'a>(input: &'a [u8], kind: ExtendedKind, hour: u8) -> Option<Part<'a, TimeNumbers>>
+    requires hour { hour ≤ 23 }
+    requires no_colon { byte 58 input.now ≡ None }
+    ensures { (bytes : List ℕ) → number bytes ≡ Some (input.now, plain hour)
+        → IfSome result (λ p. GivesPart (spec.time_after kind bytes) (Some p)) }
+{
+    if kind.is_extended() {
+        return None;
+    }
+    let minute = whole_number(input)?;
+    if minute.1 > 59 {
+        return None;
+    }
+    let found = second(minute.0)?;
+    Some(Part {
+        rest: found.0,
+        value: TimeNumbers {
+            hour,
+            minute: minute.1,
+            second: found.1.0,
+            subsecond: found.1.1,
+        },
+        kind: ExtendedKind::Basic,
+    })
+}
+
+// What stands after a whole hour and a colon, where it is a whole minute, a colon and a second. `None`: not this form.
+#[inline(always)]
+fn extended_time<'a>(input: &'a [u8], kind: ExtendedKind, hour: u8) -> Option<Part<'a, TimeNumbers>>
+    requires { hour ≤ 23 }
+    ensures { (bytes mid : List ℕ) → number bytes ≡ Some (mid, plain hour) → byte 58 mid ≡ Some input.now
+        → IfSome result (λ p. GivesPart (spec.time_after kind bytes) (Some p)) }
+{
+    if !kind.maybe_extended() {
+        return None;
+    }
+    let minute = whole_number(input)?;
+    if minute.1 > 59 {
+        return None;
+    }
+    let after = byte::<b':'>(minute.0)?;
+    let found = second(after)?;
+    Some(Part {
+        rest: found.0,
+        value: TimeNumbers {
+            hour,
+            minute: minute.1,
+            second: found.1.0,
+            subsecond: found.1.1,
+        },
+        kind: ExtendedKind::Extended,
+    })
+}
+
+// A second of 0 to 60 and its nanoseconds.
+#[inline(always)]
+pub(super) fn second(input: &[u8]) -> Option<ParsedItem<'_, (u8, u32)>>
+    ensures { IfSome result (λ p. (n : Number) × (number input.now ≡ Some (p.0.now, n))
+        × IsSecond n p.1.0 p.1.1) }
+{
+    if let Some(found) = whole_number(input) {
+        if found.1 > 60 {
+            return None;
+        }
+        return Some(ParsedItem(found.0, (found.1, 0)));
+    }
+    if let Some(found) = nanoseconds(input) {
+        if found.1.0 > 60 {
+            return None;
+        }
+        return Some(found);
+    }
+    rounded_second(input)
+}
+
+// A second of 0 to 60 and a fraction, rounded to nanoseconds.
+#[inline(never)]
+fn rounded_second(input: &[u8]) -> Option<ParsedItem<'_, (u8, u32)>>
+    ensures { IfSome result (λ p. (n : Number) × (number input.now ≡ Some (p.0.now, n))
+        × IsSecond n p.1.0 p.1.1) }
+{
+    let found = float(input)?;
+    let digits = found.1.1?;
+    let nanoseconds = round_fraction(digits, 1_000_000_000);
+    if found.1.0 > 60 || nanoseconds >= 1_000_000_000 {
+        return None;
+    }
+    Some(ParsedItem(found.0, (found.1.0, nanoseconds as u32)))
+}
+
+// Two digits with neither `.` nor `,` after them. `None`: not this form.
+#[inline(always)]
+fn whole_number(input: &[u8]) -> Option<ParsedItem<'_, u8>>
+    ensures { IfSome result (λ p. number input.now ≡ Some (p.0.now, plain p.1)) }
+{
+    let found = two_digits(input)?;
+    match point(found.0) {
+        Some(_) => None,
+        None => Some(found),
+    }
+}
+
+// Two digits and the nanoseconds of a fraction of nine digits. `None`: not this form.
+#[inline(always)]
+fn nanoseconds(input: &[u8]) -> Option<ParsedItem<'_, (u8, u32)>>
+    ensures { IfSome result (λ p. (digits : List ℕ) × (number input.now ≡ Some (p.0.now, fraction p.1.0 digits))
+        × (round_of digits 1_000_000_000 ≡ p.1.1) × (p.1.1 < 1_000_000_000)) }
+{
+    let whole = two_digits(input)?;
+    let after = point(whole.0)?;
+    let found = nine_digits(after)?;
+    if leading_digits(found.0, 1) > 0 {
+        return None;
+    }
+    Some(ParsedItem(found.0, (whole.1, found.1)))
+}

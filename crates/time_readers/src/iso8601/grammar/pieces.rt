@@ -1,0 +1,240 @@
+//! The pieces of ISO 8601 texts. Each reads a text of a fixed form, or refuses by `None`.
+ghost use Rattle.std.specs.Prelude.{◌≡◌, ◌≤◌, ◌<◌, ◌^◌, IfSome};
+ghost use Rattle.std.specs.Int.NonZero.{non_zero_u8_get, non_zero_u16_get};
+ghost use Rattle.time_readers.specs.Cuts.{Finds};
+ghost use Rattle.time_readers.specs.Digits.{AllDigits, IsDigitRun};
+ghost use Rattle.time_readers.specs.IsoAnswers.{Leaves, Gives, GivesAs, number_of};
+ghost use Rattle.time_readers.specs.IsoPieces as spec;
+
+use crate::combinator::{self, ascii_char, exactly_n_digits, leading_digits};
+use crate::{ParsedItem, Sign};
+use std::num::NonZero;
+use time_values::{Month, Weekday};
+
+/// Reads a year: a sign and six digits, or four digits.
+#[inline(always)]
+#[tactic(auto, unfolding(crate::specs::IsoPieces::year))]
+pub fn year(input: &[u8]) -> Option<ParsedItem<'_, i32>>
+    ensures { Gives (spec.year input.now) result }
+{
+    match sign(input) {
+        Some(found) => {
+            let number = exactly::<6>(found.0)?;
+            Some(ParsedItem(number.0, with_sign(found.1, number.1)))
+        }
+        None => {
+            let number = exactly::<4>(input)?;
+            Some(ParsedItem(number.0, with_sign(Sign::Positive, number.1)))
+        }
+    }
+}
+
+// A number with its sign.
+#[inline]
+fn with_sign(sign: Sign, number: u32) -> i32
+    requires { number < 1_000_000 }
+    ensures { result ≡ spec.with_sign sign number }
+{
+    let value = number as i32;
+    match sign {
+        Sign::Negative => -value,
+        Sign::Positive => value,
+    }
+}
+
+/// Reads a month: two digits of 01 to 12.
+#[inline(always)]
+#[tactic(auto, unfolding(crate::specs::IsoPieces::month))]
+pub fn month(input: &[u8]) -> Option<ParsedItem<'_, Month>>
+    ensures { Gives (spec.month input.now) result }
+{
+    let number = two_digits(input)?;
+    let Some(positive) = NonZero::<u8>::new(number.1) else {
+        return None;
+    };
+    match Month::from_number(positive) {
+        Ok(month) => Some(ParsedItem(number.0, month)),
+        Err(_) => None,
+    }
+}
+
+/// Reads a week of the year: two digits, but not `00`.
+#[inline(always)]
+#[tactic(auto, unfolding(crate::specs::IsoPieces::positive))]
+pub fn week(input: &[u8]) -> Option<ParsedItem<'_, NonZero<u8>>>
+    ensures { GivesAs non_zero_u8_get (spec.positive 2 input.now) result }
+{
+    let number = two_digits(input)?;
+    match NonZero::<u8>::new(number.1) {
+        Some(value) => Some(ParsedItem(number.0, value)),
+        None => None,
+    }
+}
+
+/// Reads a day of the month: two digits, but not `00`.
+#[inline(always)]
+pub fn day(input: &[u8]) -> Option<ParsedItem<'_, NonZero<u8>>>
+    ensures { GivesAs non_zero_u8_get (spec.positive 2 input.now) result }
+{
+    week(input)
+}
+
+/// Reads a day of the week: one digit of 1, which is Monday, to 7.
+#[inline(always)]
+#[tactic(auto, unfolding(crate::specs::IsoPieces::weekday))]
+pub fn dayk(input: &[u8]) -> Option<ParsedItem<'_, Weekday>>
+    ensures { Gives (spec.weekday input.now) result }
+{
+    let number = one_digit(input)?;
+    match numbered_weekday(number.1) {
+        Some(weekday) => Some(ParsedItem(number.0, weekday)),
+        None => None,
+    }
+}
+
+// The weekday of a number, 1 for Monday.
+fn numbered_weekday(number: u8) -> Option<Weekday>
+    ensures { result ≡ spec.numbered spec.weekdays number }
+{
+    match number {
+        1 => Some(Weekday::Monday),
+        2 => Some(Weekday::Tuesday),
+        3 => Some(Weekday::Wednesday),
+        4 => Some(Weekday::Thursday),
+        5 => Some(Weekday::Friday),
+        6 => Some(Weekday::Saturday),
+        7 => Some(Weekday::Sunday),
+        _ => None,
+    }
+}
+
+/// Reads a day of the year: three digits, but not `000`.
+#[inline(always)]
+#[tactic(auto, unfolding(crate::specs::IsoPieces::positive))]
+pub fn dayo(input: &[u8]) -> Option<ParsedItem<'_, NonZero<u16>>>
+    ensures { GivesAs non_zero_u16_get (spec.positive 3 input.now) result }
+{
+    let number = exactly::<3>(input)?;
+    match NonZero::<u16>::new(number.1 as u16) {
+        Some(value) => Some(ParsedItem(number.0, value)),
+        None => None,
+    }
+}
+
+/// Reads an hour: two digits of any value.
+#[inline(always)]
+pub fn hour(input: &[u8]) -> Option<ParsedItem<'_, u8>>
+    ensures { Gives (spec.digits 2 input.now) result }
+{
+    two_digits(input)
+}
+
+/// Reads a minute: two digits of any value.
+#[inline(always)]
+pub fn min(input: &[u8]) -> Option<ParsedItem<'_, u8>>
+    ensures { Gives (spec.digits 2 input.now) result }
+{
+    hour(input)
+}
+
+/// Reads two digits of any value, and a fraction if `.` or `,` stands after them: all digits after that.
+/// It refuses where none stands there.
+#[inline(always)]
+pub fn float(input: &[u8]) -> Option<ParsedItem<'_, (u8, Option<&[u8]>)>>
+    ensures is { GivesAs (λ n. number_of n.0 n.1) (spec.number input.now) result }
+    ensures digits { IfSome result (λ p. IfSome p.1.1 (λ d. AllDigits d.now)) }
+{
+    let whole = two_digits(input)?;
+    let Some(after) = point(whole.0) else {
+        return Some(ParsedItem(whole.0, (whole.1, None)));
+    };
+    let count = leading_digits(after, after.len());
+    if count == 0 {
+        return None;
+    }
+    let digits = &after[..count];
+    Some(ParsedItem(&after[count..], (whole.1, Some(digits))))
+}
+
+// What follows that byte.
+#[inline(always)]
+pub(in crate::iso8601) fn byte<const C: u8>(input: &[u8]) -> Option<&[u8]>
+    ensures { Leaves (spec.byte C input.now) result }
+{
+    match ascii_char::<C>(input) {
+        Some(found) => Some(found.0),
+        None => None,
+    }
+}
+
+// What follows `.` or `,`.
+#[inline(always)]
+#[tactic(auto, unfolding(crate::specs::IsoPieces::point))]
+pub(in crate::iso8601) fn point(input: &[u8]) -> Option<&[u8]>
+    ensures { Leaves (spec.point input.now) result }
+{
+    match byte::<b'.'>(input) {
+        Some(after) => Some(after),
+        None => byte::<b','>(input),
+    }
+}
+
+// A sign.
+#[inline(always)]
+pub(super) fn sign(input: &[u8]) -> Option<ParsedItem<'_, Sign>>
+    ensures { Gives (spec.sign input.now) result }
+{
+    combinator::sign(input)
+}
+
+// Exactly so many digits.
+#[inline(always)]
+fn exactly<const N: u8>(input: &[u8]) -> Option<ParsedItem<'_, u32>>
+    requires least { 1 ≤ N }
+    requires most { N ≤ 9 }
+    ensures is { Gives (spec.digits N input.now) result }
+    ensures below { IfSome result (λ p. p.1 < 10 ^ N) }
+{
+    exactly_n_digits::<N>(input)
+}
+
+// Two digits.
+#[inline(always)]
+pub(in crate::iso8601) fn two_digits(input: &[u8]) -> Option<ParsedItem<'_, u8>>
+    ensures { Gives (spec.digits 2 input.now) result }
+{
+    combinator::two_digits(input)
+}
+
+// One digit.
+#[inline(always)]
+fn one_digit(input: &[u8]) -> Option<ParsedItem<'_, u8>>
+    ensures { Gives (spec.digits 1 input.now) result }
+{
+    run_of_one(input)
+}
+
+#[inline(always)]
+fn run_of_one(input: &[u8]) -> Option<ParsedItem<'_, u8>>
+    ensures { Finds (IsDigitRun 1 1) (λ v. v) input.now result }
+{
+    match input {
+        [a @ b'0'..=b'9', rest @ ..] => Some(ParsedItem(rest, *a - b'0')),
+        _ => None,
+    }
+}
+
+// Two digits of a number up to the greatest.
+#[inline(always)]
+#[tactic(auto, unfolding(crate::specs::IsoPieces::up_to))]
+pub(super) fn up_to<const GREATEST: u8>(input: &[u8]) -> Option<ParsedItem<'_, u8>>
+    ensures is { Gives (spec.up_to GREATEST 2 input.now) result }
+    ensures within { IfSome result (λ p. p.1 ≤ GREATEST) }
+{
+    let found = two_digits(input)?;
+    if found.1 <= GREATEST {
+        Some(found)
+    } else {
+        None
+    }
+}

@@ -19,7 +19,7 @@ use Rattle.time_readers.specs.declared.Sign.{Sign}
 use Rattle.time_readers.specs.declared.Sign.TheVariants.{Negative, Positive}
 use Rattle.time_readers.specs.Bytes.{IsByte, IsSign}
 use Rattle.time_readers.specs.Digits.{IsDigit, AllDigits, digits_value, NoDigitFirst, IsDigitRun}
-use Rattle.time_readers.specs.IsoPieces.{is_digit, all_digits, digits, leading_digits, byte, point, plain, fraction, after_point, number, sign, months, numbered}
+use Rattle.time_readers.specs.IsoPieces.{Number, is_digit, all_digits, digits, leading_digits, byte, point, plain, fraction, after_point, number, sign, months, numbered}
 use Rattle.time_readers.specs.IsoAnswers.{Gives}
 use Rattle.time_readers.specs.IsoFractions.{round_of}
 use Rattle.time_readers.proofs.IsoFractions.{round_whole}
@@ -38,18 +38,28 @@ pub all_digits-tells : (s : List ℕ) → all_digits s ≡ true → AllDigits s
 all_digits-tells [] e = tt
 all_digits-tells (c ∷ s) e = let both = and_parts (is_digit c) (all_digits s) e in (is_digit-tells c both.0, all_digits-tells s both.1)
 
--- a run of exactly so many digits is found
+-- a run of exactly so many digits is the front of the bytes, and what follows it the rest
+module _ (n : ℕ) (s rest : List ℕ) (v : ℕ) (cut : Cut (IsDigitRun n n) s rest v) where
+  cut-long : length cut.0 ≡ n
+  cut-long = omega (arith, cut.2.enough, cut.2.within)
+
+  cut-front : take n s ≡ cut.0
+  cut-front = ap (take n) cut.1 ∙ ap (λ k. take k (cut.0 ++ rest)) (sym cut-long) ∙ take-append_seam cut.0 rest
+
+  cut-back : drop n s ≡ rest
+  cut-back = ap (drop n) cut.1 ∙ ap (λ k. drop k (cut.0 ++ rest)) (sym cut-long) ∙ drop-append_seam cut.0 rest
+
+  cut-room : n ≤ length s
+  cut-room = omega (arith, cut-long, ap length cut.1, length-append cut.0 rest)
+
+-- and it is found
 pub digits-cut : (n : ℕ) (s rest : List ℕ) (v : ℕ) → Cut (IsDigitRun n n) s rest v → digits n s ≡ Some (rest, v)
 unfolding digits
 digits-cut n s rest v cut =
-    let text = cut.0 in
-    let run = cut.2 in
-    let long : length text ≡ n = omega (arith, run.enough, run.within) in
-    let front : take n s ≡ text = ap (take n) cut.1 ∙ ap (λ k. take k (text ++ rest)) (sym long) ∙ take-append_seam text rest in
-    let back : drop n s ≡ rest = ap (drop n) cut.1 ∙ ap (λ k. drop k (text ++ rest)) (sym long) ∙ drop-append_seam text rest in
-    let room : nat_le n (length s) ≡ true = le-leb n (length s) (omega (arith, ap length cut.1, length-append text rest)) in
-    let all : all_digits (take n s) ≡ true = ap all_digits front ∙ all_digits-true text run.digits in
-    rw (room, all, front, back, run.is) refl
+    let front = cut-front n s rest v cut in
+    let room : nat_le n (length s) ≡ true = le-leb n (length s) (cut-room n s rest v cut) in
+    let all : all_digits (take n s) ≡ true = ap all_digits front ∙ all_digits-true cut.0 cut.2.digits in
+    rw (room, all, front, cut-back n s rest v cut, cut.2.is) refl
 
 -- and where none is there, none is
 pub digits-no_cut : (n : ℕ) (s : List ℕ) → NoCut (IsDigitRun n n) s → digits n s ≡ None
@@ -216,24 +226,34 @@ none_counted : (s : List ℕ) (n : ℕ) → n ≡ 0 → (n ≡ 1) ⊎ NoDigitFir
 none_counted s n e (inl one) = absurd (omega (arith, e, one))
 none_counted s n e (inr ends) = subst (λ k. NoDigitFirst (drop k s)) e ends
 
+-- two digits and a fraction of exactly so many
+fraction_parts : (n whole v : ℕ) (after rest : List ℕ) (cut : Cut (IsDigitRun n n) after rest v)
+    → ◌≡◌ {A = Option (List ℕ × Number)} (Some (take (length after - n) (drop n after), fraction whole (take n after)))
+    (Some (rest, fraction whole cut.0))
+fraction_parts n whole v after rest cut =
+    rw (take-drop after n (cut-room n after rest v cut), cut-back n after rest v cut, cut-front n after rest v cut) refl
+
+number-exact : (n : ℕ) (s mid after rest : List ℕ) (whole v : ℕ) → digits 2 s ≡ Some (mid, whole) → point mid ≡ Some after
+    → (cut : Cut (IsDigitRun n n) after rest v) → 1 ≤ n → NoDigitFirst rest → number s ≡ Some (rest, fraction whole cut.0)
+number-exact n s mid after rest whole v e p cut some ends =
+    let all = subst AllDigits (sym (cut-front n after rest v cut)) cut.2.digits in
+    let none = subst NoDigitFirst (sym (cut-back n after rest v cut)) ends in
+    let room = cut-room n after rest v cut in
+    number-fraction s mid after whole n e p (leading-are n after room all (inr none)) some room
+    ∙ fraction_parts n whole v after rest cut
+
 -- a fraction of nine digits, which are nanoseconds
 pub number-nine : (s mid after rest : List ℕ) (whole v : ℕ) → digits 2 s ≡ Some (mid, whole) → point mid ≡ Some after
     → Cut (IsDigitRun 9 9) after rest v → (more : ℕ) → more ≡ 0 → (more ≡ 1) ⊎ NoDigitFirst (drop more rest)
     → (d : List ℕ) × (number s ≡ Some (rest, fraction whole d)) × (round_of d 1_000_000_000 ≡ v) × (v < 1_000_000_000)
 number-nine s mid after rest whole v e p cut more nothing counted =
-    let ends : NoDigitFirst rest = none_counted rest more nothing counted in
-    let text = cut.0 in
-    let run = cut.2 in
-    let long : length text ≡ 9 = omega (arith, run.enough, run.within) in
-    let front : take 9 after ≡ text = ap (take 9) cut.1 ∙ ap (λ k. take k (text ++ rest)) (sym long) ∙ take-append_seam text rest in
-    let back : drop 9 after ≡ rest = ap (drop 9) cut.1 ∙ ap (λ k. drop k (text ++ rest)) (sym long) ∙ drop-append_seam text rest in
-    let room : 9 ≤ length after = omega (arith, ap length cut.1, length-append text rest) in
-    let leads = leading-are 9 after room (subst AllDigits (sym front) run.digits) (inr (subst NoDigitFirst (sym back) ends)) in
-    let is = number-fraction s mid after whole 9 e p leads (omega arith) room in
-    let same : Some (take (length after - 9) (drop 9 after), fraction whole (take 9 after)) ≡ Some (rest, fraction whole text) =
-    rw (take-drop after 9 room, back, front) refl in
-    let round = round_whole text 1_000_000_000 (ap (λ n. 10 ^ n) long) in
-    (text, is ∙ same, sym round ∙ sym run.is, IsDigitRun-below 9 9 text rest v run)
+    let ends = none_counted rest more nothing counted in
+    let round = round_whole cut.0 1_000_000_000 (ap (λ n. 10 ^ n) (cut-long 9 after rest v cut)) in (
+      cut.0,
+      number-exact 9 s mid after rest whole v e p cut (omega arith) ends,
+      sym round ∙ sym cut.2.is,
+      IsDigitRun-below 9 9 cut.0 rest v cut.2,
+    )
 
 -- one digit
 pub run_one : (s : List ℕ) (value : ℕ) → 1 ≤ length s → IsDigit (get_or s 0 0) → value ≡ get_or s 0 0 - 48

@@ -46,13 +46,6 @@ IsLeaf (literal t) = Unit {0}
 IsLeaf (component whole c) = Unit {0}
 IsLeaf t = ⊥
 
--- So many leaves in front are read one after another. `Y` is the greatest year.
-unfoldable pub ReadsLeaves : ℕ → Trees → ℕ → List ℕ → Record → List ℕ → Record → Type 0
-ReadsLeaves Y ts zero bytes r rest new = (rest ≡ bytes) × (new ≡ r)
-ReadsLeaves Y none (suc n) bytes r rest new = ⊥
-ReadsLeaves Y (more t ts) (suc n) bytes r rest new =
-    IsLeaf t × ((mid : List ℕ) × (q : Record) × Reads Y t bytes r mid q × ReadsLeaves Y ts n mid q rest new)
-
 -- a count and so many more, where it doesn't pass the greatest number of 64 bits
 abbrev pub raised : ℕ → ℕ → ℕ
 raised old n = old + min n (2 ^ 64 - 1 - old)

@@ -3,6 +3,7 @@ mod builders;
 mod cells;
 mod component;
 mod debug;
+pub(crate) mod fast;
 mod getters;
 mod parse;
 mod setters;

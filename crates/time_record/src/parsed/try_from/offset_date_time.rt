@@ -1,5 +1,5 @@
 //! The moment of a record with its offset from UTC.
-ghost use Rattle.std.specs.Prelude.{◌≡◌, ◌≤◌, false, IfSome, IsOkAnd, IsTrue, Ok};
+ghost use Rattle.std.specs.Prelude.{◌≡◌, ◌≤◌, false, IsOkAnd, IsTrue};
 ghost use Rattle.std.specs.Option.{ForSome};
 ghost use Rattle.time_values.specs.Instants.{is_instant, IsLeapSecondMoment};
 ghost use Rattle.time_values.specs.Moments as Moments;
@@ -8,11 +8,9 @@ ghost use Rattle.time_values.specs.Range.{greatest_year};
 ghost use Rattle.time_record.specs.Resolution.{IsMoment, IsMomentOfParts, IsStamped, is_leap_second, parsed_seen};
 
 use crate::Parsed;
-use crate::parsed::cells::{DAY, HOUR_24, MINUTE, MONTH, SECOND, YEAR};
-use crate::parsed::try_from::date::{date_of, usual_date};
+use crate::parsed::try_from::date::date_of;
 use crate::parsed::try_from::leap_second::{is_leap_second, misplaced, stand_in};
-use crate::parsed::try_from::offset::{offset_of, usual_offset};
-use crate::parsed::try_from::time::{time_with, usual_time};
+use crate::parsed::try_from::offset::offset_of;
 use std::convert::TryFrom;
 use time_values::OffsetDateTime;
 use time_values::error::TryFromParsed;
@@ -28,69 +26,17 @@ impl TryFrom<Parsed> for OffsetDateTime {
     ghost try_from_gives = { λ p r. IsMoment greatest_year p (parsed_seen r) };
 
     #[inline(always)]
+    #[tactic(auto, unfolding(crate::specs::Resolution::IsMoment))]
     fn try_from(parsed: Parsed) -> Result<OffsetDateTime, TryFromParsed> {
-        match usual_moment(&parsed) {
-            Some(moment) => Ok(moment),
-            None => moment_or_refusal(&parsed),
+        match parsed.unix_timestamp_nanos() {
+            Some(nanos) => moment_at(nanos, parsed.subsecond()),
+            None => moment_of_parts(&parsed),
         }
     }
 }
 
-// The moment of a record that has the usual components; `None` says nothing.
-#[inline(always)]
-#[tactic(auto, unfolding(crate::specs::Resolution::IsMoment))]
-fn usual_moment(parsed: &Parsed) -> Option<OffsetDateTime>
-    ensures { IfSome result (λ v. IsMoment greatest_year parsed.now (Ok v)) }
-{
-    if parsed.unix_timestamp_nanos().is_some() {
-        return None;
-    }
-    usual_moment_of_parts(parsed)
-}
-
-// The moment of the usual components of a date, a time and an offset; `None` says nothing.
-#[inline(always)]
-#[tactic(auto, unfolding(crate::specs::Resolution::IsMomentOfParts))]
-fn usual_moment_of_parts(parsed: &Parsed) -> Option<OffsetDateTime>
-    ensures { IfSome result (λ v. IsMomentOfParts greatest_year parsed.now (Ok v)) }
-{
-    let date = usual_date(parsed)?;
-    let time = usual_time(parsed)?;
-    if is_leap_second(parsed) {
-        return None;
-    }
-    let offset = usual_offset(parsed)?;
-    Some(OffsetDateTime::new_in_offset(date, time, offset))
-}
-
-// The moment of a record. The refusals of the usual components stand in line, so that a record of which the compiler
-// knows that they are there needs no place in memory.
-#[inline(always)]
-#[tactic(auto, unfolding(crate::specs::Resolution::IsMoment))]
-fn moment_or_refusal(parsed: &Parsed) -> Result<OffsetDateTime, TryFromParsed>
-    ensures { IsMoment greatest_year parsed.now (parsed_seen result) }
-{
-    let is_usual = parsed.has(YEAR, MONTH, DAY) && parsed.has(HOUR_24, MINUTE, SECOND);
-    if !is_usual || parsed.unix_timestamp_nanos().is_some() {
-        return moment_of(parsed);
-    }
-    moment_of_parts(parsed)
-}
-
-// The moment of a record, whatever it has.
-#[inline(never)]
-#[tactic(auto, unfolding(crate::specs::Resolution::IsMoment))]
-fn moment_of(parsed: &Parsed) -> Result<OffsetDateTime, TryFromParsed>
-    ensures { IsMoment greatest_year parsed.now (parsed_seen result) }
-{
-    match parsed.unix_timestamp_nanos() {
-        Some(nanos) => moment_at(nanos, parsed.subsecond()),
-        None => moment_of_parts(parsed),
-    }
-}
-
 // The moment of a timestamp, with that nanosecond of its second where one is given.
-#[inline]
+#[inline(never)]
 fn moment_at(nanos: i128, subsecond: Option<u32>) -> Result<OffsetDateTime, TryFromParsed>
     requires nanos { IsTrue (is_instant greatest_year nanos) }
     requires subsecond { ForSome subsecond (λ n. n ≤ 999_999_999) }
@@ -112,8 +58,7 @@ fn moment_of_parts(parsed: &Parsed) -> Result<OffsetDateTime, TryFromParsed>
     ensures { IsMomentOfParts greatest_year parsed.now (parsed_seen result) }
 {
     let date = date_of(parsed)?;
-    let (second, subsecond) = stand_in(parsed);
-    let time = time_with(parsed, second, subsecond)?;
+    let time = stand_in(parsed)?;
     let offset = offset_of(parsed)?;
     let moment = OffsetDateTime::new_in_offset(date, time, offset);
     if !leap_second_may_stand(parsed, moment) {

@@ -1,11 +1,10 @@
 //! The date and the time of a record.
-ghost use Rattle.std.specs.Prelude.{IfSome, Ok};
 ghost use Rattle.time_values.specs.Range.{greatest_year};
 ghost use Rattle.time_record.specs.Resolution.{IsPlain, parsed_seen};
 
 use crate::Parsed;
-use crate::parsed::try_from::date::{date_of, usual_date};
-use crate::parsed::try_from::time::{time_of, usual_time};
+use crate::parsed::try_from::date::date_of;
+use crate::parsed::try_from::time::time_of;
 use std::convert::TryFrom;
 use time_values::PlainDateTime;
 use time_values::error::TryFromParsed;
@@ -18,22 +17,8 @@ impl TryFrom<Parsed> for PlainDateTime {
 
     #[inline(always)]
     fn try_from(parsed: Parsed) -> Result<PlainDateTime, TryFromParsed> {
-        match usual_date_and_time(&parsed) {
-            Some(date_time) => Ok(date_time),
-            None => date_and_time(&parsed),
-        }
+        date_and_time(&parsed)
     }
-}
-
-// The date and the time of a record that has the usual components; `None` says nothing.
-#[inline(always)]
-#[tactic(auto, unfolding(crate::specs::Resolution::IsPlain))]
-fn usual_date_and_time(parsed: &Parsed) -> Option<PlainDateTime>
-    ensures { IfSome result (λ p. IsPlain greatest_year parsed.now (Ok p)) }
-{
-    let date = usual_date(parsed)?;
-    let time = usual_time(parsed)?;
-    Some(PlainDateTime::new(date, time))
 }
 
 // The date and the time of a record.

@@ -1,5 +1,0 @@
-use Rattle.time_record.proofs.ComponentLemmas.{MayRead-whole}
-use Rattle.time_record.proofs.parsed.Parsed.read_common_whole.Goals as goal
-
-pub returns-in_default : goal.returns-in_default
-returns-in_default c = MayRead-whole _ c.args.component.now _ _ _ _ c.in_default.not-Ignore c.read_common.ensures

@@ -178,10 +178,10 @@ static TIMES: [(&[(Field, i128)], Result<(u8, u8, u8, u32), TryFromParsed>); 12]
     (&[HOUR], Ok((5, 0, 0, 0))),
     (&[HOUR, SECOND], Err(UNKNOWN)),
     (&[HOUR, MINUTE], Ok((5, 30, 0, 0))),
-    (&[HOUR, MINUTE, (Field::SubSECOND, 1)], Err(UNKNOWN)),
+    (&[HOUR, MINUTE, (Field::Subsecond, 1)], Err(UNKNOWN)),
     (&[HOUR, MINUTE, SECOND], Ok((5, 30, 10, 0))),
     (
-        &[HOUR, MINUTE, SECOND, (Field::SubSECOND, 7)],
+        &[HOUR, MINUTE, SECOND, (Field::Subsecond, 7)],
         Ok((5, 30, 10, 7)),
     ),
     (&[HOUR, MINUTE, (Field::Second, 60)], Err(SECOND_IS_OUT)),

@@ -1,4 +1,7 @@
 //! The answer to a line.
+//!
+//! `fast` cuts the lines whose names it knows at once and is asked first: what it doesn't answer `cut_request` decides, so
+//! without it each line has the same answer, in more steps.
 ghost use Rattle.std.specs.Prelude.{ℕ, List, OnOk, IfSome, codes, ◌++◌, MatchResult};
 ghost use Rattle.std.specs.Io.KnownBytes.{Appends};
 ghost use Rattle.time_values.specs.Range.{greatest_year};
@@ -10,10 +13,12 @@ ghost use Rattle.time_lines.specs.Output.{IsAnswer, IsAnswerFor, IsDescribed, Is
 ghost use Rattle.time_lines.specs.Values.{printed};
 ghost use Rattle.time_lines.specs.declared.formats.Format.TheVariants as format;
 
+mod fast;
+
 use crate::cuts::cut_tab;
 use crate::formats::{
     Format, Target, clock_items, compound, date_items, find_format, find_target, first,
-    fraction_items, local_items, read_format, read_target, second_items, unix,
+    fraction_items, local_items, second_items, unix,
 };
 use crate::layout::Layout;
 use std::io;
@@ -170,23 +175,12 @@ fn cut_request(line: &[u8]) -> Request<'_>
     Ok((format, target, text))
 }
 
-// What the line asks for, where it begins with names that are known. `None` says nothing.
-#[inline(always)]
-fn read_request(line: &[u8]) -> Option<(Format, Target, &[u8])>
-    ensures { IfSome result
-        (λ asked. (answer : List ℕ) → IsParsed greatest_year asked.0 asked.1 asked.2.now answer → IsAnswer greatest_year line.now answer) }
-{
-    let (format, rest) = read_format(line)?;
-    let (target, text) = read_target(rest)?;
-    Some((format, target, text))
-}
-
 /// Writes the answer to a line, which is a format, TAB, a target, TAB and a text.
 #[inline(always)]
 pub fn write_answer<W: Write>(line: &[u8], out: &mut W) -> io::Result<()>
     ensures { OnOk result (Writes (IsAnswer greatest_year line.now) (W.contents out.old) (W.contents out.new)) }
 {
-    let (format, target, text) = match read_request(line) {
+    let (format, target, text) = match fast::request(line) {
         Some(asked) => asked,
         None => match cut_request(line) {
             Ok(asked) => asked,

@@ -1,0 +1,5 @@
+//! Tests of whole texts in each format.
+#![tactic(auto)]
+
+#[cfg(test)]
+mod tests;

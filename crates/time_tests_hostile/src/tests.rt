@@ -1,0 +1,4 @@
+mod callers;
+mod counted_and_laws;
+mod hostile;
+mod readme;

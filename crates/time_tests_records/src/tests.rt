@@ -1,0 +1,4 @@
+mod conversions;
+mod descriptions;
+mod records;
+mod wide_years;

@@ -1,0 +1,5 @@
+//! Tests of months, dates, times, offsets, moments and errors.
+#![tactic(auto)]
+
+#[cfg(test)]
+mod tests;

@@ -1,0 +1,3 @@
+mod days;
+mod errors;
+mod values;

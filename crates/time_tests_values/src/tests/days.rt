@@ -1,0 +1,195 @@
+//! Each day of 400 years here and there, against a count from day to day.
+use std::num::NonZero;
+use std::process::Abort;
+use std::test::Fail;
+use time_values::error::ComponentRange;
+use time_values::{Date, Month, Time, UtcDateTime};
+
+// A day and what a count from day to day says of it.
+#[derive(Clone, Copy)]
+struct Counted {
+    year: i32,
+    month: u8,
+    day: u8,
+    ordinal: u16,
+    weekday: u8,
+    sunday_week: u8,
+    monday_week: u8,
+    iso_year: i32,
+    iso_week: u8,
+    nanos: i128,
+}
+
+const NANOS_PER_DAY: i128 = 86_400_000_000_000;
+
+impl Counted {
+    // 1 January 1900, a Monday, which is 25,567 days before 1 January 1970.
+    const IN_1900: Counted = Counted {
+        year: 1900,
+        month: 1,
+        day: 1,
+        ordinal: 1,
+        weekday: 0,
+        sunday_week: 0,
+        monday_week: 1,
+        iso_year: 1900,
+        iso_week: 1,
+        nanos: -25_567 * NANOS_PER_DAY,
+    };
+
+    // 1 January -999999, a Monday, 365,961,662 days before.
+    const FIRST: Counted = Counted {
+        year: -999_999,
+        iso_year: -999_999,
+        nanos: -365_961_662 * NANOS_PER_DAY,
+        ..Counted::IN_1900
+    };
+
+    // 1 January -200, a Wednesday, 792,576 days before.
+    const BEFORE_0: Counted = Counted {
+        year: -200,
+        weekday: 2,
+        monday_week: 0,
+        iso_year: -200,
+        nanos: -792_576 * NANOS_PER_DAY,
+        ..Counted::IN_1900
+    };
+
+    // 1 January 999600, a Saturday, 364,376,875 days after.
+    const IN_999600: Counted = Counted {
+        year: 999_600,
+        weekday: 5,
+        monday_week: 0,
+        iso_year: 999_599,
+        iso_week: 52,
+        nanos: 364_376_875 * NANOS_PER_DAY,
+        ..Counted::IN_1900
+    };
+
+    fn days_in_month(&self) -> u8 {
+        match self.month {
+            4 | 6 | 9 | 11 => 30,
+            2 => {
+                let leap = self.year.rem_euclid(4) == 0
+                    && (self.year.rem_euclid(100) != 0 || self.year.rem_euclid(400) == 0);
+                if leap { 29 } else { 28 }
+            }
+            _ => 31,
+        }
+    }
+
+    // The next day.
+    fn step(&mut self) {
+        self.weekday = self.weekday.wrapping_add(1) % 7;
+        self.nanos = self.nanos.wrapping_add(NANOS_PER_DAY);
+        self.ordinal = self.ordinal.wrapping_add(1);
+        if self.day < self.days_in_month() {
+            self.day = self.day.wrapping_add(1);
+        } else if self.month < 12 {
+            self.day = 1;
+            self.month = self.month.wrapping_add(1);
+        } else {
+            self.start_year();
+        }
+        self.count_weeks();
+    }
+
+    fn start_year(&mut self) {
+        self.year = self.year.wrapping_add(1);
+        self.month = 1;
+        self.day = 1;
+        self.ordinal = 1;
+        self.sunday_week = 0;
+        self.monday_week = 0;
+    }
+
+    fn count_weeks(&mut self) {
+        if self.weekday == 6 {
+            self.sunday_week = self.sunday_week.wrapping_add(1);
+        }
+        if self.weekday == 0 {
+            self.monday_week = self.monday_week.wrapping_add(1);
+            // The Thursday of a week that begins on one of the last three days is in the next year.
+            let next = self.month == 12 && self.day >= 29;
+            let year = if next {
+                self.year.wrapping_add(1)
+            } else {
+                self.year
+            };
+            self.iso_week = if year == self.iso_year {
+                self.iso_week.wrapping_add(1)
+            } else {
+                1
+            };
+            self.iso_year = year;
+        }
+    }
+}
+
+// The getters agree with the count.
+fn has_its_numbers(date: Date, counted: &Counted) -> bool {
+    date.ordinal() == counted.ordinal
+        && date.weekday().number_days_from_monday() == counted.weekday
+        && date.sunday_based_week() == counted.sunday_week
+        && date.monday_based_week() == counted.monday_week
+        && date.iso_week() == counted.iso_week
+}
+
+// The constructors make the date of its numbers.
+fn is_made_of_its_numbers(date: Date, counted: &Counted) -> bool {
+    let weekday = date.weekday();
+    date.to_iso_week_date() == (counted.iso_year, counted.iso_week, weekday)
+        && Date::from_ordinal_date(counted.year, counted.ordinal) == Ok(date)
+        && Date::from_iso_week_date(counted.iso_year, counted.iso_week, weekday) == Ok(date)
+}
+
+// The midnight before the date is so many nanoseconds after 1970-01-01.
+fn begins_at(date: Date, nanos: i128) -> Result<bool, ComponentRange> {
+    let midnight = UtcDateTime::new(date, Time::from_hms_nano(0, 0, 0, 0)?);
+    Ok(
+        midnight.unix_timestamp_nanos() == nanos
+            && UtcDateTime::from_unix_timestamp_nanos(nanos) == Ok(midnight),
+    )
+}
+
+// The getters agree with the count on so many days, behind which a year begins on a weekday.
+fn agree_on_days(
+    rt: &impl Abort,
+    start: Counted,
+    days: u32,
+    year: i32,
+    weekday: u8,
+) -> Result<(), Fail> {
+    let mut counted = start;
+    for _ in 0..days {
+        let month = Month::from_number(NonZero::<u8>::new(counted.month).ok_or("zero")?)?;
+        let date = Date::from_calendar_date(counted.year, month, counted.day)?;
+        assert!(rt; has_its_numbers(date, &counted));
+        assert!(rt; is_made_of_its_numbers(date, &counted));
+        assert!(rt; begins_at(date, counted.nanos)?);
+        counted.step();
+    }
+    assert!(rt; (counted.year, counted.month, counted.day) == (year, 1, 1));
+    assert!(rt; counted.weekday == weekday);
+    Ok(())
+}
+
+#[test]
+fn days_of_400_years(rt: HostRuntime) -> Result<(), Fail> {
+    agree_on_days(&rt, Counted::IN_1900, 146_097, 2300, 0)
+}
+
+#[test]
+fn days_of_the_first_400_years(rt: HostRuntime) -> Result<(), Fail> {
+    agree_on_days(&rt, Counted::FIRST, 146_097, -999_599, 0)
+}
+
+#[test]
+fn days_around_the_year_0(rt: HostRuntime) -> Result<(), Fail> {
+    agree_on_days(&rt, Counted::BEFORE_0, 146_462, 201, 3)
+}
+
+#[test]
+fn days_of_the_last_400_years(rt: HostRuntime) -> Result<(), Fail> {
+    agree_on_days(&rt, Counted::IN_999600, 146_097, 1_000_000, 5)
+}

@@ -1,0 +1,139 @@
+//! What errors print, and the conversions between them.
+use std::alloc::Global;
+use std::convert::TryFrom;
+use std::fmt::Display;
+use time_values::error::{
+    ComponentRange, DifferentVariant, Error, Parse, ParseFromDescription, TryFromParsed,
+};
+
+const LITERAL: ParseFromDescription = ParseFromDescription::InvalidLiteral;
+
+const MONTH: ParseFromDescription = ParseFromDescription::InvalidComponent("month");
+
+const TRAILING: ParseFromDescription = ParseFromDescription::UnexpectedTrailingCharacters;
+
+const MISSING: TryFromParsed = TryFromParsed::InsufficientInformation;
+
+const YEAR: ComponentRange = ComponentRange {
+    name: "year",
+    conditional: false,
+};
+
+const DAY: ComponentRange = ComponentRange {
+    name: "day",
+    conditional: true,
+};
+
+const LITERAL_TEXT: &str = "a character literal was not valid";
+
+const MONTH_TEXT: &str = "the 'month' component could not be parsed";
+
+const TRAILING_TEXT: &str = "unexpected trailing characters; the end of input was expected";
+
+const MISSING_TEXT: &str =
+    "the `Parsed` struct did not include enough information to construct the type";
+
+const YEAR_TEXT: &str = "year is out of range";
+
+const DAY_TEXT: &str = "day is out of range for the other components";
+
+// The error prints that text.
+fn prints<E: Display>(alloc: Global, e: &E, text: &str) -> bool {
+    match e.to_string(alloc) {
+        Ok(printed) => printed.as_str() == text,
+        Err(_) => false,
+    }
+}
+
+#[test]
+fn texts(rt: HostRuntime) {
+    for (e, text) in [(YEAR, YEAR_TEXT), (DAY, DAY_TEXT)] {
+        assert!(rt; prints(rt.alloc(), &e, text));
+        let e = TryFromParsed::from(e);
+        assert!(rt; prints(rt.alloc(), &e, text));
+        assert!(rt; prints(rt.alloc(), &Parse::from(e), text));
+    }
+    assert!(rt; prints(rt.alloc(), &MISSING, MISSING_TEXT));
+    for (e, text) in [
+        (LITERAL, LITERAL_TEXT),
+        (MONTH, MONTH_TEXT),
+        (TRAILING, TRAILING_TEXT),
+    ] {
+        assert!(rt; prints(rt.alloc(), &e, text));
+        assert!(rt; prints(rt.alloc(), &Parse::from(e), text));
+    }
+    let text = "value was of a different variant than required";
+    assert!(rt; prints(rt.alloc(), &DifferentVariant, text));
+}
+
+// The joint error prints that text.
+fn prints_joined(alloc: Global, e: Error, text: &str) -> bool {
+    prints(alloc, &e, text)
+}
+
+#[test]
+fn joint_error(rt: HostRuntime) {
+    for (e, text) in [
+        (LITERAL, LITERAL_TEXT),
+        (MONTH, MONTH_TEXT),
+        (TRAILING, TRAILING_TEXT),
+    ] {
+        assert!(rt; prints_joined(rt.alloc(), Error::from(e), text));
+        assert!(rt; prints_joined(rt.alloc(), Error::from(Parse::from(e)), text));
+    }
+    for (e, text) in [(YEAR, YEAR_TEXT), (DAY, DAY_TEXT)] {
+        assert!(rt; prints_joined(rt.alloc(), Error::from(e), text));
+    }
+    for (e, text) in [
+        (TryFromParsed::from(YEAR), YEAR_TEXT),
+        (TryFromParsed::from(DAY), DAY_TEXT),
+        (MISSING, MISSING_TEXT),
+    ] {
+        assert!(rt; prints_joined(rt.alloc(), Error::from(e), text));
+        assert!(rt; prints_joined(rt.alloc(), Error::from(Parse::from(e)), text));
+    }
+}
+
+// The error of a parse has that refusal of the text, or that of what was read; and so has the joint error made of it.
+fn splits_into(
+    e: Parse,
+    read: Result<ParseFromDescription, DifferentVariant>,
+    resolved: Result<TryFromParsed, DifferentVariant>,
+) -> bool {
+    ParseFromDescription::try_from(e) == read
+        && TryFromParsed::try_from(e) == resolved
+        && ParseFromDescription::try_from(Error::from(e)) == read
+        && TryFromParsed::try_from(Error::from(e)) == resolved
+        && Parse::try_from(Error::from(e)) == Ok(e)
+}
+
+// Of the joint error that is made of a part of a parse's error the parse's error can be made.
+fn joins_parts() -> bool {
+    TryFromParsed::try_from(Error::from(MONTH)) == Err(DifferentVariant)
+        && Parse::try_from(Error::from(MONTH)) == Ok(Parse::from(MONTH))
+        && ParseFromDescription::try_from(Error::from(MISSING)) == Err(DifferentVariant)
+        && Parse::try_from(Error::from(MISSING)) == Ok(Parse::from(MISSING))
+}
+
+// The joint error that is made of a range is none of a parse.
+fn joins_a_range() -> bool {
+    TryFromParsed::try_from(Error::from(DAY)) == Err(DifferentVariant)
+        && ParseFromDescription::try_from(Error::from(DAY)) == Err(DifferentVariant)
+        && Parse::try_from(Error::from(DAY)) == Err(DifferentVariant)
+}
+
+#[test]
+fn conversions(rt: HostRuntime) {
+    let made = TryFromParsed::from(DAY);
+    for (e, read, resolved) in [
+        (Parse::from(MONTH), Ok(MONTH), Err(DifferentVariant)),
+        (Parse::from(made), Err(DifferentVariant), Ok(made)),
+    ] {
+        assert!(rt; splits_into(e, read, resolved));
+    }
+    for (e, range) in [(made, Ok(DAY)), (MISSING, Err(DifferentVariant))] {
+        assert!(rt; ComponentRange::try_from(e) == range);
+    }
+    assert!(rt; joins_parts());
+    assert!(rt; joins_a_range());
+}

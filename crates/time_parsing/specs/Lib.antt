@@ -6,6 +6,7 @@ pub mod Iso8601Laws
 pub mod IsoValues
 pub mod KeptReadings
 pub mod Outcome
+pub mod Recorded
 pub mod RecordedRfc2822
 pub mod RecordedRfc3339
 pub mod Rfc2822

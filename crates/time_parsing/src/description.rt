@@ -9,7 +9,7 @@ ghost use Rattle.time_parsing.specs.DescriptionLaws.{tree_exact};
 ghost use Rattle.time_parsing.specs.Outcome.{ParsesInto};
 
 use crate::Parsable;
-use crate::parsable::{begin, moment_before};
+use crate::parsable::moment_over;
 use time_readers::{BorrowedFormatItem, FormatDescriptionV3, OwnedFormatItem};
 use time_record::{AnyFormatItem, Parsed};
 use time_values::OffsetDateTime;
@@ -51,9 +51,7 @@ impl Parsable for BorrowedFormatItem<'_> {
         input: &[u8],
         defaults: Option<Parsed>,
     ) -> Result<OffsetDateTime, Parse> {
-        let mut parsed = begin(defaults);
-        let rest = self.parse_into(input, &mut parsed)?;
-        moment_before(rest, &parsed)
+        moment_over(self, input, defaults)
     }
 
     ghost exact = { λ s. tree_exact greatest_year (borrowed_shape s) };
@@ -78,9 +76,7 @@ impl Parsable for OwnedFormatItem {
         input: &[u8],
         defaults: Option<Parsed>,
     ) -> Result<OffsetDateTime, Parse> {
-        let mut parsed = begin(defaults);
-        let rest = self.parse_into(input, &mut parsed)?;
-        moment_before(rest, &parsed)
+        moment_over(self, input, defaults)
     }
 
     ghost exact = { λ s. tree_exact greatest_year (owned_shape s) };
@@ -108,9 +104,7 @@ impl Parsable for FormatDescriptionV3<'_> {
         input: &[u8],
         defaults: Option<Parsed>,
     ) -> Result<OffsetDateTime, Parse> {
-        let mut parsed = begin(defaults);
-        let rest = self.parse_into(input, &mut parsed)?;
-        moment_before(rest, &parsed)
+        moment_over(self, input, defaults)
     }
 
     ghost exact = { λ s. tree_exact greatest_year (v3_shape s.inner) };
@@ -138,9 +132,7 @@ impl<'i, I: AnyFormatItem> Parsable for Items<'i, I> {
         input: &[u8],
         defaults: Option<Parsed>,
     ) -> Result<OffsetDateTime, Parse> {
-        let mut parsed = begin(defaults);
-        let rest = self.parse_into(input, &mut parsed)?;
-        moment_before(rest, &parsed)
+        moment_over(self, input, defaults)
     }
 
     ghost exact = { λ s. tree_exact greatest_year (sequence (trees (map I.shape s.0.now))) };

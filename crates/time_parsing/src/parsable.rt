@@ -163,15 +163,19 @@ pub(crate) fn value_before<V: TryFrom<Parsed, Error = TryFromParsed> + Drop>(
     Ok(V::try_from(*parsed)?)
 }
 
-/// The date, time and offset of a record that was read up to this rest. Where bytes remain it refuses as
-/// [`ParseFromDescription::UnexpectedTrailingCharacters`].
+/// The date, time and offset of the whole input, read over the defaults or an empty record.
 #[inline(always)]
-pub(crate) fn moment_before(rest: &[u8], parsed: &Parsed) -> Result<OffsetDateTime, Parse>
-    ensures { MatchResult (seen result)
-        (λ v. (rest.now ≡ []) × IsMoment greatest_year parsed.now (Ok v))
-        (λ e. ((rest.now ≢ []) × (e ≡ trailing)) ⊎ ((rest.now ≡ []) × IsMoment greatest_year parsed.now (Err e))) }
+pub(crate) fn moment_over<F: Parsable>(
+    format: &F,
+    input: &[u8],
+    defaults: Option<Parsed>,
+) -> Result<OffsetDateTime, Parse>
+    ensures { IsOutcome (IsMoment greatest_year) (F.reads format.now) (F.refuses format.now) input.now
+        (begun defaults) (seen result) }
 {
-    value_before(rest, parsed)
+    let mut parsed = begin(defaults);
+    let rest = format.parse_into(input, &mut parsed)?;
+    value_before::<OffsetDateTime>(rest, &parsed)
 }
 
 /// A reference to a format reads as the format does, always over a record.
@@ -191,9 +195,7 @@ impl<T: Parsable> Parsable for &T {
         input: &[u8],
         defaults: Option<Parsed>,
     ) -> Result<OffsetDateTime, Parse> {
-        let mut parsed = begin(defaults);
-        let rest = self.parse_into(input, &mut parsed)?;
-        moment_before(rest, &parsed)
+        moment_over(self, input, defaults)
     }
 
     ghost exact = { λ x. T.exact x.now };

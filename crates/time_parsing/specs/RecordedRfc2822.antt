@@ -1,6 +1,6 @@
 -- The record of a mail date, over an empty one.
 use Rattle.std.proofs.Common.{◌≡◌, ◌≤◌, ℕ, pos, Bool, true, false, refl, sym, ap, ◌∙◌, subst, arith, List, [], Option, Some, None, Result, Ok, Err, IfSome}
-use Rattle.std.specs.Prelude.{◌==◌, ◌++◌, ◌∷◌, tt, if◌then◌else◌, unsigned_abs, is_none, unwrap_or}
+use Rattle.std.specs.Prelude.{◌==◌, ◌++◌, ◌∷◌, if◌then◌else◌, unsigned_abs, is_none, unwrap_or}
 use Rattle.std.proofs.lemmas.Bool.{le-leb}
 use Rattle.std.proofs.lemmas.Option.{same_Some}
 use Rattle.time_values.specs.Dates as Dates
@@ -51,12 +51,10 @@ second-in_range None h = tt
 second-in_range (Some v) h = (le-leb v 60 h, tt)
 
 offset-in_range : (n : Numbers) (s : Option Sign) → InRanges n → AllInRange greatest_year (offset_entries s n)
-offset-in_range n None i = (le-leb (unsigned_abs n.offset_hour) 25 i.offset_hour.1, refl, refl, tt)
-offset-in_range n (Some s) i = (
-  le-leb (unsigned_abs n.offset_hour) 25 i.offset_hour.1,
-  le-leb (unsigned_abs n.offset_minute) 59 i.offset_minute.1,
-  tt,
-)
+offset-in_range n None i = (le-leb (unsigned_abs n.offset_hour) 25 i.offset_hour.1, (refl, (refl, tt)))
+offset-in_range n (Some s) i =
+    let minute = le-leb (unsigned_abs n.offset_minute) 59 i.offset_minute.1 in
+    (le-leb (unsigned_abs n.offset_hour) 25 i.offset_hour.1, (minute, tt))
 
 entries-in_range : (n : Numbers) → n.year ≤ greatest_year → InRanges n → IfSome n.second (λ v. v ≤ 60)
     → AllInRange greatest_year (entries n)
@@ -64,8 +62,8 @@ entries-in_range n year i second =
     let date =
     in_range-append greatest_year (weekday_entries n.weekday) (day_is n.day ∷ month_is n.month ∷ year_is (pos n.year) ∷ [])
     (weekday-in_range n.weekday)
-    (rw (le-leb 1 n.day i.day.0, le-leb n.day 31 i.day.1) refl, refl, le-leb n.year greatest_year year, tt) in
-    let time = (le-leb n.hour 23 i.hour.1, le-leb n.minute 59 i.minute.1, second-in_range n.second second) in
+    (rw (le-leb 1 n.day i.day.0, le-leb n.day 31 i.day.1) refl, (refl, (le-leb n.year greatest_year year, tt))) in
+    let time : AllInRange greatest_year (time_entries n) = (le-leb n.hour 23 i.hour.1, (le-leb n.minute 59 i.minute.1, second-in_range n.second second)) in
     in_range-append greatest_year (date_entries n ++ time_entries n) (offset_entries n.offset_sign n)
     (in_range-append greatest_year (date_entries n) (time_entries n) date time) (offset-in_range n n.offset_sign i)
 

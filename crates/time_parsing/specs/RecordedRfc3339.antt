@@ -1,6 +1,6 @@
 -- The record of a text of RFC 3339, over an empty one.
 use Rattle.std.proofs.Common.{◌≡◌, ◌≢◌, ◌≤◌, ℕ, pos, Bool, true, false, refl, sym, ap, ◌∙◌, subst, arith, List, [], Option, Some, None, Result, Ok, Err, IfSome}
-use Rattle.std.specs.Prelude.{◌==◌, ◌++◌, ◌∷◌, tt, if◌then◌else◌, unsigned_abs, nat_le}
+use Rattle.std.specs.Prelude.{◌==◌, ◌++◌, ◌∷◌, if◌then◌else◌, unsigned_abs, nat_le}
 use Rattle.std.proofs.lemmas.Bool.{le-leb}
 use Rattle.std.proofs.lemmas.Bool.Decides.{nat_tests}
 use Rattle.std.proofs.lemmas.Option.{same_Some}
@@ -23,7 +23,7 @@ use Rattle.time_record.specs.Record.{Record, Entry, empty, put_all, offset_secon
 use Rattle.time_record.specs.Resolution.{IsMoment, clock_of, stand_in, offset_seconds_of}
 use Rattle.time_parsing.specs.Outcome.{IsOutcome, IsMomentOutcome, direct, seen}
 use Rattle.time_parsing.specs.Recorded.{AllInRange, put_each, put-each, in_range-append}
-use Rattle.time_parsing.specs.Rfc3339.{entries, subsecond_entries, numeric_offset_entries, offset_entries, without_offset_sign, with_leap_second, Reads, Refuses}
+use Rattle.time_parsing.specs.Rfc3339.{entries, date_entries, time_entries, subsecond_entries, numeric_offset_entries, offset_entries, without_offset_sign, with_leap_second, Reads, Refuses}
 use Rattle.time_parsing.specs.ToldMoment.{Tells, clock_said, accepted_ranges, made-resolves, resolves-made}
 
 -- the record with the numbers, of which m is the month
@@ -55,18 +55,16 @@ second-in_range false es all = all
 
 entries-in_range : (n : Numbers) (m : Month) → n.year ≤ greatest_year → InRanges n
     → IfSome n.subsecond (λ v. v ≤ 999999999) → n.offset_hour ≤ 25 → AllInRange greatest_year (entries n m)
-entries-in_range n m year i subsecond hour = (
-  le-leb n.year greatest_year year,
-  refl,
-  rw (le-leb 1 n.day i.day.0, le-leb n.day 31 i.day.1) refl,
-  le-leb n.hour 23 i.hour.1,
-  le-leb n.minute 59 i.minute.1,
-  le-leb n.second 60 i.second.1,
-  in_range-append greatest_year (subsecond_entries n.subsecond) (offset_entries n)
-      (subsecond-in_range n.subsecond subsecond)
-      (second-in_range n.is_utc (numeric_offset_entries n)
-      (near n.offset_is_negative n.offset_hour 25 hour, near n.offset_is_negative n.offset_minute 59 i.offset_minute.1, tt)),
-)
+entries-in_range n m year i subsecond hour =
+    let offset : AllInRange greatest_year (numeric_offset_entries n) =
+    (near n.offset_is_negative n.offset_hour 25 hour, (near n.offset_is_negative n.offset_minute 59 i.offset_minute.1, tt)) in
+    let others =
+    in_range-append greatest_year (subsecond_entries n.subsecond) (offset_entries n)
+    (subsecond-in_range n.subsecond subsecond) (second-in_range n.is_utc (numeric_offset_entries n) offset) in
+    let date : AllInRange greatest_year (date_entries n m) =
+    (le-leb n.year greatest_year year, (refl, (rw (le-leb 1 n.day i.day.0, le-leb n.day 31 i.day.1) refl, tt))) in
+    in_range-append greatest_year (date_entries n m) (time_entries n ++ offset_entries n) date
+    (le-leb n.hour 23 i.hour.1, (le-leb n.minute 59 i.minute.1, (le-leb n.second 60 i.second.1, others)))
 
 same-recorded : (n : Numbers) (m : Month) (o : Option ℕ) (u : Bool) → n.subsecond ≡ o → n.is_utc ≡ u
     → put_each (entries n m) (with_leap_second (without_offset_sign empty)) ≡ recorded n m

@@ -9,7 +9,7 @@ ghost use Rattle.time_parsing.specs.DescriptionLaws.{tree_exact};
 ghost use Rattle.time_parsing.specs.Outcome.{ParsesInto};
 
 use crate::Parsable;
-use crate::parsable::moment_over;
+use crate::parsable::{begin, moment_before};
 use time_readers::{BorrowedFormatItem, FormatDescriptionV3, OwnedFormatItem};
 use time_record::{AnyFormatItem, Parsed};
 use time_values::OffsetDateTime;
@@ -51,7 +51,9 @@ impl Parsable for BorrowedFormatItem<'_> {
         input: &[u8],
         defaults: Option<Parsed>,
     ) -> Result<OffsetDateTime, Parse> {
-        moment_over(self, input, defaults)
+        let mut parsed = begin(defaults);
+        let rest = self.parse_into(input, &mut parsed)?;
+        moment_before(rest, &parsed)
     }
 
     ghost exact = { λ s. tree_exact greatest_year (borrowed_shape s) };
@@ -76,7 +78,9 @@ impl Parsable for OwnedFormatItem {
         input: &[u8],
         defaults: Option<Parsed>,
     ) -> Result<OffsetDateTime, Parse> {
-        moment_over(self, input, defaults)
+        let mut parsed = begin(defaults);
+        let rest = self.parse_into(input, &mut parsed)?;
+        moment_before(rest, &parsed)
     }
 
     ghost exact = { λ s. tree_exact greatest_year (owned_shape s) };
@@ -104,7 +108,9 @@ impl Parsable for FormatDescriptionV3<'_> {
         input: &[u8],
         defaults: Option<Parsed>,
     ) -> Result<OffsetDateTime, Parse> {
-        moment_over(self, input, defaults)
+        let mut parsed = begin(defaults);
+        let rest = self.parse_into(input, &mut parsed)?;
+        moment_before(rest, &parsed)
     }
 
     ghost exact = { λ s. tree_exact greatest_year (v3_shape s.inner) };
@@ -132,7 +138,9 @@ impl<'i, I: AnyFormatItem> Parsable for Items<'i, I> {
         input: &[u8],
         defaults: Option<Parsed>,
     ) -> Result<OffsetDateTime, Parse> {
-        moment_over(self, input, defaults)
+        let mut parsed = begin(defaults);
+        let rest = self.parse_into(input, &mut parsed)?;
+        moment_before(rest, &parsed)
     }
 
     ghost exact = { λ s. tree_exact greatest_year (sequence (trees (map I.shape s.0.now))) };

@@ -163,19 +163,15 @@ pub(crate) fn value_before<V: TryFrom<Parsed, Error = TryFromParsed> + Drop>(
     Ok(V::try_from(*parsed)?)
 }
 
-/// The date, time and offset of the whole input, read over the defaults or an empty record.
+/// The date, time and offset of a record that was read up to this rest. Where bytes remain it refuses as
+/// [`ParseFromDescription::UnexpectedTrailingCharacters`].
 #[inline(always)]
-pub(crate) fn moment_over<F: Parsable>(
-    format: &F,
-    input: &[u8],
-    defaults: Option<Parsed>,
-) -> Result<OffsetDateTime, Parse>
-    ensures { IsOutcome (IsMoment greatest_year) (F.reads format.now) (F.refuses format.now) input.now
-        (begun defaults) (seen result) }
+pub(crate) fn moment_before(rest: &[u8], parsed: &Parsed) -> Result<OffsetDateTime, Parse>
+    ensures { MatchResult (seen result)
+        (λ v. (rest.now ≡ []) × IsMoment greatest_year parsed.now (Ok v))
+        (λ e. ((rest.now ≢ []) × (e ≡ trailing)) ⊎ ((rest.now ≡ []) × IsMoment greatest_year parsed.now (Err e))) }
 {
-    let mut parsed = begin(defaults);
-    let rest = format.parse_into(input, &mut parsed)?;
-    value_before::<OffsetDateTime>(rest, &parsed)
+    value_before(rest, parsed)
 }
 
 /// A reference to a format reads as the format does, always over a record.
@@ -195,7 +191,9 @@ impl<T: Parsable> Parsable for &T {
         input: &[u8],
         defaults: Option<Parsed>,
     ) -> Result<OffsetDateTime, Parse> {
-        moment_over(self, input, defaults)
+        let mut parsed = begin(defaults);
+        let rest = self.parse_into(input, &mut parsed)?;
+        moment_before(rest, &parsed)
     }
 
     ghost exact = { λ x. T.exact x.now };

@@ -10,7 +10,7 @@ ghost use Rattle.time_parsing.specs.Rfc3339.{without_offset_sign};
 ghost use Rattle.time_parsing.specs.Rfc2822.{date_entries, time_entries, offset_entries};
 
 use crate::Parsable;
-use crate::parsable::moment_over;
+use crate::parsable::moment_before;
 use std::num::NonZero;
 use time_readers::direct;
 use time_readers::rfc2822::{Numbers, place_fault, read};
@@ -112,7 +112,11 @@ impl Parsable for Rfc2822 {
     ) -> Result<OffsetDateTime, Parse> {
         match defaults {
             None => direct::rfc2822(input),
-            Some(_) => moment_over(self, input, defaults),
+            Some(defaults) => {
+                let mut parsed = defaults;
+                let rest = self.parse_into(input, &mut parsed)?;
+                moment_before(rest, &parsed)
+            }
         }
     }
 

@@ -12,7 +12,7 @@ ghost use Rattle.time_parsing.specs.Outcome.{direct};
 ghost use Rattle.time_parsing.specs.Rfc3339.{date_entries, time_entries, offset_entries, without_offset_sign};
 
 use crate::Parsable;
-use crate::parsable::moment_over;
+use crate::parsable::moment_before;
 use std::num::NonZero;
 use time_readers::direct;
 use time_readers::rfc3339::{Numbers, place_fault, read};
@@ -139,7 +139,11 @@ impl Parsable for Rfc3339 {
     ) -> Result<OffsetDateTime, Parse> {
         match defaults {
             None => direct::rfc3339(input),
-            Some(_) => moment_over(self, input, defaults),
+            Some(defaults) => {
+                let mut parsed = defaults;
+                let rest = self.parse_into(input, &mut parsed)?;
+                moment_before(rest, &parsed)
+            }
         }
     }
 

@@ -3,6 +3,7 @@
 pub mod DescriptionLaws
 pub mod DirectLaws
 pub mod Iso8601Laws
+pub mod Recorded
 pub mod RecordedRfc2822
 pub mod RecordedRfc3339
 pub mod Rfc2822Laws

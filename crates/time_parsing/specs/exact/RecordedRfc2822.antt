@@ -1,6 +1,6 @@
 -- The record of a mail date, over an empty one.
-use Rattle.std.proofs.Common.{◌≡◌, ◌≤◌, ℕ, pos, Bool, true, false, refl, sym, ◌∙◌, subst, arith, List, [], Option, Some, None, Result, Ok, Err, IfSome}
-use Rattle.std.specs.Prelude.{◌==◌, if◌then◌else◌, unsigned_abs, is_none, unwrap_or}
+use Rattle.std.proofs.Common.{◌≡◌, ◌≤◌, ℕ, pos, Bool, true, false, refl, sym, ap, ◌∙◌, subst, arith, List, [], Option, Some, None, Result, Ok, Err, IfSome}
+use Rattle.std.specs.Prelude.{◌==◌, ◌++◌, ◌∷◌, if◌then◌else◌, unsigned_abs, is_none, unwrap_or}
 use Rattle.std.proofs.lemmas.Bool.{le-leb}
 use Rattle.std.proofs.lemmas.Option.{same_Some}
 use Rattle.time_values.specs.Dates as Dates
@@ -19,10 +19,11 @@ use Rattle.time_readers.specs.declared.rfc2822.places.Numbers.{Numbers}
 use Rattle.time_readers.proofs.EachValue.{each_month}
 use Rattle.time_readers.proofs.MailRanges.{HasForm-in_places, HasForm-zone}
 use Rattle.time_readers.proofs.RangedMail.{ranged_mail}
-use Rattle.time_record.specs.Record.{Record, empty, put_all}
+use Rattle.time_record.specs.Record.{Record, empty, put_all, day_is, month_is, year_is}
 use Rattle.time_record.specs.Resolution.{IsMoment, clock_of, stand_in, offset_seconds_of, offset_part, is_leap_second}
 use Rattle.time_parsing.specs.Outcome.{IsOutcome, IsMomentOutcome, direct, seen}
-use Rattle.time_parsing.specs.Rfc2822.{entries, Reads, Refuses}
+use Rattle.time_parsing.specs.exact.Recorded.{AllInRange, put_each, put-each, in_range-append}
+use Rattle.time_parsing.specs.Rfc2822.{entries, weekday_entries, date_entries, second_entries, time_entries, offset_entries, Reads, Refuses}
 use Rattle.time_parsing.specs.Rfc3339.{without_offset_sign, with_leap_second}
 use Rattle.time_parsing.specs.exact.ToldMoment.{Tells, clock_said, accepted_ranges, made-resolves, resolves-made}
 
@@ -41,120 +42,48 @@ recorded n = record (with_leap_second (without_offset_sign empty)) {
   offset_second = if is_none n.offset_sign then Some (pos 0) else None;
 }
 
-put-recorded : (n : Numbers) (w : Option Weekday) (o : Option ℕ) (s : Option Sign) → n.weekday ≡ w → n.second ≡ o
-    → n.offset_sign ≡ s
-    → n.year ≤ greatest_year → InRanges n → IfSome o (λ v. v ≤ 60)
+weekday-in_range : (o : Option Weekday) → AllInRange greatest_year (weekday_entries o)
+weekday-in_range None = tt
+weekday-in_range (Some w) = (refl, tt)
+
+second-in_range : (o : Option ℕ) → IfSome o (λ v. v ≤ 60) → AllInRange greatest_year (second_entries o)
+second-in_range None h = tt
+second-in_range (Some v) h = (le-leb v 60 h, tt)
+
+offset-in_range : (n : Numbers) (s : Option Sign) → InRanges n → AllInRange greatest_year (offset_entries s n)
+offset-in_range n None i = (le-leb (unsigned_abs n.offset_hour) 25 i.offset_hour.1, (refl, (refl, tt)))
+offset-in_range n (Some s) i =
+    let minute = le-leb (unsigned_abs n.offset_minute) 59 i.offset_minute.1 in
+    (le-leb (unsigned_abs n.offset_hour) 25 i.offset_hour.1, (minute, tt))
+
+entries-in_range : (n : Numbers) → n.year ≤ greatest_year → InRanges n → IfSome n.second (λ v. v ≤ 60)
+    → AllInRange greatest_year (entries n)
+entries-in_range n year i second =
+    let date =
+    in_range-append greatest_year (weekday_entries n.weekday) (day_is n.day ∷ month_is n.month ∷ year_is (pos n.year) ∷ [])
+    (weekday-in_range n.weekday)
+    (rw (le-leb 1 n.day i.day.0, le-leb n.day 31 i.day.1) refl, (refl, (le-leb n.year greatest_year year, tt))) in
+    let time : AllInRange greatest_year (time_entries n) = (le-leb n.hour 23 i.hour.1, (le-leb n.minute 59 i.minute.1, second-in_range n.second second)) in
+    in_range-append greatest_year (date_entries n ++ time_entries n) (offset_entries n.offset_sign n)
+    (in_range-append greatest_year (date_entries n) (time_entries n) date time) (offset-in_range n n.offset_sign i)
+
+same-recorded : (n : Numbers) (w : Option Weekday) (o : Option ℕ) (s : Option Sign)
+    → n.weekday ≡ w → n.second ≡ o → n.offset_sign ≡ s
+    → put_each (entries n) (with_leap_second (without_offset_sign empty)) ≡ recorded n
+same-recorded n None None None sw so ss = rw (sw, so, ss) refl
+same-recorded n None None (Some s) sw so ss = rw (sw, so, ss) refl
+same-recorded n None (Some v) None sw so ss = rw (sw, so, ss) refl
+same-recorded n None (Some v) (Some s) sw so ss = rw (sw, so, ss) refl
+same-recorded n (Some w) None None sw so ss = rw (sw, so, ss) refl
+same-recorded n (Some w) None (Some s) sw so ss = rw (sw, so, ss) refl
+same-recorded n (Some w) (Some v) None sw so ss = rw (sw, so, ss) refl
+same-recorded n (Some w) (Some v) (Some s) sw so ss = rw (sw, so, ss) refl
+
+put-recorded : (n : Numbers) → n.year ≤ greatest_year → InRanges n → IfSome n.second (λ v. v ≤ 60)
     → put_all greatest_year (entries n) (with_leap_second (without_offset_sign empty)) ≡ Some (recorded n)
-put-recorded n None None None sw so ss year i sub =
-    rw (
-      sw,
-      so,
-      ss,
-      le-leb 1 n.day i.day.0,
-      le-leb n.day 31 i.day.1,
-      le-leb n.year greatest_year year,
-      le-leb n.hour 23 i.hour.1,
-      le-leb n.minute 59 i.minute.1,
-      le-leb
-          (unsigned_abs n.offset_hour) 25 i.offset_hour.1,
-    ) refl
-put-recorded n None None (Some s) sw so ss year i sub =
-    rw (
-      sw,
-      so,
-      ss,
-      le-leb 1 n.day i.day.0,
-      le-leb n.day 31 i.day.1,
-      le-leb n.year greatest_year year,
-      le-leb n.hour 23 i.hour.1,
-      le-leb n.minute 59 i.minute.1,
-      le-leb (unsigned_abs n.offset_hour) 25 i.offset_hour.1,
-      le-leb (unsigned_abs n.offset_minute) 59 i.offset_minute.1,
-    ) refl
-put-recorded n None (Some v) None sw so ss year i sub =
-    rw (
-      sw,
-      so,
-      ss,
-      le-leb 1 n.day i.day.0,
-      le-leb n.day 31 i.day.1,
-      le-leb n.year greatest_year year,
-      le-leb n.hour 23 i.hour.1,
-      le-leb n.minute 59 i.minute.1,
-      le-leb v 60 sub,
-      le-leb (unsigned_abs n.offset_hour) 25
-          i.offset_hour.1,
-    ) refl
-put-recorded n None (Some v) (Some s) sw so ss year i sub =
-    rw (
-      sw,
-      so,
-      ss,
-      le-leb 1 n.day i.day.0,
-      le-leb n.day 31 i.day.1,
-      le-leb n.year greatest_year year,
-      le-leb n.hour 23 i.hour.1,
-      le-leb n.minute 59 i.minute.1,
-      le-leb v 60 sub,
-      le-leb (unsigned_abs n.offset_hour) 25
-          i.offset_hour.1,
-      le-leb (unsigned_abs n.offset_minute) 59 i.offset_minute.1,
-    ) refl
-put-recorded n (Some w) None None sw so ss year i sub =
-    rw (
-      sw,
-      so,
-      ss,
-      le-leb 1 n.day i.day.0,
-      le-leb n.day 31 i.day.1,
-      le-leb n.year greatest_year year,
-      le-leb n.hour 23 i.hour.1,
-      le-leb n.minute 59 i.minute.1,
-      le-leb
-          (unsigned_abs n.offset_hour) 25 i.offset_hour.1,
-    ) refl
-put-recorded n (Some w) None (Some s) sw so ss year i sub =
-    rw (
-      sw,
-      so,
-      ss,
-      le-leb 1 n.day i.day.0,
-      le-leb n.day 31 i.day.1,
-      le-leb n.year greatest_year year,
-      le-leb n.hour 23 i.hour.1,
-      le-leb n.minute 59 i.minute.1,
-      le-leb (unsigned_abs n.offset_hour) 25 i.offset_hour.1,
-      le-leb (unsigned_abs n.offset_minute) 59 i.offset_minute.1,
-    ) refl
-put-recorded n (Some w) (Some v) None sw so ss year i sub =
-    rw (
-      sw,
-      so,
-      ss,
-      le-leb 1 n.day i.day.0,
-      le-leb n.day 31 i.day.1,
-      le-leb n.year greatest_year year,
-      le-leb n.hour 23 i.hour.1,
-      le-leb n.minute 59 i.minute.1,
-      le-leb v 60 sub,
-      le-leb (unsigned_abs n.offset_hour) 25
-          i.offset_hour.1,
-    ) refl
-put-recorded n (Some w) (Some v) (Some s) sw so ss year i sub =
-    rw (
-      sw,
-      so,
-      ss,
-      le-leb 1 n.day i.day.0,
-      le-leb n.day 31 i.day.1,
-      le-leb n.year greatest_year year,
-      le-leb n.hour 23 i.hour.1,
-      le-leb n.minute 59 i.minute.1,
-      le-leb v 60 sub,
-      le-leb (unsigned_abs n.offset_hour) 25
-          i.offset_hour.1,
-      le-leb (unsigned_abs n.offset_minute) 59 i.offset_minute.1,
-    ) refl
+put-recorded n year i second =
+    put-each greatest_year (entries n) (with_leap_second (without_offset_sign empty)) (entries-in_range n year i second)
+    ∙ ap Some (same-recorded n n.weekday n.second n.offset_sign refl refl refl)
 
 clock-recorded : (n : Numbers) (o : Option ℕ) (b : Bool) → n.second ≡ o → (unwrap_or o 0 == 60) ≡ b
     → clock_of (stand_in (recorded n)) ≡ Some (clock_said (said_rfc2822 n))
@@ -222,7 +151,7 @@ direct-value bytes v (n, form, last, made) =
       (
         n,
         (ranged_mail bytes [] n).1 (form, ranges),
-        put-recorded n n.weekday n.second n.offset_sign refl refl refl (omega (arith, places.year)) ranges
+        put-recorded n (omega (arith, places.year)) ranges
             (second_of n.second ranges.second),
       ),
       made-resolves (recorded n) n.month (said_rfc2822 n) v (tells n (HasForm-zone false bytes [] n form)) month made,
@@ -241,7 +170,7 @@ record-value bytes v (r, (n, form, put), moment) =
     let places = HasForm-in_places true bytes [] n form in
     let ranges = formed.1 in
     let told =
-    put-recorded n n.weekday n.second n.offset_sign refl refl refl (omega (arith, places.year)) ranges
+    put-recorded n (omega (arith, places.year)) ranges
     (second_of n.second ranges.second) in
     let same : r ≡ recorded n = same_Some r (recorded n) (sym put ∙ told) in (
       n,

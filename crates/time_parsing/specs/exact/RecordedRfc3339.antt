@@ -1,6 +1,6 @@
 -- The record of a text of RFC 3339, over an empty one.
-use Rattle.std.proofs.Common.{◌≡◌, ◌≢◌, ◌≤◌, ℕ, pos, Bool, true, false, refl, sym, ◌∙◌, subst, arith, List, [], Option, Some, None, Result, Ok, Err, IfSome}
-use Rattle.std.specs.Prelude.{◌==◌, if◌then◌else◌, unsigned_abs, nat_le}
+use Rattle.std.proofs.Common.{◌≡◌, ◌≢◌, ◌≤◌, ℕ, pos, Bool, true, false, refl, sym, ap, ◌∙◌, subst, arith, List, [], Option, Some, None, Result, Ok, Err, IfSome}
+use Rattle.std.specs.Prelude.{◌==◌, ◌++◌, ◌∷◌, if◌then◌else◌, unsigned_abs, nat_le}
 use Rattle.std.proofs.lemmas.Bool.{le-leb}
 use Rattle.std.proofs.lemmas.Bool.Decides.{nat_tests}
 use Rattle.std.proofs.lemmas.Option.{same_Some}
@@ -19,10 +19,11 @@ use Rattle.time_readers.proofs.Keeping.{HasForm-in_places}
 use Rattle.time_readers.proofs.Made.{minute_stands}
 use Rattle.time_readers.proofs.MailRanges.{signed-abs}
 use Rattle.time_readers.proofs.RangedForms.{ranged_forms}
-use Rattle.time_record.specs.Record.{Record, empty, put_all}
+use Rattle.time_record.specs.Record.{Record, Entry, empty, put_all, offset_second_is}
 use Rattle.time_record.specs.Resolution.{IsMoment, clock_of, stand_in, offset_seconds_of}
 use Rattle.time_parsing.specs.Outcome.{IsOutcome, IsMomentOutcome, direct, seen}
-use Rattle.time_parsing.specs.Rfc3339.{entries, without_offset_sign, with_leap_second, Reads, Refuses}
+use Rattle.time_parsing.specs.Rfc3339.{entries, date_entries, time_entries, subsecond_entries, numeric_offset_entries, offset_entries, without_offset_sign, with_leap_second, Reads, Refuses}
+use Rattle.time_parsing.specs.exact.Recorded.{AllInRange, put_each, put-each, in_range-append}
 use Rattle.time_parsing.specs.exact.ToldMoment.{Tells, clock_said, accepted_ranges, made-resolves, resolves-made}
 
 -- the record with the numbers, of which m is the month
@@ -43,66 +44,41 @@ recorded n m = record (with_leap_second (without_offset_sign empty)) {
 near : (b : Bool) (v most : ℕ) → v ≤ most → nat_le (unsigned_abs (signed_by b (pos v))) most ≡ true
 near b v most h = rw (signed-abs b v) (le-leb v most h)
 
-put-recorded : (n : Numbers) (m : Month) (o : Option ℕ) (u : Bool) → n.subsecond ≡ o → n.is_utc ≡ u
-    → n.year ≤ greatest_year → InRanges n
-    → IfSome o (λ v. v ≤ 999999999) → n.offset_hour ≤ 25
+subsecond-in_range : (o : Option ℕ) → IfSome o (λ v. v ≤ 999999999) → AllInRange greatest_year (subsecond_entries o)
+subsecond-in_range None h = tt
+subsecond-in_range (Some v) h = (le-leb v 999999999 h, tt)
+
+second-in_range : (b : Bool) (es : List Entry) → AllInRange greatest_year es
+    → AllInRange greatest_year (if b then es ++ offset_second_is (pos 0) ∷ [] else es)
+second-in_range true es all = in_range-append greatest_year es (offset_second_is (pos 0) ∷ []) all (refl, tt)
+second-in_range false es all = all
+
+entries-in_range : (n : Numbers) (m : Month) → n.year ≤ greatest_year → InRanges n
+    → IfSome n.subsecond (λ v. v ≤ 999999999) → n.offset_hour ≤ 25 → AllInRange greatest_year (entries n m)
+entries-in_range n m year i subsecond hour =
+    let offset : AllInRange greatest_year (numeric_offset_entries n) =
+    (near n.offset_is_negative n.offset_hour 25 hour, (near n.offset_is_negative n.offset_minute 59 i.offset_minute.1, tt)) in
+    let others =
+    in_range-append greatest_year (subsecond_entries n.subsecond) (offset_entries n)
+    (subsecond-in_range n.subsecond subsecond) (second-in_range n.is_utc (numeric_offset_entries n) offset) in
+    let date : AllInRange greatest_year (date_entries n m) =
+    (le-leb n.year greatest_year year, (refl, (rw (le-leb 1 n.day i.day.0, le-leb n.day 31 i.day.1) refl, tt))) in
+    in_range-append greatest_year (date_entries n m) (time_entries n ++ offset_entries n) date
+    (le-leb n.hour 23 i.hour.1, (le-leb n.minute 59 i.minute.1, (le-leb n.second 60 i.second.1, others)))
+
+same-recorded : (n : Numbers) (m : Month) (o : Option ℕ) (u : Bool) → n.subsecond ≡ o → n.is_utc ≡ u
+    → put_each (entries n m) (with_leap_second (without_offset_sign empty)) ≡ recorded n m
+same-recorded n m None true so su = rw (so, su) refl
+same-recorded n m None false so su = rw (so, su) refl
+same-recorded n m (Some v) true so su = rw (so, su) refl
+same-recorded n m (Some v) false so su = rw (so, su) refl
+
+put-recorded : (n : Numbers) (m : Month) → n.year ≤ greatest_year → InRanges n
+    → IfSome n.subsecond (λ v. v ≤ 999999999) → n.offset_hour ≤ 25
     → put_all greatest_year (entries n m) (with_leap_second (without_offset_sign empty)) ≡ Some (recorded n m)
-put-recorded n m None true so su year i sub hour =
-    rw (
-      so,
-      su,
-      le-leb n.year greatest_year year,
-      le-leb 1 n.day i.day.0,
-      le-leb n.day 31 i.day.1,
-      le-leb n.hour 23 i.hour.1,
-      le-leb n.minute 59 i.minute.1,
-      le-leb n.second 60 i.second.1,
-      near n.offset_is_negative n.offset_hour 25 hour,
-      near n.offset_is_negative n.offset_minute 59 i.offset_minute.1,
-    ) refl
-put-recorded n m None false so su year i sub hour =
-    rw (
-      so,
-      su,
-      le-leb n.year greatest_year year,
-      le-leb 1 n.day i.day.0,
-      le-leb n.day 31 i.day.1,
-      le-leb n.hour 23 i.hour.1,
-      le-leb n.minute 59 i.minute.1,
-      le-leb n.second 60 i.second.1,
-      near n.offset_is_negative n.offset_hour 25 hour,
-      near n.offset_is_negative n.offset_minute 59 i.offset_minute.1,
-    ) refl
-put-recorded n m (Some v) true so su year i sub hour =
-    rw (
-      so,
-      su,
-      le-leb n.year greatest_year year,
-      le-leb 1 n.day i.day.0,
-      le-leb n.day 31 i.day.1,
-      le-leb n.hour 23 i.hour.1,
-      le-leb n.minute 59 i.minute.1,
-      le-leb n.second 60 i.second.1,
-      le-leb v 999999999 sub,
-      near n.offset_is_negative n.offset_hour 25 hour,
-      near n.offset_is_negative n.offset_minute 59 i.offset_minute.1,
-    )
-    refl
-put-recorded n m (Some v) false so su year i sub hour =
-    rw (
-      so,
-      su,
-      le-leb n.year greatest_year year,
-      le-leb 1 n.day i.day.0,
-      le-leb n.day 31 i.day.1,
-      le-leb n.hour 23 i.hour.1,
-      le-leb n.minute 59 i.minute.1,
-      le-leb n.second 60 i.second.1,
-      le-leb v 999999999 sub,
-      near n.offset_is_negative n.offset_hour 25 hour,
-      near n.offset_is_negative n.offset_minute 59 i.offset_minute.1,
-    )
-    refl
+put-recorded n m year i subsecond hour =
+    put-each greatest_year (entries n m) (with_leap_second (without_offset_sign empty))
+    (entries-in_range n m year i subsecond hour) ∙ ap Some (same-recorded n m n.subsecond n.is_utc refl refl)
 
 clock-recorded : (n : Numbers) (m : Month) (b : Bool) (o : Option ℕ) → (n.second == 60) ≡ b → n.subsecond ≡ o
     → clock_of (stand_in (recorded n m)) ≡ Some (clock_said (said_rfc3339 n))
@@ -158,7 +134,7 @@ direct-value bytes v (n, form, last, made) =
         m,
         (ranged_forms bytes [] n).1 (form, ranges),
         month,
-        put-recorded n m n.subsecond n.is_utc refl refl (omega (arith, places.year)) ranges places.subsecond
+        put-recorded n m (omega (arith, places.year)) ranges places.subsecond
             (omega (arith, places.offset_hour)),
       ),
       made-resolves (recorded n m) m (said_rfc3339 n) v (tells n m month) refl made,
@@ -173,7 +149,7 @@ record-value bytes v (r, (n, m, form, month, put), moment) =
     let places = HasForm-in_places true bytes [] n form in
     let ranges = formed.1 in
     let told =
-    put-recorded n m n.subsecond n.is_utc refl refl (omega (arith, places.year)) ranges places.subsecond
+    put-recorded n m (omega (arith, places.year)) ranges places.subsecond
     (omega (arith, places.offset_hour)) in
     let same : r ≡ recorded n m = same_Some r (recorded n m) (sym put ∙ told) in
     let named : month_refusal n.month ≡ None = rw (le-leb n.month 12 ranges.month.1) refl in (

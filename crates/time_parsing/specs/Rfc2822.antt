@@ -3,8 +3,8 @@ use Rattle.std.specs.Prelude.{◌≡◌, ℕ, List, [], ◌∷◌, ◌++◌, tru
 use Rattle.time_values.specs.declared.weekday.Weekday.{Weekday}
 use Rattle.time_readers.specs.Rfc2822.{HasForm, FailsAt, fault}
 use Rattle.time_readers.specs.declared.Sign.{Sign}
-use Rattle.time_readers.specs.declared.rfc2822.places.Numbers.{Numbers}
-use Rattle.time_readers.specs.declared.rfc2822.places.Place.{Place}
+use Rattle.time_readers.specs.declared.rfc2822.Numbers.{Numbers}
+use Rattle.time_readers.specs.declared.rfc2822.Place.{Place}
 use Rattle.time_record.specs.Record.{Entry, put_all, weekday_is, year_is, month_is, day_is, hour_24_is, minute_is, second_is, offset_hour_is, offset_minute_is, offset_second_is}
 use Rattle.time_parsing.specs.Outcome.{Reading, Refusing}
 use Rattle.time_parsing.specs.Rfc3339.{without_offset_sign, with_leap_second}

@@ -20,12 +20,12 @@ kept A with f alone (p ∷ ps) n m bytes rest i s =
     kept A with f alone ps s.1 m s.0 rest i.1 s.3 ∙ (ap f (alone p n s.1 s.2.0 s.0 s.2.2) ∙ i.0 n s.1)
 
 -- what a place tells of numbers that no later place says holds of them in the end
-pub said_behind : {P N X Z : Type 0} (A : Format P N) (with : P → N → N → N) (f : N → Z) (g : N → X) (Q : X → Type 0) → Alone A with
+pub said_after : {P N X Z : Type 0} (A : Format P N) (with : P → N → N → N) (f : N → Z) (g : N → X) (Q : X → Type 0) → Alone A with
     → (before : List P) (p : P) (after : List P) (n m : N) (bytes rest : List ℕ) → Stand A (before ++ p ∷ after) n bytes rest m
     → Ignores with f before → Ignores with g after
     → ((j k : N) (text mid : List ℕ) → f j ≡ f n → A p j text mid k → Q (g k)) → Q (g m)
 unfolding Stand
-said_behind A with f g Q alone before p after n m bytes rest s i j tells =
+said_after A with f g Q alone before p after n m bytes rest s i j tells =
     let parts = Stand-split A before (p ∷ after) n m bytes rest s in
     let last = parts.1.2 in
     let start = kept A with f alone before n parts.1.0 bytes parts.0 i parts.1.1 in
@@ -35,7 +35,7 @@ said_behind A with f g Q alone before p after n m bytes rest s i j tells =
 pub said : {P N X : Type 0} (A : Format P N) (with : P → N → N → N) (f : N → X) (Q : X → Type 0) → Alone A with
     → (before : List P) (p : P) (after : List P) (n m : N) (bytes rest : List ℕ) → Stand A (before ++ p ∷ after) n bytes rest m → Ignores with f before
     → Ignores with f after → ((j k : N) (text mid : List ℕ) → f j ≡ f n → A p j text mid k → Q (f k)) → Q (f m)
-said A with f Q = said_behind A with f f Q
+said A with f Q = said_after A with f f Q
 
 -- what holds of a place's numbers in the end holds of them there
 abbrev pub Back : {P N : Type 0} → Format P N → (P → N → Type 0) → List P → Type 0
@@ -58,7 +58,7 @@ along A B In asked (p ∷ ps) n m bytes rest back all s =
       along A B In asked ps s.1 m s.0 rest back.1 all s.3,
     )
 
--- the numbers that a predicate looks at are kept by the places behind
+-- the numbers that a predicate looks at are kept by the places after
 pub back_by : {P N X : Type 0} (A : Format P N) (with : P → N → N → N) (f : N → X) (Q : X → Type 0) → Alone A with
     → (ps : List P) → Ignores with f ps → (k m : N) (bytes rest : List ℕ) → Stand A ps k bytes rest m → Q (f m) → Q (f k)
 back_by A with f Q alone ps ignores k m bytes rest s is = subst Q (kept A with f alone ps k m bytes rest ignores s) is

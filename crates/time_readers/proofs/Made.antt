@@ -7,7 +7,7 @@ use Rattle.time_values.specs.Moments.{offset_date, offset_time, offset_of}
 use Rattle.time_values.specs.Offsets.{HasOffset, offset_refusal}
 use Rattle.time_values.specs.Times.{HasClock, time_refusal}
 use Rattle.time_values.specs.declared.offset_date_time.OffsetDateTime.{OffsetDateTime}
-use Rattle.time_readers.specs.Direct.{shown_second, shown_nanosecond, date_refusal, first_refusal, HasDate, IsMoment, LeapSecondMayStand, IsMade, IsNotMade, IsRefusedBehind, IsDirect, RefusesDirectly, minute_refusal}
+use Rattle.time_readers.specs.Direct.{shown_second, shown_nanosecond, date_refusal, first_refusal, HasDate, IsMoment, LeapSecondMayStand, IsMade, IsNotMade, IsRefusedAfter, IsDirect, RefusesDirectly, minute_refusal}
 use Rattle.time_readers.specs.Cuts.{Form}
 use Rattle.time_readers.specs.declared.rfc3339.Numbers.{Numbers}
 use Rattle.time_values.specs.declared.error.Parse.{Parse}
@@ -44,17 +44,17 @@ of_parts Y s v date clock offset =
     let o = accepted (offset_refusal hours minutes (pos 0)) (HasOffset hours minutes (pos 0)) (offset_of v) offset in
     (rw (d.0, t.0, o.0) refl, record { date = d.1; clock = t.1; offset = o.1 })
 
--- what is answered behind all places, of which the last refuses nothing
-pub behind : {P N : Type 0} (form : Form N) (fails : List ℕ → P → Type 0) (fault : P → Refusal) (last : N → Option Refusal)
+-- what is answered after all places, of which the last refuses nothing
+pub after : {P N : Type 0} (form : Form N) (fails : List ℕ → P → Type 0) (fault : P → Refusal) (last : N → Option Refusal)
     (says : N → Said) (Y : ℕ) (bytes rest : List ℕ) (n : N) (result : Result OffsetDateTime Parse)
     → form bytes rest n → last n ≡ None
     → MatchResult result (λ v. (rest ≡ []) × IsMade Y (says n) v)
-    (λ e. IsRefusedBehind Y None (says n) rest (refusal_of e))
+    (λ e. IsRefusedAfter Y None (says n) rest (refusal_of e))
     → MatchResult result (λ v. IsDirect form last says Y bytes v)
     (λ e. RefusesDirectly form fails fault last says Y bytes (refusal_of e))
-behind form fails fault last says Y bytes rest n (Ok v) stands none made =
+after form fails fault last says Y bytes rest n (Ok v) stands none made =
     (n, subst (λ r. form bytes r n) made.0 stands, none, made.1)
-behind form fails fault last says Y bytes rest n (Err e) stands none refused = inr (rest, (n, stands, rw none refused))
+after form fails fault last says Y bytes rest n (Err e) stands none refused = inr (rest, (n, stands, rw none refused))
 
 -- the range of a minute of an offset
 pub minute_stands : (n : Numbers) → n.offset_minute ≤ 59 → minute_refusal n ≡ None

@@ -59,7 +59,7 @@ line-shorter s l r e b =
     let more = takes-shorter blanks blanks-takes l r b in
     omega arith
 
--- no blank stands behind the end of a line
+-- no blank stands after the end of a line
 pub more_lines-stop : (s l : List ℕ) → crlf s ≡ Some l → blanks l ≡ None → more_lines s ≡ None
 unfolding line_fold no_crlf
 more_lines-stop s l e b =
@@ -78,7 +78,7 @@ content-takes inner t = or-takes (one_of is_text or quoted_pair) inner (or-takes
 pub fws_all-leaves : Leaves (zero_or_more fws)
 fws_all-leaves = zero_or_more-leaves fws fws-takes
 
--- a part of a comment, and the blanks behind it
+-- a part of a comment, and the blanks after it
 abbrev pub part : Reader → Reader
 part inner = content inner then zero_or_more fws
 

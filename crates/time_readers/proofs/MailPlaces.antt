@@ -9,8 +9,8 @@ use Rattle.time_readers.specs.Names.{weekday_name}
 use Rattle.time_readers.specs.Places.{Reads}
 use Rattle.time_readers.specs.Readers.{Reader, IsRead}
 use Rattle.time_readers.specs.MailBlanks.{fws, cfws, opt_cfws, opt_cfws_colon_opt_cfws}
-use Rattle.time_readers.specs.declared.rfc2822.places.Numbers.{Numbers}
-use Rattle.time_readers.specs.Ranged.{IsTwoDigits}
+use Rattle.time_readers.specs.declared.rfc2822.Numbers.{Numbers}
+use Rattle.time_readers.specs.Ranges.{IsTwoDigits}
 use Rattle.time_readers.specs.Rfc2822.{IsSilent, year_blanks, IsShortWeekday, IsWeekdayPart, IsYear, IsSecond}
 use Rattle.time_readers.proofs.Runs.{IsDigitRun-same, IsDigitRun-below}
 use Rattle.time_readers.proofs.ShortNames.{same_name, weekdays_told}
@@ -27,7 +27,7 @@ read-cut p l s r e =
     let cut = l s r e in
     (cut.0, cut.1, subst (λ t. p t ≡ Some r) cut.1 e)
 
--- what a reader answers, at a place that says nothing
+-- what a reader answers, at a place that has no value
 pub read-answer : {N : Type 0} (p : Reader) → Leaves p → (s : List ℕ) (answer : Option (Bor (List ℕ))) (n : N) → option_copied answer ≡ p s
     → Reads (λ text after m. IsRead p text after × (m ≡ n)) s answer n
 read-answer p l s None n e = λ text rest m cut is. none-some rest (e ∙ ap p cut ∙ is.0)
@@ -39,8 +39,8 @@ read-answer p l s (Some r) n e =
 pub read-same : (p : Reader) (s r text rest : List ℕ) → p s ≡ Some r → s ≡ text ++ rest → IsRead p text rest → r ≡ rest
 read-same p s r text rest e cut is = same_Some r rest (sym e ∙ ap p cut ∙ is)
 
-pub two_digits-below : (ranged : Bool) (least most : ℕ) (s rest : List ℕ) (v : ℕ) → Cut (IsTwoDigits ranged least most) s rest v → v ≤ 99
-two_digits-below ranged least most s rest v cut = omega (arith, IsDigitRun-below 2 2 cut.0 rest v cut.2.0)
+pub two_digits-below : (check_ranges : Bool) (least most : ℕ) (s rest : List ℕ) (v : ℕ) → Cut (IsTwoDigits check_ranges least most) s rest v → v ≤ 99
+two_digits-below check_ranges least most s rest v cut = omega (arith, IsDigitRun-below 2 2 cut.0 rest v cut.2.0)
 
 -- four digits below 1900
 pub no_year : (s rest : List ℕ) (v : ℕ) → Cut (IsDigitRun 4 4) s rest v → v < 1900 → (text after : List ℕ) → s ≡ text ++ after → (full : Bool) (w : ℕ)
@@ -50,20 +50,20 @@ no_year s rest v cut low text after e true w is =
     omega (arith, is.1)
 no_year s rest v cut low text after e false w is = is.0 cut.0 rest v (sym e ∙ cut.1) cut.2
 
-pub second-cut : (ranged : Bool) (s mid rest : List ℕ) (v : ℕ) → opt_cfws_colon_opt_cfws s ≡ Some mid → Cut (IsTwoDigits ranged 0 60) mid rest v
-    → Cut (IsSecond ranged) s rest (Some v)
-second-cut ranged s mid rest v e cut =
+pub second-cut : (check_ranges : Bool) (s mid rest : List ℕ) (v : ℕ) → opt_cfws_colon_opt_cfws s ≡ Some mid → Cut (IsTwoDigits check_ranges 0 60) mid rest v
+    → Cut (IsSecond check_ranges) s rest (Some v)
+second-cut check_ranges s mid rest v e cut =
     let colon = read-cut opt_cfws_colon_opt_cfws colon-leaves s mid e in
     let is : IsRead opt_cfws_colon_opt_cfws colon.0 (cut.0 ++ rest) = subst (λ t. IsRead opt_cfws_colon_opt_cfws colon.0 t) cut.1 colon.2 in
     (colon.0 ++ cut.0, colon.1 ∙ ap (λ t. colon.0 ++ t) cut.1 ∙ sym (append_assoc colon.0 cut.0 rest), (colon.0, cut.0, refl, is, cut.2))
 
 -- blanks, a name, a comma and blanks
-pub weekday-cut : (s mid left behind rest : List ℕ) (w : Weekday) → opt_cfws s ≡ Some mid → Cut IsShortWeekday mid left w → Cut (IsByte 44) left behind tt
-    → opt_cfws behind ≡ Some rest → Cut IsWeekdayPart s rest (Some w)
-weekday-cut s mid left behind rest w e name comma e' =
+pub weekday-cut : (s mid left after rest : List ℕ) (w : Weekday) → opt_cfws s ≡ Some mid → Cut IsShortWeekday mid left w → Cut (IsByte 44) left after tt
+    → opt_cfws after ≡ Some rest → Cut IsWeekdayPart s rest (Some w)
+weekday-cut s mid left after rest w e name comma e' =
     let first = read-cut opt_cfws opt_cfws-leaves s mid e in
-    let last = read-cut opt_cfws opt_cfws-leaves behind rest e' in
-    let tail : left ≡ 44 ∷ (last.0 ++ rest) = comma.1 ∙ ap (λ t. t ++ behind) comma.2 ∙ ap (λ t. 44 ∷ t) last.1 in
+    let last = read-cut opt_cfws opt_cfws-leaves after rest e' in
+    let tail : left ≡ 44 ∷ (last.0 ++ rest) = comma.1 ∙ ap (λ t. t ++ after) comma.2 ∙ ap (λ t. 44 ∷ t) last.1 in
     let middle : mid ≡ name.0 ++ 44 ∷ (last.0 ++ rest) = name.1 ∙ ap (λ t. name.0 ++ t) tail in
     let whole : name.0 ++ 44 ∷ (last.0 ++ rest) ≡ (name.0 ++ 44 ∷ last.0) ++ rest = sym (append_assoc name.0 (44 ∷ last.0) rest) in (
       first.0 ++ (name.0 ++ 44 ∷ last.0),
@@ -71,7 +71,7 @@ weekday-cut s mid left behind rest w e name comma e' =
       (first.0, name.0, last.0, refl, subst (λ t. IsRead opt_cfws first.0 t) middle first.2, name.2, last.2),
     )
 
--- a weekday with no comma behind it
+-- a weekday with no comma after it
 pub no_comma : (s mid left : List ℕ) (w : Weekday) → opt_cfws s ≡ Some mid → Cut IsShortWeekday mid left w → NoCut (IsByte 44) left
     → (text rest : List ℕ) (v : Option Weekday) → s ≡ text ++ rest → IsWeekdayPart text rest v → ⊥
 no_comma s mid left w e name none text rest None cut is =
@@ -82,14 +82,14 @@ no_comma s mid left w e name none text rest (Some x) cut is =
     let whole : s ≡ is.0 ++ (is.1 ++ tail) =
     cut ∙ ap (λ t. t ++ rest) is.3 ∙ append_assoc is.0 (is.1 ++ 44 ∷ is.2) rest ∙ ap (λ t. is.0 ++ t) (append_assoc is.1 (44 ∷ is.2) rest) in
     let same = read-same opt_cfws s mid is.0 (is.1 ++ tail) e whole is.4 in
-    let behind = (same_name false (λ d. take 3 (weekday_name d)) 3 weekdays_told name.0 is.1 left tail w x name.2 is.5 (sym name.1 ∙ same)).0 in
-    none (44 ∷ []) (is.2 ++ rest) tt behind refl
+    let after = (same_name false (λ d. take 3 (weekday_name d)) 3 weekdays_told name.0 is.1 left tail w x name.2 is.5 (sym name.1 ∙ same)).0 in
+    none (44 ∷ []) (is.2 ++ rest) tt after refl
 
 year_blanks-leaves : (full : Bool) → Leaves (year_blanks full)
 year_blanks-leaves true = takes-leaves fws fws-takes
 year_blanks-leaves false = takes-leaves cfws cfws-takes
 
--- blanks behind a year
+-- blanks after a year
 pub after-year : (full is_full : Bool) (n : Numbers) (s : List ℕ) (answer : Option (Bor (List ℕ))) → is_full ≡ full
     → option_copied answer ≡ year_blanks full s → Reads (IsSilent (year_blanks is_full) n) s answer n
 after-year full is_full n s answer e h =

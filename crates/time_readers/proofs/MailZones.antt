@@ -1,4 +1,4 @@
--- Zone names: by the bytes that are left, what is left behind them, and how far their hours are from UTC.
+-- Zone names: by the bytes that are left, what is left after them, and how far their hours are from UTC.
 use Rattle.std.proofs.Common.{◌≡◌, ◌⊎◌, inl, inr, ℕ, ◌-◌, ◌<◌, ◌≤◌, List, [], ◌∷◌, ◌++◌, length, take, drop, get_or, refl, ap, sym, ◌∙◌, subst, arith, rules, Bool, true, false, Option, Some, None, ℤ, pos, unsigned_abs, option_map, if◌then◌else◌, bytes_eq, codes}
 use Rattle.std.proofs.lemmas.Option.{same_Some, none-some, some_pair_parts}
 use Rattle.std.specs.Char.{to_ascii_lowercase}

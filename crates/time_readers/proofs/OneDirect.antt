@@ -6,7 +6,7 @@ use Rattle.time_values.specs.Refusal.{Refusal}
 use Rattle.time_values.specs.declared.offset_date_time.OffsetDateTime.{OffsetDateTime}
 use Rattle.time_values.proofs.NumberLemmas.{same_month}
 use Rattle.time_values.proofs.SameLemmas.{same_date_by_parts, same_time_by_clock, same_offset}
-use Rattle.time_readers.specs.Direct.{shown_second, shown_nanosecond, first_refusal, IsMoment, LeapSecondMayStand, IsMade, IsNotMade, IsRefusedBehind, IsDirect, RefusesDirectly}
+use Rattle.time_readers.specs.Direct.{shown_second, shown_nanosecond, first_refusal, IsMoment, LeapSecondMayStand, IsMade, IsNotMade, IsRefusedAfter, IsDirect, RefusesDirectly}
 use Rattle.time_readers.specs.Laws.{OneForm, OneDirect}
 use Rattle.time_readers.specs.Places.{Format, Stand, StopsAt}
 use Rattle.time_readers.specs.declared.direct.Said.{Said}
@@ -38,16 +38,16 @@ made_or_not s v e made (inr b) =
     let other = b.2 in
     other.2 (subst (LeapSecondMayStand greatest_year s) (one_moment s v other.0 made.1 other.1) made.2)
 
-one_behind : (last : Option Refusal) (s : Said) (rest : List ℕ) (e f : Refusal)
-    → IsRefusedBehind greatest_year last s rest e → IsRefusedBehind greatest_year last s rest f → e ≡ f
-one_behind (Some r) s rest e f a b = a ∙ sym b
-one_behind None s [] e f a b = one_not_made s e f a b
-one_behind None s (c ∷ rest) e f a b = a ∙ sym b
+one_after : (last : Option Refusal) (s : Said) (rest : List ℕ) (e f : Refusal)
+    → IsRefusedAfter greatest_year last s rest e → IsRefusedAfter greatest_year last s rest f → e ≡ f
+one_after (Some r) s rest e f a b = a ∙ sym b
+one_after None s [] e f a b = one_not_made s e f a b
+one_after None s (c ∷ rest) e f a b = a ∙ sym b
 
-made_or_behind : (last : Option Refusal) (s : Said) (v : OffsetDateTime) (e : Refusal) → last ≡ None
-    → IsMade greatest_year s v → IsRefusedBehind greatest_year last s [] e → ⊥
-made_or_behind None s v e none made b = made_or_not s v e made b
-made_or_behind (Some r) s v e none made b = absurd (cc)
+made_or_after : (last : Option Refusal) (s : Said) (v : OffsetDateTime) (e : Refusal) → last ≡ None
+    → IsMade greatest_year s v → IsRefusedAfter greatest_year last s [] e → ⊥
+made_or_after None s v e none made b = made_or_not s v e made b
+made_or_after (Some r) s v e none made b = absurd (cc)
 
 module _ {P N : Type 0} (A : Format P N) (ps : List P) (start : N) (fault : P → Refusal) (last : N → Option Refusal) (says : N → Said)
     (one : (bytes : List ℕ) → OneForm A ps start bytes) where
@@ -59,9 +59,9 @@ module _ {P N : Type 0} (A : Format P N) (ps : List P) (start : N) (fault : P �
   one_refusal bytes e f (inr a) (inl b) = absurd ((one bytes).never_both a.0 a.1.0 b.0 a.1.1 b.1)
   one_refusal bytes e f (inr a) (inr b) =
       let same = (one bytes).one_reading a.0 b.0 a.1.0 b.1.0 a.1.1 b.1.1 in
-      let here = subst (λ n. IsRefusedBehind greatest_year (last n) (says n) b.0 e) same.1
-      (subst (λ r. IsRefusedBehind greatest_year (last a.1.0) (says a.1.0) r e) same.0 a.1.2) in
-      one_behind (last b.1.0) (says b.1.0) b.0 e f here b.1.2
+      let here = subst (λ n. IsRefusedAfter greatest_year (last n) (says n) b.0 e) same.1
+      (subst (λ r. IsRefusedAfter greatest_year (last a.1.0) (says a.1.0) r e) same.0 a.1.2) in
+      one_after (last b.1.0) (says b.1.0) b.0 e f here b.1.2
 
   one_value : (bytes : List ℕ) (v w : OffsetDateTime) → IsDirect (Stand A ps start) last says greatest_year bytes v
       → IsDirect (Stand A ps start) last says greatest_year bytes w → v ≡ w
@@ -74,9 +74,9 @@ module _ {P N : Type 0} (A : Format P N) (ps : List P) (start : N) (fault : P �
   never_both bytes v e a (inl b) = (one bytes).never_both [] a.0 b.0 a.1 b.1
   never_both bytes v e a (inr b) =
       let same = (one bytes).one_reading b.0 [] b.1.0 a.0 b.1.1 a.1 in
-      let here = subst (λ n. IsRefusedBehind greatest_year (last n) (says n) [] e) same.1
-      (subst (λ r. IsRefusedBehind greatest_year (last b.1.0) (says b.1.0) r e) same.0 b.1.2) in
-      made_or_behind (last a.0) (says a.0) v e a.2 a.3 here
+      let here = subst (λ n. IsRefusedAfter greatest_year (last n) (says n) [] e) same.1
+      (subst (λ r. IsRefusedAfter greatest_year (last b.1.0) (says b.1.0) r e) same.0 b.1.2) in
+      made_or_after (last a.0) (says a.0) v e a.2 a.3 here
 
   pub one_direct : OneDirect (IsDirect (Stand A ps start) last says greatest_year)
       (RefusesDirectly (Stand A ps start) (StopsAt A ps start) fault last says greatest_year)

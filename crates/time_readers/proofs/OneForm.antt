@@ -60,31 +60,31 @@ colon_one : (utc : Bool) (a b : List ℕ) → IsOffsetColon utc a → IsOffsetCo
 colon_one true a b p q = p ∙ sym q
 colon_one false a b p q = p ∙ sym q
 
-minute_one : (ranged utc : Bool) (n : Numbers) (a b x y : List ℕ) (m k : Numbers) → IsOffsetMinute ranged utc n a x m
-    → IsOffsetMinute ranged utc n b y k → a ++ x ≡ b ++ y → (x ≡ y) × (m ≡ k)
-minute_one ranged true n a b x y m k p q e = ((same_front a b x y (ap length (p.0 ∙ sym q.0)) e).1, p.1 ∙ sym q.1)
-minute_one ranged false n a b x y m k p q e = run_says 2 2 (λ v. record n { offset_minute = v }) a b x y p.0 q.0 m k p.1.0 q.1.0 e p.2 q.2
+minute_one : (check_ranges utc : Bool) (n : Numbers) (a b x y : List ℕ) (m k : Numbers) → IsOffsetMinute check_ranges utc n a x m
+    → IsOffsetMinute check_ranges utc n b y k → a ++ x ≡ b ++ y → (x ≡ y) × (m ≡ k)
+minute_one check_ranges true n a b x y m k p q e = ((same_front a b x y (ap length (p.0 ∙ sym q.0)) e).1, p.1 ∙ sym q.1)
+minute_one check_ranges false n a b x y m k p q e = run_says 2 2 (λ v. record n { offset_minute = v }) a b x y p.0 q.0 m k p.1.0 q.1.0 e p.2 q.2
 
-asks_one : (ranged : Bool) (p : Place) (n : Numbers) (a b x y : List ℕ) (m k : Numbers) → Asks ranged p n a x m → Asks ranged p n b y k
+asks_one : (check_ranges : Bool) (p : Place) (n : Numbers) (a b x y : List ℕ) (m k : Numbers) → Asks check_ranges p n a x m → Asks check_ranges p n b y k
     → a ++ x ≡ b ++ y → (x ≡ y) × (m ≡ k)
-asks_one ranged Year n a b x y m k p q e = run_says 4 4 (λ v. record n { year = v }) a b x y p.0 q.0 m k p.1 q.1 e p.2 q.2
-asks_one ranged YearDash n a b x y m k p q e = ((same_front a b x y (ap length (p.0 ∙ sym q.0)) e).1, p.1 ∙ sym q.1)
-asks_one ranged Month n a b x y m k p q e = run_says 2 2 (λ v. record n { month = v }) a b x y p.0 q.0 m k p.1.0 q.1.0 e p.3 q.3
-asks_one ranged MonthDash n a b x y m k p q e = ((same_front a b x y (ap length (p.0 ∙ sym q.0)) e).1, p.1 ∙ sym q.1)
-asks_one ranged Day n a b x y m k p q e = run_says 2 2 (λ v. record n { day = v }) a b x y p.0 q.0 m k p.1.0 q.1.0 e p.2 q.2
-asks_one ranged Separator n a b x y m k p q e = ((same_front a b x y (p.0 ∙ sym q.0) e).1, p.1 ∙ sym q.1)
-asks_one ranged Hour n a b x y m k p q e = run_says 2 2 (λ v. record n { hour = v }) a b x y p.0 q.0 m k p.1.0 q.1.0 e p.2 q.2
-asks_one ranged HourColon n a b x y m k p q e = ((same_front a b x y (ap length (p.0 ∙ sym q.0)) e).1, p.1 ∙ sym q.1)
-asks_one ranged Minute n a b x y m k p q e = run_says 2 2 (λ v. record n { minute = v }) a b x y p.0 q.0 m k p.1.0 q.1.0 e p.2 q.2
-asks_one ranged MinuteColon n a b x y m k p q e = ((same_front a b x y (ap length (p.0 ∙ sym q.0)) e).1, p.1 ∙ sym q.1)
-asks_one ranged Second n a b x y m k p q e = run_says 2 2 (λ v. record n { second = v }) a b x y p.0 q.0 m k p.1.0 q.1.0 e p.2 q.2
-asks_one ranged Subsecond n a b x y m k p q e =
+asks_one check_ranges Year n a b x y m k p q e = run_says 4 4 (λ v. record n { year = v }) a b x y p.0 q.0 m k p.1 q.1 e p.2 q.2
+asks_one check_ranges YearDash n a b x y m k p q e = ((same_front a b x y (ap length (p.0 ∙ sym q.0)) e).1, p.1 ∙ sym q.1)
+asks_one check_ranges Month n a b x y m k p q e = run_says 2 2 (λ v. record n { month = v }) a b x y p.0 q.0 m k p.1.0 q.1.0 e p.3 q.3
+asks_one check_ranges MonthDash n a b x y m k p q e = ((same_front a b x y (ap length (p.0 ∙ sym q.0)) e).1, p.1 ∙ sym q.1)
+asks_one check_ranges Day n a b x y m k p q e = run_says 2 2 (λ v. record n { day = v }) a b x y p.0 q.0 m k p.1.0 q.1.0 e p.2 q.2
+asks_one check_ranges Separator n a b x y m k p q e = ((same_front a b x y (p.0 ∙ sym q.0) e).1, p.1 ∙ sym q.1)
+asks_one check_ranges Hour n a b x y m k p q e = run_says 2 2 (λ v. record n { hour = v }) a b x y p.0 q.0 m k p.1.0 q.1.0 e p.2 q.2
+asks_one check_ranges HourColon n a b x y m k p q e = ((same_front a b x y (ap length (p.0 ∙ sym q.0)) e).1, p.1 ∙ sym q.1)
+asks_one check_ranges Minute n a b x y m k p q e = run_says 2 2 (λ v. record n { minute = v }) a b x y p.0 q.0 m k p.1.0 q.1.0 e p.2 q.2
+asks_one check_ranges MinuteColon n a b x y m k p q e = ((same_front a b x y (ap length (p.0 ∙ sym q.0)) e).1, p.1 ∙ sym q.1)
+asks_one check_ranges Second n a b x y m k p q e = run_says 2 2 (λ v. record n { second = v }) a b x y p.0 q.0 m k p.1.0 q.1.0 e p.2 q.2
+asks_one check_ranges Subsecond n a b x y m k p q e =
     let is = subsecond_one a b x y p.0 q.0 p.1 q.1 e in
     (is.0, p.2 ∙ ap (λ v. record n { subsecond = v }) is.1 ∙ sym q.2)
-asks_one ranged OffsetHour n a b x y m k p q e = hour_one n a b x y m k p q e
-asks_one ranged OffsetColon n a b x y m k p q e = ((same_front a b x y (ap length (colon_one n.is_utc a b p.0 q.0)) e).1, p.1 ∙ sym q.1)
-asks_one ranged OffsetMinute n a b x y m k p q e = minute_one ranged n.is_utc n a b x y m k p q e
+asks_one check_ranges OffsetHour n a b x y m k p q e = hour_one n a b x y m k p q e
+asks_one check_ranges OffsetColon n a b x y m k p q e = ((same_front a b x y (ap length (colon_one n.is_utc a b p.0 q.0)) e).1, p.1 ∙ sym q.1)
+asks_one check_ranges OffsetMinute n a b x y m k p q e = minute_one check_ranges n.is_utc n a b x y m k p q e
 
 -- each place of RFC 3339 has at most one cut
-pub Asks-unique : (ranged : Bool) → AtMostOneEach (Asks ranged)
-Asks-unique ranged p n input x y m k s t = asks_one ranged p n s.0 t.0 x y m k s.2 t.2 (sym s.1 ∙ t.1)
+pub Asks-unique : (check_ranges : Bool) → AtMostOneEach (Asks check_ranges)
+Asks-unique check_ranges p n input x y m k s t = asks_one check_ranges p n s.0 t.0 x y m k s.2 t.2 (sym s.1 ∙ t.1)

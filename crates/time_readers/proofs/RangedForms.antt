@@ -2,7 +2,7 @@
 use Rattle.std.proofs.Common.{ℕ, List, [], ◌∷◌, ap, drop, subst, rules, Bool, true, false}
 use Rattle.time_readers.specs.Laws.{RangedForms}
 use Rattle.time_readers.specs.Places.{Stand}
-use Rattle.time_readers.specs.Ranged.{IsWithin}
+use Rattle.time_readers.specs.Ranges.{IsWithin}
 use Rattle.time_readers.specs.Rfc3339.{Asks, HasForm, InRanges, IsOffsetMinute, places, nothing_read}
 use Rattle.time_readers.specs.declared.rfc3339.Numbers.{Numbers}
 use Rattle.time_readers.specs.declared.rfc3339.Place.{Place}
@@ -26,22 +26,22 @@ minute true n m text after i a = a
 minute false n m text after i a = (a.0, (a.1.0, subst (IsWithin true 0 59) (ap (λ x. x.offset_minute) a.2) i), a.2)
 
 -- a form with its range
-ranged : (p : Place) (n m : Numbers) (text after : List ℕ) → In p m → Asks false p n text after m → Asks true p n text after m
-ranged Year n m text after i a = a
-ranged YearDash n m text after i a = a
-ranged Month n m text after i a = (a.0, (a.1.0, subst (IsWithin true 1 12) (ap (λ x. x.month) a.3) i), a.2, a.3)
-ranged MonthDash n m text after i a = a
-ranged Day n m text after i a = (a.0, (a.1.0, subst (IsWithin true 1 31) (ap (λ x. x.day) a.2) i), a.2)
-ranged Separator n m text after i a = a
-ranged Hour n m text after i a = (a.0, (a.1.0, subst (IsWithin true 0 23) (ap (λ x. x.hour) a.2) i), a.2)
-ranged HourColon n m text after i a = a
-ranged Minute n m text after i a = (a.0, (a.1.0, subst (IsWithin true 0 59) (ap (λ x. x.minute) a.2) i), a.2)
-ranged MinuteColon n m text after i a = a
-ranged Second n m text after i a = (a.0, (a.1.0, subst (IsWithin true 0 60) (ap (λ x. x.second) a.2) i), a.2)
-ranged Subsecond n m text after i a = a
-ranged OffsetHour n m text after i a = a
-ranged OffsetColon n m text after i a = a
-ranged OffsetMinute n m text after i a = minute n.is_utc n m text after i a
+check_ranges : (p : Place) (n m : Numbers) (text after : List ℕ) → In p m → Asks false p n text after m → Asks true p n text after m
+check_ranges Year n m text after i a = a
+check_ranges YearDash n m text after i a = a
+check_ranges Month n m text after i a = (a.0, (a.1.0, subst (IsWithin true 1 12) (ap (λ x. x.month) a.3) i), a.2, a.3)
+check_ranges MonthDash n m text after i a = a
+check_ranges Day n m text after i a = (a.0, (a.1.0, subst (IsWithin true 1 31) (ap (λ x. x.day) a.2) i), a.2)
+check_ranges Separator n m text after i a = a
+check_ranges Hour n m text after i a = (a.0, (a.1.0, subst (IsWithin true 0 23) (ap (λ x. x.hour) a.2) i), a.2)
+check_ranges HourColon n m text after i a = a
+check_ranges Minute n m text after i a = (a.0, (a.1.0, subst (IsWithin true 0 59) (ap (λ x. x.minute) a.2) i), a.2)
+check_ranges MinuteColon n m text after i a = a
+check_ranges Second n m text after i a = (a.0, (a.1.0, subst (IsWithin true 0 60) (ap (λ x. x.second) a.2) i), a.2)
+check_ranges Subsecond n m text after i a = a
+check_ranges OffsetHour n m text after i a = a
+check_ranges OffsetColon n m text after i a = a
+check_ranges OffsetMinute n m text after i a = minute n.is_utc n m text after i a
 
 any_minute : (utc : Bool) (n m : Numbers) (text after : List ℕ)
     → IsOffsetMinute true utc n text after m → IsOffsetMinute false utc n text after m
@@ -66,10 +66,10 @@ formed OffsetHour n m text after a = a
 formed OffsetColon n m text after a = a
 formed OffsetMinute n m text after a = any_minute n.is_utc n m text after a
 
--- what is behind a place leaves its number alone
-behind : {X : Type 0} (f : Numbers → X) (Q : X → Type 0) (ps : List Place) → Ignores with_place f ps
+-- what is after a place leaves its number alone
+after : {X : Type 0} (f : Numbers → X) (Q : X → Type 0) (ps : List Place) → Ignores with_place f ps
     → (k m : Numbers) (bytes rest : List ℕ) → Stand (Asks false) ps k bytes rest m → Q (f m) → Q (f k)
-behind f Q = back_by (Asks false) with_place f Q (alone false)
+after f Q = back_by (Asks false) with_place f Q (alone false)
 
 back : Back (Asks false) In places
 back = (
@@ -77,30 +77,30 @@ back = (
   (
     λ k m b r s i. tt,
     (
-      behind (λ n. n.month) (IsWithin true 1 12) (drop 3 places) (search rules),
+      after (λ n. n.month) (IsWithin true 1 12) (drop 3 places) (search rules),
       (
         λ k m b r s i. tt,
         (
-          behind (λ n. n.day) (IsWithin true 1 31) (drop 5 places) (search rules),
+          after (λ n. n.day) (IsWithin true 1 31) (drop 5 places) (search rules),
           (
             λ k m b r s i. tt,
             (
-              behind (λ n. n.hour) (IsWithin true 0 23) (drop 7 places) (search rules),
+              after (λ n. n.hour) (IsWithin true 0 23) (drop 7 places) (search rules),
               (
                 λ k m b r s i. tt,
                 (
-                  behind (λ n. n.minute) (IsWithin true 0 59) (drop 9 places) (search rules),
+                  after (λ n. n.minute) (IsWithin true 0 59) (drop 9 places) (search rules),
                   (
                     λ k m b r s i. tt,
                     (
-                      behind (λ n. n.second) (IsWithin true 0 60) (drop 11 places) (search rules),
+                      after (λ n. n.second) (IsWithin true 0 60) (drop 11 places) (search rules),
                       (
                         λ k m b r s i. tt,
                         (
                           λ k m b r s i. tt,
                           (
                             λ k m b r s i. tt,
-                            (behind (λ n. n.offset_minute) (IsWithin true 0 59) [] tt, tt),
+                            (after (λ n. n.offset_minute) (IsWithin true 0 59) [] tt, tt),
                           ),
                         ),
                       ),
@@ -149,5 +149,5 @@ ranged_forms bytes rest n = (
         nothing_read n bytes rest (all_back places) (λ p. tt) s,
     in_ranges bytes rest n s,
   ),
-  λ s. along (Asks false) (Asks true) In ranged places nothing_read n bytes rest back (in_place n s.1) s.0,
+  λ s. along (Asks false) (Asks true) In check_ranges places nothing_read n bytes rest back (in_place n s.1) s.0,
 )

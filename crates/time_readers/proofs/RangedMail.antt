@@ -4,12 +4,12 @@ use Rattle.time_values.specs.Sign.{signed_by}
 use Rattle.time_readers.specs.Bytes.{is_negative}
 use Rattle.time_readers.specs.Laws.{RangedForms}
 use Rattle.time_readers.specs.Places.{Stand}
-use Rattle.time_readers.specs.Ranged.{IsWithin}
+use Rattle.time_readers.specs.Ranges.{IsWithin}
 use Rattle.time_readers.specs.Rfc2822.{Asks, HasForm, InRanges, IsSecond, IsZone, IsSignedHour, IsOffsetMinute, places, nothing_read}
 use Rattle.time_readers.specs.declared.Sign.{Sign}
-use Rattle.time_readers.specs.declared.rfc2822.places.Numbers.{Numbers}
-use Rattle.time_readers.specs.declared.rfc2822.places.Place.{Place}
-use Rattle.time_readers.specs.declared.rfc2822.places.Place.TheVariants.{WeekdayName, Day, DayBlanks, MonthName, MonthBlanks, Year, YearBlanks, Hour, HourColon, Minute, Second, TimeBlanks, OffsetHour, OffsetMinute, EndBlanks}
+use Rattle.time_readers.specs.declared.rfc2822.Numbers.{Numbers}
+use Rattle.time_readers.specs.declared.rfc2822.Place.{Place}
+use Rattle.time_readers.specs.declared.rfc2822.Place.TheVariants.{WeekdayName, Day, DayBlanks, MonthName, MonthBlanks, Year, YearBlanks, Hour, HourColon, Minute, Second, TimeBlanks, OffsetHour, OffsetMinute, EndBlanks}
 use Rattle.time_readers.proofs.MailRanges.{with_place, alone, signed-abs, HasForm-in_places}
 use Rattle.time_readers.proofs.KeptNumbers.{Back, Ignores, along, back_by}
 
@@ -54,23 +54,23 @@ minute (Some s) n m text after i a =
     (a.0, (a.1.0, unsigned 59 (is_negative s) a.0 within), a.2)
 
 -- a form with its range
-ranged : (p : Place) (n m : Numbers) (text after : List ℕ) → In p m → Asks false p n text after m → Asks true p n text after m
-ranged WeekdayName n m text after i a = a
-ranged Day n m text after i a = (a.0, a.1, subst (IsWithin true 1 31) (ap (λ x. x.day) a.3) i, a.3)
-ranged DayBlanks n m text after i a = a
-ranged MonthName n m text after i a = a
-ranged MonthBlanks n m text after i a = a
-ranged Year n m text after i a = a
-ranged YearBlanks n m text after i a = a
-ranged Hour n m text after i a = (a.0, (a.1.0, subst (IsWithin true 0 23) (ap (λ x. x.hour) a.2) i), a.2)
-ranged HourColon n m text after i a = a
-ranged Minute n m text after i a = (a.0, (a.1.0, subst (IsWithin true 0 59) (ap (λ x. x.minute) a.2) i), a.2)
-ranged Second n m text after i a =
+check_ranges : (p : Place) (n m : Numbers) (text after : List ℕ) → In p m → Asks false p n text after m → Asks true p n text after m
+check_ranges WeekdayName n m text after i a = a
+check_ranges Day n m text after i a = (a.0, a.1, subst (IsWithin true 1 31) (ap (λ x. x.day) a.3) i, a.3)
+check_ranges DayBlanks n m text after i a = a
+check_ranges MonthName n m text after i a = a
+check_ranges MonthBlanks n m text after i a = a
+check_ranges Year n m text after i a = a
+check_ranges YearBlanks n m text after i a = a
+check_ranges Hour n m text after i a = (a.0, (a.1.0, subst (IsWithin true 0 23) (ap (λ x. x.hour) a.2) i), a.2)
+check_ranges HourColon n m text after i a = a
+check_ranges Minute n m text after i a = (a.0, (a.1.0, subst (IsWithin true 0 59) (ap (λ x. x.minute) a.2) i), a.2)
+check_ranges Second n m text after i a =
     (a.0, second text after a.0 (subst (λ v. IfSome v (IsWithin true 0 60)) (ap (λ x. x.second) a.2) i) a.1, a.2)
-ranged TimeBlanks n m text after i a = a
-ranged OffsetHour n m text after i a = hour n m text after i a
-ranged OffsetMinute n m text after i a = minute n.offset_sign n m text after i a
-ranged EndBlanks n m text after i a = a
+check_ranges TimeBlanks n m text after i a = a
+check_ranges OffsetHour n m text after i a = hour n m text after i a
+check_ranges OffsetMinute n m text after i a = minute n.offset_sign n m text after i a
+check_ranges EndBlanks n m text after i a = a
 
 any_second : (text after : List ℕ) (v : Option ℕ) → IsSecond true text after v → IsSecond false text after v
 any_second text after None s = s
@@ -112,16 +112,16 @@ formed OffsetHour n m text after a = any_hour n m text after a
 formed OffsetMinute n m text after a = any_minute n.offset_sign n m text after a
 formed EndBlanks n m text after a = a
 
--- what is behind a place leaves its number alone
-behind : {X : Type 0} (f : Numbers → X) (Q : X → Type 0) (ps : List Place) → Ignores with_place f ps
+-- what is after a place leaves its number alone
+after : {X : Type 0} (f : Numbers → X) (Q : X → Type 0) (ps : List Place) → Ignores with_place f ps
     → (k m : Numbers) (bytes rest : List ℕ) → Stand (Asks false) ps k bytes rest m → Q (f m) → Q (f k)
-behind f Q = back_by (Asks false) with_place f Q (alone false)
+after f Q = back_by (Asks false) with_place f Q (alone false)
 
 back : Back (Asks false) In places
 back = (
   λ k m b r s i. tt,
   (
-    behind (λ n. n.day) (IsWithin true 1 31) (drop 2 places) (search rules),
+    after (λ n. n.day) (IsWithin true 1 31) (drop 2 places) (search rules),
     (
       λ k m b r s i. tt,
       (
@@ -133,19 +133,19 @@ back = (
             (
               λ k m b r s i. tt,
               (
-                behind (λ n. n.hour) (IsWithin true 0 23) (drop 8 places) (search rules),
+                after (λ n. n.hour) (IsWithin true 0 23) (drop 8 places) (search rules),
                 (
                   λ k m b r s i. tt,
                   (
-                    behind (λ n. n.minute) (IsWithin true 0 59) (drop 10 places) (search rules),
+                    after (λ n. n.minute) (IsWithin true 0 59) (drop 10 places) (search rules),
                     (
-                      behind (λ n. n.second) (λ v. IfSome v (IsWithin true 0 60)) (drop 11 places) (search rules),
+                      after (λ n. n.second) (λ v. IfSome v (IsWithin true 0 60)) (drop 11 places) (search rules),
                       (
                         λ k m b r s i. tt,
                         (
-                          behind (λ n. n.offset_hour) (λ v. IsWithin true 0 25 (unsigned_abs v)) (drop 13 places) (search rules),
+                          after (λ n. n.offset_hour) (λ v. IsWithin true 0 25 (unsigned_abs v)) (drop 13 places) (search rules),
                           (
-                            behind (λ n. n.offset_minute) (λ v. IsWithin true 0 59 (unsigned_abs v)) (drop 14 places) (search rules),
+                            after (λ n. n.offset_minute) (λ v. IsWithin true 0 59 (unsigned_abs v)) (drop 14 places) (search rules),
                             (λ k m b r s i. tt, tt),
                           ),
                         ),
@@ -202,5 +202,5 @@ ranged_mail bytes rest n = (
         nothing_read n bytes rest (all_back places) (λ p. tt) s,
     in_ranges bytes rest n s,
   ),
-  λ s. along (Asks false) (Asks true) In ranged places nothing_read n bytes rest back (in_place n s.1) s.0,
+  λ s. along (Asks false) (Asks true) In check_ranges places nothing_read n bytes rest back (in_place n s.1) s.0,
 )

@@ -49,7 +49,7 @@ unfolding Stand
 Walks-last A p n m bytes (Ok rest) step = (rest.now, m, step, (refl, refl))
 Walks-last A p n m bytes (Err e) step = Walks-here A p [] n m bytes e step
 
--- the first place is one byte that says nothing
+-- the first place is one byte that has no value
 pub Walks-byte : {P N : Type 0} (A : Format P N) (p : P) (ps : List P) (n m : N) (bytes mid : List ℕ) (result : Result (Bor (List ℕ)) P)
     (c : ℕ) → bytes ≡ c ∷ mid → A p n (c ∷ []) mid n → Walks A ps n mid result m → Walks A (p ∷ ps) n bytes result m
 Walks-byte A p ps n m bytes mid result c cut asks others = Walks-more A p ps n n m bytes mid result (c ∷ [], cut, asks) others

@@ -17,7 +17,7 @@ use Rattle.time_readers.specs.Cuts.{Form}
 use Rattle.time_readers.specs.Rfc2822 as rfc2822
 use Rattle.time_readers.specs.Rfc3339 as rfc3339
 use Rattle.time_readers.specs.declared.direct.Said.{Said}
-use Rattle.time_readers.specs.declared.rfc2822.places.Numbers as mail
+use Rattle.time_readers.specs.declared.rfc2822.Numbers as mail
 use Rattle.time_readers.specs.declared.rfc3339.Numbers.{Numbers}
 
 -- the second and the nanosecond that a clock shows, where a leap second is the last nanosecond before it
@@ -67,21 +67,21 @@ IsNotMade Y s e =
 
 -- The refusal once all places have their form: that of the last place's range, or else bytes that remain, or else that
 -- no moment is made.
-abbrev pub IsRefusedBehind : ℕ → Option Refusal → Said → List ℕ → Refusal → Type 0
-IsRefusedBehind Y (Some r) s rest e = e ≡ r
-IsRefusedBehind Y None s [] e = IsNotMade Y s e
-IsRefusedBehind Y None s (c ∷ rest) e = e ≡ trailing
+abbrev pub IsRefusedAfter : ℕ → Option Refusal → Said → List ℕ → Refusal → Type 0
+IsRefusedAfter Y (Some r) s rest e = e ≡ r
+IsRefusedAfter Y None s [] e = IsNotMade Y s e
+IsRefusedAfter Y None s (c ∷ rest) e = e ≡ trailing
 
 -- the moment made of a whole text whose places have their form
 abbrev pub IsDirect : {N : Type 0} → Form N → (N → Option Refusal) → (N → Said) → ℕ → List ℕ → OffsetDateTime → Type 0
 IsDirect {N} form last says Y bytes v = (n : N) × form bytes [] n × (last n ≡ None) × IsMade Y (says n) v
 
--- the refusal of the first place that doesn't have its form, or else what is refused behind them all
+-- the refusal of the first place that doesn't have its form, or else what is refused after them all
 abbrev pub RefusesDirectly : {P N : Type 0} → Form N → (List ℕ → P → Type 0) → (P → Refusal) → (N → Option Refusal)
     → (N → Said) → ℕ → List ℕ → Refusal → Type 0
 RefusesDirectly {P} {N} form fails fault last says Y bytes e =
     ((p : P) × fails bytes p × (e ≡ fault p))
-    ⊎ ((rest : List ℕ) × ((n : N) × form bytes rest n × IsRefusedBehind Y (last n) (says n) rest e))
+    ⊎ ((rest : List ℕ) × ((n : N) × form bytes rest n × IsRefusedAfter Y (last n) (says n) rest e))
 
 -- the range of the minute of an offset, which its place of RFC 3339 refuses
 abbrev pub minute_refusal : Numbers → Option Refusal

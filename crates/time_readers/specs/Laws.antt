@@ -66,8 +66,8 @@ pub record OneFraction : Type 0 where
 
 -- a text with ranges is one without, whose numbers lie in them
 abbrev pub RangedForms : {N : Type 0} → Form N → Form N → (N → Type 0) → Type 0
-RangedForms {N} ranged formed InRanges =
-    (bytes rest : List ℕ) (n : N) → ranged bytes rest n ↔ (formed bytes rest n × InRanges n)
+RangedForms {N} check_ranges formed InRanges =
+    (bytes rest : List ℕ) (n : N) → check_ranges bytes rest n ↔ (formed bytes rest n × InRanges n)
 
 -- a direct path has one answer to a text: one moment or one refusal, and never both
 pub record OneDirect (value : List ℕ → OffsetDateTime → Type 0) (refuses : List ℕ → Refusal → Type 0) : Type 0 where

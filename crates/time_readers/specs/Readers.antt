@@ -4,7 +4,7 @@ use Rattle.std.specs.Option.{option_or}
 use Rattle.std.specs.Str.{byte}
 use Prim.Native.String.{String}
 
--- what is left of the bytes behind what is read of them
+-- what is left of the bytes after what is read of them
 abbrev pub Reader : Type 0
 Reader = List ℕ → Option (List ℕ)
 

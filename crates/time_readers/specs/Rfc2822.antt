@@ -11,27 +11,27 @@ use Rattle.time_readers.specs.Bytes.{sign_byte, is_negative}
 use Rattle.time_readers.specs.Names.{month_name, weekday_name}
 use Rattle.time_readers.specs.Spelling.{IsShortOf}
 use Rattle.time_readers.specs.Places.{Format, Stand, StopsAt}
-use Rattle.time_readers.specs.Ranged.{IsWithin, IsTwoDigits}
+use Rattle.time_readers.specs.Ranges.{IsWithin, IsTwoDigits}
 use Rattle.time_readers.specs.Readers.{Reader, IsRead}
 use Rattle.time_readers.specs.MailBlanks.{fws, cfws, opt_cfws, opt_cfws_colon_opt_cfws}
 use Rattle.time_readers.specs.MailZones.{zone_literal}
 use Rattle.time_readers.specs.declared.Sign.{Sign}
-use Rattle.time_readers.specs.declared.rfc2822.places.Numbers.{Numbers}
-use Rattle.time_readers.specs.declared.rfc2822.places.Place.{Place}
-use Rattle.time_readers.specs.declared.rfc2822.places.Place.TheVariants.{WeekdayName, Day, DayBlanks, MonthName, MonthBlanks, Year, YearBlanks, Hour, HourColon, Minute, Second, TimeBlanks, OffsetHour, OffsetMinute, EndBlanks}
+use Rattle.time_readers.specs.declared.rfc2822.Numbers.{Numbers}
+use Rattle.time_readers.specs.declared.rfc2822.Place.{Place}
+use Rattle.time_readers.specs.declared.rfc2822.Place.TheVariants.{WeekdayName, Day, DayBlanks, MonthName, MonthBlanks, Year, YearBlanks, Hour, HourColon, Minute, Second, TimeBlanks, OffsetHour, OffsetMinute, EndBlanks}
 
 -- the first three letters of a name of a weekday, in any case
 abbrev pub IsShortWeekday : Form Weekday
 IsShortWeekday = IsShortOf false weekday_name
 
--- blanks, and then no weekday, or one with a comma and blanks behind it
+-- blanks, and then no weekday, or one with a comma and blanks after it
 abbrev pub IsWeekdayPart : Form (Option Weekday)
 IsWeekdayPart text after None = IsRead opt_cfws text after × NoCut IsShortWeekday after
 IsWeekdayPart text after (Some w) =
-    (blanks name behind : List ℕ) × (text ≡ blanks ++ (name ++ 44 ∷ behind))
-    × IsRead opt_cfws blanks (name ++ 44 ∷ (behind ++ after))
-    × IsShortWeekday name (44 ∷ (behind ++ after)) w
-    × IsRead opt_cfws behind after
+    (blanks name more_blanks : List ℕ) × (text ≡ blanks ++ (name ++ 44 ∷ more_blanks))
+    × IsRead opt_cfws blanks (name ++ 44 ∷ (more_blanks ++ after))
+    × IsShortWeekday name (44 ∷ (more_blanks ++ after)) w
+    × IsRead opt_cfws more_blanks after
 
 -- the year that two digits say
 abbrev pub year_of_two : ℕ → ℕ
@@ -43,7 +43,7 @@ IsYear true text after v = IsDigitRun 4 4 text after v × (1900 ≤ v)
 IsYear false text after v =
     NoCut (IsDigitRun 4 4) (text ++ after) × ((w : ℕ) × IsDigitRun 2 2 text after w × (v ≡ year_of_two w))
 
--- what a reader takes, which says nothing
+-- what a reader takes, which has no value
 abbrev pub IsSilent : Reader → Numbers → Form Numbers
 IsSilent reader n text after m = IsRead reader text after × (m ≡ n)
 
@@ -54,10 +54,10 @@ year_blanks false = cfws
 
 -- nothing where no colon stands, or a colon between blanks and two digits
 abbrev pub IsSecond : Bool → Form (Option ℕ)
-IsSecond ranged text after None = (text ≡ []) × (opt_cfws_colon_opt_cfws after ≡ None)
-IsSecond ranged text after (Some v) =
+IsSecond check_ranges text after None = (text ≡ []) × (opt_cfws_colon_opt_cfws after ≡ None)
+IsSecond check_ranges text after (Some v) =
     (colon digits : List ℕ) × (text ≡ colon ++ digits)
-    × IsRead opt_cfws_colon_opt_cfws colon (digits ++ after) × IsTwoDigits ranged 0 60 digits after v
+    × IsRead opt_cfws_colon_opt_cfws colon (digits ++ after) × IsTwoDigits check_ranges 0 60 digits after v
 
 -- a zone name
 abbrev pub IsZone : Numbers → Form Numbers
@@ -66,47 +66,47 @@ IsZone n text after m =
     × (m ≡ record n { offset_sign = None; offset_hour = hours })
 
 -- where no zone name stands, a sign and two digits
-pub record IsSignedHour (ranged : Bool) (n : Numbers) (text after : List ℕ) (m : Numbers) : Type 0 where
+pub record IsSignedHour (check_ranges : Bool) (n : Numbers) (text after : List ℕ) (m : Numbers) : Type 0 where
   pub no_zone : zone_literal (text ++ after) ≡ None
   pub sign : Sign
   pub digits : List ℕ
   pub hour : ℕ
   pub cut : text ≡ sign_byte sign ∷ digits
-  pub run : IsTwoDigits ranged 0 25 digits after hour
+  pub run : IsTwoDigits check_ranges 0 25 digits after hour
   pub says : m ≡ record n { offset_sign = Some sign; offset_hour = signed_by (is_negative sign) (pos hour) }
 
--- two digits behind a signed hour, and nothing behind a zone name
+-- two digits after a signed hour, and nothing after a zone name
 abbrev pub IsOffsetMinute : Bool → Option Sign → Numbers → Form Numbers
-IsOffsetMinute ranged None n text after m = (text ≡ []) × (m ≡ n)
-IsOffsetMinute ranged (Some sign) n text after m =
-    (v : ℕ) × IsTwoDigits ranged 0 59 text after v
+IsOffsetMinute check_ranges None n text after m = (text ≡ []) × (m ≡ n)
+IsOffsetMinute check_ranges (Some sign) n text after m =
+    (v : ℕ) × IsTwoDigits check_ranges 0 59 text after v
     × (m ≡ record n { offset_minute = signed_by (is_negative sign) (pos v) })
 
 -- What each place asks of its text, and what the text says: its form, and where ranges are asked its range. The year
 -- says whether it has four digits, and the hour of the offset whether a sign stands: the next place depends on it.
 abbrev pub Asks : Bool → Format Place Numbers
-Asks ranged WeekdayName n text after m =
+Asks check_ranges WeekdayName n text after m =
     (v : Option Weekday) × IsWeekdayPart text after v × (m ≡ record n { weekday = v })
-Asks ranged Day n text after m =
-    (v : ℕ) × IsDigitRun 1 2 text after v × IsWithin ranged 1 31 v × (m ≡ record n { day = v })
-Asks ranged DayBlanks n text after m = IsSilent cfws n text after m
-Asks ranged MonthName n text after m =
+Asks check_ranges Day n text after m =
+    (v : ℕ) × IsDigitRun 1 2 text after v × IsWithin check_ranges 1 31 v × (m ≡ record n { day = v })
+Asks check_ranges DayBlanks n text after m = IsSilent cfws n text after m
+Asks check_ranges MonthName n text after m =
     (v : Month) × IsShortOf false month_name text after v × (m ≡ record n { month = v })
-Asks ranged MonthBlanks n text after m = IsSilent cfws n text after m
-Asks ranged Year n text after m =
+Asks check_ranges MonthBlanks n text after m = IsSilent cfws n text after m
+Asks check_ranges Year n text after m =
     (full : Bool) × (v : ℕ) × IsYear full text after v × (m ≡ record n { year = v; year_is_full = full })
-Asks ranged YearBlanks n text after m = IsSilent (year_blanks n.year_is_full) n text after m
-Asks ranged Hour n text after m =
-    (v : ℕ) × IsTwoDigits ranged 0 23 text after v × (m ≡ record n { hour = v })
-Asks ranged HourColon n text after m = IsSilent opt_cfws_colon_opt_cfws n text after m
-Asks ranged Minute n text after m =
-    (v : ℕ) × IsTwoDigits ranged 0 59 text after v × (m ≡ record n { minute = v })
-Asks ranged Second n text after m =
-    (v : Option ℕ) × IsSecond ranged text after v × (m ≡ record n { second = v })
-Asks ranged TimeBlanks n text after m = IsSilent cfws n text after m
-Asks ranged OffsetHour n text after m = IsZone n text after m ⊎ IsSignedHour ranged n text after m
-Asks ranged OffsetMinute n text after m = IsOffsetMinute ranged n.offset_sign n text after m
-Asks ranged EndBlanks n text after m = IsSilent opt_cfws n text after m
+Asks check_ranges YearBlanks n text after m = IsSilent (year_blanks n.year_is_full) n text after m
+Asks check_ranges Hour n text after m =
+    (v : ℕ) × IsTwoDigits check_ranges 0 23 text after v × (m ≡ record n { hour = v })
+Asks check_ranges HourColon n text after m = IsSilent opt_cfws_colon_opt_cfws n text after m
+Asks check_ranges Minute n text after m =
+    (v : ℕ) × IsTwoDigits check_ranges 0 59 text after v × (m ≡ record n { minute = v })
+Asks check_ranges Second n text after m =
+    (v : Option ℕ) × IsSecond check_ranges text after v × (m ≡ record n { second = v })
+Asks check_ranges TimeBlanks n text after m = IsSilent cfws n text after m
+Asks check_ranges OffsetHour n text after m = IsZone n text after m ⊎ IsSignedHour check_ranges n text after m
+Asks check_ranges OffsetMinute n text after m = IsOffsetMinute check_ranges n.offset_sign n text after m
+Asks check_ranges EndBlanks n text after m = IsSilent opt_cfws n text after m
 
 -- the numbers before any place is read
 abbrev pub nothing_read : Numbers
@@ -124,27 +124,37 @@ nothing_read = record {
   offset_minute = pos 0;
 }
 
--- the places of the date, of the time and of the offset, in order
-abbrev pub date_places : List Place
-date_places = WeekdayName ∷ Day ∷ DayBlanks ∷ MonthName ∷ MonthBlanks ∷ Year ∷ YearBlanks ∷ []
+-- the places up to the day, in order
+abbrev pub day_places : List Place
+day_places = WeekdayName ∷ Day ∷ []
 
+-- the places of the month and the year with the blanks beside them, in order
+abbrev pub month_places : List Place
+month_places = DayBlanks ∷ MonthName ∷ MonthBlanks ∷ Year ∷ YearBlanks ∷ []
+
+-- the places of the time, in order
 abbrev pub time_places : List Place
 time_places = Hour ∷ HourColon ∷ Minute ∷ Second ∷ TimeBlanks ∷ []
 
+-- the places from after the day to the offset, in order
+abbrev pub to_offset_places : List Place
+to_offset_places = month_places ++ time_places
+
+-- the places of the offset, in order
 abbrev pub offset_places : List Place
 offset_places = OffsetHour ∷ OffsetMinute ∷ EndBlanks ∷ []
 
 -- the fifteen places in order
 abbrev pub places : List Place
-places = date_places ++ (time_places ++ offset_places)
+places = day_places ++ (to_offset_places ++ offset_places)
 
 -- the bytes are the texts of the fifteen places, which say the numbers, and then the rest
 abbrev pub HasForm : Bool → List ℕ → List ℕ → Numbers → Type 0
-HasForm ranged bytes rest m = Stand (Asks ranged) places nothing_read bytes rest m
+HasForm check_ranges bytes rest m = Stand (Asks check_ranges) places nothing_read bytes rest m
 
 -- the first of the fifteen places that doesn't stand
 abbrev pub FailsAt : Bool → List ℕ → Place → Type 0
-FailsAt ranged bytes p = StopsAt (Asks ranged) places nothing_read bytes p
+FailsAt check_ranges bytes p = StopsAt (Asks check_ranges) places nothing_read bytes p
 
 -- the refusal of a place that doesn't stand: of a number or a name a component by its name, else a literal
 abbrev pub fault : Place → Refusal

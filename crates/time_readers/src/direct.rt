@@ -9,7 +9,7 @@ ghost use Rattle.time_values.specs.Range.{greatest_year};
 ghost use Rattle.time_values.specs.Refusal.{Constructs, refusal_of, refusal_of_range};
 ghost use Rattle.time_values.specs.Sign.{signed_by};
 ghost use Rattle.time_values.specs.Times.{HasClock, time_refusal};
-ghost use Rattle.time_readers.specs.Direct.{shown_second, shown_nanosecond, date_refusal, first_refusal, HasDate, IsMoment, LeapSecondMayStand, said_rfc3339, said_rfc2822, IsMade, IsNotMade, IsRefusedBehind, DirectRfc3339, DirectRfc2822};
+ghost use Rattle.time_readers.specs.Direct.{shown_second, shown_nanosecond, date_refusal, first_refusal, HasDate, IsMoment, LeapSecondMayStand, said_rfc3339, said_rfc2822, IsMade, IsNotMade, IsRefusedAfter, DirectRfc3339, DirectRfc2822};
 
 use crate::{rfc2822, rfc3339};
 use std::num::NonZero;
@@ -128,14 +128,14 @@ fn said_rfc2822(numbers: rfc2822::Numbers) -> Said
     }
 }
 
-// The moment of a text behind which nothing remains.
+// The moment of a text after which nothing remains.
 #[inline(always)]
 fn whole(rest: &[u8], said: Said) -> Result<OffsetDateTime, Parse>
     requires year { said.year ≤ greatest_year }
     requires month { said.month ≢ 0 }
     ensures { MatchResult result
         (λ v. (rest.now ≡ []) × IsMade greatest_year said v)
-        (λ e. IsRefusedBehind greatest_year None said rest.now (refusal_of e)) }
+        (λ e. IsRefusedAfter greatest_year None said rest.now (refusal_of e)) }
 {
     if !rest.is_empty() {
         return Err(ParseFromDescription::UnexpectedTrailingCharacters.into());
@@ -228,14 +228,15 @@ fn clock(said: Said) -> Result<Time, ComponentRange>
     Time::from_hms_nano(said.hour, said.minute, second, nanosecond)
 }
 
-// The offset, at once where it is that of UTC.
+// The offset. That of UTC is a constant: a choice between two equal answers, and no second way of reading.
 #[inline(always)]
 fn offset(said: Said) -> Result<UtcOffset, ComponentRange>
     ensures { Constructs (offset_refusal said.offset_hour said.offset_minute (pos 0))
         (HasOffset said.offset_hour said.offset_minute (pos 0)) result }
 {
     if said.offset_hour == 0 && said.offset_minute == 0 {
-        return Ok(UtcOffset::UTC);
+        Ok(UtcOffset::UTC)
+    } else {
+        UtcOffset::from_hms(said.offset_hour, said.offset_minute, 0)
     }
-    UtcOffset::from_hms(said.offset_hour, said.offset_minute, 0)
 }

@@ -26,15 +26,15 @@ pub fn law_one_spelling()
 /// By the places of RFC 3339 bytes have one reading, or one first place that doesn't stand, and never
 /// both.
 pub fn law_one_form()
-    ensures { (ranged : Bool) (bytes : List ℕ)
-        → OneForm (rfc3339.Asks ranged) rfc3339.places rfc3339.nothing_read bytes }
+    ensures { (check_ranges : Bool) (bytes : List ℕ)
+        → OneForm (rfc3339.Asks check_ranges) rfc3339.places rfc3339.nothing_read bytes }
 {}
 
 /// By the places of RFC 2822 bytes have one reading, or one first place that doesn't stand, and never
 /// both.
 pub fn law_one_mail_date()
-    ensures { (ranged : Bool) (bytes : List ℕ)
-        → OneForm (rfc2822.Asks ranged) rfc2822.places rfc2822.nothing_read bytes }
+    ensures { (check_ranges : Bool) (bytes : List ℕ)
+        → OneForm (rfc2822.Asks check_ranges) rfc2822.places rfc2822.nothing_read bytes }
 {}
 
 /// A text of RFC 3339, or a mail date, with its ranges is one without, whose numbers lie in the ranges.

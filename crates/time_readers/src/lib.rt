@@ -13,7 +13,7 @@ pub mod format_description;
 pub mod iso8601;
 pub mod laws;
 pub mod modifier;
-mod ranged;
+mod ranges;
 pub mod rfc2822;
 pub mod rfc3339;
 mod shim;

@@ -15,7 +15,7 @@ use Rattle.time_values.specs.declared.error.Parse.{Parse}
 use Rattle.time_readers.specs.Direct.{DirectRfc2822, IsDirectRfc2822, RefusesRfc2822, said_rfc2822, first_refusal}
 use Rattle.time_readers.specs.Rfc2822.{InRanges}
 use Rattle.time_readers.specs.declared.Sign.{Sign}
-use Rattle.time_readers.specs.declared.rfc2822.places.Numbers.{Numbers}
+use Rattle.time_readers.specs.declared.rfc2822.Numbers.{Numbers}
 use Rattle.time_readers.proofs.EachValue.{each_month}
 use Rattle.time_readers.proofs.MailRanges.{HasForm-in_places, HasForm-zone}
 use Rattle.time_readers.proofs.RangedMail.{ranged_mail}

@@ -2,7 +2,7 @@
 use Rattle.std.proofs.Common.{◌≡◌, ◌∙◌, sym, ap, true, List, ℕ, Some}
 use Rattle.time_record.specs.Record.{Record, put_all}
 use Rattle.time_readers.specs.Rfc2822.{Asks, places, nothing_read, fault}
-use Rattle.time_readers.specs.declared.rfc2822.places.Numbers.{Numbers}
+use Rattle.time_readers.specs.declared.rfc2822.Numbers.{Numbers}
 use Rattle.time_readers.specs.Laws.{OneForm}
 use Rattle.time_readers.proofs.OneReading.{one_form}
 use Rattle.time_readers.proofs.OneMailDate.{MailAsks-unique}

@@ -3,7 +3,7 @@ use Rattle.time_values.specs.Range.{greatest_year}
 use Rattle.time_readers.specs.Direct.{said_rfc2822}
 use Rattle.time_readers.specs.Rfc2822.{HasForm, FailsAt, fault}
 use Rattle.time_readers.proofs.MailRanges.{HasForm-in_places}
-use Rattle.time_readers.proofs.Made.{behind}
+use Rattle.time_readers.proofs.Made.{after}
 use Rattle.time_readers.proofs.direct.rfc2822.Goals as goal
 
 pub whole-requires-clause-year : goal.whole-requires-clause-year
@@ -15,5 +15,5 @@ whole-requires-clause-year c =
 pub returns-in-Ok : goal.returns-in-Ok
 returns-in-Ok c =
     let found = c.in-Ok.found in
-    behind (HasForm false) (FailsAt false) fault (λ n. None) said_rfc2822 greatest_year c.args.input.now found.0.now
+    after (HasForm false) (FailsAt false) fault (λ n. None) said_rfc2822 greatest_year c.args.input.now found.0.now
     found.1 c.whole.result c.in-Ok.ensures refl (rw c.said_rfc2822.ensures at c.whole.ensures)

@@ -3,7 +3,7 @@ use Rattle.time_values.specs.Range.{greatest_year}
 use Rattle.time_readers.specs.Direct.{minute_refusal, said_rfc3339}
 use Rattle.time_readers.specs.Rfc3339.{HasForm, FailsAt, fault}
 use Rattle.time_readers.proofs.Keeping.{HasForm-in_places}
-use Rattle.time_readers.proofs.Made.{behind, minute_stands, minute_past}
+use Rattle.time_readers.proofs.Made.{after, minute_stands, minute_past}
 use Rattle.time_readers.proofs.direct.rfc3339.Goals as goal
 
 pub returns-then-numbers-gt59 : goal.returns-then-numbers-gt59
@@ -38,6 +38,6 @@ whole-requires-clause-month c =
 pub returns : goal.returns
 returns c =
     let found = c.in-Ok.found in
-    behind (HasForm false) (FailsAt false) fault minute_refusal said_rfc3339 greatest_year c.args.input.now found.0.now
+    after (HasForm false) (FailsAt false) fault minute_refusal said_rfc3339 greatest_year c.args.input.now found.0.now
     found.1 c.whole.result c.in-Ok.ensures (minute_stands found.1 c.if-numbers-gt59.false)
     (rw c.said_rfc3339.ensures at c.whole.ensures)

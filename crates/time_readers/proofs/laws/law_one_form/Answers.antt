@@ -4,4 +4,4 @@ use Rattle.time_readers.proofs.OneForm.{Asks-unique}
 use Rattle.time_readers.proofs.laws.law_one_form.Goals as goal
 
 pub returns : goal.returns
-returns c = λ ranged bytes. one_form (Asks ranged) (Asks-unique ranged) places nothing_read bytes
+returns c = λ check_ranges bytes. one_form (Asks check_ranges) (Asks-unique check_ranges) places nothing_read bytes

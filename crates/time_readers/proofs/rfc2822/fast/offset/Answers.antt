@@ -1,0 +1,13 @@
+use Rattle.std.proofs.Common.{◌++◌, ap, ◌∙◌, arith, rules}
+use Rattle.time_readers.proofs.MailOffset.{last_offset_stands}
+use Rattle.time_readers.proofs.rfc2822.fast.offset.Goals as goal
+
+pub returns : goal.returns
+returns g c =
+    let rest = c.in_ok-signed.signed.0.now in
+    let signed = c.in_ok-signed.ensures in
+    let cut = signed.1 ∙ ap (λ t. t ++ rest) signed.2 in
+    last_offset_stands _ c.args.numbers.now c.in_ok-signed.signed.1 c.args.input.now rest _ _ _ _ cut (omega arith)
+    (omega arith, omega arith) (omega arith, omega arith) (omega arith, omega arith) (omega arith, omega arith)
+    (omega arith) (c.is_in_range.ensures.0 c.if-not-is_in_range.false) (omega arith) (c.is_in_range-else-not-is_in_range.ensures.0 c.if-not-is_in_range-2.false)
+    (search rules) (search rules)

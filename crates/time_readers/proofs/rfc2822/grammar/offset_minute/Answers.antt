@@ -1,0 +1,5 @@
+use Rattle.time_readers.proofs.MailPlaces.{two_digits-below}
+use Rattle.time_readers.proofs.rfc2822.grammar.offset_minute.Goals as goal
+
+pub signed-numbers-requires : goal.signed-numbers-requires
+signed-numbers-requires g c = two_digits-below _ 0 59 _ _ _ c.in_ok-found.ensures

@@ -1,0 +1,32 @@
+//! Numbers of places, whose range is asked or not.
+ghost use Rattle.std.specs.Prelude.{IsTrue, ◌↔◌};
+ghost use Rattle.time_readers.specs.Cuts.{Finds};
+ghost use Rattle.time_readers.specs.Ranges.{IsTwoDigits, IsWithin};
+
+use crate::ParsedItem;
+use crate::combinator::two_digits;
+
+// Whether the number lies in the range, where that is asked.
+#[inline(always)]
+pub(crate) fn is_in_range<const CHECK_RANGES: bool>(value: u8, least: u8, most: u8) -> bool
+    ensures { IsTrue result ↔ IsWithin CHECK_RANGES least most value }
+{
+    !CHECK_RANGES || (least <= value && value <= most)
+}
+
+// Two digits, whose number lies in the range where that is asked.
+#[inline(always)]
+pub(crate) fn two_digits_in<const CHECK_RANGES: bool>(
+    input: &[u8],
+    least: u8,
+    most: u8,
+) -> Option<ParsedItem<'_, u8>>
+    ensures { Finds (IsTwoDigits CHECK_RANGES least most) (λ v. v) input.now result }
+{
+    let found = two_digits(input)?;
+    if is_in_range::<CHECK_RANGES>(found.1, least, most) {
+        Some(found)
+    } else {
+        None
+    }
+}

@@ -1,0 +1,171 @@
+//! The commonest parts of mail dates, and the commonest blanks between them.
+//!
+//! Each reader answers what the plain reader of the same name answers, or `None`: not this form. No blank and no
+//! comment begins with a byte above `(`.
+ghost use Rattle.std.specs.Prelude.{IfSome, MatchOption, Some, ◌≡◌, ◌∷◌, [], map, false};
+ghost use Rattle.time_readers.specs.Block.{AllWithin, pair_at};
+ghost use Rattle.time_readers.specs.Cuts.{Cut};
+ghost use Rattle.time_readers.specs.MailBlanks as spec;
+ghost use Rattle.time_readers.specs.Places.{Stand};
+ghost use Rattle.time_readers.specs.Rfc2822.{Asks, to_offset_places, offset_places};
+ghost use Rattle.time_readers.specs.declared.rfc2822.Place.TheVariants as place;
+
+use crate::ParsedItem;
+use crate::combinator::{block, sign};
+use crate::component::names::{titled_month, titled_weekday};
+use crate::ranges::is_in_range;
+use crate::rfc2822::{Numbers, grammar};
+use std::simd::prelude::*;
+
+// The least and the greatest byte at each of the first sixteen places, as of ` Jan 2021 03:04:`.
+const LEAST: [u8; 16] = *b" A\x00\x00 0000 00:00:";
+
+const GREATEST: [u8; 16] = *b" \xff\xff\xff 9999 29:59:";
+
+// One space, and then a byte above it. `None`: not this form.
+#[inline(always)]
+pub(super) fn fws(input: &[u8]) -> Option<ParsedItem<'_, ()>>
+    ensures { IfSome result (λ p. spec.fws input.now ≡ Some p.0.now) }
+{
+    match input {
+        [b' ', b'!'..=u8::MAX, ..] => Some(ParsedItem(&input[1..], ())),
+        _ => None,
+    }
+}
+
+// One space, and then a byte above `(`. `None`: not this form.
+#[inline(always)]
+pub(super) fn cfws(input: &[u8]) -> Option<ParsedItem<'_, ()>>
+    ensures { IfSome result (λ p. spec.cfws input.now ≡ Some p.0.now) }
+{
+    match input {
+        [b' ', b')'..=u8::MAX, ..] => Some(ParsedItem(&input[1..], ())),
+        _ => None,
+    }
+}
+
+// Nothing before a byte above `(` or at the end, or one space before such a byte. `None`: not this form.
+#[inline(always)]
+pub(super) fn opt_cfws(input: &[u8]) -> Option<ParsedItem<'_, ()>>
+    ensures { IfSome result (λ p. spec.opt_cfws input.now ≡ Some p.0.now) }
+{
+    if input.is_empty() {
+        return Some(ParsedItem(input, ()));
+    }
+    if let [b')'..=u8::MAX, ..] = input {
+        return Some(ParsedItem(input, ()));
+    }
+    let [b' ', b')'..=u8::MAX, ..] = input else {
+        return None;
+    };
+    Some(ParsedItem(&input[1..], ()))
+}
+
+// A colon, and then a byte above `(`. `None`: not this form.
+#[inline(always)]
+pub(super) fn opt_cfws_colon_opt_cfws(input: &[u8]) -> Option<ParsedItem<'_, ()>>
+    ensures { IfSome result (λ p. spec.opt_cfws_colon_opt_cfws input.now ≡ Some p.0.now) }
+{
+    match input {
+        [b':', b')'..=u8::MAX, ..] => Some(ParsedItem(&input[1..], ())),
+        _ => None,
+    }
+}
+
+// A weekday's name with a capital and two small letters, a comma and one space. `None`: not this form, and the numbers
+// are as they were.
+#[inline(always)]
+pub(super) fn weekday_name<'a>(input: &'a [u8], numbers: &mut Numbers) -> Option<&'a [u8]>
+    ensures { MatchOption result
+        (numbers.new ≡ numbers.old)
+        (λ rest. Cut (Asks false place.WeekdayName numbers.old) input.now rest.now numbers.new) }
+{
+    let [first, second, third, b',', b' ', b')'..=u8::MAX, ..] = input else {
+        return None;
+    };
+    let weekday = titled_weekday([*first, *second, *third])?;
+    numbers.weekday = Some(weekday);
+    Some(&input[5..])
+}
+
+// The numbers that the pairs of digits say.
+#[inline(always)]
+fn pairs(bytes: &[u8; 16]) -> [u8; 4]
+    ensures { AllWithin LEAST GREATEST bytes.now → result ≡ map (pair_at bytes.now) (5 ∷ 7 ∷ 10 ∷ 13 ∷ []) }
+{
+    let digits = u8x16::from_slice(bytes) - u8x16::splat(b'0');
+    let tens: u8x4 = digits.swizzle([5, 7, 10, 13]);
+    let ones: u8x4 = digits.swizzle([6, 8, 11, 14]);
+    (tens * u8x4::splat(10) + ones).to_array()
+}
+
+// The places from the blanks after the day to those after the second, where each of these is one space: nineteen bytes,
+// of which the first sixteen are tested together. `None`: not this form, and the numbers are as they were.
+#[inline(always)]
+pub(super) fn to_offset<'a, const CHECK_RANGES: bool>(
+    text: &'a [u8],
+    numbers: &mut Numbers,
+) -> Option<&'a [u8]>
+    ensures { MatchOption result
+        (numbers.new ≡ numbers.old)
+        (λ rest. Stand (Asks CHECK_RANGES) to_offset_places numbers.old text.now rest.now numbers.new) }
+{
+    let (first, rest) = text.split_first_chunk::<16>()?;
+    if !block::is_within(first, LEAST, GREATEST) {
+        return None;
+    }
+    let [
+        tens @ b'0'..=b'5',
+        ones @ b'0'..=b'9',
+        b' ',
+        b')'..=u8::MAX,
+        ..
+    ] = rest
+    else {
+        return None;
+    };
+    let second = (*tens - b'0') * 10 + (*ones - b'0');
+    let month = titled_month([first[1], first[2], first[3]])?;
+    let [century, in_century, hour, minute] = pairs(first);
+    if century < 19 || !is_in_range::<CHECK_RANGES>(hour, 0, 23) {
+        return None;
+    }
+    numbers.month = month;
+    numbers.year = u16::from(century) * 100 + u16::from(in_century);
+    numbers.year_is_full = true;
+    numbers.hour = hour;
+    numbers.minute = minute;
+    numbers.second = Some(second);
+    Some(&rest[3..])
+}
+
+// A sign and four digits, after which nothing follows. `None`: not this form, and the numbers are as they were.
+#[inline(always)]
+pub(super) fn offset<'a, const CHECK_RANGES: bool>(
+    input: &'a [u8],
+    numbers: &mut Numbers,
+) -> Option<&'a [u8]>
+    ensures { MatchOption result
+        (numbers.new ≡ numbers.old)
+        (λ rest. Stand (Asks CHECK_RANGES) offset_places numbers.old input.now rest.now numbers.new) }
+{
+    let signed = sign(input)?;
+    let [
+        a @ b'0'..=b'9',
+        b @ b'0'..=b'9',
+        c @ b'0'..=b'9',
+        d @ b'0'..=b'9',
+    ] = signed.0
+    else {
+        return None;
+    };
+    let hour = 10 * (*a - b'0') + (*b - b'0');
+    let minute = 10 * (*c - b'0') + (*d - b'0');
+    if !is_in_range::<CHECK_RANGES>(hour, 0, 25) || !is_in_range::<CHECK_RANGES>(minute, 0, 59) {
+        return None;
+    }
+    numbers.offset_sign = Some(signed.1);
+    numbers.offset_hour = grammar::signed(signed.1, hour);
+    numbers.offset_minute = grammar::signed(signed.1, minute);
+    Some(&[])
+}

@@ -1,0 +1,272 @@
+//! The places of a mail date, one after another: what each has to be, and what it says.
+ghost use Rattle.std.specs.Prelude.{◌≡◌, ◌≤◌, false, option_map, pos};
+ghost use Rattle.std.specs.Option.{option_copied};
+ghost use Rattle.time_values.specs.Sign.{signed_by};
+ghost use Rattle.time_readers.specs.Bytes.{is_negative};
+ghost use Rattle.time_readers.specs.MailBlanks as spec;
+ghost use Rattle.time_readers.specs.Places.{Reads, Walks};
+ghost use Rattle.time_readers.specs.Rfc2822 as Rfc2822;
+ghost use Rattle.time_readers.specs.Rfc2822.{Asks, IsSilent, month_places, time_places, to_offset_places, offset_places};
+ghost use Rattle.time_readers.specs.declared.rfc2822.Numbers.{Numbers};
+ghost use Rattle.time_readers.specs.declared.rfc2822.Place.TheVariants as place;
+
+pub(super) mod blanks;
+pub(super) mod zones;
+
+use crate::combinator::{ascii_char, four_digits, one_or_two_digits, sign, two_digits};
+use crate::component::{parse_month_short, parse_weekday_short};
+use crate::ranges::{is_in_range, two_digits_in};
+use crate::rfc2822::{Numbers, Place, cfws, fws, opt_cfws, opt_cfws_colon_opt_cfws, zone_literal};
+use crate::{ParsedItem, Sign, modifier};
+
+// Blanks, and then nothing or a weekday's name, a comma and blanks.
+#[inline]
+pub(super) fn weekday_name<'a>(input: &'a [u8], numbers: &mut Numbers) -> Option<&'a [u8]>
+    ensures { Reads (Asks false place.WeekdayName numbers.old) input.now result numbers.new }
+{
+    let rest = opt_cfws(input).0;
+    let any_case = modifier::WeekdayShort {
+        case_sensitive: false,
+    };
+    let Some(name) = parse_weekday_short(rest, any_case) else {
+        numbers.weekday = None;
+        return Some(rest);
+    };
+    let comma = ascii_char::<b','>(name.0)?;
+    numbers.weekday = Some(name.1);
+    Some(opt_cfws(comma.0).0)
+}
+
+// One or two digits: 1 to 31 where ranges are asked.
+#[inline]
+pub(super) fn day<'a, const CHECK_RANGES: bool>(
+    input: &'a [u8],
+    numbers: &mut Numbers,
+) -> Option<&'a [u8]>
+    ensures { Reads (Asks CHECK_RANGES place.Day numbers.old) input.now result numbers.new }
+{
+    let found = one_or_two_digits(input)?;
+    if !is_in_range::<CHECK_RANGES>(found.1, 1, 31) {
+        return None;
+    }
+    numbers.day = found.1;
+    Some(found.0)
+}
+
+// The places from after the day to the offset.
+#[inline]
+pub(super) fn to_offset<'a, const CHECK_RANGES: bool>(
+    input: &'a [u8],
+    numbers: &mut Numbers,
+) -> Result<&'a [u8], Place>
+    ensures { Walks (Asks CHECK_RANGES) to_offset_places numbers.old input.now result numbers.new }
+{
+    let rest = month_and_year::<CHECK_RANGES>(input, numbers)?;
+    time::<CHECK_RANGES>(rest, numbers)
+}
+
+#[inline]
+fn month_and_year<'a, const CHECK_RANGES: bool>(
+    input: &'a [u8],
+    numbers: &mut Numbers,
+) -> Result<&'a [u8], Place>
+    ensures { Walks (Asks CHECK_RANGES) month_places numbers.old input.now result numbers.new }
+{
+    let rest = blanks_with_comments(input).ok_or(Place::DayBlanks)?;
+    let rest = month_name(rest, numbers).ok_or(Place::MonthName)?;
+    let rest = blanks_with_comments(rest).ok_or(Place::MonthBlanks)?;
+    let rest = year(rest, numbers).ok_or(Place::Year)?;
+    year_blanks(rest, numbers.year_is_full).ok_or(Place::YearBlanks)
+}
+
+#[inline]
+fn time<'a, const CHECK_RANGES: bool>(
+    input: &'a [u8],
+    numbers: &mut Numbers,
+) -> Result<&'a [u8], Place>
+    ensures { Walks (Asks CHECK_RANGES) time_places numbers.old input.now result numbers.new }
+{
+    let rest = hour::<CHECK_RANGES>(input, numbers).ok_or(Place::Hour)?;
+    let rest = hour_colon(rest).ok_or(Place::HourColon)?;
+    let rest = minute::<CHECK_RANGES>(rest, numbers).ok_or(Place::Minute)?;
+    let rest = second::<CHECK_RANGES>(rest, numbers).ok_or(Place::Second)?;
+    blanks_with_comments(rest).ok_or(Place::TimeBlanks)
+}
+
+// The places of the offset.
+#[inline]
+pub(super) fn offset<'a, const CHECK_RANGES: bool>(
+    input: &'a [u8],
+    numbers: &mut Numbers,
+) -> Result<&'a [u8], Place>
+    ensures { Walks (Asks CHECK_RANGES) offset_places numbers.old input.now result numbers.new }
+{
+    let rest = offset_hour::<CHECK_RANGES>(input, numbers).ok_or(Place::OffsetHour)?;
+    let rest = offset_minute::<CHECK_RANGES>(rest, numbers).ok_or(Place::OffsetMinute)?;
+    end_blanks(rest).ok_or(Place::EndBlanks)
+}
+
+// The rest of what was found, which has no value.
+#[inline]
+fn rest_of(answer: Option<ParsedItem<'_, ()>>) -> Option<&[u8]>
+    ensures { option_copied result ≡ option_map (λ p. p.0.now) answer.entry }
+{
+    match answer {
+        Some(found) => Some(found.0),
+        None => None,
+    }
+}
+
+// Blanks with comments.
+#[inline]
+fn blanks_with_comments(input: &[u8]) -> Option<&[u8]>
+    ensures { (n : Numbers) → Reads (IsSilent spec.cfws n) input.now result n }
+{
+    rest_of(cfws(input))
+}
+
+// The first three letters of a month's name, in any case.
+#[inline]
+fn month_name<'a>(input: &'a [u8], numbers: &mut Numbers) -> Option<&'a [u8]>
+    ensures { Reads (Asks false place.MonthName numbers.old) input.now result numbers.new }
+{
+    let any_case = modifier::MonthShort {
+        case_sensitive: false,
+    };
+    let found = parse_month_short(input, any_case)?;
+    numbers.month = found.1;
+    Some(found.0)
+}
+
+// Four digits of 1900 or later, or where four don't stand two, of which those below 50 are years from 2000 on
+// and the others from 1900 on.
+#[inline]
+fn year<'a>(input: &'a [u8], numbers: &mut Numbers) -> Option<&'a [u8]>
+    ensures { Reads (Asks false place.Year numbers.old) input.now result numbers.new }
+{
+    if let Some(full) = four_digits(input) {
+        if full.1 < 1900 {
+            return None;
+        }
+        numbers.year = full.1;
+        numbers.year_is_full = true;
+        return Some(full.0);
+    }
+    let short = two_digits(input)?;
+    let century = if short.1 < 50 { 2000 } else { 1900 };
+    numbers.year = century + u16::from(short.1);
+    numbers.year_is_full = false;
+    Some(short.0)
+}
+
+// Blanks, without comments after a year of four digits.
+#[inline]
+fn year_blanks(input: &[u8], year_is_full: bool) -> Option<&[u8]>
+    ensures { (n : Numbers) → Reads (IsSilent (Rfc2822.year_blanks year_is_full) n) input.now result n }
+{
+    if year_is_full {
+        rest_of(fws(input))
+    } else {
+        rest_of(cfws(input))
+    }
+}
+
+// Two digits: 0 to 23 where ranges are asked.
+#[inline]
+fn hour<'a, const CHECK_RANGES: bool>(input: &'a [u8], numbers: &mut Numbers) -> Option<&'a [u8]>
+    ensures { Reads (Asks CHECK_RANGES place.Hour numbers.old) input.now result numbers.new }
+{
+    let found = two_digits_in::<CHECK_RANGES>(input, 0, 23)?;
+    numbers.hour = found.1;
+    Some(found.0)
+}
+
+// A colon between blanks.
+#[inline]
+fn hour_colon(input: &[u8]) -> Option<&[u8]>
+    ensures { (n : Numbers) → Reads (IsSilent spec.opt_cfws_colon_opt_cfws n) input.now result n }
+{
+    rest_of(opt_cfws_colon_opt_cfws(input))
+}
+
+// Two digits: 0 to 59 where ranges are asked.
+#[inline]
+fn minute<'a, const CHECK_RANGES: bool>(input: &'a [u8], numbers: &mut Numbers) -> Option<&'a [u8]>
+    ensures { Reads (Asks CHECK_RANGES place.Minute numbers.old) input.now result numbers.new }
+{
+    let found = two_digits_in::<CHECK_RANGES>(input, 0, 59)?;
+    numbers.minute = found.1;
+    Some(found.0)
+}
+
+// Nothing where no colon stands, or a colon with blanks and two digits: 0 to 60 where ranges are asked.
+#[inline]
+fn second<'a, const CHECK_RANGES: bool>(input: &'a [u8], numbers: &mut Numbers) -> Option<&'a [u8]>
+    ensures { Reads (Asks CHECK_RANGES place.Second numbers.old) input.now result numbers.new }
+{
+    let Some(colon) = opt_cfws_colon_opt_cfws(input) else {
+        numbers.second = None;
+        return Some(input);
+    };
+    let found = two_digits_in::<CHECK_RANGES>(colon.0, 0, 60)?;
+    numbers.second = Some(found.1);
+    Some(found.0)
+}
+
+// A sign and two digits: 0 to 25 where ranges are asked; or a zone name, with which no sign begins.
+#[inline]
+fn offset_hour<'a, const CHECK_RANGES: bool>(
+    input: &'a [u8],
+    numbers: &mut Numbers,
+) -> Option<&'a [u8]>
+    ensures { Reads (Asks CHECK_RANGES place.OffsetHour numbers.old) input.now result numbers.new }
+{
+    let Some(first) = sign(input) else {
+        let zone = zone_literal(input)?;
+        numbers.offset_sign = None;
+        numbers.offset_hour = zone.1;
+        return Some(zone.0);
+    };
+    let found = two_digits_in::<CHECK_RANGES>(first.0, 0, 25)?;
+    numbers.offset_sign = Some(first.1);
+    numbers.offset_hour = signed(first.1, found.1);
+    Some(found.0)
+}
+
+// Two digits after a signed hour, 0 to 59 where ranges are asked, and nothing after a zone name.
+#[inline]
+fn offset_minute<'a, const CHECK_RANGES: bool>(
+    input: &'a [u8],
+    numbers: &mut Numbers,
+) -> Option<&'a [u8]>
+    ensures { Reads (Asks CHECK_RANGES place.OffsetMinute numbers.old) input.now result numbers.new }
+{
+    let Some(sign) = numbers.offset_sign else {
+        return Some(input);
+    };
+    let found = two_digits_in::<CHECK_RANGES>(input, 0, 59)?;
+    numbers.offset_minute = signed(sign, found.1);
+    Some(found.0)
+}
+
+// Blanks or nothing.
+#[inline]
+fn end_blanks(input: &[u8]) -> Option<&[u8]>
+    ensures { (n : Numbers) → Reads (IsSilent spec.opt_cfws n) input.now result n }
+{
+    let rest = opt_cfws(input);
+    Some(rest.0)
+}
+
+// The number with its sign.
+#[inline(always)]
+pub(super) fn signed(sign: Sign, value: u8) -> i8
+    requires { value ≤ 99 }
+    ensures { result ≡ signed_by (is_negative sign) (pos value) }
+{
+    let value = value as i8;
+    match sign {
+        Sign::Negative => -value,
+        Sign::Positive => value,
+    }
+}

@@ -1,0 +1,162 @@
+//! The blanks between the parts of a mail date, folded over lines or not, and its comments: RFC 2822, sections 3.2.2,
+//! 3.2.3 and 4.3.
+//!
+//! Choices are tried in their order, a repetition takes as much as it can, and nothing goes back.
+ghost use Rattle.std.specs.Prelude.{◌≡◌, ◌==◌, option_map};
+ghost use Rattle.std.specs.Option.{option_copied};
+ghost use Rattle.time_readers.specs.Readers.{one_of, ◌or◌};
+ghost use Rattle.time_readers.specs.MailBlanks as spec;
+
+use crate::{ParsedItem, rfc2822};
+
+// How many comments may stand in one another, the outermost among them.
+const MOST_COMMENTS: u8 = 31;
+
+// Reads blanks, folded over lines or not.
+pub(crate) fn fws(input: &[u8]) -> Option<ParsedItem<'_, ()>>
+    ensures { option_map (λ p. p.0.now) result ≡ spec.fws input.now }
+{
+    if let Some(rest) = line_fold(input) {
+        return Some(ParsedItem(rest, ()));
+    }
+    let mut rest = blanks(input)?;
+    while let Some(line) = crlf(rest) {
+        rest = blanks(line)?;
+    }
+    Some(ParsedItem(rest, ()))
+}
+
+// Reads a space or a tab.
+#[inline]
+fn blank(input: &[u8]) -> Option<&[u8]>
+    ensures { option_copied result ≡ one_of spec.is_blank input.now }
+{
+    match input {
+        [b' ' | b'\t', rest @ ..] => Some(rest),
+        _ => None,
+    }
+}
+
+// Reads one or more blanks.
+#[inline]
+fn blanks(input: &[u8]) -> Option<&[u8]>
+    ensures { option_copied result ≡ spec.blanks input.now }
+{
+    let mut rest = blank(input)?;
+    while let Some(more) = blank(rest) {
+        rest = more;
+    }
+    Some(rest)
+}
+
+// Reads the end of a line.
+#[inline]
+fn crlf(input: &[u8]) -> Option<&[u8]>
+    ensures { option_copied result ≡ spec.crlf input.now }
+{
+    match input {
+        [b'\r', b'\n', rest @ ..] => Some(rest),
+        _ => None,
+    }
+}
+
+// Reads the end of a line, and the blanks with which the next begins.
+#[inline]
+fn line_fold(input: &[u8]) -> Option<&[u8]>
+    ensures { option_copied result ≡ spec.line_fold input.now }
+{
+    blanks(crlf(input)?)
+}
+
+// Reads one part of a comment's text: a byte, or a byte after a backslash.
+#[inline]
+fn text(input: &[u8]) -> Option<&[u8]>
+    ensures { option_copied result ≡ (one_of spec.is_text or spec.quoted_pair) input.now }
+{
+    match input {
+        [
+            1..=8 | 11 | 12 | 14..=31 | 33..=39 | 42..=91 | 93..=127,
+            rest @ ..,
+        ] => Some(rest),
+        [b'\\', 1..=9 | 11 | 12 | 14..=127, rest @ ..] => Some(rest),
+        _ => None,
+    }
+}
+
+// Reads that byte.
+#[inline]
+fn one<const C: u8>(input: &[u8]) -> Option<&[u8]>
+    ensures { option_copied result ≡ one_of (λ c. c == C) input.now }
+{
+    match input {
+        [first, rest @ ..] if *first == C => Some(rest),
+        _ => None,
+    }
+}
+
+// Reads a comment, with the comments in it.
+fn comment(input: &[u8]) -> Option<&[u8]>
+    ensures { option_copied result ≡ spec.comment 31 input.now }
+{
+    let mut rest = one::<b'('>(input)?;
+    let mut open = 1;
+    while open > 0 {
+        if let Some(found) = fws(rest) {
+            rest = found.0;
+        } else if let Some(found) = text(rest) {
+            rest = found;
+        } else if let Some(inner) = one::<b'('>(rest) {
+            if open == MOST_COMMENTS {
+                return None;
+            }
+            rest = inner;
+            open += 1;
+        } else {
+            rest = one::<b')'>(rest)?;
+            open -= 1;
+        }
+    }
+    Some(rest)
+}
+
+// Reads blanks, or else a comment.
+#[inline]
+fn blanks_or_comment(input: &[u8]) -> Option<&[u8]>
+    ensures { option_copied result ≡ (spec.fws or spec.comment 31) input.now }
+{
+    match fws(input) {
+        Some(found) => Some(found.0),
+        None => comment(input),
+    }
+}
+
+// Reads blanks and comments, one or more of them.
+pub(crate) fn cfws(input: &[u8]) -> Option<ParsedItem<'_, ()>>
+    ensures { option_map (λ p. p.0.now) result ≡ spec.cfws input.now }
+{
+    let mut rest = blanks_or_comment(input)?;
+    while let Some(more) = blanks_or_comment(rest) {
+        rest = more;
+    }
+    Some(ParsedItem(rest, ()))
+}
+
+// Reads blanks and comments, or nothing.
+#[inline]
+pub(crate) fn opt_cfws(input: &[u8]) -> ParsedItem<'_, ()>
+    ensures { Some result.0.now ≡ spec.opt_cfws input.now }
+{
+    match cfws(input) {
+        Some(found) => found,
+        None => ParsedItem(input, ()),
+    }
+}
+
+// Reads a colon, with the blanks and comments before and after it.
+pub(crate) fn opt_cfws_colon_opt_cfws(input: &[u8]) -> Option<ParsedItem<'_, ()>>
+    ensures { option_map (λ p. p.0.now) result ≡ spec.opt_cfws_colon_opt_cfws input.now }
+{
+    let rest = rfc2822::opt_cfws(input).0;
+    let rest = one::<b':'>(rest)?;
+    Some(rfc2822::opt_cfws(rest))
+}

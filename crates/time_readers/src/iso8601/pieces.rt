@@ -7,7 +7,8 @@ ghost use Rattle.time_readers.specs.IsoAnswers.{Leaves, Gives, GivesAs, number_o
 ghost use Rattle.time_readers.specs.IsoFractions.{round_of};
 ghost use Rattle.time_readers.specs.IsoPieces as spec;
 
-use crate::combinator::{self, ascii_char, exactly_n_digits, leading_digits, nine_digits};
+use crate::combinator::fast::nine_digits;
+use crate::combinator::{self, ascii_char, exactly_n_digits, leading_digits};
 use crate::{ParsedItem, Sign};
 use std::num::NonZero;
 use time_values::{Month, Weekday};

@@ -14,8 +14,7 @@ ghost use Rattle.time_readers.specs.declared.rfc2822.places.Numbers.{Numbers};
 ghost use Rattle.time_readers.specs.declared.rfc2822.places.Place.TheVariants as place;
 
 use crate::combinator::{ascii_char, four_digits, one_or_two_digits, sign, two_digits};
-use crate::component::names::titled_weekday;
-use crate::component::{parse_month_short, parse_weekday_short};
+use crate::component::{fast, parse_month_short, parse_weekday_short};
 use crate::ranged::{is_within, two_digits_in};
 use crate::rfc2822::{cfws, front, fws, opt_cfws, opt_cfws_colon_opt_cfws, zone_literal};
 use crate::{ParsedItem, Sign, modifier};
@@ -328,7 +327,7 @@ fn usual_weekday<'a>(input: &'a [u8], numbers: &mut Numbers) -> Option<&'a [u8]>
     let [first, second, third, b',', b' ', b')'..=u8::MAX, ..] = input else {
         return None;
     };
-    let weekday = titled_weekday([*first, *second, *third])?;
+    let weekday = fast::weekday_name([*first, *second, *third])?;
     numbers.weekday = Some(weekday);
     Some(&input[5..])
 }

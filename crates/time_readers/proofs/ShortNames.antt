@@ -10,7 +10,7 @@ use Rattle.time_values.specs.declared.month.Month.{Month}
 use Rattle.time_values.specs.declared.weekday.Weekday.{Weekday}
 use Rattle.time_readers.specs.Cuts.{Form, Cut, NoCut}
 use Rattle.time_readers.specs.Names.{IsNamed, month_name, weekday_name}
-use Rattle.time_readers.specs.ShortNames.{is_title, IsTitle, letters_of, IsEnding}
+use Rattle.time_readers.specs.ShortNames.{is_title_case, IsTitleCase, letters_of, IsEnding}
 use Rattle.time_readers.specs.Spelling.{Value, Says, IsNameOf, IsShortOf, month, weekday}
 use Rattle.time_readers.proofs.CutLemmas.{IsUnique}
 use Rattle.time_readers.proofs.EachValue.{each_month, each_weekday, months, weekdays}
@@ -67,20 +67,20 @@ weekday_one v w e = cc
 -- values whose names begin with a capital and two small letters, which tell them apart
 pub record Titled {A : Type 0} (says : A → Value) (name_of : A → List ℕ) : Type 0 where
   pub told : Told (λ v. take 3 (name_of v)) 3
-  pub title : (v : A) → is_title (take 3 (name_of v)) ≡ true
+  pub title : (v : A) → is_title_case (take 3 (name_of v)) ≡ true
   pub one : (v w : A) → says v ≡ says w → v ≡ w
 
 pub months_titled : Titled month month_name
 months_titled = record {
   told = months_told;
-  title = each_month (λ m. is_title (take 3 (month_name m)) ≡ true) (refl, refl, refl, refl, refl, refl, refl, refl, refl, refl, refl, refl);
+  title = each_month (λ m. is_title_case (take 3 (month_name m)) ≡ true) (refl, refl, refl, refl, refl, refl, refl, refl, refl, refl, refl, refl);
   one = month_one;
 }
 
 pub weekdays_titled : Titled weekday weekday_name
 weekdays_titled = record {
   told = weekdays_told;
-  title = each_weekday (λ d. is_title (take 3 (weekday_name d)) ≡ true) (refl, refl, refl, refl, refl, refl, refl);
+  title = each_weekday (λ d. is_title_case (take 3 (weekday_name d)) ≡ true) (refl, refl, refl, refl, refl, refl, refl);
   one = weekday_one;
 }
 
@@ -95,7 +95,7 @@ both true b e = (refl, e)
 both false b e = absurd (false≢true e)
 
 -- a capital and two small letters are known by their small letters
-same_title : (a b : List ℕ) → is_title a ≡ true → is_title b ≡ true → str_to_ascii_lowercase a ≡ str_to_ascii_lowercase b → a ≡ b
+same_title : (a b : List ℕ) → is_title_case a ≡ true → is_title_case b ≡ true → str_to_ascii_lowercase a ≡ str_to_ascii_lowercase b → a ≡ b
 same_title (a ∷ b ∷ c ∷ []) (x ∷ y ∷ z ∷ []) h k e =
     let ha = both (is_ascii_uppercase a) (is_ascii_lowercase b && is_ascii_lowercase c) h in
     let hb = both (is_ascii_lowercase b) (is_ascii_lowercase c) ha.1 in
@@ -113,26 +113,26 @@ same_title _ b h k e = absurd (false≢true h)
 
 -- a short name, as its three letters are read
 short_is_title : {A : Type 0} (says : A → Value) (name_of : A → List ℕ) → Titled says name_of → (case_sensitive : Bool) (text rest : List ℕ) (v : A)
-    → IsShortOf case_sensitive name_of text rest v → IsTitle case_sensitive text rest (letters_of name_of v)
+    → IsShortOf case_sensitive name_of text rest v → IsTitleCase case_sensitive text rest (letters_of name_of v)
 short_is_title says name_of titled true text rest v p =
-    (ap length p ∙ titled.told.length_is v, ap str_to_ascii_lowercase (sym p), λ t. ap is_title p ∙ titled.title v)
+    (ap length p ∙ titled.told.length_is v, ap str_to_ascii_lowercase (sym p), λ t. ap is_title_case p ∙ titled.title v)
 short_is_title says name_of titled false text rest v p =
     (IsNamed-length false (take 3 (name_of v)) text p ∙ titled.told.length_is v, sym p, λ t. absurd (false≢true t))
 
 title_is_short : {A : Type 0} (says : A → Value) (name_of : A → List ℕ) → Titled says name_of → (case_sensitive : Bool) (text rest : List ℕ) (v : A)
-    → IsTitle case_sensitive text rest (letters_of name_of v) → IsShortOf case_sensitive name_of text rest v
+    → IsTitleCase case_sensitive text rest (letters_of name_of v) → IsShortOf case_sensitive name_of text rest v
 title_is_short says name_of titled true text rest v p = same_title text (take 3 (name_of v)) (p.2 refl) (titled.title v) (sym p.1)
 title_is_short says name_of titled false text rest v p = sym p.1
 
 -- no three letters, no short name
 pub no_letters : {A : Type 0} (says : A → Value) (name_of : A → List ℕ) → Titled says name_of → (case_sensitive : Bool) (input : List ℕ)
-    → NoCut (IsTitle case_sensitive) input → NoCut (Says says (IsShortOf case_sensitive name_of)) input
+    → NoCut (IsTitleCase case_sensitive) input → NoCut (Says says (IsShortOf case_sensitive name_of)) input
 no_letters says name_of titled case_sensitive input none = λ text rest v e s.
     none text rest (letters_of name_of s.0) e (short_is_title says name_of titled case_sensitive text rest s.0 s.2)
 
 -- three letters with which no name begins
 pub no_short : {A : Type 0} (says : A → Value) (name_of : A → List ℕ) → Titled says name_of → (case_sensitive : Bool)
-    (input rest letters : List ℕ) → Cut (IsTitle case_sensitive) input rest letters → ((v : A) → letters ≢ letters_of name_of v)
+    (input rest letters : List ℕ) → Cut (IsTitleCase case_sensitive) input rest letters → ((v : A) → letters ≢ letters_of name_of v)
     → NoCut (Says says (IsShortOf case_sensitive name_of)) input
 no_short says name_of titled case_sensitive input rest letters cut none = λ text rest' v e s.
     let t = short_is_title says name_of titled case_sensitive text rest' s.0 s.2 in
@@ -141,10 +141,10 @@ no_short says name_of titled case_sensitive input rest letters cut none = λ tex
 
 -- three letters with which a name begins
 pub is_short : {A : Type 0} (says : A → Value) (name_of : A → List ℕ) → Titled says name_of → (case_sensitive : Bool)
-    (input rest letters : List ℕ) (v : A) → Cut (IsTitle case_sensitive) input rest letters → letters ≡ letters_of name_of v
+    (input rest letters : List ℕ) (v : A) → Cut (IsTitleCase case_sensitive) input rest letters → letters ≡ letters_of name_of v
     → Cut (Says says (IsShortOf case_sensitive name_of)) input rest (says v)
 is_short says name_of titled case_sensitive input rest letters v cut e =
-    let title = subst (IsTitle case_sensitive cut.0 rest) e cut.2 in
+    let title = subst (IsTitleCase case_sensitive cut.0 rest) e cut.2 in
     (cut.0, cut.1, (v, refl, title_is_short says name_of titled case_sensitive cut.0 rest v title))
 
 -- three letters that stand so in a name
@@ -153,7 +153,7 @@ pub is_titled : {A : Type 0} (says : A → Value) (name_of : A → List ℕ) →
     → Cut (Says says (IsShortOf case_sensitive name_of)) input rest (says v)
 is_titled says name_of titled case_sensitive input rest letters v cut e =
     is_short says name_of titled case_sensitive input rest (letters_of name_of v) v
-    (letters, cut, (ap length e ∙ titled.told.length_is v, ap str_to_ascii_lowercase (sym e), λ t. ap is_title e ∙ titled.title v)) refl
+    (letters, cut, (ap length e ∙ titled.told.length_is v, ap str_to_ascii_lowercase (sym e), λ t. ap is_title_case e ∙ titled.title v)) refl
 
 -- what a text spells, by the value that it says
 pub spelled : {A : Type 0} (says : A → Value) (S : Form A) → ((v w : A) → says v ≡ says w → v ≡ w) → (input rest : List ℕ) (v : A)

@@ -7,14 +7,14 @@ use Rattle.time_readers.specs.Cuts.{Form}
 use Rattle.time_readers.specs.Names.{IsNamed}
 
 -- a capital and two small letters
-abbrev pub is_title : List ℕ → Bool
-is_title (a ∷ b ∷ c ∷ []) = is_ascii_uppercase a && (is_ascii_lowercase b && is_ascii_lowercase c)
-is_title _ = false
+abbrev pub is_title_case : List ℕ → Bool
+is_title_case (a ∷ b ∷ c ∷ []) = is_ascii_uppercase a && (is_ascii_lowercase b && is_ascii_lowercase c)
+is_title_case _ = false
 
 -- three bytes in small letters, which are a capital and two small letters where the case matters
-abbrev pub IsTitle : Bool → Form (List ℕ)
-IsTitle case_sensitive text rest letters =
-    (length text ≡ 3) × (letters ≡ str_to_ascii_lowercase text) × (case_sensitive ≡ true → is_title text ≡ true)
+abbrev pub IsTitleCase : Bool → Form (List ℕ)
+IsTitleCase case_sensitive text rest letters =
+    (length text ≡ 3) × (letters ≡ str_to_ascii_lowercase text) × (case_sensitive ≡ true → is_title_case text ≡ true)
 
 -- the first three letters of a name, in small letters
 abbrev pub letters_of : {A : Type 0} → (A → List ℕ) → A → List ℕ

@@ -1,7 +1,7 @@
 //! Digits that stand in one word.
 ghost use Rattle.std.specs.Prelude.{◌≡◌, ◌≤◌, MatchOption, take};
 ghost use Rattle.time_readers.specs.Digits.{AllDigits, digits_value};
-ghost use Rattle.time_readers.specs.Words.{first_bytes};
+ghost use Rattle.time_readers.specs.CombinatorFast.{first_bytes};
 
 // Joins the first `n` bytes of the text in the word, of which the lowest byte is the first, where all are
 // digits.
@@ -13,7 +13,7 @@ fn join_word(word: u64, n: u8) -> Option<u32>
         (¬ AllDigits (first_bytes word n))
         (λ value. AllDigits (first_bytes word n) × (value ≡ digits_value (first_bytes word n))) }
 {
-    // The text ends at the highest byte, and what stands behind it falls away.
+    // The text ends at the highest byte, and what stands after it falls away.
     let absent = 64 - 8 * u32::from(n);
     let bytes = word << absent;
     let zeros = 0x3030_3030_3030_3030_u64 << absent;

@@ -1,13 +1,14 @@
 //! Single digits and pairs of letters.
-ghost use Rattle.std.specs.Prelude.{◌≡◌, ◌≢◌, ◌<◌, ◌≤◌, MatchOption, IfSome, true};
+ghost use Rattle.std.specs.Prelude.{◌≡◌, ◌≢◌, ◌<◌, ◌≤◌, MatchOption};
 ghost use Rattle.time_values.specs.Weekday.{days_from_monday};
-ghost use Rattle.time_readers.specs.Cuts.{Cut, Finds};
+ghost use Rattle.time_readers.specs.Cuts.{Finds};
 ghost use Rattle.time_readers.specs.Letters as Letters;
 ghost use Rattle.time_readers.specs.Letters.{IsDayDigit, IsLetters};
 ghost use Rattle.time_readers.specs.Spelling as Spelling;
+ghost use Rattle.time_readers.specs.Spelling.{IsNameOf, Says};
 ghost use Rattle.time_readers.specs.Names.{period_name};
 
-use crate::{ParsedItem, Period};
+use crate::{ParsedItem, Period, modifier};
 use time_values::Weekday;
 
 // Reads one digit of `0` to `6`, or of `1` to `7` where it is one-indexed, as 0 to 6.
@@ -53,7 +54,7 @@ pub(super) fn weekday_from_monday(days: u8) -> Weekday
 
 // Reads two bytes: as they stand where the case matters, and otherwise as small letters.
 #[inline]
-pub(super) fn two_letters(input: &[u8], case_sensitive: bool) -> Option<ParsedItem<'_, [u8; 2]>>
+fn two_letters(input: &[u8], case_sensitive: bool) -> Option<ParsedItem<'_, [u8; 2]>>
     ensures { Finds (IsLetters case_sensitive) (λ v. v) input.now result }
 {
     let [first, second, rest @ ..] = input else {
@@ -75,21 +76,24 @@ fn folded(letters: [u8; 2], case_sensitive: bool) -> [u8; 2]
     }
 }
 
-// Reads `AM` or `PM`, in capitals. `None` says nothing.
+// Reads the half of the day.
 #[inline(always)]
-pub(super) fn capital_period(input: &[u8]) -> Option<ParsedItem<'_, Period>>
-    ensures { IfSome result (λ found. Cut (λ text rest v. text ≡ period_name true v) input.now found.0.now found.1) }
+pub(super) fn period(input: &[u8], modifiers: modifier::Period) -> Option<ParsedItem<'_, Period>>
+    ensures { Finds (Says Spelling.period (IsNameOf modifiers.case_sensitive (period_name modifiers.is_uppercase)))
+        Spelling.period input.now result }
 {
-    match input {
-        [b'A', b'M', rest @ ..] => Some(ParsedItem(rest, Period::Am)),
-        [b'P', b'M', rest @ ..] => Some(ParsedItem(rest, Period::Pm)),
-        _ => None,
-    }
+    let modifier::Period {
+        is_uppercase,
+        case_sensitive,
+    } = modifiers;
+    let upper = is_uppercase && case_sensitive;
+    let letters = two_letters(input, case_sensitive)?;
+    Some(ParsedItem(letters.0, period_of(letters.1, upper)?))
 }
 
 // The half of the day that the letters name, in capitals or in small letters.
 #[inline]
-pub(super) fn period_of(letters: [u8; 2], upper: bool) -> Option<Period>
+fn period_of(letters: [u8; 2], upper: bool) -> Option<Period>
     ensures { MatchOption result
         ((period : Period) → letters ≢ period_name upper period)
         (λ period. letters ≡ period_name upper period) }

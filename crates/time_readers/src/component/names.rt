@@ -1,23 +1,44 @@
 //! Names of months and weekdays.
-ghost use Rattle.std.specs.Prelude.{◌≡◌, ◌↔◌, take, drop, IfSome, IsTrue};
+ghost use Rattle.std.specs.Prelude.{◌≡◌, ◌↔◌, drop, IsTrue};
 ghost use Rattle.time_readers.specs.Cuts.{Finds};
 ghost use Rattle.time_readers.specs.Names.{IsNamed, month_name, weekday_name};
 ghost use Rattle.time_readers.specs.ShortNames as ShortNames;
-ghost use Rattle.time_readers.specs.ShortNames.{IsTitle, IsWithLetters, IsEnding};
+ghost use Rattle.time_readers.specs.ShortNames.{IsTitleCase, IsWithLetters, IsEnding};
+ghost use Rattle.time_readers.specs.Spelling.{IsShortOf, Says, month, weekday};
 
 use crate::ParsedItem;
 use time_values::{Month, Weekday};
 
+// Reads the first three letters of a month's name.
+#[inline(always)]
+pub(super) fn month_short(input: &[u8], case_sensitive: bool) -> Option<ParsedItem<'_, Month>>
+    ensures { Finds (Says month (IsShortOf case_sensitive month_name)) month input.now result }
+{
+    let letters = three_letters(input, case_sensitive)?;
+    let month = month_of(letters.1)?;
+    Some(ParsedItem(letters.0, month))
+}
+
+// Reads the first three letters of a weekday's name.
+#[inline(always)]
+pub(super) fn weekday_short(input: &[u8], case_sensitive: bool) -> Option<ParsedItem<'_, Weekday>>
+    ensures { Finds (Says weekday (IsShortOf case_sensitive weekday_name)) weekday input.now result }
+{
+    let letters = three_letters(input, case_sensitive)?;
+    let weekday = weekday_of(letters.1)?;
+    Some(ParsedItem(letters.0, weekday))
+}
+
 // Reads three bytes as small letters. Where the case matters, they have to be a capital and two small
 // letters.
 #[inline(always)]
-pub(super) fn three_letters(input: &[u8], case_sensitive: bool) -> Option<ParsedItem<'_, [u8; 3]>>
-    ensures { Finds (IsTitle case_sensitive) (λ v. v) input.now result }
+fn three_letters(input: &[u8], case_sensitive: bool) -> Option<ParsedItem<'_, [u8; 3]>>
+    ensures { Finds (IsTitleCase case_sensitive) (λ v. v) input.now result }
 {
     let [first, second, third, rest @ ..] = input else {
         return None;
     };
-    if case_sensitive && !is_title([*first, *second, *third]) {
+    if case_sensitive && !is_title_case([*first, *second, *third]) {
         return None;
     }
     let small = [
@@ -30,8 +51,8 @@ pub(super) fn three_letters(input: &[u8], case_sensitive: bool) -> Option<Parsed
 
 // Whether the letters are a capital and two small ones.
 #[inline]
-fn is_title(letters: [u8; 3]) -> bool
-    ensures { result ≡ ShortNames.is_title letters }
+fn is_title_case(letters: [u8; 3]) -> bool
+    ensures { result ≡ ShortNames.is_title_case letters }
 {
     let [first, second, third] = letters;
     first.is_ascii_uppercase() && second.is_ascii_lowercase() && third.is_ascii_lowercase()
@@ -39,7 +60,7 @@ fn is_title(letters: [u8; 3]) -> bool
 
 // The month whose name begins with these small letters.
 #[inline(always)]
-pub(super) fn month_of(letters: [u8; 3]) -> Option<Month>
+fn month_of(letters: [u8; 3]) -> Option<Month>
     ensures { IsWithLetters month_name letters result }
 {
     match &letters {
@@ -61,7 +82,7 @@ pub(super) fn month_of(letters: [u8; 3]) -> Option<Month>
 
 // The weekday whose name begins with these small letters.
 #[inline(always)]
-pub(super) fn weekday_of(letters: [u8; 3]) -> Option<Weekday>
+fn weekday_of(letters: [u8; 3]) -> Option<Weekday>
     ensures { IsWithLetters weekday_name letters result }
 {
     match &letters {
@@ -72,45 +93,6 @@ pub(super) fn weekday_of(letters: [u8; 3]) -> Option<Weekday>
         b"fri" => Some(Weekday::Friday),
         b"sat" => Some(Weekday::Saturday),
         b"sun" => Some(Weekday::Sunday),
-        _ => None,
-    }
-}
-
-// The month whose name begins with these letters as they stand. `None` says nothing.
-#[inline(always)]
-pub(crate) fn titled_month(letters: [u8; 3]) -> Option<Month>
-    ensures { IfSome result (λ v. letters ≡ take 3 (month_name v)) }
-{
-    match &letters {
-        b"Jan" => Some(Month::January),
-        b"Feb" => Some(Month::February),
-        b"Mar" => Some(Month::March),
-        b"Apr" => Some(Month::April),
-        b"May" => Some(Month::May),
-        b"Jun" => Some(Month::June),
-        b"Jul" => Some(Month::July),
-        b"Aug" => Some(Month::August),
-        b"Sep" => Some(Month::September),
-        b"Oct" => Some(Month::October),
-        b"Nov" => Some(Month::November),
-        b"Dec" => Some(Month::December),
-        _ => None,
-    }
-}
-
-// The weekday whose name begins with these letters as they stand. `None` says nothing.
-#[inline(always)]
-pub(crate) fn titled_weekday(letters: [u8; 3]) -> Option<Weekday>
-    ensures { IfSome result (λ v. letters ≡ take 3 (weekday_name v)) }
-{
-    match &letters {
-        b"Mon" => Some(Weekday::Monday),
-        b"Tue" => Some(Weekday::Tuesday),
-        b"Wed" => Some(Weekday::Wednesday),
-        b"Thu" => Some(Weekday::Thursday),
-        b"Fri" => Some(Weekday::Friday),
-        b"Sat" => Some(Weekday::Saturday),
-        b"Sun" => Some(Weekday::Sunday),
         _ => None,
     }
 }

@@ -12,7 +12,7 @@ ghost use Rattle.time_readers.specs.declared.rfc2822.Place.TheVariants as place;
 
 use crate::ParsedItem;
 use crate::combinator::{block, sign};
-use crate::component::names::{titled_month, titled_weekday};
+use crate::component;
 use crate::ranges::is_in_range;
 use crate::rfc2822::{Numbers, grammar};
 use std::simd::prelude::*;
@@ -83,7 +83,7 @@ pub(super) fn weekday_name<'a>(input: &'a [u8], numbers: &mut Numbers) -> Option
     let [first, second, third, b',', b' ', b')'..=u8::MAX, ..] = input else {
         return None;
     };
-    let weekday = titled_weekday([*first, *second, *third])?;
+    let weekday = component::fast::weekday_name([*first, *second, *third])?;
     numbers.weekday = Some(weekday);
     Some(&input[5..])
 }
@@ -125,7 +125,7 @@ pub(super) fn to_offset<'a, const CHECK_RANGES: bool>(
         return None;
     };
     let second = (*tens - b'0') * 10 + (*ones - b'0');
-    let month = titled_month([first[1], first[2], first[3]])?;
+    let month = component::fast::month_name([first[1], first[2], first[3]])?;
     let [century, in_century, hour, minute] = pairs(first);
     if century < 19 || !is_in_range::<CHECK_RANGES>(hour, 0, 23) {
         return None;

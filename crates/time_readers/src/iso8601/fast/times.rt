@@ -7,7 +7,8 @@ ghost use Rattle.time_readers.specs.IsoPieces.{Number, number, byte, plain, frac
 ghost use Rattle.time_readers.specs.IsoTimes as spec;
 
 use crate::ParsedItem;
-use crate::combinator::{leading_digits, nine_digits};
+use crate::combinator::fast::nine_digits;
+use crate::combinator::leading_digits;
 use crate::iso8601::grammar::fractions::round_fraction;
 use crate::iso8601::grammar::pieces::{byte, float, point, two_digits};
 use crate::iso8601::{ExtendedKind, Part, TimeNumbers};

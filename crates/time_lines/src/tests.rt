@@ -89,7 +89,7 @@ fn answer(alloc: Global, format: &str, target: &str, text: &[u8]) -> Result<Vec<
     Ok(text)
 }
 
-static FIRST_PATH: [(&[u8], &str); 20] = [
+const FIRST_PATH: [(&[u8], &str); 20] = [
     (
         b"1990-12-31T15:59:60-08:00",
         "1990-12-31 15:59:59.999999999 -08:00:00\n",

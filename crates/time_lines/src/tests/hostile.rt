@@ -7,7 +7,7 @@ use std::io;
 use std::test::Fail;
 
 // The first moment of the years of four digits, and the first that there is.
-static RANGE_ENDS: [(&str, &str, &str, &str); 7] = [
+const RANGE_ENDS: [(&str, &str, &str, &str); 7] = [
     (
         "unix",
         "datetime",

@@ -5,7 +5,7 @@ use std::test::Fail;
 const INSUFFICIENT: &str =
     "error: the `Parsed` struct did not include enough information to construct the type\n";
 
-static BY_RFC3339: [(&str, &str, &str); 10] = [
+const BY_RFC3339: [(&str, &str, &str); 10] = [
     ("date", "2021-01-02T03:04:05.25-00:30", "2021-01-02\n"),
     (
         "time",
@@ -48,7 +48,7 @@ const LITERAL: &str = "error: a character literal was not valid\n";
 
 const SECOND_OF_JANUARY: &str = "2021-01-02 03:04:00.000000000 +00:00:00\n";
 
-static BY_RFC2822: [(&str, &str, &str); 12] = [
+const BY_RFC2822: [(&str, &str, &str); 12] = [
     (
         "staged",
         "Mon, 02 Jan 2021 03:04:05 +0607",
@@ -87,7 +87,7 @@ static BY_RFC2822: [(&str, &str, &str); 12] = [
     ),
 ];
 
-static MAIL_COMMENTS: [(&str, &str, &str); 3] = [
+const MAIL_COMMENTS: [(&str, &str, &str); 3] = [
     (
         "staged",
         "02 (a(b\\)c)) Jan 2021 03:04 +0000",
@@ -109,7 +109,7 @@ const TRAILING: &str = "error: unexpected trailing characters; the end of input 
 
 const YEAR: &str = "error: the 'year' component could not be parsed\n";
 
-static BY_ISO8601: [(&str, &str, &str); 18] = [
+const BY_ISO8601: [(&str, &str, &str); 18] = [
     ("time", "03,5", "03:30:00.000000000\n"),
     ("time", "03:04.5", "03:04:30.000000000\n"),
     ("time", "0304.25", "03:04:15.000000000\n"),
@@ -142,7 +142,7 @@ static BY_ISO8601: [(&str, &str, &str); 18] = [
     ("date", "9999-12x", LITERAL),
 ];
 
-static ISO_FORMS: [(&str, &str, &str); 13] = [
+const ISO_FORMS: [(&str, &str, &str); 13] = [
     ("time", "2021-01", "20:21:00.000000000\n"),
     ("offset", "2021-01", "-01:00:00\n"),
     ("date", "20211234", TRAILING),
@@ -162,7 +162,7 @@ static ISO_FORMS: [(&str, &str, &str); 13] = [
     ("time", "03.0001", "03:00:00.360000000\n"),
 ];
 
-static BY_YMD: [(&str, &str, &str); 6] = [
+const BY_YMD: [(&str, &str, &str); 6] = [
     ("date", "-0044-03-15", "-0044-03-15\n"),
     ("date", "+2021-03-04", "2021-03-04\n"),
     ("datetime", "2021-03-04", INSUFFICIENT),
@@ -175,7 +175,7 @@ static BY_YMD: [(&str, &str, &str); 6] = [
     ),
 ];
 
-static BY_CLOCK: [(&str, &str, &str); 7] = [
+const BY_CLOCK: [(&str, &str, &str); 7] = [
     ("time", "12:05 am", "00:05:00.000000000\n"),
     ("time", "1:05:09.25 PM", "13:05:09.250000000\n"),
     ("time", "11:59:59 pM", "23:59:59.000000000\n"),
@@ -197,7 +197,7 @@ static BY_CLOCK: [(&str, &str, &str); 7] = [
     ("date", "12:05 am", INSUFFICIENT),
 ];
 
-static BY_UNIX: [(&str, &str, &str); 8] = [
+const BY_UNIX: [(&str, &str, &str); 8] = [
     ("timestamp", "-1", "-1000000000\n"),
     ("timestamp", "+5", "5000000000\n"),
     (
@@ -216,7 +216,7 @@ static BY_UNIX: [(&str, &str, &str); 8] = [
     ("plain", "0", INSUFFICIENT),
 ];
 
-static BY_LOCAL: [(&str, &str, &str); 9] = [
+const BY_LOCAL: [(&str, &str, &str); 9] = [
     (
         "datetime",
         "2021-01-02 03:04:05 -00:30",
@@ -248,7 +248,7 @@ static BY_LOCAL: [(&str, &str, &str); 9] = [
     ),
 ];
 
-static DIRECT_3339: [(&str, &str, &str); 12] = [
+const DIRECT_3339: [(&str, &str, &str); 12] = [
     (
         "datetime",
         "1985-04-12T23:20:50.52Z",
@@ -299,7 +299,7 @@ static DIRECT_3339: [(&str, &str, &str); 12] = [
     ),
 ];
 
-static DIRECT_2822: [(&str, &str, &str); 8] = [
+const DIRECT_2822: [(&str, &str, &str); 8] = [
     (
         "datetime",
         "Mon, 02 Jan 2021 03:04:05 +0607",

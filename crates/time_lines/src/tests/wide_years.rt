@@ -4,7 +4,7 @@ use std::test::Fail;
 
 const UNIX_TIMESTAMP: &str = "error: the 'unix_timestamp' component could not be parsed\n";
 
-static LINES: [(&str, &str, &str, &str); 17] = [
+const LINES: [(&str, &str, &str, &str); 17] = [
     (
         "rfc3339",
         "utc",

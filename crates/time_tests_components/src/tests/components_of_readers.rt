@@ -78,88 +78,87 @@ const SPACE: Padding = Padding::Space;
 
 const NONE: Padding = Padding::None;
 
-static TWO_PLACES: [(&[u8], Padding, Option<(u8, &[u8])>); 12] = [
-    (b"00", ZERO, Some((0, b""))),
-    (b"07x", ZERO, Some((7, b"x"))),
-    (b" 7x", SPACE, Some((7, b"x"))),
-    (b"7x", NONE, Some((7, b"x"))),
-    (b"127", NONE, Some((12, b"7"))),
-    (b"23", ZERO, Some((23, b""))),
-    (b"53", SPACE, Some((53, b""))),
-    (b"60", NONE, Some((60, b""))),
-    (b"99", ZERO, Some((99, b""))),
-    (b"7", ZERO, None),
-    (b"  7", SPACE, None),
-    (b" 7", NONE, None),
-];
-
 #[test]
 fn components_in_two_places(rt: HostRuntime) {
-    for (input, padding, wanted) in TWO_PLACES {
+    for (input, padding, wanted) in [
+        (b"00".as_slice(), ZERO, Some((0, b"".as_slice()))),
+        (b"07x", ZERO, Some((7, b"x"))),
+        (b" 7x", SPACE, Some((7, b"x"))),
+        (b"7x", NONE, Some((7, b"x"))),
+        (b"127", NONE, Some((12, b"7"))),
+        (b"23", ZERO, Some((23, b""))),
+        (b"53", SPACE, Some((53, b""))),
+        (b"60", NONE, Some((60, b""))),
+        (b"99", ZERO, Some((99, b""))),
+        (b"7", ZERO, None),
+        (b"  7", SPACE, None),
+        (b" 7", NONE, None),
+    ] {
         for answer in two_places(input, padding) {
             assert!(rt; answers(answer, wanted));
         }
     }
 }
 
-static DAYS: [(&[u8], Padding, Option<(u8, &[u8])>); 6] = [
-    (b"01", ZERO, Some((1, b""))),
-    (b" 7x", SPACE, Some((7, b"x"))),
-    (b"7x", NONE, Some((7, b"x"))),
-    (b"31", ZERO, Some((31, b""))),
-    (b"00", ZERO, None),
-    (b"1", ZERO, None),
-];
-
-static ORDINALS: [(&[u8], Padding, Option<(u16, &[u8])>); 6] = [
-    (b"001", ZERO, Some((1, b""))),
-    (b"  7x", SPACE, Some((7, b"x"))),
-    (b"7x", NONE, Some((7, b"x"))),
-    (b"366", ZERO, Some((366, b""))),
-    (b"000", ZERO, None),
-    (b"01", ZERO, None),
-];
-
-static MONTHS: [(&[u8], Padding, Option<(Month, &[u8])>); 6] = [
-    (b"01", ZERO, Some((Month::January, b""))),
-    (b" 7x", SPACE, Some((Month::July, b"x"))),
-    (b"7x", NONE, Some((Month::July, b"x"))),
-    (b"12", ZERO, Some((Month::December, b""))),
-    (b"00", ZERO, None),
-    (b"13", ZERO, None),
-];
-
 #[test]
 fn components_from_one(rt: HostRuntime) {
-    for (input, padding, wanted) in DAYS {
+    for (input, padding, wanted) in [
+        (b"01".as_slice(), ZERO, Some((1, b"".as_slice()))),
+        (b" 7x", SPACE, Some((7, b"x"))),
+        (b"7x", NONE, Some((7, b"x"))),
+        (b"31", ZERO, Some((31, b""))),
+        (b"00", ZERO, None),
+        (b"1", ZERO, None),
+    ] {
         let day = parse_day(input, modifier::Day { padding });
         let number = day.map(|found| ParsedItem(found.0, found.1.get()));
         assert!(rt; answers(number, wanted));
     }
-    for (input, padding, wanted) in ORDINALS {
+    for (input, padding, wanted) in [
+        (b"001".as_slice(), ZERO, Some((1, b"".as_slice()))),
+        (b"  7x", SPACE, Some((7, b"x"))),
+        (b"7x", NONE, Some((7, b"x"))),
+        (b"366", ZERO, Some((366, b""))),
+        (b"000", ZERO, None),
+        (b"01", ZERO, None),
+    ] {
         let ordinal = parse_ordinal(input, modifier::Ordinal { padding });
         let number = ordinal.map(|found| ParsedItem(found.0, found.1.get()));
         assert!(rt; answers(number, wanted));
     }
-    for (input, padding, wanted) in MONTHS {
+    for (input, padding, wanted) in [
+        (
+            b"01".as_slice(),
+            ZERO,
+            Some((Month::January, b"".as_slice())),
+        ),
+        (b" 7x", SPACE, Some((Month::July, b"x"))),
+        (b"7x", NONE, Some((Month::July, b"x"))),
+        (b"12", ZERO, Some((Month::December, b""))),
+        (b"00", ZERO, None),
+        (b"13", ZERO, None),
+    ] {
         let month = parse_month_numerical(input, modifier::MonthNumerical { padding });
         assert!(rt; answers(month, wanted));
     }
 }
 
-static YEARS: [(&[u8], Padding, bool, Option<(i32, &[u8])>); 7] = [
-    (b"-9999", ZERO, true, Some((-9999, b""))),
-    (b"9999", ZERO, false, Some((9999, b""))),
-    (b"2021", ZERO, true, None),
-    (b"   5", SPACE, false, Some((5, b""))),
-    (b"-   5", SPACE, false, Some((-5, b""))),
-    (b"5x", NONE, false, Some((5, b"x"))),
-    (b"005x", ZERO, false, None),
-];
-
 #[test]
 fn components_of_years(rt: HostRuntime) {
-    for (input, padding, sign_is_mandatory, wanted) in YEARS {
+    for (input, padding, sign_is_mandatory, wanted) in [
+        (
+            b"-9999".as_slice(),
+            ZERO,
+            true,
+            Some((-9999, b"".as_slice())),
+        ),
+        (b"9999", ZERO, false, Some((9999, b""))),
+        (b"2021", ZERO, true, None),
+        (b"   5", SPACE, false, Some((5, b""))),
+        (b"-   5", SPACE, false, Some((-5, b""))),
+        (b"5x", NONE, false, Some((5, b"x"))),
+        (b"005x", ZERO, false, None),
+    ] {
         for answer in [
             parse_calendar_year_full_extended_range(
                 input,
@@ -207,21 +206,24 @@ fn components_of_years(rt: HostRuntime) {
     assert!(rt; answers(year, Some((20215, b""))));
 }
 
-static CENTURIES: [(&[u8], Padding, bool, Option<((i16, bool), &[u8])>); 9] = [
-    (b"-99", ZERO, true, Some(((-99, true), b""))),
-    (b"99", ZERO, false, Some(((99, false), b""))),
-    (b"99", ZERO, true, None),
-    (b"5x", SPACE, false, Some(((5, false), b"x"))),
-    (b" 5", SPACE, false, None),
-    (b"+ 5", SPACE, false, Some(((5, false), b""))),
-    (b"-5x", NONE, false, Some(((-5, true), b"x"))),
-    (b"-0x", NONE, false, Some(((0, true), b"x"))),
-    (b"-5x", ZERO, false, None),
-];
-
 #[test]
 fn components_of_centuries(rt: HostRuntime) {
-    for (input, padding, sign_is_mandatory, wanted) in CENTURIES {
+    for (input, padding, sign_is_mandatory, wanted) in [
+        (
+            b"-99".as_slice(),
+            ZERO,
+            true,
+            Some(((-99, true), b"".as_slice())),
+        ),
+        (b"99", ZERO, false, Some(((99, false), b""))),
+        (b"99", ZERO, true, None),
+        (b"5x", SPACE, false, Some(((5, false), b"x"))),
+        (b" 5", SPACE, false, None),
+        (b"+ 5", SPACE, false, Some(((5, false), b""))),
+        (b"-5x", NONE, false, Some(((-5, true), b"x"))),
+        (b"-0x", NONE, false, Some(((0, true), b"x"))),
+        (b"-5x", ZERO, false, None),
+    ] {
         for answer in [
             parse_calendar_year_century_extended_range(
                 input,
@@ -269,27 +271,22 @@ fn components_of_centuries(rt: HostRuntime) {
     assert!(rt; answers(century, Some(((9999, false), b""))));
 }
 
-static OFFSET_HOURS: [(&[u8], Padding, bool, Option<((i8, bool), &[u8])>); 7] = [
-    (b"-25", ZERO, true, Some(((-25, true), b""))),
-    (b"+25", ZERO, true, Some(((25, false), b""))),
-    (b"25", ZERO, false, Some(((25, false), b""))),
-    (b"25", ZERO, true, None),
-    (b"- 5", SPACE, false, Some(((-5, true), b""))),
-    (b"5x", NONE, false, Some(((5, false), b"x"))),
-    (b"-5x", ZERO, false, None),
-];
-
-static OFFSET_MINUTES: [(&[u8], Padding, Option<(i8, &[u8])>); 5] = [
-    (b"00", ZERO, Some((0, b""))),
-    (b"59", ZERO, Some((59, b""))),
-    (b" 7", SPACE, Some((7, b""))),
-    (b"7x", NONE, Some((7, b"x"))),
-    (b"-7", NONE, None),
-];
-
 #[test]
 fn components_of_offsets(rt: HostRuntime) {
-    for (input, padding, sign_is_mandatory, wanted) in OFFSET_HOURS {
+    for (input, padding, sign_is_mandatory, wanted) in [
+        (
+            b"-25".as_slice(),
+            ZERO,
+            true,
+            Some(((-25, true), b"".as_slice())),
+        ),
+        (b"+25", ZERO, true, Some(((25, false), b""))),
+        (b"25", ZERO, false, Some(((25, false), b""))),
+        (b"25", ZERO, true, None),
+        (b"- 5", SPACE, false, Some(((-5, true), b""))),
+        (b"5x", NONE, false, Some(((5, false), b"x"))),
+        (b"-5x", ZERO, false, None),
+    ] {
         let hour = parse_offset_hour(
             input,
             modifier::OffsetHour {
@@ -299,7 +296,13 @@ fn components_of_offsets(rt: HostRuntime) {
         );
         assert!(rt; answers(hour, wanted));
     }
-    for (input, padding, wanted) in OFFSET_MINUTES {
+    for (input, padding, wanted) in [
+        (b"00".as_slice(), ZERO, Some((0, b"".as_slice()))),
+        (b"59", ZERO, Some((59, b""))),
+        (b" 7", SPACE, Some((7, b""))),
+        (b"7x", NONE, Some((7, b"x"))),
+        (b"-7", NONE, None),
+    ] {
         let minute = parse_offset_minute(input, modifier::OffsetMinute { padding });
         assert!(rt; answers(minute, wanted));
         let second = parse_offset_second(input, modifier::OffsetSecond { padding });
@@ -309,22 +312,24 @@ fn components_of_offsets(rt: HostRuntime) {
 
 const FIRST: i128 = -377_705_116_800_000_000_000;
 
-static SECONDS: [(&[u8], bool, Option<(i128, &[u8])>); 6] = [
-    (b"-377705116800", true, Some((FIRST, b""))),
-    (
-        b"253402300799",
-        false,
-        Some((253_402_300_799_000_000_000, b"")),
-    ),
-    (b"000000000000001", false, Some((0, b"1"))),
-    (b"+5", true, Some((5_000_000_000, b""))),
-    (b"5", true, None),
-    (b"-", false, None),
-];
-
 #[test]
 fn components_of_timestamps_in_seconds(rt: HostRuntime) {
-    for (input, sign_is_mandatory, wanted) in SECONDS {
+    for (input, sign_is_mandatory, wanted) in [
+        (
+            b"-377705116800".as_slice(),
+            true,
+            Some((FIRST, b"".as_slice())),
+        ),
+        (
+            b"253402300799",
+            false,
+            Some((253_402_300_799_000_000_000, b"")),
+        ),
+        (b"000000000000001", false, Some((0, b"1"))),
+        (b"+5", true, Some((5_000_000_000, b""))),
+        (b"5", true, None),
+        (b"-", false, None),
+    ] {
         let modifiers = modifier::UnixTimestampSecond { sign_is_mandatory };
         assert!(rt; answers(parse_unix_timestamp_second(input, modifiers), wanted));
     }
@@ -391,81 +396,72 @@ fn components_of_timestamps_in_nanoseconds(rt: HostRuntime) {
     }
 }
 
-static MONTH_NAMES: [(&[u8], bool, Option<(Month, &[u8])>, Option<(Month, &[u8])>); 10] = [
-    (
-        b"January",
-        true,
-        Some((Month::January, b"uary")),
-        Some((Month::January, b"")),
-    ),
-    (
-        b"December",
-        true,
-        Some((Month::December, b"ember")),
-        Some((Month::December, b"")),
-    ),
-    (
-        b"May-",
-        true,
-        Some((Month::May, b"-")),
-        Some((Month::May, b"-")),
-    ),
-    (
-        b"SEPTEMBER",
-        false,
-        Some((Month::September, b"TEMBER")),
-        Some((Month::September, b"")),
-    ),
-    (
-        b"Septembre",
-        false,
-        Some((Month::September, b"tembre")),
-        None,
-    ),
-    (b"SEPTEMBER", true, None, None),
-    (b"septeMBER", true, None, None),
-    (b"Jan", false, Some((Month::January, b"")), None),
-    (b"Ja", false, None, None),
-    (b"jux", false, None, None),
-];
-
-static WEEKDAY_NAMES: [(
-    &[u8],
-    bool,
-    Option<(Weekday, &[u8])>,
-    Option<(Weekday, &[u8])>,
-); 5] = [
-    (
-        b"Monday",
-        true,
-        Some((Weekday::Monday, b"day")),
-        Some((Weekday::Monday, b"")),
-    ),
-    (
-        b"Sunday",
-        true,
-        Some((Weekday::Sunday, b"day")),
-        Some((Weekday::Sunday, b"")),
-    ),
-    (
-        b"wEDNESDAY",
-        false,
-        Some((Weekday::Wednesday, b"NESDAY")),
-        Some((Weekday::Wednesday, b"")),
-    ),
-    (b"Thuday", true, Some((Weekday::Thursday, b"day")), None),
-    (b"monday", true, None, None),
-];
-
 #[test]
 fn components_of_names(rt: HostRuntime) {
-    for (input, case_sensitive, short, long) in MONTH_NAMES {
+    for (input, case_sensitive, short, long) in [
+        (
+            b"January".as_slice(),
+            true,
+            Some((Month::January, b"uary".as_slice())),
+            Some((Month::January, b"".as_slice())),
+        ),
+        (
+            b"December",
+            true,
+            Some((Month::December, b"ember")),
+            Some((Month::December, b"")),
+        ),
+        (
+            b"May-",
+            true,
+            Some((Month::May, b"-")),
+            Some((Month::May, b"-")),
+        ),
+        (
+            b"SEPTEMBER",
+            false,
+            Some((Month::September, b"TEMBER")),
+            Some((Month::September, b"")),
+        ),
+        (
+            b"Septembre",
+            false,
+            Some((Month::September, b"tembre")),
+            None,
+        ),
+        (b"SEPTEMBER", true, None, None),
+        (b"septeMBER", true, None, None),
+        (b"Jan", false, Some((Month::January, b"")), None),
+        (b"Ja", false, None, None),
+        (b"jux", false, None, None),
+    ] {
         let month = parse_month_short(input, modifier::MonthShort { case_sensitive });
         assert!(rt; answers(month, short));
         let month = parse_month_long(input, modifier::MonthLong { case_sensitive });
         assert!(rt; answers(month, long));
     }
-    for (input, case_sensitive, short, long) in WEEKDAY_NAMES {
+    for (input, case_sensitive, short, long) in [
+        (
+            b"Monday".as_slice(),
+            true,
+            Some((Weekday::Monday, b"day".as_slice())),
+            Some((Weekday::Monday, b"".as_slice())),
+        ),
+        (
+            b"Sunday",
+            true,
+            Some((Weekday::Sunday, b"day")),
+            Some((Weekday::Sunday, b"")),
+        ),
+        (
+            b"wEDNESDAY",
+            false,
+            Some((Weekday::Wednesday, b"NESDAY")),
+            Some((Weekday::Wednesday, b"")),
+        ),
+        (b"Thuday", true, Some((Weekday::Thursday, b"day")), None),
+        (b"monday", true, None, None),
+    ] {
         let weekday = parse_weekday_short(input, modifier::WeekdayShort { case_sensitive });
         assert!(rt; answers(weekday, short));
         let weekday = parse_weekday_long(input, modifier::WeekdayLong { case_sensitive });
@@ -473,33 +469,25 @@ fn components_of_names(rt: HostRuntime) {
     }
 }
 
-static PERIODS: [(&[u8], bool, bool, Option<(Period, &[u8])>); 10] = [
-    (b"AM", true, true, Some((Period::Am, b""))),
-    (b"PMx", true, true, Some((Period::Pm, b"x"))),
-    (b"am", true, true, None),
-    (b"am", false, true, Some((Period::Am, b""))),
-    (b"pm", false, true, Some((Period::Pm, b""))),
-    (b"AM", false, true, None),
-    (b"aM", true, false, Some((Period::Am, b""))),
-    (b"Pm", false, false, Some((Period::Pm, b""))),
-    (b"p", false, false, None),
-    (b"xm", false, false, None),
-];
-
-static WEEKDAYS: [(&[u8], bool, Option<Weekday>, Option<Weekday>); 8] = [
-    (b"0", false, Some(Weekday::Sunday), Some(Weekday::Monday)),
-    (b"6", false, Some(Weekday::Saturday), Some(Weekday::Sunday)),
-    (b"7", false, None, None),
-    (b"1", true, Some(Weekday::Sunday), Some(Weekday::Monday)),
-    (b"7", true, Some(Weekday::Saturday), Some(Weekday::Sunday)),
-    (b"0", true, None, None),
-    (b"8", true, None, None),
-    (b"/", false, None, None),
-];
-
 #[test]
 fn components_of_letters(rt: HostRuntime) {
-    for (input, is_uppercase, case_sensitive, wanted) in PERIODS {
+    for (input, is_uppercase, case_sensitive, wanted) in [
+        (
+            b"AM".as_slice(),
+            true,
+            true,
+            Some((Period::Am, b"".as_slice())),
+        ),
+        (b"PMx", true, true, Some((Period::Pm, b"x"))),
+        (b"am", true, true, None),
+        (b"am", false, true, Some((Period::Am, b""))),
+        (b"pm", false, true, Some((Period::Pm, b""))),
+        (b"AM", false, true, None),
+        (b"aM", true, false, Some((Period::Am, b""))),
+        (b"Pm", false, false, Some((Period::Pm, b""))),
+        (b"p", false, false, None),
+        (b"xm", false, false, None),
+    ] {
         let period = parse_period(
             input,
             modifier::Period {
@@ -509,7 +497,21 @@ fn components_of_letters(rt: HostRuntime) {
         );
         assert!(rt; answers(period, wanted));
     }
-    for (input, one_indexed, sunday, monday) in WEEKDAYS {
+    for (input, one_indexed, sunday, monday) in [
+        (
+            b"0".as_slice(),
+            false,
+            Some(Weekday::Sunday),
+            Some(Weekday::Monday),
+        ),
+        (b"6", false, Some(Weekday::Saturday), Some(Weekday::Sunday)),
+        (b"7", false, None, None),
+        (b"1", true, Some(Weekday::Sunday), Some(Weekday::Monday)),
+        (b"7", true, Some(Weekday::Saturday), Some(Weekday::Sunday)),
+        (b"0", true, None, None),
+        (b"8", true, None, None),
+        (b"/", false, None, None),
+    ] {
         let day = parse_weekday_sunday(input, modifier::WeekdaySunday { one_indexed });
         assert!(rt; answers(day, sunday.map(|day| (day, b"".as_slice()))));
         let day = parse_weekday_monday(input, modifier::WeekdayMonday { one_indexed });
@@ -517,44 +519,46 @@ fn components_of_letters(rt: HostRuntime) {
     }
 }
 
-static SUBSECONDS: [(&[u8], SubsecondDigits, Option<(u32, &[u8])>); 16] = [
-    (b"9x", SubsecondDigits::One, Some((900_000_000, b"x"))),
-    (b"12", SubsecondDigits::Two, Some((120_000_000, b""))),
-    (b"123", SubsecondDigits::Three, Some((123_000_000, b""))),
-    (b"1234", SubsecondDigits::Four, Some((123_400_000, b""))),
-    (b"12345", SubsecondDigits::Five, Some((123_450_000, b""))),
-    (b"123456", SubsecondDigits::Six, Some((123_456_000, b""))),
-    (b"1234567", SubsecondDigits::Seven, Some((123_456_700, b""))),
-    (
-        b"12345678",
-        SubsecondDigits::Eight,
-        Some((123_456_780, b"")),
-    ),
-    (
-        b"999999999",
-        SubsecondDigits::Nine,
-        Some((999_999_999, b"")),
-    ),
-    (b"0000000001", SubsecondDigits::Nine, Some((0, b"1"))),
-    (b"/23456789", SubsecondDigits::Nine, None),
-    (b"12", SubsecondDigits::Three, None),
-    (b"5x", SubsecondDigits::OneOrMore, Some((500_000_000, b"x"))),
-    (
-        b"1234567899",
-        SubsecondDigits::OneOrMore,
-        Some((123_456_789, b"")),
-    ),
-    (
-        &[b'1'; 33],
-        SubsecondDigits::OneOrMore,
-        Some((111_111_111, b"1")),
-    ),
-    (b"x", SubsecondDigits::OneOrMore, None),
-];
-
 #[test]
 fn components_of_subseconds(rt: HostRuntime) {
-    for (input, digits, wanted) in SUBSECONDS {
+    for (input, digits, wanted) in [
+        (
+            b"9x".as_slice(),
+            SubsecondDigits::One,
+            Some((900_000_000, b"x".as_slice())),
+        ),
+        (b"12", SubsecondDigits::Two, Some((120_000_000, b""))),
+        (b"123", SubsecondDigits::Three, Some((123_000_000, b""))),
+        (b"1234", SubsecondDigits::Four, Some((123_400_000, b""))),
+        (b"12345", SubsecondDigits::Five, Some((123_450_000, b""))),
+        (b"123456", SubsecondDigits::Six, Some((123_456_000, b""))),
+        (b"1234567", SubsecondDigits::Seven, Some((123_456_700, b""))),
+        (
+            b"12345678",
+            SubsecondDigits::Eight,
+            Some((123_456_780, b"")),
+        ),
+        (
+            b"999999999",
+            SubsecondDigits::Nine,
+            Some((999_999_999, b"")),
+        ),
+        (b"0000000001", SubsecondDigits::Nine, Some((0, b"1"))),
+        (b"/23456789", SubsecondDigits::Nine, None),
+        (b"12", SubsecondDigits::Three, None),
+        (b"5x", SubsecondDigits::OneOrMore, Some((500_000_000, b"x"))),
+        (
+            b"1234567899",
+            SubsecondDigits::OneOrMore,
+            Some((123_456_789, b"")),
+        ),
+        (
+            &[b'1'; 33],
+            SubsecondDigits::OneOrMore,
+            Some((111_111_111, b"1")),
+        ),
+        (b"x", SubsecondDigits::OneOrMore, None),
+    ] {
         let subsecond = parse_subsecond(input, modifier::Subsecond { digits });
         assert!(rt; answers(subsecond, wanted));
     }

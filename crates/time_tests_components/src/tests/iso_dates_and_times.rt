@@ -2,7 +2,7 @@
 use std::test::Fail;
 use time_readers::iso8601::{DateNumbers, Part, TimeNumbers, date, date_and_time, time};
 
-static TEXTS: [&[u8]; 4] = [
+const TEXTS: [&[u8]; 4] = [
     b"2021-01-02T03:04:05Z",
     b"20210102T030405Z",
     b"2021-12-31T23:59:60,123456789-05:30",

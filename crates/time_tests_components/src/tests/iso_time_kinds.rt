@@ -29,7 +29,7 @@ const EXTENDED: ExtendedKind = ExtendedKind::Extended;
 
 const UNKNOWN: ExtendedKind = ExtendedKind::Unknown;
 
-static OF_BASIC_KIND: [Row; 11] = [
+const OF_BASIC_KIND: [Row; 11] = [
     (b"03,5x", Some((3, 30, 0, 0, b"x", BASIC))),
     (b"03", Some((3, 0, 0, 0, b"", BASIC))),
     (b"0304.5", Some((3, 4, 30, 0, b"", BASIC))),
@@ -50,7 +50,7 @@ fn iso_times_of_basic_kind(rt: HostRuntime) {
     }
 }
 
-static OF_EXTENDED_KIND: [Row; 11] = [
+const OF_EXTENDED_KIND: [Row; 11] = [
     (b"03,5x", Some((3, 30, 0, 0, b"x", EXTENDED))),
     (b"03", Some((3, 0, 0, 0, b"", EXTENDED))),
     (b"0304.5", Some((3, 4, 30, 0, b"", EXTENDED))),
@@ -71,7 +71,7 @@ fn iso_times_of_extended_kind(rt: HostRuntime) {
     }
 }
 
-static OF_UNKNOWN_KIND: [Row; 11] = [
+const OF_UNKNOWN_KIND: [Row; 11] = [
     (b"03,5x", Some((3, 30, 0, 0, b"x", UNKNOWN))),
     (b"03", Some((3, 0, 0, 0, b"", UNKNOWN))),
     (b"0304.5", Some((3, 4, 30, 0, b"", BASIC))),

@@ -8,11 +8,11 @@ use time_values::error::{ComponentRange, Parse, ParseFromDescription, TryFromPar
 use time_values::{Date, Month, OffsetDateTime, Time, UtcOffset};
 
 // The bytes that have to stand.
-static BYTES: [(usize, u8); 4] = [(4, b'-'), (7, b'-'), (13, b':'), (16, b':')];
+const BYTES: [(usize, u8); 4] = [(4, b'-'), (7, b'-'), (13, b':'), (16, b':')];
 
 // Where the digits of each number begin and end, the least number that has the form, the least and the
 // greatest in its range, and the name of its refusal.
-static NUMBERS: [(usize, usize, u32, u32, u32, &str); 6] = [
+const NUMBERS: [(usize, usize, u32, u32, u32, &str); 6] = [
     (0, 4, 0, 0, 9999, "year"),
     (5, 7, 1, 1, 12, "month"),
     (8, 10, 0, 1, 31, "day"),
@@ -122,7 +122,7 @@ fn is_right(text: &[u8], nanosecond: u32, offset: UtcOffset) -> bool {
 }
 
 // Three texts, and what stands behind their seconds: the nanosecond, and the hours and minutes of the offset.
-static TEXTS: [(&[u8], u32, i8, i8); 3] = [
+const TEXTS: [(&[u8], u32, i8, i8); 3] = [
     (b"1985-04-12T23:20:50.52Z", 520_000_000, 0, 0),
     (b"1990-12-31T23:59:60Z", 0, 0, 0),
     (
@@ -154,7 +154,7 @@ fn fronts(rt: HostRuntime) -> Result<(), Fail> {
 }
 
 // Texts, and what stands behind their seconds: the nanosecond, and the hours and minutes of the offset.
-static TAILS: [(&[u8], Option<(u32, i8, i8)>); 24] = [
+const TAILS: [(&[u8], Option<(u32, i8, i8)>); 24] = [
     (b"2021-01-02T03:04:05Z", Some((0, 0, 0))),
     (b"2021-01-02T03:04:05z", Some((0, 0, 0))),
     (b"2021-01-02T03:04:05+00:00", Some((0, 0, 0))),

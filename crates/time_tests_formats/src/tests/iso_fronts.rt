@@ -3,7 +3,7 @@ use std::test::Fail;
 use time_parsing::{Iso8601, Parsable};
 use time_record::Parsed;
 
-static TEXTS: [&[u8]; 3] = [
+const TEXTS: [&[u8]; 3] = [
     b"2021-01-02T03:04:05Z",
     b"20210102T030405Z",
     b"2021-12-31T23:59:60,123456789-05:30",

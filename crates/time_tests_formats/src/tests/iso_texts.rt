@@ -61,7 +61,7 @@ fn plain_of(text: &[u8]) -> Result<PlainDateTime, Parse> {
     Iso8601.parse_plain_date_time(text, None)
 }
 
-static TIMES: [(&[u8], u8, u8, u8, u32); 7] = [
+const TIMES: [(&[u8], u8, u8, u8, u32); 7] = [
     (b"03,5", 3, 30, 0, 0),
     (b"03:04.5", 3, 4, 30, 0),
     (b"0304.25", 3, 4, 15, 0),
@@ -81,7 +81,7 @@ fn iso_times(rt: HostRuntime) -> Result<(), Fail> {
 }
 
 // Texts of times, and the component that each lacks.
-static TIMES_REFUSED: [(&[u8], &str); 6] = [
+const TIMES_REFUSED: [(&[u8], &str); 6] = [
     (b"0360", "month"),
     (b"030461", "month"),
     (b"12:34:56.9999999995", "year"),
@@ -102,7 +102,7 @@ fn iso_times_refused(rt: HostRuntime) {
     assert!(rt; lacks_information(time_of(b"2021-01-02")));
 }
 
-static DATES: [(&[u8], i32, Month, u8); 9] = [
+const DATES: [(&[u8], i32, Month, u8); 9] = [
     (b"+002021-01-02", 2021, Month::January, 2),
     (b"+012345-01-02", 12345, Month::January, 2),
     (b"2020-W53-6", 2021, Month::January, 2),
@@ -137,7 +137,7 @@ fn iso_dates_refused(rt: HostRuntime) {
     }
 }
 
-static OFFSETS: [(&[u8], i8, i8); 6] = [
+const OFFSETS: [(&[u8], i8, i8); 6] = [
     (b"2021-01", -1, 0),
     (b"-05", -5, 0),
     (b"05:30Z", 0, 0),

@@ -54,7 +54,7 @@ const OFFSET_HOUR: ParseFromDescription = ParseFromDescription::InvalidComponent
 
 const OFFSET_MINUTE: ParseFromDescription = ParseFromDescription::InvalidComponent("offset minute");
 
-static REFUSED: [(&[u8], ParseFromDescription); 9] = [
+const REFUSED: [(&[u8], ParseFromDescription); 9] = [
     (b"1 Jan 99 00:00 J", OFFSET_HOUR),
     (b"1 Jan 99 00:00 Z (x)", OFFSET_HOUR),
     (b"Mon 02 Jan 2021 03:04 +0000", LITERAL),
@@ -113,7 +113,7 @@ fn mail_dates_of_leap_seconds(rt: HostRuntime) -> Result<(), Fail> {
     Ok(())
 }
 
-static SHORT_YEARS: [(&[u8], i32); 5] = [
+const SHORT_YEARS: [(&[u8], i32); 5] = [
     (b"1 Jan 00 00:00 GMT", 2000),
     (b"1 Jan 49 00:00 GMT", 2049),
     (b"1 Jan 50 00:00 GMT", 1950),
@@ -201,7 +201,7 @@ fn mail_dates_refused_keep_the_record(rt: HostRuntime) {
     assert!(rt; parsed.day().is_none());
 }
 
-static FAILED_PLACES: [(&[u8], ParseFromDescription); 13] = [
+const FAILED_PLACES: [(&[u8], ParseFromDescription); 13] = [
     (b"", DAY),
     (b"x Jan 2021 03:04 GMT", DAY),
     (b"1Jan 2021 03:04 GMT", LITERAL),
@@ -224,7 +224,7 @@ fn mail_places_that_fail(rt: HostRuntime) {
     }
 }
 
-static FAILED_OFFSETS: [(&[u8], ParseFromDescription); 9] = [
+const FAILED_OFFSETS: [(&[u8], ParseFromDescription); 9] = [
     (b"1 Jan 2021 03:04GMT", LITERAL),
     (b"1 Jan 2021 03:04:05+0000", LITERAL),
     (b"1 Jan 2021 03:04 XYZ", OFFSET_HOUR),
@@ -267,7 +267,7 @@ fn left(answer: Option<ParsedItem<'_, ()>>) -> Option<usize> {
 }
 
 // Texts, and how many bytes are left behind the blanks before them.
-static BLANKS: [(&[u8], Option<usize>); 14] = [
+const BLANKS: [(&[u8], Option<usize>); 14] = [
     (b" \t x", Some(1)),
     (b"\r\n x", Some(1)),
     (b"\r\n \r\n x", Some(4)),
@@ -291,7 +291,7 @@ fn mail_blanks(rt: HostRuntime) {
     }
 }
 
-static COMMENTS: [(&[u8], Option<usize>); 7] = [
+const COMMENTS: [(&[u8], Option<usize>); 7] = [
     (b"(a(b\\)c))x", Some(1)),
     (b" (a) \r\n (b)x", Some(1)),
     (b"( a \r\n b )x", Some(1)),
@@ -323,7 +323,7 @@ fn is_no_comment(text: &[u8]) -> bool {
     cfws(text).is_none()
 }
 
-static NO_COMMENTS: [&[u8]; 13] = [
+const NO_COMMENTS: [&[u8]; 13] = [
     b"(a\r\n)",
     b"(a \r\n)",
     b"(\r)",
@@ -389,7 +389,7 @@ fn is_zone(text: &[u8], hours: i8, rest: usize) -> bool {
 }
 
 // Texts, the hours that the zone name before each says, and how many bytes are left behind it.
-static ZONES: [(&[u8], i8, usize); 10] = [
+const ZONES: [(&[u8], i8, usize); 10] = [
     (b"EST", -5, 0),
     (b"EDT", -4, 0),
     (b"CST", -6, 0),

@@ -6,7 +6,7 @@ use time_values::OffsetDateTime;
 use time_values::error::Parse;
 
 // A mail date; the same with a comment behind its day, and behind its second; and where its day ends.
-static TEXTS: [(&[u8], &[u8], &[u8], usize); 4] = [
+const TEXTS: [(&[u8], &[u8], &[u8], usize); 4] = [
     (
         b"Sat, 02 Jan 2021 03:04:05 +0607",
         b"Sat, 02(x) Jan 2021 03:04:05 +0607",

@@ -17,7 +17,7 @@ const SECOND: ParseFromDescription = ParseFromDescription::InvalidComponent("sec
 const TRAILING: ParseFromDescription = ParseFromDescription::UnexpectedTrailingCharacters;
 
 // A mail date with a CR in place of one of its blanks, and its refusal.
-static CARRIAGE_RETURNS: [(&[u8], ParseFromDescription); 14] = [
+const CARRIAGE_RETURNS: [(&[u8], ParseFromDescription); 14] = [
     (b"\rSat, 02 Jan 2021 03 : 04 : 05 +0000 ", DAY),
     (b" Sat,\r02 Jan 2021 03 : 04 : 05 +0000 ", DAY),
     (b" Sat, 02\rJan 2021 03 : 04 : 05 +0000 ", LITERAL),

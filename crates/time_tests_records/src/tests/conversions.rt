@@ -146,50 +146,40 @@ fn timed(parsed: Parsed) -> Result<(u8, u8, u8, u32), TryFromParsed> {
     Ok((time.hour(), time.minute(), time.second(), time.nanosecond()))
 }
 
-const HOUR: (Field, i128) = (Field::Hour24, 5);
-
-const MINUTE: (Field, i128) = (Field::Minute, 30);
-
-const SECOND: (Field, i128) = (Field::Second, 10);
-
-const SECOND_IS_OUT: TryFromParsed = TryFromParsed::ComponentRange(ComponentRange {
-    name: "second",
-    conditional: false,
-});
-
-static TIMES: [(&[(Field, i128)], Result<(u8, u8, u8, u32), TryFromParsed>); 12] = [
-    (
-        &[(Field::Hour12, 12), (Field::Hour12IsPm, 0)],
-        Ok((0, 0, 0, 0)),
-    ),
-    (
-        &[(Field::Hour12, 12), (Field::Hour12IsPm, 1)],
-        Ok((12, 0, 0, 0)),
-    ),
-    (
-        &[(Field::Hour12, 3), (Field::Hour12IsPm, 0)],
-        Ok((3, 0, 0, 0)),
-    ),
-    (
-        &[(Field::Hour12, 11), (Field::Hour12IsPm, 1)],
-        Ok((23, 0, 0, 0)),
-    ),
-    (&[(Field::Hour12, 3)], Err(UNKNOWN)),
-    (&[HOUR], Ok((5, 0, 0, 0))),
-    (&[HOUR, SECOND], Err(UNKNOWN)),
-    (&[HOUR, MINUTE], Ok((5, 30, 0, 0))),
-    (&[HOUR, MINUTE, (Field::Subsecond, 1)], Err(UNKNOWN)),
-    (&[HOUR, MINUTE, SECOND], Ok((5, 30, 10, 0))),
-    (
-        &[HOUR, MINUTE, SECOND, (Field::Subsecond, 7)],
-        Ok((5, 30, 10, 7)),
-    ),
-    (&[HOUR, MINUTE, (Field::Second, 60)], Err(SECOND_IS_OUT)),
-];
-
 #[test]
 fn conversions_to_times(rt: HostRuntime) -> Result<(), Fail> {
-    for (numbers, seen) in TIMES {
+    let hour = (Field::Hour24, 5);
+    let minute = (Field::Minute, 30);
+    let second = (Field::Second, 10);
+    for (numbers, seen) in [
+        (
+            [(Field::Hour12, 12), (Field::Hour12IsPm, 0)].as_slice(),
+            Ok((0, 0, 0, 0)),
+        ),
+        (
+            &[(Field::Hour12, 12), (Field::Hour12IsPm, 1)],
+            Ok((12, 0, 0, 0)),
+        ),
+        (
+            &[(Field::Hour12, 3), (Field::Hour12IsPm, 0)],
+            Ok((3, 0, 0, 0)),
+        ),
+        (
+            &[(Field::Hour12, 11), (Field::Hour12IsPm, 1)],
+            Ok((23, 0, 0, 0)),
+        ),
+        (&[(Field::Hour12, 3)], Err(UNKNOWN)),
+        (&[hour], Ok((5, 0, 0, 0))),
+        (&[hour, second], Err(UNKNOWN)),
+        (&[hour, minute], Ok((5, 30, 0, 0))),
+        (&[hour, minute, (Field::Subsecond, 1)], Err(UNKNOWN)),
+        (&[hour, minute, second], Ok((5, 30, 10, 0))),
+        (
+            &[hour, minute, second, (Field::Subsecond, 7)],
+            Ok((5, 30, 10, 7)),
+        ),
+        (&[hour, minute, (Field::Second, 60)], Err(out("second"))),
+    ] {
         let parsed = record_of(numbers).ok_or("refused")?;
         assert!(rt; timed(parsed) == seen, "{seen:?}");
     }
@@ -202,33 +192,31 @@ fn offset_by(parsed: Parsed) -> Result<(i8, i8, i8), TryFromParsed> {
     Ok(offset.as_hms())
 }
 
-static OFFSETS: [(&[(Field, i128)], Result<(i8, i8, i8), TryFromParsed>); 5] = [
-    (
-        &[(Field::OffsetHour, 5), (Field::OffsetMinuteSigned, -30)],
-        Ok((5, 30, 0)),
-    ),
-    (
-        &[(Field::OffsetHour, 5), (Field::OffsetSecondSigned, 10)],
-        Ok((5, 0, 0)),
-    ),
-    (
-        &[
-            (Field::OffsetHour, -5),
-            (Field::OffsetMinuteSigned, 30),
-            (Field::OffsetSecondSigned, 10),
-        ],
-        Ok((-5, -30, -10)),
-    ),
-    (
-        &[(Field::OffsetHour, 0), (Field::OffsetMinuteSigned, -30)],
-        Ok((0, -30, 0)),
-    ),
-    (&[(Field::OffsetMinuteSigned, 30)], Err(UNKNOWN)),
-];
-
 #[test]
 fn conversions_to_offsets(rt: HostRuntime) -> Result<(), Fail> {
-    for (numbers, seen) in OFFSETS {
+    for (numbers, seen) in [
+        (
+            [(Field::OffsetHour, 5), (Field::OffsetMinuteSigned, -30)].as_slice(),
+            Ok((5, 30, 0)),
+        ),
+        (
+            &[(Field::OffsetHour, 5), (Field::OffsetSecondSigned, 10)],
+            Ok((5, 0, 0)),
+        ),
+        (
+            &[
+                (Field::OffsetHour, -5),
+                (Field::OffsetMinuteSigned, 30),
+                (Field::OffsetSecondSigned, 10),
+            ],
+            Ok((-5, -30, -10)),
+        ),
+        (
+            &[(Field::OffsetHour, 0), (Field::OffsetMinuteSigned, -30)],
+            Ok((0, -30, 0)),
+        ),
+        (&[(Field::OffsetMinuteSigned, 30)], Err(UNKNOWN)),
+    ] {
         let parsed = record_of(numbers).ok_or("refused")?;
         assert!(rt; offset_by(parsed) == seen, "{seen:?}");
     }

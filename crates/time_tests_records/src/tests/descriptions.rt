@@ -169,40 +169,38 @@ fn century_is(century: i16, is_negative: bool) -> Option<Parsed> {
     Parsed::new().with_year_century(century, is_negative)
 }
 
-static COMPONENTS: [(Component, &str, &str, Field, i128); 4] = [
-    (
-        signed!(CalendarYearFullExtendedRange, Zero),
-        "20215",
-        "5",
-        Field::Year,
-        2021,
-    ),
-    (
-        cased!(MonthShort, false),
-        "Septembre",
-        "tembre",
-        Field::Month,
-        9,
-    ),
-    (
-        timestamp!(UnixTimestampSecond),
-        "000000000000001",
-        "1",
-        Field::UnixTimestampNanos,
-        0,
-    ),
-    (
-        subsecond!(OneOrMore),
-        "111111111111111111111111111111111",
-        "1",
-        Field::Subsecond,
-        111_111_111,
-    ),
-];
-
 #[test]
 fn components(rt: HostRuntime) -> Result<(), Fail> {
-    for (component, text, rest, field, number) in COMPONENTS {
+    for (component, text, rest, field, number) in [
+        (
+            signed!(CalendarYearFullExtendedRange, Zero),
+            "20215",
+            "5",
+            Field::Year,
+            2021,
+        ),
+        (
+            cased!(MonthShort, false),
+            "Septembre",
+            "tembre",
+            Field::Month,
+            9,
+        ),
+        (
+            timestamp!(UnixTimestampSecond),
+            "000000000000001",
+            "1",
+            Field::UnixTimestampNanos,
+            0,
+        ),
+        (
+            subsecond!(OneOrMore),
+            "111111111111111111111111111111111",
+            "1",
+            Field::Subsecond,
+            111_111_111,
+        ),
+    ] {
         let wanted = record_of(&[(field, number)]).ok_or("out of range")?;
         assert!(rt;
             reads(component, text.as_bytes(), rest.as_bytes(), &wanted),
@@ -230,74 +228,72 @@ fn components_without_a_number(rt: HostRuntime) -> Result<(), Fail> {
     Ok(())
 }
 
-static REFUSED: [(Component, &str, &str); 38] = [
-    (padded!(Day, Zero), "00", "day"),
-    (padded!(Day, Zero), "32", "day"),
-    (cased!(MonthLong, false), "Septembre", "month"),
-    (cased!(MonthShort, true), "JAN", "month"),
-    (padded!(MonthNumerical, Zero), "13", "month"),
-    (padded!(Ordinal, Zero), "367", "ordinal"),
-    (cased!(WeekdayShort, true), "mon", "weekday"),
-    (cased!(WeekdayLong, false), "Mondax", "weekday"),
-    (indexed!(WeekdaySunday, true), "0", "weekday"),
-    (indexed!(WeekdaySunday, true), "8", "weekday"),
-    (indexed!(WeekdayMonday, false), "7", "weekday"),
-    (padded!(WeekNumberIso, Zero), "00", "week number"),
-    (padded!(WeekNumberSunday, Zero), "54", "week number"),
-    (padded!(WeekNumberMonday, Zero), "54", "week number"),
-    (signed!(CalendarYearFullExtendedRange, Zero), "+202", "year"),
-    (signed!(CalendarYearFullStandardRange, Zero), "202", "year"),
-    (signed!(IsoYearFullExtendedRange, Zero), "-010", "year"),
-    (signed!(IsoYearFullStandardRange, Zero), "+202", "year"),
-    (
-        signed!(CalendarYearCenturyStandardRange, Zero),
-        "+5x",
-        "year",
-    ),
-    (
-        signed!(CalendarYearCenturyExtendedRange, Zero),
-        "+1",
-        "year",
-    ),
-    (signed!(IsoYearCenturyExtendedRange, Zero), "-1", "year"),
-    (signed!(IsoYearCenturyStandardRange, Zero), "x", "year"),
-    (padded!(CalendarYearLastTwo, Zero), "1", "year"),
-    (padded!(IsoYearLastTwo, Zero), "1", "year"),
-    (padded!(Hour12, Zero), "00", "hour"),
-    (padded!(Hour12, Zero), "13", "hour"),
-    (HOUR, "24", "hour"),
-    (MINUTE, "60", "minute"),
-    (padded!(Second, Zero), "61", "second"),
-    (period!(false, true), "AM", "period"),
-    (subsecond!(Nine), "/23456789", "subsecond"),
-    (signed!(OffsetHour, Zero), "+26", "offset hour"),
-    (padded!(OffsetMinute, Zero), "60", "offset minute"),
-    (padded!(OffsetSecond, Zero), "60", "offset second"),
-    (
-        timestamp!(UnixTimestampSecond),
-        "31494784780800",
-        "unix_timestamp",
-    ),
-    (
-        timestamp!(UnixTimestampMillisecond),
-        "31494784780800000",
-        "unix_timestamp",
-    ),
-    (
-        timestamp!(UnixTimestampMicrosecond),
-        "31494784780800000000",
-        "unix_timestamp",
-    ),
-    (
-        timestamp!(UnixTimestampNanosecond),
-        "31494784780800000000000",
-        "unix_timestamp",
-    ),
-];
-
 #[test]
 fn components_refused(rt: HostRuntime) {
-    for (component, text, name) in REFUSED {
+    for (component, text, name) in [
+        (padded!(Day, Zero), "00", "day"),
+        (padded!(Day, Zero), "32", "day"),
+        (cased!(MonthLong, false), "Septembre", "month"),
+        (cased!(MonthShort, true), "JAN", "month"),
+        (padded!(MonthNumerical, Zero), "13", "month"),
+        (padded!(Ordinal, Zero), "367", "ordinal"),
+        (cased!(WeekdayShort, true), "mon", "weekday"),
+        (cased!(WeekdayLong, false), "Mondax", "weekday"),
+        (indexed!(WeekdaySunday, true), "0", "weekday"),
+        (indexed!(WeekdaySunday, true), "8", "weekday"),
+        (indexed!(WeekdayMonday, false), "7", "weekday"),
+        (padded!(WeekNumberIso, Zero), "00", "week number"),
+        (padded!(WeekNumberSunday, Zero), "54", "week number"),
+        (padded!(WeekNumberMonday, Zero), "54", "week number"),
+        (signed!(CalendarYearFullExtendedRange, Zero), "+202", "year"),
+        (signed!(CalendarYearFullStandardRange, Zero), "202", "year"),
+        (signed!(IsoYearFullExtendedRange, Zero), "-010", "year"),
+        (signed!(IsoYearFullStandardRange, Zero), "+202", "year"),
+        (
+            signed!(CalendarYearCenturyStandardRange, Zero),
+            "+5x",
+            "year",
+        ),
+        (
+            signed!(CalendarYearCenturyExtendedRange, Zero),
+            "+1",
+            "year",
+        ),
+        (signed!(IsoYearCenturyExtendedRange, Zero), "-1", "year"),
+        (signed!(IsoYearCenturyStandardRange, Zero), "x", "year"),
+        (padded!(CalendarYearLastTwo, Zero), "1", "year"),
+        (padded!(IsoYearLastTwo, Zero), "1", "year"),
+        (padded!(Hour12, Zero), "00", "hour"),
+        (padded!(Hour12, Zero), "13", "hour"),
+        (HOUR, "24", "hour"),
+        (MINUTE, "60", "minute"),
+        (padded!(Second, Zero), "61", "second"),
+        (period!(false, true), "AM", "period"),
+        (subsecond!(Nine), "/23456789", "subsecond"),
+        (signed!(OffsetHour, Zero), "+26", "offset hour"),
+        (padded!(OffsetMinute, Zero), "60", "offset minute"),
+        (padded!(OffsetSecond, Zero), "60", "offset second"),
+        (
+            timestamp!(UnixTimestampSecond),
+            "31494784780800",
+            "unix_timestamp",
+        ),
+        (
+            timestamp!(UnixTimestampMillisecond),
+            "31494784780800000",
+            "unix_timestamp",
+        ),
+        (
+            timestamp!(UnixTimestampMicrosecond),
+            "31494784780800000000",
+            "unix_timestamp",
+        ),
+        (
+            timestamp!(UnixTimestampNanosecond),
+            "31494784780800000000000",
+            "unix_timestamp",
+        ),
+    ] {
         let error = ParseFromDescription::InvalidComponent(name);
         assert!(rt; refuses(component, text.as_bytes(), error), "{text}");
     }

@@ -26,7 +26,7 @@ macro_rules! timestamp {
 
 const YEAR: Component = signed!(CalendarYearFullExtendedRange);
 
-static COMPONENTS: [(Component, &str, Field, i128); 12] = [
+const COMPONENTS: [(Component, &str, Field, i128); 12] = [
     (YEAR, "+012345", Field::Year, 12_345),
     (YEAR, "-999999", Field::Year, -999_999),
     (

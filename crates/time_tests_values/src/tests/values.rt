@@ -43,7 +43,7 @@ fn months_and_weekdays(rt: HostRuntime) -> Result<(), Fail> {
     Ok(())
 }
 
-static FEBRUARIES: [(i32, u8); 6] = [
+const FEBRUARIES: [(i32, u8); 6] = [
     (0, 29),
     (-4, 29),
     (-100, 28),
@@ -67,7 +67,7 @@ fn keeps_its_parts(year: i32, month: Month, day: u8) -> bool {
     }
 }
 
-static CALENDAR_DATES: [(i32, Month, u8); 5] = [
+const CALENDAR_DATES: [(i32, Month, u8); 5] = [
     (-999_999, Month::January, 1),
     (999_999, Month::December, 31),
     (2020, Month::February, 29),
@@ -106,7 +106,7 @@ fn is_day_of_year(year: i32, ordinal: u16, month: Month, day: u8) -> bool {
     }
 }
 
-static ORDINAL_DATES: [(i32, u16, Month, u8); 5] = [
+const ORDINAL_DATES: [(i32, u16, Month, u8); 5] = [
     (-999_999, 1, Month::January, 1),
     (999_999, 365, Month::December, 31),
     (2020, 366, Month::December, 31),
@@ -175,7 +175,7 @@ fn times(rt: HostRuntime) -> Result<(), Fail> {
     Ok(())
 }
 
-static TIMES_REFUSED: [(u8, u8, u8, u32, &str); 4] = [
+const TIMES_REFUSED: [(u8, u8, u8, u32, &str); 4] = [
     (24, 60, 60, 1_000_000_000, "hour"),
     (23, 60, 60, 1_000_000_000, "minute"),
     (23, 59, 60, 1_000_000_000, "second"),
@@ -197,7 +197,7 @@ fn has_parts(given: (i8, i8, i8), parts: (i8, i8, i8)) -> bool {
     }
 }
 
-static OFFSETS: [((i8, i8, i8), (i8, i8, i8)); 7] = [
+const OFFSETS: [((i8, i8, i8), (i8, i8, i8)); 7] = [
     ((25, 59, 59), (25, 59, 59)),
     ((-25, -59, -59), (-25, -59, -59)),
     ((-25, 59, 59), (-25, -59, -59)),
@@ -215,7 +215,7 @@ fn offsets(rt: HostRuntime) {
     assert!(rt; UtcOffset::from_hms(0, 0, 0) == Ok(UtcOffset::UTC));
 }
 
-static OFFSETS_REFUSED: [(i8, i8, i8, &str); 6] = [
+const OFFSETS_REFUSED: [(i8, i8, i8, &str); 6] = [
     (26, 60, 60, "hours"),
     (-26, -60, -60, "hours"),
     (25, 60, 60, "minutes"),

@@ -8,28 +8,26 @@ use time_values::error::ParseFromDescription;
 use time_values::{Month, Weekday};
 
 // Neither the date nor a time nor an offset can be read, and the date's fault is that component.
-static WITHOUT_A_COMPONENT: [(&[u8], &str); 16] = [
-    (b"", "year"),
-    (b"x", "year"),
-    (b"999", "year"),
-    (b"+99999-01-01", "year"),
-    (b"9999x", "month"),
-    (b"999900", "month"),
-    (b"9999-13-01", "month"),
-    (b"9999000", "month"),
-    (b"999912", "day"),
-    (b"9999-12-00", "day"),
-    (b"9999-12-3", "day"),
-    (b"9999-W00-1", "week"),
-    (b"9999W5", "week"),
-    (b"9999-W50-0", "weekday"),
-    (b"9999-W50-8", "weekday"),
-    (b"9999W50", "weekday"),
-];
-
 #[test]
 fn iso_dates_without_a_component(rt: HostRuntime) {
-    for (text, component) in WITHOUT_A_COMPONENT {
+    for (text, component) in [
+        (b"".as_slice(), "year"),
+        (b"x", "year"),
+        (b"999", "year"),
+        (b"+99999-01-01", "year"),
+        (b"9999x", "month"),
+        (b"999900", "month"),
+        (b"9999-13-01", "month"),
+        (b"9999000", "month"),
+        (b"999912", "day"),
+        (b"9999-12-00", "day"),
+        (b"9999-12-3", "day"),
+        (b"9999-W00-1", "week"),
+        (b"9999W5", "week"),
+        (b"9999-W50-0", "weekday"),
+        (b"9999-W50-8", "weekday"),
+        (b"9999W50", "weekday"),
+    ] {
         assert!(rt; lacks(date_of(text), component), "{text:?}");
     }
 }
@@ -50,21 +48,19 @@ fn iso_dates_without_a_hyphen(rt: HostRuntime) {
 }
 
 // A form stands, and its value is out of range: the date is refused, though a later form stands behind the year, too.
-static OUT_OF_RANGE: [(&[u8], &str); 9] = [
-    (b"9999-12-32", "day"),
-    (b"99991232", "day"),
-    (b"9999-367", "ordinal"),
-    (b"9999400", "ordinal"),
-    (b"9999-W54-1", "week"),
-    (b"9999W991", "week"),
-    (b"+999999-12-32", "day"),
-    (b"+999999-367", "ordinal"),
-    (b"-999999-W54-1", "week"),
-];
-
 #[test]
 fn iso_dates_with_a_value_out_of_range(rt: HostRuntime) {
-    for (text, component) in OUT_OF_RANGE {
+    for (text, component) in [
+        (b"9999-12-32".as_slice(), "day"),
+        (b"99991232", "day"),
+        (b"9999-367", "ordinal"),
+        (b"9999400", "ordinal"),
+        (b"9999-W54-1", "week"),
+        (b"9999W991", "week"),
+        (b"+999999-12-32", "day"),
+        (b"+999999-367", "ordinal"),
+        (b"-999999-W54-1", "week"),
+    ] {
         assert!(rt; lacks(date_of(text), component), "{text:?}");
     }
 }

@@ -34,7 +34,7 @@ fn puts(text: &[u8], time: usize, wanted: Option<Found>) -> bool {
     has(&parsed, wanted) && left == wanted_left
 }
 
-static BEHIND_BASIC_DATES: [(&[u8], Option<Found>); 9] = [
+const BEHIND_BASIC_DATES: [(&[u8], Option<Found>); 9] = [
     (b"20210102T03,5x", Some((3, 30, 0, 0, 1))),
     (b"20210102T03", Some((3, 0, 0, 0, 0))),
     (b"20210102T0304.5", Some((3, 4, 30, 0, 0))),
@@ -56,7 +56,7 @@ fn iso_records_behind_basic_dates(rt: HostRuntime) {
     }
 }
 
-static BEHIND_EXTENDED_DATES: [(&[u8], Option<Found>); 9] = [
+const BEHIND_EXTENDED_DATES: [(&[u8], Option<Found>); 9] = [
     (b"2021-01-02T03,5x", Some((3, 30, 0, 0, 1))),
     (b"2021-01-02T03", Some((3, 0, 0, 0, 0))),
     (b"2021-01-02T0304.5", Some((3, 4, 30, 0, 0))),
@@ -78,7 +78,7 @@ fn iso_records_behind_extended_dates(rt: HostRuntime) {
     }
 }
 
-static WITHOUT_DATES: [(&[u8], Option<Found>); 10] = [
+const WITHOUT_DATES: [(&[u8], Option<Found>); 10] = [
     (b"03,5x", Some((3, 30, 0, 0, 1))),
     (b"03", Some((3, 0, 0, 0, 0))),
     (b"0304.5", Some((3, 4, 30, 0, 0))),

@@ -6,7 +6,7 @@ use time_record::Parsed;
 use time_tests_fields::same;
 use time_values::Month;
 
-static STAMPS: [&[u8]; 10] = [
+const STAMPS: [&[u8]; 10] = [
     b"1985-04-12T23:20:50.52Z",
     b"1990-12-31T15:59:60-08:00",
     b"1990-12-30T23:59:60Z",
@@ -19,7 +19,7 @@ static STAMPS: [&[u8]; 10] = [
     b"",
 ];
 
-static MAIL_DATES: [&[u8]; 8] = [
+const MAIL_DATES: [&[u8]; 8] = [
     b"Mon, 02 Jan 2021 03:04:05 +0607",
     b"02 Jan 49 03:04 EST",
     b"02 Jan 2021 03:04 -0030",

@@ -38,7 +38,7 @@ const TRAILING: ParseFromDescription = ParseFromDescription::UnexpectedTrailingC
 
 // What stands before and behind each place of a mail date that takes comments, and how a comment there that
 // is none is refused.
-static PLACES: [(&[u8], &[u8], ParseFromDescription); 12] = [
+const PLACES: [(&[u8], &[u8], ParseFromDescription); 12] = [
     (b"", b"Sat, 02 Jan 21 03:04:05 +0000", DAY),
     (b"", b"02 Jan 21 03:04:05 +0000", DAY),
     (b"Sat,", b"02 Jan 21 03:04:05 +0000", DAY),

@@ -30,20 +30,9 @@ struct FirstSixteen<'a> {
     after: &'a [u8],
 }
 
-// A date of the calendar and a time up to the second. `None`: not this form.
-#[inline(always)]
-pub(in crate::iso8601) fn date_and_time(input: &[u8]) -> Option<DateAndTime<'_>>
-    ensures { IfSome result (λ p. GivesDateAndTime input.now (Ok p)) }
-{
-    match extended_date_and_time(input) {
-        Some(found) => Some(found),
-        None => basic_date_and_time(input),
-    }
-}
-
 // A date of the calendar and a time up to the second, with separators. `None`: not this form.
 #[inline(always)]
-fn extended_date_and_time(input: &[u8]) -> Option<DateAndTime<'_>>
+pub(in crate::iso8601) fn extended_date_and_time(input: &[u8]) -> Option<DateAndTime<'_>>
     ensures { IfSome result (λ p. GivesDateAndTime input.now (Ok p)) }
 {
     date_and_time_of(extended_first_sixteen(input)?)
@@ -51,7 +40,7 @@ fn extended_date_and_time(input: &[u8]) -> Option<DateAndTime<'_>>
 
 // A date of the calendar and a time up to the second, without separators, and a byte after it. `None`: not this form.
 #[inline(always)]
-fn basic_date_and_time(input: &[u8]) -> Option<DateAndTime<'_>>
+pub(in crate::iso8601) fn basic_date_and_time(input: &[u8]) -> Option<DateAndTime<'_>>
     ensures { IfSome result (λ p. GivesDateAndTime input.now (Ok p)) }
 {
     date_and_time_of(basic_first_sixteen(input)?)

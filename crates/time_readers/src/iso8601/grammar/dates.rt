@@ -10,7 +10,7 @@ use crate::iso8601::{DateNumbers, ExtendedKind, Part};
 use time_values::error::ParseFromDescription;
 
 // The date of a text.
-#[inline]
+#[inline(always)]
 #[tactic(auto, unfolding(crate::specs::IsoDates::date_text))]
 pub(in crate::iso8601) fn date(input: &[u8]) -> Result<Part<'_, DateNumbers>, ParseFromDescription>
     ensures { GivesPartOrFault spec.iso_date (spec.date_text input.now) result }

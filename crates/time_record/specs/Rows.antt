@@ -52,18 +52,14 @@ row_of_three row (Some a) (Some b) None = None
 row_of_three row (Some a) None c = None
 row_of_three row None b c = None
 
--- the first of the rows by a week whose numbers are all known
-abbrev pub week_row : Record → Option Row
-week_row r =
-    option_or (row_of_three by_iso_week (full_iso_year r) r.iso_week_number r.weekday)
-    (option_or (row_of_three by_sunday_week (full_year r) r.sunday_week_number r.weekday)
-    (row_of_three by_monday_week (full_year r) r.monday_week_number r.weekday))
-
 -- the first of the five rows whose numbers are all known
 abbrev pub first_row : Record → Option Row
 first_row r =
     option_or (row_of_two by_ordinal (full_year r) r.ordinal)
-    (option_or (row_of_three by_month_and_day (full_year r) r.month r.day) (week_row r))
+    (option_or (row_of_three by_month_and_day (full_year r) r.month r.day)
+    (option_or (row_of_three by_iso_week (full_iso_year r) r.iso_week_number r.weekday)
+    (option_or (row_of_three by_sunday_week (full_year r) r.sunday_week_number r.weekday)
+    (row_of_three by_monday_week (full_year r) r.monday_week_number r.weekday))))
 
 -- the date lies in that year and week and has that weekday, where weeks begin on the weekday
 -- `start`, and the days before the first such weekday are week 0

@@ -1,15 +1,16 @@
 //! The date of a record.
-ghost use Rattle.std.specs.Prelude.{◌≡◌, ◌+◌, ◌-◌, ◌/◌, ◌%◌, ◌≤◌, Some, None, Err, IfSome, IsTrue, MatchOption, MatchResult, unsigned_abs, codes, true};
+ghost use Rattle.std.specs.Prelude.{◌≡◌, ◌+◌, ◌-◌, ◌/◌, ◌%◌, ◌≤◌, Some, None, IfSome, IsTrue, MatchResult, unsigned_abs, codes, true};
 ghost use Rattle.std.specs.Int.NonZero.{non_zero_u8_get, non_zero_u16_get};
 ghost use Rattle.time_values.specs.DateRefusals.{is_year};
 ghost use Rattle.time_values.specs.Range.{greatest_year};
-ghost use Rattle.time_values.specs.Refusal.{insufficient, range};
+ghost use Rattle.time_values.specs.Refusal.{range};
 ghost use Rattle.time_values.specs.Weekday.{days_from_monday};
 ghost use Rattle.time_values.specs.declared.date.Date.{Date};
-ghost use Rattle.time_record.specs.Rows.{year_of, week_row, full_year, full_iso_year, by_ordinal, by_month_and_day, by_iso_week, IsRowDate, IsWeekDate};
+ghost use Rattle.time_record.specs.Rows.{year_of, full_year, full_iso_year, by_ordinal, by_month_and_day, by_iso_week, IsRowDate, IsWeekDate};
 ghost use Rattle.time_record.specs.Resolution.{IsDated, parsed_seen};
 
 use crate::Parsed;
+use crate::parsed::try_from::date_of;
 use std::convert::TryFrom;
 use std::num::NonZero;
 use time_values::error::{ComponentRange, TryFromParsed};
@@ -32,34 +33,19 @@ impl TryFrom<Parsed> for Date {
     }
 }
 
-// The date of a record by the first of its rows. Those of an ordinal, and of a month and a day, stand in line.
-#[inline(always)]
+// The date of a record by the first of its rows.
+#[inline(never)]
 #[tactic(auto, unfolding(crate::specs::Resolution::IsDated))]
-pub(super) fn date_of(parsed: &Parsed) -> Result<Date, TryFromParsed>
+pub(super) fn date_of_rows(parsed: &Parsed) -> Result<Date, TryFromParsed>
     ensures { IsDated greatest_year parsed.now (parsed_seen result) }
 {
-    let Some(year) = calendar_year(parsed) else {
-        return date_of_week(parsed);
-    };
-    if let Some(ordinal) = parsed.ordinal() {
+    let year = calendar_year(parsed);
+    if let (Some(year), Some(ordinal)) = (year, parsed.ordinal()) {
         return ordinal_date(year, ordinal);
     }
-    let Some(month) = parsed.month() else {
-        return date_of_week(parsed);
-    };
-    let Some(day) = parsed.day() else {
-        return date_of_week(parsed);
-    };
-    calendar_date(year, month, day)
-}
-
-// The date of a record by the first of its rows that have a week.
-#[inline(never)]
-fn date_of_week(parsed: &Parsed) -> Result<Date, TryFromParsed>
-    ensures { MatchOption (week_row parsed.now) (parsed_seen result ≡ Err insufficient)
-        (λ row. IsRowDate greatest_year row (parsed_seen result)) }
-{
-    let year = calendar_year(parsed);
+    if let (Some(year), Some(month), Some(day)) = (year, parsed.month(), parsed.day()) {
+        return calendar_date(year, month, day);
+    }
     let weekday = parsed.weekday();
     if let (Some(year), Some(week), Some(weekday)) = (
         iso_year(parsed),
@@ -134,7 +120,11 @@ fn ordinal_date(year: i32, ordinal: NonZero<u16>) -> Result<Date, TryFromParsed>
 
 // The date of a year, a month and a day.
 #[inline]
-fn calendar_date(year: i32, month: Month, day: NonZero<u8>) -> Result<Date, TryFromParsed>
+pub(super) fn calendar_date(
+    year: i32,
+    month: Month,
+    day: NonZero<u8>,
+) -> Result<Date, TryFromParsed>
     requires { IsTrue (is_year greatest_year year) }
     ensures { IsRowDate greatest_year (by_month_and_day year month (non_zero_u8_get day))
         (parsed_seen result) }

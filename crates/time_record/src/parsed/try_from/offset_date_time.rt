@@ -8,35 +8,41 @@ ghost use Rattle.time_values.specs.Range.{greatest_year};
 ghost use Rattle.time_record.specs.Resolution.{IsMoment, IsMomentOfParts, IsStamped, is_leap_second, parsed_seen};
 
 use crate::Parsed;
-use crate::parsed::try_from::date::date_of;
+use crate::parsed::cells::{DAY, HOUR_24, MINUTE, MONTH, SECOND, YEAR};
+use crate::parsed::try_from::date_of;
 use crate::parsed::try_from::leap_second::{is_leap_second, misplaced, stand_in};
 use crate::parsed::try_from::offset::offset_of;
-use std::convert::TryFrom;
 use time_values::OffsetDateTime;
 use time_values::error::TryFromParsed;
 
-/// The moment of the timestamp, at offset 0 and with a known subsecond in place of its own, or
-/// else the date, time and offset of the record, with their refusals in that order.
-///
-/// A leap second that is allowed counts as the last nanosecond before it, and is refused as
-/// `second`, for the other components, where that is no month's end in UTC.
-impl TryFrom<Parsed> for OffsetDateTime {
-    type Error = TryFromParsed;
+// The moment of a record. This is no second way of reading, but says where code stands: the refusals of the usual
+// components stand in line, so that a record of which the compiler knows that they are there needs no place in memory.
+#[inline(always)]
+#[tactic(auto, unfolding(crate::specs::Resolution::IsMoment))]
+pub(super) fn moment_or_refusal(parsed: &Parsed) -> Result<OffsetDateTime, TryFromParsed>
+    ensures { IsMoment greatest_year parsed.now (parsed_seen result) }
+{
+    let is_usual = parsed.has(YEAR, MONTH, DAY) && parsed.has(HOUR_24, MINUTE, SECOND);
+    if !is_usual || parsed.unix_timestamp_nanos().is_some() {
+        return moment_of(parsed);
+    }
+    moment_of_parts(parsed)
+}
 
-    ghost try_from_gives = { λ p r. IsMoment greatest_year p (parsed_seen r) };
-
-    #[inline(always)]
-    #[tactic(auto, unfolding(crate::specs::Resolution::IsMoment))]
-    fn try_from(parsed: Parsed) -> Result<OffsetDateTime, TryFromParsed> {
-        match parsed.unix_timestamp_nanos() {
-            Some(nanos) => moment_at(nanos, parsed.subsecond()),
-            None => moment_of_parts(&parsed),
-        }
+// The moment of a record, whatever it has.
+#[inline(never)]
+#[tactic(auto, unfolding(crate::specs::Resolution::IsMoment))]
+fn moment_of(parsed: &Parsed) -> Result<OffsetDateTime, TryFromParsed>
+    ensures { IsMoment greatest_year parsed.now (parsed_seen result) }
+{
+    match parsed.unix_timestamp_nanos() {
+        Some(nanos) => moment_at(nanos, parsed.subsecond()),
+        None => moment_of_parts(parsed),
     }
 }
 
 // The moment of a timestamp, with that nanosecond of its second where one is given.
-#[inline(never)]
+#[inline]
 fn moment_at(nanos: i128, subsecond: Option<u32>) -> Result<OffsetDateTime, TryFromParsed>
     requires nanos { IsTrue (is_instant greatest_year nanos) }
     requires subsecond { ForSome subsecond (λ n. n ≤ 999_999_999) }

@@ -1,5 +1,6 @@
 //! The values that a record makes, by a fixed precedence of its components.
 mod date;
+mod fast;
 mod leap_second;
 mod offset;
 mod offset_date_time;
@@ -7,3 +8,60 @@ mod plain_date_time;
 mod time;
 mod timestamp;
 mod utc_date_time;
+
+ghost use Rattle.time_values.specs.Range.{greatest_year};
+ghost use Rattle.time_record.specs.Resolution.{IsDated, IsMoment, IsPlain, parsed_seen};
+
+use crate::Parsed;
+use crate::parsed::try_from::date::{calendar_date, date_of_rows};
+use crate::parsed::try_from::offset_date_time::moment_or_refusal;
+use crate::parsed::try_from::plain_date_time::date_and_time;
+use std::convert::TryFrom;
+use time_values::error::TryFromParsed;
+use time_values::{Date, OffsetDateTime, PlainDateTime};
+
+// The date of a record.
+#[inline(always)]
+#[tactic(auto, unfolding(crate::specs::Resolution::IsDated))]
+fn date_of(parsed: &Parsed) -> Result<Date, TryFromParsed>
+    ensures { IsDated greatest_year parsed.now (parsed_seen result) }
+{
+    match fast::year_month_day(parsed) {
+        Some((year, month, day)) => calendar_date(year, month, day),
+        None => date_of_rows(parsed),
+    }
+}
+
+/// The date and the time of the record, with their refusals, the date's first.
+impl TryFrom<Parsed> for PlainDateTime {
+    type Error = TryFromParsed;
+
+    ghost try_from_gives = { λ p r. IsPlain greatest_year p (parsed_seen r) };
+
+    #[inline(always)]
+    fn try_from(parsed: Parsed) -> Result<PlainDateTime, TryFromParsed> {
+        match fast::date_and_time(&parsed) {
+            Some(date_time) => Ok(date_time),
+            None => date_and_time(&parsed),
+        }
+    }
+}
+
+/// The moment of the timestamp, at offset 0 and with a known subsecond in place of its own, or
+/// else the date, time and offset of the record, with their refusals in that order.
+///
+/// A leap second that is allowed counts as the last nanosecond before it, and is refused as
+/// `second`, for the other components, where that is no month's end in UTC.
+impl TryFrom<Parsed> for OffsetDateTime {
+    type Error = TryFromParsed;
+
+    ghost try_from_gives = { λ p r. IsMoment greatest_year p (parsed_seen r) };
+
+    #[inline(always)]
+    fn try_from(parsed: Parsed) -> Result<OffsetDateTime, TryFromParsed> {
+        match fast::moment(&parsed) {
+            Some(moment) => Ok(moment),
+            None => moment_or_refusal(&parsed),
+        }
+    }
+}

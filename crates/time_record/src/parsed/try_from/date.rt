@@ -1,16 +1,16 @@
 //! The date of a record.
-ghost use Rattle.std.specs.Prelude.{◌≡◌, ◌+◌, ◌-◌, ◌/◌, ◌%◌, ◌≤◌, Some, None, Ok, IfSome, IsTrue, MatchResult, unsigned_abs, codes, true};
+ghost use Rattle.std.specs.Prelude.{◌≡◌, ◌+◌, ◌-◌, ◌/◌, ◌%◌, ◌≤◌, Some, None, IfSome, IsTrue, MatchResult, unsigned_abs, codes, true};
 ghost use Rattle.std.specs.Int.NonZero.{non_zero_u8_get, non_zero_u16_get};
 ghost use Rattle.time_values.specs.DateRefusals.{is_year};
 ghost use Rattle.time_values.specs.Range.{greatest_year};
 ghost use Rattle.time_values.specs.Refusal.{range};
 ghost use Rattle.time_values.specs.Weekday.{days_from_monday};
 ghost use Rattle.time_values.specs.declared.date.Date.{Date};
-ghost use Rattle.time_record.specs.Rows.{year_of, first_row, full_year, full_iso_year, by_ordinal, by_month_and_day, by_iso_week, IsRowDate, IsWeekDate};
+ghost use Rattle.time_record.specs.Rows.{year_of, full_year, full_iso_year, by_ordinal, by_month_and_day, by_iso_week, IsRowDate, IsWeekDate};
 ghost use Rattle.time_record.specs.Resolution.{IsDated, parsed_seen};
 
 use crate::Parsed;
-use crate::parsed::cells::{DAY, MONTH, ORDINAL, YEAR};
+use crate::parsed::try_from::date_of;
 use std::convert::TryFrom;
 use std::num::NonZero;
 use time_values::error::{ComponentRange, TryFromParsed};
@@ -29,56 +29,14 @@ impl TryFrom<Parsed> for Date {
 
     #[inline(always)]
     fn try_from(parsed: Parsed) -> Result<Date, TryFromParsed> {
-        match usual_date(&parsed) {
-            Some(date) => Ok(date),
-            None => date_of(&parsed),
-        }
+        date_of(&parsed)
     }
-}
-
-// The date of a record that has the usual components, year, month and day; `None` says nothing.
-#[inline(always)]
-#[tactic(auto, unfolding(crate::specs::Resolution::IsDated))]
-pub(super) fn usual_date(parsed: &Parsed) -> Option<Date>
-    ensures { IfSome result (λ d. IsDated greatest_year parsed.now (Ok d)) }
-{
-    let (year, month, day) = year_month_day(parsed)?;
-    match calendar_date(year, month, day) {
-        Ok(date) => Some(date),
-        Err(_) => None,
-    }
-}
-
-// The date of a record.
-#[inline(always)]
-#[tactic(auto, unfolding(crate::specs::Resolution::IsDated))]
-pub(super) fn date_of(parsed: &Parsed) -> Result<Date, TryFromParsed>
-    ensures { IsDated greatest_year parsed.now (parsed_seen result) }
-{
-    match year_month_day(parsed) {
-        Some((year, month, day)) => calendar_date(year, month, day),
-        None => date_of_rows(parsed),
-    }
-}
-
-// The year, month and day where they are the row of a record, as in most: all three are there, and
-// no ordinal is before them.
-#[inline(always)]
-fn year_month_day(parsed: &Parsed) -> Option<(i32, Month, NonZero<u8>)>
-    ensures row { IfSome result (λ p. first_row parsed.now
-        ≡ Some (by_month_and_day p.0 p.1 (non_zero_u8_get p.2))) }
-    ensures in_range { IfSome result (λ p. IsTrue (is_year greatest_year p.0)) }
-{
-    if !parsed.has(YEAR, MONTH, DAY) || parsed.flag(ORDINAL) {
-        return None;
-    }
-    Some((parsed.year()?, parsed.month()?, parsed.day()?))
 }
 
 // The date of a record by the first of its rows.
 #[inline(never)]
 #[tactic(auto, unfolding(crate::specs::Resolution::IsDated))]
-fn date_of_rows(parsed: &Parsed) -> Result<Date, TryFromParsed>
+pub(super) fn date_of_rows(parsed: &Parsed) -> Result<Date, TryFromParsed>
     ensures { IsDated greatest_year parsed.now (parsed_seen result) }
 {
     let year = calendar_year(parsed);
@@ -162,7 +120,11 @@ fn ordinal_date(year: i32, ordinal: NonZero<u16>) -> Result<Date, TryFromParsed>
 
 // The date of a year, a month and a day.
 #[inline]
-fn calendar_date(year: i32, month: Month, day: NonZero<u8>) -> Result<Date, TryFromParsed>
+pub(super) fn calendar_date(
+    year: i32,
+    month: Month,
+    day: NonZero<u8>,
+) -> Result<Date, TryFromParsed>
     requires { IsTrue (is_year greatest_year year) }
     ensures { IsRowDate greatest_year (by_month_and_day year month (non_zero_u8_get day))
         (parsed_seen result) }

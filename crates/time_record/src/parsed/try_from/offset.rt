@@ -1,5 +1,5 @@
 //! The offset from UTC of a record.
-ghost use Rattle.std.specs.Prelude.{◌≡◌, Some, Ok, IfSome};
+ghost use Rattle.std.specs.Prelude.{◌≡◌, Some};
 ghost use Rattle.time_record.specs.Resolution.{IsOffset, offset_seconds_of, parsed_seen};
 
 use crate::Parsed;
@@ -19,17 +19,6 @@ impl TryFrom<Parsed> for UtcOffset {
     #[inline(always)]
     fn try_from(parsed: Parsed) -> Result<UtcOffset, TryFromParsed> {
         offset_of(&parsed)
-    }
-}
-
-// The offset of a record that has an hour of it; `None` says nothing.
-#[inline(always)]
-pub(super) fn usual_offset(parsed: &Parsed) -> Option<UtcOffset>
-    ensures { IfSome result (λ o. IsOffset parsed.now (Ok o)) }
-{
-    match offset_of(parsed) {
-        Ok(offset) => Some(offset),
-        Err(_) => None,
     }
 }
 

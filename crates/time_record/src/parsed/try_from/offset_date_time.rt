@@ -1,5 +1,5 @@
 //! The moment of a record with its offset from UTC.
-ghost use Rattle.std.specs.Prelude.{◌≡◌, ◌≤◌, false, IfSome, IsOkAnd, IsTrue, Ok};
+ghost use Rattle.std.specs.Prelude.{◌≡◌, ◌≤◌, false, IsOkAnd, IsTrue};
 ghost use Rattle.std.specs.Option.{ForSome};
 ghost use Rattle.time_values.specs.Instants.{is_instant, IsLeapSecondMoment};
 ghost use Rattle.time_values.specs.Moments as Moments;
@@ -9,65 +9,18 @@ ghost use Rattle.time_record.specs.Resolution.{IsMoment, IsMomentOfParts, IsStam
 
 use crate::Parsed;
 use crate::parsed::cells::{DAY, HOUR_24, MINUTE, MONTH, SECOND, YEAR};
-use crate::parsed::try_from::date::{date_of, usual_date};
+use crate::parsed::try_from::date_of;
 use crate::parsed::try_from::leap_second::{is_leap_second, misplaced, stand_in};
-use crate::parsed::try_from::offset::{offset_of, usual_offset};
-use crate::parsed::try_from::time::{time_with, usual_time};
-use std::convert::TryFrom;
+use crate::parsed::try_from::offset::offset_of;
+use crate::parsed::try_from::time::time_with;
 use time_values::OffsetDateTime;
 use time_values::error::TryFromParsed;
 
-/// The moment of the timestamp, at offset 0 and with a known subsecond in place of its own, or
-/// else the date, time and offset of the record, with their refusals in that order.
-///
-/// A leap second that is allowed counts as the last nanosecond before it, and is refused as
-/// `second`, for the other components, where that is no month's end in UTC.
-impl TryFrom<Parsed> for OffsetDateTime {
-    type Error = TryFromParsed;
-
-    ghost try_from_gives = { λ p r. IsMoment greatest_year p (parsed_seen r) };
-
-    #[inline(always)]
-    fn try_from(parsed: Parsed) -> Result<OffsetDateTime, TryFromParsed> {
-        match usual_moment(&parsed) {
-            Some(moment) => Ok(moment),
-            None => moment_or_refusal(&parsed),
-        }
-    }
-}
-
-// The moment of a record that has the usual components; `None` says nothing.
+// The moment of a record. This is no second way of reading, but says where code stands: the refusals of the usual
+// components stand in line, so that a record of which the compiler knows that they are there needs no place in memory.
 #[inline(always)]
 #[tactic(auto, unfolding(crate::specs::Resolution::IsMoment))]
-fn usual_moment(parsed: &Parsed) -> Option<OffsetDateTime>
-    ensures { IfSome result (λ v. IsMoment greatest_year parsed.now (Ok v)) }
-{
-    if parsed.unix_timestamp_nanos().is_some() {
-        return None;
-    }
-    usual_moment_of_parts(parsed)
-}
-
-// The moment of the usual components of a date, a time and an offset; `None` says nothing.
-#[inline(always)]
-#[tactic(auto, unfolding(crate::specs::Resolution::IsMomentOfParts))]
-fn usual_moment_of_parts(parsed: &Parsed) -> Option<OffsetDateTime>
-    ensures { IfSome result (λ v. IsMomentOfParts greatest_year parsed.now (Ok v)) }
-{
-    let date = usual_date(parsed)?;
-    let time = usual_time(parsed)?;
-    if is_leap_second(parsed) {
-        return None;
-    }
-    let offset = usual_offset(parsed)?;
-    Some(OffsetDateTime::new_in_offset(date, time, offset))
-}
-
-// The moment of a record. The refusals of the usual components stand in line, so that a record of which the compiler
-// knows that they are there needs no place in memory.
-#[inline(always)]
-#[tactic(auto, unfolding(crate::specs::Resolution::IsMoment))]
-fn moment_or_refusal(parsed: &Parsed) -> Result<OffsetDateTime, TryFromParsed>
+pub(super) fn moment_or_refusal(parsed: &Parsed) -> Result<OffsetDateTime, TryFromParsed>
     ensures { IsMoment greatest_year parsed.now (parsed_seen result) }
 {
     let is_usual = parsed.has(YEAR, MONTH, DAY) && parsed.has(HOUR_24, MINUTE, SECOND);

@@ -1,45 +1,17 @@
 //! The date and the time of a record.
-ghost use Rattle.std.specs.Prelude.{IfSome, Ok};
 ghost use Rattle.time_values.specs.Range.{greatest_year};
 ghost use Rattle.time_record.specs.Resolution.{IsPlain, parsed_seen};
 
 use crate::Parsed;
-use crate::parsed::try_from::date::{date_of, usual_date};
-use crate::parsed::try_from::time::{time_of, usual_time};
-use std::convert::TryFrom;
+use crate::parsed::try_from::date_of;
+use crate::parsed::try_from::time::time_of;
 use time_values::PlainDateTime;
 use time_values::error::TryFromParsed;
-
-/// The date and the time of the record, with their refusals, the date's first.
-impl TryFrom<Parsed> for PlainDateTime {
-    type Error = TryFromParsed;
-
-    ghost try_from_gives = { λ p r. IsPlain greatest_year p (parsed_seen r) };
-
-    #[inline(always)]
-    fn try_from(parsed: Parsed) -> Result<PlainDateTime, TryFromParsed> {
-        match usual_date_and_time(&parsed) {
-            Some(date_time) => Ok(date_time),
-            None => date_and_time(&parsed),
-        }
-    }
-}
-
-// The date and the time of a record that has the usual components; `None` says nothing.
-#[inline(always)]
-#[tactic(auto, unfolding(crate::specs::Resolution::IsPlain))]
-fn usual_date_and_time(parsed: &Parsed) -> Option<PlainDateTime>
-    ensures { IfSome result (λ p. IsPlain greatest_year parsed.now (Ok p)) }
-{
-    let date = usual_date(parsed)?;
-    let time = usual_time(parsed)?;
-    Some(PlainDateTime::new(date, time))
-}
 
 // The date and the time of a record.
 #[inline(always)]
 #[tactic(auto, unfolding(crate::specs::Resolution::IsPlain))]
-fn date_and_time(parsed: &Parsed) -> Result<PlainDateTime, TryFromParsed>
+pub(super) fn date_and_time(parsed: &Parsed) -> Result<PlainDateTime, TryFromParsed>
     ensures { IsPlain greatest_year parsed.now (parsed_seen result) }
 {
     let date = date_of(parsed)?;

@@ -1,9 +1,8 @@
 //! The time of a record.
-ghost use Rattle.std.specs.Prelude.{◌≡◌, ◌≤◌, Some, Ok, IfSome};
-ghost use Rattle.time_record.specs.Resolution.{IsTimed, hour_of, hour_of_half, parsed_seen};
+ghost use Rattle.std.specs.Prelude.{◌≡◌};
+ghost use Rattle.time_record.specs.Resolution.{IsTimed, hour_of, parsed_seen};
 
 use crate::Parsed;
-use crate::parsed::cells::{HOUR_24, MINUTE, SECOND};
 use std::convert::TryFrom;
 use std::num::NonZero;
 use time_values::Time;
@@ -25,46 +24,12 @@ impl TryFrom<Parsed> for Time {
     }
 }
 
-// The time of a record that has the usual components, the hour of the day, minute and second; `None`
-// says nothing. A second of 60 is none of them, whether refused or a leap second.
-#[inline(always)]
-#[tactic(auto, unfolding(crate::specs::Resolution::IsTimed))]
-pub(super) fn usual_time(parsed: &Parsed) -> Option<Time>
-    ensures { IfSome result (λ t. IsTimed parsed.now (Ok t)) }
-{
-    let (hour, minute, second) = hour_minute_second(parsed)?;
-    if second == 60 {
-        return None;
-    }
-    let nanosecond = parsed.subsecond().unwrap_or(0);
-    match Time::from_hms_nano(hour, minute, second, nanosecond) {
-        Ok(time) => Some(time),
-        Err(_) => None,
-    }
-}
-
 // The time of a record.
 #[inline(always)]
 pub(super) fn time_of(parsed: &Parsed) -> Result<Time, TryFromParsed>
     ensures { IsTimed parsed.now (parsed_seen result) }
 {
-    match usual_time(parsed) {
-        Some(time) => Ok(time),
-        None => time_with(parsed, parsed.second(), parsed.subsecond()),
-    }
-}
-
-// The hour of the day, the minute and the second where all three are there, as in most records.
-#[inline(always)]
-fn hour_minute_second(parsed: &Parsed) -> Option<(u8, u8, u8)>
-    ensures hour { IfSome result (λ t. parsed.now.hour_24 ≡ Some t.0) }
-    ensures minute { IfSome result (λ t. parsed.now.minute ≡ Some t.1) }
-    ensures second { IfSome result (λ t. parsed.now.second ≡ Some t.2) }
-{
-    if !parsed.has(HOUR_24, MINUTE, SECOND) {
-        return None;
-    }
-    Some((parsed.hour_24()?, parsed.minute()?, parsed.second()?))
+    time_with(parsed, parsed.second(), parsed.subsecond())
 }
 
 // The time of a record, with that second and subsecond in place of its own.

@@ -7,7 +7,7 @@ ghost use Rattle.time_values.specs.Range.{greatest_year};
 ghost use Rattle.time_record.specs.Resolution.{IsInUtc, IsOffsetOrUtc, IsStamped, IsUtcMoment, IsUtcMomentOfParts, parsed_seen};
 
 use crate::Parsed;
-use crate::parsed::try_from::date::date_of;
+use crate::parsed::try_from::date_of;
 use crate::parsed::try_from::leap_second::{is_leap_second, misplaced, stand_in};
 use crate::parsed::try_from::offset::offset_of;
 use crate::parsed::try_from::time::time_with;

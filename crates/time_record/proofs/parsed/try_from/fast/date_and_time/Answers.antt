@@ -1,6 +1,6 @@
 use Rattle.time_record.specs.Resolution.{IsPlain}
 use Rattle.time_record.proofs.ResolutionLemmas.{Then-next}
-use Rattle.time_record.proofs.parsed.try_from.plain_date_time.usual_date_and_time.Goals as goal
+use Rattle.time_record.proofs.parsed.try_from.fast.date_and_time.Goals as goal
 
 pub returns : goal.returns
 unfolding IsPlain

@@ -2,7 +2,7 @@ use Rattle.std.proofs.Common.{sym, ◌∙◌}
 use Rattle.std.proofs.lemmas.Bool.{false≢true}
 use Rattle.time_record.specs.Resolution.{IsMomentOfParts}
 use Rattle.time_record.proofs.ResolutionLemmas.{IsTimed-no_leap, Then-next}
-use Rattle.time_record.proofs.parsed.try_from.offset_date_time.usual_moment_of_parts.Goals as goal
+use Rattle.time_record.proofs.parsed.try_from.fast.moment_of_parts.Goals as goal
 
 pub returns : goal.returns
 unfolding IsMomentOfParts

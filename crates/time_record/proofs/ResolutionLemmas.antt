@@ -1,5 +1,5 @@
 -- A record makes one value of each kind, or one refusal.
-use Rattle.std.proofs.Common.{◌≡◌, ℕ, ℤ, Bool, true, false, if◌then◌else◌, Option, Some, None, Result, Ok, Err, MatchOption, IsOkAnd, ◌⊎◌, inl, inr, sym, ap, subst, ◌∙◌, arith}
+use Rattle.std.proofs.Common.{◌≡◌, ℕ, ℤ, Bool, false, if◌then◌else◌, Option, Some, None, Result, Ok, Err, MatchOption, IsOkAnd, ◌⊎◌, inl, inr, sym, ap, subst, ◌∙◌, arith}
 use Rattle.std.specs.Prelude.{unwrap_or}
 use Rattle.time_values.specs.declared.date.Date.{Date}
 use Rattle.time_values.specs.declared.offset_date_time.OffsetDateTime.{OffsetDateTime}
@@ -37,16 +37,10 @@ Ok-Err a e h = cc
 pub Then-next : {A Stops : Type 0} {Gives Next : A → Type 0} (a : A) → Gives a → Next a → Stops ⊎ ((a : A) × Gives a × Next a)
 Then-next a given next = inr (a, given, next)
 
--- the time of a record, by whether its second is a leap second
-abbrev by_leap : Record → Result Time Refusal → Bool → Type 0
-by_leap r result leap = IsTimed (if leap then record r { second = Some 59; subsecond = Some 999_999_999 } else r) result
-
-pub IsTimed_leap : (r : Record) (result : Result Time Refusal) → is_leap_second r ≡ true →
-    IsTimed (record r { second = Some 59; subsecond = Some 999_999_999 }) result → IsTimed (stand_in r) result
-IsTimed_leap r result is timed = subst (by_leap r result) (sym is) timed
-
-pub IsTimed_no_leap : (r : Record) (result : Result Time Refusal) → is_leap_second r ≡ false → IsTimed r result → IsTimed (stand_in r) result
-IsTimed_no_leap r result none timed = subst (by_leap r result) (sym none) timed
+-- without a leap second the time of a record is its own
+pub IsTimed-no_leap : (r : Record) (result : Result Time Refusal) → is_leap_second r ≡ false → IsTimed r result → IsTimed (stand_in r) result
+IsTimed-no_leap r result none timed =
+    subst (λ (leap : Bool). IsTimed (if leap then record r { second = Some 59; subsecond = Some 999_999_999 } else r) result) (sym none) timed
 
 -- steps that each have one answer have one answer together
 Then-one : {A B : Type 0} (First : Result A Refusal → Type 0) (Next : A → Result B Refusal → Type 0) →

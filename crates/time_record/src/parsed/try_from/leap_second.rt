@@ -2,11 +2,8 @@
 ghost use Rattle.std.specs.Prelude.{◌≡◌, codes, true};
 ghost use Rattle.time_values.specs.Refusal.{range, refusal_of_parsed};
 ghost use Rattle.time_record.specs.Resolution as Resolution;
-ghost use Rattle.time_record.specs.Resolution.{IsTimed, parsed_seen};
 
 use crate::Parsed;
-use crate::parsed::try_from::time::{time_of, time_with};
-use time_values::Time;
 use time_values::error::{ComponentRange, TryFromParsed};
 
 // Whether the record's second is a leap second that is allowed.
@@ -17,16 +14,17 @@ pub(super) fn is_leap_second(parsed: &Parsed) -> bool
     parsed.is_leap_second_allowed() && parsed.second() == Some(60)
 }
 
-// The time of a record, with the last nanosecond before a leap second in its place.
+// The second and the subsecond of a record, with the last nanosecond before a leap second in its
+// place.
 #[inline(always)]
-#[tactic(auto, using(crate::proofs::ResolutionLemmas::IsTimed_leap, crate::proofs::ResolutionLemmas::IsTimed_no_leap))]
-pub(super) fn stand_in(parsed: &Parsed) -> Result<Time, TryFromParsed>
-    ensures { IsTimed (Resolution.stand_in parsed.now) (parsed_seen result) }
+pub(super) fn stand_in(parsed: &Parsed) -> (Option<u8>, Option<u32>)
+    ensures { record parsed.now { second = result.0; subsecond = result.1 }
+        ≡ Resolution.stand_in parsed.now }
 {
     if is_leap_second(parsed) {
-        time_with(parsed, Some(59), Some(999_999_999))
+        (Some(59), Some(999_999_999))
     } else {
-        time_of(parsed)
+        (parsed.second(), parsed.subsecond())
     }
 }
 

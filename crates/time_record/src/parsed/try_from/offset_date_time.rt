@@ -12,6 +12,7 @@ use crate::parsed::cells::{DAY, HOUR_24, MINUTE, MONTH, SECOND, YEAR};
 use crate::parsed::try_from::date_of;
 use crate::parsed::try_from::leap_second::{is_leap_second, misplaced, stand_in};
 use crate::parsed::try_from::offset::offset_of;
+use crate::parsed::try_from::time::time_with;
 use time_values::OffsetDateTime;
 use time_values::error::TryFromParsed;
 
@@ -64,7 +65,8 @@ fn moment_of_parts(parsed: &Parsed) -> Result<OffsetDateTime, TryFromParsed>
     ensures { IsMomentOfParts greatest_year parsed.now (parsed_seen result) }
 {
     let date = date_of(parsed)?;
-    let time = stand_in(parsed)?;
+    let (second, subsecond) = stand_in(parsed);
+    let time = time_with(parsed, second, subsecond)?;
     let offset = offset_of(parsed)?;
     let moment = OffsetDateTime::new_in_offset(date, time, offset);
     if !leap_second_may_stand(parsed, moment) {

@@ -10,6 +10,7 @@ use crate::Parsed;
 use crate::parsed::try_from::date_of;
 use crate::parsed::try_from::leap_second::{is_leap_second, misplaced, stand_in};
 use crate::parsed::try_from::offset::offset_of;
+use crate::parsed::try_from::time::time_with;
 use std::convert::TryFrom;
 use time_values::error::{ComponentRange, TryFromParsed};
 use time_values::{OffsetDateTime, UtcDateTime, UtcOffset};
@@ -58,7 +59,8 @@ pub(super) fn moment_of_parts(parsed: &Parsed) -> Result<UtcDateTime, TryFromPar
     ensures { IsUtcMomentOfParts greatest_year parsed.now (parsed_seen result) }
 {
     let date = date_of(parsed)?;
-    let time = stand_in(parsed)?;
+    let (second, subsecond) = stand_in(parsed);
+    let time = time_with(parsed, second, subsecond)?;
     let offset = offset_or_utc(parsed)?;
     let moment = in_utc(OffsetDateTime::new_in_offset(date, time, offset))?;
     if is_leap_second(parsed) && !moment.is_valid_leap_second_stand_in() {

@@ -10,33 +10,37 @@ pub returns-in_err-time : goal.returns-in_err-time
 unfolding IsUtcMomentOfParts
 returns-in_err-time c =
     let p = err_from_is_err_and c.from_residual-in_err-time.result c.from_residual-in_err-time.ensures.1 in
-    rw (p.1, p.2) (Then-next c.in_ok-date.date c.in_ok-date.ensures (inl (_, c.in_err-time.ensures, refl)))
+    let timed = rw c.stand_in-second.ensures at c.in_err-time.ensures in
+    rw (p.1, p.2) (Then-next c.in_ok-date.date c.in_ok-date.ensures (inl (_, timed, refl)))
 
 pub returns-in_err-offset : goal.returns-in_err-offset
 unfolding IsUtcMomentOfParts
 returns-in_err-offset c =
     let p = err_from_is_err_and c.from_residual-in_err-offset.result c.from_residual-in_err-offset.ensures.1 in
+    let timed = rw c.stand_in-second.ensures at c.in_ok-time.ensures in
     rw (p.1, p.2) (Then-next c.in_ok-date.date c.in_ok-date.ensures
-    (Then-next c.in_ok-time.time c.in_ok-time.ensures (inl (_, c.in_err-offset.ensures, refl))))
+    (Then-next c.in_ok-time.time timed (inl (_, c.in_err-offset.ensures, refl))))
 
 pub returns-in_err-moment : goal.returns-in_err-moment
 unfolding IsUtcMomentOfParts
 returns-in_err-moment c =
     let p = err_from_is_err_and c.from_residual-in_err-moment.result c.from_residual-in_err-moment.ensures.1 in
+    let timed = rw c.stand_in-second.ensures at c.in_ok-time.ensures in
     let parts = c.new_in_offset.ensures in
     let refused = rw (parts.date, parts.time, parts.offset) at c.in_err-moment.ensures in
     rw (p.1, p.2) (Then-next c.in_ok-date.date c.in_ok-date.ensures
-    (Then-next c.in_ok-time.time c.in_ok-time.ensures
+    (Then-next c.in_ok-time.time timed
     (Then-next c.in_ok-offset.offset c.in_ok-offset.ensures (inl (_, refused, refl)))))
 
 pub returns-then-not-is_valid_leap_second_stand_in : goal.returns-then-not-is_valid_leap_second_stand_in
 unfolding IsUtcMomentOfParts
 returns-then-not-is_valid_leap_second_stand_in c =
+    let timed = rw c.stand_in-second.ensures at c.in_ok-time.ensures in
     let parts = c.new_in_offset.ensures in
     let seen = rw (parts.date, parts.time, parts.offset) at c.in_ok-moment.ensures in
     let leap = sym c.is_leap_second.ensures ∙ c.if-is_leap_second.true in
     Then-next c.in_ok-date.date c.in_ok-date.ensures
-    (Then-next c.in_ok-time.time c.in_ok-time.ensures
+    (Then-next c.in_ok-time.time timed
     (Then-next c.in_ok-offset.offset c.in_ok-offset.ensures
     (Then-next c.in_ok-moment.moment seen
     (leap, λ end. let found = c.is_valid_leap_second_stand_in.ensures.1 end in cc, c.misplaced.ensures))))
@@ -44,10 +48,11 @@ returns-then-not-is_valid_leap_second_stand_in c =
 pub returns : goal.returns
 unfolding IsUtcMomentOfParts
 returns c =
+    let timed = rw c.stand_in-second.ensures at c.in_ok-time.ensures in
     let parts = c.new_in_offset.ensures in
     let seen = rw (parts.date, parts.time, parts.offset) at c.in_ok-moment.ensures in
     Then-next c.in_ok-date.date c.in_ok-date.ensures
-    (Then-next c.in_ok-time.time c.in_ok-time.ensures
+    (Then-next c.in_ok-time.time timed
     (Then-next c.in_ok-offset.offset c.in_ok-offset.ensures
     (Then-next c.in_ok-moment.moment seen (
       (refl, refl),

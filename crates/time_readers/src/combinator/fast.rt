@@ -48,10 +48,13 @@ fn digits_of_word<const N: u8>(input: &[u8]) -> Option<ParsedItem<'_, u32>>
 pub(super) fn fraction(input: &[u8]) -> Option<ParsedItem<'_, u32>>
     ensures { IfSome result (λ found. Cut IsFraction input.now found.0.now found.1) }
 {
-    match nine_digits(input) {
-        Some(nine) => Some(ParsedItem(without_digits(nine.0), nine.1)),
-        None => fraction_by_threes(input),
+    // One test of the length for all nine.
+    if input.len() > 8 {
+        if let Some(nine) = nine_digits(input) {
+            return Some(ParsedItem(without_digits(nine.0), nine.1));
+        }
     }
+    fraction_by_threes(input)
 }
 
 // Reads a fraction of a second of exactly six digits or three. `None`: not this form.

@@ -20,7 +20,7 @@ use crate::rfc2822::{Numbers, Place, cfws, fws, opt_cfws, opt_cfws_colon_opt_cfw
 use crate::{ParsedItem, Sign, modifier};
 
 // Blanks, and then nothing or a weekday's name, a comma and blanks.
-#[inline]
+#[inline(always)]
 pub(super) fn weekday_name<'a>(input: &'a [u8], numbers: &mut Numbers) -> Option<&'a [u8]>
     ensures { Reads (Asks false place.WeekdayName numbers.old) input.now result numbers.new }
 {
@@ -38,7 +38,7 @@ pub(super) fn weekday_name<'a>(input: &'a [u8], numbers: &mut Numbers) -> Option
 }
 
 // One or two digits: 1 to 31 where ranges are asked.
-#[inline]
+#[inline(always)]
 pub(super) fn day<'a, const CHECK_RANGES: bool>(
     input: &'a [u8],
     numbers: &mut Numbers,
@@ -54,7 +54,7 @@ pub(super) fn day<'a, const CHECK_RANGES: bool>(
 }
 
 // The places from after the day to the offset.
-#[inline]
+#[inline(always)]
 pub(super) fn to_offset<'a, const CHECK_RANGES: bool>(
     input: &'a [u8],
     numbers: &mut Numbers,
@@ -65,7 +65,7 @@ pub(super) fn to_offset<'a, const CHECK_RANGES: bool>(
     time::<CHECK_RANGES>(rest, numbers)
 }
 
-#[inline]
+#[inline(always)]
 fn month_and_year<'a, const CHECK_RANGES: bool>(
     input: &'a [u8],
     numbers: &mut Numbers,
@@ -79,7 +79,7 @@ fn month_and_year<'a, const CHECK_RANGES: bool>(
     year_blanks(rest, numbers.year_is_full).ok_or(Place::YearBlanks)
 }
 
-#[inline]
+#[inline(always)]
 fn time<'a, const CHECK_RANGES: bool>(
     input: &'a [u8],
     numbers: &mut Numbers,
@@ -94,7 +94,7 @@ fn time<'a, const CHECK_RANGES: bool>(
 }
 
 // The places of the offset.
-#[inline]
+#[inline(always)]
 pub(super) fn offset<'a, const CHECK_RANGES: bool>(
     input: &'a [u8],
     numbers: &mut Numbers,
@@ -107,7 +107,7 @@ pub(super) fn offset<'a, const CHECK_RANGES: bool>(
 }
 
 // The rest of what was found, which has no value.
-#[inline]
+#[inline(always)]
 fn rest_of(answer: Option<ParsedItem<'_, ()>>) -> Option<&[u8]>
     ensures { option_copied result ≡ option_map (λ p. p.0.now) answer.entry }
 {
@@ -118,7 +118,7 @@ fn rest_of(answer: Option<ParsedItem<'_, ()>>) -> Option<&[u8]>
 }
 
 // Blanks with comments.
-#[inline]
+#[inline(always)]
 fn blanks_with_comments(input: &[u8]) -> Option<&[u8]>
     ensures { (n : Numbers) → Reads (IsSilent spec.cfws n) input.now result n }
 {
@@ -126,7 +126,7 @@ fn blanks_with_comments(input: &[u8]) -> Option<&[u8]>
 }
 
 // The first three letters of a month's name, in any case.
-#[inline]
+#[inline(always)]
 fn month_name<'a>(input: &'a [u8], numbers: &mut Numbers) -> Option<&'a [u8]>
     ensures { Reads (Asks false place.MonthName numbers.old) input.now result numbers.new }
 {
@@ -140,7 +140,7 @@ fn month_name<'a>(input: &'a [u8], numbers: &mut Numbers) -> Option<&'a [u8]>
 
 // Four digits of 1900 or later, or where four don't stand two, of which those below 50 are years from 2000 on
 // and the others from 1900 on.
-#[inline]
+#[inline(always)]
 fn year<'a>(input: &'a [u8], numbers: &mut Numbers) -> Option<&'a [u8]>
     ensures { Reads (Asks false place.Year numbers.old) input.now result numbers.new }
 {
@@ -160,7 +160,7 @@ fn year<'a>(input: &'a [u8], numbers: &mut Numbers) -> Option<&'a [u8]>
 }
 
 // Blanks, without comments after a year of four digits.
-#[inline]
+#[inline(always)]
 fn year_blanks(input: &[u8], year_is_full: bool) -> Option<&[u8]>
     ensures { (n : Numbers) → Reads (IsSilent (Rfc2822.year_blanks year_is_full) n) input.now result n }
 {
@@ -172,7 +172,7 @@ fn year_blanks(input: &[u8], year_is_full: bool) -> Option<&[u8]>
 }
 
 // Two digits: 0 to 23 where ranges are asked.
-#[inline]
+#[inline(always)]
 fn hour<'a, const CHECK_RANGES: bool>(input: &'a [u8], numbers: &mut Numbers) -> Option<&'a [u8]>
     ensures { Reads (Asks CHECK_RANGES place.Hour numbers.old) input.now result numbers.new }
 {
@@ -182,7 +182,7 @@ fn hour<'a, const CHECK_RANGES: bool>(input: &'a [u8], numbers: &mut Numbers) ->
 }
 
 // A colon between blanks.
-#[inline]
+#[inline(always)]
 fn hour_colon(input: &[u8]) -> Option<&[u8]>
     ensures { (n : Numbers) → Reads (IsSilent spec.opt_cfws_colon_opt_cfws n) input.now result n }
 {
@@ -190,7 +190,7 @@ fn hour_colon(input: &[u8]) -> Option<&[u8]>
 }
 
 // Two digits: 0 to 59 where ranges are asked.
-#[inline]
+#[inline(always)]
 fn minute<'a, const CHECK_RANGES: bool>(input: &'a [u8], numbers: &mut Numbers) -> Option<&'a [u8]>
     ensures { Reads (Asks CHECK_RANGES place.Minute numbers.old) input.now result numbers.new }
 {
@@ -200,7 +200,7 @@ fn minute<'a, const CHECK_RANGES: bool>(input: &'a [u8], numbers: &mut Numbers) 
 }
 
 // Nothing where no colon stands, or a colon with blanks and two digits: 0 to 60 where ranges are asked.
-#[inline]
+#[inline(always)]
 fn second<'a, const CHECK_RANGES: bool>(input: &'a [u8], numbers: &mut Numbers) -> Option<&'a [u8]>
     ensures { Reads (Asks CHECK_RANGES place.Second numbers.old) input.now result numbers.new }
 {
@@ -214,7 +214,7 @@ fn second<'a, const CHECK_RANGES: bool>(input: &'a [u8], numbers: &mut Numbers) 
 }
 
 // A sign and two digits: 0 to 25 where ranges are asked; or a zone name, with which no sign begins.
-#[inline]
+#[inline(always)]
 fn offset_hour<'a, const CHECK_RANGES: bool>(
     input: &'a [u8],
     numbers: &mut Numbers,
@@ -234,7 +234,7 @@ fn offset_hour<'a, const CHECK_RANGES: bool>(
 }
 
 // Two digits after a signed hour, 0 to 59 where ranges are asked, and nothing after a zone name.
-#[inline]
+#[inline(always)]
 fn offset_minute<'a, const CHECK_RANGES: bool>(
     input: &'a [u8],
     numbers: &mut Numbers,
@@ -250,7 +250,7 @@ fn offset_minute<'a, const CHECK_RANGES: bool>(
 }
 
 // Blanks or nothing.
-#[inline]
+#[inline(always)]
 fn end_blanks(input: &[u8]) -> Option<&[u8]>
     ensures { (n : Numbers) → Reads (IsSilent spec.opt_cfws n) input.now result n }
 {

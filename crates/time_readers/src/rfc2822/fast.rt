@@ -10,11 +10,10 @@ ghost use Rattle.time_readers.specs.Places.{Stand};
 ghost use Rattle.time_readers.specs.Rfc2822.{Asks, to_offset_places, offset_places};
 ghost use Rattle.time_readers.specs.declared.rfc2822.Place.TheVariants as place;
 
-use crate::ParsedItem;
 use crate::combinator::{block, sign};
-use crate::component;
 use crate::ranges::is_in_range;
 use crate::rfc2822::{Numbers, grammar};
+use crate::{ParsedItem, component};
 use std::simd::prelude::*;
 
 // The least and the greatest byte at each of the first sixteen places, as of ` Jan 2021 03:04:`.

@@ -94,7 +94,7 @@ fn time<'a, const CHECK_RANGES: bool>(
 }
 
 // The places of the offset.
-#[inline(always)]
+#[inline]
 pub(super) fn offset<'a, const CHECK_RANGES: bool>(
     input: &'a [u8],
     numbers: &mut Numbers,

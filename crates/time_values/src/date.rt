@@ -11,8 +11,8 @@ use crate::error::ComponentRange;
 use crate::{Month, Weekday, days};
 use std::fmt;
 
-/// A day of the proleptic Gregorian calendar, in the years -999999 to 999999.
-#[derive(Clone, Copy, PartialEq, Eq)]
+/// A day of the proleptic Gregorian calendar, in the years -999999 to 999999. Dates are ordered by their days.
+#[derive(Clone, Copy, PartialEq, Eq, PartialOrd, Ord, Hash)]
 pub struct Date {
     year: i32,
     month: Month,

@@ -11,7 +11,7 @@ use crate::error::ComponentRange;
 use crate::{Date, Time, UtcDateTime, UtcOffset};
 
 /// A date and a time of day as a clock with an offset from UTC shows them.
-#[derive(Clone, Copy, Debug, PartialEq, Eq)]
+#[derive(Clone, Copy, Debug, PartialEq, Eq, Hash)]
 pub struct OffsetDateTime {
     date: Date,
     time: Time,

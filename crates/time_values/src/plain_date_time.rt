@@ -4,7 +4,7 @@ ghost use Rattle.time_values.specs.Moments.{plain_date, plain_time};
 use crate::{Date, Time};
 
 /// A date and a time of day, with no offset.
-#[derive(Clone, Copy, Debug, PartialEq, Eq)]
+#[derive(Clone, Copy, Debug, PartialEq, Eq, PartialOrd, Ord, Hash)]
 pub struct PlainDateTime {
     date: Date,
     time: Time,

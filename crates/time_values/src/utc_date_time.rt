@@ -13,12 +13,12 @@ use crate::{Date, Time};
 const NANOS_PER_DAY: u128 = 86_400_000_000_000;
 
 // The first and the last nanosecond that have a date and time in UTC.
-const MIN_NANOS: i128 = -(EPOCH_DAY as i128) * NANOS_PER_DAY as i128;
+pub(crate) const MIN_NANOS: i128 = -(EPOCH_DAY as i128) * NANOS_PER_DAY as i128;
 
 const MAX_NANOS: i128 = (DAY_LIMIT - EPOCH_DAY) as i128 * NANOS_PER_DAY as i128 - 1;
 
 /// A date and a time of day in UTC.
-#[derive(Clone, Copy, Debug, PartialEq, Eq)]
+#[derive(Clone, Copy, Debug, PartialEq, Eq, PartialOrd, Ord, Hash)]
 pub struct UtcDateTime {
     date: Date,
     time: Time,

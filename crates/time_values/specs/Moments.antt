@@ -37,6 +37,9 @@ utc_time u = u.time
 abbrev pub plain_instant : ℕ → PlainDateTime → ℤ
 plain_instant Y p = clock_nanos Y (plain_date p) (plain_time p)
 
+abbrev pub offset_clock : ℕ → OffsetDateTime → ℤ
+offset_clock Y v = clock_nanos Y (offset_date v) (offset_time v)
+
 -- the instant of a moment
 abbrev pub utc_instant : ℕ → UtcDateTime → ℤ
 utc_instant Y u = clock_nanos Y (utc_date u) (utc_time u)

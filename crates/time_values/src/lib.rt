@@ -3,9 +3,16 @@
 #![tactic(auto)]
 
 mod aligned;
+mod arithmetic;
+mod clocks;
+mod conversion;
 mod date;
 mod days;
+mod difference;
+pub mod digits;
+mod duration;
 pub mod error;
+pub mod fraction;
 pub mod laws;
 mod moment_parts;
 mod month;
@@ -13,6 +20,8 @@ mod offset_date_time;
 mod order;
 mod parts;
 mod plain_date_time;
+mod shown;
+pub mod text;
 mod time;
 mod timestamp;
 mod utc_date_time;
@@ -21,6 +30,7 @@ mod weekday;
 
 pub use date::Date;
 pub use days::MAX_YEAR;
+pub use duration::Duration;
 pub use month::Month;
 pub use offset_date_time::OffsetDateTime;
 pub use plain_date_time::PlainDateTime;

@@ -60,7 +60,8 @@ time_shown t =
 
 -- a part of the offset is below 0
 abbrev pub is_behind : UtcOffset → Bool
-is_behind o = int_lt (Offsets.hours o) (pos 0) || int_lt (Offsets.minutes o) (pos 0) || int_lt (Offsets.seconds o) (pos 0)
+is_behind o =
+    int_lt (Offsets.hours o) (pos 0) || int_lt (Offsets.minutes o) (pos 0) || int_lt (Offsets.seconds o) (pos 0)
 
 -- `-`, or `+`
 abbrev pub offset_sign_shown : UtcOffset → ℕ

@@ -16,6 +16,7 @@ pub mod fraction;
 pub mod laws;
 mod moment_parts;
 mod month;
+mod names;
 mod offset_date_time;
 mod order;
 mod parts;

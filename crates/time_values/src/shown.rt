@@ -7,9 +7,7 @@ ghost use Rattle.time_values.specs.Shown as Shown;
 use crate::digits::{five, four, pair, six};
 use crate::fraction::{append_fraction, count_significant};
 use crate::text::Text;
-use crate::{
-    Date, Month, OffsetDateTime, PlainDateTime, Time, Timestamp, UtcDateTime, UtcOffset, Weekday,
-};
+use crate::{Date, OffsetDateTime, PlainDateTime, Time, Timestamp, UtcDateTime, UtcOffset};
 use std::{fmt, str};
 
 // Puts the sign of a year that has not four digits.
@@ -162,44 +160,5 @@ impl fmt::Display for Timestamp {
     fn fmt<W: fmt::Write>(&self, f: &mut fmt::Formatter<W>) -> fmt::Result {
         let nanoseconds = self.nanoseconds();
         write!(f, "{nanoseconds}")
-    }
-}
-
-/// The English name.
-impl fmt::Display for Month {
-    ghost output = { λ m. Some (Shown.month_shown m) };
-
-    fn fmt<W: fmt::Write>(&self, f: &mut fmt::Formatter<W>) -> fmt::Result {
-        f.write_str(match self {
-            Month::January => "January",
-            Month::February => "February",
-            Month::March => "March",
-            Month::April => "April",
-            Month::May => "May",
-            Month::June => "June",
-            Month::July => "July",
-            Month::August => "August",
-            Month::September => "September",
-            Month::October => "October",
-            Month::November => "November",
-            Month::December => "December",
-        })
-    }
-}
-
-/// The English name.
-impl fmt::Display for Weekday {
-    ghost output = { λ w. Some (Shown.weekday_shown w) };
-
-    fn fmt<W: fmt::Write>(&self, f: &mut fmt::Formatter<W>) -> fmt::Result {
-        f.write_str(match self {
-            Weekday::Monday => "Monday",
-            Weekday::Tuesday => "Tuesday",
-            Weekday::Wednesday => "Wednesday",
-            Weekday::Thursday => "Thursday",
-            Weekday::Friday => "Friday",
-            Weekday::Saturday => "Saturday",
-            Weekday::Sunday => "Sunday",
-        })
     }
 }

@@ -8,8 +8,8 @@ use Rattle.time_writing.specs.declared.unwritable.Unwritable.TheVariants.{Year, 
 
 pub writable_3339 : (y h s : ℤ)
     → (if int_lt y (pos 0) || int_lt (pos 9999) y then Some Year else
-      if int_lt h (neg_ℤ (pos 23)) || int_lt (pos 23) h then Some OffsetHour else
-      if int_eq s (pos 0) then None else Some OffsetSecond) ≡ None
+    if int_lt h (neg_ℤ (pos 23)) || int_lt (pos 23) h then Some OffsetHour else
+    if int_eq s (pos 0) then None else Some OffsetSecond) ≡ None
     → IsBetween (pos 0) (pos 9999) y
 writable_3339 y h s is = search rules
 

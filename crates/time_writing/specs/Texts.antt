@@ -51,7 +51,8 @@ is_none o = int_eq (Offsets.hours o) (pos 0) && int_eq (Offsets.minutes o) (pos 
 -- `+HH:MM` or `-HH:MM`
 abbrev pub numeric_text : UtcOffset → List ℕ
 numeric_text o =
-    offset_sign o ∷ fixed 2 (unsigned_abs (Offsets.hours o)) ++ codes ":" ++ fixed 2 (unsigned_abs (Offsets.minutes o))
+    offset_sign o ∷ fixed 2 (unsigned_abs (Offsets.hours o)) ++ codes ":"
+    ++ fixed 2 (unsigned_abs (Offsets.minutes o))
 
 -- `Z` for no hours and minutes, and else those
 abbrev pub offset_text : UtcOffset → List ℕ
@@ -82,7 +83,8 @@ basic_text v =
 abbrev pub unwritable_3339 : OffsetDateTime → Option Unwritable
 unwritable_3339 v =
     if int_lt (Dates.year (offset_date v)) (pos 0) || int_lt (pos 9999) (Dates.year (offset_date v)) then Some Year else
-    if int_lt (Offsets.hours (offset_of v)) (neg_ℤ (pos 23)) || int_lt (pos 23) (Offsets.hours (offset_of v)) then Some OffsetHour else
+    if int_lt (Offsets.hours (offset_of v)) (neg_ℤ (pos 23)) || int_lt (pos 23) (Offsets.hours (offset_of v))
+    then Some OffsetHour else
     if int_eq (Offsets.seconds (offset_of v)) (pos 0) then None else Some OffsetSecond
 
 -- the three letters of a weekday, and of a month
@@ -112,9 +114,10 @@ short_month December = codes "Dec"
 -- `Mon, DD Mon YYYY HH:MM:SS +HHMM` with that weekday
 abbrev pub mail_text : Weekday → OffsetDateTime → List ℕ
 mail_text w v =
-    short_weekday w ++ codes ", " ++ fixed 2 (Dates.day (offset_date v)) ++ codes " " ++ short_month (Dates.month (offset_date v))
-    ++ codes " " ++ fixed 4 (unsigned_abs (Dates.year (offset_date v))) ++ codes " " ++ clock_text (offset_time v)
-    ++ codes " " ++ zone_text (offset_of v)
+    short_weekday w ++ codes ", " ++ fixed 2 (Dates.day (offset_date v)) ++ codes " "
+    ++ short_month (Dates.month (offset_date v)) ++ codes " "
+    ++ fixed 4 (unsigned_abs (Dates.year (offset_date v))) ++ codes " "
+    ++ clock_text (offset_time v) ++ codes " " ++ zone_text (offset_of v)
 
 -- the same with the date's own weekday
 abbrev pub IsMailText : OffsetDateTime → List ℕ → Type 0
@@ -124,7 +127,8 @@ IsMailText v bytes =
 -- the first reason why a moment has no text of RFC 2822
 abbrev pub unwritable_2822 : OffsetDateTime → Option Unwritable
 unwritable_2822 v =
-    if int_lt (Dates.year (offset_date v)) (pos 1900) || int_lt (pos 9999) (Dates.year (offset_date v)) then Some Year else
+    if int_lt (Dates.year (offset_date v)) (pos 1900) || int_lt (pos 9999) (Dates.year (offset_date v))
+    then Some Year else
     if int_eq (Offsets.seconds (offset_of v)) (pos 0) then None else Some OffsetSecond
 
 -- The result is that reason, or where there is none, such a text.

@@ -5,7 +5,7 @@ use std::test::Fail;
 use time_values::{Date, Month, PlainDateTime, Time, Timestamp, UtcDateTime, UtcOffset, Weekday};
 
 // Fails where the value isn't printed so.
-fn prints<R: Alloc>(rt: &R, value: impl Display, text: &str) -> Result<(), Fail> {
+fn prints<R: Alloc>(rt: &R, value: impl Display + Drop, text: &str) -> Result<(), Fail> {
     let printed = format!(in rt.alloc(); "{value}")?;
     if printed.as_str() != text {
         return Err("another text".into());

@@ -80,7 +80,7 @@ fn iso8601(rt: HostRuntime) -> Result<(), Fail> {
     let Ok(written) = text_8601(in_1985()?) else {
         return Err("no text".into());
     };
-    assert!(rt; written.as_bytes() == b"1985-04-12T23:20:50.520000000Z");
+    assert!(rt; written.as_bytes() == b"1985-04-12T23:20:50.520000000Z".as_slice());
     for (value, text) in [
         (in_1985()?, "19850412T232050Z"),
         (in_1996()?, "19961219T163957-0800"),

@@ -1,6 +1,6 @@
 -- Orders by parts and by one number.
-use Rattle.std.proofs.Common.{Ordering, ◌≡◌, ℕ, ◌+◌, ◌-◌, ◌<◌, refl, sym, ap, ◌∙◌, arith, ℤ, ◌<ℤ◌}
-use Rattle.std.specs.Ordering.{Less, Equal, Greater, ordering_then, nat_cmp, int_cmp}
+use Rattle.std.proofs.Common.{Ordering, Less, Equal, Greater, ◌≡◌, ℕ, ◌+◌, ◌-◌, ◌<◌, refl, sym, ap, ◌∙◌, arith, ℤ, ◌<ℤ◌}
+use Rattle.std.specs.Ordering.{ordering_then, nat_cmp, int_cmp}
 use Rattle.std.proofs.lemmas.Bool.Decides.{nat_tests}
 use Rattle.std.proofs.lemmas.Int.{ints}
 use Rattle.std.proofs.lemmas.Cmp.{by_ranked, ranked, int_ranked}
@@ -111,6 +111,7 @@ clock_cmp a b t u =
     by_nat_then_int (day_number greatest_year a) (day_number greatest_year b) _ (clock_nanos greatest_year a t) (clock_nanos greatest_year b u)
     (λ lt. omega (arith, ints, p, q, first, second))
     (λ same.
-    by_nat_int (nanos_of_day t) (nanos_of_day u) _ _ (λ lt. omega (arith, ints, p, q)) (λ eq. omega (arith, ints, p, q))
+    by_nat_int (nanos_of_day t) (nanos_of_day u) (clock_nanos greatest_year a t) (clock_nanos greatest_year b u)
+    (λ lt. omega (arith, ints, p, q)) (λ eq. omega (arith, ints, p, q))
     (λ gt. omega (arith, ints, p, q)))
     (λ gt. omega (arith, ints, p, q, first, second))

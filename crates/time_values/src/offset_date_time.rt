@@ -8,7 +8,7 @@ ghost use Rattle.time_values.specs.Refusal.{Constructs};
 ghost use Rattle.time_values.specs.Times.{HasSecond, nanosecond_refusal};
 
 use crate::clocks::clock_with;
-use crate::days::{DAY_LIMIT, EPOCH_DAY};
+use crate::days::DAY_LIMIT;
 use crate::error::ComponentRange;
 use crate::{Date, Time, UtcDateTime, UtcOffset};
 
@@ -116,12 +116,12 @@ impl OffsetDateTime {
 
     /// The whole seconds since 1970-01-01T00:00:00Z, rounded down, also where they have no date in UTC.
     #[tactic(auto, using(crate::proofs::InstantLemmas::instant_facts))]
+    #[inline]
     pub fn unix_timestamp(self) -> i64
         ensures { Instants.IsWhole 1_000_000_000 (offset_instant greatest_year self) result }
     {
-        let day = self.date.day_number() as i64 - EPOCH_DAY as i64;
         let second = self.time.seconds_of_day() as i32 - self.offset.whole_seconds();
-        day * 86_400 + second as i64
+        self.date.days_since_1970() * 86_400 + second as i64
     }
 
     /// The moment that many seconds after 1970-01-01T00:00:00Z, at offset 0. Refused as `timestamp` outside

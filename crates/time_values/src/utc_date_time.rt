@@ -92,11 +92,11 @@ impl UtcDateTime {
 
     /// The whole seconds since 1970-01-01T00:00:00Z, rounded down.
     #[tactic(auto, using(crate::proofs::InstantLemmas::instant_facts))]
+    #[inline]
     pub fn unix_timestamp(self) -> i64
         ensures { Instants.IsWhole 1_000_000_000 (utc_instant greatest_year self) result }
     {
-        let day = self.date.day_number() as i64 - EPOCH_DAY as i64;
-        day * 86_400 + self.time.seconds_of_day() as i64
+        self.date.days_since_1970() * 86_400 + self.time.seconds_of_day() as i64
     }
 
     /// The moment that many seconds after 1970-01-01T00:00:00Z. Refused as `timestamp` outside -31619087596800 to

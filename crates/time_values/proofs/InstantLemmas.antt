@@ -6,6 +6,7 @@ use Rattle.time_values.specs.declared.date.Date.{Date}
 use Rattle.time_values.specs.declared.time.Time.{Time}
 use Rattle.time_values.specs.declared.utc_offset.UtcOffset.{UtcOffset}
 use Rattle.time_values.specs.Calendar.{IsBetween, years_before, day_limit}
+use Rattle.time_values.specs.Lengths.{IsNear}
 use Rattle.time_values.specs.Range.{greatest_year}
 use Rattle.time_values.specs.Dates.{day_number}
 use Rattle.time_values.specs.Times.{nanos_of_day}
@@ -56,3 +57,20 @@ clock_nanos_range d t =
     omega (arith, ints, clock_nanos_is d t, first_instant_is, last_instant_is, day_limit_is, day_number_in d)
 
 pub ruleset instant_facts = (first_instant_is, last_instant_is, day_limit_is, day_number_in, clock_nanos_is, instant_is)
+
+-- each moment is near 1970
+pub clock_nanos_near : (d : Date) (t : Time) → IsNear (clock_nanos greatest_year d t)
+clock_nanos_near d t = omega (arith, ints, clock_nanos_range d t, first_instant_is, last_instant_is)
+
+pub instant_near : (d : Date) (t : Time) (o : UtcOffset) → IsNear (instant greatest_year d t o)
+instant_near d t o =
+    omega (arith, ints, instant_is d t o, clock_nanos_range d t, first_instant_is, last_instant_is, o.hours_in, o.minutes_in, o.seconds_in)
+
+-- a clock that is moved from the one offset to the other shows the same instant
+pub moved_same : (clock later from to : ℤ) → later ≡ clock +ℤ (to -ℤ from) *ℤ pos 1_000_000_000
+    → later -ℤ to *ℤ pos 1_000_000_000 ≡ clock -ℤ from *ℤ pos 1_000_000_000
+moved_same clock later from to h = omega (arith, ints, h)
+
+pub moved_shown : (clock from to : ℤ)
+    → (clock -ℤ from *ℤ pos 1_000_000_000) +ℤ to *ℤ pos 1_000_000_000 ≡ clock +ℤ (to -ℤ from) *ℤ pos 1_000_000_000
+moved_shown clock from to = omega (arith, ints)

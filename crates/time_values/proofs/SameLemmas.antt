@@ -49,7 +49,7 @@ months_mono y m n h k =
     let f = days_of_months_closed y n k in
     grind (arith, nat_tests)
 
-ordinal_later : (y : ℤ) (m d n e : ℕ) → IsInRange 1 12 m → IsInRange 1 12 n → d ≤ month_length y m → 1 ≤ e → m < n → ordinal_of y m d < ordinal_of y n e
+pub ordinal_later : (y : ℤ) (m d n e : ℕ) → IsInRange 1 12 m → IsInRange 1 12 n → d ≤ month_length y m → 1 ≤ e → m < n → ordinal_of y m d < ordinal_of y n e
 ordinal_later y m d n e h k top low lt =
     omega (arith, month_end y m h, months_mono y m (n - 1) (omega arith) (omega arith))
 

@@ -1,5 +1,5 @@
 -- Instants in nanoseconds since 1970-01-01T00:00:00Z.
-use Rattle.std.specs.Prelude.{◌≡◌, ℕ, ◌+◌, ◌-◌, ◌*◌, Bool, false, ◌&&◌, if◌then◌else◌, Option, Some, None, codes, ℤ, pos, neg_ℤ, ◌+ℤ◌, ◌-ℤ◌, ◌*ℤ◌}
+use Rattle.std.specs.Prelude.{◌≡◌, ℕ, ◌+◌, ◌-◌, ◌*◌, Bool, false, ◌&&◌, if◌then◌else◌, Option, Some, None, codes, ℤ, pos, neg_ℤ, ◌+ℤ◌, ◌-ℤ◌, ◌*ℤ◌, ◌≤ℤ◌, ◌<ℤ◌}
 use Rattle.std.specs.Int.Signed.{le_z}
 use Rattle.time_values.specs.declared.date.Date.{Date}
 use Rattle.time_values.specs.declared.time.Time.{Time}
@@ -41,6 +41,10 @@ IsInstant Y n = IsBetween (first_instant Y) (last_instant Y) n
 -- and its test
 abbrev pub is_instant : ℕ → ℤ → Bool
 is_instant Y n = le_z (first_instant Y) n && le_z n (last_instant Y)
+
+-- z is how many whole units of that many nanoseconds n has, rounded down
+abbrev pub IsWhole : ℕ → ℤ → ℤ → Type 0
+IsWhole unit n z = ((z *ℤ pos unit) ≤ℤ n) × (n <ℤ ((z *ℤ pos unit) +ℤ pos unit))
 
 -- the refusal of nanoseconds that are no such instant
 abbrev pub timestamp_refusal : ℕ → ℤ → Option Refusal

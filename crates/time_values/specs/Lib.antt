@@ -1,13 +1,17 @@
 pub mod Calendar
+pub mod Clocks
 pub mod Conversions
 pub mod DateRefusals
 pub mod Dates
+pub mod Durations
 pub mod Instants
 pub mod Moments
+pub mod Lengths
 pub mod Month
 pub mod Offsets
 pub mod Range
 pub mod Refusal
+pub mod Shown
 pub mod Sign
 pub mod Texts
 pub mod Times

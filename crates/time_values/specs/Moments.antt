@@ -33,6 +33,13 @@ utc_date u = u.date
 abbrev pub utc_time : UtcDateTime → Time
 utc_time u = u.time
 
+-- what a clock without an offset shows, in nanoseconds since 1970-01-01T00:00:00
+abbrev pub plain_instant : ℕ → PlainDateTime → ℤ
+plain_instant Y p = clock_nanos Y (plain_date p) (plain_time p)
+
+abbrev pub offset_clock : ℕ → OffsetDateTime → ℤ
+offset_clock Y v = clock_nanos Y (offset_date v) (offset_time v)
+
 -- the instant of a moment
 abbrev pub utc_instant : ℕ → UtcDateTime → ℤ
 utc_instant Y u = clock_nanos Y (utc_date u) (utc_time u)

@@ -4,7 +4,7 @@ ghost use Rattle.std.specs.Prelude.{◌≡◌, []};
 ///
 /// A date and a time then lie at the same words as an error, where a `Result` holds either, so that LLVM keeps
 /// their parts apart. Without it a parse joins the parts into words and takes them apart again.
-#[derive(Clone, Copy, Debug, PartialEq, Eq)]
+#[derive(Clone, Copy, Debug, PartialEq, Eq, PartialOrd, Ord, Hash)]
 pub(crate) struct Aligned {
     words: [u64; 0],
     pub ghost no_words: { words ≡ [] },

@@ -1,4 +1,4 @@
-ghost use Rattle.std.specs.Prelude.{◌≡◌, ℤ, ◌+◌, ◌-◌, ◌*◌, ◌<◌, ◌≤◌};
+ghost use Rattle.std.specs.Prelude.{◌≡◌, ℤ, pos, neg_ℤ, nat_lt, if◌then◌else◌, ◌+◌, ◌-◌, ◌*◌, ◌<◌, ◌≤◌, ◌-ℤ◌};
 ghost use Rattle.std.specs.Int.{IsInRange};
 ghost use Rattle.time_values.specs.Calendar as Calendar;
 ghost use Rattle.time_values.specs.Month.{month_number};
@@ -11,8 +11,8 @@ use crate::error::ComponentRange;
 use crate::{Month, Weekday, days};
 use std::fmt;
 
-/// A day of the proleptic Gregorian calendar, in the years -999999 to 999999.
-#[derive(Clone, Copy, PartialEq, Eq)]
+/// A day of the proleptic Gregorian calendar, in the years -999999 to 999999. Dates are ordered by their days.
+#[derive(Clone, Copy, PartialEq, Eq, PartialOrd, Ord, Hash)]
 pub struct Date {
     year: i32,
     month: Month,
@@ -156,6 +156,33 @@ impl Date {
         ensures bound { result < 2_000_000_000 }
     {
         days::year_start(self.year) + (self.ordinal() as u32 - 1)
+    }
+
+    // How many years there are before this day's, where a year begins in March.
+    #[inline(always)]
+    fn march_year(self) -> u32
+        ensures value { result ≡ Calendar.years_before greatest_year (Dates.year self)
+            + (if nat_lt 2 (month_number (Dates.month self)) then 1 else 0) }
+        ensures bound { result ≤ 2_000_000 }
+    {
+        let years = (self.year + MAX_YEAR) as u32;
+        if self.month.number() > 2 {
+            years + 1
+        } else {
+            years
+        }
+    }
+
+    // The days since 1970-01-01. Years that begin in March end with their leap day, so none is asked for.
+    #[inline(always)]
+    pub(crate) fn days_since_1970(self) -> i64
+        ensures value { result ≡ pos (Dates.day_number greatest_year self) -ℤ pos 365_961_662 }
+        ensures bound { Calendar.IsBetween (neg_ℤ (pos 1_000_000_000)) (pos 3_000_000_000) result }
+    {
+        let years = self.march_year();
+        let before = self.month.days_from_march() as u32;
+        let days = 1461 * years / 4 - years / 100 + years / 100 / 4 + before + self.day as u32;
+        days as i64 - 365_961_969
     }
 
     /// The day of the week.

@@ -1,7 +1,7 @@
 //! The errors of the constructors of dates and times, and of parsing.
-ghost use Rattle.std.specs.Prelude.{◌≡◌, Ok, Err, Some};
+ghost use Rattle.std.specs.Prelude.{◌≡◌, ◌⊎◌, Ok, Err, Some, IfSome, IfNone};
 ghost use Rattle.time_values.specs.Conversions.{range_of_parsed, parsed_of_parse, description_of_parse, joint_of_parse, parsed_of_joint, description_of_joint, parse_of_joint};
-ghost use Rattle.time_values.specs.Refusal.{refusal_of_range, refusal_of_description, refusal_of_parsed, refusal_of};
+ghost use Rattle.time_values.specs.Refusal.{literal, component, trailing, refusal_of_range, refusal_of_description, refusal_of_parsed, refusal_of};
 ghost use Rattle.time_values.specs.Texts.{refusal_text, variant_text};
 ghost use Rattle.time_values.specs.declared.error.Error.TheVariants.{ComponentRange as joint_range, TryFromParsed as joint_parsed, ParseFromDescription as joint_description};
 ghost use Rattle.time_values.specs.declared.error.Parse.TheVariants.{TryFromParsed as parse_of_parsed, ParseFromDescription as parse_of_description};
@@ -17,6 +17,22 @@ pub struct ComponentRange {
     pub name: &'static str,
     /// Whether the range depends on the values of other components.
     pub conditional: bool,
+}
+
+impl ComponentRange {
+    /// The component's name.
+    pub fn name(self) -> &'static str
+        ensures { result ≡ self.name }
+    {
+        self.name
+    }
+
+    /// Whether the range depends on the values of other components.
+    pub fn is_conditional(self) -> bool
+        ensures { result ≡ self.conditional }
+    {
+        self.conditional
+    }
 }
 
 impl fmt::Display for ComponentRange {
@@ -57,6 +73,20 @@ pub enum ParseFromDescription {
     InvalidComponent(&'static str),
     /// Bytes are left where the input should end.
     UnexpectedTrailingCharacters,
+}
+
+impl ParseFromDescription {
+    /// The name of the component that could not be read, or `None` where something else is wrong.
+    pub fn component_name(self) -> Option<&'static str>
+        ensures name { IfSome result (λ name. refusal_of_description self ≡ component name.now) }
+        ensures none { IfNone result ((refusal_of_description self ≡ literal) ⊎ (refusal_of_description self ≡ trailing)) }
+    {
+        match self {
+            ParseFromDescription::InvalidComponent(name) => Some(name),
+            ParseFromDescription::InvalidLiteral
+            | ParseFromDescription::UnexpectedTrailingCharacters => None,
+        }
+    }
 }
 
 impl fmt::Display for ParseFromDescription {

@@ -3,13 +3,26 @@
 #![tactic(auto)]
 
 mod aligned;
+mod arithmetic;
+mod clocks;
+mod conversion;
 mod date;
 mod days;
+mod difference;
+pub mod digits;
+mod duration;
 pub mod error;
+pub mod fraction;
 pub mod laws;
+mod moment_parts;
 mod month;
+mod names;
 mod offset_date_time;
+mod order;
+mod parts;
 mod plain_date_time;
+mod shown;
+pub mod text;
 mod time;
 mod timestamp;
 mod utc_date_time;
@@ -18,6 +31,7 @@ mod weekday;
 
 pub use date::Date;
 pub use days::MAX_YEAR;
+pub use duration::Duration;
 pub use month::Month;
 pub use offset_date_time::OffsetDateTime;
 pub use plain_date_time::PlainDateTime;

@@ -1,4 +1,4 @@
-ghost use Rattle.std.specs.Prelude.{◌≡◌, ◌==◌, ◌≤◌};
+ghost use Rattle.std.specs.Prelude.{◌≡◌, ◌==◌, ◌≤◌, ◌+◌, ◌-◌, ◌*◌, ◌/◌, nat_lt, if◌then◌else◌};
 ghost use Rattle.std.proofs.Common.{rules};
 ghost use Rattle.std.specs.Cmp.Rules.{comparing};
 ghost use Rattle.std.specs.Ordering.{on};
@@ -9,6 +9,9 @@ ghost use Rattle.time_values.specs.Refusal.{Constructs};
 use crate::days::is_leap_year;
 use crate::error::ComponentRange;
 use std::num::NonZero;
+
+// The days from the first of March to the first of the month of each number.
+static MARCH_DAYS: [u16; 13] = [275, 306, 337, 0, 31, 61, 92, 122, 153, 184, 214, 245, 275];
 
 /// A month of the year.
 #[derive(Clone, Copy, Debug)]
@@ -84,6 +87,17 @@ impl Month {
         ensures high { result ≤ 12 }
     {
         self as u8
+    }
+
+    // The days from the first of March to the first of this month, in a year that begins in March.
+    #[inline(always)]
+    #[tactic(auto, using(crate::proofs::MarchLemmas::march_days_at))]
+    pub(crate) fn days_from_march(self) -> u16
+        ensures value { result ≡ (if nat_lt (month_number self) 3 then 275 + 31 * month_number self
+            else (153 * month_number self - 457) / 5) }
+        ensures bound { result ≤ 337 }
+    {
+        MARCH_DAYS[self.number() as usize]
     }
 
     /// The number of days that the month has in that year, 28 to 31.

@@ -1,4 +1,5 @@
-ghost use Rattle.std.specs.Prelude.{◌≡◌, ◌↔◌, IsTrue, IfSome, IfNone};
+ghost use Rattle.std.specs.Prelude.{◌≡◌, ◌↔◌, IsTrue, IfSome, IfNone, pos, ◌*ℤ◌};
+ghost use Rattle.time_values.specs.Clocks.{shown_at};
 ghost use Rattle.time_values.specs.Instants as Instants;
 ghost use Rattle.time_values.specs.Moments.{offset_date, offset_time, offset_of, offset_instant, utc_instant};
 ghost use Rattle.time_values.specs.Offsets.{IsUtc};
@@ -6,12 +7,13 @@ ghost use Rattle.time_values.specs.Range.{greatest_year};
 ghost use Rattle.time_values.specs.Refusal.{Constructs};
 ghost use Rattle.time_values.specs.Times.{HasSecond, nanosecond_refusal};
 
+use crate::clocks::clock_with;
 use crate::days::DAY_LIMIT;
 use crate::error::ComponentRange;
 use crate::{Date, Time, UtcDateTime, UtcOffset};
 
 /// A date and a time of day as a clock with an offset from UTC shows them.
-#[derive(Clone, Copy, Debug, PartialEq, Eq)]
+#[derive(Clone, Copy, Debug, PartialEq, Eq, Hash)]
 pub struct OffsetDateTime {
     date: Date,
     time: Time,
@@ -112,6 +114,67 @@ impl OffsetDateTime {
         Some(UtcDateTime::new(Date::from_day_number(day - 2), time))
     }
 
+    /// The whole seconds since 1970-01-01T00:00:00Z, rounded down, also where they have no date in UTC.
+    #[tactic(auto, using(crate::proofs::InstantLemmas::instant_facts))]
+    #[inline]
+    pub fn unix_timestamp(self) -> i64
+        ensures { Instants.IsWhole 1_000_000_000 (offset_instant greatest_year self) result }
+    {
+        let second = self.time.seconds_of_day() as i32 - self.offset.whole_seconds();
+        self.date.days_since_1970() * 86_400 + second as i64
+    }
+
+    /// The moment that many seconds after 1970-01-01T00:00:00Z, at offset 0. Refused as `timestamp` outside
+    /// -31619087596800 to 31494784780799.
+    pub fn from_unix_timestamp(timestamp: i64) -> Result<OffsetDateTime, ComponentRange>
+        ensures { Constructs (Instants.timestamp_refusal greatest_year (timestamp *ℤ pos 1_000_000_000))
+            (λ o. (offset_instant greatest_year o ≡ timestamp *ℤ pos 1_000_000_000) × IsUtc (offset_of o)) result }
+    {
+        OffsetDateTime::from_unix_timestamp_nanos(timestamp as i128 * 1_000_000_000)
+    }
+
+    /// The same moment on a clock with that offset, or `None` where the clock shows no date there.
+    pub fn checked_to_offset(self, offset: UtcOffset) -> Option<OffsetDateTime>
+        ensures instant { IfSome result (λ v. offset_instant greatest_year v ≡ offset_instant greatest_year self) }
+        ensures offset { IfSome result (λ v. offset_of v ≡ offset) }
+        ensures none { IfNone result (¬ (Instants.IsInstant greatest_year
+            (shown_at (offset_instant greatest_year self) offset))) }
+    {
+        match clock_with(self.date, self.time, self.offset, offset) {
+            Some(clock) => Some(OffsetDateTime {
+                date: clock.date(),
+                time: clock.time(),
+                offset,
+            }),
+            None => None,
+        }
+    }
+
+    /// The same moment on a clock with that offset, which must show a date there: ask
+    /// [`checked_to_offset`](OffsetDateTime::checked_to_offset) where this isn't known.
+    pub fn to_offset(self, offset: UtcOffset) -> OffsetDateTime
+        requires { Instants.IsInstant greatest_year (shown_at (offset_instant greatest_year self) offset) }
+        ensures instant { offset_instant greatest_year result ≡ offset_instant greatest_year self }
+        ensures offset { offset_of result ≡ offset }
+    {
+        match self.checked_to_offset(offset) {
+            Some(moved) => moved,
+            None => unreachable!(),
+        }
+    }
+
+    /// The same moment in UTC, which must have a date there: ask [`checked_to_utc`](OffsetDateTime::checked_to_utc)
+    /// where this isn't known.
+    pub fn to_utc(self) -> UtcDateTime
+        requires { Instants.IsInstant greatest_year (offset_instant greatest_year self) }
+        ensures { utc_instant greatest_year result ≡ offset_instant greatest_year self }
+    {
+        match self.checked_to_utc() {
+            Some(utc) => utc,
+            None => unreachable!(),
+        }
+    }
+
     /// Whether a leap second may be told as this moment: in UTC it is the last nanosecond of a
     /// month.
     pub fn is_valid_leap_second_stand_in(self) -> bool
@@ -120,6 +183,24 @@ impl OffsetDateTime {
         match self.checked_to_utc() {
             Some(utc) => utc.is_valid_leap_second_stand_in(),
             None => false,
+        }
+    }
+}
+
+/// The same moment, at offset 0.
+impl From<UtcDateTime> for OffsetDateTime {
+    ghost use Rattle.std.specs.Prelude.{◌≡◌};
+    ghost use Rattle.time_values.specs.Moments.{offset_instant, offset_of, utc_instant};
+    ghost use Rattle.time_values.specs.Offsets.{IsUtc};
+    ghost use Rattle.time_values.specs.Range.{greatest_year};
+
+    ghost from_gives = { λ u v. (offset_instant greatest_year v ≡ utc_instant greatest_year u) × IsUtc (offset_of v) };
+
+    fn from(date_time: UtcDateTime) -> OffsetDateTime {
+        OffsetDateTime {
+            date: date_time.date(),
+            time: date_time.time(),
+            offset: UtcOffset::UTC,
         }
     }
 }

@@ -1,10 +1,11 @@
 ghost use Rattle.std.specs.Prelude.{◌≡◌};
-ghost use Rattle.time_values.specs.Moments.{plain_date, plain_time};
+ghost use Rattle.time_values.specs.Moments.{plain_date, plain_time, utc_date, utc_time, offset_date, offset_time, offset_of};
+ghost use Rattle.time_values.specs.Offsets.{IsUtc};
 
-use crate::{Date, Time};
+use crate::{Date, OffsetDateTime, Time, UtcDateTime, UtcOffset};
 
 /// A date and a time of day, with no offset.
-#[derive(Clone, Copy, Debug, PartialEq, Eq)]
+#[derive(Clone, Copy, Debug, PartialEq, Eq, PartialOrd, Ord, Hash)]
 pub struct PlainDateTime {
     date: Date,
     time: Time,
@@ -34,5 +35,34 @@ impl PlainDateTime {
         ensures { result ≡ plain_time self }
     {
         self.time
+    }
+
+    /// That date and time on a clock with the offset.
+    #[inline]
+    pub fn assume_offset(self, offset: UtcOffset) -> OffsetDateTime
+        ensures date { offset_date result ≡ plain_date self }
+        ensures time { offset_time result ≡ plain_time self }
+        ensures offset { offset_of result ≡ offset }
+    {
+        OffsetDateTime::new_in_offset(self.date, self.time, offset)
+    }
+
+    /// That date and time on a clock with an offset of 0.
+    #[inline]
+    pub fn assume_utc(self) -> OffsetDateTime
+        ensures date { offset_date result ≡ plain_date self }
+        ensures time { offset_time result ≡ plain_time self }
+        ensures offset { IsUtc (offset_of result) }
+    {
+        OffsetDateTime::new_in_offset(self.date, self.time, UtcOffset::UTC)
+    }
+
+    /// That date and time in UTC.
+    #[inline]
+    pub fn as_utc(self) -> UtcDateTime
+        ensures date { utc_date result ≡ plain_date self }
+        ensures time { utc_time result ≡ plain_time self }
+    {
+        UtcDateTime::new(self.date, self.time)
     }
 }

@@ -5,7 +5,7 @@ use crate::error::ComponentRange;
 use std::fmt;
 
 /// A time of day, 00:00:00 to 23:59:59.999999999.
-#[derive(Clone, Copy, PartialEq, Eq)]
+#[derive(Clone, Copy, PartialEq, Eq, Hash)]
 pub struct Time {
     hour: u8,
     minute: u8,

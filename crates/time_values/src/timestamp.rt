@@ -7,7 +7,7 @@ use crate::error::ComponentRange;
 use crate::utc_date_time::is_instant;
 
 /// A moment, as nanoseconds since 1970-01-01T00:00:00Z, that has a date and time in UTC.
-#[derive(Clone, Copy, Debug, PartialEq, Eq)]
+#[derive(Clone, Copy, Debug, PartialEq, Eq, Hash)]
 pub struct Timestamp {
     nanoseconds: i128,
     pub ghost in_range: { IsInstant greatest_year nanoseconds },

@@ -1,24 +1,25 @@
-ghost use Rattle.std.specs.Prelude.{◌≡◌, ◌↔◌, IsTrue};
+ghost use Rattle.std.specs.Prelude.{◌≡◌, ◌↔◌, IsTrue, IfSome, IfNone, pos, ◌*ℤ◌};
+ghost use Rattle.time_values.specs.Clocks.{shown_at};
 ghost use Rattle.time_values.specs.Instants as Instants;
-ghost use Rattle.time_values.specs.Moments.{utc_date, utc_time, utc_instant};
+ghost use Rattle.time_values.specs.Moments.{utc_date, utc_time, utc_instant, offset_of, offset_instant};
 ghost use Rattle.time_values.specs.Range.{greatest_year};
 ghost use Rattle.time_values.specs.Refusal.{Constructs};
 ghost use Rattle.time_values.specs.Times.{HasSecond, nanosecond_refusal};
 
 use crate::days::{DAY_LIMIT, EPOCH_DAY};
 use crate::error::ComponentRange;
-use crate::{Date, Time};
+use crate::{Date, OffsetDateTime, Time, UtcOffset};
 
 // The nanoseconds of a day.
 const NANOS_PER_DAY: u128 = 86_400_000_000_000;
 
 // The first and the last nanosecond that have a date and time in UTC.
-const MIN_NANOS: i128 = -(EPOCH_DAY as i128) * NANOS_PER_DAY as i128;
+pub(crate) const MIN_NANOS: i128 = -(EPOCH_DAY as i128) * NANOS_PER_DAY as i128;
 
-const MAX_NANOS: i128 = (DAY_LIMIT - EPOCH_DAY) as i128 * NANOS_PER_DAY as i128 - 1;
+pub(crate) const MAX_NANOS: i128 = (DAY_LIMIT - EPOCH_DAY) as i128 * NANOS_PER_DAY as i128 - 1;
 
 /// A date and a time of day in UTC.
-#[derive(Clone, Copy, Debug, PartialEq, Eq)]
+#[derive(Clone, Copy, Debug, PartialEq, Eq, PartialOrd, Ord, Hash)]
 pub struct UtcDateTime {
     date: Date,
     time: Time,
@@ -51,7 +52,7 @@ impl UtcDateTime {
 
     // The date and time at an instant that has them.
     #[tactic(auto, using(crate::proofs::InstantLemmas::instant_facts))]
-    fn at_instant(nanos: i128) -> UtcDateTime
+    pub(crate) fn at_instant(nanos: i128) -> UtcDateTime
         requires { Instants.IsInstant greatest_year nanos }
         ensures { utc_instant greatest_year result ≡ nanos }
     {
@@ -87,6 +88,44 @@ impl UtcDateTime {
     {
         let days = self.date.day_number() as i128 - EPOCH_DAY as i128;
         days * NANOS_PER_DAY as i128 + self.time.nanos_of_day() as i128
+    }
+
+    /// The whole seconds since 1970-01-01T00:00:00Z, rounded down.
+    #[tactic(auto, using(crate::proofs::InstantLemmas::instant_facts))]
+    #[inline]
+    pub fn unix_timestamp(self) -> i64
+        ensures { Instants.IsWhole 1_000_000_000 (utc_instant greatest_year self) result }
+    {
+        self.date.days_since_1970() * 86_400 + self.time.seconds_of_day() as i64
+    }
+
+    /// The moment that many seconds after 1970-01-01T00:00:00Z. Refused as `timestamp` outside -31619087596800 to
+    /// 31494784780799.
+    pub fn from_unix_timestamp(timestamp: i64) -> Result<UtcDateTime, ComponentRange>
+        ensures { Constructs (Instants.timestamp_refusal greatest_year (timestamp *ℤ pos 1_000_000_000))
+            (λ u. utc_instant greatest_year u ≡ timestamp *ℤ pos 1_000_000_000) result }
+    {
+        UtcDateTime::from_unix_timestamp_nanos(timestamp as i128 * 1_000_000_000)
+    }
+
+    /// The same moment on a clock with that offset, or `None` where the clock shows no date there.
+    pub fn checked_to_offset(self, offset: UtcOffset) -> Option<OffsetDateTime>
+        ensures instant { IfSome result (λ v. offset_instant greatest_year v ≡ utc_instant greatest_year self) }
+        ensures offset { IfSome result (λ v. offset_of v ≡ offset) }
+        ensures none { IfNone result (¬ (Instants.IsInstant greatest_year
+            (shown_at (utc_instant greatest_year self) offset))) }
+    {
+        OffsetDateTime::from(self).checked_to_offset(offset)
+    }
+
+    /// The same moment on a clock with that offset, which must show a date there: ask
+    /// [`checked_to_offset`](UtcDateTime::checked_to_offset) where this isn't known.
+    pub fn to_offset(self, offset: UtcOffset) -> OffsetDateTime
+        requires { Instants.IsInstant greatest_year (shown_at (utc_instant greatest_year self) offset) }
+        ensures instant { offset_instant greatest_year result ≡ utc_instant greatest_year self }
+        ensures offset { offset_of result ≡ offset }
+    {
+        OffsetDateTime::from(self).to_offset(offset)
     }
 
     /// The same second with another nanosecond. Refused as `nanosecond` above 999999999.

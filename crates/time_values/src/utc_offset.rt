@@ -1,11 +1,11 @@
-ghost use Rattle.std.specs.Prelude.{◌≡◌, ◌<◌, pos, neg_ℤ};
+ghost use Rattle.std.specs.Prelude.{◌≡◌, ◌<◌, ◌↔◌, IsTrue, pos, neg_ℤ};
 ghost use Rattle.time_values.specs.Calendar.{IsBetween};
 ghost use Rattle.time_values.specs.Sign as Sign;
 
 use crate::error::ComponentRange;
 
 /// How far a clock is ahead of UTC, in hours, minutes and seconds of one sign.
-#[derive(Clone, Copy, Debug, PartialEq, Eq)]
+#[derive(Clone, Copy, Debug, PartialEq, Eq, PartialOrd, Ord, Hash)]
 pub struct UtcOffset {
     hours: i8,
     minutes: i8,
@@ -18,7 +18,7 @@ pub struct UtcOffset {
 impl UtcOffset {
     ghost use Rattle.time_values.specs.Refusal.{Constructs};
     ghost use Rattle.time_values.specs.Offsets as Offsets;
-    ghost use Rattle.time_values.specs.Offsets.{HasOffset, offset_refusal, offset_seconds};
+    ghost use Rattle.time_values.specs.Offsets.{HasOffset, HasOneSign, offset_refusal, offset_seconds, whole_offset_refusal};
 
     /// UTC itself, an offset of 0.
     pub const UTC: UtcOffset = UtcOffset {
@@ -70,8 +70,54 @@ impl UtcOffset {
         (self.hours, self.minutes, self.seconds)
     }
 
-    // The whole offset in seconds, -93599 to 93599.
-    pub(crate) fn whole_seconds(self) -> i32
+    /// The offset of that many seconds, whose parts have one sign. Refused as `seconds` outside -93599 to 93599.
+    pub fn from_whole_seconds(seconds: i32) -> Result<UtcOffset, ComponentRange>
+        ensures { Constructs (whole_offset_refusal seconds)
+            (λ o. (offset_seconds o ≡ seconds) × HasOneSign o) result }
+    {
+        if seconds < -93_599 || seconds > 93_599 {
+            return Err(ComponentRange {
+                name: "seconds",
+                conditional: false,
+            });
+        }
+        Ok(UtcOffset::at_seconds(seconds))
+    }
+
+    // The offset of that many seconds.
+    fn at_seconds(seconds: i32) -> UtcOffset
+        requires { IsBetween (neg_ℤ (pos 93_599)) (pos 93_599) seconds }
+        ensures value { offset_seconds result ≡ seconds }
+        ensures sign { HasOneSign result }
+    {
+        let magnitude = seconds.unsigned_abs();
+        let hours = (magnitude / 3600) as i8;
+        let minutes = (magnitude % 3600 / 60) as i8;
+        let rest = (magnitude % 60) as i8;
+        if seconds < 0 {
+            return UtcOffset {
+                hours: -hours,
+                minutes: -minutes,
+                seconds: -rest,
+            };
+        }
+        UtcOffset {
+            hours,
+            minutes,
+            seconds: rest,
+        }
+    }
+
+    /// Whether the offset is 0.
+    #[inline]
+    pub fn is_utc(self) -> bool
+        ensures { IsTrue result ↔ Offsets.IsUtc self }
+    {
+        self.hours == 0 && self.minutes == 0 && self.seconds == 0
+    }
+
+    /// The whole offset in seconds, -93599 to 93599.
+    pub fn whole_seconds(self) -> i32
         ensures value { result ≡ offset_seconds self }
         ensures bound { IsBetween (neg_ℤ (pos 93_599)) (pos 93_599) result }
     {

@@ -1,0 +1,10 @@
+-- Digits, two at a time.
+use Rattle.std.proofs.Common.{◌≡◌, ℕ, ◌+◌, ◌*◌, ◌/◌, ◌%◌, ◌<◌, Bool, eqb, get_or, eqb→eq}
+use Rattle.time_values.specs.declared.digits.TheConstants.{PAIRS}
+use Rattle.time_values.proofs.TableLemmas.{at_below}
+
+abbrev is_pair : ℕ → Bool
+is_pair p = eqb (get_or PAIRS p 0) (48 + p / 10 + 256 * (48 + p % 10))
+
+pub pairs_at : (p : ℕ) → p < 100 → get_or PAIRS p 0 ≡ 48 + p / 10 + 256 * (48 + p % 10)
+pairs_at p h = eqb→eq _ _ (at_below is_pair 100 p tt h)

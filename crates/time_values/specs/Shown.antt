@@ -1,0 +1,110 @@
+-- Digits of numbers, and values as they are printed.
+use Rattle.std.specs.Prelude.{ℕ, zero, suc, ◌+◌, ◌/◌, ◌%◌, max, ℤ, pos, int_lt, unsigned_abs, List, [], ◌∷◌, ◌++◌, codes, take, Bool, ◌||◌, ◌==◌, nat_lt, if◌then◌else◌}
+use Rattle.time_values.specs.Dates as Dates
+use Rattle.time_values.specs.Moments.{plain_date, plain_time, utc_date, utc_time, offset_date, offset_time, offset_of}
+use Rattle.time_values.specs.Month.{month_number}
+use Rattle.time_values.specs.Offsets as Offsets
+use Rattle.time_values.specs.Times as Times
+use Rattle.time_values.specs.declared.date.Date.{Date}
+use Rattle.time_values.specs.declared.month.Month.{Month}
+use Rattle.time_values.specs.declared.month.Month.TheVariants.{January, February, March, April, May, June, July, August, September, October, November, December}
+use Rattle.time_values.specs.declared.offset_date_time.OffsetDateTime.{OffsetDateTime}
+use Rattle.time_values.specs.declared.plain_date_time.PlainDateTime.{PlainDateTime}
+use Rattle.time_values.specs.declared.time.Time.{Time}
+use Rattle.time_values.specs.declared.utc_date_time.UtcDateTime.{UtcDateTime}
+use Rattle.time_values.specs.declared.utc_offset.UtcOffset.{UtcOffset}
+use Rattle.time_values.specs.declared.weekday.Weekday.{Weekday}
+use Rattle.time_values.specs.declared.weekday.Weekday.TheVariants.{Monday, Tuesday, Wednesday, Thursday, Friday, Saturday, Sunday}
+
+-- the bytes that a text holds
+pub record Items : Type 0 where
+  pub items : List ℕ
+
+-- the last k decimal digits of n
+unfoldable pub fixed : ℕ → ℕ → List ℕ
+fixed zero n = []
+fixed (suc k) n = fixed k (n / 10) ++ ((48 + n % 10) ∷ [])
+
+-- how many of the last k digits of n stand before the zeros at the end
+unfoldable pub significant : ℕ → ℕ → ℕ
+significant zero n = 0
+significant (suc k) n = if n % 10 == 0 then significant k (n / 10) else suc k
+
+-- a point and the first k of nine digits, or nothing where k is 0
+abbrev pub fraction_shown : ℕ → ℕ → List ℕ
+fraction_shown k n = if k == 0 then [] else codes "." ++ take k (fixed 9 n)
+
+-- as many digits as the number has, and at least four; it is below 1000000
+abbrev pub magnitude_shown : ℕ → List ℕ
+magnitude_shown n = if nat_lt n 10_000 then fixed 4 n else if nat_lt n 100_000 then fixed 5 n else fixed 6 n
+
+-- nothing for a year of four digits, and else the sign
+abbrev pub year_sign_shown : ℤ → List ℕ
+year_sign_shown y = if int_lt y (pos 0) then codes "-" else if int_lt (pos 9999) y then codes "+" else []
+
+-- `YYYY-MM-DD`
+abbrev pub date_shown : Date → List ℕ
+date_shown d =
+    year_sign_shown (Dates.year d) ++ magnitude_shown (unsigned_abs (Dates.year d)) ++ codes "-"
+    ++ fixed 2 (month_number (Dates.month d)) ++ codes "-" ++ fixed 2 (Dates.day d)
+
+-- one digit, or two
+abbrev pub hour_shown : ℕ → List ℕ
+hour_shown h = if nat_lt h 10 then (48 + h) ∷ [] else fixed 2 h
+
+-- `H:MM:SS.n`, with at least one digit of a fraction
+abbrev pub time_shown : Time → List ℕ
+time_shown t =
+    hour_shown (Times.hour t) ++ codes ":" ++ fixed 2 (Times.minute t) ++ codes ":" ++ fixed 2 (Times.second t)
+    ++ fraction_shown (max (significant 9 (Times.nanosecond t)) 1) (Times.nanosecond t)
+
+-- a part of the offset is below 0
+abbrev pub is_behind : UtcOffset → Bool
+is_behind o =
+    int_lt (Offsets.hours o) (pos 0) || int_lt (Offsets.minutes o) (pos 0) || int_lt (Offsets.seconds o) (pos 0)
+
+-- `-`, or `+`
+abbrev pub offset_sign_shown : UtcOffset → ℕ
+offset_sign_shown o = if is_behind o then 45 else 43
+
+-- `+HH:MM:SS`
+abbrev pub offset_shown : UtcOffset → List ℕ
+offset_shown o =
+    offset_sign_shown o ∷ fixed 2 (unsigned_abs (Offsets.hours o)) ++ codes ":"
+    ++ fixed 2 (unsigned_abs (Offsets.minutes o)) ++ codes ":" ++ fixed 2 (unsigned_abs (Offsets.seconds o))
+
+-- the date, a space, and the time
+abbrev pub plain_shown : PlainDateTime → List ℕ
+plain_shown p = date_shown (plain_date p) ++ codes " " ++ time_shown (plain_time p)
+
+-- and after them the offset
+abbrev pub moment_shown : OffsetDateTime → List ℕ
+moment_shown v =
+    date_shown (offset_date v) ++ codes " " ++ time_shown (offset_time v) ++ codes " " ++ offset_shown (offset_of v)
+
+abbrev pub utc_shown : UtcDateTime → List ℕ
+utc_shown u = date_shown (utc_date u) ++ codes " " ++ time_shown (utc_time u) ++ codes " +00"
+
+-- names
+abbrev pub month_shown : Month → List ℕ
+month_shown January = codes "January"
+month_shown February = codes "February"
+month_shown March = codes "March"
+month_shown April = codes "April"
+month_shown May = codes "May"
+month_shown June = codes "June"
+month_shown July = codes "July"
+month_shown August = codes "August"
+month_shown September = codes "September"
+month_shown October = codes "October"
+month_shown November = codes "November"
+month_shown December = codes "December"
+
+abbrev pub weekday_shown : Weekday → List ℕ
+weekday_shown Monday = codes "Monday"
+weekday_shown Tuesday = codes "Tuesday"
+weekday_shown Wednesday = codes "Wednesday"
+weekday_shown Thursday = codes "Thursday"
+weekday_shown Friday = codes "Friday"
+weekday_shown Saturday = codes "Saturday"
+weekday_shown Sunday = codes "Sunday"

@@ -1,0 +1,205 @@
+//! Days and moments before and after others.
+ghost use Rattle.std.specs.Prelude.{◌≡◌, ◌+◌, IfSome, IfNone, ◌+ℤ◌, ◌-ℤ◌};
+ghost use Rattle.time_values.specs.Calendar as Calendar;
+ghost use Rattle.time_values.specs.Dates as Dates;
+ghost use Rattle.time_values.specs.Durations.{length, nearest_instant};
+ghost use Rattle.time_values.specs.Instants.{IsInstant};
+ghost use Rattle.time_values.specs.Moments.{plain_instant, utc_instant, offset_clock, offset_of};
+ghost use Rattle.time_values.specs.Range.{greatest_year};
+
+use crate::days::DAY_LIMIT;
+use crate::utc_date_time::{MAX_NANOS, MIN_NANOS, is_instant};
+use crate::{Date, Duration, OffsetDateTime, PlainDateTime, UtcDateTime};
+
+impl Date {
+    /// The next day, or `None` of `Date::MAX`.
+    #[tactic(auto, using(crate::proofs::InstantLemmas::instant_facts))]
+    pub fn next_day(self) -> Option<Date>
+        ensures value { IfSome result (λ d. Dates.day_number greatest_year d ≡ Dates.day_number greatest_year self + 1) }
+        ensures none { IfNone result (Dates.day_number greatest_year self + 1 ≡ Calendar.day_limit greatest_year) }
+    {
+        let day = self.day_number() + 1;
+        if day == DAY_LIMIT {
+            return None;
+        }
+        Some(Date::from_day_number(day))
+    }
+
+    /// The day before, or `None` of `Date::MIN`.
+    #[tactic(auto, using(crate::proofs::InstantLemmas::instant_facts))]
+    pub fn previous_day(self) -> Option<Date>
+        ensures value { IfSome result (λ d. Dates.day_number greatest_year d + 1 ≡ Dates.day_number greatest_year self) }
+        ensures none { IfNone result (Dates.day_number greatest_year self ≡ 0) }
+    {
+        let day = self.day_number();
+        if day == 0 {
+            return None;
+        }
+        Some(Date::from_day_number(day - 1))
+    }
+}
+
+// The date and time at an instant, or `None` where there is no such date.
+fn checked(nanos: i128) -> Option<UtcDateTime>
+    ensures value { IfSome result (λ u. utc_instant greatest_year u ≡ nanos) }
+    ensures none { IfNone result (¬ (IsInstant greatest_year nanos)) }
+{
+    if !is_instant(nanos) {
+        return None;
+    }
+    Some(UtcDateTime::at_instant(nanos))
+}
+
+// The date and time at the nearest instant that has them.
+#[tactic(auto, using(crate::proofs::InstantLemmas::instant_facts))]
+fn nearest(nanos: i128) -> UtcDateTime
+    ensures { utc_instant greatest_year result ≡ nearest_instant greatest_year nanos }
+{
+    if nanos < MIN_NANOS {
+        return UtcDateTime::at_instant(MIN_NANOS);
+    }
+    if nanos > MAX_NANOS {
+        return UtcDateTime::at_instant(MAX_NANOS);
+    }
+    UtcDateTime::at_instant(nanos)
+}
+
+impl UtcDateTime {
+    // The nanoseconds since 1970-01-01T00:00:00Z of the moment that much later.
+    fn nanos_after(self, duration: Duration) -> i128
+        ensures { result ≡ utc_instant greatest_year self +ℤ length duration }
+    {
+        self.unix_timestamp_nanos() + duration.whole_nanoseconds()
+    }
+
+    // The nanoseconds since 1970-01-01T00:00:00Z of the moment that much earlier.
+    fn nanos_before(self, duration: Duration) -> i128
+        ensures { result ≡ utc_instant greatest_year self -ℤ length duration }
+    {
+        self.unix_timestamp_nanos() - duration.whole_nanoseconds()
+    }
+
+    /// The moment that much later, or `None` where it has no date in UTC.
+    pub fn checked_add(self, duration: Duration) -> Option<UtcDateTime>
+        ensures value { IfSome result (λ u.
+            utc_instant greatest_year u ≡ utc_instant greatest_year self +ℤ length duration) }
+        ensures none { IfNone result (¬ (IsInstant greatest_year
+            (utc_instant greatest_year self +ℤ length duration))) }
+    {
+        checked(self.nanos_after(duration))
+    }
+
+    /// The moment that much earlier, or `None` where it has no date in UTC.
+    pub fn checked_sub(self, duration: Duration) -> Option<UtcDateTime>
+        ensures value { IfSome result (λ u.
+            utc_instant greatest_year u ≡ utc_instant greatest_year self -ℤ length duration) }
+        ensures none { IfNone result (¬ (IsInstant greatest_year
+            (utc_instant greatest_year self -ℤ length duration))) }
+    {
+        checked(self.nanos_before(duration))
+    }
+
+    /// The moment that much later, or the nearest one that has a date in UTC.
+    pub fn saturating_add(self, duration: Duration) -> UtcDateTime
+        ensures { utc_instant greatest_year result
+            ≡ nearest_instant greatest_year (utc_instant greatest_year self +ℤ length duration) }
+    {
+        nearest(self.nanos_after(duration))
+    }
+
+    /// The moment that much earlier, or the nearest one that has a date in UTC.
+    pub fn saturating_sub(self, duration: Duration) -> UtcDateTime
+        ensures { utc_instant greatest_year result
+            ≡ nearest_instant greatest_year (utc_instant greatest_year self -ℤ length duration) }
+    {
+        nearest(self.nanos_before(duration))
+    }
+}
+
+impl PlainDateTime {
+    /// What the clock shows that much later, or `None` where there is no such date.
+    pub fn checked_add(self, duration: Duration) -> Option<PlainDateTime>
+        ensures value { IfSome result (λ p.
+            plain_instant greatest_year p ≡ plain_instant greatest_year self +ℤ length duration) }
+        ensures none { IfNone result (¬ (IsInstant greatest_year
+            (plain_instant greatest_year self +ℤ length duration))) }
+    {
+        let clock = self.as_utc().checked_add(duration)?;
+        Some(PlainDateTime::new(clock.date(), clock.time()))
+    }
+
+    /// What the clock shows that much earlier, or `None` where there is no such date.
+    pub fn checked_sub(self, duration: Duration) -> Option<PlainDateTime>
+        ensures value { IfSome result (λ p.
+            plain_instant greatest_year p ≡ plain_instant greatest_year self -ℤ length duration) }
+        ensures none { IfNone result (¬ (IsInstant greatest_year
+            (plain_instant greatest_year self -ℤ length duration))) }
+    {
+        let clock = self.as_utc().checked_sub(duration)?;
+        Some(PlainDateTime::new(clock.date(), clock.time()))
+    }
+
+    /// What the clock shows that much later, or the first or the last that it can show.
+    pub fn saturating_add(self, duration: Duration) -> PlainDateTime
+        ensures { plain_instant greatest_year result
+            ≡ nearest_instant greatest_year (plain_instant greatest_year self +ℤ length duration) }
+    {
+        let clock = self.as_utc().saturating_add(duration);
+        PlainDateTime::new(clock.date(), clock.time())
+    }
+
+    /// What the clock shows that much earlier, or the first or the last that it can show.
+    pub fn saturating_sub(self, duration: Duration) -> PlainDateTime
+        ensures { plain_instant greatest_year result
+            ≡ nearest_instant greatest_year (plain_instant greatest_year self -ℤ length duration) }
+    {
+        let clock = self.as_utc().saturating_sub(duration);
+        PlainDateTime::new(clock.date(), clock.time())
+    }
+}
+
+impl OffsetDateTime {
+    /// The moment that much later at the same offset, or `None` where the clock shows no date then.
+    pub fn checked_add(self, duration: Duration) -> Option<OffsetDateTime>
+        ensures value { IfSome result (λ v.
+            offset_clock greatest_year v ≡ offset_clock greatest_year self +ℤ length duration) }
+        ensures offset { IfSome result (λ v. offset_of v ≡ offset_of self) }
+        ensures none { IfNone result (¬ (IsInstant greatest_year
+            (offset_clock greatest_year self +ℤ length duration))) }
+    {
+        let clock = UtcDateTime::new(self.date(), self.time()).checked_add(duration)?;
+        Some(OffsetDateTime::new_in_offset(clock.date(), clock.time(), self.offset()))
+    }
+
+    /// The moment that much earlier at the same offset, or `None` where the clock shows no date then.
+    pub fn checked_sub(self, duration: Duration) -> Option<OffsetDateTime>
+        ensures value { IfSome result (λ v.
+            offset_clock greatest_year v ≡ offset_clock greatest_year self -ℤ length duration) }
+        ensures offset { IfSome result (λ v. offset_of v ≡ offset_of self) }
+        ensures none { IfNone result (¬ (IsInstant greatest_year
+            (offset_clock greatest_year self -ℤ length duration))) }
+    {
+        let clock = UtcDateTime::new(self.date(), self.time()).checked_sub(duration)?;
+        Some(OffsetDateTime::new_in_offset(clock.date(), clock.time(), self.offset()))
+    }
+
+    /// The moment that much later at the same offset, or the first or the last that the clock can show.
+    pub fn saturating_add(self, duration: Duration) -> OffsetDateTime
+        ensures value { offset_clock greatest_year result
+            ≡ nearest_instant greatest_year (offset_clock greatest_year self +ℤ length duration) }
+        ensures offset { offset_of result ≡ offset_of self }
+    {
+        let clock = UtcDateTime::new(self.date(), self.time()).saturating_add(duration);
+        OffsetDateTime::new_in_offset(clock.date(), clock.time(), self.offset())
+    }
+
+    /// The moment that much earlier at the same offset, or the first or the last that the clock can show.
+    pub fn saturating_sub(self, duration: Duration) -> OffsetDateTime
+        ensures value { offset_clock greatest_year result
+            ≡ nearest_instant greatest_year (offset_clock greatest_year self -ℤ length duration) }
+        ensures offset { offset_of result ≡ offset_of self }
+    {
+        let clock = UtcDateTime::new(self.date(), self.time()).saturating_sub(duration);
+        OffsetDateTime::new_in_offset(clock.date(), clock.time(), self.offset())
+    }
+}

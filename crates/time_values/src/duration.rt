@@ -1,0 +1,80 @@
+ghost use Rattle.std.specs.Prelude.{◌≡◌, ◌↔◌, IsTrue, pos, ◌+ℤ◌, ◌-ℤ◌, ◌*ℤ◌, ◌<ℤ◌};
+ghost use Rattle.time_values.specs.Lengths.{IsLength, IsNear};
+
+/// A length of time, in nanoseconds of either sign. Its whole seconds have 64 bits.
+#[derive(Clone, Copy, Debug, PartialEq, Eq, PartialOrd, Ord, Hash)]
+pub struct Duration {
+    nanoseconds: i128,
+    pub ghost in_range: { IsLength nanoseconds },
+}
+
+impl Duration {
+    ghost use Rattle.time_values.specs.Durations as Durations;
+
+    /// No time at all.
+    pub const ZERO: Duration = Duration { nanoseconds: 0 };
+
+    /// That many seconds and nanoseconds together, each of either sign. The whole seconds must have 64 bits, as they
+    /// always do where the nanoseconds are fewer than a second's.
+    pub fn new(seconds: i64, nanoseconds: i32) -> Duration
+        requires { IsLength ((seconds *ℤ pos 1_000_000_000) +ℤ nanoseconds) }
+        ensures { Durations.length result ≡ (seconds *ℤ pos 1_000_000_000) +ℤ nanoseconds }
+    {
+        Duration {
+            nanoseconds: seconds as i128 * 1_000_000_000 + nanoseconds as i128,
+        }
+    }
+
+    /// That many seconds.
+    pub fn seconds(seconds: i64) -> Duration
+        ensures { Durations.length result ≡ seconds *ℤ pos 1_000_000_000 }
+    {
+        Duration::new(seconds, 0)
+    }
+
+    /// That many nanoseconds.
+    pub fn nanoseconds(nanoseconds: i64) -> Duration
+        ensures { Durations.length result ≡ nanoseconds }
+    {
+        Duration {
+            nanoseconds: nanoseconds as i128,
+        }
+    }
+
+    // The time between two moments in nanoseconds since 1970.
+    pub(crate) fn between(later: i128, earlier: i128) -> Duration
+        requires { IsNear later × IsNear earlier }
+        ensures { Durations.length result ≡ later -ℤ earlier }
+    {
+        Duration {
+            nanoseconds: later - earlier,
+        }
+    }
+
+    /// The whole nanoseconds.
+    #[inline]
+    pub fn whole_nanoseconds(self) -> i128
+        ensures value { result ≡ Durations.length self }
+        ensures range { IsLength result }
+    {
+        self.nanoseconds
+    }
+
+    /// The whole seconds, rounded towards 0.
+    pub fn whole_seconds(self) -> i64
+        ensures { Durations.IsTowardsZero 1_000_000_000 (Durations.length self) result }
+    {
+        let magnitude = (self.nanoseconds.unsigned_abs() / 1_000_000_000) as i128;
+        if self.nanoseconds < 0 {
+            return -magnitude as i64;
+        }
+        magnitude as i64
+    }
+
+    /// Whether this is less than no time.
+    pub fn is_negative(self) -> bool
+        ensures { IsTrue result ↔ (Durations.length self <ℤ pos 0) }
+    {
+        self.nanoseconds < 0
+    }
+}

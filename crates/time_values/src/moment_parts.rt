@@ -1,0 +1,5 @@
+//! The parts of the date and of the time of a date-time.
+
+mod offset;
+mod plain;
+mod utc;

@@ -1,0 +1,164 @@
+//! Values as they are printed.
+ghost use Rattle.std.specs.Prelude.{◌≡◌, ◌+◌, ◌<◌, ◌≤◌, ◌++◌, length, Some};
+ghost use Rattle.std.specs.Fmt.{signed_decimal};
+ghost use Rattle.time_values.specs.Moments.{nanoseconds};
+ghost use Rattle.time_values.specs.Shown as Shown;
+
+use crate::digits::{five, four, pair, six};
+use crate::fraction::{append_fraction, count_significant};
+use crate::text::Text;
+use crate::{Date, OffsetDateTime, PlainDateTime, Time, Timestamp, UtcDateTime, UtcOffset};
+use std::{fmt, str};
+
+// Puts the sign of a year that has not four digits.
+fn append_year_sign(text: &mut Text, year: i32)
+    requires { length text.old.items ≤ 0 }
+    ensures text { text.new.items ≡ text.old.items ++ Shown.year_sign_shown year }
+    ensures room { length text.new.items ≤ 1 }
+{
+    if year < 0 {
+        text.append(b"-");
+        return;
+    }
+    if year > 9999 {
+        text.append(b"+");
+    }
+}
+
+// Puts the digits of a year, at least four.
+fn append_magnitude(text: &mut Text, n: u32)
+    requires n { n < 1_000_000 }
+    requires room { length text.old.items ≤ 1 }
+    ensures text { text.new.items ≡ text.old.items ++ Shown.magnitude_shown n }
+    ensures room { length text.new.items ≤ 7 }
+{
+    if n < 10_000 {
+        text.append(&four(n));
+        return;
+    }
+    if n < 100_000 {
+        text.append(&five(n));
+    } else {
+        text.append(&six(n));
+    }
+}
+
+/// `YYYY-MM-DD`. A year outside 0 to 9999 has a sign, and as many digits as it takes.
+impl fmt::Display for Date {
+    ghost output = { λ d. Some (Shown.date_shown d) };
+
+    fn fmt<W: fmt::Write>(&self, f: &mut fmt::Formatter<W>) -> fmt::Result {
+        let mut text = Text::new();
+        append_year_sign(&mut text, self.year());
+        append_magnitude(&mut text, self.year().unsigned_abs());
+        text.append(b"-");
+        text.append(&pair(self.month().number()));
+        text.append(b"-");
+        text.append(&pair(self.day()));
+        f.write_str(str::from_utf8(text.as_bytes()).map_err(|_| fmt::Error)?)
+    }
+}
+
+// Puts the hour, of one digit or two.
+fn append_hour(text: &mut Text, hour: u8)
+    requires hour { hour < 24 }
+    requires room { length text.old.items ≤ 0 }
+    ensures text { text.new.items ≡ text.old.items ++ Shown.hour_shown hour }
+    ensures room { length text.new.items ≤ 2 }
+{
+    if hour < 10 {
+        text.append(&[b'0' + hour]);
+    } else {
+        text.append(&pair(hour));
+    }
+}
+
+/// `H:MM:SS.n`. The hour has one digit or two, and the fraction at least one and no zero at its end that can be left out.
+impl fmt::Display for Time {
+    ghost output = { λ t. Some (Shown.time_shown t) };
+
+    fn fmt<W: fmt::Write>(&self, f: &mut fmt::Formatter<W>) -> fmt::Result {
+        let mut text = Text::new();
+        append_hour(&mut text, self.hour());
+        text.append(b":");
+        text.append(&pair(self.minute()));
+        text.append(b":");
+        text.append(&pair(self.second()));
+        let digits = count_significant(self.nanosecond()).max(1);
+        append_fraction(&mut text, digits, self.nanosecond());
+        f.write_str(str::from_utf8(text.as_bytes()).map_err(|_| fmt::Error)?)
+    }
+}
+
+// `-` where a part is below 0, and else `+`.
+fn sign_of(offset: UtcOffset) -> u8
+    ensures { result ≡ Shown.offset_sign_shown offset }
+{
+    let (hours, minutes, seconds) = offset.as_hms();
+    if hours < 0 || minutes < 0 || seconds < 0 {
+        b'-'
+    } else {
+        b'+'
+    }
+}
+
+// `+HH:MM:SS`.
+fn offset_bytes(offset: UtcOffset) -> [u8; 9]
+    ensures { result ≡ Shown.offset_shown offset }
+{
+    let (hours, minutes, seconds) = offset.as_hms();
+    let [h1, h2] = pair(hours.unsigned_abs());
+    let [m1, m2] = pair(minutes.unsigned_abs());
+    let [s1, s2] = pair(seconds.unsigned_abs());
+    [sign_of(offset), h1, h2, b':', m1, m2, b':', s1, s2]
+}
+
+/// `+HH:MM:SS`, with `-` where a part is below 0.
+impl fmt::Display for UtcOffset {
+    ghost output = { λ o. Some (Shown.offset_shown o) };
+
+    fn fmt<W: fmt::Write>(&self, f: &mut fmt::Formatter<W>) -> fmt::Result {
+        let bytes = offset_bytes(*self);
+        f.write_str(str::from_utf8(&bytes).map_err(|_| fmt::Error)?)
+    }
+}
+
+/// The date, a space, and the time.
+impl fmt::Display for PlainDateTime {
+    ghost output = { λ p. Some (Shown.plain_shown p) };
+
+    fn fmt<W: fmt::Write>(&self, f: &mut fmt::Formatter<W>) -> fmt::Result {
+        let (date, time) = (self.date(), self.time());
+        write!(f, "{date} {time}")
+    }
+}
+
+/// The date, a space, the time, and ` +00`.
+impl fmt::Display for UtcDateTime {
+    ghost output = { λ u. Some (Shown.utc_shown u) };
+
+    fn fmt<W: fmt::Write>(&self, f: &mut fmt::Formatter<W>) -> fmt::Result {
+        let (date, time) = (self.date(), self.time());
+        write!(f, "{date} {time} +00")
+    }
+}
+
+/// The date, the time and the offset, with a space between them.
+impl fmt::Display for OffsetDateTime {
+    ghost output = { λ v. Some (Shown.moment_shown v) };
+
+    fn fmt<W: fmt::Write>(&self, f: &mut fmt::Formatter<W>) -> fmt::Result {
+        let (date, time, offset) = (self.date(), self.time(), self.offset());
+        write!(f, "{date} {time} {offset}")
+    }
+}
+
+/// The nanoseconds since 1970-01-01T00:00:00Z, as a decimal number.
+impl fmt::Display for Timestamp {
+    ghost output = { λ t. Some (signed_decimal (nanoseconds t)) };
+
+    fn fmt<W: fmt::Write>(&self, f: &mut fmt::Formatter<W>) -> fmt::Result {
+        let nanoseconds = self.nanoseconds();
+        write!(f, "{nanoseconds}")
+    }
+}

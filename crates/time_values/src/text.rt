@@ -1,0 +1,64 @@
+//! A text of at most 35 bytes.
+ghost use Rattle.std.specs.Prelude.{◌≡◌, ◌+◌, ◌≤◌, [], ◌++◌, take, length};
+ghost use Rattle.time_values.specs.Shown.{Items};
+
+use std::marker::Model;
+
+/// A text of at most 35 bytes, as long as the longest that is written.
+#[derive(Drop)]
+pub struct Text {
+    array: [u8; 35],
+    len: usize,
+}
+
+impl Model for Text {
+    ghost Value = { Items };
+
+    ghost view = { λ t. record { items = take t.len t.array } };
+
+    ghost invariant = { λ t. t.len ≤ 35 };
+}
+
+impl Text {
+    /// The empty one.
+    #[inline(always)]
+    pub fn new() -> Text
+        ensures { result.items ≡ [] }
+    {
+        Text {
+            array: [0; 35],
+            len: 0,
+        }
+    }
+
+    /// The bytes.
+    #[inline]
+    pub fn as_bytes(&self) -> &[u8]
+        ensures { result.now ≡ self.now.items }
+    {
+        &self.array[..self.len]
+    }
+
+    /// Puts bytes after those that stand. There must be room for them.
+    #[inline(always)]
+    pub fn append(&mut self, bytes: &[u8])
+        requires { length self.old.items + length bytes.now ≤ 35 }
+        ensures { self.new.items ≡ self.old.items ++ bytes.now }
+    {
+        let end = self.len + bytes.len();
+        self.array[self.len..end].copy_from_slice(bytes);
+        self.len = end;
+    }
+
+    /// Puts the first `count` of ten bytes after those that stand. There must be room for all ten.
+    #[inline(always)]
+    pub fn append_some(&mut self, bytes: [u8; 10], count: usize)
+        requires room { length self.old.items ≤ 25 }
+        requires count { count ≤ 10 }
+        ensures { self.new.items ≡ self.old.items ++ take count bytes }
+    {
+        let end = self.len + 10;
+        self.array[self.len..end].copy_from_slice(&bytes);
+        self.len += count;
+    }
+}

@@ -1,0 +1,106 @@
+//! Dates, times and offsets as texts have them.
+ghost use Rattle.std.specs.Prelude.{◌≡◌, ◌+◌, ◌≤◌, ◌++◌, length, pos};
+ghost use Rattle.time_values.specs.Calendar.{IsBetween};
+ghost use Rattle.time_values.specs.Dates as Dates;
+ghost use Rattle.time_writing.specs.Texts as Texts;
+
+use time_values::digits::{four, pair};
+use time_values::{Date, Month, Time, UtcOffset, Weekday};
+
+// `YYYY-MM-DD`.
+#[inline(always)]
+pub(crate) fn date(date: Date) -> [u8; 10]
+    requires { IsBetween (pos 0) (pos 9999) (Dates.year date) }
+    ensures { result ≡ Texts.date_text date }
+{
+    let [y1, y2, y3, y4] = four(date.year().unsigned_abs());
+    let [m1, m2] = pair(date.month().number());
+    let [d1, d2] = pair(date.day());
+    [y1, y2, y3, y4, b'-', m1, m2, b'-', d1, d2]
+}
+
+// `HH:MM:SS`.
+#[inline(always)]
+pub(crate) fn clock(time: Time) -> [u8; 8]
+    ensures { result ≡ Texts.clock_text time }
+{
+    let [h1, h2] = pair(time.hour());
+    let [m1, m2] = pair(time.minute());
+    let [s1, s2] = pair(time.second());
+    [h1, h2, b':', m1, m2, b':', s1, s2]
+}
+
+// `-` for an offset behind UTC, and else `+`.
+#[inline]
+pub(crate) fn sign_of(offset: UtcOffset) -> u8
+    ensures { result ≡ Texts.offset_sign offset }
+{
+    let (hours, minutes, _) = offset.as_hms();
+    if hours < 0 || minutes < 0 { b'-' } else { b'+' }
+}
+
+// Whether the offset has neither hours nor minutes.
+#[inline]
+pub(crate) fn is_none(offset: UtcOffset) -> bool
+    ensures { result ≡ Texts.is_none offset }
+{
+    let (hours, minutes, _) = offset.as_hms();
+    hours == 0 && minutes == 0
+}
+
+// `+HH:MM` or `-HH:MM`.
+#[inline(always)]
+pub(crate) fn offset_with_colon(offset: UtcOffset) -> [u8; 6]
+    ensures { result ≡ Texts.numeric_text offset }
+{
+    let (hours, minutes, _) = offset.as_hms();
+    let [h1, h2] = pair(hours.unsigned_abs());
+    let [m1, m2] = pair(minutes.unsigned_abs());
+    [sign_of(offset), h1, h2, b':', m1, m2]
+}
+
+// `+HHMM` or `-HHMM`.
+#[inline(always)]
+pub(crate) fn offset_without_colon(offset: UtcOffset) -> [u8; 5]
+    ensures { result ≡ Texts.zone_text offset }
+{
+    let (hours, minutes, _) = offset.as_hms();
+    let [h1, h2] = pair(hours.unsigned_abs());
+    let [m1, m2] = pair(minutes.unsigned_abs());
+    [sign_of(offset), h1, h2, m1, m2]
+}
+
+// The three letters of a weekday.
+pub(crate) fn weekday_letters(weekday: Weekday) -> [u8; 3]
+    ensures { result ≡ Texts.short_weekday weekday }
+{
+    match weekday {
+        Weekday::Monday => *b"Mon",
+        Weekday::Tuesday => *b"Tue",
+        Weekday::Wednesday => *b"Wed",
+        Weekday::Thursday => *b"Thu",
+        Weekday::Friday => *b"Fri",
+        Weekday::Saturday => *b"Sat",
+        Weekday::Sunday => *b"Sun",
+    }
+}
+
+// The three letters of a month.
+pub(crate) fn month_letters(month: Month) -> [u8; 3]
+    ensures { result ≡ Texts.short_month month }
+{
+    match month {
+        Month::January => *b"Jan",
+        Month::February => *b"Feb",
+        Month::March => *b"Mar",
+        Month::April => *b"Apr",
+        Month::May => *b"May",
+        Month::June => *b"Jun",
+        Month::July => *b"Jul",
+        Month::August => *b"Aug",
+        Month::September => *b"Sep",
+        Month::October => *b"Oct",
+        Month::November => *b"Nov",
+        Month::December => *b"Dec",
+    }
+}

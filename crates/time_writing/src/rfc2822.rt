@@ -1,0 +1,62 @@
+//! Texts of RFC 2822, section 3.3.
+ghost use Rattle.std.specs.Prelude.{◌≡◌, pos};
+ghost use Rattle.time_values.specs.Calendar.{IsBetween};
+ghost use Rattle.time_values.specs.Dates as Dates;
+ghost use Rattle.time_values.specs.Moments.{offset_date};
+ghost use Rattle.time_writing.specs.Texts.{IsMailText, unwritable_2822, WritesSuch};
+
+use crate::parts::{clock, month_letters, offset_without_colon, weekday_letters};
+use crate::unwritable::Unwritable;
+use time_values::OffsetDateTime;
+use time_values::digits::{four, pair};
+use time_values::text::Text;
+
+// The text, where the year has four digits.
+#[inline(always)]
+fn write(value: OffsetDateTime) -> Text
+    requires { IsBetween (pos 0) (pos 9999) (Dates.year (offset_date value)) }
+    ensures { IsMailText value result.items }
+{
+    let date = value.date();
+    let mut text = Text::new();
+    text.append(&weekday_letters(date.weekday()));
+    text.append(b", ");
+    text.append(&pair(date.day()));
+    text.append(b" ");
+    text.append(&month_letters(date.month()));
+    text.append(b" ");
+    text.append(&four(date.year().unsigned_abs()));
+    text.append(b" ");
+    text.append(&clock(value.time()));
+    text.append(b" ");
+    text.append(&offset_without_colon(value.offset()));
+    text
+}
+
+// The first reason why there is no text.
+fn reason(value: OffsetDateTime) -> Option<Unwritable>
+    ensures { result ≡ unwritable_2822 value }
+{
+    let (date, offset) = (value.date(), value.offset());
+    let (_, _, seconds) = offset.as_hms();
+    if date.year() < 1900 || date.year() > 9999 {
+        return Some(Unwritable::Year);
+    }
+    if seconds != 0 {
+        return Some(Unwritable::OffsetSecond);
+    }
+    None
+}
+
+/// The text of a moment by RFC 2822, section 3.3: `Sat, 02 Jan 2021 03:04:05 +0607`. A fraction isn't written.
+///
+/// A moment without such a text is refused, by the first reason that holds: its year is not 1900 to 9999, or its offset
+/// has seconds.
+pub fn text_2822(value: OffsetDateTime) -> Result<Text, Unwritable>
+    ensures { WritesSuch (unwritable_2822 value) (IsMailText value) result }
+{
+    match reason(value) {
+        Some(why) => Err(why),
+        None => Ok(write(value)),
+    }
+}

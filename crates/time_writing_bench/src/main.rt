@@ -1,0 +1,134 @@
+//! Writes four moments in turn many times, so that the instructions of a text can be counted.
+//!
+//! `time_writing_bench CASE TIMES DAY` prints a sum that depends on each text.
+//!
+//! The day comes from outside, and the moments from an array, so that the compiler can do no part of a text once for all.
+#![tactic(auto)]
+
+use std::env::{self, Env};
+use std::io;
+use std::process::ExitCode;
+use time_values::{Date, Month, OffsetDateTime, Time, UtcOffset};
+use time_writing::{FractionDigits, Text, Unwritable, text_2822, text_3339};
+
+// The moment, if there is one.
+fn moment(day: u8, nanosecond: u32, minutes: i8) -> Option<OffsetDateTime> {
+    let Ok(date) = Date::from_calendar_date(2021, Month::March, day) else {
+        return None;
+    };
+    let Ok(time) = Time::from_hms_nano(day, 4, 5, nanosecond) else {
+        return None;
+    };
+    let Ok(offset) = UtcOffset::from_hms(0, minutes, 0) else {
+        return None;
+    };
+    Some(OffsetDateTime::new_in_offset(date, time, offset))
+}
+
+// Four moments, if there are such.
+fn moments(day: u8, nanosecond: u32, minutes: i8) -> Option<[OffsetDateTime; 4]> {
+    let second = if day < 20 { day + 1 } else { day };
+    let third = if second < 20 { second + 1 } else { second };
+    let fourth = if third < 20 { third + 1 } else { third };
+    Some([
+        moment(day, nanosecond, minutes)?,
+        moment(second, nanosecond, minutes)?,
+        moment(third, nanosecond, minutes)?,
+        moment(fourth, nanosecond, minutes)?,
+    ])
+}
+
+// What a text adds to the sum. It is called, so that the whole text is written.
+#[inline(never)]
+fn weight(text: Result<Text, Unwritable>) -> i64 {
+    match text {
+        Ok(text) => i64::from(text.as_bytes().last().copied().unwrap_or(0)),
+        Err(_) => 1,
+    }
+}
+
+// The sum over so many texts of RFC 3339.
+#[inline(never)]
+fn sum(times: u64, values: &[OffsetDateTime; 4], digits: FractionDigits) -> i64 {
+    let mut sum = 0i64;
+    for time in 0..times {
+        let value = values[(time % 4) as usize];
+        sum = sum.wrapping_add(weight(text_3339(value, digits)));
+    }
+    sum
+}
+
+// The sum over so many mail dates.
+#[inline(never)]
+fn mail_sum(times: u64, values: &[OffsetDateTime; 4]) -> i64 {
+    let mut sum = 0i64;
+    for time in 0..times {
+        let value = values[(time % 4) as usize];
+        sum = sum.wrapping_add(weight(text_2822(value)));
+    }
+    sum
+}
+
+// The sum of seconds since 1970.
+#[inline(never)]
+fn second_sum(times: u64, values: &[OffsetDateTime; 4]) -> i64 {
+    let mut sum = 0i64;
+    for time in 0..times {
+        let value = values[(time % 4) as usize];
+        sum = sum.wrapping_add(value.unix_timestamp());
+    }
+    sum
+}
+
+// The sum of days alone: what loop and values cost.
+#[inline(never)]
+fn day_sum(times: u64, values: &[OffsetDateTime; 4]) -> i64 {
+    let mut sum = 0i64;
+    for time in 0..times {
+        let value = values[(time % 4) as usize];
+        sum = sum.wrapping_add(i64::from(value.date().day()));
+    }
+    sum
+}
+
+fn sum_by_name(name: &[u8], times: u64, day: u8) -> Option<i64> {
+    match name {
+        b"none" => Some(day_sum(times, &moments(day, 0, 0)?)),
+        b"mail" => Some(mail_sum(times, &moments(day, 0, 59)?)),
+        b"z" => Some(sum(times, &moments(day, 0, 0)?, FractionDigits::Auto)),
+        b"auto" => Some(sum(times, &moments(day, 520_000_000, 0)?, FractionDigits::Auto)),
+        b"nine" => Some(sum(times, &moments(day, 123_456_789, 59)?, FractionDigits::Exactly(9))),
+        b"micro" => Some(sum(times, &moments(day, 123_456_789, 59)?, FractionDigits::Exactly(6))),
+        b"unix" => Some(second_sum(times, &moments(day, 123_456_789, 59)?)),
+        b"exact0" => Some(sum(times, &moments(day, 123_456_789, 59)?, FractionDigits::Exactly(0))),
+        _ => None,
+    }
+}
+
+// The sum that the arguments ask for, if they are a name and two numbers.
+fn sum_of_arguments<R: Env + Alloc>(rt: &R) -> io::Result<Option<i64>> {
+    let mut arguments = env::args(rt)?.skip(1);
+    let name = arguments.next();
+    let times = arguments.next();
+    let day = arguments.next();
+    let (Some(name), Some(times), Some(day)) = (name, times, day) else {
+        return Ok(None);
+    };
+    let (Ok(times), Ok(day)) = (times.parse::<u64>(), day.parse::<u8>()) else {
+        return Ok(None);
+    };
+    Ok(sum_by_name(name.as_bytes(), times, day))
+}
+
+fn main(rt: HostRuntime) -> io::Result<ExitCode> {
+    match sum_of_arguments(&rt)? {
+        Some(sum) => {
+            println!(rt; "{sum}")?;
+            Ok(ExitCode::SUCCESS)
+        }
+        None => {
+            eprintln!(rt; "usage: time_writing_bench CASE TIMES DAY")?;
+            Ok(ExitCode::from(2))
+        }
+    }
+}

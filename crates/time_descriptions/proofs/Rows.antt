@@ -13,5 +13,6 @@ pub first_row : {V : Type 0} (left : List (Bor (List ℕ) × V)) (x : Bor (List 
 unfolding look_up
 first_row [] x name h e = absurd (omega arith)
 first_row {V} (y ∷ ys) x name h e =
-    let P : Bor (List ℕ) × V → Type 0 = λ z. look_up (map seen_row (y ∷ ys)) name ≡ (if str_eq_ignore_ascii_case z.0.now name then Some z.1 else look_up (map seen_row (drop 1 (y ∷ ys))) name) in
+    let P : Bor (List ℕ) × V → Type 0 = λ z. look_up (map seen_row (y ∷ ys)) name ≡ (if str_eq_ignore_ascii_case z.0.now name then Some z.1 else look_up
+    (map seen_row (drop 1 (y ∷ ys))) name) in
     subst P (sym e) refl

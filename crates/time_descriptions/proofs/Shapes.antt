@@ -43,7 +43,8 @@ mutual
       let bs = further_of bytes after f in
       let rest = ap (λ (xs : List ℕ). drop (length xs) (map step.More bytes ++ after)) bs ∙ drop_further bytes after in
       let fits : length after ≤ n = omega (arith, h, length-append (map step.More bytes) after) in
-      ap (λ (xs : List ℕ). more_trees (literal_tree (b ∷ xs)) (trees_in n (drop (length (further (map step.More bytes ++ after))) (map step.More bytes ++ after)))) bs
+      ap (λ (xs : List ℕ). more_trees (literal_tree (b ∷ xs)) (trees_in n (drop (length (further (map step.More bytes ++ after)))
+      (map step.More bytes ++ after)))) bs
       ∙ ap (λ (ss : List Step). more_trees (literal_tree (b ∷ bytes)) (trees_in n ss)) rest
       ∙ ap (λ (us : Trees). more_trees (literal_tree (b ∷ bytes)) us) (a n fits)
   item_trees (component c) after ts f a (suc n) h = ap (λ (us : Trees). more_trees (component_tree false c) us) (a n (omega (arith, h)))

@@ -6,4 +6,5 @@ use Rattle.time_descriptions.specs.Grammar.{Describes}
 
 -- a text describes one tree
 abbrev pub OneDescription : Type 0
-OneDescription = (version : Version) (text : List ℕ) (a b : Tree) → Describes version text a → Describes version text b → a ≡ b
+OneDescription = (version : Version) (text : List ℕ) (a b : Tree) → Describes version text a
+    → Describes version text b → a ≡ b

@@ -63,9 +63,17 @@ full_year true false m =
 -- a century, likewise
 abbrev pub century : Bool → Bool → Modifiers → Component
 century false true m =
-    component.CalendarYearCenturyExtendedRange (record { padding = m.padding; sign_is_mandatory = m.sign_is_mandatory })
+    component.CalendarYearCenturyExtendedRange (record {
+      padding = m.padding;
+      sign_is_mandatory =
+          m.sign_is_mandatory;
+    })
 century false false m =
-    component.CalendarYearCenturyStandardRange (record { padding = m.padding; sign_is_mandatory = m.sign_is_mandatory })
+    component.CalendarYearCenturyStandardRange (record {
+      padding = m.padding;
+      sign_is_mandatory =
+          m.sign_is_mandatory;
+    })
 century true true m =
     component.IsoYearCenturyExtendedRange (record { padding = m.padding; sign_is_mandatory = m.sign_is_mandatory })
 century true false m =
@@ -117,7 +125,10 @@ abbrev pub hour : Modifiers → Component
 hour m = hour_as m.representation m
 
 abbrev pub unix_timestamp_as : Precision → Modifiers → Component
-unix_timestamp_as precision.Second m = component.UnixTimestampSecond (record { sign_is_mandatory = m.sign_is_mandatory })
+unix_timestamp_as precision.Second m = component.UnixTimestampSecond (record {
+  sign_is_mandatory =
+      m.sign_is_mandatory;
+})
 unix_timestamp_as precision.Millisecond m =
     component.UnixTimestampMillisecond (record { sign_is_mandatory = m.sign_is_mandatory })
 unix_timestamp_as precision.Microsecond m =

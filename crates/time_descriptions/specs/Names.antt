@@ -9,23 +9,23 @@ use Rattle.time_descriptions.specs.declared.names.ModifierKey.TheVariants as key
 -- the components
 unfoldable pub component_names : Rows ComponentName
 component_names =
-    (codes "day", name.Day)
-    ∷ (codes "end", name.End)
-    ∷ (codes "hour", name.Hour)
-    ∷ (codes "ignore", name.Ignore)
-    ∷ (codes "minute", name.Minute)
+    (codes "year", name.Year)
     ∷ (codes "month", name.Month)
+    ∷ (codes "day", name.Day)
+    ∷ (codes "hour", name.Hour)
+    ∷ (codes "minute", name.Minute)
+    ∷ (codes "second", name.Second)
+    ∷ (codes "subsecond", name.Subsecond)
     ∷ (codes "offset_hour", name.OffsetHour)
     ∷ (codes "offset_minute", name.OffsetMinute)
     ∷ (codes "offset_second", name.OffsetSecond)
-    ∷ (codes "ordinal", name.Ordinal)
-    ∷ (codes "period", name.Period)
-    ∷ (codes "second", name.Second)
-    ∷ (codes "subsecond", name.Subsecond)
-    ∷ (codes "unix_timestamp", name.UnixTimestamp)
     ∷ (codes "weekday", name.Weekday)
     ∷ (codes "week_number", name.WeekNumber)
-    ∷ (codes "year", name.Year)
+    ∷ (codes "ordinal", name.Ordinal)
+    ∷ (codes "period", name.Period)
+    ∷ (codes "unix_timestamp", name.UnixTimestamp)
+    ∷ (codes "ignore", name.Ignore)
+    ∷ (codes "end", name.End)
     ∷ []
 
 abbrev pub padding_key : List ℕ × ModifierKey

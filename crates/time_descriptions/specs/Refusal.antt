@@ -40,7 +40,8 @@ refusal_text (modifier value index) = None
 refusal_text (missing_name index) = Some (codes "missing component name at byte index " ++ decimal index)
 refusal_text (missing_modifier name index) =
     Some (codes "missing required modifier `" ++ (name ++ (codes "` for component at byte index " ++ decimal index)))
-refusal_text (expected_here what index) = Some (codes "expected " ++ (what ++ (codes " at byte index " ++ decimal index)))
+refusal_text (expected_here what index) = Some (codes "expected " ++ (what ++
+    (codes " at byte index " ++ decimal index)))
 refusal_text (not_supported what context index) =
     Some (what ++ (codes " is not supported in " ++ (context ++ (codes " at byte index " ++ decimal index))))
 refusal_text too_long = Some (codes "the description is too long")

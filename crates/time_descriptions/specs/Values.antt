@@ -22,12 +22,15 @@ use Rattle.time_descriptions.specs.declared.values.Modifier.TheVariants as modif
 -- the forms of a component
 unfoldable pub representations : ComponentName → Rows Representation
 representations name.Hour = (codes "24", form.Default) ∷ (codes "12", form.Twelve) ∷ []
-representations name.Month = (codes "numerical", form.Default) ∷ (codes "long", form.Long) ∷ (codes "short", form.Short) ∷ []
+representations name.Month = (codes "numerical", form.Default) ∷ (codes "long", form.Long) ∷
+    (codes "short", form.Short) ∷ []
 representations name.Weekday =
     (codes "long", form.Default) ∷ (codes "short", form.Short)
     ∷ (codes "sunday", form.Sunday) ∷ (codes "monday", form.Monday) ∷ []
-representations name.WeekNumber = (codes "iso", form.Default) ∷ (codes "sunday", form.Sunday) ∷ (codes "monday", form.Monday) ∷ []
-representations name.Year = (codes "full", form.Default) ∷ (codes "century", form.Century) ∷ (codes "last_two", form.LastTwo) ∷ []
+representations name.WeekNumber = (codes "iso", form.Default) ∷ (codes "sunday", form.Sunday) ∷
+    (codes "monday", form.Monday) ∷ []
+representations name.Year = (codes "full", form.Default) ∷ (codes "century", form.Century) ∷
+    (codes "last_two", form.LastTwo) ∷ []
 representations _ = []
 
 -- of two names the second is yes

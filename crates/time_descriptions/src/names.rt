@@ -73,24 +73,25 @@ pub enum ModifierKey {
     TrailingInput,
 }
 
+// The commonest names come first.
 const COMPONENT_NAMES: [(&[u8], ComponentName); 17] = [
-    (b"day", ComponentName::Day),
-    (b"end", ComponentName::End),
-    (b"hour", ComponentName::Hour),
-    (b"ignore", ComponentName::Ignore),
-    (b"minute", ComponentName::Minute),
+    (b"year", ComponentName::Year),
     (b"month", ComponentName::Month),
+    (b"day", ComponentName::Day),
+    (b"hour", ComponentName::Hour),
+    (b"minute", ComponentName::Minute),
+    (b"second", ComponentName::Second),
+    (b"subsecond", ComponentName::Subsecond),
     (b"offset_hour", ComponentName::OffsetHour),
     (b"offset_minute", ComponentName::OffsetMinute),
     (b"offset_second", ComponentName::OffsetSecond),
-    (b"ordinal", ComponentName::Ordinal),
-    (b"period", ComponentName::Period),
-    (b"second", ComponentName::Second),
-    (b"subsecond", ComponentName::Subsecond),
-    (b"unix_timestamp", ComponentName::UnixTimestamp),
     (b"weekday", ComponentName::Weekday),
     (b"week_number", ComponentName::WeekNumber),
-    (b"year", ComponentName::Year),
+    (b"ordinal", ComponentName::Ordinal),
+    (b"period", ComponentName::Period),
+    (b"unix_timestamp", ComponentName::UnixTimestamp),
+    (b"ignore", ComponentName::Ignore),
+    (b"end", ComponentName::End),
 ];
 
 const PADDING_KEYS: [(&[u8], ModifierKey); 1] = [(b"padding", ModifierKey::Padding)];

@@ -16,16 +16,24 @@ add_group-returns-in-Err g t c =
 pub add_group-returns-in-Err-add_inside : goal.add_group-returns-in-Err-add_inside
 add_group-returns-in-Err-add_inside g t c =
     let h : length c.open_group.new.steps.items + (length c.in-Ok.inside.now + 1) ≤ length c.args.steps.now.items + length c.args.text.now =
-    omega (arith, c.in-Ok.ensures.shorter, ap length c.in_ok-index-in-Ok.ensures.ok.1, length-append c.args.steps.now.items (step.Group c.args.group 0 ∷ [])) in
+    omega (
+      arith,
+      c.in-Ok.ensures.shorter,
+      ap length c.in_ok-index-in-Ok.ensures.ok.1,
+      length-append c.args.steps.now.items
+          (step.Group c.args.group 0 ∷ []),
+    ) in
     fault_on _ _ _ _ _ _ c.in-Err-add_inside.ensures h
-    (not_inside (item c.args.version c.args.depth true) c.args.opening c.args.group c.args.text.now c.in-Ok.inside.now c.in-Ok.ensures.reads c.in-Err-add_inside.fault)
+    (not_inside (item c.args.version c.args.depth true) c.args.opening c.args.group c.args.text.now c.in-Ok.inside.now c.in-Ok.ensures.reads
+    c.in-Err-add_inside.fault)
 
 pub add_group-returns-in-Ok-add_inside : goal.add_group-returns-in-Ok-add_inside
 add_group-returns-in-Ok-add_inside g t c =
     let added = c.in-Ok-add_inside.ensures in
     let begun = c.in_ok-index-in-Ok.ensures.ok in
     let mid : List Step = c.add_inside.new.steps.items in
-    let room : length mid + length c.in-Ok-add_inside.rest.now ≤ length (c.args.steps.now.items ++ step.Group c.args.group 0 ∷ []) + (length c.in-Ok.inside.now + 1) = omega (arith, added.3, ap length begun.1) in
+    let room : length mid + length c.in-Ok-add_inside.rest.now ≤ length (c.args.steps.now.items ++ step.Group c.args.group 0 ∷ []) +
+    (length c.in-Ok.inside.now + 1) = omega (arith, added.3, ap length begun.1) in
     group_ends (item c.args.version c.args.depth true) c.args.opening c.args.group c.args.text.now c.in-Ok.inside.now c.in-Ok.ensures.reads g.row.N
     c.in-Ok-add_inside.rest.now added.0 c.args.steps.now.items mid c.close_group.new.steps.items c.closed.result added.1
     c.closed.ensures.reads c.closed.ensures.shorter (added.2 ∙ ap (λ (ss : List Step). ss ++ flat added.0) begun.1) room c.in-Ok.ensures.shorter
@@ -36,18 +44,21 @@ add_item-returns-then-depth-eq0-clause-adds g t c =
     inr (too_deep c.args.version c.args.depth c.args.nested c.args.text.now (c.in-Some.group, c.in-Some.rest.now) c.if-depth-eq0.true c.in-Some.ensures.found)
 
 pub add_item-returns-in-None-clause-adds : goal.add_item-returns-in-None-clause-adds
-add_item-returns-in-None-clause-adds g t c = rw (plain_item c.args.version c.args.depth c.args.nested c.args.text.now c.in-None.ensures.found) c.add_leaf.ensures.adds
+add_item-returns-in-None-clause-adds g t c = rw (plain_item c.args.version c.args.depth c.args.nested c.args.text.now c.in-None.ensures.found)
+    c.add_leaf.ensures.adds
 
 pub add_item-returns-else-depth-eq0-clause-adds : goal.add_item-returns-else-depth-eq0-clause-adds
 add_item-returns-else-depth-eq0-clause-adds g t c =
     let h : c.args.depth ≡ suc (c.args.depth - 1) = omega arith in
     let within : length c.in-Some.rest.now ≤ length c.args.text.now = omega (arith, c.in-Some.ensures.shorter) in
     rw (deeper c.args.version c.args.depth (c.args.depth - 1) c.args.nested c.args.text.now (c.in-Some.group, c.in-Some.rest.now) h c.in-Some.ensures.found)
-    (more_room steps_of g.row.N _ (length c.in-Some.rest.now) (length c.args.text.now) c.args.steps.now.items c.add_group.result c.add_group.new.steps.items within c.add_group.ensures)
+    (more_room steps_of g.row.N _ (length c.in-Some.rest.now) (length c.args.text.now) c.args.steps.now.items c.add_group.result
+    c.add_group.new.steps.items within c.add_group.ensures)
 
 pub add_item-returns-else-depth-eq0-clause-shorter : goal.add_item-returns-else-depth-eq0-clause-shorter
 add_item-returns-else-depth-eq0-clause-shorter g t c =
-    shorter_of steps_of g.row.N _ (length c.in-Some.rest.now) (length c.args.text.now) c.args.steps.now.items c.add_group.result c.add_group.new.steps.items c.in-Some.ensures.shorter c.add_group.ensures
+    shorter_of steps_of g.row.N _ (length c.in-Some.rest.now) (length c.args.text.now) c.args.steps.now.items c.add_group.result
+    c.add_group.new.steps.items c.in-Some.ensures.shorter c.add_group.ensures
 
 pub add_items-loop-version-init : goal.add_items-loop-version-init
 add_items-loop-version-init g t c =
@@ -72,7 +83,8 @@ add_items-loop-version-preserved g t c =
       within = omega (arith, i.within, c.in-Ok.ensures.shorter);
       steps = next_steps c.args.steps.now.items c.loop-version.steps.items c.add_item.new.steps.items i.front added.0 i.steps added.2;
       room = omega (arith, i.room, added.3);
-      told = at_item (item c.args.version c.args.depth c.args.nested) c.args.nested c.loop-version.rest.now _ i.front i.most i.told (i.most - 1) added.0 c.in-Ok.unread.now h on added.1;
+      told = at_item (item c.args.version c.args.depth c.args.nested) c.args.nested c.loop-version.rest.now _ i.front i.most i.told
+          (i.most - 1) added.0 c.in-Ok.unread.now h on added.1;
     }
 
 pub add_items-returns-in-Err-clause-adds : goal.add_items-returns-in-Err-clause-adds

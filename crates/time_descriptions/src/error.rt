@@ -66,36 +66,34 @@ impl fmt::Display for InvalidFormatDescription<'_> {
 
     fn fmt<W: fmt::Write>(&self, f: &mut fmt::Formatter<W>) -> fmt::Result {
         match self {
-            InvalidFormatDescription::UnclosedOpeningBracket { index } => {
+            Self::UnclosedOpeningBracket { index } => {
                 write!(f, "unclosed opening bracket at byte index {index}")
             }
-            InvalidFormatDescription::InvalidComponentName { name, index } => {
+            Self::InvalidComponentName { name, index } => {
                 write!(
                     f,
                     "invalid component name `{}` at byte index {index}",
                     name.escape_ascii()
                 )
             }
-            InvalidFormatDescription::InvalidModifier { value, index } => {
+            Self::InvalidModifier { value, index } => {
                 write!(
                     f,
                     "invalid modifier `{}` at byte index {index}",
                     value.escape_ascii()
                 )
             }
-            InvalidFormatDescription::MissingComponentName { index } => {
+            Self::MissingComponentName { index } => {
                 write!(f, "missing component name at byte index {index}")
             }
-            InvalidFormatDescription::MissingRequiredModifier { name, index } => {
+            Self::MissingRequiredModifier { name, index } => {
                 write!(
                     f,
                     "missing required modifier `{name}` for component at byte index {index}"
                 )
             }
-            InvalidFormatDescription::Expected { what, index } => {
-                write!(f, "expected {what} at byte index {index}")
-            }
-            InvalidFormatDescription::NotSupported {
+            Self::Expected { what, index } => { write!(f, "expected {what} at byte index {index}") }
+            Self::NotSupported {
                 what,
                 context,
                 index,
@@ -105,7 +103,7 @@ impl fmt::Display for InvalidFormatDescription<'_> {
                     "{what} is not supported in {context} at byte index {index}"
                 )
             }
-            InvalidFormatDescription::TooLong => write!(f, "the description is too long"),
+            Self::TooLong => write!(f, "the description is too long"),
         }
     }
 }

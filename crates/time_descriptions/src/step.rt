@@ -28,7 +28,8 @@ pub enum Step {
 impl Default for Step {
     ghost is_default = { λ step. Unit {0} };
 
+    #[inline(always)]
     fn default() -> Step {
-        Step::Group(Group::List, 0)
+        Step::Literal(0)
     }
 }

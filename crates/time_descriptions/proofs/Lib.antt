@@ -1,0 +1,5 @@
+pub mod Adding
+pub mod Ignored
+pub mod ModifierSteps
+pub mod Rows
+pub mod Shapes

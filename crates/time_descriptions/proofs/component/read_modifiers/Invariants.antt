@@ -1,0 +1,13 @@
+use Rattle.std.proofs.Common.{◌≡◌, ℕ, suc, ◌<◌, ◌≤◌, length}
+use Rattle.time_descriptions.specs.Components.{modifiers}
+use Rattle.time_descriptions.specs.Modifiers.{default}
+use Rattle.time_descriptions.proofs.component.read_modifiers.Given as goal
+
+-- what is left gives what all gives, with enough steps left
+abbrev pub invariant-loop-name : goal.invariant-loop-name
+invariant-loop-name l =
+    (n : ℕ) × (length l.rest < n) × (length l.rest ≤ length l.text)
+    × (modifiers l.name n l.modifiers l.rest ≡ modifiers l.name (suc (length l.text)) default l.text)
+
+abbrev pub decreases-loop-name : goal.decreases-loop-name
+decreases-loop-name l = length l.rest

@@ -1,0 +1,78 @@
+-- What brackets around a component's name say. Bytes are read from the left, and the first fault counts.
+use Rattle.std.specs.Prelude.{◌≡◌, ℕ, zero, suc, List, [], ◌∷◌, not, ◌==◌, ◌+◌, ◌-◌, length, take, drop, Option, Some, None, Result, Ok, Err, if◌then◌else◌}
+use Rattle.std.specs.List.{prefix_len}
+use Rattle.time_readers.specs.declared.format_description.Component.{Component}
+use Rattle.time_descriptions.specs.declared.fault.Fault.{Fault}
+use Rattle.time_descriptions.specs.declared.fault.Fault.TheVariants as fault
+use Rattle.time_descriptions.specs.declared.fault.Expectation.TheVariants as expected
+use Rattle.time_descriptions.specs.declared.modifiers.Modifiers.{Modifiers}
+use Rattle.time_descriptions.specs.declared.names.ComponentName.{ComponentName}
+use Rattle.time_descriptions.specs.declared.values.Modifier.{Modifier}
+use Rattle.time_descriptions.specs.Modifiers as chosen
+use Rattle.time_descriptions.specs.Names.{component_names, modifier_keys}
+use Rattle.time_descriptions.specs.Values.{modifier_value}
+use Rattle.time_descriptions.specs.Words.{is_space, is_of_word, look_up}
+
+-- what is read in front of a text, and the bytes left after it; or the first fault
+abbrev pub Read : Type 0 → Type 0
+Read A = Result (A × List ℕ) Fault
+
+infixl 10 ◌>>=◌
+abbrev pub ◌>>=◌ : {A B : Type 0} → Result A Fault → (A → Result B Fault) → Result B Fault
+(Ok x) >>= f = f x
+(Err e) >>= f = Err e
+
+-- what an option has, or else the fault
+abbrev pub or_fault : {A : Type 0} → Fault → Option A → Result A Fault
+or_fault e (Some x) = Ok x
+or_fault e None = Err e
+
+-- What a function returned, seen by view, is what reading gives.
+abbrev pub Gives : {X Y : Type 0} → (X → Y) → Result X Fault → Result Y Fault → Type 0
+Gives view (Ok x) read = read ≡ Ok (view x)
+Gives view (Err e) read = read ≡ Err e
+
+-- how many bytes stand before the first colon
+abbrev pub colon : List ℕ → ℕ
+colon text = prefix_len (λ b. not (b == 58)) text
+
+-- modifier = key , ":" , value; so many bytes are left from it on
+unfoldable pub modifier : ComponentName → List ℕ → ℕ → Result Modifier Fault
+modifier name text left =
+    let at = colon text in
+    if at == length text then Err (fault.InvalidModifier left (length text))
+    else (or_fault (fault.InvalidModifier left at) (look_up (modifier_keys name) (take at text))
+    >>= λ key. or_fault (fault.InvalidModifier (left - at - 1) (length (drop (at + 1) text)))
+    (modifier_value name key (drop (at + 1) text)))
+
+-- { space , modifier } , [ space ], with at most n modifiers: the values so far with theirs
+unfoldable pub modifiers : ComponentName → ℕ → Modifiers → List ℕ → Read Modifiers
+modifiers name zero values text = Ok (values, text)
+modifiers name (suc n) values text =
+    let begun = drop (prefix_len is_space text) text in
+    let len = prefix_len is_of_word begun in
+    if len == 0 then Ok (values, begun)
+    else (modifier name (take len begun) (length begun)
+    >>= λ made. modifiers name n (chosen.with_modifier values made) (drop len begun))
+
+-- what stands after a component's closing bracket; so many bytes are left from its opening one on
+abbrev pub after_component : ℕ → List ℕ → Result (List ℕ) Fault
+after_component opening [] = Err (fault.UnclosedOpeningBracket opening)
+after_component opening (b ∷ rest) =
+    if b == 93 then Ok rest
+    else (if b == 91 then Err (fault.Expected expected.Modifier (length (b ∷ rest)))
+    else Err (fault.UnclosedOpeningBracket opening))
+
+-- component = "[" , [ space ] , name , { space , modifier } , [ space ] , "]"
+unfoldable pub bracketed : List ℕ → Read Component
+bracketed text =
+    let inside = drop 1 text in
+    let space = prefix_len is_space inside in
+    let named = drop space inside in
+    let len = prefix_len is_of_word named in
+    if len == 0 then Err (fault.MissingComponentName (if space == 0 then length text else length inside))
+    else (or_fault (fault.InvalidComponentName (length named) len) (look_up component_names (take len named))
+    >>= λ name. modifiers name (suc (length (drop len named))) chosen.default (drop len named)
+    >>= λ read. after_component (length text) read.1
+    >>= λ rest. or_fault (fault.MissingCount (length named)) (chosen.component_of name read.0)
+    >>= λ c. Ok (c, rest))

@@ -1,0 +1,184 @@
+-- The grammar of descriptions. Bytes are read from the left, and the first fault counts.
+--
+--     description = { item }                                to the end of the text
+--     list        = "[" , { item } , "]"
+--     item        = literal | escape | component | optional | first
+--     literal     = plain , { plain }                       as many as there are
+--     plain       = any byte but "[", in version 2 but "\", and inside a list but "]"
+--     escape      = "[[" in version 1, for "[" | "\" , ( "[" | "]" | "\" ) in version 2, for that byte
+--     optional    = "[" , [ space ] , "optional" , space , list , [ space ] , "]"
+--     first       = "[" , [ space ] , "first" , space , list , { [ space ] , list } , [ space ] , "]"
+use Rattle.std.proofs.Common.{Bor}
+use Rattle.std.specs.Prelude.{◌≡◌, ◌⊎◌, ◌+◌, ◌<◌, ◌≤◌, ℕ, zero, suc, List, [], ◌∷◌, ◌++◌, Bool, true, false, not, ◌&&◌, ◌||◌, ◌==◌, length, take, drop, codes, Option, Some, None, Result, Ok, Err, if◌then◌else◌}
+use Rattle.std.specs.List.{prefix_len}
+use Rattle.std.specs.Option.{option_map}
+use Rattle.std.specs.Str.{bytes_eq}
+use Rattle.time_readers.specs.Tree.{Tree, sequence}
+use Rattle.time_descriptions.specs.declared.fault.Fault.{Fault}
+use Rattle.time_descriptions.specs.declared.fault.Fault.TheVariants as fault
+use Rattle.time_descriptions.specs.declared.fault.Expectation.{Expectation}
+use Rattle.time_descriptions.specs.declared.fault.Expectation.TheVariants as expected
+use Rattle.time_descriptions.specs.declared.fault.Unsupported.TheVariants as unsupported
+use Rattle.time_descriptions.specs.declared.step.Group.{Group}
+use Rattle.time_descriptions.specs.declared.step.Group.TheVariants as groups
+use Rattle.time_descriptions.specs.declared.step.Step.{Step}
+use Rattle.time_descriptions.specs.declared.version.Version.{Version}
+use Rattle.time_descriptions.specs.declared.version.Version.TheVariants as versions
+use Rattle.time_descriptions.specs.Components.{Read, ◌>>=◌, bracketed}
+use Rattle.time_descriptions.specs.Items.{Item, literal, component, group, items_of, trees_of}
+use Rattle.time_descriptions.specs.Words.{is_space, is_of_word}
+
+-- whether a backslash escapes
+abbrev pub has_backslash : Version → Bool
+has_backslash versions.One = false
+has_backslash versions.Two = true
+
+-- the items end with the text, or inside a list before its closing bracket
+abbrev pub ends : Bool → List ℕ → Bool
+ends nested [] = true
+ends nested (b ∷ rest) = nested && b == 93
+
+-- plain
+abbrev pub is_plain : Version → Bool → ℕ → Bool
+is_plain version nested b = not (b == 91) && not (has_backslash version && b == 92) && not (nested && b == 93)
+
+-- what stands after that byte in front of the text, or else the fault
+abbrev pub after_byte : ℕ → Fault → List ℕ → Result (List ℕ) Fault
+after_byte byte e [] = Err e
+after_byte byte e (b ∷ rest) = if b == byte then Ok rest else Err e
+
+abbrev pub begins_with : ℕ → List ℕ → Bool
+begins_with byte [] = false
+begins_with byte (b ∷ rest) = b == byte
+
+-- what follows that byte in front of a text
+abbrev pub tail_after : ℕ → List ℕ → Option (List ℕ)
+tail_after byte [] = None
+tail_after byte (b ∷ rest) = if b == byte then Some rest else None
+
+-- the one of nothing, and the other of what is there
+abbrev pub by_option : {A B : Type 0} → B → (A → B) → Option A → B
+by_option without with_it None = without
+by_option without with_it (Some x) = with_it x
+
+-- escape of version 2, after its backslash
+abbrev pub escaped : List ℕ → Read Item
+escaped [] = Err (fault.Expected expected.EscapedByte 0)
+escaped (b ∷ rest) =
+    if (b == 91 || b == 92 || b == 93) then Ok (literal b [], rest)
+    else Err (fault.Expected expected.EscapedByte (length (b ∷ rest)))
+
+-- literal, escape or component; a list ends where there is no byte
+unfoldable pub leaf : Version → Bool → List ℕ → Read Item
+leaf version nested [] = Err (fault.MissingComponentName 0)
+leaf version nested (b ∷ rest) =
+    if b == 91
+    then (if (not (has_backslash version) && begins_with 91 rest) then Ok (literal 91 [], drop 1 rest)
+    else (bracketed (b ∷ rest) >>= λ x. Ok (component x.0, x.1)))
+    else (if (has_backslash version && b == 92) then escaped rest
+    else (let len = prefix_len (is_plain version nested) rest in Ok (literal b (take len rest), drop len rest)))
+
+-- the group that a word opens
+abbrev pub group_named : List ℕ → Option Group
+group_named word =
+    if bytes_eq word (codes "optional") then Some groups.Optional
+    else (if bytes_eq word (codes "first") then Some groups.First else None)
+
+-- "[" , [ space ] , ( "optional" | "first" ): the group, and what stands after the word
+unfoldable pub group_word : List ℕ → Option (Group × List ℕ)
+group_word [] = None
+group_word (b ∷ rest) =
+    let named = drop (prefix_len is_space rest) rest in
+    let len = prefix_len is_of_word named in
+    if b == 91 then option_map (λ g. (g, drop len named)) (group_named (take len named)) else None
+
+abbrev pub space_after : Group → Expectation
+space_after groups.Optional = expected.SpaceAfterOptional
+space_after _ = expected.SpaceAfterFirst
+
+-- space , "[": what stands in the first list of a group
+unfoldable pub opened : Group → List ℕ → Result (List ℕ) Fault
+opened g text =
+    let space = prefix_len is_space text in
+    if space == 0 then Err (fault.Expected (space_after g) (length text))
+    else after_byte 91 (fault.Expected expected.OpeningBracket (length (drop space text))) (drop space text)
+
+-- [ space ] , "]": what stands after a group; so many bytes are left from its opening bracket on
+unfoldable pub closed : ℕ → List ℕ → Result (List ℕ) Fault
+closed opening text = after_byte 93 (fault.UnclosedOpeningBracket opening) (drop (prefix_len is_space text) text)
+
+-- these items, and then those that are read
+abbrev pub before : List Item → Read (List Item) → Read (List Item)
+before front read = read >>= λ x. Ok (front ++ x.0, x.1)
+
+-- { item }, by a reader of an item; each takes a byte at least, so as many as there are bytes are enough
+unfoldable pub items_by : (List ℕ → Read Item) → ℕ → Bool → List ℕ → Read (List Item)
+items_by item zero nested text = Ok ([], text)
+items_by item (suc n) nested text =
+    if ends nested text then Ok ([], text)
+    else (item text >>= λ x. before (x.0 ∷ []) (items_by item n nested x.1))
+
+-- { item } , "]", where a list is open; so many bytes are left from its group's opening bracket on
+abbrev pub list_by : (List ℕ → Read Item) → ℕ → List ℕ → Read (List Item)
+list_by item opening text =
+    items_by item (length text) true text
+    >>= λ x. after_byte 93 (fault.UnclosedOpeningBracket opening) x.1
+    >>= λ rest. Ok (x.0, rest)
+
+-- [ space ] , "[": what stands in the next list, if one follows
+unfoldable pub next_list : List ℕ → Option (List ℕ)
+next_list text = tail_after 91 (drop (prefix_len is_space text) text)
+
+-- { item } , "]" , { [ space ] , list }, with at most n lists
+unfoldable pub lists_by : (List ℕ → Read (List Item)) → ℕ → List ℕ → Read (List Item)
+lists_by list zero text = Ok ([], text)
+lists_by list (suc n) text =
+    list text
+    >>= λ x. by_option (Ok (group groups.List (items_of x.0) ∷ [], x.1))
+    (λ inside. before (group groups.List (items_of x.0) ∷ []) (lists_by list n inside)) (next_list x.1)
+
+-- what stands in a group
+abbrev pub inside_by : (List ℕ → Read (List Item)) → Group → List ℕ → Read (List Item)
+inside_by list groups.Optional text = list text
+inside_by list _ text = lists_by list (suc (length text)) text
+
+-- optional or first, after its word; so many bytes are left from its opening bracket on
+unfoldable pub group_by : (List ℕ → Read Item) → ℕ → Group × List ℕ → Read Item
+group_by item opening found =
+    opened found.0 found.1
+    >>= λ text. inside_by (list_by item opening) found.0 text
+    >>= λ x. closed opening x.1
+    >>= λ rest. Ok (group found.0 (items_of x.0), rest)
+
+-- item, in which at most depth lists stand inside one another
+unfoldable pub item : Version → ℕ → Bool → List ℕ → Read Item
+item version zero nested text =
+    by_option (leaf version nested text) (λ found. Err (fault.NotSupported unsupported.DeepList (length text)))
+    (group_word text)
+item version (suc depth) nested text =
+    by_option (leaf version nested text) (group_by (item version depth true) (length text)) (group_word text)
+
+-- { item }
+abbrev pub items : Version → ℕ → Bool → List ℕ → Read (List Item)
+items version depth nested text = items_by (item version depth nested) (length text) nested text
+
+-- how many lists may stand inside one another
+abbrev pub most_lists : ℕ
+most_lists = 8
+
+-- description: its items, or the first fault
+abbrev pub description : Version → List ℕ → Read (List Item)
+description version text = items version most_lists false text
+
+-- The text describes the tree.
+unfoldable pub Describes : Version → List ℕ → Tree → Type 0
+Describes version text tree =
+    (is : List Item) × (description version text ≡ Ok (is, [])) × (tree ≡ sequence (trees_of (items_of is)))
+
+-- What was added to old are the steps of what is read, and steps and bytes left are no more than there were of old
+-- steps and of room; or the first fault is told, or that n steps are less than that.
+abbrev pub Adds : {A : Type 0} → (A → List Step) → ℕ → Read A → ℕ
+    → List Step → Result (Bor (List ℕ)) Fault → List Step → Type 0
+Adds {A} steps n read room old (Ok rest) new =
+    (x : A) × (read ≡ Ok (x, rest.now)) × (new ≡ old ++ steps x) × (length new + length rest.now ≤ length old + room)
+Adds steps n read room old (Err e) new = ((e ≡ fault.NoRoom) × (n < length old + room)) ⊎ (read ≡ Err e)

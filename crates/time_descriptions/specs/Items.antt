@@ -1,0 +1,57 @@
+-- The items of a description, with the steps that hold them and the trees that they are.
+use Rattle.std.specs.Prelude.{ℕ, List, [], ◌∷◌, ◌++◌, length, map, false}
+use Rattle.time_readers.specs.declared.format_description.Component.{Component}
+use Rattle.time_readers.specs.Tree.{Tree, Trees, sequence, optional, first_of, literal as literal_tree, component as component_tree, none as no_trees, more as more_trees}
+use Rattle.time_descriptions.specs.declared.step.Group.{Group}
+use Rattle.time_descriptions.specs.declared.step.Group.TheVariants as groups
+use Rattle.time_descriptions.specs.declared.step.Step.{Step}
+use Rattle.time_descriptions.specs.declared.step.Step.TheVariants as step
+
+mutual
+  pub data Item : Type 0 where
+    -- a byte, and further ones
+    literal : ℕ → List ℕ → Item
+    component : Component → Item
+    -- an optional item, a choice, or one of its lists
+    group : Group → Items → Item
+
+  pub data Items : Type 0 where
+    none : Items
+    more : Item → Items → Items
+
+-- items in turn
+abbrev pub items_of : List Item → Items
+items_of [] = none
+items_of (i ∷ is) = more i (items_of is)
+
+-- the tree of a group, by the trees in it
+abbrev pub group_tree : Group → Trees → Tree
+group_tree groups.Optional ts = optional (sequence ts)
+group_tree groups.First ts = first_of ts
+group_tree groups.List ts = sequence ts
+
+abbrev mutual
+  -- the tree of an item
+  pub tree_of : Item → Tree
+  tree_of (literal b bytes) = literal_tree (b ∷ bytes)
+  tree_of (component c) = component_tree false c
+  tree_of (group g is) = group_tree g (trees_of is)
+
+  pub trees_of : Items → Trees
+  trees_of none = no_trees
+  trees_of (more i is) = more_trees (tree_of i) (trees_of is)
+
+abbrev mutual
+  -- the steps of an item
+  pub steps_of : Item → List Step
+  steps_of (literal b bytes) = step.Literal b ∷ map step.More bytes
+  steps_of (component c) = step.Component c ∷ []
+  steps_of (group g is) = step.Group g (length (all_steps_of is)) ∷ all_steps_of is
+
+  pub all_steps_of : Items → List Step
+  all_steps_of none = []
+  all_steps_of (more i is) = steps_of i ++ all_steps_of is
+
+-- the steps of items in turn
+abbrev pub flat : List Item → List Step
+flat is = all_steps_of (items_of is)

@@ -1,0 +1,11 @@
+pub mod Components
+pub mod Description
+pub mod Grammar
+pub mod Items
+pub mod Laws
+pub mod Leaves
+pub mod Modifiers
+pub mod Names
+pub mod Refusal
+pub mod Values
+pub mod Words

@@ -1,0 +1,162 @@
+-- The values of a component's modifiers, and the component that they pick.
+use Rattle.std.specs.Prelude.{Bool, true, false, Option, Some, None}
+use Rattle.std.specs.Option.{option_map}
+use Rattle.time_readers.specs.declared.Padding.TheVariants as padding
+use Rattle.time_readers.specs.declared.format_description.Component.{Component}
+use Rattle.time_readers.specs.declared.format_description.Component.TheVariants as component
+use Rattle.time_readers.specs.declared.modifier.SubsecondDigits.TheVariants as digits
+use Rattle.time_readers.specs.declared.modifier.TrailingInput.TheVariants as trailing
+use Rattle.time_descriptions.specs.declared.modifiers.Modifiers.{Modifiers}
+use Rattle.time_descriptions.specs.declared.names.ComponentName.{ComponentName}
+use Rattle.time_descriptions.specs.declared.names.ComponentName.TheVariants as name
+use Rattle.time_descriptions.specs.declared.values.Modifier.{Modifier}
+use Rattle.time_descriptions.specs.declared.values.Modifier.TheVariants as modifier
+use Rattle.time_descriptions.specs.declared.values.Precision.{Precision}
+use Rattle.time_descriptions.specs.declared.values.Precision.TheVariants as precision
+use Rattle.time_descriptions.specs.declared.values.Representation.{Representation}
+use Rattle.time_descriptions.specs.declared.values.Representation.TheVariants as form
+
+-- what holds where no modifier stands
+abbrev pub default : Modifiers
+default =
+    record {
+      is_iso_week = false;
+      is_uppercase = true;
+      case_sensitive = true;
+      count = None;
+      digits = digits.OneOrMore;
+      one_indexed = true;
+      padding = padding.Zero;
+      precision = precision.Second;
+      is_extended = true;
+      representation = form.Default;
+      sign_is_mandatory = false;
+      trailing_input = trailing.Prohibit;
+    }
+
+-- the values with one more, which replaces an earlier one of its key
+abbrev pub with_modifier : Modifiers → Modifier → Modifiers
+with_modifier m (modifier.Base value) = record m { is_iso_week = value }
+with_modifier m (modifier.Case value) = record m { is_uppercase = value }
+with_modifier m (modifier.CaseSensitive value) = record m { case_sensitive = value }
+with_modifier m (modifier.Count value) = record m { count = Some value }
+with_modifier m (modifier.Digits value) = record m { digits = value }
+with_modifier m (modifier.OneIndexed value) = record m { one_indexed = value }
+with_modifier m (modifier.Padding value) = record m { padding = value }
+with_modifier m (modifier.Precision value) = record m { precision = value }
+with_modifier m (modifier.Range value) = record m { is_extended = value }
+with_modifier m (modifier.Representation value) = record m { representation = value }
+with_modifier m (modifier.Sign value) = record m { sign_is_mandatory = value }
+with_modifier m (modifier.TrailingInput value) = record m { trailing_input = value }
+
+-- a full year: whether it is of an ISO week date, and whether its range is extended
+abbrev pub full_year : Bool → Bool → Modifiers → Component
+full_year false true m =
+    component.CalendarYearFullExtendedRange (record { padding = m.padding; sign_is_mandatory = m.sign_is_mandatory })
+full_year false false m =
+    component.CalendarYearFullStandardRange (record { padding = m.padding; sign_is_mandatory = m.sign_is_mandatory })
+full_year true true m =
+    component.IsoYearFullExtendedRange (record { padding = m.padding; sign_is_mandatory = m.sign_is_mandatory })
+full_year true false m =
+    component.IsoYearFullStandardRange (record { padding = m.padding; sign_is_mandatory = m.sign_is_mandatory })
+
+-- a century, likewise
+abbrev pub century : Bool → Bool → Modifiers → Component
+century false true m =
+    component.CalendarYearCenturyExtendedRange (record {
+      padding = m.padding;
+      sign_is_mandatory =
+          m.sign_is_mandatory;
+    })
+century false false m =
+    component.CalendarYearCenturyStandardRange (record {
+      padding = m.padding;
+      sign_is_mandatory =
+          m.sign_is_mandatory;
+    })
+century true true m =
+    component.IsoYearCenturyExtendedRange (record { padding = m.padding; sign_is_mandatory = m.sign_is_mandatory })
+century true false m =
+    component.IsoYearCenturyStandardRange (record { padding = m.padding; sign_is_mandatory = m.sign_is_mandatory })
+
+-- the last two digits of a year: whether it is of an ISO week date
+abbrev pub last_two : Bool → Modifiers → Component
+last_two false m = component.CalendarYearLastTwo (record { padding = m.padding })
+last_two true m = component.IsoYearLastTwo (record { padding = m.padding })
+
+abbrev pub year_as : Representation → Modifiers → Component
+year_as form.Century m = century m.is_iso_week m.is_extended m
+year_as form.LastTwo m = last_two m.is_iso_week m
+year_as _ m = full_year m.is_iso_week m.is_extended m
+
+abbrev pub year : Modifiers → Component
+year m = year_as m.representation m
+
+abbrev pub month_as : Representation → Modifiers → Component
+month_as form.Long m = component.MonthLong (record { case_sensitive = m.case_sensitive })
+month_as form.Short m = component.MonthShort (record { case_sensitive = m.case_sensitive })
+month_as _ m = component.MonthNumerical (record { padding = m.padding })
+
+abbrev pub month : Modifiers → Component
+month m = month_as m.representation m
+
+abbrev pub weekday_as : Representation → Modifiers → Component
+weekday_as form.Short m = component.WeekdayShort (record { case_sensitive = m.case_sensitive })
+weekday_as form.Sunday m = component.WeekdaySunday (record { one_indexed = m.one_indexed })
+weekday_as form.Monday m = component.WeekdayMonday (record { one_indexed = m.one_indexed })
+weekday_as _ m = component.WeekdayLong (record { case_sensitive = m.case_sensitive })
+
+abbrev pub weekday : Modifiers → Component
+weekday m = weekday_as m.representation m
+
+abbrev pub week_number_as : Representation → Modifiers → Component
+week_number_as form.Sunday m = component.WeekNumberSunday (record { padding = m.padding })
+week_number_as form.Monday m = component.WeekNumberMonday (record { padding = m.padding })
+week_number_as _ m = component.WeekNumberIso (record { padding = m.padding })
+
+abbrev pub week_number : Modifiers → Component
+week_number m = week_number_as m.representation m
+
+abbrev pub hour_as : Representation → Modifiers → Component
+hour_as form.Twelve m = component.Hour12 (record { padding = m.padding })
+hour_as _ m = component.Hour24 (record { padding = m.padding })
+
+abbrev pub hour : Modifiers → Component
+hour m = hour_as m.representation m
+
+abbrev pub unix_timestamp_as : Precision → Modifiers → Component
+unix_timestamp_as precision.Second m = component.UnixTimestampSecond (record {
+  sign_is_mandatory =
+      m.sign_is_mandatory;
+})
+unix_timestamp_as precision.Millisecond m =
+    component.UnixTimestampMillisecond (record { sign_is_mandatory = m.sign_is_mandatory })
+unix_timestamp_as precision.Microsecond m =
+    component.UnixTimestampMicrosecond (record { sign_is_mandatory = m.sign_is_mandatory })
+unix_timestamp_as precision.Nanosecond m =
+    component.UnixTimestampNanosecond (record { sign_is_mandatory = m.sign_is_mandatory })
+
+abbrev pub unix_timestamp : Modifiers → Component
+unix_timestamp m = unix_timestamp_as m.precision m
+
+-- the component of that name that the values pick; nothing of `ignore` without a count
+unfoldable pub component_of : ComponentName → Modifiers → Option Component
+component_of name.Day m = Some (component.Day (record { padding = m.padding }))
+component_of name.End m = Some (component.End (record { trailing_input = m.trailing_input }))
+component_of name.Hour m = Some (hour m)
+component_of name.Ignore m = option_map component.Ignore m.count
+component_of name.Minute m = Some (component.Minute (record { padding = m.padding }))
+component_of name.Month m = Some (month m)
+component_of name.OffsetHour m =
+    Some (component.OffsetHour (record { padding = m.padding; sign_is_mandatory = m.sign_is_mandatory }))
+component_of name.OffsetMinute m = Some (component.OffsetMinute (record { padding = m.padding }))
+component_of name.OffsetSecond m = Some (component.OffsetSecond (record { padding = m.padding }))
+component_of name.Ordinal m = Some (component.Ordinal (record { padding = m.padding }))
+component_of name.Period m =
+    Some (component.Period (record { is_uppercase = m.is_uppercase; case_sensitive = m.case_sensitive }))
+component_of name.Second m = Some (component.Second (record { padding = m.padding }))
+component_of name.Subsecond m = Some (component.Subsecond (record { digits = m.digits }))
+component_of name.UnixTimestamp m = Some (unix_timestamp m)
+component_of name.Weekday m = Some (weekday m)
+component_of name.WeekNumber m = Some (week_number m)
+component_of name.Year m = Some (year m)

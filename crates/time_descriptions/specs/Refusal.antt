@@ -1,0 +1,76 @@
+-- Why a text is no description, without where its bytes lie in memory, and what is printed of it.
+use Rattle.std.specs.Prelude.{ℕ, ◌-◌, ◌++◌, List, length, take, drop, codes, Option, Some, None}
+use Rattle.std.specs.Fmt.{decimal}
+use Rattle.time_descriptions.specs.declared.error.InvalidFormatDescription.{InvalidFormatDescription}
+use Rattle.time_descriptions.specs.declared.error.InvalidFormatDescription.TheVariants as error
+use Rattle.time_descriptions.specs.declared.fault.Expectation.{Expectation}
+use Rattle.time_descriptions.specs.declared.fault.Expectation.TheVariants as expected
+use Rattle.time_descriptions.specs.declared.fault.Fault.{Fault}
+use Rattle.time_descriptions.specs.declared.fault.Fault.TheVariants as fault
+use Rattle.time_descriptions.specs.declared.fault.Unsupported.{Unsupported}
+use Rattle.time_descriptions.specs.declared.fault.Unsupported.TheVariants as unsupported
+
+-- each with its index in the text last, and before it the words that it names
+pub data Refusal : Type 0 where
+  unclosed : ℕ → Refusal
+  component_name : List ℕ → ℕ → Refusal
+  modifier : List ℕ → ℕ → Refusal
+  missing_name : ℕ → Refusal
+  missing_modifier : List ℕ → ℕ → Refusal
+  expected_here : List ℕ → ℕ → Refusal
+  not_supported : List ℕ → List ℕ → ℕ → Refusal
+  too_long : Refusal
+
+-- what an error says
+abbrev pub refusal_of : InvalidFormatDescription → Refusal
+refusal_of (error.UnclosedOpeningBracket index) = unclosed index
+refusal_of (error.InvalidComponentName name index) = component_name name.now index
+refusal_of (error.InvalidModifier value index) = modifier value.now index
+refusal_of (error.MissingComponentName index) = missing_name index
+refusal_of (error.MissingRequiredModifier name index) = missing_modifier name.now index
+refusal_of (error.Expected what index) = expected_here what.now index
+refusal_of (error.NotSupported what context index) = not_supported what.now context.now index
+refusal_of error.TooLong = too_long
+
+-- what is printed; a word that the text has may have any bytes, and nothing is said of how it is printed
+abbrev pub refusal_text : Refusal → Option (List ℕ)
+refusal_text (unclosed index) = Some (codes "unclosed opening bracket at byte index " ++ decimal index)
+refusal_text (component_name name index) = None
+refusal_text (modifier value index) = None
+refusal_text (missing_name index) = Some (codes "missing component name at byte index " ++ decimal index)
+refusal_text (missing_modifier name index) =
+    Some (codes "missing required modifier `" ++ (name ++ (codes "` for component at byte index " ++ decimal index)))
+refusal_text (expected_here what index) = Some (codes "expected " ++ (what ++
+    (codes " at byte index " ++ decimal index)))
+refusal_text (not_supported what context index) =
+    Some (what ++ (codes " is not supported in " ++ (context ++ (codes " at byte index " ++ decimal index))))
+refusal_text too_long = Some (codes "the description is too long")
+
+abbrev pub expectation_text : Expectation → List ℕ
+expectation_text expected.EscapedByte = codes "an escaped `[`, `]` or `\\`"
+expectation_text expected.SpaceAfterOptional = codes "whitespace after `optional`"
+expectation_text expected.SpaceAfterFirst = codes "whitespace after `first`"
+expectation_text expected.OpeningBracket = codes "an opening bracket"
+expectation_text expected.Modifier = codes "a modifier or a closing bracket"
+
+abbrev pub unsupported_text : Unsupported → List ℕ
+unsupported_text unsupported.DeepList = codes "a list in more than seven others"
+unsupported_text unsupported.Conversion = codes "this conversion"
+
+abbrev pub context_text : Unsupported → List ℕ
+context_text unsupported.DeepList = codes "a description"
+context_text unsupported.Conversion = codes "a strftime description"
+
+-- what is refused where a fault is the first, by the bytes left from its place on
+abbrev pub refusal_at : List ℕ → Fault → Refusal
+refusal_at text (fault.UnclosedOpeningBracket left) = unclosed (length text - left)
+refusal_at text (fault.InvalidComponentName left len) =
+    component_name (take len (drop (length text - left) text)) (length text - left)
+refusal_at text (fault.InvalidModifier left len) =
+    modifier (take len (drop (length text - left) text)) (length text - left)
+refusal_at text (fault.MissingComponentName left) = missing_name (length text - left)
+refusal_at text (fault.MissingCount left) = missing_modifier (codes "count") (length text - left)
+refusal_at text (fault.Expected what left) = expected_here (expectation_text what) (length text - left)
+refusal_at text (fault.NotSupported what left) =
+    not_supported (unsupported_text what) (context_text what) (length text - left)
+refusal_at text fault.NoRoom = too_long

@@ -1,0 +1,112 @@
+//! What brackets around a component's name say.
+ghost use Rattle.std.specs.Prelude.{◌≡◌, ℕ, suc, ◌<◌, ◌≤◌, length, IfOk};
+ghost use Rattle.time_descriptions.specs.Components as components;
+ghost use Rattle.time_descriptions.specs.Components.{Gives};
+ghost use Rattle.time_descriptions.specs.Modifiers as chosen;
+
+use crate::fault::{Expectation, Fault};
+use crate::modifiers::{Modifiers, component_of};
+use crate::names::{ComponentName, component_name, modifier_key};
+use crate::values::{Modifier, modifier_value};
+use crate::words::{after, front, space_len, word_len};
+use time_readers::Component;
+
+// How many bytes stand before the first colon, or how many there are.
+fn colon(text: &[u8]) -> usize
+    ensures count { result ≡ components.colon text.now }
+    ensures within { result ≤ length text.now }
+{
+    text.iter().take_while(|byte| **byte != b':').count()
+}
+
+// What a modifier says. So many bytes are left from it on.
+#[tactic(auto, unfolding(crate::specs::Components::modifier))]
+fn read_modifier(name: ComponentName, text: &[u8], left: usize) -> Result<Modifier, Fault>
+    requires { length text.now ≤ left }
+    ensures { result ≡ components.modifier name text.now left }
+{
+    let at = colon(text);
+    if at == text.len() {
+        return Err(Fault::InvalidModifier {
+            left,
+            len: text.len(),
+        });
+    }
+    let value = after(text, at + 1);
+    let Some(key) = modifier_key(name, front(text, at)) else {
+        return Err(Fault::InvalidModifier { left, len: at });
+    };
+    match modifier_value(name, key, value) {
+        Some(modifier) => Ok(modifier),
+        None => Err(Fault::InvalidModifier {
+            left: left - at - 1,
+            len: value.len(),
+        }),
+    }
+}
+
+// What the modifiers in front of the text say, and the text after them and white space.
+fn read_modifiers(name: ComponentName, text: &[u8]) -> Result<(Modifiers, &[u8]), Fault>
+    ensures within { IfOk result (λ x. length x.1.now ≤ length text.now) }
+    ensures reads { Gives (λ x. (x.0, x.1.now)) result
+        (components.modifiers name (suc (length text.now)) chosen.default text.now) }
+{
+    let mut modifiers = Modifiers::DEFAULT;
+    let mut rest = text;
+    loop {
+        let begun = after(rest, space_len(rest));
+        let len = word_len(begun);
+        if len == 0 {
+            return Ok((modifiers, begun));
+        }
+        match read_modifier(name, front(begun, len), begun.len()) {
+            Ok(modifier) => modifiers = modifiers.with(modifier),
+            Err(fault) => return Err(fault),
+        }
+        rest = after(begun, len);
+    }
+}
+
+// What stands after the closing bracket in front of the text. So many bytes are left from the opening one on.
+fn after_component(text: &[u8], opening: usize) -> Result<&[u8], Fault>
+    ensures reads { Gives (λ x. x.now) result (components.after_component opening text.now) }
+    ensures shorter { IfOk result (λ x. length x.now < length text.now) }
+{
+    match text {
+        [b']', rest @ ..] => Ok(rest),
+        [b'[', ..] => Err(Fault::Expected {
+            what: Expectation::Modifier,
+            left: text.len(),
+        }),
+        _ => Err(Fault::UnclosedOpeningBracket { left: opening }),
+    }
+}
+
+/// What the brackets in front of the text say, and what is left after them. The text begins with the opening one.
+#[tactic(auto, unfolding(crate::specs::Components::bracketed))]
+pub fn bracketed(text: &[u8]) -> Result<(Component, &[u8]), Fault>
+    requires { 1 ≤ length text.now }
+    ensures reads { Gives (λ x. (x.0, x.1.now)) result (components.bracketed text.now) }
+    ensures shorter { IfOk result (λ x. length x.1.now < length text.now) }
+{
+    let inside = after(text, 1);
+    let space = space_len(inside);
+    let named = after(inside, space);
+    let len = word_len(named);
+    if len == 0 {
+        let left = if space == 0 { text.len() } else { inside.len() };
+        return Err(Fault::MissingComponentName { left });
+    }
+    let Some(name) = component_name(front(named, len)) else {
+        return Err(Fault::InvalidComponentName {
+            left: named.len(),
+            len,
+        });
+    };
+    let (modifiers, rest) = read_modifiers(name, after(named, len))?;
+    let rest = after_component(rest, text.len())?;
+    match component_of(name, modifiers) {
+        Some(component) => Ok((component, rest)),
+        None => Err(Fault::MissingCount { left: named.len() }),
+    }
+}

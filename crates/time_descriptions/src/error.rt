@@ -1,0 +1,211 @@
+//! Why a text is no description.
+ghost use Rattle.std.specs.Prelude.{◌≡◌, ◌-◌, ◌≤◌, length, take, drop};
+ghost use Rattle.time_descriptions.specs.Refusal as refusal;
+ghost use Rattle.time_descriptions.specs.Refusal.{refusal_at, refusal_of, refusal_text};
+
+use crate::fault::{Expectation, Fault, Unsupported};
+use crate::words::{after, front};
+use std::fmt;
+
+/// A text is no description. An index counts bytes of the text, from 0 on.
+#[derive(Clone, Copy, Debug, PartialEq, Eq)]
+pub enum InvalidFormatDescription<'a> {
+    /// An opening bracket is never closed, or something else stands where it has to be closed.
+    UnclosedOpeningBracket {
+        /// The index of the bracket.
+        index: usize,
+    },
+    /// No component has the name.
+    InvalidComponentName {
+        /// The name.
+        name: &'a [u8],
+        /// The index of the name.
+        index: usize,
+    },
+    /// The component has no such modifier, or the modifier no such value.
+    InvalidModifier {
+        /// The modifier, its key or its value.
+        value: &'a [u8],
+        /// The index of the value.
+        index: usize,
+    },
+    /// Brackets without a name.
+    MissingComponentName {
+        /// The index of the bracket, or of the white space after it.
+        index: usize,
+    },
+    /// A component lacks a modifier that it needs.
+    MissingRequiredModifier {
+        /// The name of the modifier.
+        name: &'static str,
+        /// The index of the component's name.
+        index: usize,
+    },
+    /// Something else should stand here.
+    Expected {
+        /// What should stand here.
+        what: &'static str,
+        /// The index of what stands here.
+        index: usize,
+    },
+    /// The text has what no description has here.
+    NotSupported {
+        /// What isn't supported.
+        what: &'static str,
+        /// Where it isn't.
+        context: &'static str,
+        /// The index where it begins.
+        index: usize,
+    },
+    /// The description has more steps than there is room for.
+    TooLong,
+}
+
+impl fmt::Display for InvalidFormatDescription<'_> {
+    ghost output = { λ e. refusal_text (refusal_of e) };
+
+    fn fmt<W: fmt::Write>(&self, f: &mut fmt::Formatter<W>) -> fmt::Result {
+        match self {
+            Self::UnclosedOpeningBracket { index } => {
+                write!(f, "unclosed opening bracket at byte index {index}")
+            }
+            Self::InvalidComponentName { name, index } => {
+                write!(
+                    f,
+                    "invalid component name `{}` at byte index {index}",
+                    name.escape_ascii()
+                )
+            }
+            Self::InvalidModifier { value, index } => {
+                write!(
+                    f,
+                    "invalid modifier `{}` at byte index {index}",
+                    value.escape_ascii()
+                )
+            }
+            Self::MissingComponentName { index } => {
+                write!(f, "missing component name at byte index {index}")
+            }
+            Self::MissingRequiredModifier { name, index } => {
+                write!(
+                    f,
+                    "missing required modifier `{name}` for component at byte index {index}"
+                )
+            }
+            Self::Expected { what, index } => { write!(f, "expected {what} at byte index {index}") }
+            Self::NotSupported {
+                what,
+                context,
+                index,
+            } => {
+                write!(
+                    f,
+                    "{what} is not supported in {context} at byte index {index}"
+                )
+            }
+            Self::TooLong => write!(f, "the description is too long"),
+        }
+    }
+}
+
+impl std::error::Error for InvalidFormatDescription<'_> {}
+
+// The index from which on so many bytes are left.
+fn index_of(text: &[u8], left: usize) -> usize
+    ensures value { result ≡ length text.now - left }
+    ensures within { result ≤ length text.now }
+{
+    text.len().saturating_sub(left)
+}
+
+// The bytes from the index on, as many as that or as there are.
+fn word_at(text: &[u8], index: usize, len: usize) -> &[u8]
+    requires { index ≤ length text.now }
+    ensures { result.now ≡ take len (drop index text.now) }
+{
+    let tail = after(text, index);
+    if len < tail.len() {
+        front(tail, len)
+    } else {
+        tail
+    }
+}
+
+// What should stand.
+fn expectation_text(what: Expectation) -> &'static str
+    ensures { result.now ≡ refusal.expectation_text what }
+{
+    match what {
+        Expectation::EscapedByte => "an escaped `[`, `]` or `\\`",
+        Expectation::SpaceAfterOptional => "whitespace after `optional`",
+        Expectation::SpaceAfterFirst => "whitespace after `first`",
+        Expectation::OpeningBracket => "an opening bracket",
+        Expectation::Modifier => "a modifier or a closing bracket",
+    }
+}
+
+// What isn't supported.
+fn unsupported_text(what: Unsupported) -> &'static str
+    ensures { result.now ≡ refusal.unsupported_text what }
+{
+    match what {
+        Unsupported::DeepList => "a list in more than seven others",
+        Unsupported::Conversion => "this conversion",
+    }
+}
+
+// Where it isn't.
+fn context_text(what: Unsupported) -> &'static str
+    ensures { result.now ≡ refusal.context_text what }
+{
+    match what {
+        Unsupported::DeepList => "a description",
+        Unsupported::Conversion => "a strftime description",
+    }
+}
+
+impl<'a> InvalidFormatDescription<'a> {
+    // The error of a fault in the text.
+    pub(crate) fn at(text: &'a [u8], fault: Fault) -> InvalidFormatDescription<'a>
+        ensures { refusal_of result ≡ refusal_at text.now fault }
+    {
+        match fault {
+            Fault::UnclosedOpeningBracket { left } => {
+                InvalidFormatDescription::UnclosedOpeningBracket {
+                    index: index_of(text, left),
+                }
+            }
+            Fault::InvalidComponentName { left, len } => {
+                let index = index_of(text, left);
+                InvalidFormatDescription::InvalidComponentName {
+                    name: word_at(text, index, len),
+                    index,
+                }
+            }
+            Fault::InvalidModifier { left, len } => {
+                let index = index_of(text, left);
+                InvalidFormatDescription::InvalidModifier {
+                    value: word_at(text, index, len),
+                    index,
+                }
+            }
+            Fault::MissingComponentName { left } => InvalidFormatDescription::MissingComponentName {
+                index: index_of(text, left),
+            },
+            Fault::MissingCount { left } => InvalidFormatDescription::MissingRequiredModifier {
+                name: "count",
+                index: index_of(text, left),
+            },
+            Fault::Expected { what, left } => InvalidFormatDescription::Expected {
+                what: expectation_text(what),
+                index: index_of(text, left),
+            },
+            Fault::NotSupported { what, left } => InvalidFormatDescription::NotSupported {
+                what: unsupported_text(what),
+                context: context_text(what),
+                index: index_of(text, left),
+            },
+            Fault::NoRoom => InvalidFormatDescription::TooLong,
+        }
+    }
+}

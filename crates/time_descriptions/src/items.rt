@@ -1,0 +1,341 @@
+//! The items of a description, into steps.
+ghost use Rattle.std.specs.Prelude.{◌≡◌, ◌<◌, ◌≤◌, ◌+◌, ◌-◌, ◌++◌, ◌∷◌, [], length, suc, map, true, IfOk, IfErr, IfSome, OnOk, slice_set};
+ghost use Rattle.std.specs.List.{prefix_len};
+ghost use Rattle.time_descriptions.specs.Components.{Gives};
+ghost use Rattle.time_descriptions.specs.Grammar as grammar;
+ghost use Rattle.time_descriptions.specs.Grammar.{Adds};
+ghost use Rattle.time_descriptions.specs.Items.{flat, steps_of};
+ghost use Rattle.time_descriptions.specs.Leaves.{leaf_item, Sees};
+ghost use Rattle.time_descriptions.specs.declared.fault.Fault.TheVariants as fault;
+ghost use Rattle.time_descriptions.specs.declared.step.Group.TheVariants as groups;
+ghost use Rattle.time_descriptions.specs.declared.step.Step.TheVariants as step;
+
+use crate::fault::{Expectation, Fault, Unsupported};
+use crate::leaf::{Leaf, read_leaf};
+use crate::step::{Group, Step};
+use crate::version::Version;
+use crate::words::{after, front, space_len, word_len};
+use arrayvec::ArrayVec;
+
+// Whether the items end here.
+fn ends(nested: bool, text: &[u8]) -> bool
+    ensures { result ≡ grammar.ends nested text.now }
+{
+    match text {
+        [] => true,
+        [first, ..] => nested && *first == b']',
+    }
+}
+
+// The group that the word opens.
+fn group_named(word: &[u8]) -> Option<Group>
+    ensures { result ≡ grammar.group_named word.now }
+{
+    if word == b"optional".as_slice() {
+        Some(Group::Optional)
+    } else if word == b"first".as_slice() {
+        Some(Group::First)
+    } else {
+        None
+    }
+}
+
+// The group that begins in front of the text, and what stands after its word.
+#[tactic(auto, unfolding(crate::specs::Grammar::group_word))]
+fn group_word(text: &[u8]) -> Option<(Group, &[u8])>
+    ensures found { Sees (λ x. (x.0, x.1.now)) result (grammar.group_word text.now) }
+    ensures shorter { IfSome result (λ x. length x.1.now < length text.now) }
+{
+    let [b'[', rest @ ..] = text else {
+        return None;
+    };
+    let named = after(rest, space_len(rest));
+    let len = word_len(named);
+    match group_named(front(named, len)) {
+        Some(group) => Some((group, after(named, len))),
+        None => None,
+    }
+}
+
+// What stands in the first list of a group.
+#[tactic(auto, unfolding(crate::specs::Grammar::opened))]
+fn opened(group: Group, text: &[u8]) -> Result<&[u8], Fault>
+    ensures reads { Gives (λ x. x.now) result (grammar.opened group text.now) }
+    ensures shorter { IfOk result (λ rest. length rest.now + 2 ≤ length text.now) }
+{
+    let space = space_len(text);
+    if space == 0 {
+        let what = match group {
+            Group::Optional => Expectation::SpaceAfterOptional,
+            _ => Expectation::SpaceAfterFirst,
+        };
+        return Err(Fault::Expected {
+            what,
+            left: text.len(),
+        });
+    }
+    let begun = after(text, space);
+    match begun {
+        [b'[', rest @ ..] => Ok(rest),
+        _ => Err(Fault::Expected {
+            what: Expectation::OpeningBracket,
+            left: begun.len(),
+        }),
+    }
+}
+
+// What stands in the next list of a group, if one follows.
+#[tactic(auto, unfolding(crate::specs::Grammar::next_list))]
+fn next_list(text: &[u8]) -> Option<&[u8]>
+    ensures found { Sees (λ x. x.now) result (grammar.next_list text.now) }
+    ensures shorter { IfSome result (λ x. length x.now < length text.now) }
+{
+    match after(text, space_len(text)) {
+        [b'[', rest @ ..] => Some(rest),
+        _ => None,
+    }
+}
+
+// What stands after the closing bracket in front of the text.
+fn after_closing(text: &[u8], opening: usize) -> Result<&[u8], Fault>
+    ensures reads { Gives (λ x. x.now) result (grammar.after_byte 93 (fault.UnclosedOpeningBracket opening) text.now) }
+    ensures shorter { IfOk result (λ rest. length rest.now < length text.now) }
+{
+    match text {
+        [b']', rest @ ..] => Ok(rest),
+        _ => Err(Fault::UnclosedOpeningBracket { left: opening }),
+    }
+}
+
+// What stands after a group. So many bytes are left from its opening bracket on.
+#[tactic(auto, unfolding(crate::specs::Grammar::closed))]
+fn closed(text: &[u8], opening: usize) -> Result<&[u8], Fault>
+    ensures reads { Gives (λ x. x.now) result (grammar.closed opening text.now) }
+    ensures shorter { IfOk result (λ rest. length rest.now < length text.now) }
+{
+    after_closing(after(text, space_len(text)), opening)
+}
+
+// One more step, if there is room.
+fn push<const N: usize>(steps: &mut ArrayVec<Step, N>, step: Step) -> Result<(), Fault>
+    ensures ok { OnOk result (steps.new.items ≡ steps.old.items ++ step ∷ []) }
+    ensures err { IfErr result (λ e. (e ≡ fault.NoRoom) × (length steps.old.items ≡ N)) }
+{
+    match steps.try_push(step) {
+        Ok(()) => Ok(()),
+        Err(_) => Err(Fault::NoRoom),
+    }
+}
+
+// The steps of a leaf, if there is room.
+fn push_leaf<const N: usize>(steps: &mut ArrayVec<Step, N>, leaf: Leaf<'_>) -> Result<(), Fault>
+    ensures ok { OnOk result (steps.new.items ≡ steps.old.items ++ steps_of (leaf_item leaf.entry)) }
+    ensures err { IfErr result (λ e. (e ≡ fault.NoRoom)
+        × (N < length steps.old.items + length (steps_of (leaf_item leaf.entry)))) }
+{
+    match leaf {
+        Leaf::Component(component) => push(steps, Step::Component(component)),
+        Leaf::Literal(first, further) => {
+            push(steps, Step::Literal(first))?;
+            push_further(steps, further)
+        }
+    }
+}
+
+// The further bytes of a literal, if there is room.
+fn push_further<const N: usize>(steps: &mut ArrayVec<Step, N>, bytes: &[u8]) -> Result<(), Fault>
+    ensures ok { OnOk result (steps.new.items ≡ steps.old.items ++ map step.More bytes.now) }
+    ensures err { IfErr result (λ e. (e ≡ fault.NoRoom) × (N < length steps.old.items + length bytes.now)) }
+{
+    for byte in bytes {
+        push(steps, Step::More(*byte))?;
+    }
+    Ok(())
+}
+
+// A group of no steps yet, if there is room, and its index.
+fn open_group<const N: usize>(steps: &mut ArrayVec<Step, N>, group: Group) -> Result<usize, Fault>
+    ensures ok { IfOk result (λ index. (index ≡ length steps.old.items)
+        × (steps.new.items ≡ steps.old.items ++ step.Group group 0 ∷ [])) }
+    ensures err { IfErr result (λ e. (e ≡ fault.NoRoom) × (length steps.old.items ≡ N)) }
+{
+    let index = steps.len();
+    push(steps, Step::Group(group, 0))?;
+    Ok(index)
+}
+
+// Lets the group at the index have all steps after it.
+fn close_group<const N: usize>(steps: &mut ArrayVec<Step, N>, group: Group, index: usize)
+    requires { index < length steps.old.items }
+    ensures { steps.new.items ≡ slice_set steps.old.items index
+        (step.Group group (length steps.old.items - index - 1)) }
+{
+    let len = steps.len() - index - 1;
+    steps[index] = Step::Group(group, len);
+}
+
+// Adds the leaf in front of the text, and answers what is left after it.
+fn add_leaf<'a, const N: usize>(
+    version: Version,
+    nested: bool,
+    text: &'a [u8],
+    steps: &mut ArrayVec<Step, N>,
+) -> Result<&'a [u8], Fault>
+    ensures adds { Adds steps_of N (grammar.leaf version nested text.now) (length text.now) steps.old.items
+        result steps.new.items }
+    ensures shorter { IfOk result (λ rest. length rest.now < length text.now) }
+{
+    match read_leaf(version, nested, text) {
+        Err(fault) => Err(fault),
+        Ok((leaf, rest)) => {
+            push_leaf(steps, leaf)?;
+            Ok(rest)
+        }
+    }
+}
+
+// Adds the item in front of the text, in which so many lists may stand inside one another, and answers what is left
+// after it.
+#[cycle(items)]
+fn add_item<'a, const N: usize>(
+    version: Version,
+    depth: usize,
+    nested: bool,
+    text: &'a [u8],
+    steps: &mut ArrayVec<Step, N>,
+) -> Result<&'a [u8], Fault>
+    ensures adds { Adds steps_of N (grammar.item version depth nested text.now) (length text.now) steps.old.items
+        result steps.new.items }
+    ensures shorter { IfOk result (λ rest. length rest.now < length text.now) }
+{
+    match group_word(text) {
+        None => add_leaf(version, nested, text, steps),
+        Some((group, rest)) => {
+            if depth == 0 {
+                return Err(Fault::NotSupported {
+                    what: Unsupported::DeepList,
+                    left: text.len(),
+                });
+            }
+            add_group(version, depth - 1, group, text.len(), rest, steps)
+        }
+    }
+}
+
+// Adds the group after its word. So many bytes are left from its opening bracket on.
+#[cycle(items)]
+fn add_group<'a, const N: usize>(
+    version: Version,
+    depth: usize,
+    group: Group,
+    opening: usize,
+    text: &'a [u8],
+    steps: &mut ArrayVec<Step, N>,
+) -> Result<&'a [u8], Fault>
+    ensures { Adds steps_of N (grammar.group_by (grammar.item version depth true) opening (group, text.now)) (length text.now)
+        steps.old.items result steps.new.items }
+{
+    match opened(group, text) {
+        Err(fault) => Err(fault),
+        Ok(inside) => {
+            let index = open_group(steps, group)?;
+            match add_inside(version, depth, group, opening, inside, steps) {
+                Err(fault) => Err(fault),
+                Ok(rest) => {
+                    close_group(steps, group, index);
+                    closed(rest, opening)
+                }
+            }
+        }
+    }
+}
+
+// Adds what stands in a group, where its first list is open.
+#[cycle(items)]
+fn add_inside<'a, const N: usize>(
+    version: Version,
+    depth: usize,
+    group: Group,
+    opening: usize,
+    text: &'a [u8],
+    steps: &mut ArrayVec<Step, N>,
+) -> Result<&'a [u8], Fault>
+    ensures { Adds flat N (grammar.inside_by (grammar.list_by (grammar.item version depth true) opening) group text.now)
+        (length text.now + 1) steps.old.items result steps.new.items }
+{
+    match group {
+        Group::Optional => add_list(version, depth, opening, text, steps),
+        _ => add_lists(version, depth, opening, text, steps),
+    }
+}
+
+// Adds the list in front of the text and those after it, where the first is open.
+#[cycle(items)]
+fn add_lists<'a, const N: usize>(
+    version: Version,
+    depth: usize,
+    opening: usize,
+    text: &'a [u8],
+    steps: &mut ArrayVec<Step, N>,
+) -> Result<&'a [u8], Fault>
+    ensures { Adds flat N (grammar.lists_by (grammar.list_by (grammar.item version depth true) opening) (suc (length text.now))
+        text.now) (length text.now + 1) steps.old.items result steps.new.items }
+{
+    let mut inside = text;
+    loop {
+        let index = open_group(steps, Group::List)?;
+        match add_list(version, depth, opening, inside, steps) {
+            Err(fault) => return Err(fault),
+            Ok(rest) => {
+                close_group(steps, Group::List, index);
+                match next_list(rest) {
+                    Some(next) => inside = next,
+                    None => return Ok(rest),
+                }
+            }
+        }
+    }
+}
+
+// Adds the items of an open list, and answers what stands after its closing bracket.
+#[cycle(items)]
+fn add_list<'a, const N: usize>(
+    version: Version,
+    depth: usize,
+    opening: usize,
+    text: &'a [u8],
+    steps: &mut ArrayVec<Step, N>,
+) -> Result<&'a [u8], Fault>
+    ensures adds { Adds flat N (grammar.list_by (grammar.item version depth true) opening text.now) (length text.now)
+        steps.old.items result steps.new.items }
+    ensures shorter { IfOk result (λ rest. length rest.now < length text.now) }
+{
+    match add_items(version, depth, true, text, steps) {
+        Err(fault) => Err(fault),
+        Ok(rest) => after_closing(rest, opening),
+    }
+}
+
+/// Adds the items in front of the text, up to its end or, where they are nested, to a closing bracket, and answers what
+/// is left after them. At most so many lists may stand inside one another.
+#[cycle(items)]
+pub fn add_items<'a, const N: usize>(
+    version: Version,
+    depth: usize,
+    nested: bool,
+    text: &'a [u8],
+    steps: &mut ArrayVec<Step, N>,
+) -> Result<&'a [u8], Fault>
+    ensures adds { Adds flat N (grammar.items version depth nested text.now) (length text.now) steps.old.items
+        result steps.new.items }
+    ensures ended { IfOk result (λ rest. grammar.ends nested rest.now ≡ true) }
+{
+    let mut rest = text;
+    while !ends(nested, rest) {
+        match add_item(version, depth, nested, rest, steps) {
+            Ok(unread) => rest = unread,
+            Err(fault) => return Err(fault),
+        }
+    }
+    Ok(rest)
+}

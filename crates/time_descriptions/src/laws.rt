@@ -1,0 +1,7 @@
+//! What holds of descriptions, each as a function's contract.
+ghost use Rattle.time_descriptions.specs.Laws.{OneDescription};
+
+/// A text describes one tree at most, in each version.
+pub fn law_one_description()
+    ensures { OneDescription }
+{}

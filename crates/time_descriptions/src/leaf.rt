@@ -1,0 +1,83 @@
+//! Items that have none inside them.
+ghost use Rattle.std.specs.Prelude.{◌≡◌, ◌+◌, ◌<◌, ◌≤◌, length, IfOk};
+ghost use Rattle.std.specs.List.{prefix_len};
+ghost use Rattle.time_descriptions.specs.Components.{Gives};
+ghost use Rattle.time_descriptions.specs.Grammar as grammar;
+ghost use Rattle.time_descriptions.specs.Items.{steps_of};
+ghost use Rattle.time_descriptions.specs.Leaves.{leaf_item};
+
+use crate::component::bracketed;
+use crate::fault::{Expectation, Fault};
+use crate::version::Version;
+use crate::words::{after, front};
+use time_readers::Component;
+
+/// An item that has none inside it.
+#[derive(Clone, Copy)]
+pub enum Leaf<'a> {
+    /// A byte, and further ones.
+    Literal(u8, &'a [u8]),
+    /// A component.
+    Component(Component),
+}
+
+// Whether a backslash escapes.
+#[inline(always)]
+fn has_backslash(version: Version) -> bool
+    ensures { result ≡ grammar.has_backslash version }
+{
+    matches!(version, Version::Two)
+}
+
+// How many plain bytes stand in front of the text.
+fn plain_len(version: Version, nested: bool, text: &[u8]) -> usize
+    ensures count { result ≡ prefix_len (grammar.is_plain version nested) text.now }
+    ensures within { result ≤ length text.now }
+{
+    let has_backslash = has_backslash(version);
+    text.iter()
+        .take_while(|byte| {
+            **byte != b'[' && !(has_backslash && **byte == b'\\') && !(nested && **byte == b']')
+        })
+        .count()
+}
+
+// The byte after a backslash, which is no longer special.
+fn escaped(text: &[u8]) -> Result<(Leaf<'_>, &[u8]), Fault>
+    ensures reads { Gives (λ x. (leaf_item x.0, x.1.now)) result (grammar.escaped text.now) }
+    ensures takes { IfOk result (λ x. length (steps_of (leaf_item x.0)) + length x.1.now ≤ length text.now) }
+{
+    match text {
+        [byte @ (b'[' | b'\\' | b']'), rest @ ..] => Ok((Leaf::Literal(*byte, &[]), rest)),
+        _ => Err(Fault::Expected {
+            what: Expectation::EscapedByte,
+            left: text.len(),
+        }),
+    }
+}
+
+/// The literal, the escape or the component in front of the text, and what is left after it.
+#[tactic(auto, unfolding(crate::specs::Grammar::leaf))]
+pub fn read_leaf(version: Version, nested: bool, text: &[u8]) -> Result<(Leaf<'_>, &[u8]), Fault>
+    ensures reads { Gives (λ x. (leaf_item x.0, x.1.now)) result (grammar.leaf version nested text.now) }
+    ensures takes { IfOk result (λ x. length (steps_of (leaf_item x.0)) + length x.1.now ≤ length text.now) }
+    ensures shorter { IfOk result (λ x. length x.1.now < length text.now) }
+{
+    let [first, rest @ ..] = text else {
+        return Err(Fault::MissingComponentName { left: 0 });
+    };
+    match *first {
+        b'[' => match rest {
+            [b'[', rest @ ..] if !has_backslash(version) => Ok((Leaf::Literal(b'[', &[]), rest)),
+            _ => {
+                let (component, rest) = bracketed(text)?;
+                Ok((Leaf::Component(component), rest))
+            }
+        },
+        b'\\' if has_backslash(version) => escaped(rest),
+        byte => {
+            let len = plain_len(version, nested, rest);
+            Ok((Leaf::Literal(byte, front(rest, len)), after(rest, len)))
+        }
+    }
+}

@@ -1,0 +1,279 @@
+//! The values of a component's modifiers, and the component that they pick.
+ghost use Rattle.std.specs.Prelude.{◌≡◌};
+ghost use Rattle.time_descriptions.specs.Modifiers as modifiers_;
+
+use crate::names::ComponentName;
+use crate::values::{Modifier, Precision, Representation};
+use time_readers::{Component, Padding, SubsecondDigits, TrailingInput, modifier};
+
+/// The values of a component's modifiers.
+#[derive(Clone, Copy, Debug)]
+pub struct Modifiers {
+    /// Whether it is the year of an ISO week date.
+    pub is_iso_week: bool,
+    /// Whether the letters are capitals.
+    pub is_uppercase: bool,
+    /// Whether the case matters.
+    pub case_sensitive: bool,
+    /// How many bytes are skipped.
+    pub count: Option<modifier::Ignore>,
+    /// How many digits.
+    pub digits: SubsecondDigits,
+    /// Whether the first day has the number 1.
+    pub one_indexed: bool,
+    /// What fills the number up.
+    pub padding: Padding,
+    /// The unit of a timestamp.
+    pub precision: Precision,
+    /// Whether a sign extends the range.
+    pub is_extended: bool,
+    /// Which form is meant.
+    pub representation: Representation,
+    /// Whether a sign has to stand.
+    pub sign_is_mandatory: bool,
+    /// What becomes of bytes that are left.
+    pub trailing_input: TrailingInput,
+}
+
+impl Modifiers {
+    // What holds where no modifier stands.
+    pub const DEFAULT: Modifiers = Modifiers {
+        is_iso_week: false,
+        is_uppercase: true,
+        case_sensitive: true,
+        count: None,
+        digits: SubsecondDigits::OneOrMore,
+        one_indexed: true,
+        padding: Padding::Zero,
+        precision: Precision::Second,
+        is_extended: true,
+        representation: Representation::Default,
+        sign_is_mandatory: false,
+        trailing_input: TrailingInput::Prohibit,
+    };
+
+    // The values with one more, which replaces an earlier one of its key.
+    pub fn with(mut self, modifier: Modifier) -> Modifiers
+        ensures { result ≡ modifiers_.with_modifier self modifier }
+    {
+        match modifier {
+            Modifier::Base(value) => self.is_iso_week = value,
+            Modifier::Case(value) => self.is_uppercase = value,
+            Modifier::CaseSensitive(value) => self.case_sensitive = value,
+            Modifier::Count(value) => self.count = Some(value),
+            Modifier::Digits(value) => self.digits = value,
+            Modifier::OneIndexed(value) => self.one_indexed = value,
+            Modifier::Padding(value) => self.padding = value,
+            Modifier::Precision(value) => self.precision = value,
+            Modifier::Range(value) => self.is_extended = value,
+            Modifier::Representation(value) => self.representation = value,
+            Modifier::Sign(value) => self.sign_is_mandatory = value,
+            Modifier::TrailingInput(value) => self.trailing_input = value,
+        }
+        self
+    }
+}
+
+// The full year that the modifiers pick.
+fn full_year(modifiers: Modifiers) -> Component
+    ensures { result ≡ modifiers_.full_year modifiers.is_iso_week modifiers.is_extended modifiers }
+{
+    let padding = modifiers.padding;
+    let sign_is_mandatory = modifiers.sign_is_mandatory;
+    match (modifiers.is_iso_week, modifiers.is_extended) {
+        (false, true) => {
+            Component::CalendarYearFullExtendedRange(modifier::CalendarYearFullExtendedRange {
+                padding,
+                sign_is_mandatory,
+            })
+        }
+        (false, false) => {
+            Component::CalendarYearFullStandardRange(modifier::CalendarYearFullStandardRange {
+                padding,
+                sign_is_mandatory,
+            })
+        }
+        (true, true) => Component::IsoYearFullExtendedRange(modifier::IsoYearFullExtendedRange {
+            padding,
+            sign_is_mandatory,
+        }),
+        (true, false) => Component::IsoYearFullStandardRange(modifier::IsoYearFullStandardRange {
+            padding,
+            sign_is_mandatory,
+        }),
+    }
+}
+
+// The century that the modifiers pick.
+fn century(modifiers: Modifiers) -> Component
+    ensures { result ≡ modifiers_.century modifiers.is_iso_week modifiers.is_extended modifiers }
+{
+    let padding = modifiers.padding;
+    let sign_is_mandatory = modifiers.sign_is_mandatory;
+    match (modifiers.is_iso_week, modifiers.is_extended) {
+        (false, true) => {
+            Component::CalendarYearCenturyExtendedRange(
+                modifier::CalendarYearCenturyExtendedRange {
+                    padding,
+                    sign_is_mandatory,
+                },
+            )
+        }
+        (false, false) => {
+            Component::CalendarYearCenturyStandardRange(
+                modifier::CalendarYearCenturyStandardRange {
+                    padding,
+                    sign_is_mandatory,
+                },
+            )
+        }
+        (true, true) => Component::IsoYearCenturyExtendedRange(
+            modifier::IsoYearCenturyExtendedRange {
+                padding,
+                sign_is_mandatory,
+            },
+        ),
+        (true, false) => Component::IsoYearCenturyStandardRange(
+            modifier::IsoYearCenturyStandardRange {
+                padding,
+                sign_is_mandatory,
+            },
+        ),
+    }
+}
+
+// The year that the modifiers pick.
+fn year(modifiers: Modifiers) -> Component
+    ensures { result ≡ modifiers_.year modifiers }
+{
+    let padding = modifiers.padding;
+    match modifiers.representation {
+        Representation::Century => century(modifiers),
+        Representation::LastTwo if modifiers.is_iso_week => {
+            Component::IsoYearLastTwo(modifier::IsoYearLastTwo { padding })
+        }
+        Representation::LastTwo => {
+            Component::CalendarYearLastTwo(modifier::CalendarYearLastTwo { padding })
+        }
+        _ => full_year(modifiers),
+    }
+}
+
+// The month that the modifiers pick.
+fn month(modifiers: Modifiers) -> Component
+    ensures { result ≡ modifiers_.month modifiers }
+{
+    let case_sensitive = modifiers.case_sensitive;
+    match modifiers.representation {
+        Representation::Long => Component::MonthLong(modifier::MonthLong { case_sensitive }),
+        Representation::Short => Component::MonthShort(modifier::MonthShort { case_sensitive }),
+        _ => Component::MonthNumerical(modifier::MonthNumerical {
+            padding: modifiers.padding,
+        }),
+    }
+}
+
+// The weekday that the modifiers pick.
+fn weekday(modifiers: Modifiers) -> Component
+    ensures { result ≡ modifiers_.weekday modifiers }
+{
+    let case_sensitive = modifiers.case_sensitive;
+    let one_indexed = modifiers.one_indexed;
+    match modifiers.representation {
+        Representation::Short => Component::WeekdayShort(modifier::WeekdayShort { case_sensitive }),
+        Representation::Sunday => Component::WeekdaySunday(modifier::WeekdaySunday { one_indexed }),
+        Representation::Monday => Component::WeekdayMonday(modifier::WeekdayMonday { one_indexed }),
+        _ => Component::WeekdayLong(modifier::WeekdayLong { case_sensitive }),
+    }
+}
+
+// The week number that the modifiers pick.
+fn week_number(modifiers: Modifiers) -> Component
+    ensures { result ≡ modifiers_.week_number modifiers }
+{
+    let padding = modifiers.padding;
+    match modifiers.representation {
+        Representation::Sunday => Component::WeekNumberSunday(modifier::WeekNumberSunday {
+            padding,
+        }),
+        Representation::Monday => Component::WeekNumberMonday(modifier::WeekNumberMonday {
+            padding,
+        }),
+        _ => Component::WeekNumberIso(modifier::WeekNumberIso { padding }),
+    }
+}
+
+// The timestamp that the modifiers pick.
+fn unix_timestamp(modifiers: Modifiers) -> Component
+    ensures { result ≡ modifiers_.unix_timestamp modifiers }
+{
+    let sign_is_mandatory = modifiers.sign_is_mandatory;
+    match modifiers.precision {
+        Precision::Second => {
+            Component::UnixTimestampSecond(modifier::UnixTimestampSecond { sign_is_mandatory })
+        }
+        Precision::Millisecond => {
+            Component::UnixTimestampMillisecond(modifier::UnixTimestampMillisecond {
+                sign_is_mandatory,
+            })
+        }
+        Precision::Microsecond => {
+            Component::UnixTimestampMicrosecond(modifier::UnixTimestampMicrosecond {
+                sign_is_mandatory,
+            })
+        }
+        Precision::Nanosecond => {
+            Component::UnixTimestampNanosecond(modifier::UnixTimestampNanosecond {
+                sign_is_mandatory,
+            })
+        }
+    }
+}
+
+// The hour that the modifiers pick.
+fn hour(modifiers: Modifiers) -> Component
+    ensures { result ≡ modifiers_.hour modifiers }
+{
+    let padding = modifiers.padding;
+    match modifiers.representation {
+        Representation::Twelve => Component::Hour12(modifier::Hour12 { padding }),
+        _ => Component::Hour24(modifier::Hour24 { padding }),
+    }
+}
+
+// The component of the name that the modifiers pick. `None`: `ignore` without a count.
+#[tactic(auto, unfolding(crate::specs::Modifiers::component_of))]
+pub fn component_of(name: ComponentName, modifiers: Modifiers) -> Option<Component>
+    ensures { result ≡ modifiers_.component_of name modifiers }
+{
+    let padding = modifiers.padding;
+    Some(match name {
+        ComponentName::Day => Component::Day(modifier::Day { padding }),
+        ComponentName::End => Component::End(modifier::End {
+            trailing_input: modifiers.trailing_input,
+        }),
+        ComponentName::Hour => hour(modifiers),
+        ComponentName::Ignore => Component::Ignore(modifiers.count?),
+        ComponentName::Minute => Component::Minute(modifier::Minute { padding }),
+        ComponentName::Month => month(modifiers),
+        ComponentName::OffsetHour => Component::OffsetHour(modifier::OffsetHour {
+            padding,
+            sign_is_mandatory: modifiers.sign_is_mandatory,
+        }),
+        ComponentName::OffsetMinute => Component::OffsetMinute(modifier::OffsetMinute { padding }),
+        ComponentName::OffsetSecond => Component::OffsetSecond(modifier::OffsetSecond { padding }),
+        ComponentName::Ordinal => Component::Ordinal(modifier::Ordinal { padding }),
+        ComponentName::Period => Component::Period(modifier::Period {
+            is_uppercase: modifiers.is_uppercase,
+            case_sensitive: modifiers.case_sensitive,
+        }),
+        ComponentName::Second => Component::Second(modifier::Second { padding }),
+        ComponentName::Subsecond => Component::Subsecond(modifier::Subsecond {
+            digits: modifiers.digits,
+        }),
+        ComponentName::UnixTimestamp => unix_timestamp(modifiers),
+        ComponentName::Weekday => weekday(modifiers),
+        ComponentName::WeekNumber => week_number(modifiers),
+        ComponentName::Year => year(modifiers),
+    })
+}

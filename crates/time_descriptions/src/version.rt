@@ -1,0 +1,10 @@
+//! The versions of descriptions.
+
+/// A version of descriptions.
+#[derive(Clone, Copy, Debug, PartialEq, Eq)]
+pub enum Version {
+    /// `[[` is a bracket.
+    One,
+    /// A backslash stands before a byte that isn't special.
+    Two,
+}

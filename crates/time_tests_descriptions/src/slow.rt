@@ -1,0 +1,300 @@
+//! A slow reader of descriptions, written from the grammar. It goes by indexes over the whole text, and keeps nothing.
+use time_descriptions::InvalidFormatDescription;
+
+/// The text, and the version that it is read by.
+#[derive(Clone, Copy)]
+pub struct Slow<'a> {
+    /// The text.
+    pub text: &'a [u8],
+    /// The version, 1 or 2.
+    pub version: usize,
+}
+
+/// The index after what was read, or the first fault.
+type Read<'a> = Result<usize, InvalidFormatDescription<'a>>;
+
+/// The values of a key; of a count none is listed.
+type Key = (&'static str, &'static [&'static str]);
+
+const PADDING: Key = ("padding", &["zero", "space", "none"]);
+
+const CASE_SENSITIVE: Key = ("case_sensitive", &["true", "false"]);
+
+const SIGN: Key = ("sign", &["automatic", "mandatory"]);
+
+/// The names, each with its keys.
+pub const NAMES: [(&str, &[Key]); 17] = [
+    ("day", &[PADDING]),
+    ("minute", &[PADDING]),
+    ("offset_minute", &[PADDING]),
+    ("offset_second", &[PADDING]),
+    ("ordinal", &[PADDING]),
+    ("second", &[PADDING]),
+    ("hour", &[PADDING, ("repr", &["24", "12"])]),
+    (
+        "month",
+        &[
+            PADDING,
+            ("repr", &["numerical", "long", "short"]),
+            CASE_SENSITIVE,
+        ],
+    ),
+    (
+        "weekday",
+        &[
+            ("repr", &["long", "short", "sunday", "monday"]),
+            ("one_indexed", &["true", "false"]),
+            CASE_SENSITIVE,
+        ],
+    ),
+    (
+        "week_number",
+        &[PADDING, ("repr", &["iso", "sunday", "monday"])],
+    ),
+    (
+        "year",
+        &[
+            PADDING,
+            ("repr", &["full", "century", "last_two"]),
+            ("range", &["extended", "standard"]),
+            ("base", &["calendar", "iso_week"]),
+            SIGN,
+        ],
+    ),
+    ("period", &[("case", &["upper", "lower"]), CASE_SENSITIVE]),
+    (
+        "subsecond",
+        &[(
+            "digits",
+            &["1+", "1", "2", "3", "4", "5", "6", "7", "8", "9"],
+        )],
+    ),
+    ("offset_hour", &[PADDING, SIGN]),
+    (
+        "unix_timestamp",
+        &[
+            (
+                "precision",
+                &["second", "millisecond", "microsecond", "nanosecond"],
+            ),
+            SIGN,
+        ],
+    ),
+    ("ignore", &[("count", &[])]),
+    ("end", &[("trailing_input", &["prohibit", "discard"])]),
+];
+
+// The expectation at the index.
+fn expected(what: &'static str, index: usize) -> InvalidFormatDescription<'static> {
+    InvalidFormatDescription::Expected { what, index }
+}
+
+// Whether the bytes are digits that say 1 to 65535.
+fn is_count(bytes: &[u8]) -> bool {
+    let mut value = 0u64;
+    for byte in bytes {
+        if !byte.is_ascii_digit() {
+            return false;
+        }
+        value = value
+            .saturating_mul(10)
+            .saturating_add(u64::from(*byte).saturating_sub(48));
+    }
+    value > 0 && value < 65536
+}
+
+impl<'a> Slow<'a> {
+    /// The first fault of the text.
+    pub fn fault(self) -> Option<InvalidFormatDescription<'a>> {
+        self.items(8, false, 0).err()
+    }
+
+    fn is(self, index: usize, byte: u8) -> bool {
+        self.text.get(index) == Some(&byte)
+    }
+
+    fn after_space(self, index: usize) -> usize {
+        let mut index = index;
+        for _ in 0..self.text.len() {
+            match self.text.get(index) {
+                Some(b' ' | b'\t' | b'\n' | 12 | b'\r') => index = index.saturating_add(1),
+                _ => break,
+            }
+        }
+        index
+    }
+
+    fn after_word(self, index: usize) -> usize {
+        let mut index = index;
+        for _ in 0..self.text.len() {
+            match self.text.get(index) {
+                None | Some(b' ' | b'\t' | b'\n' | 12 | b'\r' | b'[' | b']') => break,
+                _ => index = index.saturating_add(1),
+            }
+        }
+        index
+    }
+
+    fn between(self, from: usize, to: usize) -> &'a [u8] {
+        self.text.get(from..to).unwrap_or(&[])
+    }
+
+    #[cycle(slow)]
+    fn items(self, depth: usize, nested: bool, from: usize) -> Read<'a> {
+        let mut index = from;
+        for _ in 0..self.text.len() {
+            if index >= self.text.len() || nested && self.is(index, b']') {
+                break;
+            }
+            index = self.item(depth, index)?;
+        }
+        Ok(index)
+    }
+
+    #[cycle(slow)]
+    fn item(self, depth: usize, index: usize) -> Read<'a> {
+        let next = index.saturating_add(1);
+        if self.version == 2 && self.is(index, b'\\') {
+            return match self.text.get(next) {
+                Some(b'[' | b']' | b'\\') => Ok(next.saturating_add(1)),
+                _ => Err(expected("an escaped `[`, `]` or `\\`", next)),
+            };
+        }
+        if !self.is(index, b'[') {
+            return Ok(next);
+        }
+        if self.version == 1 && self.is(next, b'[') {
+            return Ok(next.saturating_add(1));
+        }
+        let name = self.after_space(next);
+        let end = self.after_word(name);
+        match self.between(name, end) {
+            b"optional" => self.group(depth, index, end, false),
+            b"first" => self.group(depth, index, end, true),
+            _ => self.component(index, name, end),
+        }
+    }
+
+    // The group that opens at the index, and whose word ends there.
+    #[cycle(slow)]
+    fn group(self, depth: usize, opening: usize, word: usize, is_first: bool) -> Read<'a> {
+        if depth == 0 {
+            return Err(InvalidFormatDescription::NotSupported {
+                what: "a list in more than seven others",
+                context: "a description",
+                index: opening,
+            });
+        }
+        let mut list = self.after_space(word);
+        if list == word {
+            let what = if is_first {
+                "whitespace after `first`"
+            } else {
+                "whitespace after `optional`"
+            };
+            return Err(expected(what, word));
+        }
+        if !self.is(list, b'[') {
+            return Err(expected("an opening bracket", list));
+        }
+        let unclosed = InvalidFormatDescription::UnclosedOpeningBracket { index: opening };
+        for _ in 0..self.text.len() {
+            let end = self.items(depth - 1, true, list.saturating_add(1))?;
+            if !self.is(end, b']') {
+                return Err(unclosed);
+            }
+            let next = self.after_space(end.saturating_add(1));
+            if is_first && self.is(next, b'[') {
+                list = next;
+            } else if self.is(next, b']') {
+                return Ok(next.saturating_add(1));
+            } else {
+                return Err(unclosed);
+            }
+        }
+        Err(unclosed)
+    }
+
+    // The component that opens at the index, with its name.
+    fn component(self, opening: usize, from: usize, to: usize) -> Read<'a> {
+        let name = self.between(from, to);
+        if name.is_empty() {
+            let inside = opening.saturating_add(1);
+            let index = if from == inside { opening } else { inside };
+            return Err(InvalidFormatDescription::MissingComponentName { index });
+        }
+        let mut keys: Option<&[Key]> = None;
+        for row in NAMES {
+            if row.0.as_bytes().eq_ignore_ascii_case(name) {
+                keys = Some(row.1);
+            }
+        }
+        let Some(keys) = keys else {
+            return Err(InvalidFormatDescription::InvalidComponentName { name, index: from });
+        };
+        let mut has_count = false;
+        let mut index = self.after_space(to);
+        for _ in 0..self.text.len() {
+            let end = self.after_word(index);
+            if end == index {
+                break;
+            }
+            has_count |= self.modifier(keys, index, end)?;
+            index = self.after_space(end);
+        }
+        if self.is(index, b'[') {
+            return Err(expected("a modifier or a closing bracket", index));
+        }
+        if !self.is(index, b']') {
+            return Err(InvalidFormatDescription::UnclosedOpeningBracket { index: opening });
+        }
+        if name.eq_ignore_ascii_case(b"ignore") && !has_count {
+            return Err(InvalidFormatDescription::MissingRequiredModifier {
+                name: "count",
+                index: from,
+            });
+        }
+        Ok(index.saturating_add(1))
+    }
+
+    // Whether the modifier is a count.
+    fn modifier(
+        self,
+        keys: &[Key],
+        from: usize,
+        to: usize,
+    ) -> Result<bool, InvalidFormatDescription<'a>> {
+        let word = self.between(from, to);
+        let Some(len) = word.iter().position(|byte| *byte == b':') else {
+            return Err(InvalidFormatDescription::InvalidModifier {
+                value: word,
+                index: from,
+            });
+        };
+        let colon = from.saturating_add(len);
+        let key = self.between(from, colon);
+        let begin = colon.saturating_add(1);
+        let value = self.between(begin, to);
+        for row in keys {
+            if row.0.as_bytes().eq_ignore_ascii_case(key) {
+                let is_count_key = row.1.is_empty();
+                let mut is_value = is_count_key && is_count(value);
+                for other in row.1 {
+                    is_value |= other.as_bytes().eq_ignore_ascii_case(value);
+                }
+                return if is_value {
+                    Ok(is_count_key)
+                } else {
+                    Err(InvalidFormatDescription::InvalidModifier {
+                        value,
+                        index: begin,
+                    })
+                };
+            }
+        }
+        Err(InvalidFormatDescription::InvalidModifier {
+            value: key,
+            index: from,
+        })
+    }
+}

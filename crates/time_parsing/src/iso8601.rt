@@ -9,8 +9,7 @@ ghost use Rattle.time_readers.specs.IsoDates.{iso_date};
 ghost use Rattle.time_readers.specs.declared.iso8601.ExtendedKind.TheVariants.{Unknown};
 ghost use Rattle.time_record.specs.Record.{put_all};
 ghost use Rattle.time_parsing.specs.Iso8601 as spec;
-ghost use Rattle.time_record.specs.Resolution.{IsMoment, IsPlain};
-ghost use Rattle.time_parsing.specs.Outcome.{IsOutcome, ParsesInto, begun, over_record, seen};
+ghost use Rattle.time_parsing.specs.Outcome.{over_record};
 ghost use Rattle.time_parsing.specs.Rfc3339.{without_offset_sign};
 
 mod fast;
@@ -243,46 +242,6 @@ fn read<'a>(input: &'a [u8], parsed: &mut Parsed) -> Result<&'a [u8], ParseFromD
     }
 }
 
-// Reads a front of the input over the record, and allows a leap second. A refusal leaves the record as it was.
-#[inline(always)]
-fn read_into<'a>(input: &'a [u8], parsed: &mut Parsed) -> Result<&'a [u8], Parse>
-    ensures { ParsesInto (spec.Reads greatest_year) (spec.Refuses greatest_year)
-        input.now parsed.old result parsed.new }
-{
-    let before = *parsed;
-    parsed.allow_leap_second();
-    match read(input, parsed) {
-        Ok(rest) => Ok(rest),
-        Err(fault) => {
-            *parsed = before;
-            Err(fault.into())
-        }
-    }
-}
-
-// The date and time of the whole input over the defaults. It isn't inlined, so that a text which needs no record pays
-// for none.
-#[inline(never)]
-fn date_time_over(input: &[u8], defaults: Option<Parsed>) -> Result<PlainDateTime, Parse>
-    ensures { IsOutcome (IsPlain greatest_year) (spec.Reads greatest_year) (spec.Refuses greatest_year) input.now
-        (begun defaults) (seen result) }
-{
-    let mut record = begin(defaults);
-    let rest = read_into(input, &mut record)?;
-    Ok(value_before::<PlainDateTime>(rest, &record)?)
-}
-
-// The moment of the whole input over the defaults, as `date_time_over`.
-#[inline(never)]
-fn moment_over(input: &[u8], defaults: Option<Parsed>) -> Result<OffsetDateTime, Parse>
-    ensures { IsOutcome (IsMoment greatest_year) (spec.Reads greatest_year) (spec.Refuses greatest_year) input.now
-        (begun defaults) (seen result) }
-{
-    let mut parsed = begin(defaults);
-    let rest = read_into(input, &mut parsed)?;
-    Ok(moment_before(rest, &parsed)?)
-}
-
 impl Parsable for Iso8601 {
     ghost use Rattle.time_parsing.specs.Iso8601.{Reads, Refuses};
 
@@ -294,7 +253,15 @@ impl Parsable for Iso8601 {
 
     #[inline(always)]
     fn parse_into<'a>(&self, input: &'a [u8], parsed: &mut Parsed) -> Result<&'a [u8], Parse> {
-        read_into(input, parsed)
+        let before = *parsed;
+        parsed.allow_leap_second();
+        match read(input, parsed) {
+            Ok(rest) => Ok(rest),
+            Err(fault) => {
+                *parsed = before;
+                Err(fault.into())
+            }
+        }
     }
 
     #[inline(always)]
@@ -308,7 +275,9 @@ impl Parsable for Iso8601 {
                 return Ok(plain);
             }
         }
-        date_time_over(input, defaults)
+        let mut record = begin(defaults);
+        let rest = self.parse_into(input, &mut record)?;
+        Ok(value_before::<PlainDateTime>(rest, &record)?)
     }
 
     #[inline(always)]
@@ -322,7 +291,9 @@ impl Parsable for Iso8601 {
                 return Ok(moment);
             }
         }
-        moment_over(input, defaults)
+        let mut parsed = begin(defaults);
+        let rest = self.parse_into(input, &mut parsed)?;
+        Ok(moment_before(rest, &parsed)?)
     }
 
     ghost use Rattle.time_parsing.specs.exact.Iso8601Laws.{iso8601_exact};

@@ -48,5 +48,16 @@ days_by_march d years before e f =
           let place : days_of_months y (m - 1) ≡ (153 * (m - 1) - 304) / 5 + 59 + leap_day y = grind (arith, nat_tests) in
           let next = year_start-next Y y (y +ℤ pos 1) d.year_in.0 refl in
           let after : years_before Y (y +ℤ pos 1) ≡ suc n = omega (arith, ints) in
-          omega (arith, d.day_in, later, late, place, inside, rw after at next, year_length-leap_day y, days_of_years_closed Y n refl, days_of_years_closed Y (suc n) refl)
+          omega (
+            arith,
+            d.day_in,
+            later,
+            late,
+            place,
+            inside,
+            rw after at next,
+            year_length-leap_day y,
+            days_of_years_closed Y n refl,
+            days_of_years_closed Y (suc n) refl,
+          )
     ]

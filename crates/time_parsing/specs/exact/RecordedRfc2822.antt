@@ -60,10 +60,12 @@ entries-in_range : (n : Numbers) → n.year ≤ greatest_year → InRanges n →
     → AllInRange greatest_year (entries n)
 entries-in_range n year i second =
     let date =
-    in_range-append greatest_year (weekday_entries n.weekday) (day_is n.day ∷ month_is n.month ∷ year_is (pos n.year) ∷ [])
+    in_range-append greatest_year (weekday_entries n.weekday)
+    (day_is n.day ∷ month_is n.month ∷ year_is (pos n.year) ∷ [])
     (weekday-in_range n.weekday)
     (rw (le-leb 1 n.day i.day.0, le-leb n.day 31 i.day.1) refl, (refl, (le-leb n.year greatest_year year, tt))) in
-    let time : AllInRange greatest_year (time_entries n) = (le-leb n.hour 23 i.hour.1, (le-leb n.minute 59 i.minute.1, second-in_range n.second second)) in
+    let time : AllInRange greatest_year (time_entries n) =
+    (le-leb n.hour 23 i.hour.1, (le-leb n.minute 59 i.minute.1, second-in_range n.second second)) in
     in_range-append greatest_year (date_entries n ++ time_entries n) (offset_entries n.offset_sign n)
     (in_range-append greatest_year (date_entries n) (time_entries n) date time) (offset-in_range n n.offset_sign i)
 

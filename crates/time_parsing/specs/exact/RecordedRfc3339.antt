@@ -56,8 +56,10 @@ second-in_range false es all = all
 entries-in_range : (n : Numbers) (m : Month) → n.year ≤ greatest_year → InRanges n
     → IfSome n.subsecond (λ v. v ≤ 999999999) → n.offset_hour ≤ 25 → AllInRange greatest_year (entries n m)
 entries-in_range n m year i subsecond hour =
-    let offset : AllInRange greatest_year (numeric_offset_entries n) =
-    (near n.offset_is_negative n.offset_hour 25 hour, (near n.offset_is_negative n.offset_minute 59 i.offset_minute.1, tt)) in
+    let offset : AllInRange greatest_year (numeric_offset_entries n) = (
+      near n.offset_is_negative n.offset_hour 25 hour,
+      (near n.offset_is_negative n.offset_minute 59 i.offset_minute.1, tt),
+    ) in
     let others =
     in_range-append greatest_year (subsecond_entries n.subsecond) (offset_entries n)
     (subsecond-in_range n.subsecond subsecond) (second-in_range n.is_utc (numeric_offset_entries n) offset) in

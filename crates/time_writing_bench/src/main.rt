@@ -97,10 +97,22 @@ fn sum_by_name(name: &[u8], times: u64, day: u8) -> Option<i64> {
         b"mail" => Some(mail_sum(times, &moments(day, 0, 59)?)),
         b"z" => Some(sum(times, &moments(day, 0, 0)?, FractionDigits::Auto)),
         b"auto" => Some(sum(times, &moments(day, 520_000_000, 0)?, FractionDigits::Auto)),
-        b"nine" => Some(sum(times, &moments(day, 123_456_789, 59)?, FractionDigits::Exactly(9))),
-        b"micro" => Some(sum(times, &moments(day, 123_456_789, 59)?, FractionDigits::Exactly(6))),
+        b"nine" => Some(sum(
+            times,
+            &moments(day, 123_456_789, 59)?,
+            FractionDigits::Exactly(9),
+        )),
+        b"micro" => Some(sum(
+            times,
+            &moments(day, 123_456_789, 59)?,
+            FractionDigits::Exactly(6),
+        )),
         b"unix" => Some(second_sum(times, &moments(day, 123_456_789, 59)?)),
-        b"exact0" => Some(sum(times, &moments(day, 123_456_789, 59)?, FractionDigits::Exactly(0))),
+        b"exact0" => Some(sum(
+            times,
+            &moments(day, 123_456_789, 59)?,
+            FractionDigits::Exactly(0),
+        )),
         _ => None,
     }
 }

@@ -24,7 +24,9 @@ fn at_another_offset(rt: HostRuntime) -> Result<(), Fail> {
 fn with_an_offset(rt: HostRuntime) -> Result<(), Fail> {
     let plain = PlainDateTime::new(in_1996()?.date(), in_1996()?.time());
     assert!(rt; plain.assume_offset(UtcOffset::from_hms(-8, 0, 0)?) == in_1996()?);
-    assert!(rt; plain.assume_utc() == moment((1996, Month::December, 19), (16, 39, 57, 0), (0, 0))?);
+    assert!(rt;
+        plain.assume_utc() == moment((1996, Month::December, 19), (16, 39, 57, 0), (0, 0))?
+    );
     assert!(rt; plain.as_utc() == UtcDateTime::new(plain.date(), plain.time()));
     Ok(())
 }

@@ -75,7 +75,11 @@ fn seconds_since_1970(rt: HostRuntime) -> Result<(), Fail> {
     let utc = in_1996()?.checked_to_utc().ok_or("no date")?;
     assert!(rt; utc.unix_timestamp() == 851_042_397);
     // Half a second before 1970 is the second before it.
-    let before = moment((1969, Month::December, 31), (23, 59, 59, 500_000_000), (0, 0))?;
+    let before = moment(
+        (1969, Month::December, 31),
+        (23, 59, 59, 500_000_000),
+        (0, 0),
+    )?;
     assert!(rt; before.unix_timestamp() == -1);
     Ok(())
 }

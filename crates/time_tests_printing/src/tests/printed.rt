@@ -23,7 +23,11 @@ fn dates(rt: HostRuntime) -> Result<(), Fail> {
         (10_000, "+10000-01-02"),
         (-999_999, "-999999-01-02"),
     ] {
-        prints(&rt, Date::from_calendar_date(year, Month::January, 2)?, text)?;
+        prints(
+            &rt,
+            Date::from_calendar_date(year, Month::January, 2)?,
+            text,
+        )?;
     }
     Ok(())
 }
@@ -52,11 +56,23 @@ fn offsets(rt: HostRuntime) -> Result<(), Fail> {
 #[test]
 fn moments(rt: HostRuntime) -> Result<(), Fail> {
     let value = in_1985()?;
-    prints(&rt, PlainDateTime::new(value.date(), value.time()), "1985-04-12 23:20:50.52")?;
-    prints(&rt, UtcDateTime::new(value.date(), value.time()), "1985-04-12 23:20:50.52 +00")?;
+    prints(
+        &rt,
+        PlainDateTime::new(value.date(), value.time()),
+        "1985-04-12 23:20:50.52",
+    )?;
+    prints(
+        &rt,
+        UtcDateTime::new(value.date(), value.time()),
+        "1985-04-12 23:20:50.52 +00",
+    )?;
     prints(&rt, in_1937()?, "1937-01-01 12:00:27.87 +00:20:00")?;
     prints(&rt, first()?, "-999999-01-01 0:00:00.0 +00:00:00")?;
-    prints(&rt, Timestamp::from_nanoseconds(-1_500_000_000)?, "-1500000000")
+    prints(
+        &rt,
+        Timestamp::from_nanoseconds(-1_500_000_000)?,
+        "-1500000000",
+    )
 }
 
 #[test]

@@ -107,9 +107,15 @@ fn moments_without_a_text(rt: HostRuntime) -> Result<(), Fail> {
     let year = Some(Unwritable::Year);
     let (hour, second) = (Some(Unwritable::OffsetHour), Some(Unwritable::OffsetSecond));
     assert!(rt; reasons(first()?) == [year, year, year]);
-    assert!(rt; reasons(moment((10_000, Month::May, 1), (0, 0, 0, 0), (0, 0))?) == [year, year, year]);
-    assert!(rt; reasons(moment((1899, Month::May, 1), (0, 0, 0, 0), (0, 0))?) == [None, year, None]);
-    assert!(rt; reasons(moment((2021, Month::May, 1), (0, 0, 0, 0), (24, 0))?) == [hour, None, hour]);
+    assert!(rt;
+        reasons(moment((10_000, Month::May, 1), (0, 0, 0, 0), (0, 0))?) == [year, year, year]
+    );
+    assert!(rt;
+        reasons(moment((1899, Month::May, 1), (0, 0, 0, 0), (0, 0))?) == [None, year, None]
+    );
+    assert!(rt;
+        reasons(moment((2021, Month::May, 1), (0, 0, 0, 0), (24, 0))?) == [hour, None, hour]
+    );
     let date = Date::from_calendar_date(2021, Month::May, 1)?;
     let time = Time::from_hms_nano(0, 0, 0, 0)?;
     let value = OffsetDateTime::new_in_offset(date, time, UtcOffset::from_hms(1, 0, 1)?);

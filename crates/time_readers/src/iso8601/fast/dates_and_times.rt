@@ -52,8 +52,7 @@ fn extended_first_sixteen(input: &[u8]) -> Option<FirstSixteen<'_>>
     ensures { IfSome result (IsFirstSixteen input.now) }
 {
     let (first, rest) = input.split_first_chunk::<16>()?;
-    // One byte tells the two forms apart.
-    if first[4] != b'-' || !block::is_within(first, LEAST, GREATEST) {
+    if !block::is_within(first, LEAST, GREATEST) {
         return None;
     }
     let after = byte::<b':'>(rest)?;

@@ -107,6 +107,26 @@ pub enum BorrowedFormatItem<'a> {
     First(&'a [Self]),
 }
 
+/// An item of a description: `item!("-")`, a component with the modifiers that a description need not name as
+/// `item!(Day)`, or one with others as `item!(Hour24 { padding: Padding::None })`.
+#[macro_export]
+macro_rules! item {
+    ($text:literal) => {
+        $crate::BorrowedFormatItem::StringLiteral($text)
+    };
+    ($name:ident) => {
+        $crate::BorrowedFormatItem::Component($crate::Component::$name(
+            $crate::modifier::$name::default(),
+        ))
+    };
+    ($name:ident { $($field:ident: $value:expr),+ }) => {
+        $crate::BorrowedFormatItem::Component($crate::Component::$name($crate::modifier::$name {
+            $($field: $value,)+
+            ..$crate::modifier::$name::default()
+        }))
+    };
+}
+
 /// A description that owns its parts.
 #[derive(Debug, Drop)]
 pub enum OwnedFormatItem {

@@ -30,11 +30,12 @@ pub use shim::Integer;
 pub struct ParsedItem<'a, T>(pub &'a [u8], pub T);
 
 /// What fills the places of a number that has fewer digits than places.
-#[derive(Clone, Copy, Debug, PartialEq, Eq)]
+#[derive(Clone, Copy, Debug, Default, PartialEq, Eq)]
 pub enum Padding {
     /// Spaces stand before the digits.
     Space,
     /// Zeros stand before the digits.
+    #[default]
     Zero,
     /// Nothing stands before the digits.
     None,

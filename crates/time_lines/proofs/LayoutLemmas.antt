@@ -6,18 +6,21 @@ use Rattle.time_values.specs.Calendar.{month_length}
 use Rattle.std.proofs.lemmas.Bool.Decides.{nat_tests}
 use Rattle.time_values.specs.Month.{month_number}
 use Rattle.time_values.specs.declared.date.Date.{Date}
-use Rattle.time_lines.specs.Layout.{digits_before, fixed, four_digits, leading_digits, minus_if, year_front, year_text}
+use Rattle.time_values.specs.Shown.{fixed}
+use Rattle.time_lines.specs.Layout.{four_digits, leading_digits, minus_if, year_front, year_text}
 use Rattle.time_values.specs.declared.time.Time.{Time}
 use Rattle.time_lines.specs.Values.{date_text, date_time_text}
-use Rattle.time_lines.proofs.DigitLemmas.{digits_two}
 use Rattle.itoa.proofs.Decimal.{decimal_four, pair}
 
 -- four digits, two at a time
 fixed_four : (n : ℕ) → n < 10000 → fixed 4 n ≡ pair (n / 100) ++ pair (n % 100)
-unfolding digits_before fixed
+unfolding fixed
 fixed_four n h =
-    let a : n / 100 % 100 ≡ n / 100 = omega arith in
-    rw (digits_two 2 n [], digits_two 0 (n / 100) _, a) refl
+    let a : n / 10 / 10 / 10 % 10 ≡ n / 100 / 10 = omega arith in
+    let b : n / 10 / 10 % 10 ≡ n / 100 % 10 = omega arith in
+    let c : n / 10 % 10 ≡ n % 100 / 10 = omega arith in
+    let d : n % 10 ≡ n % 100 % 10 = omega arith in
+    rw (a, b, c, d) refl
 
 -- the last four digits stand behind those before them
 leading_digits-then : (n : ℕ) (b : Bool) → nat_lt n 10000 ≡ b → n < 2 ^ 64 → leading_digits n ++ fixed 4 (n % 10000) ≡ four_digits n

@@ -1,15 +1,7 @@
 -- How numbers and values are laid out.
-use Rattle.std.specs.Prelude.{ℕ, zero, suc, ◌+◌, ◌/◌, ◌%◌, List, [], ◌∷◌, ◌++◌, codes, ℤ, pos, Bool, if◌then◌else◌, int_lt, nat_lt, unsigned_abs}
+use Rattle.std.specs.Prelude.{ℕ, ◌/◌, List, [], ◌++◌, codes, ℤ, pos, Bool, if◌then◌else◌, int_lt, nat_lt, unsigned_abs}
 use Rattle.std.specs.Fmt.{decimal}
-
--- the last k decimal digits of n, in front of a text
-unfoldable pub digits_before : ℕ → ℕ → List ℕ → List ℕ
-digits_before zero n text = text
-digits_before (suc k) n text = digits_before k (n / 10) ((48 + n % 10) ∷ text)
-
--- the last k decimal digits of n
-unfoldable pub fixed : ℕ → ℕ → List ℕ
-fixed k n = digits_before k n []
+use Rattle.time_values.specs.Shown.{fixed}
 
 -- a minus, or nothing
 abbrev pub minus_if : Bool → List ℕ

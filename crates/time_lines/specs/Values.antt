@@ -15,7 +15,8 @@ use Rattle.time_values.specs.declared.plain_date_time.PlainDateTime.{PlainDateTi
 use Rattle.time_values.specs.declared.utc_date_time.UtcDateTime.{UtcDateTime}
 use Rattle.time_values.specs.declared.offset_date_time.OffsetDateTime.{OffsetDateTime}
 use Rattle.time_values.specs.declared.timestamp.Timestamp.{Timestamp}
-use Rattle.time_lines.specs.Layout.{fixed, year_text}
+use Rattle.time_values.specs.Shown.{fixed}
+use Rattle.time_lines.specs.Layout.{year_text}
 
 -- `YYYY-MM-DD`
 abbrev pub date_text : Date → List ℕ

@@ -1,54 +1,28 @@
 //! Lays values out as text.
-ghost use Rattle.std.specs.Prelude.{◌≡◌, ℕ, ◌+◌, ◌/◌, ◌%◌, ◌<◌, List, ◌++◌, ◌∷◌, codes, OnOk};
+ghost use Rattle.std.specs.Prelude.{◌≡◌, ℕ, ◌<◌, List, ◌++◌, ◌∷◌, codes, OnOk};
 ghost use Rattle.std.specs.Io.KnownBytes.{Appends};
-ghost use Rattle.time_lines.specs.Layout.{fixed, leading_digits, minus_if, year_front};
+ghost use Rattle.time_lines.specs.Layout.{leading_digits, minus_if, year_front};
 ghost use Rattle.time_values.specs.Dates as Dates;
 ghost use Rattle.time_values.specs.Moments.{offset_date};
+ghost use Rattle.time_values.specs.Shown.{fixed};
 ghost use Rattle.time_lines.specs.Values.{is_negative, date_text, time_text, offset_text, date_time_text, plain_text, utc_text, offset_date_time_text, timestamp_text};
 
 use std::io;
 use std::io::Write;
+use time_values::digits::{four, nine, pair};
 use time_values::{Date, OffsetDateTime, PlainDateTime, Time, Timestamp, UtcDateTime, UtcOffset};
-
-// The two digits of each number below 100, as one number, of which the low byte is the first digit.
-static PAIRS: [u16; 100] = [
-    0x3030, 0x3130, 0x3230, 0x3330, 0x3430, 0x3530, 0x3630, 0x3730, 0x3830, 0x3930, 0x3031, 0x3131,
-    0x3231, 0x3331, 0x3431, 0x3531, 0x3631, 0x3731, 0x3831, 0x3931, 0x3032, 0x3132, 0x3232, 0x3332,
-    0x3432, 0x3532, 0x3632, 0x3732, 0x3832, 0x3932, 0x3033, 0x3133, 0x3233, 0x3333, 0x3433, 0x3533,
-    0x3633, 0x3733, 0x3833, 0x3933, 0x3034, 0x3134, 0x3234, 0x3334, 0x3434, 0x3534, 0x3634, 0x3734,
-    0x3834, 0x3934, 0x3035, 0x3135, 0x3235, 0x3335, 0x3435, 0x3535, 0x3635, 0x3735, 0x3835, 0x3935,
-    0x3036, 0x3136, 0x3236, 0x3336, 0x3436, 0x3536, 0x3636, 0x3736, 0x3836, 0x3936, 0x3037, 0x3137,
-    0x3237, 0x3337, 0x3437, 0x3537, 0x3637, 0x3737, 0x3837, 0x3937, 0x3038, 0x3138, 0x3238, 0x3338,
-    0x3438, 0x3538, 0x3638, 0x3738, 0x3838, 0x3938, 0x3039, 0x3139, 0x3239, 0x3339, 0x3439, 0x3539,
-    0x3639, 0x3739, 0x3839, 0x3939,
-];
-
-// The two digits of a number below 100. They come from one number, so that they are stored by one
-// instruction.
-#[inline(always)]
-#[tactic(auto, using(crate::proofs::DigitLemmas::pairs_at))]
-fn pair(n: u32) -> (u8, u8)
-    requires { n < 100 }
-    ensures tens { result.0 ≡ 48 + n / 10 }
-    ensures ones { result.1 ≡ 48 + n % 10 }
-{
-    let digits = PAIRS[n as usize];
-    ((digits % 256) as u8, (digits / 256) as u8)
-}
 
 // `YYYY-MM-DD`.
 #[inline]
-#[tactic(auto, unfolding(crate::specs::Layout::digits_before, crate::specs::Layout::fixed))]
 fn date_bytes(year: u32, month: u8, day: u8) -> [u8; 10]
     requires year_in { year < 10000 }
     requires month_in { month < 100 }
     requires day_in { day < 100 }
     ensures { result ≡ fixed 4 year ++ codes "-" ++ fixed 2 month ++ codes "-" ++ fixed 2 day }
 {
-    let (y1, y2) = pair(year / 100);
-    let (y3, y4) = pair(year % 100);
-    let (m1, m2) = pair(u32::from(month));
-    let (d1, d2) = pair(u32::from(day));
+    let [y1, y2, y3, y4] = four(year);
+    let [m1, m2] = pair(month);
+    let [d1, d2] = pair(day);
     [y1, y2, y3, y4, b'-', m1, m2, b'-', d1, d2]
 }
 
@@ -62,14 +36,10 @@ fn time_bytes(hour: u8, minute: u8, second: u8, nanosecond: u32) -> [u8; 18]
     ensures { result ≡ fixed 2 hour ++ codes ":" ++ fixed 2 minute ++ codes ":" ++ fixed 2 second
         ++ codes "." ++ fixed 9 nanosecond }
 {
-    let (h1, h2) = pair(u32::from(hour));
-    let (m1, m2) = pair(u32::from(minute));
-    let (s1, s2) = pair(u32::from(second));
-    let n1 = b'0' + (nanosecond / 100_000_000) as u8;
-    let (n2, n3) = pair(nanosecond / 1_000_000 % 100);
-    let (n4, n5) = pair(nanosecond / 10_000 % 100);
-    let (n6, n7) = pair(nanosecond / 100 % 100);
-    let (n8, n9) = pair(nanosecond % 100);
+    let [h1, h2] = pair(hour);
+    let [m1, m2] = pair(minute);
+    let [s1, s2] = pair(second);
+    let [n1, n2, n3, n4, n5, n6, n7, n8, n9] = nine(nanosecond);
     [
         h1, h2, b':', m1, m2, b':', s1, s2, b'.', n1, n2, n3, n4, n5, n6, n7, n8, n9,
     ]
@@ -77,16 +47,15 @@ fn time_bytes(hour: u8, minute: u8, second: u8, nanosecond: u32) -> [u8; 18]
 
 // `HH:MM:SS`, after the sign that it is handed.
 #[inline]
-#[tactic(auto, unfolding(crate::specs::Layout::digits_before, crate::specs::Layout::fixed))]
 fn offset_bytes(sign: u8, hours: u8, minutes: u8, seconds: u8) -> [u8; 9]
     requires hours_in { hours < 100 }
     requires minutes_in { minutes < 100 }
     requires seconds_in { seconds < 100 }
     ensures { result ≡ sign ∷ fixed 2 hours ++ codes ":" ++ fixed 2 minutes ++ codes ":" ++ fixed 2 seconds }
 {
-    let (h1, h2) = pair(u32::from(hours));
-    let (m1, m2) = pair(u32::from(minutes));
-    let (s1, s2) = pair(u32::from(seconds));
+    let [h1, h2] = pair(hours);
+    let [m1, m2] = pair(minutes);
+    let [s1, s2] = pair(seconds);
     [sign, h1, h2, b':', m1, m2, b':', s1, s2]
 }
 

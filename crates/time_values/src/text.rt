@@ -1,8 +1,9 @@
 //! A text of at most 35 bytes.
-ghost use Rattle.std.specs.Prelude.{◌≡◌, ◌+◌, ◌≤◌, [], ◌++◌, take, length};
+ghost use Rattle.std.specs.Prelude.{◌≡◌, ◌+◌, ◌≤◌, [], ◌++◌, take, length, Some};
 ghost use Rattle.time_values.specs.Shown.{Items};
 
 use std::marker::Model;
+use std::{fmt, str};
 
 /// A text of at most 35 bytes, as long as the longest that is written.
 #[derive(Drop)]
@@ -60,5 +61,14 @@ impl Text {
         let end = self.len + 10;
         self.array[self.len..end].copy_from_slice(&bytes);
         self.len += count;
+    }
+}
+
+/// Prints the bytes. Those that are no UTF-8 are an error.
+impl fmt::Display for Text {
+    ghost output = { λ t. Some t.items };
+
+    fn fmt<W: fmt::Write>(&self, f: &mut fmt::Formatter<W>) -> fmt::Result {
+        f.write_str(str::from_utf8(self.as_bytes()).map_err(|_| fmt::Error)?)
     }
 }

@@ -1,5 +1,8 @@
-ghost use Rattle.std.specs.Prelude.{◌≡◌, ◌<◌, ◌↔◌, ◌+◌, ◌*◌, IsTrue};
+ghost use Rattle.std.specs.Prelude.{◌≡◌, ◌<◌, ◌↔◌, ◌+◌, ◌*◌, IsTrue, pos, neg_ℤ, ◌+ℤ◌, ◌-ℤ◌, ◌*ℤ◌};
+ghost use Rattle.time_values.specs.Calendar.{IsBetween};
+ghost use Rattle.time_values.specs.Offsets.{offset_seconds};
 
+use crate::UtcOffset;
 use crate::aligned::Aligned;
 use crate::error::ComponentRange;
 use std::fmt;
@@ -138,6 +141,22 @@ impl Time {
         self.hour as u32 * 3600 + self.minute as u32 * 60 + self.second as u32
     }
 
+    // The seconds since midnight in UTC, where the clock has that offset. Taken part by part, the hours of both are
+    // multiplied once.
+    #[inline(always)]
+    pub(crate) fn seconds_in_utc(self, offset: UtcOffset) -> i32
+        ensures value { result ≡ pos (Times.hour self * 3600 + Times.minute self * 60 + Times.second self)
+            -ℤ offset_seconds offset }
+        ensures bound { IsBetween (neg_ℤ (pos 100_000)) (pos 200_000) result }
+    {
+        let (hours, minutes, seconds) = offset.as_hms();
+        seconds_of(
+            self.hour as i32 - hours as i32,
+            self.minute as i32 - minutes as i32,
+            self.second as i32 - seconds as i32,
+        )
+    }
+
     // The nanoseconds since midnight.
     #[inline]
     pub(crate) fn nanos_of_day(self) -> u64
@@ -167,4 +186,16 @@ impl fmt::Debug for Time {
             .field("nanosecond", &self.nanosecond)
             .finish()
     }
+}
+
+// The seconds of hours, minutes and seconds of any signs.
+#[inline(always)]
+fn seconds_of(hours: i32, minutes: i32, seconds: i32) -> i32
+    requires hours { IsBetween (neg_ℤ (pos 25)) (pos 48) hours }
+    requires minutes { IsBetween (neg_ℤ (pos 59)) (pos 118) minutes }
+    requires seconds { IsBetween (neg_ℤ (pos 59)) (pos 118) seconds }
+    ensures value { result ≡ hours *ℤ pos 3600 +ℤ minutes *ℤ pos 60 +ℤ seconds }
+    ensures bound { IsBetween (neg_ℤ (pos 100_000)) (pos 200_000) result }
+{
+    hours * 3600 + minutes * 60 + seconds
 }

@@ -15,9 +15,11 @@ pub mod laws;
 mod parsable;
 mod rfc2822;
 mod rfc3339;
+mod target;
 
 pub use description::Items;
 pub use iso8601::Iso8601;
 pub use parsable::Parsable;
 pub use rfc2822::Rfc2822;
 pub use rfc3339::Rfc3339;
+pub use target::Target;

@@ -4,8 +4,12 @@ pub mod ResolvedLemmas
 pub mod JoinedLists
 pub mod TreeLemmas
 pub mod WholeCharacters
-pub mod CanonicalForm
-pub mod ReadBack
+mod KeptDigits
+mod WrittenForm
+mod Told
+pub mod WrittenBack
+mod MailForm
+pub mod MailBack
 pub mod KeptReadings
 pub mod KeptIsoTexts
 mod IsoWhole

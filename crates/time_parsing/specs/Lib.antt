@@ -1,4 +1,3 @@
-pub mod Canonical
 pub mod Iso8601
 pub mod IsoFast
 pub mod KeptReadings
@@ -6,4 +5,5 @@ pub mod Outcome
 pub mod Rfc2822
 pub mod Rfc3339
 pub mod TreeLaws
+pub mod Written
 pub mod exact

@@ -1,17 +1,17 @@
 //! Laws of parsing: each function does nothing, and its contract is the law.
 ghost use Rattle.time_values.specs.Range.{greatest_year};
 ghost use Rattle.time_record.specs.Resolution.{IsDated, IsTimed, IsOffset, IsPlain, IsUtcMoment, IsMoment, IsTimestamp};
-ghost use Rattle.time_readers.specs.Direct.{IsDirectRfc3339, IsDirectRfc2822, RefusesRfc3339};
-ghost use Rattle.time_parsing.specs.Canonical.{ReadsBack};
+ghost use Rattle.time_readers.specs.Direct.{IsDirectRfc3339, IsDirectRfc2822, RefusesRfc3339, RefusesRfc2822};
 ghost use Rattle.time_parsing.specs.Iso8601 as Iso8601;
 ghost use Rattle.time_parsing.specs.KeptReadings.{KeepsReadings, KeepsRecords, KeepsTexts};
 ghost use Rattle.time_parsing.specs.Outcome.{OneOutcome, OneMomentOutcome, SameMoments, direct};
 ghost use Rattle.time_parsing.specs.Rfc2822 as Rfc2822;
 ghost use Rattle.time_parsing.specs.Rfc3339 as Rfc3339;
+ghost use Rattle.time_parsing.specs.Written.{ReadsBack, ReadsMailBack, KeepsAll};
 ghost use Rattle.time_parsing.specs.TreeLaws.{JoinedReads, JoinedRefuses, Flattens, OptionalAsFirst, AnswersAlike, WholeCharacters, LeavesSuffix};
+ghost use Rattle.time_writing.specs.declared.fraction.FractionDigits.TheVariants.{Auto, Exactly};
 
 use crate::Parsable;
-pub use crate::canonical::text_3339;
 use time_record::AnyFormatItem;
 
 /// A parse has one outcome, whatever the format, the defaults and the target.
@@ -72,12 +72,21 @@ pub fn law_suffix()
     ensures { LeavesSuffix greatest_year }
 {}
 
-/// The text that [`text_3339`] writes of a moment is read back by [`Rfc3339`](crate::Rfc3339) as that moment, without
-/// defaults, directly and over a record.
-#[tactic(auto, using(crate::proofs::ReadBack::read_back))]
+/// The text that [`text_3339`](time_writing::text_3339) writes of a moment is read back by [`Rfc3339`](crate::Rfc3339) as
+/// that moment but for the digits that aren't written, without defaults, directly and over a record. As many digits as
+/// the fraction has, and nine, keep all of it.
 pub fn law_read_back()
-    ensures { ReadsBack greatest_year (direct (RefusesRfc3339 greatest_year)) (Rfc3339.Reads greatest_year)
+    ensures text { ReadsBack greatest_year (direct (RefusesRfc3339 greatest_year)) (Rfc3339.Reads greatest_year)
         (Rfc3339.Refuses greatest_year) }
+    ensures auto { KeepsAll Auto }
+    ensures nine { KeepsAll (Exactly 9) }
+{}
+
+/// The text that [`text_2822`](time_writing::text_2822) writes of a moment is read back by [`Rfc2822`](crate::Rfc2822) as
+/// that moment without its fraction, without defaults, directly and over a record.
+pub fn law_mail_read_back()
+    ensures { ReadsMailBack greatest_year (direct (RefusesRfc2822 greatest_year)) (Rfc2822.Reads greatest_year)
+        (Rfc2822.Refuses greatest_year) }
 {}
 
 /// Where years ran from -9999 to 9999 nothing was read otherwise. Each reading by a description in which nothing is

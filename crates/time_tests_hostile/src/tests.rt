@@ -1,4 +1,4 @@
 mod callers;
-mod counted_and_laws;
+mod counted;
 mod hostile;
 mod readme;

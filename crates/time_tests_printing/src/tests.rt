@@ -3,6 +3,7 @@ mod conversions;
 mod orders;
 mod parts;
 mod printed;
+mod read_back;
 mod texts;
 
 use time_values::error::ComponentRange;

@@ -1,13 +1,9 @@
-//! The walk that counts, and the canonical text read back.
+//! The walk that counts.
 use std::cell::Cell;
-use std::test::Fail;
-use time_parsing::laws::text_3339;
-use time_parsing::{Parsable, Rfc3339};
 use time_readers::modifier::{Hour24, Minute};
-use time_readers::{BorrowedFormatItem, Component, Padding, direct};
+use time_readers::{BorrowedFormatItem, Component, Padding};
 use time_record::{AnyFormatItem, Parsed, Tries};
 use time_values::error::ParseFromDescription;
-use time_values::{Date, Month, OffsetDateTime, Time, UtcOffset};
 
 const HOUR: BorrowedFormatItem<'static> = BorrowedFormatItem::Component(Component::Hour24(
     Hour24 {
@@ -137,37 +133,4 @@ fn begun_once(rt: HostRuntime) {
     assert!(rt; clock_of(b"12x", &calls) == (true, 2));
     let [hour, colon, minute] = &calls;
     assert!(rt; (hour.get(), colon.get(), minute.get()) == (1, 1, 0));
-}
-
-// What reads that text as that value: the direct path by both calls, and the record.
-fn read_back(text: &[u8], value: OffsetDateTime) -> [bool; 3] {
-    [
-        Rfc3339.parse_offset_date_time(text, None) == Ok(value),
-        Rfc3339.parse_offset_date_time(text, Some(Parsed::new())) == Ok(value),
-        direct::rfc3339(text) == Ok(value),
-    ]
-}
-
-#[test]
-fn canonical_text_of_the_first_year(rt: HostRuntime) -> Result<(), Fail> {
-    let date = Date::from_calendar_date(0, Month::January, 1)?;
-    let time = Time::from_hms_nano(0, 0, 0, 0)?;
-    let offset = UtcOffset::from_hms(-23, -59, 0)?;
-    let value = OffsetDateTime::new_in_offset(date, time, offset);
-    let text = b"0000-01-01T00:00:00.000000000-23:59".as_slice();
-    assert!(rt; text_3339(value).as_slice() == text);
-    assert!(rt; read_back(text, value) == [true; 3]);
-    Ok(())
-}
-
-#[test]
-fn canonical_text_behind_utc(rt: HostRuntime) -> Result<(), Fail> {
-    let date = Date::from_calendar_date(2021, Month::January, 2)?;
-    let time = Time::from_hms_nano(3, 4, 5, 500_000_000)?;
-    let offset = UtcOffset::from_hms(0, -30, 0)?;
-    let value = OffsetDateTime::new_in_offset(date, time, offset);
-    let text = b"2021-01-02T03:04:05.500000000-00:30".as_slice();
-    assert!(rt; text_3339(value).as_slice() == text);
-    assert!(rt; read_back(text, value) == [true; 3]);
-    Ok(())
 }

@@ -1,0 +1,194 @@
+-- A mail date that was written has the form of RFC 2822.
+use Rattle.std.proofs.Common.{◌≡◌, ◌≤◌, ◌<◌, ◌^◌, ℕ, pos, List, [], ◌∷◌, ◌++◌, get_or, take, false, true, Some, None, refl, inl, inr, arith}
+use Rattle.std.specs.Str.{str_to_ascii_lowercase}
+use Rattle.time_values.specs.Sign.{signed_by}
+use Rattle.time_values.specs.declared.month.Month.{Month}
+use Rattle.time_values.specs.declared.month.Month.TheVariants.{January, February, March, April, May, June, July, August, September, October, November, December}
+use Rattle.time_values.specs.declared.weekday.Weekday.{Weekday}
+use Rattle.time_values.specs.declared.weekday.Weekday.TheVariants.{Monday, Tuesday, Wednesday, Thursday, Friday, Saturday, Sunday}
+use Rattle.time_readers.specs.Bytes.{sign_byte, is_negative}
+use Rattle.time_readers.specs.Digits.{IsDigitRun}
+use Rattle.time_readers.specs.MailBlanks.{fws, cfws, opt_cfws, opt_cfws_colon_opt_cfws}
+use Rattle.time_readers.specs.MailZones.{zone_literal}
+use Rattle.time_readers.specs.Names.{month_name, weekday_name}
+use Rattle.time_readers.specs.Places.{Stand}
+use Rattle.time_readers.specs.Rfc2822.{Asks, HasForm, nothing_read, time_places, offset_places}
+use Rattle.time_readers.specs.declared.Sign.{Sign}
+use Rattle.time_readers.specs.declared.Sign.TheVariants.{Negative, Positive}
+use Rattle.time_readers.specs.declared.rfc2822.Numbers.{Numbers}
+use Rattle.time_readers.specs.declared.rfc2822.Place.TheVariants.{WeekdayName, Day, DayBlanks, MonthName, MonthBlanks, Year, YearBlanks, Hour, HourColon, Minute, Second, TimeBlanks, OffsetHour, OffsetMinute, EndBlanks}
+use Rattle.time_readers.proofs.MailZones.{zone-sign}
+use Rattle.time_readers.proofs.ShortCuts.{fws-short, cfws-short, colon-short, opt_cfws-short, opt_cfws-one, opt_cfws-empty}
+use Rattle.time_values.specs.Shown.{fixed}
+use Rattle.time_writing.specs.Texts.{short_weekday, short_month}
+use Rattle.time_parsing.proofs.WrittenForm.{fixed-run, Stand-text, Stand-none}
+use Rattle.time_parsing.proofs.KeptDigits.{fixed-length}
+
+-- a text begins with a byte that is no blank and begins no comment
+abbrev IsPlain : List ℕ → Type 0
+IsPlain text = 41 ≤ get_or text 0 0
+
+-- so do letters, digits and a sign
+letters-plain : (w : Weekday) (rest : List ℕ) → IsPlain (short_weekday w ++ rest)
+letters-plain Monday rest = omega arith
+letters-plain Tuesday rest = omega arith
+letters-plain Wednesday rest = omega arith
+letters-plain Thursday rest = omega arith
+letters-plain Friday rest = omega arith
+letters-plain Saturday rest = omega arith
+letters-plain Sunday rest = omega arith
+
+month-plain : (m : Month) (rest : List ℕ) → IsPlain (short_month m ++ rest)
+month-plain January rest = omega arith
+month-plain February rest = omega arith
+month-plain March rest = omega arith
+month-plain April rest = omega arith
+month-plain May rest = omega arith
+month-plain June rest = omega arith
+month-plain July rest = omega arith
+month-plain August rest = omega arith
+month-plain September rest = omega arith
+month-plain October rest = omega arith
+month-plain November rest = omega arith
+month-plain December rest = omega arith
+
+digits-plain : (n : ℕ) (rest : List ℕ) → IsPlain (fixed 2 n ++ rest)
+unfolding fixed
+digits-plain n rest = omega arith
+
+year-plain : (n : ℕ) (rest : List ℕ) → IsPlain (fixed 4 n ++ rest)
+unfolding fixed
+year-plain n rest = omega arith
+
+sign-plain : (sign : Sign) (rest : List ℕ) → IsPlain (sign_byte sign ∷ rest)
+sign-plain Negative rest = omega arith
+sign-plain Positive rest = omega arith
+
+-- a name in its own letters
+weekday-named : (w : Weekday) → str_to_ascii_lowercase (short_weekday w) ≡ str_to_ascii_lowercase (take 3 (weekday_name w))
+weekday-named Monday = refl
+weekday-named Tuesday = refl
+weekday-named Wednesday = refl
+weekday-named Thursday = refl
+weekday-named Friday = refl
+weekday-named Saturday = refl
+weekday-named Sunday = refl
+
+month-named : (m : Month) → str_to_ascii_lowercase (short_month m) ≡ str_to_ascii_lowercase (take 3 (month_name m))
+month-named January = refl
+month-named February = refl
+month-named March = refl
+month-named April = refl
+month-named May = refl
+month-named June = refl
+month-named July = refl
+month-named August = refl
+month-named September = refl
+month-named October = refl
+month-named November = refl
+month-named December = refl
+
+-- no blank, one, and a colon, before such a text
+none-at : (text : List ℕ) → IsPlain text → opt_cfws text ≡ Some text
+none-at [] h = absurd (omega (arith, h))
+none-at (c ∷ text) h = opt_cfws-short (c ∷ text) h
+
+one-at : (text : List ℕ) → IsPlain text → opt_cfws (32 ∷ text) ≡ Some text
+one-at [] h = absurd (omega (arith, h))
+one-at (c ∷ text) h = opt_cfws-one (32 ∷ c ∷ text) (omega arith) refl h
+
+blank-at : (text : List ℕ) → IsPlain text → cfws (32 ∷ text) ≡ Some text
+blank-at [] h = absurd (omega (arith, h))
+blank-at (c ∷ text) h =
+    cfws-short (32 ∷ c ∷ text) (omega arith) (inl refl, (λ e. omega (arith, h, e)), (λ e. omega (arith, h, e)), (λ e. omega (arith, h, e)))
+    (λ e. omega (arith, h, e))
+
+fold-at : (text : List ℕ) → IsPlain text → fws (32 ∷ text) ≡ Some text
+fold-at [] h = absurd (omega (arith, h))
+fold-at (c ∷ text) h =
+    fws-short (32 ∷ c ∷ text) (omega arith) (inl refl, (λ e. omega (arith, h, e)), (λ e. omega (arith, h, e)), (λ e. omega (arith, h, e)))
+
+colon-at : (text : List ℕ) → IsPlain text → opt_cfws_colon_opt_cfws (58 ∷ text) ≡ Some text
+colon-at [] h = absurd (omega (arith, h))
+colon-at (c ∷ text) h = colon-short (58 ∷ c ∷ text) (omega arith) refl h
+
+-- no zone name begins with a sign
+no_zone : (sign : Sign) (rest : List ℕ) → zone_literal (sign_byte sign ∷ rest) ≡ None
+no_zone Negative rest = zone-sign (45 ∷ rest) (omega arith) (inr refl)
+no_zone Positive rest = zone-sign (43 ∷ rest) (omega arith) (inl refl)
+
+-- a run of one digit or two
+day-run : (d : ℕ) (rest : List ℕ) → d < 10 ^ 2 → IsDigitRun 1 2 (fixed 2 d) rest d
+day-run d rest h = let run = fixed-run 2 d rest h in let long = fixed-length 2 d in record {
+  digits = run.digits;
+  enough = omega (arith, long);
+  within = omega (arith, long);
+  ends = inl long;
+  is = run.is;
+}
+
+module _ (w : Weekday) (d : ℕ) (month : Month) (y h mi s : ℕ) (sign : Sign) (oh om : ℕ) where
+  -- the numbers after each part
+  abbrev named : Numbers
+  named = record nothing_read { weekday = Some w }
+
+  abbrev dated : Numbers
+  dated = record named { day = d; month = month; year = y; year_is_full = true }
+
+  abbrev timed : Numbers
+  timed = record dated { hour = h; minute = mi; second = Some s }
+
+  abbrev signed : Numbers
+  signed = record timed { offset_sign = Some sign; offset_hour = signed_by (is_negative sign) (pos oh) }
+
+  abbrev pub mail_numbers : Numbers
+  mail_numbers = record signed { offset_minute = signed_by (is_negative sign) (pos om) }
+
+  abbrev offset_bytes : List ℕ
+  offset_bytes = (sign_byte sign ∷ fixed 2 oh) ++ (fixed 2 om ++ [])
+
+  abbrev time_bytes : List ℕ
+  time_bytes =
+      fixed 2 h ++ ((58 ∷ []) ++ (fixed 2 mi ++ ((58 ∷ fixed 2 s) ++ ((32 ∷ []) ++ offset_bytes))))
+
+  abbrev pub mail_bytes : List ℕ
+  mail_bytes =
+      (short_weekday w ++ (44 ∷ 32 ∷ [])) ++ (fixed 2 d ++ ((32 ∷ []) ++ (short_month month ++ ((32 ∷ []) ++ (fixed 4 y
+      ++ ((32 ∷ []) ++ time_bytes))))))
+
+  module _ (hours : oh ≤ 25) (minutes : om < 10 ^ 2) where
+    offset-stands : Stand (Asks false) offset_places timed offset_bytes [] mail_numbers
+    offset-stands =
+        Stand-text (Asks false) OffsetHour _ timed signed _ (sign_byte sign ∷ fixed 2 oh) _ []
+        (inr (record { no_zone = no_zone sign _; sign = sign; digits = fixed 2 oh; hour = oh; cut = refl; run = (fixed-run 2 oh _ (omega (arith, hours)), tt); says = refl }))
+        (Stand-text (Asks false) OffsetMinute _ signed mail_numbers _ (fixed 2 om) [] []
+        (om, (fixed-run 2 om [] minutes, tt), refl)
+        (Stand-text (Asks false) EndBlanks [] mail_numbers mail_numbers _ [] [] [] (opt_cfws-empty [] refl, refl)
+        (Stand-none (Asks false) mail_numbers [])))
+
+    module _ (clock : (h < 10 ^ 2) × (mi < 10 ^ 2) × (s < 10 ^ 2)) where
+      time-stands : Stand (Asks false) (time_places ++ offset_places) dated time_bytes [] mail_numbers
+      time-stands =
+          Stand-text (Asks false) Hour _ dated (record dated { hour = h }) _ (fixed 2 h) _ [] (h, (fixed-run 2 h _ clock.0, tt), refl)
+          (Stand-text (Asks false) HourColon _ (record dated { hour = h }) (record dated { hour = h }) _ (58 ∷ []) _ []
+          (colon-at _ (digits-plain mi _), refl)
+          (Stand-text (Asks false) Minute _ (record dated { hour = h }) (record dated { hour = h; minute = mi }) _ (fixed 2 mi) _ []
+          (mi, (fixed-run 2 mi _ clock.1, tt), refl)
+          (Stand-text (Asks false) Second _ (record dated { hour = h; minute = mi }) timed _ (58 ∷ fixed 2 s) _ []
+          (Some s, (58 ∷ [], fixed 2 s, refl, colon-at _ (digits-plain s _), (fixed-run 2 s _ clock.2, tt)), refl)
+          (Stand-text (Asks false) TimeBlanks _ timed timed _ (32 ∷ []) _ [] (blank-at _ (sign-plain sign (fixed 2 oh ++ (fixed 2 om ++ []))), refl) offset-stands))))
+
+      pub mail_form : d < 10 ^ 2 → y < 10 ^ 4 → 1900 ≤ y → HasForm false mail_bytes [] mail_numbers
+      mail_form day year late =
+          Stand-text (Asks false) WeekdayName _ nothing_read named _ (short_weekday w ++ (44 ∷ 32 ∷ [])) _ []
+          (Some w, ([], short_weekday w, 32 ∷ [], refl, none-at _ (letters-plain w _), weekday-named w, one-at _ (digits-plain d _)), refl)
+          (Stand-text (Asks false) Day _ named (record named { day = d }) _ (fixed 2 d) _ [] (d, day-run d _ day, tt, refl)
+          (Stand-text (Asks false) DayBlanks _ (record named { day = d }) (record named { day = d }) _ (32 ∷ []) _ []
+          (blank-at _ (month-plain month _), refl)
+          (Stand-text (Asks false) MonthName _ (record named { day = d }) (record named { day = d; month = month }) _ (short_month month) _ []
+          (month, month-named month, refl)
+          (Stand-text (Asks false) MonthBlanks _ (record named { day = d; month = month }) (record named { day = d; month = month }) _ (32 ∷ []) _ []
+          (blank-at _ (year-plain y _), refl)
+          (Stand-text (Asks false) Year _ (record named { day = d; month = month }) dated _ (fixed 4 y) _ []
+          (true, y, (fixed-run 4 y _ year, late), refl)
+          (Stand-text (Asks false) YearBlanks _ dated dated _ (32 ∷ []) time_bytes [] (fold-at _ (digits-plain h _), refl) time-stands))))))

@@ -46,7 +46,8 @@ late-year (negsuc n) h = absurd (omega (arith, ints, h))
 flat : (a b c d m f y g h i j k s l z o : List ℕ) →
     a ++ b ++ c ++ d ++ m ++ f ++ y ++ g ++ (h ++ i ++ j ++ k ++ s) ++ l ++ (z ++ o)
     ≡ (a ++ b) ++ (c ++ (d ++ (m ++ (f ++ (y ++ (g ++ (h ++ (i ++ (j ++ ((k ++ s) ++ (l ++ (z ++ (o ++ [])))))))))))))
-flat a b c d m f y g h i j k s l z o = simp append_assoc (ap (λ o. a ++ (b ++ (c ++ (d ++ (m ++ (f ++ (y ++ (g ++ (h ++ (i ++ (j ++ (k ++ (s ++ (l ++ (z ++ o))))))))))))))) (sym (append-nil o)))
+flat a b c d m f y g h i j k s l z o = simp append_assoc (ap (λ o. a ++ (b ++ (c ++ (d ++ (m ++ (f ++ (y ++ (g ++ (h ++ (i ++ (j ++ (k ++ (s ++ (l
+    ++ (z ++ o))))))))))))))) (sym (append-nil o)))
 
 module _ (v w : OffsetDateTime) (cut : IsCut 0 v w) (one : OneSign v)
     (year : IsBetween (pos 1900) (pos 9999) (Dates.year (offset_date v)))
@@ -66,16 +67,20 @@ module _ (v w : OffsetDateTime) (cut : IsCut 0 v w) (one : OneSign v)
       let minute : signed_by (is_negative sign) (pos om) ≡ Offsets.minutes o =
       ap (λ b. signed_by b (pos om)) (is_negative-sign_of (is_behind o)) ∙ sym (signed_minutes (Offsets.hours o) (Offsets.minutes o) one) in
       let h = t.hour_in in let m = t.minute_in in let s = t.second_in in
-      let numbers = mail_numbers day (Dates.day d) (Dates.month d) (unsigned_abs (Dates.year d)) (Times.hour t) (Times.minute t) (Times.second t) sign oh om in
+      let numbers = mail_numbers day (Dates.day d) (Dates.month d) (unsigned_abs (Dates.year d)) (Times.hour t) (Times.minute t)
+      (Times.second t) sign oh om in
       let form = mail_form day (Dates.day d) (Dates.month d) (unsigned_abs (Dates.year d)) (Times.hour t) (Times.minute t) (Times.second t) sign oh om
       (all_hours-below (Offsets.hours o) o.hours_in) (omega (arith, minutes)) (omega (arith, h), omega (arith, m), omega (arith, s))
       (day_below d) (year-below (Dates.year d) years) (late-year (Dates.year d) year) in
-      let text : mail_text day v ≡ mail_bytes day (Dates.day d) (Dates.month d) (unsigned_abs (Dates.year d)) (Times.hour t) (Times.minute t) (Times.second t) sign oh om =
+      let text : mail_text day v ≡ mail_bytes day (Dates.day d) (Dates.month d) (unsigned_abs (Dates.year d)) (Times.hour t) (Times.minute t)
+      (Times.second t) sign oh om =
       flat (short_weekday day) (codes ", ") (fixed 2 (Dates.day d)) (codes " ") (short_month (Dates.month d)) (codes " ")
       (fixed 4 (unsigned_abs (Dates.year d))) (codes " ") (fixed 2 (Times.hour t)) (codes ":") (fixed 2 (Times.minute t)) (codes ":")
       (fixed 2 (Times.second t)) (codes " ") (_ ∷ fixed 2 oh) (fixed 2 om)
-      ∙ ap (λ b. (short_weekday day ++ (44 ∷ 32 ∷ [])) ++ (fixed 2 (Dates.day d) ++ ((32 ∷ []) ++ (short_month (Dates.month d) ++ ((32 ∷ []) ++ (fixed 4 (unsigned_abs (Dates.year d))
-      ++ ((32 ∷ []) ++ (fixed 2 (Times.hour t) ++ ((58 ∷ []) ++ (fixed 2 (Times.minute t) ++ ((58 ∷ fixed 2 (Times.second t)) ++ ((32 ∷ []) ++ ((b ∷ fixed 2 oh) ++ (fixed 2 om ++ [])))))))))))))) (sym (sign_byte-sign_of (is_behind o))) in
+      ∙ ap (λ b. (short_weekday day ++ (44 ∷ 32 ∷ [])) ++ (fixed 2 (Dates.day d) ++ ((32 ∷ []) ++ (short_month (Dates.month d) ++ ((32 ∷ []) ++
+      (fixed 4 (unsigned_abs (Dates.year d))
+      ++ ((32 ∷ []) ++ (fixed 2 (Times.hour t) ++ ((58 ∷ []) ++ (fixed 2 (Times.minute t) ++ ((58 ∷ fixed 2 (Times.second t)) ++ ((32 ∷ []) ++
+      ((b ∷ fixed 2 oh) ++ (fixed 2 om ++ [])))))))))))))) (sym (sign_byte-sign_of (is_behind o))) in
       subst (λ bytes. IsDirectRfc2822 greatest_year bytes w) (sym text) (
         numbers,
         form,

@@ -160,7 +160,19 @@ module _ (w : Weekday) (d : ℕ) (month : Month) (y h mi s : ℕ) (sign : Sign) 
     offset-stands : Stand (Asks false) offset_places timed offset_bytes [] mail_numbers
     offset-stands =
         Stand-text (Asks false) OffsetHour _ timed signed _ (sign_byte sign ∷ fixed 2 oh) _ []
-        (inr (record { no_zone = no_zone sign _; sign = sign; digits = fixed 2 oh; hour = oh; cut = refl; run = (fixed-run 2 oh _ (omega (arith, hours)), tt); says = refl }))
+        (inr (record {
+          no_zone = no_zone sign _;
+          sign = sign;
+          digits = fixed 2 oh;
+          hour = oh;
+          cut = refl;
+          run = (
+            fixed-run 2 oh _ (omega
+                (arith, hours)),
+            tt,
+          );
+          says = refl;
+        }))
         (Stand-text (Asks false) OffsetMinute _ signed mail_numbers _ (fixed 2 om) [] []
         (om, (fixed-run 2 om [] minutes, tt), refl)
         (Stand-text (Asks false) EndBlanks [] mail_numbers mail_numbers _ [] [] [] (opt_cfws-empty [] refl, refl)
@@ -176,7 +188,11 @@ module _ (w : Weekday) (d : ℕ) (month : Month) (y h mi s : ℕ) (sign : Sign) 
           (mi, (fixed-run 2 mi _ clock.1, tt), refl)
           (Stand-text (Asks false) Second _ (record dated { hour = h; minute = mi }) timed _ (58 ∷ fixed 2 s) _ []
           (Some s, (58 ∷ [], fixed 2 s, refl, colon-at _ (digits-plain s _), (fixed-run 2 s _ clock.2, tt)), refl)
-          (Stand-text (Asks false) TimeBlanks _ timed timed _ (32 ∷ []) _ [] (blank-at _ (sign-plain sign (fixed 2 oh ++ (fixed 2 om ++ []))), refl) offset-stands))))
+          (Stand-text (Asks false) TimeBlanks _ timed timed _ (32 ∷ []) _ [] (
+            blank-at _ (sign-plain sign (fixed 2 oh ++ (fixed 2 om
+                ++ []))),
+            refl,
+          ) offset-stands))))
 
       pub mail_form : d < 10 ^ 2 → y < 10 ^ 4 → 1900 ≤ y → HasForm false mail_bytes [] mail_numbers
       mail_form day year late =

@@ -154,7 +154,13 @@ no_refusal-kept : (k : ℕ) (t : Time) →
 no_refusal-kept k t =
     let h = t.hour_in in let m = t.minute_in in let s = t.second_in in let n = t.nanosecond_in in
     let less = div-mul-le_self t.nanosecond (10 ^ (9 - k)) in
-    rw (le-leb t.hour 23 (omega arith), le-leb t.minute 59 (omega arith), le-leb t.second 59 (omega arith), le-leb (kept k t.nanosecond) 999_999_999 (omega (arith, less, n))) refl
+    rw (
+      le-leb t.hour 23 (omega arith),
+      le-leb t.minute 59 (omega arith),
+      le-leb t.second 59 (omega arith),
+      le-leb
+          (kept k t.nanosecond) 999_999_999 (omega (arith, less, n)),
+    ) refl
 
 offset-taken : (h m : ℤ) → unsigned_abs h ≤ 25 → unsigned_abs m ≤ 59 → offset_refusal h m (pos 0) ≡ None
 offset-taken h m p q = rw (le-leb (unsigned_abs h) 25 p, le-leb (unsigned_abs m) 59 q) refl
@@ -173,7 +179,8 @@ module _ (k : ℕ) (v w : OffsetDateTime) (cut : IsCut k v w) (one : OneSign v)
   all-taken : first_refusal greatest_year (told k v) ≡ None
   all-taken =
       let below = all_hours-below (Offsets.hours (offset_of v)) (offset_of v).hours_in in
-      let offset = offset-taken (Offsets.hours (offset_of v)) (Offsets.minutes (offset_of v)) below (minutes-below (Offsets.minutes (offset_of v)) (offset_of v).minutes_in) in
+      let offset = offset-taken (Offsets.hours (offset_of v)) (Offsets.minutes (offset_of v)) below (minutes-below (Offsets.minutes (offset_of v))
+      (offset_of v).minutes_in) in
       rw (date-taken (offset_date v) year, shown-second k v, shown-nanosecond k v, no_refusal-kept k (offset_time v), offset) refl
 
   moment-told : IsMoment (told k v) w

@@ -135,7 +135,8 @@ module _ (k : ℕ) (few : k ≤ 9) (v w : OffsetDateTime) (cut : IsCut k v w) (o
       ∙ sym (append_assoc (_ ∷ fixed 2 oh) (codes ":") (fixed 2 om)) in
       subst (λ offset. IsDirectRfc3339 greatest_year (with_offset offset) w) text
       (stands-with ((sign_byte sign ∷ fixed 2 oh) ++ (codes ":" ++ fixed 2 om)) (numeric _ _ _ _ _ _ _ sign oh om)
-      (no_digit sign (fixed 2 oh ++ (codes ":" ++ fixed 2 om))) (no_point sign (fixed 2 oh ++ (codes ":" ++ fixed 2 om))) (numeric-stands _ _ _ _ _ _ _ sign oh om (hours-below (Offsets.hours o) hours) (omega (arith, minutes))) minutes
+      (no_digit sign (fixed 2 oh ++ (codes ":" ++ fixed 2 om))) (no_point sign (fixed 2 oh ++ (codes ":" ++ fixed 2 om)))
+      (numeric-stands _ _ _ _ _ _ _ sign oh om (hours-below (Offsets.hours o) hours) (omega (arith, minutes))) minutes
       (λ j. record {
         year = unsigned_abs (Dates.year (offset_date v));
         month = month_number (Dates.month (offset_date v));
@@ -155,7 +156,8 @@ module _ (k : ℕ) (few : k ≤ 9) (v w : OffsetDateTime) (cut : IsCut k v w) (o
 
   written-back : IsDirectRfc3339 greatest_year (moment_text k v) w
   written-back =
-      subst (λ text. IsDirectRfc3339 greatest_year text w) (sym (flat (fixed 4 _) (codes "-") (fixed 2 _) (codes "-") (fixed 2 _) (codes "T") (fixed 2 _) (codes ":")
+      subst (λ text. IsDirectRfc3339 greatest_year text w) (sym (flat (fixed 4 _) (codes "-") (fixed 2 _) (codes "-") (fixed 2 _) (codes "T")
+      (fixed 2 _) (codes ":")
       (fixed 2 _) (codes ":") (fixed 2 _) (fraction_shown k (Times.nanosecond (offset_time v))) (offset_text (offset_of v))))
       (by_none (is_none (offset_of v)) refl)
 

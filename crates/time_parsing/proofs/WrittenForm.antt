@@ -112,7 +112,17 @@ module _ (y mo d h mi s : ℕ) (subsecond : Option ℕ) where
       Stand (Asks false) offset_places timed ((sign_byte sign ∷ fixed 2 oh) ++ (codes ":" ++ fixed 2 om)) [] (numeric sign oh om)
   numeric-stands sign oh om hours minutes =
       Stand-text (Asks false) OffsetHour _ timed (signed sign oh) _ (sign_byte sign ∷ fixed 2 oh) _ []
-      (inr (record { sign = sign; digits = fixed 2 oh; hour = oh; cut = refl; run = (fixed-run 2 oh _ (omega (arith, hours)), (omega arith, hours)); says = refl }))
+      (inr (record {
+        sign = sign;
+        digits = fixed 2 oh;
+        hour = oh;
+        cut = refl;
+        run = (
+          fixed-run 2 oh _ (omega (arith, hours)),
+          (omega arith, hours),
+        );
+        says = refl;
+      }))
       (Stand-text (Asks false) OffsetColon _ (signed sign oh) (signed sign oh) _ (codes ":") _ [] (refl, refl)
       (subst (λ text. Stand (Asks false) (OffsetMinute ∷ []) (signed sign oh) text [] (numeric sign oh om)) (append-nil (fixed 2 om))
       (Stand-text (Asks false) OffsetMinute [] (signed sign oh) (numeric sign oh om) _ (fixed 2 om) [] []

@@ -11,4 +11,5 @@ unwritable_name OffsetSecond = codes "offset_second"
 
 -- the text
 abbrev pub unwritable_text : Unwritable → List ℕ
-unwritable_text e = codes "The " ++ unwritable_name e ++ codes " component cannot be formatted into the requested format."
+unwritable_text e =
+    codes "The " ++ unwritable_name e ++ codes " component cannot be formatted into the requested format."

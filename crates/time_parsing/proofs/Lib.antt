@@ -8,6 +8,7 @@ mod KeptDigits
 mod WrittenForm
 mod Told
 pub mod WrittenBack
+pub mod OneText
 mod MailForm
 pub mod MailBack
 pub mod KeptReadings

@@ -6,6 +6,7 @@ use Rattle.time_values.specs.Times as Times
 use Rattle.time_values.specs.declared.offset_date_time.OffsetDateTime.{OffsetDateTime}
 use Rattle.time_writing.specs.Texts.{count_of, moment_text, unwritable_3339, unwritable_2822, IsMailText}
 use Rattle.time_writing.specs.declared.fraction.FractionDigits.{FractionDigits}
+use Rattle.time_writing.specs.declared.fraction.FractionDigits.TheVariants.{Auto}
 use Rattle.time_record.specs.Record.{empty}
 use Rattle.time_record.specs.Resolution.{IsMoment}
 use Rattle.time_parsing.specs.Outcome.{IsOutcome, IsMomentOutcome, Path, Reading, Refusing}
@@ -36,6 +37,21 @@ ReadsBack Y path reads refuses =
 -- No digit is cut off that isn't 0.
 abbrev pub KeepsAll : FractionDigits → Type 0
 KeepsAll digits = (n : ℕ) → n < 1_000_000_000 → kept (count_of digits n) n ≡ n
+
+-- Moments of one text are one, but for the digits that aren't written.
+abbrev pub OneText : Type 0
+OneText =
+    (digits others : FractionDigits) (v w a b : OffsetDateTime)
+    → unwritable_3339 v ≡ None → HasOneSign (offset_of v) → IsCut (written digits v) v a
+    → unwritable_3339 w ≡ None → HasOneSign (offset_of w) → IsCut (written others w) w b
+    → moment_text (written digits v) v ≡ moment_text (written others w) w → a ≡ b
+
+-- Moments of one text with as many digits as each has are one.
+abbrev pub OneShortText : Type 0
+OneShortText =
+    (v w : OffsetDateTime)
+    → unwritable_3339 v ≡ None → HasOneSign (offset_of v) → unwritable_3339 w ≡ None → HasOneSign (offset_of w)
+    → moment_text (written Auto v) v ≡ moment_text (written Auto w) w → v ≡ w
 
 -- The text of a mail date is read back as that moment without its fraction.
 abbrev pub ReadsMailBack : ℕ → Path → Reading → Refusing → Type 0

@@ -7,7 +7,7 @@ ghost use Rattle.time_parsing.specs.KeptReadings.{KeepsReadings, KeepsRecords, K
 ghost use Rattle.time_parsing.specs.Outcome.{OneOutcome, OneMomentOutcome, SameMoments, direct};
 ghost use Rattle.time_parsing.specs.Rfc2822 as Rfc2822;
 ghost use Rattle.time_parsing.specs.Rfc3339 as Rfc3339;
-ghost use Rattle.time_parsing.specs.Written.{ReadsBack, ReadsMailBack, KeepsAll};
+ghost use Rattle.time_parsing.specs.Written.{ReadsBack, ReadsMailBack, KeepsAll, OneText, OneShortText};
 ghost use Rattle.time_parsing.specs.TreeLaws.{JoinedReads, JoinedRefuses, Flattens, OptionalAsFirst, AnswersAlike, WholeCharacters, LeavesSuffix};
 ghost use Rattle.time_writing.specs.declared.fraction.FractionDigits.TheVariants.{Auto, Exactly};
 
@@ -80,6 +80,13 @@ pub fn law_read_back()
         (Rfc3339.Refuses greatest_year) }
     ensures auto { KeepsAll Auto }
     ensures nine { KeepsAll (Exactly 9) }
+{}
+
+/// Moments with one text of RFC 3339 are one but for the digits that aren't written, and where as many are written as
+/// each has they are one.
+pub fn law_one_text()
+    ensures text { OneText }
+    ensures auto { OneShortText }
 {}
 
 /// The text that [`text_2822`](time_writing::text_2822) writes of a moment is read back by [`Rfc2822`](crate::Rfc2822) as

@@ -8,8 +8,9 @@ ghost use Rattle.time_values.specs.Refusal.{refusal_of_description};
 ghost use Rattle.time_readers.specs.IsoDates.{iso_date};
 ghost use Rattle.time_readers.specs.declared.iso8601.ExtendedKind.TheVariants.{Unknown};
 ghost use Rattle.time_record.specs.Record.{put_all};
+ghost use Rattle.time_record.specs.Resolution.{IsMoment};
 ghost use Rattle.time_parsing.specs.Iso8601 as spec;
-ghost use Rattle.time_parsing.specs.Outcome.{over_record};
+ghost use Rattle.time_parsing.specs.Outcome.{IsOutcome, begun, over_record, seen};
 ghost use Rattle.time_parsing.specs.Rfc3339.{without_offset_sign};
 
 mod fast;
@@ -242,6 +243,17 @@ fn read<'a>(input: &'a [u8], parsed: &mut Parsed) -> Result<&'a [u8], ParseFromD
     }
 }
 
+// The moment of a whole text over the defaults. The record begins here, so that none is laid out before a short cut.
+#[inline(always)]
+fn moment_over(input: &[u8], defaults: Option<Parsed>) -> Result<OffsetDateTime, Parse>
+    ensures { IsOutcome (IsMoment greatest_year) (spec.Reads greatest_year) (spec.Refuses greatest_year) input.now
+        (begun defaults) (seen result) }
+{
+    let mut parsed = begin(defaults);
+    let rest = Iso8601.parse_into(input, &mut parsed)?;
+    moment_before(rest, &parsed)
+}
+
 impl Parsable for Iso8601 {
     ghost use Rattle.time_parsing.specs.Iso8601.{Reads, Refuses};
 
@@ -291,9 +303,7 @@ impl Parsable for Iso8601 {
                 return Ok(moment);
             }
         }
-        let mut parsed = begin(defaults);
-        let rest = self.parse_into(input, &mut parsed)?;
-        Ok(moment_before(rest, &parsed)?)
+        Ok(moment_over(input, defaults)?)
     }
 
     ghost use Rattle.time_parsing.specs.exact.Iso8601Laws.{iso8601_exact};

@@ -5,10 +5,10 @@ use Rattle.std.specs.Prelude.{◌⊎◌, slice_set, IfOk}
 use Rattle.time_descriptions.specs.declared.fault.Fault.{Fault}
 use Rattle.time_descriptions.specs.declared.fault.Fault.TheVariants as fault
 use Rattle.time_descriptions.specs.declared.fault.Unsupported.TheVariants as unsupported
-use Rattle.time_descriptions.specs.declared.step.Group.{Group}
-use Rattle.time_descriptions.specs.declared.step.Group.TheVariants as groups
-use Rattle.time_descriptions.specs.declared.step.Step.{Step}
-use Rattle.time_descriptions.specs.declared.step.Step.TheVariants as step
+use Rattle.time_readers.specs.declared.step.Group.{Group}
+use Rattle.time_readers.specs.declared.step.Group.TheVariants as groups
+use Rattle.time_readers.specs.declared.step.Step.{Step}
+use Rattle.time_readers.specs.declared.step.Step.TheVariants as step
 use Rattle.time_descriptions.specs.declared.version.Version.{Version}
 use Rattle.time_descriptions.specs.Components.{Read, Gives}
 use Rattle.time_descriptions.specs.Grammar.{Adds, after_byte, before, closed, ends, group_by, group_word, inside_by, item, items_by, leaf, list_by, lists_by, next_list, opened}

@@ -2,15 +2,16 @@
 use Rattle.std.proofs.Common.{◌≡◌, ℕ, zero, suc, ◌+◌, ◌<◌, ◌≤◌, List, [], ◌∷◌, ◌++◌, length, map, drop, true, false, Ok, Err, refl, ap, ◌∙◌, arith, length-append, inl, inr}
 use Rattle.std.proofs.Math.Seq.{take-append_seam, drop-append_seam}
 use Rattle.std.specs.Prelude.{◌⊎◌}
+use Rattle.time_readers.specs.Steps.{further, group_tree, steps_shape, trees_in}
 use Rattle.time_readers.specs.Tree.{Trees, sequence, literal as literal_tree, component as component_tree, more as more_trees}
 use Rattle.time_descriptions.specs.declared.fault.Fault.{Fault}
 use Rattle.time_descriptions.specs.declared.fault.Fault.TheVariants as fault
-use Rattle.time_descriptions.specs.declared.step.Step.{Step}
-use Rattle.time_descriptions.specs.declared.step.Step.TheVariants as step
+use Rattle.time_readers.specs.declared.step.Step.{Step}
+use Rattle.time_readers.specs.declared.step.Step.TheVariants as step
 use Rattle.time_descriptions.specs.declared.version.Version.{Version}
-use Rattle.time_descriptions.specs.Description.{further, steps_shape, trees_in, IsRefused}
+use Rattle.time_descriptions.specs.Description.{IsRefused}
 use Rattle.time_descriptions.specs.Grammar.{description, ends, Describes}
-use Rattle.time_descriptions.specs.Items.{Item, Items, literal, component, group, none, more, group_tree, items_of, flat, steps_of, all_steps_of, tree_of, trees_of}
+use Rattle.time_descriptions.specs.Items.{Item, Items, literal, component, group, none, more, items_of, flat, steps_of, all_steps_of, tree_of, trees_of}
 use Rattle.time_descriptions.specs.Refusal.{Refusal, refusal_at}
 
 no_further : (is : Items) → further (all_steps_of is) ≡ []

@@ -19,9 +19,9 @@ use Rattle.time_descriptions.specs.declared.fault.Fault.TheVariants as fault
 use Rattle.time_descriptions.specs.declared.fault.Expectation.{Expectation}
 use Rattle.time_descriptions.specs.declared.fault.Expectation.TheVariants as expected
 use Rattle.time_descriptions.specs.declared.fault.Unsupported.TheVariants as unsupported
-use Rattle.time_descriptions.specs.declared.step.Group.{Group}
-use Rattle.time_descriptions.specs.declared.step.Group.TheVariants as groups
-use Rattle.time_descriptions.specs.declared.step.Step.{Step}
+use Rattle.time_readers.specs.declared.step.Group.{Group}
+use Rattle.time_readers.specs.declared.step.Group.TheVariants as groups
+use Rattle.time_readers.specs.declared.step.Step.{Step}
 use Rattle.time_descriptions.specs.declared.version.Version.{Version}
 use Rattle.time_descriptions.specs.declared.version.Version.TheVariants as versions
 use Rattle.time_descriptions.specs.Components.{Read, ◌>>=◌, bracketed}

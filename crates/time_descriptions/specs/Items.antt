@@ -1,11 +1,11 @@
 -- The items of a description, with the steps that hold them and the trees that they are.
 use Rattle.std.specs.Prelude.{ℕ, List, [], ◌∷◌, ◌++◌, length, map, false}
 use Rattle.time_readers.specs.declared.format_description.Component.{Component}
-use Rattle.time_readers.specs.Tree.{Tree, Trees, sequence, optional, first_of, literal as literal_tree, component as component_tree, none as no_trees, more as more_trees}
-use Rattle.time_descriptions.specs.declared.step.Group.{Group}
-use Rattle.time_descriptions.specs.declared.step.Group.TheVariants as groups
-use Rattle.time_descriptions.specs.declared.step.Step.{Step}
-use Rattle.time_descriptions.specs.declared.step.Step.TheVariants as step
+use Rattle.time_readers.specs.Steps.{group_tree}
+use Rattle.time_readers.specs.Tree.{Tree, Trees, literal as literal_tree, component as component_tree, none as no_trees, more as more_trees}
+use Rattle.time_readers.specs.declared.step.Group.{Group}
+use Rattle.time_readers.specs.declared.step.Step.{Step}
+use Rattle.time_readers.specs.declared.step.Step.TheVariants as step
 
 mutual
   pub data Item : Type 0 where
@@ -23,12 +23,6 @@ mutual
 abbrev pub items_of : List Item → Items
 items_of [] = none
 items_of (i ∷ is) = more i (items_of is)
-
--- the tree of a group, by the trees in it
-abbrev pub group_tree : Group → Trees → Tree
-group_tree groups.Optional ts = optional (sequence ts)
-group_tree groups.First ts = first_of ts
-group_tree groups.List ts = sequence ts
 
 abbrev mutual
   -- the tree of an item

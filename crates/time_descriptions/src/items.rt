@@ -7,8 +7,8 @@ ghost use Rattle.time_descriptions.specs.Grammar.{Adds};
 ghost use Rattle.time_descriptions.specs.Items.{flat, steps_of};
 ghost use Rattle.time_descriptions.specs.Leaves.{leaf_item, Sees};
 ghost use Rattle.time_descriptions.specs.declared.fault.Fault.TheVariants as fault;
-ghost use Rattle.time_descriptions.specs.declared.step.Group.TheVariants as groups;
-ghost use Rattle.time_descriptions.specs.declared.step.Step.TheVariants as step;
+ghost use Rattle.time_readers.specs.declared.step.Group.TheVariants as groups;
+ghost use Rattle.time_readers.specs.declared.step.Step.TheVariants as step;
 
 use crate::fault::{Expectation, Fault, Unsupported};
 use crate::leaf::{Leaf, read_leaf};

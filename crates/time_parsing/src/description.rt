@@ -1,6 +1,7 @@
 //! Descriptions as formats.
 ghost use Rattle.std.specs.Prelude.{map};
 ghost use Rattle.time_values.specs.Range.{greatest_year};
+ghost use Rattle.time_descriptions.specs.Description.{shape};
 ghost use Rattle.time_readers.specs.Shape.{borrowed_shape, owned_shape, v3_shape};
 ghost use Rattle.time_readers.specs.Tree.{sequence, trees};
 ghost use Rattle.time_record.specs.Reading.{Reads, Refuses};
@@ -10,6 +11,7 @@ ghost use Rattle.time_parsing.specs.Outcome.{ParsesInto};
 
 use crate::Parsable;
 use crate::parsable::{begin, moment_before};
+use time_descriptions::Description;
 use time_readers::{BorrowedFormatItem, FormatDescriptionV3, OwnedFormatItem};
 use time_record::{AnyFormatItem, Parsed};
 use time_values::OffsetDateTime;
@@ -114,6 +116,36 @@ impl Parsable for FormatDescriptionV3<'_> {
     }
 
     ghost exact = { λ s. tree_exact greatest_year (v3_shape s.inner) };
+
+    ghost exact_path = { λ _. tt };
+}
+
+impl<const N: usize> Parsable for Description<N> {
+    ghost reads = { λ s. Reads greatest_year (shape s) };
+
+    ghost refuses = { λ s. Refuses greatest_year (shape s) };
+
+    ghost path = { λ _. over_record };
+
+    fn parse_into<'a>(&self, input: &'a [u8], parsed: &mut Parsed) -> Result<&'a [u8], Parse> {
+        match parsed.parse_steps(input, self.steps()) {
+            Ok(rest) => Ok(rest),
+            Err(e) => Err(e.into()),
+        }
+    }
+
+    #[inline(always)]
+    fn parse_offset_date_time(
+        &self,
+        input: &[u8],
+        defaults: Option<Parsed>,
+    ) -> Result<OffsetDateTime, Parse> {
+        let mut parsed = begin(defaults);
+        let rest = self.parse_into(input, &mut parsed)?;
+        moment_before(rest, &parsed)
+    }
+
+    ghost exact = { λ s. tree_exact greatest_year (shape s) };
 
     ghost exact_path = { λ _. tt };
 }

@@ -1,6 +1,7 @@
 //! Laws of parsing: each function does nothing, and its contract is the law.
 ghost use Rattle.time_values.specs.Range.{greatest_year};
 ghost use Rattle.time_record.specs.Resolution.{IsDated, IsTimed, IsOffset, IsPlain, IsUtcMoment, IsMoment, IsTimestamp};
+ghost use Rattle.time_descriptions.specs.Description.{shape};
 ghost use Rattle.time_readers.specs.Direct.{IsDirectRfc3339, IsDirectRfc2822, RefusesRfc3339, RefusesRfc2822};
 ghost use Rattle.time_parsing.specs.Iso8601 as Iso8601;
 ghost use Rattle.time_parsing.specs.KeptReadings.{KeepsReadings, KeepsRecords, KeepsTexts};
@@ -12,6 +13,7 @@ ghost use Rattle.time_parsing.specs.TreeLaws.{JoinedReads, JoinedRefuses, Flatte
 ghost use Rattle.time_writing.specs.declared.fraction.FractionDigits.TheVariants.{Auto, Exactly};
 
 use crate::Parsable;
+use time_descriptions::Description;
 use time_record::AnyFormatItem;
 
 /// A parse has one outcome, whatever the format, the defaults and the target.
@@ -56,6 +58,11 @@ pub fn law_optional_as_first()
 /// Two items of one shape, whatever their types, give the same results, and leave the same record.
 pub fn law_equal_shapes<I: AnyFormatItem, J: AnyFormatItem>(item: &I, other: &J)
     ensures { AnswersAlike greatest_year (I.shape item.now) (J.shape other.now) }
+{}
+
+/// A description that was read from a text and an item of its shape give the same results, and leave the same record.
+pub fn law_equal_described<const N: usize, I: AnyFormatItem>(description: &Description<N>, item: &I)
+    ensures { AnswersAlike greatest_year (shape description.now) (I.shape item.now) }
 {}
 
 /// A version-3 description reads as the same description of another type, where no `Ignore` of those that are begun ends

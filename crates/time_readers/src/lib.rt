@@ -17,6 +17,7 @@ mod ranges;
 pub mod rfc2822;
 pub mod rfc3339;
 mod shim;
+mod step;
 
 pub use format_description::{
     BorrowedFormatItem, Component, FormatDescriptionV3, FormatDescriptionV3Inner, OwnedFormatItem,
@@ -24,6 +25,7 @@ pub use format_description::{
 };
 pub use modifier::{SubsecondDigits, TrailingInput};
 pub use shim::Integer;
+pub use step::{Group, Step};
 
 /// What a reader found: the unread rest of its input, and the value.
 #[derive(Clone, Copy, Debug)]

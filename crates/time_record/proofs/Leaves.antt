@@ -48,7 +48,7 @@ drop_past : {X : Type 0} (xs : List X) (i j : ℕ) → i ≤ j → drop j xs ≡
 drop_past xs i j least =
     let same : i + (j - i) ≡ j = omega arith in subst (λ n. drop n xs ≡ drop (j - i) (drop i xs)) same (drop_drop (j - i) i xs)
 
-Begins-leaf : (Y : ℕ) (t : Tree) (b : List ℕ) (r : Record) → IsLeaf t → Begins Y t b r 1
+pub Begins-leaf : (Y : ℕ) (t : Tree) (b : List ℕ) (r : Record) → IsLeaf t → Begins Y t b r 1
 unfolding Begins
 Begins-leaf Y (literal text) b r leaf = refl
 Begins-leaf Y (component w c) b r leaf = refl

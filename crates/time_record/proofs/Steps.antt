@@ -79,11 +79,11 @@ module _ {Y : ℕ} {X : Type 0} {f : X → Tree} {xs : List X} {i : ℕ}
   Continues-end end = k.reads b r (subst (λ ts. ReadsAll Y ts b r b r) (sym (trees_from-end f xs i end)) (refl, refl))
 
 -- None of the trees reads anything.
-abbrev NoReadingSome : ℕ → Trees → List ℕ → Record → Type 0
+abbrev pub NoReadingSome : ℕ → Trees → List ℕ → Record → Type 0
 NoReadingSome Y ts b r = HasNone (ReadsSome Y ts b r)
 
 -- The fault that is kept is that of all the alternatives. While there is none, all are left.
-abbrev IsKept : ℕ → Trees → Trees → List ℕ → Record → Option ParseFromDescription → Type 0
+abbrev pub IsKept : ℕ → Trees → Trees → List ℕ → Record → Option ParseFromDescription → Type 0
 IsKept Y ts all b r kept = MatchOption kept (ts ≡ all) (λ e. IsFault Y (first_of all) b r (refusal_of_description e))
 
 -- What the items from an index on answer as alternatives, all of them answer: none before it reads,
@@ -96,41 +96,41 @@ pub record Keeps (Y : ℕ) {X : Type 0} (f : X → Tree) (xs : List X) (i : ℕ)
   pub fault : IsKept Y (trees_from f i xs) (trees (map f xs)) b r kept
 
 module _ (Y : ℕ) (t : Tree) (ts : Trees) (b : List ℕ) (r : Record) where
-  ReadsSome-here : (rest : List ℕ) (q : Record) → Reads Y t b r rest q → ReadsSome Y (more t ts) b r rest q
+  pub ReadsSome-here : (rest : List ℕ) (q : Record) → Reads Y t b r rest q → ReadsSome Y (more t ts) b r rest q
   unfolding ReadsSome
   ReadsSome-here rest q h = inl h
 
-  ReadsSome-later : (rest : List ℕ) (q : Record) → NoReading Y t b r → ReadsSome Y ts b r rest q → ReadsSome Y (more t ts) b r rest q
+  pub ReadsSome-later : (rest : List ℕ) (q : Record) → NoReading Y t b r → ReadsSome Y ts b r rest q → ReadsSome Y (more t ts) b r rest q
   unfolding ReadsSome
   ReadsSome-later rest q h k = inr (h, k)
 
-  NoReadingSome-more : NoReading Y t b r → NoReadingSome Y ts b r → NoReadingSome Y (more t ts) b r
+  pub NoReadingSome-more : NoReading Y t b r → NoReadingSome Y ts b r → NoReadingSome Y (more t ts) b r
   unfolding ReadsSome
   NoReadingSome-more h k = λ rest q s. elim s [ inl a ↦ h rest q a | inr a ↦ k rest q a.1 ]
 
 -- alternatives read as some of them does, where there is one
 module _ (Y : ℕ) (b : List ℕ) (r : Record) where
-  first_of-some : (ts : Trees) (rest : List ℕ) (q : Record) → ReadsSome Y ts b r rest q → Reads Y (first_of ts) b r rest q
+  pub first_of-some : (ts : Trees) (rest : List ℕ) (q : Record) → ReadsSome Y ts b r rest q → Reads Y (first_of ts) b r rest q
   unfolding Reads ReadsSome
   first_of-some none rest q h = absurd h
   first_of-some (more t ts) rest q h = h
 
-  some-first_of : (ts : Trees) (rest : List ℕ) (q : Record) (e : Refusal) → IsFault Y (first_of ts) b r e →
+  pub some-first_of : (ts : Trees) (rest : List ℕ) (q : Record) (e : Refusal) → IsFault Y (first_of ts) b r e →
       Reads Y (first_of ts) b r rest q → ReadsSome Y ts b r rest q
   unfolding Reads ReadsSome IsFault
   some-first_of none rest q e f h = absurd f
   some-first_of (more t ts) rest q e f h = h
 
-  NoReadingSome-none : NoReadingSome Y none b r
+  pub NoReadingSome-none : NoReadingSome Y none b r
   unfolding ReadsSome
   NoReadingSome-none = λ rest q h. h
 
-  Reads-first_of_none : Reads Y (first_of none) b r b r
+  pub Reads-first_of_none : Reads Y (first_of none) b r b r
   unfolding Reads
   Reads-first_of_none = (refl, refl)
 
 -- the fault to keep after one more
-IsKept-more : (Y : ℕ) (t : Tree) (ts all : Trees) (b : List ℕ) (r : Record) (kept : Option ParseFromDescription)
+pub IsKept-more : (Y : ℕ) (t : Tree) (ts all : Trees) (b : List ℕ) (r : Record) (kept : Option ParseFromDescription)
     (e : ParseFromDescription) → IsKept Y (more t ts) all b r kept → IsFault Y t b r (refusal_of_description e) →
     IsKept Y ts all b r (option_or kept (Some e))
 unfolding IsFault

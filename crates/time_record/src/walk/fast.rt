@@ -1,12 +1,17 @@
 //! A leaf in front of a list, read with no call.
-ghost use Rattle.std.specs.Prelude.{IfSome};
+ghost use Rattle.std.specs.Prelude.{◌≡◌, ◌∷◌, [], IfSome};
 ghost use Rattle.time_values.specs.Range.{greatest_year};
+ghost use Rattle.time_readers.specs.Steps.{further, steps_after, steps_trees, tree_at};
 ghost use Rattle.time_record.specs.Count.{IsLeaf};
+ghost use Rattle.time_readers.specs.Tree.{literal};
+ghost use Rattle.time_record.specs.Record.{Record};
 ghost use Rattle.time_record.specs.WalkFast.{MayRead};
 
+use super::steps::further_byte;
 use crate::Parsed;
 use crate::format_item::{Inspect, Node};
 use crate::parsed::fast;
+use time_readers::Step;
 
 /// Reads an item that has nothing inside it, and answers the rest that the walk would. `None`: not this form, and the
 /// record is as it was.
@@ -23,6 +28,41 @@ pub(super) fn leaf<'a, I: Inspect>(
         Node::Literal(text) => fast::literal(input, text),
         Node::Component(component) => fast::component(parsed, input, component),
         Node::WholeComponent(component) => fast::whole_component(parsed, input, component),
+        _ => None,
+    }
+}
+
+/// Reads an item of one step, which has nothing inside it, and answers the rest that the walk would. `None`: not this
+/// form, and the record is as it was.
+#[inline(always)]
+pub(super) fn step<'a>(
+    step: &Step,
+    behind: &[Step],
+    parsed: &mut Parsed,
+    input: &'a [u8],
+) -> Option<&'a [u8]>
+    ensures read { MayRead greatest_year (tree_at steps_trees step.now behind.now) input.now parsed.old result parsed.new }
+    ensures leaf { IfSome result (λ rest. IsLeaf (tree_at steps_trees step.now behind.now)) }
+    ensures alone { IfSome result (λ rest. steps_after step.now behind.now ≡ behind.now) }
+{
+    match step {
+        Step::Literal(byte) | Step::More(byte) => only_byte(*byte, behind, input),
+        Step::Component(component) => fast::component(parsed, input, component),
+        Step::Group(_, _) => None,
+    }
+}
+
+// Reads a literal of one byte. `None`: not this form.
+#[inline(always)]
+fn only_byte<'a>(byte: u8, behind: &[Step], input: &'a [u8]) -> Option<&'a [u8]>
+    ensures read { (r : Record) → MayRead greatest_year (literal (byte ∷ further behind.now)) input.now r result r }
+    ensures alone { IfSome result (λ rest. further behind.now ≡ []) }
+{
+    if further_byte(behind).is_some() {
+        return None;
+    }
+    match input {
+        [found, rest @ ..] if *found == byte => Some(rest),
         _ => None,
     }
 }

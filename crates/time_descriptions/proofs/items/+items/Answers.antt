@@ -1,9 +1,9 @@
 use Rattle.std.proofs.Common.{◌≡◌, ℕ, suc, ◌+◌, ◌-◌, ◌<◌, ◌≤◌, List, [], ◌∷◌, ◌++◌, length, true, false, ap, sym, ◌∙◌, inr, append-nil, length-append, arith}
 use Rattle.std.proofs.lemmas.Grind.{common_steps}
 use Rattle.std.specs.Prelude.{slice_set}
-use Rattle.time_descriptions.specs.declared.step.Group.TheVariants as groups
-use Rattle.time_descriptions.specs.declared.step.Step.{Step}
-use Rattle.time_descriptions.specs.declared.step.Step.TheVariants as step
+use Rattle.time_readers.specs.declared.step.Group.TheVariants as groups
+use Rattle.time_readers.specs.declared.step.Step.{Step}
+use Rattle.time_readers.specs.declared.step.Step.TheVariants as step
 use Rattle.time_descriptions.specs.Grammar.{ends, item, list_by}
 use Rattle.time_descriptions.specs.Items.{flat, group, items_of, steps_of}
 use Rattle.time_descriptions.proofs.Adding.{at_end, at_fault, at_item, at_last, at_list, at_list_fault, before_none, closed_length, closed_steps, deeper, fault_on, group_ends, more_room, next_steps, not_ended, not_inside, not_opened, plain_item, shorter_of, too_deep}

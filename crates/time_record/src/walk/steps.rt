@@ -1,0 +1,252 @@
+//! The walk over the steps of a description that was read from a text.
+ghost use Rattle.std.specs.Prelude.{◌≡◌, ◌≢◌, ◌-◌, ◌≤◌, ◌++◌, ◌∷◌, [], ℕ, List, length, drop, MatchOption};
+ghost use Rattle.time_values.specs.Range.{greatest_year};
+ghost use Rattle.time_readers.specs.Steps as steps_;
+ghost use Rattle.time_readers.specs.Steps.{steps_shape, steps_trees, tree_at};
+ghost use Rattle.time_readers.specs.Tree.{first_of, optional, sequence, literal};
+ghost use Rattle.time_record.specs.Answer.{Answers};
+ghost use Rattle.time_record.specs.Count.{Counts, CountsAll, CountsFirst};
+ghost use Rattle.time_record.specs.Record.{Record};
+ghost use Rattle.time_record.specs.WalkSteps.{Goes, IsFurther};
+
+use super::fast;
+use crate::{Parsed, Tries};
+use time_readers::{Group, Step};
+use time_values::error::ParseFromDescription;
+
+/// Reads the steps in front of the input as a list, and counts it and the items inside it that are begun.
+#[cycle(steps)]
+pub fn walk_list<'a>(
+    steps: &[Step],
+    parsed: &mut Parsed,
+    input: &'a [u8],
+    tries: &mut Tries,
+) -> Result<&'a [u8], ParseFromDescription>
+    ensures answers { Answers greatest_year (steps_shape steps.now) input.now parsed.old result parsed.new }
+    ensures counts { Counts greatest_year (steps_shape steps.now) input.now parsed.old tries.old tries.new }
+{
+    tries.begin();
+    let before = *parsed;
+    let mut left = steps;
+    let mut rest = input;
+    loop {
+        let (later, unread) = read_steps(left, parsed, rest);
+        tries.add(left.len() - later.len());
+        let [step, behind @ ..] = later else {
+            return Ok(unread);
+        };
+        match walk_item(step, behind, parsed, unread, tries) {
+            Ok(more) => rest = more,
+            Err(fault) => {
+                *parsed = before;
+                return Err(fault);
+            }
+        }
+        left = steps_after(step, behind);
+    }
+}
+
+// Reads items of one step one after the other, and answers the steps from the first item on that its short cut doesn't
+// read, and the rest. No walk is called in this loop, so it keeps no room for a walk's result.
+#[inline(always)]
+fn read_steps<'s, 'a>(
+    steps: &'s [Step],
+    parsed: &mut Parsed,
+    input: &'a [u8],
+) -> (&'s [Step], &'a [u8])
+    ensures fewer { length result.0.now ≤ length steps.now }
+    ensures goes { Goes greatest_year (steps_trees steps.now) input.now parsed.old
+        (length steps.now - length result.0.now) (steps_trees result.0.now) result.1.now parsed.new }
+{
+    let mut left = steps;
+    let mut rest = input;
+    while let [step, behind @ ..] = left {
+        match fast::step(step, behind, parsed, rest) {
+            Some(unread) => rest = unread,
+            None => return (left, rest),
+        }
+        left = behind;
+    }
+    (left, rest)
+}
+
+// Reads the item of a step, with those behind it that belong to it.
+#[cycle(steps)]
+#[inline(always)]
+fn walk_item<'a>(
+    step: &Step,
+    behind: &[Step],
+    parsed: &mut Parsed,
+    input: &'a [u8],
+    tries: &mut Tries,
+) -> Result<&'a [u8], ParseFromDescription>
+    ensures answers { Answers greatest_year (tree_at steps_trees step.now behind.now) input.now parsed.old result parsed.new }
+    ensures counts { Counts greatest_year (tree_at steps_trees step.now behind.now) input.now parsed.old tries.old tries.new }
+{
+    match *step {
+        Step::Literal(first) | Step::More(first) => {
+            tries.begin();
+            read_literal(first, behind, input)
+        }
+        Step::Component(component) => {
+            tries.begin();
+            parsed.parse_component(input, component)
+        }
+        Step::Group(group, len) => {
+            let (inside, _) = behind.split_at(len.min(behind.len()));
+            walk_group(group, inside, parsed, input, tries)
+        }
+    }
+}
+
+// Reads a group of these steps.
+#[cycle(steps)]
+#[inline(always)]
+fn walk_group<'a>(
+    group: Group,
+    inside: &[Step],
+    parsed: &mut Parsed,
+    input: &'a [u8],
+    tries: &mut Tries,
+) -> Result<&'a [u8], ParseFromDescription>
+    ensures answers { Answers greatest_year (steps_.group_tree group (steps_trees inside.now))
+        input.now parsed.old result parsed.new }
+    ensures counts { Counts greatest_year (steps_.group_tree group (steps_trees inside.now))
+        input.now parsed.old tries.old tries.new }
+{
+    match group {
+        Group::List => walk_list(inside, parsed, input, tries),
+        Group::Optional => {
+            tries.begin();
+            walk_optional(inside, parsed, input, tries)
+        }
+        Group::First => {
+            tries.begin();
+            walk_first(inside, parsed, input, tries)
+        }
+    }
+}
+
+// Reads steps that may be missing.
+#[cycle(steps)]
+#[inline(always)]
+#[tactic(auto, unfolding(crate::specs::Reading::Reads))]
+fn walk_optional<'a>(
+    inside: &[Step],
+    parsed: &mut Parsed,
+    input: &'a [u8],
+    tries: &mut Tries,
+) -> Result<&'a [u8], ParseFromDescription>
+    ensures answers { Answers greatest_year (optional (steps_shape inside.now)) input.now parsed.old result parsed.new }
+    ensures counts { Counts greatest_year (steps_shape inside.now) input.now parsed.old tries.old tries.new }
+{
+    match walk_list(inside, parsed, input, tries) {
+        Ok(rest) => Ok(rest),
+        Err(_) => Ok(input),
+    }
+}
+
+// Reads the first item that reads. Where none does, the fault is the first one's.
+#[cycle(steps)]
+fn walk_first<'a>(
+    steps: &[Step],
+    parsed: &mut Parsed,
+    input: &'a [u8],
+    tries: &mut Tries,
+) -> Result<&'a [u8], ParseFromDescription>
+    ensures answers { Answers greatest_year (first_of (steps_trees steps.now)) input.now parsed.old result parsed.new }
+    ensures counts { CountsFirst greatest_year (steps_trees steps.now) input.now parsed.old tries.old tries.new }
+{
+    let mut first_fault = None;
+    let mut left = steps;
+    while let [step, behind @ ..] = left {
+        match walk_item(step, behind, parsed, input, tries) {
+            Ok(rest) => return Ok(rest),
+            Err(fault) => first_fault = first_fault.or(Some(fault)),
+        }
+        left = steps_after(step, behind);
+    }
+    match first_fault {
+        Some(fault) => Err(fault),
+        None => Ok(input),
+    }
+}
+
+// The steps behind those that belong to a step.
+#[inline(always)]
+fn steps_after<'s>(step: &Step, behind: &'s [Step]) -> &'s [Step]
+    ensures after { result.now ≡ steps_.steps_after step.now behind.now }
+    ensures fewer { length result.now ≤ length behind.now }
+{
+    match *step {
+        Step::Literal(_) | Step::More(_) => after_further(behind),
+        Step::Component(_) => behind,
+        Step::Group(_, len) => {
+            let (_, after) = behind.split_at(len.min(behind.len()));
+            after
+        }
+    }
+}
+
+// The further byte of a literal in front of the steps, if there is one, and the steps behind it.
+#[inline(always)]
+pub(super) fn further_byte(steps: &[Step]) -> Option<(u8, &[Step])>
+    ensures { MatchOption result (steps_.further steps.now ≡ []) (λ x. IsFurther x.0 x.1.now steps.now) }
+{
+    let [step, behind @ ..] = steps else {
+        return None;
+    };
+    match step {
+        Step::More(byte) => Some((*byte, behind)),
+        _ => None,
+    }
+}
+
+// The steps behind the further bytes of a literal.
+fn after_further(steps: &[Step]) -> &[Step]
+    ensures after { result.now ≡ drop (length (steps_.further steps.now)) steps.now }
+    ensures fewer { length result.now ≤ length steps.now }
+{
+    let mut left = steps;
+    while let Some((_, behind)) = further_byte(left) {
+        left = behind;
+    }
+    left
+}
+
+// Reads a literal of this byte and the further ones in front of the steps.
+fn read_literal<'a>(
+    first: u8,
+    steps: &[Step],
+    input: &'a [u8],
+) -> Result<&'a [u8], ParseFromDescription>
+    ensures { (r : Record) → Answers greatest_year (literal (first ∷ steps_.further steps.now)) input.now r result r }
+{
+    let [found, rest @ ..] = input else {
+        return Err(ParseFromDescription::InvalidLiteral);
+    };
+    if *found != first {
+        return Err(ParseFromDescription::InvalidLiteral);
+    }
+    match after_bytes(steps, rest) {
+        Some(unread) => Ok(unread),
+        None => Err(ParseFromDescription::InvalidLiteral),
+    }
+}
+
+// What stands behind the further bytes of a literal in front of the input.
+fn after_bytes<'a>(steps: &[Step], input: &'a [u8]) -> Option<&'a [u8]>
+    ensures { MatchOption result ((x : List ℕ) → input.now ≢ steps_.further steps.now ++ x)
+        (λ rest. input.now ≡ steps_.further steps.now ++ rest.now) }
+{
+    let mut left = steps;
+    let mut rest = input;
+    while let Some((byte, behind)) = further_byte(left) {
+        match rest {
+            [found, unread @ ..] if *found == byte => rest = unread,
+            _ => return None,
+        }
+        left = behind;
+    }
+    Some(rest)
+}

@@ -1,3 +1,4 @@
+mod described;
 mod fronts;
 mod iso_fronts;
 mod iso_texts;

@@ -9,7 +9,8 @@ use Rattle.time_record.specs.Reading.{ReadsAll, RefusesAll}
 use Rattle.time_record.specs.Record.{Record}
 
 -- What the trees that are left answer, all of them answer: those before them were read, and so many items begun.
-pub record Goes (Y : ℕ) (all : Trees) (b0 : List ℕ) (r0 : Record) (begun : ℕ) (left : Trees) (b : List ℕ) (r : Record) : Type 0 where
+pub record Goes (Y : ℕ) (all : Trees) (b0 : List ℕ) (r0 : Record) (begun : ℕ) (left : Trees) (b : List ℕ)
+    (r : Record) : Type 0 where
   pub reads : (rest : List ℕ) (q : Record) → ReadsAll Y left b r rest q → ReadsAll Y all b0 r0 rest q
   pub refuses : (e : Refusal) → RefusesAll Y left b r e → RefusesAll Y all b0 r0 e
   pub begins : (m : ℕ) → BeginsAll Y left b r m → BeginsAll Y all b0 r0 (begun + m)

@@ -1,5 +1,63 @@
 //! Descriptions as strftime has them, and each fault with its index.
+use crate::step::Step;
 use crate::{InvalidFormatDescription, parse_borrowed, parse_strftime};
+use time_readers::{Component, Padding, modifier};
+
+// Whether the text has these steps.
+fn has_steps(text: &[u8], steps: &[Step]) -> bool {
+    match parse_strftime::<64>(text) {
+        Ok(description) => description.steps() == steps,
+        Err(_) => false,
+    }
+}
+
+#[test]
+fn steps_of_texts(rt: HostRuntime) {
+    assert!(rt; has_steps(b"", &[]));
+    assert!(rt; has_steps(b"a%%", &[Step::Literal(b'a'), Step::Literal(b'%')]));
+    let day = Component::Day(modifier::Day {
+        padding: Padding::Space,
+    });
+    assert!(rt;
+        has_steps(
+            b"%_d.d",
+            &[
+                Step::Component(day),
+                Step::Literal(b'.'),
+                Step::Literal(b'd')
+            ]
+        )
+    );
+    let hour = Component::Hour24(modifier::Hour24 {
+        padding: Padding::Zero,
+    });
+    let minute = Component::Minute(modifier::Minute {
+        padding: Padding::Zero,
+    });
+    assert!(rt;
+        has_steps(
+            b"%R",
+            &[
+                Step::Component(hour),
+                Step::Literal(b':'),
+                Step::Component(minute)
+            ]
+        )
+    );
+    let offset_hour = Component::OffsetHour(modifier::OffsetHour {
+        padding: Padding::Zero,
+        sign_is_mandatory: true,
+    });
+    let offset_minute = Component::OffsetMinute(modifier::OffsetMinute {
+        padding: Padding::Zero,
+    });
+    assert!(rt;
+        has_steps(
+            b"%z",
+            &[Step::Component(offset_hour), Step::Component(offset_minute)]
+        )
+    );
+}
 
 // Whether the text has the steps of a description of version 2.
 fn is_described_as(text: &[u8], description: &[u8]) -> bool {

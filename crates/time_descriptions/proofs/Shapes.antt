@@ -59,10 +59,13 @@ mutual
       ∙ ap (λ (us : Trees). more_trees (group_tree g us) (trees_in n after)) (items_trees is n fits)
       ∙ ap (λ (us : Trees). more_trees (group_tree g (trees_of is)) us) (a n rest)
 
-  pub items_trees : (is : Items) → Are (all_steps_of is) (trees_of is)
+  items_trees : (is : Items) → Are (all_steps_of is) (trees_of is)
   items_trees none zero h = refl
   items_trees none (suc n) h = refl
   items_trees (more i is) n h = item_trees i (all_steps_of is) (trees_of is) (no_further is) (items_trees is) n h
+
+pub steps_shape-flat : (is : List Item) → steps_shape (flat is) ≡ sequence (trees_of (items_of is))
+steps_shape-flat is = ap sequence (items_trees (items_of is) (length (flat is)) (omega arith))
 
 at_top : (rest : List ℕ) → ends false rest ≡ true → rest ≡ []
 at_top [] e = refl
@@ -76,7 +79,7 @@ described version text rest is old steps read e o s =
     let all : steps ≡ flat is = s ∙ ap (λ (ss : List Step). ss ++ flat is) o in (
       is,
       read ∙ ap (λ (bs : List ℕ). Ok (is, bs)) (at_top rest e),
-      ap steps_shape all ∙ ap sequence (items_trees (items_of is) (length (flat is)) (omega arith)),
+      ap steps_shape all ∙ steps_shape-flat is,
     )
 
 -- a fault is told with its place

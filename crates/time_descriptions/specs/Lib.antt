@@ -4,8 +4,11 @@ pub mod Grammar
 pub mod Items
 pub mod Laws
 pub mod Leaves
+pub mod Letters
 pub mod Modifiers
 pub mod Names
+pub mod Parts
 pub mod Refusal
+pub mod Strftime
 pub mod Values
 pub mod Words

@@ -19,7 +19,7 @@ const MOST_LISTS: usize = 8;
 /// a description of up to `N` bytes has room.
 #[derive(Debug, Drop)]
 pub struct Description<const N: usize> {
-    steps: ArrayVec<Step, N>,
+    pub(crate) steps: ArrayVec<Step, N>,
 }
 
 impl<const N: usize> Description<N> {

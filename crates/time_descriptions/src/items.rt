@@ -117,7 +117,7 @@ fn closed(text: &[u8], opening: usize) -> Result<&[u8], Fault>
 }
 
 // One more step, if there is room.
-fn push<const N: usize>(steps: &mut ArrayVec<Step, N>, step: Step) -> Result<(), Fault>
+pub(crate) fn push<const N: usize>(steps: &mut ArrayVec<Step, N>, step: Step) -> Result<(), Fault>
     ensures ok { OnOk result (steps.new.items ≡ steps.old.items ++ step ∷ []) }
     ensures err { IfErr result (λ e. (e ≡ fault.NoRoom) × (length steps.old.items ≡ N)) }
 {

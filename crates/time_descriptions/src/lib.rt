@@ -8,9 +8,13 @@ mod fault;
 mod items;
 pub mod laws;
 mod leaf;
+mod letters;
 mod modifiers;
 mod names;
 mod step;
+mod strftime;
+#[cfg(test)]
+mod strftime_tests;
 #[cfg(test)]
 mod tests;
 mod values;
@@ -20,3 +24,4 @@ mod words;
 pub use description::{Description, parse_borrowed};
 pub use error::InvalidFormatDescription;
 pub use step::{Group, Step};
+pub use strftime::parse_strftime;

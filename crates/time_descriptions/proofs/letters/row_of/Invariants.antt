@@ -1,0 +1,10 @@
+use Rattle.std.proofs.Common.{◌≡◌, length}
+use Rattle.time_descriptions.specs.Letters.{row_of}
+use Rattle.time_descriptions.proofs.letters.row_of.Given as goal
+
+-- the rows that are left have what all have
+abbrev pub invariant-loop-left : goal.invariant-loop-left
+invariant-loop-left g l = row_of l.left l.letter ≡ row_of l.rows l.letter
+
+abbrev pub decreases-loop-left : goal.decreases-loop-left
+decreases-loop-left g l = length l.left

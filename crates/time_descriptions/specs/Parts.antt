@@ -1,0 +1,27 @@
+-- What a reader of strftime's descriptions keeps of a byte or a conversion.
+use Rattle.std.proofs.Common.{Bor}
+use Rattle.std.specs.Prelude.{◌≡◌, ℕ, List, [], ◌∷◌, map, None, Result, Ok, Err}
+use Rattle.time_descriptions.specs.declared.fault.Fault.{Fault}
+use Rattle.time_readers.specs.declared.step.Step.{Step}
+use Rattle.time_descriptions.specs.declared.strftime.Part.{Part}
+use Rattle.time_descriptions.specs.declared.strftime.Part.TheVariants as part
+use Rattle.time_descriptions.specs.Grammar.{by_option}
+use Rattle.time_descriptions.specs.Items.{Item, literal, component, flat}
+use Rattle.time_descriptions.specs.Letters.{item_of_byte, offset, row_of, shorthands}
+use Rattle.time_descriptions.specs.Strftime.{Found, failed, followed, strftime}
+
+-- the items of a part
+abbrev pub part_items : Part → List Item
+part_items (part.Byte b) = literal b [] ∷ []
+part_items (part.Component c) = component c ∷ []
+part_items part.Offset = offset
+part_items (part.Shorthand letter) = by_option [] (map item_of_byte) (row_of shorthands letter)
+
+-- What is found is what was read, and then what the bytes left after it have; or it is only the fault.
+abbrev pub Begins : Found → Result (Part × Bor (List ℕ)) Fault → Type 0
+Begins found (Ok x) = found ≡ followed (part_items x.0) (strftime x.1.now)
+Begins found (Err e) = found ≡ failed e
+
+-- The text describes items of these steps.
+abbrev pub HasSteps : List ℕ → List Step → Type 0
+HasSteps text steps = ((strftime text).1 ≡ None) × (steps ≡ flat (strftime text).0)

@@ -1,0 +1,122 @@
+-- Descriptions as strftime has them. Bytes are read from the left, and the first fault counts.
+--
+--     description = { byte | conversion }                   to the end of the text
+--     byte        = any byte but "%"
+--     conversion  = "%" , [ flag ] , letter
+--     flag        = "-" for no padding | "_" for spaces | "0" for zeros
+use Rattle.std.specs.Prelude.{◌≡◌, ◌⊎◌, ◌+◌, ◌<◌, ℕ, List, [], ◌∷◌, ◌++◌, Bool, ◌||◌, ◌==◌, length, option_and_then, Option, Some, None, Result, Ok, Err, if◌then◌else◌}
+use Rattle.time_readers.specs.declared.Padding.{Padding}
+use Rattle.time_readers.specs.declared.Padding.TheVariants as padding
+use Rattle.time_readers.specs.declared.format_description.Component.{Component}
+use Rattle.time_readers.specs.declared.format_description.Component.TheVariants as component
+use Rattle.time_readers.specs.Tree.{Tree, sequence}
+use Rattle.time_descriptions.specs.declared.fault.Fault.{Fault}
+use Rattle.time_descriptions.specs.declared.fault.Fault.TheVariants as fault
+use Rattle.time_descriptions.specs.declared.fault.Unsupported.TheVariants as unsupported
+use Rattle.time_descriptions.specs.Components.{◌>>=◌, or_fault}
+use Rattle.time_descriptions.specs.Grammar.{by_option}
+use Rattle.time_descriptions.specs.Items.{Item, literal, component as component_item, flat, items_of, trees_of}
+use Rattle.time_descriptions.specs.Letters.{components, meaning, row_of}
+use Rattle.time_descriptions.specs.Refusal.{Refusal, refusal_at, too_long}
+
+-- the padding that a flag asks for
+abbrev pub flag_padding : ℕ → Option Padding
+flag_padding b =
+    if b == 45 then Some padding.None
+    else (if b == 95 then Some padding.Space else (if b == 48 then Some padding.Zero else None))
+
+-- the component with that padding, if it has a padding and a letter stands for it
+unfoldable pub with_padding : Padding → Component → Option Component
+with_padding p (component.Day m) = Some (component.Day (record m { padding = p }))
+with_padding p (component.MonthNumerical m) = Some (component.MonthNumerical (record m { padding = p }))
+with_padding p (component.Ordinal m) = Some (component.Ordinal (record m { padding = p }))
+with_padding p (component.WeekNumberIso m) = Some (component.WeekNumberIso (record m { padding = p }))
+with_padding p (component.WeekNumberSunday m) = Some (component.WeekNumberSunday (record m { padding = p }))
+with_padding p (component.WeekNumberMonday m) = Some (component.WeekNumberMonday (record m { padding = p }))
+with_padding p (component.CalendarYearFullExtendedRange m) =
+    Some (component.CalendarYearFullExtendedRange (record m { padding = p }))
+with_padding p (component.IsoYearFullExtendedRange m) =
+    Some (component.IsoYearFullExtendedRange (record m { padding = p }))
+with_padding p (component.CalendarYearCenturyExtendedRange m) =
+    Some (component.CalendarYearCenturyExtendedRange (record m { padding = p }))
+with_padding p (component.CalendarYearLastTwo m) = Some (component.CalendarYearLastTwo (record m { padding = p }))
+with_padding p (component.IsoYearLastTwo m) = Some (component.IsoYearLastTwo (record m { padding = p }))
+with_padding p (component.Hour12 m) = Some (component.Hour12 (record m { padding = p }))
+with_padding p (component.Hour24 m) = Some (component.Hour24 (record m { padding = p }))
+with_padding p (component.Minute m) = Some (component.Minute (record m { padding = p }))
+with_padding p (component.Second m) = Some (component.Second (record m { padding = p }))
+with_padding p _ = None
+
+-- the component of a letter with that padding, if it has one
+abbrev pub padded : Padding → ℕ → Option Component
+padded p letter = option_and_then (with_padding p) (row_of components letter)
+
+-- conversions of strftime that no component has
+abbrev pub is_unsupported : ℕ → Bool
+is_unsupported letter = letter == 69 || letter == 79 || letter == 90
+
+-- why a letter that stands for nothing is refused; so many bytes are left from its "%" and from itself on
+abbrev pub letter_fault : ℕ → ℕ → ℕ → Fault
+letter_fault percent left letter =
+    if is_unsupported letter then fault.NotSupported unsupported.Conversion percent
+    else fault.InvalidComponentName left 1
+
+-- what a letter stands for
+abbrev pub letter_items : ℕ → ℕ → ℕ → Result (List Item) Fault
+letter_items percent left letter = or_fault (letter_fault percent left letter) (meaning letter)
+
+-- what a letter stands for after a flag
+abbrev pub flagged_items : Padding → ℕ → ℕ → Result (List Item) Fault
+flagged_items p left letter =
+    letter_items (left + 2) left letter
+    >>= λ is. or_fault (fault.InvalidModifier (left + 1) 1) (padded p letter)
+    >>= λ c. Ok (component_item c ∷ [])
+
+-- items, and the fault that comes after them, if one comes
+abbrev pub Found : Type 0
+Found = List Item × Option Fault
+
+abbrev pub failed : Fault → Found
+failed e = ([], Some e)
+
+-- these items, and then what is found after them
+abbrev pub followed : List Item → Found → Found
+followed is found = (is ++ found.0, found.1)
+
+-- what a conversion stands for and then what is found after it, or the conversion's fault
+abbrev pub started : Result (List Item) Fault → Found → Found
+started (Ok is) found = followed is found
+started (Err e) found = failed e
+
+unfoldable mutual
+  -- the items of a text up to its first fault or its end, and that fault
+  pub strftime : List ℕ → Found
+  strftime [] = ([], None)
+  strftime (b ∷ text) = if b == 37 then conversion text else followed (literal b [] ∷ []) (strftime text)
+
+  -- likewise of what stands after a "%"
+  pub conversion : List ℕ → Found
+  conversion [] = failed (fault.InvalidComponentName 0 0)
+  conversion (b ∷ text) =
+      by_option (started (letter_items (length (b ∷ text) + 1) (length (b ∷ text)) b) (strftime text))
+      (λ p. flagged p text) (flag_padding b)
+
+  -- likewise of what stands after a flag
+  pub flagged : Padding → List ℕ → Found
+  flagged p [] = failed (fault.InvalidComponentName 0 0)
+  flagged p (b ∷ text) = started (flagged_items p (length (b ∷ text)) b) (strftime text)
+
+-- The text describes the tree.
+unfoldable pub DescribesStrftime : List ℕ → Tree → Type 0
+DescribesStrftime text tree =
+    ((strftime text).1 ≡ None) × (tree ≡ sequence (trees_of (items_of (strftime text).0)))
+
+-- The text up to its first fault or its end describes more than n steps.
+abbrev pub Exceeds : ℕ → List ℕ → Type 0
+Exceeds n text = n < length (flat (strftime text).0)
+
+-- The text is refused so, where there is room for n steps.
+abbrev pub IsRefusedStrftime : ℕ → List ℕ → Refusal → Type 0
+IsRefusedStrftime n text refusal =
+    ((refusal ≡ too_long) × Exceeds n text)
+    ⊎ ((e : Fault) × ((strftime text).1 ≡ Some e) × (refusal ≡ refusal_at text e))

@@ -1,0 +1,255 @@
+//! Descriptions as strftime has them.
+ghost use Rattle.std.specs.Prelude.{◌≡◌, ◌⊎◌, ◌+◌, ◌<◌, ◌≤◌, ◌++◌, ◌∷◌, length, map, Some, IfOk, IfErr, OnOk};
+ghost use Rattle.time_descriptions.specs.Components.{Gives};
+ghost use Rattle.time_descriptions.specs.Description.{shape};
+ghost use Rattle.time_descriptions.specs.Items.{flat};
+ghost use Rattle.time_descriptions.specs.Leaves.{Sees};
+ghost use Rattle.time_descriptions.specs.Letters as letters;
+ghost use Rattle.time_descriptions.specs.Parts.{Begins, HasSteps, part_items};
+ghost use Rattle.time_descriptions.specs.Refusal.{refusal_of};
+ghost use Rattle.time_descriptions.specs.Strftime as spec;
+ghost use Rattle.time_descriptions.specs.Strftime.{DescribesStrftime, Exceeds, IsRefusedStrftime};
+ghost use Rattle.time_descriptions.specs.declared.fault.Fault.TheVariants as fault;
+
+use crate::description::Description;
+use crate::error::InvalidFormatDescription;
+use crate::fault::{Fault, Unsupported};
+use crate::items::push;
+use crate::letters::{component_of_letter, shorthand, step_of_byte};
+use crate::step::Step;
+use arrayvec::ArrayVec;
+use time_readers::{Component, Padding, modifier};
+
+/// What a byte or a conversion stands for.
+#[derive(Clone, Copy)]
+pub enum Part {
+    /// A literal byte.
+    Byte(u8),
+    /// A component.
+    Component(Component),
+    /// The hours of an offset, and its minutes.
+    Offset,
+    /// What the bytes of that letter stand for.
+    Shorthand(u8),
+}
+
+// The padding that the flag asks for.
+fn flag_padding(flag: u8) -> Option<Padding>
+    ensures { result ≡ spec.flag_padding flag }
+{
+    match flag {
+        b'-' => Some(Padding::None),
+        b'_' => Some(Padding::Space),
+        b'0' => Some(Padding::Zero),
+        _ => None,
+    }
+}
+
+// The component with that padding, if it has a padding and a letter stands for it.
+#[tactic(auto, unfolding(crate::specs::Strftime::with_padding))]
+fn with_padding(padding: Padding, component: Component) -> Option<Component>
+    ensures { result ≡ spec.with_padding padding component }
+{
+    let mut padded = component;
+    match &mut padded {
+        Component::Day(day) => day.padding = padding,
+        Component::MonthNumerical(month) => month.padding = padding,
+        Component::Ordinal(ordinal) => ordinal.padding = padding,
+        Component::WeekNumberIso(week) => week.padding = padding,
+        Component::WeekNumberSunday(week) => week.padding = padding,
+        Component::WeekNumberMonday(week) => week.padding = padding,
+        Component::CalendarYearFullExtendedRange(year) => year.padding = padding,
+        Component::IsoYearFullExtendedRange(year) => year.padding = padding,
+        Component::CalendarYearCenturyExtendedRange(century) => century.padding = padding,
+        Component::CalendarYearLastTwo(year) => year.padding = padding,
+        Component::IsoYearLastTwo(year) => year.padding = padding,
+        Component::Hour12(hour) => hour.padding = padding,
+        Component::Hour24(hour) => hour.padding = padding,
+        Component::Minute(minute) => minute.padding = padding,
+        Component::Second(second) => second.padding = padding,
+        _ => return None,
+    }
+    Some(padded)
+}
+
+// The component of the letter with that padding, if it has one.
+fn padded(padding: Padding, letter: u8) -> Option<Component>
+    ensures { result ≡ spec.padded padding letter }
+{
+    match component_of_letter(letter) {
+        Some(component) => with_padding(padding, component),
+        None => None,
+    }
+}
+
+// What the letter stands for, if it stands for anything.
+fn meaning(letter: u8) -> Option<Part>
+    ensures { Sees part_items result (letters.meaning letter) }
+{
+    if letter == b'z' {
+        return Some(Part::Offset);
+    }
+    match component_of_letter(letter) {
+        Some(component) => Some(Part::Component(component)),
+        None => match shorthand(letter) {
+            Some(_) => Some(Part::Shorthand(letter)),
+            None => None,
+        },
+    }
+}
+
+// What the letter stands for. So many bytes are left from its `%` on, and from itself on.
+fn read_letter(percent: usize, left: usize, letter: u8) -> Result<Part, Fault>
+    ensures { Gives part_items result (spec.letter_items percent left letter) }
+{
+    match meaning(letter) {
+        Some(part) => Ok(part),
+        None => Err(match letter {
+            b'E' | b'O' | b'Z' => Fault::NotSupported {
+                what: Unsupported::Conversion,
+                left: percent,
+            },
+            _ => Fault::InvalidComponentName { left, len: 1 },
+        }),
+    }
+}
+
+// What the letter in front of the text stands for after a flag, and what is left after it.
+#[tactic(auto, unfolding(crate::specs::Strftime::flagged))]
+fn read_flagged(padding: Padding, text: &[u8]) -> Result<(Part, &[u8]), Fault>
+    ensures begins { Begins (spec.flagged padding text.now) result }
+    ensures within { IfOk result (λ x. length x.1.now ≤ length text.now) }
+{
+    let [letter, rest @ ..] = text else {
+        return Err(Fault::InvalidComponentName { left: 0, len: 0 });
+    };
+    let left = text.len();
+    match read_letter(left + 2, left, *letter) {
+        Err(fault) => Err(fault),
+        Ok(_) => match padded(padding, *letter) {
+            Some(component) => Ok((Part::Component(component), rest)),
+            None => Err(Fault::InvalidModifier {
+                left: left + 1,
+                len: 1,
+            }),
+        },
+    }
+}
+
+// What stands after a `%`, and what is left after it.
+#[tactic(auto, unfolding(crate::specs::Strftime::conversion))]
+fn read_conversion(text: &[u8]) -> Result<(Part, &[u8]), Fault>
+    ensures begins { Begins (spec.conversion text.now) result }
+    ensures within { IfOk result (λ x. length x.1.now ≤ length text.now) }
+{
+    let [first, rest @ ..] = text else {
+        return Err(Fault::InvalidComponentName { left: 0, len: 0 });
+    };
+    match flag_padding(*first) {
+        Some(padding) => read_flagged(padding, rest),
+        None => match read_letter(text.len() + 1, text.len(), *first) {
+            Err(fault) => Err(fault),
+            Ok(part) => Ok((part, rest)),
+        },
+    }
+}
+
+// What the first byte and those behind it begin with, and what is left after it.
+#[tactic(auto, unfolding(crate::specs::Strftime::strftime))]
+fn read_part(first: u8, behind: &[u8]) -> Result<(Part, &[u8]), Fault>
+    ensures begins { Begins (spec.strftime (first ∷ behind.now)) result }
+    ensures within { IfOk result (λ x. length x.1.now ≤ length behind.now) }
+{
+    if first == b'%' {
+        read_conversion(behind)
+    } else {
+        Ok((Part::Byte(first), behind))
+    }
+}
+
+// The steps of the bytes of a shorthand, if there is room.
+fn push_shorthand<const N: usize>(steps: &mut ArrayVec<Step, N>, bytes: &[u8]) -> Result<(), Fault>
+    ensures ok { OnOk result (steps.new.items ≡ steps.old.items ++ map letters.step_of_byte bytes.now) }
+    ensures err { IfErr result (λ e. (e ≡ fault.NoRoom) × (N < length steps.old.items + length bytes.now)) }
+{
+    for byte in bytes {
+        push(steps, step_of_byte(*byte))?;
+    }
+    Ok(())
+}
+
+// The steps of an offset, if there is room.
+fn push_offset<const N: usize>(steps: &mut ArrayVec<Step, N>) -> Result<(), Fault>
+    ensures ok { OnOk result (steps.new.items ≡ steps.old.items ++ flat letters.offset) }
+    ensures err { IfErr result (λ e. (e ≡ fault.NoRoom) × (N < length steps.old.items + 2)) }
+{
+    push(
+        steps,
+        Step::Component(Component::OffsetHour(modifier::OffsetHour {
+            padding: Padding::Zero,
+            sign_is_mandatory: true,
+        })),
+    )?;
+    push(
+        steps,
+        Step::Component(Component::OffsetMinute(modifier::OffsetMinute {
+            padding: Padding::Zero,
+        })),
+    )
+}
+
+// The steps of a part, if there is room.
+fn push_part<const N: usize>(steps: &mut ArrayVec<Step, N>, part: Part) -> Result<(), Fault>
+    ensures ok { OnOk result (steps.new.items ≡ steps.old.items ++ flat (part_items part)) }
+    ensures err { IfErr result (λ e. (e ≡ fault.NoRoom)
+        × (N < length steps.old.items + length (flat (part_items part)))) }
+{
+    match part {
+        Part::Byte(byte) => push(steps, Step::Literal(byte)),
+        Part::Component(component) => push(steps, Step::Component(component)),
+        Part::Offset => push_offset(steps),
+        Part::Shorthand(letter) => match shorthand(letter) {
+            Some(bytes) => push_shorthand(steps, bytes),
+            None => Ok(()),
+        },
+    }
+}
+
+// The steps of the text, if there is room.
+fn read_steps<const N: usize>(text: &[u8]) -> Result<ArrayVec<Step, N>, Fault>
+    ensures ok { IfOk result (λ steps. HasSteps text.now steps.items) }
+    ensures err { IfErr result (λ e. ((e ≡ fault.NoRoom) × Exceeds N text.now)
+        ⊎ ((spec.strftime text.now).1 ≡ Some e)) }
+{
+    let mut steps = ArrayVec::new();
+    let mut rest = text;
+    while let [first, behind @ ..] = rest {
+        match read_part(*first, behind) {
+            Err(fault) => return Err(fault),
+            Ok((part, unread)) => {
+                push_part(&mut steps, part)?;
+                rest = unread;
+            }
+        }
+    }
+    Ok(steps)
+}
+
+/// Reads a description as strftime has it, as `%Y-%m-%d`: of bytes that stand as they are, and of conversions, each of
+/// them `%`, a flag or none, and a letter.
+///
+/// # Errors
+///
+/// The first fault from the left, with its index in the text; or [`InvalidFormatDescription::TooLong`], which comes only
+/// where the text up to its first fault or its end describes more than `N` steps.
+pub fn parse_strftime<const N: usize>(
+    text: &[u8],
+) -> Result<Description<N>, InvalidFormatDescription<'_>>
+    ensures ok { IfOk result (λ d. DescribesStrftime text.now (shape d)) }
+    ensures err { IfErr result (λ e. IsRefusedStrftime N text.now (refusal_of e)) }
+{
+    match read_steps(text) {
+        Ok(steps) => Ok(Description { steps }),
+        Err(fault) => Err(InvalidFormatDescription::at(text, fault)),
+    }
+}

@@ -28,6 +28,10 @@ fn steps_of_texts(rt: HostRuntime) {
             ]
         )
     );
+}
+
+#[test]
+fn steps_of_shorthands_and_offsets(rt: HostRuntime) {
     let hour = Component::Hour24(modifier::Hour24 {
         padding: Padding::Zero,
     });

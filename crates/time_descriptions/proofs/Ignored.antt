@@ -2,7 +2,7 @@
 use Rattle.std.proofs.Common.{◌≡◌, ℕ, zero, suc, ◌<◌, List, [], ◌∷◌, length, Some, refl, ap, sym, subst, arith}
 use Rattle.std.proofs.Math.Nat.{zero-lt-suc}
 use denote.Struct.Props.{props}
-use Rattle.time_readers.specs.declared.modifier.Ignore.{Ignore}
+use Rattle.time_components.specs.declared.modifier.Ignore.{Ignore}
 use Rattle.time_descriptions.specs.Words.{ignored, count_on}
 
 make : (n : ℕ) → 0 < n → Ignore

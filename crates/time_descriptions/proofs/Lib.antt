@@ -1,5 +1,13 @@
 pub mod Adding
 pub mod Ignored
 pub mod ModifierSteps
+pub mod ReadComponents
 pub mod Rows
 pub mod Shapes
+pub mod StrftimePieces
+pub mod Versions
+pub mod Written
+pub mod WrittenComponents
+pub mod WrittenCounts
+pub mod WrittenLeaves
+pub mod WrittenLists

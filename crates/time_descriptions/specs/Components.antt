@@ -1,7 +1,7 @@
 -- What brackets around a component's name say. Bytes are read from the left, and the first fault counts.
 use Rattle.std.specs.Prelude.{◌≡◌, ℕ, zero, suc, List, [], ◌∷◌, not, ◌==◌, ◌+◌, ◌-◌, length, take, drop, Option, Some, None, Result, Ok, Err, if◌then◌else◌}
 use Rattle.std.specs.List.{prefix_len}
-use Rattle.time_readers.specs.declared.format_description.Component.{Component}
+use Rattle.time_components.specs.declared.format_description.Component.{Component}
 use Rattle.time_descriptions.specs.declared.fault.Fault.{Fault}
 use Rattle.time_descriptions.specs.declared.fault.Fault.TheVariants as fault
 use Rattle.time_descriptions.specs.declared.fault.Expectation.TheVariants as expected

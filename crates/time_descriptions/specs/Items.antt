@@ -1,11 +1,11 @@
 -- The items of a description, with the steps that hold them and the trees that they are.
 use Rattle.std.specs.Prelude.{ℕ, List, [], ◌∷◌, ◌++◌, length, map, false}
-use Rattle.time_readers.specs.declared.format_description.Component.{Component}
-use Rattle.time_readers.specs.Steps.{group_tree}
-use Rattle.time_readers.specs.Tree.{Tree, Trees, literal as literal_tree, component as component_tree, none as no_trees, more as more_trees}
-use Rattle.time_readers.specs.declared.step.Group.{Group}
-use Rattle.time_readers.specs.declared.step.Step.{Step}
-use Rattle.time_readers.specs.declared.step.Step.TheVariants as step
+use Rattle.time_components.specs.declared.format_description.Component.{Component}
+use Rattle.time_components.specs.Steps.{group_tree}
+use Rattle.time_components.specs.Tree.{Tree, Trees, literal as literal_tree, component as component_tree, none as no_trees, more as more_trees}
+use Rattle.time_components.specs.declared.step.Group.{Group}
+use Rattle.time_components.specs.declared.step.Step.{Step}
+use Rattle.time_components.specs.declared.step.Step.TheVariants as step
 
 mutual
   pub data Item : Type 0 where

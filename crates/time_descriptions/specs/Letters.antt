@@ -1,11 +1,11 @@
 -- The letters of strftime, with what they stand for.
 use Rattle.std.specs.Prelude.{ℕ, List, [], ◌∷◌, true, false, map, codes, ◌==◌, Option, Some, None, if◌then◌else◌}
 use Rattle.std.specs.Option.{option_map}
-use Rattle.time_readers.specs.declared.Padding.TheVariants as padding
-use Rattle.time_readers.specs.declared.format_description.Component.{Component}
-use Rattle.time_readers.specs.declared.format_description.Component.TheVariants as component
-use Rattle.time_readers.specs.declared.step.Step.{Step}
-use Rattle.time_readers.specs.declared.step.Step.TheVariants as step
+use Rattle.time_digits.specs.declared.Padding.TheVariants as padding
+use Rattle.time_components.specs.declared.format_description.Component.{Component}
+use Rattle.time_components.specs.declared.format_description.Component.TheVariants as component
+use Rattle.time_components.specs.declared.step.Step.{Step}
+use Rattle.time_components.specs.declared.step.Step.TheVariants as step
 use Rattle.time_descriptions.specs.Grammar.{by_option}
 use Rattle.time_descriptions.specs.Items.{Item, literal, component as component_item}
 

@@ -8,7 +8,9 @@ pub mod Letters
 pub mod Modifiers
 pub mod Names
 pub mod Parts
+pub mod Pieces
 pub mod Refusal
 pub mod Strftime
 pub mod Values
 pub mod Words
+pub mod Writing

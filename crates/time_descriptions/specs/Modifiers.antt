@@ -1,11 +1,11 @@
 -- The values of a component's modifiers, and the component that they pick.
 use Rattle.std.specs.Prelude.{Bool, true, false, Option, Some, None}
 use Rattle.std.specs.Option.{option_map}
-use Rattle.time_readers.specs.declared.Padding.TheVariants as padding
-use Rattle.time_readers.specs.declared.format_description.Component.{Component}
-use Rattle.time_readers.specs.declared.format_description.Component.TheVariants as component
-use Rattle.time_readers.specs.declared.modifier.SubsecondDigits.TheVariants as digits
-use Rattle.time_readers.specs.declared.modifier.TrailingInput.TheVariants as trailing
+use Rattle.time_digits.specs.declared.Padding.TheVariants as padding
+use Rattle.time_components.specs.declared.format_description.Component.{Component}
+use Rattle.time_components.specs.declared.format_description.Component.TheVariants as component
+use Rattle.time_components.specs.declared.modifier.SubsecondDigits.TheVariants as digits
+use Rattle.time_components.specs.declared.modifier.TrailingInput.TheVariants as trailing
 use Rattle.time_descriptions.specs.declared.modifiers.Modifiers.{Modifiers}
 use Rattle.time_descriptions.specs.declared.names.ComponentName.{ComponentName}
 use Rattle.time_descriptions.specs.declared.names.ComponentName.TheVariants as name

@@ -1,8 +1,10 @@
+-- No public contract rests on this file.
+--
 -- What a reader of strftime's descriptions keeps of a byte or a conversion.
 use Rattle.std.proofs.Common.{Bor}
 use Rattle.std.specs.Prelude.{◌≡◌, ℕ, List, [], ◌∷◌, map, None, Result, Ok, Err}
 use Rattle.time_descriptions.specs.declared.fault.Fault.{Fault}
-use Rattle.time_readers.specs.declared.step.Step.{Step}
+use Rattle.time_components.specs.declared.step.Step.{Step}
 use Rattle.time_descriptions.specs.declared.strftime.Part.{Part}
 use Rattle.time_descriptions.specs.declared.strftime.Part.TheVariants as part
 use Rattle.time_descriptions.specs.Grammar.{by_option}

@@ -4,12 +4,12 @@
 --     byte        = any byte but "%"
 --     conversion  = "%" , [ flag ] , letter
 --     flag        = "-" for no padding | "_" for spaces | "0" for zeros
-use Rattle.std.specs.Prelude.{◌≡◌, ◌⊎◌, ◌+◌, ◌<◌, ℕ, List, [], ◌∷◌, ◌++◌, Bool, ◌||◌, ◌==◌, length, option_and_then, Option, Some, None, Result, Ok, Err, if◌then◌else◌}
-use Rattle.time_readers.specs.declared.Padding.{Padding}
-use Rattle.time_readers.specs.declared.Padding.TheVariants as padding
-use Rattle.time_readers.specs.declared.format_description.Component.{Component}
-use Rattle.time_readers.specs.declared.format_description.Component.TheVariants as component
-use Rattle.time_readers.specs.Tree.{Tree, sequence}
+use Rattle.std.specs.Prelude.{◌≡◌, ◌⊎◌, ◌+◌, ◌<◌, ◌≤◌, ℕ, List, [], ◌∷◌, ◌++◌, Bool, ◌||◌, ◌==◌, length, option_and_then, Option, Some, None, Result, Ok, Err, if◌then◌else◌}
+use Rattle.time_digits.specs.declared.Padding.{Padding}
+use Rattle.time_digits.specs.declared.Padding.TheVariants as padding
+use Rattle.time_components.specs.declared.format_description.Component.{Component}
+use Rattle.time_components.specs.declared.format_description.Component.TheVariants as component
+use Rattle.time_components.specs.Tree.{Tree, sequence}
 use Rattle.time_descriptions.specs.declared.fault.Fault.{Fault}
 use Rattle.time_descriptions.specs.declared.fault.Fault.TheVariants as fault
 use Rattle.time_descriptions.specs.declared.fault.Unsupported.TheVariants as unsupported
@@ -115,8 +115,12 @@ DescribesStrftime text tree =
 abbrev pub Exceeds : ℕ → List ℕ → Type 0
 Exceeds n text = n < length (flat (strftime text).0)
 
--- The text is refused so, where there is room for n steps.
+-- It describes at most n steps.
+abbrev pub Fits : ℕ → List ℕ → Type 0
+Fits n text = length (flat (strftime text).0) ≤ n
+
+-- The text is refused so, where there is room for n steps: as too long exactly where it exceeds them.
 abbrev pub IsRefusedStrftime : ℕ → List ℕ → Refusal → Type 0
 IsRefusedStrftime n text refusal =
     ((refusal ≡ too_long) × Exceeds n text)
-    ⊎ ((e : Fault) × ((strftime text).1 ≡ Some e) × (refusal ≡ refusal_at text e))
+    ⊎ ((e : Fault) × ((strftime text).1 ≡ Some e) × (refusal ≡ refusal_at text e) × Fits n text)

@@ -1,12 +1,12 @@
 -- The values that a modifier may have, each with what it means.
 use Rattle.std.specs.Prelude.{ℕ, List, [], ◌∷◌, Bool, true, false, codes, Option}
 use Rattle.std.specs.Option.{option_map}
-use Rattle.time_readers.specs.declared.Padding.{Padding}
-use Rattle.time_readers.specs.declared.Padding.TheVariants as padding
-use Rattle.time_readers.specs.declared.modifier.SubsecondDigits.{SubsecondDigits}
-use Rattle.time_readers.specs.declared.modifier.SubsecondDigits.TheVariants as digits_
-use Rattle.time_readers.specs.declared.modifier.TrailingInput.{TrailingInput}
-use Rattle.time_readers.specs.declared.modifier.TrailingInput.TheVariants as trailing
+use Rattle.time_digits.specs.declared.Padding.{Padding}
+use Rattle.time_digits.specs.declared.Padding.TheVariants as padding
+use Rattle.time_components.specs.declared.modifier.SubsecondDigits.{SubsecondDigits}
+use Rattle.time_components.specs.declared.modifier.SubsecondDigits.TheVariants as digits_
+use Rattle.time_components.specs.declared.modifier.TrailingInput.{TrailingInput}
+use Rattle.time_components.specs.declared.modifier.TrailingInput.TheVariants as trailing
 use Rattle.time_descriptions.specs.Words.{Rows, look_up, ignore_count}
 use Rattle.time_descriptions.specs.declared.names.ComponentName.{ComponentName}
 use Rattle.time_descriptions.specs.declared.names.ComponentName.TheVariants as name

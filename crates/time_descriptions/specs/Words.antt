@@ -3,7 +3,7 @@ use Rattle.std.specs.Prelude.{ℕ, zero, suc, List, [], ◌∷◌, Bool, not, �
 use Rattle.std.specs.Char.{is_ascii_whitespace, is_ascii_digit}
 use Rattle.std.specs.Str.{str_eq_ignore_ascii_case}
 use Rattle.std.proofs.Math.Nat.{zero-lt-suc}
-use Rattle.time_readers.specs.declared.modifier.Ignore.{Ignore}
+use Rattle.time_components.specs.declared.modifier.Ignore.{Ignore}
 
 -- white space: a space, TAB, LF, FF or CR
 abbrev pub is_space : ℕ → Bool

@@ -9,7 +9,7 @@ use crate::modifiers::{Modifiers, component_of};
 use crate::names::{ComponentName, component_name, modifier_key};
 use crate::values::{Modifier, modifier_value};
 use crate::words::{after, front, space_len, word_len};
-use time_readers::Component;
+use time_components::Component;
 
 // How many bytes stand before the first colon, or how many there are.
 fn colon(text: &[u8]) -> usize

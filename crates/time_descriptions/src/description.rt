@@ -47,7 +47,7 @@ fn version_of(number: usize) -> Version
 /// # Errors
 ///
 /// The first fault from the left, with its index in the text; or [`InvalidFormatDescription::TooLong`], which comes only
-/// where the text has more than `N` bytes.
+/// where the text has more than `N` bytes, and where its steps are more than `N`, if it describes a tree.
 pub fn parse_borrowed<const VERSION: usize, const N: usize>(
     text: &[u8],
 ) -> Result<Description<N>, InvalidFormatDescription<'_>>

@@ -7,8 +7,8 @@ ghost use Rattle.time_descriptions.specs.Grammar.{Adds};
 ghost use Rattle.time_descriptions.specs.Items.{flat, steps_of};
 ghost use Rattle.time_descriptions.specs.Leaves.{leaf_item, Sees};
 ghost use Rattle.time_descriptions.specs.declared.fault.Fault.TheVariants as fault;
-ghost use Rattle.time_readers.specs.declared.step.Group.TheVariants as groups;
-ghost use Rattle.time_readers.specs.declared.step.Step.TheVariants as step;
+ghost use Rattle.time_components.specs.declared.step.Group.TheVariants as groups;
+ghost use Rattle.time_components.specs.declared.step.Step.TheVariants as step;
 
 use crate::fault::{Expectation, Fault, Unsupported};
 use crate::leaf::{Leaf, read_leaf};
@@ -119,6 +119,7 @@ fn closed(text: &[u8], opening: usize) -> Result<&[u8], Fault>
 // One more step, if there is room.
 pub(crate) fn push<const N: usize>(steps: &mut ArrayVec<Step, N>, step: Step) -> Result<(), Fault>
     ensures ok { OnOk result (steps.new.items ≡ steps.old.items ++ step ∷ []) }
+    ensures room { OnOk result (length steps.new.items ≤ N) }
     ensures err { IfErr result (λ e. (e ≡ fault.NoRoom) × (length steps.old.items ≡ N)) }
 {
     match steps.try_push(step) {

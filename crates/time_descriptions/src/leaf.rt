@@ -10,7 +10,7 @@ use crate::component::bracketed;
 use crate::fault::{Expectation, Fault};
 use crate::version::Version;
 use crate::words::{after, front};
-use time_readers::Component;
+use time_components::Component;
 
 /// An item that has none inside it.
 #[derive(Clone, Copy)]

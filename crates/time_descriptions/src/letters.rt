@@ -5,7 +5,7 @@ ghost use Rattle.time_descriptions.specs.Letters as letters;
 ghost use Rattle.time_descriptions.specs.Letters.{row_of};
 
 use crate::step::Step;
-use time_readers::{Component, Padding, modifier};
+use time_components::{Component, Padding, modifier};
 
 // The letters of one component each.
 const COMPONENTS: [(u8, Component); 28] = [

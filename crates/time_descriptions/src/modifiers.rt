@@ -4,7 +4,7 @@ ghost use Rattle.time_descriptions.specs.Modifiers as modifiers_;
 
 use crate::names::ComponentName;
 use crate::values::{Modifier, Precision, Representation};
-use time_readers::{Component, Padding, SubsecondDigits, TrailingInput, modifier};
+use time_components::{Component, Padding, SubsecondDigits, TrailingInput, modifier};
 
 /// The values of a component's modifiers.
 #[derive(Clone, Copy, Debug)]

@@ -1,2 +1,2 @@
 //! The steps that a description is kept as.
-pub use time_readers::{Group, Step};
+pub use time_components::{Group, Step};

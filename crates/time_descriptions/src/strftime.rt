@@ -8,7 +8,7 @@ ghost use Rattle.time_descriptions.specs.Letters as letters;
 ghost use Rattle.time_descriptions.specs.Parts.{Begins, HasSteps, part_items};
 ghost use Rattle.time_descriptions.specs.Refusal.{refusal_of};
 ghost use Rattle.time_descriptions.specs.Strftime as spec;
-ghost use Rattle.time_descriptions.specs.Strftime.{DescribesStrftime, Exceeds, IsRefusedStrftime};
+ghost use Rattle.time_descriptions.specs.Strftime.{DescribesStrftime, Exceeds, Fits, IsRefusedStrftime};
 ghost use Rattle.time_descriptions.specs.declared.fault.Fault.TheVariants as fault;
 
 use crate::description::Description;
@@ -18,7 +18,7 @@ use crate::items::push;
 use crate::letters::{component_of_letter, shorthand, step_of_byte};
 use crate::step::Step;
 use arrayvec::ArrayVec;
-use time_readers::{Component, Padding, modifier};
+use time_components::{Component, Padding, modifier};
 
 /// What a byte or a conversion stands for.
 #[derive(Clone, Copy)]
@@ -170,6 +170,7 @@ fn read_part(first: u8, behind: &[u8]) -> Result<(Part, &[u8]), Fault>
 // The steps of the bytes of a shorthand, if there is room.
 fn push_shorthand<const N: usize>(steps: &mut ArrayVec<Step, N>, bytes: &[u8]) -> Result<(), Fault>
     ensures ok { OnOk result (steps.new.items ≡ steps.old.items ++ map letters.step_of_byte bytes.now) }
+    ensures room { OnOk result (length steps.old.items ≤ N → length steps.new.items ≤ N) }
     ensures err { IfErr result (λ e. (e ≡ fault.NoRoom) × (N < length steps.old.items + length bytes.now)) }
 {
     for byte in bytes {
@@ -181,6 +182,7 @@ fn push_shorthand<const N: usize>(steps: &mut ArrayVec<Step, N>, bytes: &[u8]) -
 // The steps of an offset, if there is room.
 fn push_offset<const N: usize>(steps: &mut ArrayVec<Step, N>) -> Result<(), Fault>
     ensures ok { OnOk result (steps.new.items ≡ steps.old.items ++ flat letters.offset) }
+    ensures room { OnOk result (length steps.old.items ≤ N → length steps.new.items ≤ N) }
     ensures err { IfErr result (λ e. (e ≡ fault.NoRoom) × (N < length steps.old.items + 2)) }
 {
     push(
@@ -201,6 +203,7 @@ fn push_offset<const N: usize>(steps: &mut ArrayVec<Step, N>) -> Result<(), Faul
 // The steps of a part, if there is room.
 fn push_part<const N: usize>(steps: &mut ArrayVec<Step, N>, part: Part) -> Result<(), Fault>
     ensures ok { OnOk result (steps.new.items ≡ steps.old.items ++ flat (part_items part)) }
+    ensures room { OnOk result (length steps.old.items ≤ N → length steps.new.items ≤ N) }
     ensures err { IfErr result (λ e. (e ≡ fault.NoRoom)
         × (N < length steps.old.items + length (flat (part_items part)))) }
 {
@@ -218,8 +221,9 @@ fn push_part<const N: usize>(steps: &mut ArrayVec<Step, N>, part: Part) -> Resul
 // The steps of the text, if there is room.
 fn read_steps<const N: usize>(text: &[u8]) -> Result<ArrayVec<Step, N>, Fault>
     ensures ok { IfOk result (λ steps. HasSteps text.now steps.items) }
+    ensures fits { OnOk result (Fits N text.now) }
     ensures err { IfErr result (λ e. ((e ≡ fault.NoRoom) × Exceeds N text.now)
-        ⊎ ((spec.strftime text.now).1 ≡ Some e)) }
+        ⊎ (((spec.strftime text.now).1 ≡ Some e) × Fits N text.now)) }
 {
     let mut steps = ArrayVec::new();
     let mut rest = text;
@@ -240,12 +244,13 @@ fn read_steps<const N: usize>(text: &[u8]) -> Result<ArrayVec<Step, N>, Fault>
 ///
 /// # Errors
 ///
-/// The first fault from the left, with its index in the text; or [`InvalidFormatDescription::TooLong`], which comes only
-/// where the text up to its first fault or its end describes more than `N` steps.
+/// [`InvalidFormatDescription::TooLong`] exactly where the text up to its first fault or its end describes more than `N`
+/// steps; else the first fault from the left, with its index in the text.
 pub fn parse_strftime<const N: usize>(
     text: &[u8],
 ) -> Result<Description<N>, InvalidFormatDescription<'_>>
     ensures ok { IfOk result (λ d. DescribesStrftime text.now (shape d)) }
+    ensures fits { OnOk result (Fits N text.now) }
     ensures err { IfErr result (λ e. IsRefusedStrftime N text.now (refusal_of e)) }
 {
     match read_steps(text) {

@@ -1,7 +1,7 @@
 //! Descriptions as strftime has them, and each fault with its index.
 use crate::step::Step;
 use crate::{InvalidFormatDescription, parse_borrowed, parse_strftime};
-use time_readers::{Component, Padding, modifier};
+use time_components::{Component, Padding, modifier};
 
 // Whether the text has these steps.
 fn has_steps(text: &[u8], steps: &[Step]) -> bool {

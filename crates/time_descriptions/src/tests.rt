@@ -1,7 +1,7 @@
 //! Descriptions of both versions, and each fault with its index.
 use crate::step::{Group, Step};
 use crate::{InvalidFormatDescription, parse_borrowed};
-use time_readers::{Component, Padding, modifier};
+use time_components::{Component, Padding, modifier};
 
 // The step of `[day]`.
 const DAY: Step = Step::Component(Component::Day(modifier::Day {

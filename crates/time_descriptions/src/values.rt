@@ -5,7 +5,7 @@ ghost use Rattle.time_descriptions.specs.Words.{ignore_count, look_up};
 
 use crate::names::{ComponentName, ModifierKey};
 use crate::words::{ignore_count, look_up};
-use time_readers::{Padding, SubsecondDigits, TrailingInput, modifier};
+use time_components::{Padding, SubsecondDigits, TrailingInput, modifier};
 
 /// Which of the forms of a component is meant.
 #[derive(Clone, Copy, Debug, PartialEq, Eq)]

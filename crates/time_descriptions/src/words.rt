@@ -5,7 +5,7 @@ ghost use Rattle.std.specs.Str.{str_eq_ignore_ascii_case};
 ghost use Rattle.time_descriptions.specs.Words.{is_space, is_of_word, look_up, ignore_count, count_on};
 
 use std::num::NonZero;
-use time_readers::modifier;
+use time_components::modifier;
 
 // The first so many bytes of the text.
 #[inline(always)]

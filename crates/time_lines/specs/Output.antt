@@ -1,65 +1,9 @@
 -- What is written for an input. `Y` is the greatest year.
-use Rattle.std.specs.Prelude.{◌≡◌, ℕ, List, [], ◌∷◌, ◌++◌, codes, Option, None, Result, MatchOption}
-use Rattle.std.specs.Io.KnownBytes.{Appends}
-use Rattle.time_values.specs.Refusal.{Refusal}
-use Rattle.time_readers.specs.Tree.{Tree}
-use Rattle.time_record.specs.Reading as Description
-use Rattle.time_record.specs.Record.{empty}
-use Rattle.time_record.specs.Resolution.{IsDated, IsTimed, IsOffset, IsPlain, IsUtcMoment, IsMoment, IsTimestamp}
-use Rattle.time_parsing.specs.Outcome.{Reading, Refusing, Resolving, Path, over_record, direct, IsOutcome, IsMomentOutcome}
-use Rattle.time_readers.specs.Direct.{RefusesRfc3339, RefusesRfc2822}
-use Rattle.time_values.specs.declared.offset_date_time.OffsetDateTime.{OffsetDateTime}
-use Rattle.time_parsing.specs.Iso8601 as Iso8601
-use Rattle.time_parsing.specs.Rfc2822 as Rfc2822
-use Rattle.time_parsing.specs.Rfc3339 as Rfc3339
-use Rattle.time_lines.specs.Formats.{format_named, target_named, ymd, clock, unix, local}
-use Rattle.time_lines.specs.Lines.{lines_of, fields_of}
-use Rattle.time_lines.specs.Values.{printed, date_text, time_text, offset_text, plain_text, utc_text, offset_date_time_text, timestamp_text}
-use Rattle.time_lines.specs.declared.formats.Format.{Format}
-use Rattle.time_lines.specs.declared.formats.Format.TheVariants as format
-use Rattle.time_lines.specs.declared.formats.Target.{Target}
-use Rattle.time_lines.specs.declared.formats.Target.TheVariants as target
-
--- The answer is the outcome of the text, printed. The format of these two relations reads it over an empty record.
-abbrev pub IsPrinted : {V : Type 0} → Resolving V → (V → List ℕ) → Reading → Refusing → List ℕ → List ℕ → Type 0
-IsPrinted {V} resolves value_text reads refuses text answer =
-    (outcome : Result V Refusal)
-    × IsOutcome resolves reads refuses text empty outcome
-    × (answer ≡ printed value_text outcome)
-
--- The same of a moment, which a format may read on a direct path.
-abbrev pub IsPrintedMoment : ℕ → Path → Reading → Refusing → List ℕ → List ℕ → Type 0
-IsPrintedMoment Y path reads refuses text answer =
-    (outcome : Result OffsetDateTime Refusal)
-    × IsMomentOutcome Y path reads refuses text None outcome
-    × (answer ≡ printed offset_date_time_text outcome)
-
--- the outcome of the text for the target, printed: `staged` is a moment that is always read over a record
-abbrev pub IsAnswerFor : ℕ → Target → Path → Reading → Refusing → List ℕ → List ℕ → Type 0
-IsAnswerFor Y target.Date path = IsPrinted (IsDated Y) date_text
-IsAnswerFor Y target.Time path = IsPrinted IsTimed time_text
-IsAnswerFor Y target.Offset path = IsPrinted IsOffset offset_text
-IsAnswerFor Y target.Plain path = IsPrinted (IsPlain Y) plain_text
-IsAnswerFor Y target.Utc path = IsPrinted (IsUtcMoment Y) utc_text
-IsAnswerFor Y target.DateTime path = IsPrintedMoment Y path
-IsAnswerFor Y target.Staged path = IsPrinted (IsMoment Y) offset_date_time_text
-IsAnswerFor Y target.Timestamp path = IsPrinted (IsTimestamp Y) timestamp_text
-
--- the same, where the format is a description
-abbrev pub IsDescribed : ℕ → Tree → Target → List ℕ → List ℕ → Type 0
-IsDescribed Y tree target = IsAnswerFor Y target over_record (Description.Reads Y tree) (Description.Refuses Y tree)
-
--- the same, where the format is one that a line may name
-abbrev pub IsParsed : ℕ → Format → Target → List ℕ → List ℕ → Type 0
-IsParsed Y format.Rfc3339 target =
-    IsAnswerFor Y target (direct (RefusesRfc3339 Y)) (Rfc3339.Reads Y) (Rfc3339.Refuses Y)
-IsParsed Y format.Rfc2822 target =
-    IsAnswerFor Y target (direct (RefusesRfc2822 Y)) (Rfc2822.Reads Y) (Rfc2822.Refuses Y)
-IsParsed Y format.Iso8601 target = IsAnswerFor Y target over_record (Iso8601.Reads Y) (Iso8601.Refuses Y)
-IsParsed Y format.Ymd target = IsDescribed Y ymd target
-IsParsed Y format.Clock target = IsDescribed Y clock target
-IsParsed Y format.Unix target = IsDescribed Y unix target
-IsParsed Y format.Local target = IsDescribed Y local target
+use Rattle.std.specs.Prelude.{◌≡◌, ℕ, List, codes, Option, MatchOption}
+use Rattle.time_answers.specs.Formats.{format_named, target_named}
+use Rattle.time_answers.specs.Output.{IsParsed}
+use Rattle.time_answers.specs.Output as output
+use Rattle.time_lines.specs.Lines.{fields_of}
 
 -- The answer to a line: the outcome of its text, or what is wrong with the line. A missing field is reported before
 -- any name is checked, and an unknown format is reported before its target is checked.
@@ -72,19 +16,8 @@ IsAnswer Y line answer =
 
 -- the answers to the lines, each followed by LF
 abbrev pub AreAnswers : ℕ → List (List ℕ) → List ℕ → Type 0
-AreAnswers Y [] text = text ≡ []
-AreAnswers Y (line ∷ lines) text =
-    (answer : List ℕ) × (others : List ℕ)
-    × IsAnswer Y line answer × AreAnswers Y lines others × (text ≡ answer ++ 10 ∷ others)
-
--- A writer holds what it held, and then a text of which P holds.
-abbrev pub Writes : (List ℕ → Type 0) → Option (List ℕ) → Option (List ℕ) → Type 0
-Writes P old new = (text : List ℕ) × P text × Appends old new text
-
--- a line of which P holds, and then LF
-abbrev pub WithLineFeed : (List ℕ → Type 0) → List ℕ → Type 0
-WithLineFeed P text = (line : List ℕ) × P line × (text ≡ line ++ 10 ∷ [])
+AreAnswers Y = output.AreAnswers (IsAnswer Y)
 
 -- A writer holds what it held, and then the answers to the lines of the input.
 abbrev pub WritesAnswers : ℕ → Option (List ℕ) → Option (List ℕ) → List ℕ → Type 0
-WritesAnswers Y old new input = Writes (AreAnswers Y (lines_of input)) old new
+WritesAnswers Y = output.WritesAnswers (IsAnswer Y)

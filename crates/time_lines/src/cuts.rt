@@ -1,21 +1,7 @@
-//! Cuts an input into lines, and a line into fields.
-ghost use Rattle.std.specs.Prelude.{◌≡◌, ◌∷◌, ◌<◌, length};
+//! Cuts a line into fields.
+ghost use Rattle.std.specs.Prelude.{◌≡◌};
 ghost use Rattle.std.specs.Option.{option_map};
-ghost use Rattle.time_lines.specs.Lines.{lines_of, cut_at_tab};
-
-use memchr::memchr;
-
-/// The first line of an input that isn't empty, and what comes after its LF.
-pub fn first_line(bytes: &[u8]) -> (&[u8], &[u8])
-    requires { 0 < length bytes.now }
-    ensures line { lines_of bytes.now ≡ result.0.now ∷ lines_of result.1.now }
-    ensures shorter { length result.1.now < length bytes.now }
-{
-    match memchr(b'\n', bytes) {
-        Some(i) => (&bytes[..i], &bytes[i + 1..]),
-        None => (bytes, &bytes[bytes.len()..]),
-    }
-}
+ghost use Rattle.time_lines.specs.Lines.{cut_at_tab};
 
 /// What stands before the first TAB, and what stands after it.
 pub fn cut_tab(bytes: &[u8]) -> Option<(&[u8], &[u8])>

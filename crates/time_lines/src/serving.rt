@@ -1,100 +1,23 @@
 //! Answers whole inputs.
-ghost use Rattle.std.specs.Prelude.{◌≡◌, OnOk, IfOk, IfSome, Some};
+ghost use Rattle.std.specs.Prelude.{◌≡◌, OnOk, IfSome};
 ghost use Rattle.time_values.specs.Range.{greatest_year};
-ghost use Rattle.time_lines.specs.Output.{IsAnswer, WithLineFeed, Writes, WritesAnswers};
+ghost use Rattle.time_answers.specs.declared.serving.Stop.TheVariants as Stop;
+ghost use Rattle.time_lines.specs.Output.{WritesAnswers};
 
-use crate::answers::write_answer;
-use crate::cuts::first_line;
-use crate::waiting::Waiting;
+use crate::answers::Fields;
 use std::alloc::{Allocator, Global};
 use std::io;
-use std::io::{ErrorKind, Read, Write};
-
-/// Why the program stopped before its end.
-#[derive(Clone, Copy, Debug, PartialEq, Eq)]
-pub enum Stop {
-    /// A read failed, or the input didn't end within the reads that [`serve`] makes.
-    Unread,
-    /// The input buffer's growth was refused.
-    Memory,
-    /// A write failed.
-    Unwritten,
-}
-
-impl Stop {
-    /// The exit status: 1 after a failed write, and else 2.
-    pub fn status(&self) -> u8
-        ensures unwritten { self.now ≡ Stop.Unwritten → result ≡ 1 }
-        ensures unread { self.now ≡ Stop.Unread → result ≡ 2 }
-        ensures memory { self.now ≡ Stop.Memory → result ≡ 2 }
-    {
-        match self {
-            Stop::Unread | Stop::Memory => 2,
-            Stop::Unwritten => 1,
-        }
-    }
-}
-
-// Nothing more fits.
-#[derive(Clone, Copy)]
-struct Full;
-
-// Puts the answer to a line, and LF, behind what waits. The error is a small one, since each line hands it on.
-#[inline(always)]
-fn add_line(line: &[u8], waiting: &mut Waiting) -> Result<(), Full>
-    ensures { OnOk result (Writes (WithLineFeed (IsAnswer greatest_year line.now))
-        (Some waiting.old.bytes.items) (Some waiting.new.bytes.items)) }
-{
-    let Ok(()) = write_answer(line, waiting) else {
-        return Err(Full);
-    };
-    match waiting.write_all(b"\n") {
-        Ok(()) => Ok(()),
-        Err(_) => Err(Full),
-    }
-}
+use std::io::{Read, Write};
+use time_answers::Stop;
 
 /// Writes the answer to each line of the input, and takes no memory.
 ///
 /// Each line ends with LF, which the last one may lack. After an `Err`, that of a write, nothing is
 /// known of how much was written.
-pub fn run<W: Write>(input: &[u8], out: &mut W) -> Result<(), io::Error>
+pub fn run<W: Write>(input: &[u8], out: &mut W) -> io::Result<()>
     ensures { OnOk result (WritesAnswers greatest_year (W.contents out.old) (W.contents out.new) input.now) }
 {
-    let mut waiting = Waiting::new();
-    let mut rest = input;
-    while !rest.is_empty() {
-        let (line, after) = first_line(rest);
-        if waiting.is_nearly_full() {
-            waiting.write_all_to(out)?;
-        }
-        let Ok(()) = add_line(line, &mut waiting) else {
-            return Err(io::Error::from(ErrorKind::WriteZero));
-        };
-        rest = after;
-    }
-    waiting.write_all_to(out)
-}
-
-// After so many reads an input counts as one without an end.
-const MOST_READS: u64 = 4294967296;
-
-// Reads all that the reader has left. A failed read is not tried again.
-fn read_all<R: Read, A: Allocator>(alloc: A, input: &mut R) -> Result<Vec<u8, A>, Stop>
-    ensures all { IfOk result (λ text. IfSome (R.remaining input.old) (λ bytes. text.items ≡ bytes)) }
-{
-    let mut text = Vec::new(alloc);
-    let mut piece = [0u8; 65536];
-    for _ in 0..MOST_READS {
-        match input.read(&mut piece) {
-            Ok(0) => return Ok(text),
-            Ok(n) => text
-                .extend_from_slice(&piece[..n])
-                .map_err(|_| Stop::Memory)?,
-            Err(_) => return Err(Stop::Unread),
-        }
-    }
-    Err(Stop::Unread)
+    time_answers::run(&Fields, input, out)
 }
 
 /// Reads the input to its end, with 4294967296 reads at most, and writes the answer to each of its
@@ -122,9 +45,5 @@ pub(crate) fn serve_in<R: Read, W: Write, A: Allocator>(
     ensures unread { result ≡ Err Stop.Unread → out.new ≡ out.old }
     ensures memory { result ≡ Err Stop.Memory → out.new ≡ out.old }
 {
-    let text = read_all(alloc, input)?;
-    match run(text.as_slice(), out) {
-        Ok(()) => Ok(()),
-        Err(_) => Err(Stop::Unwritten),
-    }
+    time_answers::serve(&Fields, alloc, input, out)
 }

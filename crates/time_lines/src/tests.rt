@@ -1,9 +1,10 @@
-use crate::serving::{Stop, run, serve, serve_in};
+use crate::serving::{run, serve, serve_in};
 use linked_list_allocator::LocalHeap;
 use std::alloc::Global;
 use std::io;
 use std::io::{ErrorKind, Read, Write};
 use std::test::Fail;
+use time_answers::Stop;
 
 mod hostile;
 mod whole_parses;

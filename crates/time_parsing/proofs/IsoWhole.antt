@@ -15,6 +15,7 @@ use Rattle.time_values.specs.declared.plain_date_time.PlainDateTime.{PlainDateTi
 use Rattle.time_values.specs.declared.time.Time.{Time}
 use Rattle.time_values.specs.declared.utc_offset.UtcOffset.{UtcOffset}
 use Rattle.time_readers.specs.IsoDates.{IsoDate, date_text}
+use Rattle.time_readers.specs.IsoGrammar.{offset_by_pieces}
 use Rattle.time_readers.specs.IsoOffsets.{offset_text}
 use Rattle.time_readers.specs.IsoPieces.{byte, sign}
 use Rattle.time_readers.specs.IsoTimes.{time_text}
@@ -22,11 +23,14 @@ use Rattle.time_readers.specs.declared.iso8601.ExtendedKind.{ExtendedKind}
 use Rattle.time_readers.specs.declared.iso8601.OffsetNumbers.{OffsetNumbers}
 use Rattle.time_readers.specs.declared.iso8601.OffsetNumbers.TheVariants.{Zulu, Numeric}
 use Rattle.time_readers.specs.declared.iso8601.TimeNumbers.{TimeNumbers}
+use Rattle.time_readers.proofs.IsoOffsets.{offset_by_pieces_is}
 use Rattle.time_record.specs.Record.{Record, empty}
 use Rattle.time_record.specs.Resolution.{IsDated, IsTimed, IsOffset, IsPlain, IsMoment, IsMomentOfParts, stand_in}
-use Rattle.time_parsing.specs.Iso8601.{reading, date_over, time_over, offset_over, after_time, Reads}
+use Rattle.time_parsing.specs.Iso8601.{date_over, time_over, offset_over, Reads}
+use Rattle.time_parsing.specs.IsoSteps.{answer, after_time}
 use Rattle.time_parsing.specs.IsoFast.{date_said, time_said, IsOffsetSaid}
 use Rattle.time_parsing.specs.Rfc3339.{with_leap_second}
+use Rattle.time_parsing.proofs.IsoParts.{answered-read}
 use Rattle.time_parsing.specs.exact.ToldMoment.{given, month_short, offset_accepted}
 
 -- The whole text is read over an empty record, which then resolves to that date and time; and where an offset stands,
@@ -70,9 +74,9 @@ parts_put : (bytes between rest : List ℕ) (k l : ExtendedKind) (x : IsoDate) (
     → date_text bytes ≡ Ok (record { rest = between; value = x; kind = k })
     → time_text true k between ≡ Some (record { rest = rest; value = y; kind = l })
     → x ≡ date_said d → y ≡ time_said t
-    → reading greatest_year bytes (with_leap_second empty)
+    → answer greatest_year bytes (with_leap_second empty)
     ≡ Ok (after_time greatest_year l rest (recorded d t None None None))
-unfolding reading date_over time_over
+unfolding answer date_over time_over
 parts_put bytes between rest k l x y d t date time said told =
     rw (
       date,
@@ -105,9 +109,13 @@ timed d t h m s =
 stood_in : (d : Date) (t : Time) (h m s : Option ℤ) → IsTimed (stand_in (recorded d t h m s)) (Ok t)
 stood_in d t h m s = rw (no_leap t) (timed d t h m s)
 
+no_offset : (l : ExtendedKind) → offset_text l [] ≡ None
+unfolding offset_by_pieces byte sign
+no_offset l = offset_by_pieces_is l []
+
 nothing_after : (l : ExtendedKind) (rest : List ℕ) (r : Record) → rest ≡ [] → after_time greatest_year l rest r ≡ ([], r)
-unfolding after_time offset_over offset_text byte sign
-nothing_after l rest r end = rw end refl
+unfolding after_time offset_over
+nothing_after l rest r end = rw (end, no_offset l) refl
 
 unsaid : false ≡ true → ⊥
 unsaid clash = cc
@@ -147,7 +155,8 @@ plain-whole bytes between rest k l x y p date time end said told =
     let t = plain_time p in
     let r = recorded d t None None None in (
       r,
-      parts_put bytes between rest k l x y d t date time said told ∙ ap (λ q. Ok q) (nothing_after l rest r end),
+      answered-read greatest_year bytes (with_leap_second empty) ([], r)
+          (parts_put bytes between rest k l x y d t date time said told ∙ ap (λ q. Ok q) (nothing_after l rest r end)),
       plain_resolves None None None p,
       tt,
     )
@@ -187,7 +196,8 @@ moment-whole bytes between after k l x y n p o date time offset said told shown 
     let m = put.1 in
     let s = put.2 in (
       recorded d t h m s,
-      parts_put bytes between after k l x y d t date time said told ∙ ap (λ q. Ok q) (put.3 d t),
+      answered-read greatest_year bytes (with_leap_second empty) ([], recorded d t h m s)
+          (parts_put bytes between after k l x y d t date time said told ∙ ap (λ q. Ok q) (put.3 d t)),
       plain_resolves h m s p,
       λ v same_date same_time same_offset.
           subst (λ e. IsMoment greatest_year (recorded e t h m s) (Ok v)) same_date

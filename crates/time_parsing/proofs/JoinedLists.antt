@@ -1,11 +1,12 @@
 -- Lists that are joined, or flattened. `Y` is the greatest year.
-use Rattle.std.proofs.Common.{◌↔◌, ◌⊎◌, ℕ, List, [], ◌∷◌, ◌++◌, refl, subst, inl, inr}
-use Rattle.time_values.specs.Refusal.{Refusal}
-use Rattle.time_readers.specs.Tree.{Tree, Trees, sequence, more, trees}
+use Rattle.std.proofs.Common.{◌↔◌, ◌⊎◌, ℕ, List, [], ◌∷◌, ◌++◌, Ok, Err, refl, ap, subst, inl, inr}
+use Rattle.time_values.specs.Refusal.{Refusal, refusal_of_description}
+use Rattle.time_components.specs.Tree.{Tree, Trees, sequence, more, trees}
 use Rattle.time_record.specs.Reading.{Reads, ReadsAll, IsFault, IsFaultAll, Refuses, RefusesAll}
 use Rattle.time_record.specs.Record.{Record}
 use Rattle.time_record.proofs.Steps.{RefusesAll-here, RefusesAll-more}
-use Rattle.time_parsing.specs.TreeLaws.{JoinedReads, JoinedRefuses, Flattens}
+use Rattle.time_record.proofs.Unique.{Refuses-unique, Reads-unrefused}
+use Rattle.time_parsing.specs.TreeLaws.{JoinedReads, JoinedRefuses, JoinedLeaves, Flattens}
 
 -- trees in turn, read in two parts
 abbrev ReadsBoth : ℕ → Trees → Trees → List ℕ → Record → List ℕ → Record → Type 0
@@ -101,6 +102,14 @@ module _ (Y : ℕ) where
       | inl k ↦ refused-first xs ys b r e ((list-refuses (trees xs) b r e).0 k)
       | inr (mid, m, s, k) ↦ refused-behind xs ys b r mid m e s ((list-refuses (trees ys) mid m e).0 k)
     ]),
+  )
+
+  pub joined_leaves : JoinedLeaves Y
+  joined_leaves xs ys b old new e (Ok x) either read =
+      absurd (Reads-unrefused Y (sequence (trees (xs ++ ys))) b old x.now new e read ((joined_refuses xs ys b old e).1 either))
+  joined_leaves xs ys b old new e (Err f) either (refused, same) = (
+    ap Err (Refuses-unique Y (sequence (trees (xs ++ ys))) b old (refusal_of_description f) e refused ((joined_refuses xs ys b old e).1 either)),
+    same,
   )
 
   module _ (before inside behind : List Tree) (b : List ℕ) (r : Record) where

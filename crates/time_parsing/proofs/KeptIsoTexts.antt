@@ -6,23 +6,27 @@ use Rattle.std.proofs.Math.Bool.{and-false}
 use Rattle.std.proofs.lemmas.Bool.{le-leb, leb-true, leb-false}
 use Rattle.std.proofs.lemmas.Option.{none-some, same_Some, cond_some, some_pair_parts, option_and_then_some}
 use Rattle.time_values.specs.Refusal.{Refusal, component}
-use Rattle.time_readers.specs.Bytes.{sign_byte}
+use Rattle.time_digits.specs.Bytes.{sign_byte}
 use Rattle.time_readers.specs.IsoAnswers.{Found}
-use Rattle.time_readers.specs.IsoDates.{IsoDate, calendar, ordinal, week, Form, need, dash, first_form, second_form, third_form, first_standing, forms, of_kind, after_year, date_text}
-use Rattle.time_readers.specs.IsoOffsets.{minute_or_none, minute_after, offset_minute, numeric, after_hour, offset_text}
+use Rattle.time_readers.specs.IsoDates.{IsoDate, calendar, ordinal, week, FormOrFault, need, dash, first_form, second_form, third_form, first_standing, forms, of_kind, after_year, date_text}
+use Rattle.time_readers.specs.IsoGrammar.{minute_or_none, minute_after, offset_minute, after_hour, offset_by_pieces}
+use Rattle.time_readers.specs.IsoOffsets.{numbers_of, offset_text}
 use Rattle.time_readers.specs.IsoPieces.{byte, digits, sign, with_sign, year, year_after, month, positive, up_to, weekday, number, at_most}
 use Rattle.time_readers.specs.IsoTimes.{time_after, time_text}
-use Rattle.time_readers.specs.declared.Sign.{Sign}
-use Rattle.time_readers.specs.declared.Sign.TheVariants.{Negative, Positive}
+use Rattle.time_digits.specs.declared.Sign.{Sign}
+use Rattle.time_digits.specs.declared.Sign.TheVariants.{Negative, Positive}
 use Rattle.time_readers.specs.declared.iso8601.ExtendedKind.{ExtendedKind}
 use Rattle.time_readers.specs.declared.iso8601.ExtendedKind.TheVariants.{Basic, Extended, Unknown}
 use Rattle.time_readers.specs.declared.iso8601.OffsetNumbers.{OffsetNumbers}
 use Rattle.time_readers.specs.declared.iso8601.OffsetNumbers.TheVariants.{Zulu, Numeric}
+use Rattle.time_readers.proofs.IsoOffsets.{offset_by_pieces_is}
 use Rattle.time_readers.proofs.IsoCuts.{digits-tells, said-tells, sign-tells}
-use Rattle.time_readers.proofs.Runs.{IsDigitRun-below}
+use Rattle.time_digits.proofs.Runs.{IsDigitRun-below}
 use Rattle.time_record.specs.Record.{Record, put_all}
-use Rattle.time_parsing.specs.Iso8601.{Reads, date_entries, time_entries, offset_entries, put_or_fault, result_and_then, with_value, date_over, time_over, offset_over, after_time, after_date, without_date, date_or_none, reading}
+use Rattle.time_parsing.specs.Iso8601.{Reads, date_entries, time_entries, offset_entries, put_or_fault, result_and_then, with_value, date_over, time_over, offset_over}
+use Rattle.time_parsing.specs.IsoSteps.{answer, after_time, after_date, without_date, date_or_none}
 use Rattle.time_parsing.specs.KeptReadings.{KeepsTexts}
+use Rattle.time_parsing.proofs.IsoParts.{answered-read, read-answered}
 use Rattle.time_parsing.specs.Rfc3339.{with_leap_second, without_offset_sign}
 
 -- ---- what a result tells
@@ -51,7 +55,7 @@ year_in (ordinal y d) = y
 year_in (week y w d) = y
 
 -- the text of a form says the year before it
-abbrev Says : ℤ → Form → Type 0
+abbrev Says : ℤ → FormOrFault → Type 0
 Says y f = (x : List ℕ × IsoDate) → f ≡ Ok x → year_in x.1 ≡ y
 
 first_form-year : (extended : Bool) (y : ℤ) (b : List ℕ) → Says y (first_form extended y b)
@@ -66,8 +70,8 @@ third_form-year extended y b x h =
     (λ w _ h1. need-Ok (dash extended w.0) _ _ x h1
     (λ after _ h2. need-Ok (weekday after) _ _ x h2 (λ d _ h3. sym (ap (λ z. year_in z.1) (same_Ok _ x h3)))))
 
-standing-year : (y : ℤ) (f : Form) (s : Option (List ℕ × IsoDate)) (t : Option Form)
-    → Says y f → ((x : List ℕ × IsoDate) → s ≡ Some x → year_in x.1 ≡ y) → ((g : Form) → t ≡ Some g → Says y g)
+standing-year : (y : ℤ) (f : FormOrFault) (s : Option (List ℕ × IsoDate)) (t : Option FormOrFault)
+    → Says y f → ((x : List ℕ × IsoDate) → s ≡ Some x → year_in x.1 ≡ y) → ((g : FormOrFault) → t ≡ Some g → Says y g)
     → Says y (first_standing f s t)
 standing-year y (Ok a) s t first second third x h = first x h
 standing-year y (Err e) (Some a) t first second third x h = second x (ap Some (same_Ok a x h))
@@ -83,7 +87,7 @@ forms-year extended y b =
     (λ g h. option_map_some (third_form extended y) (byte 87 b) g h
     (λ after _ is x k. third_form-year extended y after x (is ∙ k)))
 
-kind-year : (y : ℤ) (kind : ExtendedKind) (f : Form) (d : Found IsoDate) → Says y f → of_kind kind f ≡ Ok d → year_in d.value ≡ y
+kind-year : (y : ℤ) (kind : ExtendedKind) (f : FormOrFault) (d : Found IsoDate) → Says y f → of_kind kind f ≡ Ok d → year_in d.value ≡ y
 kind-year y kind (Err e) d says h = absurd (Ok-Err d e h)
 kind-year y kind (Ok x) d says h = sym (ap (λ z. year_in z.value) (same_Ok _ d h)) ∙ says x refl
 
@@ -128,14 +132,14 @@ offset_minute-length b m h = minute_after-length b (byte 58 b) m refl h
 
 after_hour-length : (s : Sign) (f : List ℕ × ℕ) (o : OffsetNumbers) → after_hour Unknown s f ≡ Some ([], o) → length f.0 ≤ 3
 after_hour-length s f o h =
-    option_map_some (λ m. (m.0, numeric s f.1 m.1)) (offset_minute Unknown f.0) ([], o) h
+    option_map_some (λ m. (m.0, numbers_of (Some s) f.1 m.1)) (offset_minute Unknown f.0) ([], o) h
     (λ m found is.
     let whole : offset_minute Unknown f.0 ≡ Some ([], m.1) = found ∙ ap (λ x. Some (x, m.1)) (ap (λ z. z.0) is) in
     offset_minute-length f.0 m.1 whole)
 
 -- an offset after a sign has at most five bytes
-offset-length : (s : Sign) (b : List ℕ) (o : OffsetNumbers) → offset_text Unknown (sign_byte s ∷ b) ≡ Some ([], o) → length b ≤ 5
-unfolding offset_text byte sign
+offset-length : (s : Sign) (b : List ℕ) (o : OffsetNumbers) → offset_by_pieces Unknown (sign_byte s ∷ b) ≡ Some ([], o) → length b ≤ 5
+unfolding offset_by_pieces byte sign
 offset-length Negative b o h =
     option_and_then_some (after_hour Unknown Negative) (up_to 25 2 b) ([], o) h
     (λ f found is. omega (arith, up_to-length 25 2 b f.0 f.1 found, after_hour-length Negative f o is))
@@ -245,8 +249,8 @@ module _ (Y : ℕ) where
       (offset_text Unknown b) ([], q) h
       (λ o found put. option_map_some (λ x. (o.0, x)) (put_all Y (offset_entries o.1) (without_offset_sign r)) ([], q) put
       (λ p _ same.
-      let whole : offset_text Unknown (sign_byte s ∷ after) ≡ Some ([], o.1) =
-      ap (offset_text Unknown) (sym is) ∙ found ∙ ap (λ x. Some (x, o.1)) (ap (λ z. z.0) same) in
+      let whole : offset_by_pieces Unknown (sign_byte s ∷ after) ≡ Some ([], o.1) =
+      sym (offset_by_pieces_is Unknown (sign_byte s ∷ after)) ∙ ap (offset_text Unknown) (sym is) ∙ found ∙ ap (λ x. Some (x, o.1)) (ap (λ z. z.0) same) in
       omega (arith, offset-length s after o.1 whole, long)))
 
   no_time_over : (b : List ℕ) (r : Record) → HasLongYear b → time_over Y false Unknown b r ≡ None
@@ -261,42 +265,44 @@ module _ (Y : ℕ) where
       need-Ok (offset_over Y Unknown b r) fault (λ o. Ok o) ([], q) (rw (no_time_over b r long) at h)
       (λ o found is. no_offset b r q long (found ∙ ap (λ x. Some x) (same_Ok o ([], q) is)))
 
--- a date put into a record, and the reading of a text whose date is put or refused so
+-- a date put into a record, and the answer of a text whose date is put or refused so
 abbrev dated : ℕ → Record → Found IsoDate → Result (Found Record) Refusal
 dated Y r d = result_and_then (λ q. Ok (with_value d q)) (put_or_fault Y (date_entries d.value) r)
 
-reading-by : (Y : ℕ) (b : List ℕ) (r : Record) (d : Result (Found IsoDate) Refusal) (x : Result (Found Record) Refusal)
-    → date_text b ≡ d → result_and_then (dated Y r) d ≡ x → reading Y b r ≡ date_or_none Y b r x
-unfolding reading date_over
-reading-by Y b r d x is over = ap (date_or_none Y b r) (ap (result_and_then (dated Y r)) is ∙ over)
+answer-by : (Y : ℕ) (b : List ℕ) (r : Record) (d : Result (Found IsoDate) Refusal) (x : Result (Found Record) Refusal)
+    → date_text b ≡ d → result_and_then (dated Y r) d ≡ x → answer Y b r ≡ date_or_none Y b r x
+unfolding answer date_over
+answer-by Y b r d x is over = ap (date_or_none Y b r) (ap (result_and_then (dated Y r)) is ∙ over)
 
 module _ (Y Z : ℕ) (four : 9999 ≤ Y) (wider : Y ≤ Z) where
   kept-dated : (b : List ℕ) (r q : Record) (d : Found IsoDate) (in_range : Bool) → date_text b ≡ Ok d
       → nat_le (unsigned_abs (year_in d.value)) Y ≡ in_range
-      → reading Y b r ≡ Ok ([], q) → reading Z b r ≡ Ok ([], q)
+      → answer Y b r ≡ Ok ([], q) → answer Z b r ≡ Ok ([], q)
   kept-dated b r q d true is t h =
       let size = unsigned_abs (year_in d.value) in
       let still = le-leb size Z (omega (arith, leb-true size Y t)) in
       let same : dated Y r d ≡ dated Z r d =
       ap (result_and_then (λ p. Ok (with_value d p))) (put_date-same Y Z d.value r t still) in
-      reading-by Z b r (Ok d) (dated Y r d) is (sym same)
+      answer-by Z b r (Ok d) (dated Y r d) is (sym same)
       ∙ sym (date_or_none-same Y Z b r (dated Y r d))
-      ∙ sym (reading-by Y b r (Ok d) (dated Y r d) is refl) ∙ h
+      ∙ sym (answer-by Y b r (Ok d) (dated Y r d) is refl) ∙ h
   kept-dated b r q d false is t h =
       let size = unsigned_abs (year_in d.value) in
       let fault = component (codes "year") in
       let none : dated Y r d ≡ Err fault =
       ap (result_and_then (λ p. Ok (with_value d p))) (put_date-fault Y d.value r t) in
       let long = long_year b d is (omega (arith, leb-false size Y t, four)) in
-      absurd (no_other Y fault b r q long (sym (reading-by Y b r (Ok d) (Err fault) is none) ∙ h))
+      absurd (no_other Y fault b r q long (sym (answer-by Y b r (Ok d) (Err fault) is none) ∙ h))
 
   kept : (b : List ℕ) (r q : Record) (d : Result (Found IsoDate) Refusal) → date_text b ≡ d
-      → reading Y b r ≡ Ok ([], q) → reading Z b r ≡ Ok ([], q)
+      → answer Y b r ≡ Ok ([], q) → answer Z b r ≡ Ok ([], q)
   kept b r q (Err fault) is h =
-      reading-by Z b r (Err fault) (Err fault) is refl
+      answer-by Z b r (Err fault) (Err fault) is refl
       ∙ sym (date_or_none-same Y Z b r (Err fault))
-      ∙ sym (reading-by Y b r (Err fault) (Err fault) is refl) ∙ h
+      ∙ sym (answer-by Y b r (Err fault) (Err fault) is refl) ∙ h
   kept b r q (Ok d) is h = kept-dated b r q d (nat_le (unsigned_abs (year_in d.value)) Y) is refl h
 
   pub keeps_iso8601 : KeepsTexts (Reads Y) (Reads Z)
-  keeps_iso8601 b r q h = kept b (with_leap_second r) q (date_text b) refl h
+  keeps_iso8601 b r q h =
+      let old = with_leap_second r in
+      answered-read Z b old ([], q) (kept b old q (date_text b) refl (read-answered Y b old ([], q) h))

@@ -4,10 +4,10 @@ use Rattle.std.specs.Prelude.{option_and_then}
 use Rattle.std.proofs.lemmas.Bool.{le-leb, leb-true}
 use Rattle.std.proofs.lemmas.Option.{cond_some, option_and_then_some, IfSome_then}
 use Rattle.time_values.proofs.WiderYears.{is_instant-wider}
-use Rattle.time_readers.specs.Spelling.{Value, number, signed, flagged, month, weekday, period}
-use Rattle.time_readers.specs.Tree.{Trees, literal, component, sequence, optional, first_of, none, more}
-use Rattle.time_readers.specs.declared.format_description.Component.{Component}
-use Rattle.time_readers.specs.declared.format_description.Component.TheVariants as of
+use Rattle.time_components.specs.Spelling.{Value, number, signed, flagged, month, weekday, period}
+use Rattle.time_components.specs.Tree.{Trees, literal, component, sequence, optional, first_of, none, more}
+use Rattle.time_components.specs.declared.format_description.Component.{Component}
+use Rattle.time_components.specs.declared.format_description.Component.TheVariants as of
 use Rattle.time_record.specs.Components.{put_number, put_signed, put_century, put_offset_hour, put_month, put_weekday, put_period, put_value}
 use Rattle.time_record.specs.Reading.{Reads, ReadsAll}
 use Rattle.time_record.specs.Record.{Record, Entry, in_range, put, put_all, put_here, year_is, year_century_is, year_last_two_is, iso_year_is, iso_year_century_is, iso_year_last_two_is, sunday_week_number_is, monday_week_number_is, iso_week_number_is, ordinal_is, day_is, hour_24_is, hour_12_is, minute_is, second_is, subsecond_is, offset_minute_is, offset_second_is, unix_timestamp_nanos_is}

@@ -13,4 +13,5 @@ mod MailForm
 pub mod MailBack
 pub mod KeptReadings
 pub mod KeptIsoTexts
+pub mod IsoParts
 mod IsoWhole

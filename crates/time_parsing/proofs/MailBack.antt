@@ -13,7 +13,7 @@ use Rattle.time_values.specs.Sign.{signed_by}
 use Rattle.time_values.specs.Times as Times
 use Rattle.time_values.specs.declared.offset_date_time.OffsetDateTime.{OffsetDateTime}
 use Rattle.time_values.specs.declared.weekday.Weekday.{Weekday}
-use Rattle.time_readers.specs.Bytes.{is_negative}
+use Rattle.time_digits.specs.Bytes.{is_negative}
 use Rattle.time_readers.specs.Direct.{IsMade, IsDirectRfc2822, RefusesRfc2822}
 use Rattle.time_values.specs.Shown.{fixed}
 use Rattle.time_writing.specs.Texts.{is_behind, short_weekday, short_month, mail_text}
@@ -23,7 +23,7 @@ use Rattle.time_parsing.specs.exact.RecordedRfc2822.{direct-value}
 use Rattle.time_parsing.specs.Rfc2822.{Reads, Refuses}
 use Rattle.time_parsing.specs.Written.{kept, IsCut, ReadsMailBack}
 use Rattle.time_parsing.proofs.MailForm.{mail_numbers, mail_bytes, mail_form}
-use Rattle.time_parsing.proofs.Told.{OneSign, one_sign, made, sign_of, signed_hours, signed_minutes, sign_byte-sign_of, is_negative-sign_of, year-below, all_hours-below, minutes-below, day_below}
+use Rattle.time_parsing.proofs.Told.{made, sign_of, signed_hours, signed_minutes, sign_byte-sign_of, is_negative-sign_of, year-below, all_hours-below, minutes-below, day_below}
 
 -- nothing is in the way of a mail date
 writable : (y s : ℤ)
@@ -49,7 +49,7 @@ flat : (a b c d m f y g h i j k s l z o : List ℕ) →
 flat a b c d m f y g h i j k s l z o = simp append_assoc (ap (λ o. a ++ (b ++ (c ++ (d ++ (m ++ (f ++ (y ++ (g ++ (h ++ (i ++ (j ++ (k ++ (s ++ (l
     ++ (z ++ o))))))))))))))) (sym (append-nil o)))
 
-module _ (v w : OffsetDateTime) (cut : IsCut 0 v w) (one : OneSign v)
+module _ (v w : OffsetDateTime) (cut : IsCut 0 v w)
     (year : IsBetween (pos 1900) (pos 9999) (Dates.year (offset_date v)))
     (whole : Offsets.seconds (offset_of v) ≡ pos 0) (day : Weekday) where
   mail-back : IsDirectRfc2822 greatest_year (mail_text day v) w
@@ -63,9 +63,9 @@ module _ (v w : OffsetDateTime) (cut : IsCut 0 v w) (one : OneSign v)
       let om = unsigned_abs (Offsets.minutes o) in
       let minutes = minutes-below (Offsets.minutes o) o.minutes_in in
       let hour : signed_by (is_negative sign) (pos oh) ≡ Offsets.hours o =
-      ap (λ b. signed_by b (pos oh)) (is_negative-sign_of (is_behind o)) ∙ sym (signed_hours (Offsets.hours o) (Offsets.minutes o) one) in
+      ap (λ b. signed_by b (pos oh)) (is_negative-sign_of (is_behind o)) ∙ sym (signed_hours (Offsets.hours o) (Offsets.minutes o) o.one_sign.0) in
       let minute : signed_by (is_negative sign) (pos om) ≡ Offsets.minutes o =
-      ap (λ b. signed_by b (pos om)) (is_negative-sign_of (is_behind o)) ∙ sym (signed_minutes (Offsets.hours o) (Offsets.minutes o) one) in
+      ap (λ b. signed_by b (pos om)) (is_negative-sign_of (is_behind o)) ∙ sym (signed_minutes (Offsets.hours o) (Offsets.minutes o) o.one_sign.0) in
       let h = t.hour_in in let m = t.minute_in in let s = t.second_in in
       let numbers = mail_numbers day (Dates.day d) (Dates.month d) (unsigned_abs (Dates.year d)) (Times.hour t) (Times.minute t)
       (Times.second t) sign oh om in
@@ -95,11 +95,11 @@ module _ (v w : OffsetDateTime) (cut : IsCut 0 v w) (one : OneSign v)
           nanosecond = sym (none-kept (Times.nanosecond t) t.nanosecond_in) j;
           offset_hour = sym hour j;
           offset_minute = sym minute j;
-        }) (made 0 v w cut one years whole),
+        }) (made 0 v w cut years whole),
       )
 
 pub mail_read_back : ReadsMailBack greatest_year (direct (RefusesRfc2822 greatest_year)) (Reads greatest_year) (Refuses greatest_year)
-mail_read_back v w bytes none one cut (day, is_day, text) =
+mail_read_back v w bytes none cut (day, is_day, text) =
     let is = writable (Dates.year (offset_date v)) (Offsets.seconds (offset_of v)) none in
-    let value = direct-value bytes w (subst (λ bytes. IsDirectRfc2822 greatest_year bytes w) (sym text) (mail-back v w cut (one_sign v one) is.0 is.1 day)) in
+    let value = direct-value bytes w (subst (λ bytes. IsDirectRfc2822 greatest_year bytes w) (sym text) (mail-back v w cut is.0 is.1 day)) in
     (value, value)

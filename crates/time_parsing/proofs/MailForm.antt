@@ -6,15 +6,15 @@ use Rattle.time_values.specs.declared.month.Month.{Month}
 use Rattle.time_values.specs.declared.month.Month.TheVariants.{January, February, March, April, May, June, July, August, September, October, November, December}
 use Rattle.time_values.specs.declared.weekday.Weekday.{Weekday}
 use Rattle.time_values.specs.declared.weekday.Weekday.TheVariants.{Monday, Tuesday, Wednesday, Thursday, Friday, Saturday, Sunday}
-use Rattle.time_readers.specs.Bytes.{sign_byte, is_negative}
-use Rattle.time_readers.specs.Digits.{IsDigitRun}
+use Rattle.time_digits.specs.Bytes.{sign_byte, is_negative}
+use Rattle.time_digits.specs.Digits.{IsDigitRun}
 use Rattle.time_readers.specs.MailBlanks.{fws, cfws, opt_cfws, opt_cfws_colon_opt_cfws}
 use Rattle.time_readers.specs.MailZones.{zone_literal}
-use Rattle.time_readers.specs.Names.{month_name, weekday_name}
+use Rattle.time_components.specs.Names.{month_name, weekday_name}
 use Rattle.time_readers.specs.Places.{Stand}
 use Rattle.time_readers.specs.Rfc2822.{Asks, HasForm, nothing_read, time_places, offset_places}
-use Rattle.time_readers.specs.declared.Sign.{Sign}
-use Rattle.time_readers.specs.declared.Sign.TheVariants.{Negative, Positive}
+use Rattle.time_digits.specs.declared.Sign.{Sign}
+use Rattle.time_digits.specs.declared.Sign.TheVariants.{Negative, Positive}
 use Rattle.time_readers.specs.declared.rfc2822.Numbers.{Numbers}
 use Rattle.time_readers.specs.declared.rfc2822.Place.TheVariants.{WeekdayName, Day, DayBlanks, MonthName, MonthBlanks, Year, YearBlanks, Hour, HourColon, Minute, Second, TimeBlanks, OffsetHour, OffsetMinute, EndBlanks}
 use Rattle.time_readers.proofs.MailZones.{zone-sign}

@@ -21,9 +21,9 @@ same_Ok : (v w : OffsetDateTime) → ◌≡◌ {A = Result OffsetDateTime Refusa
 same_Ok v w e = cc
 
 pub one_text : OneText
-one_text digits others v w a b none sign cut other other_sign other_cut same =
-    let first = read_back digits v a none sign cut in
-    let second = read_back others w b other other_sign other_cut in
+one_text digits others v w a b none cut other other_cut same =
+    let first = read_back digits v a none cut in
+    let second = read_back others w b other other_cut in
     let moved = subst (λ text. IsOutcome (IsMoment greatest_year) (Reads greatest_year) (Refuses greatest_year) text empty (Ok b)) (sym same) second.1 in
     same_Ok a b (one_outcome (Reads greatest_year) (Refuses greatest_year) (rfc3339_exact greatest_year) (IsMoment greatest_year) IsMoment-one
     (moment_text (written digits v) v) empty (Ok a) (Ok b) first.1 moved)
@@ -37,5 +37,5 @@ whole v = record {
 }
 
 pub one_short_text : OneShortText
-one_short_text v w none sign other other_sign same =
-    one_text Auto Auto v w v w none sign (whole v) other other_sign (whole w) same
+one_short_text v w none other same =
+    one_text Auto Auto v w v w none (whole v) other (whole w) same

@@ -1,5 +1,5 @@
 -- What a written text says of a moment, and that the moment is made of it.
-use Rattle.std.proofs.Common.{rules, ◌≡◌, ◌≢◌, ◌≤◌, ◌<◌, ◌-◌, ◌^◌, ℕ, zero, suc, ℤ, pos, negsuc, neg_ℤ, ◌≤ℤ◌, ◌⊎◌, inl, inr, unsigned_abs, Bool, true, false, None, refl, sym, ap, ◌∙◌, subst, arith}
+use Rattle.std.proofs.Common.{rules, ◌≡◌, ◌≢◌, ◌≤◌, ◌<◌, ◌-◌, ◌^◌, ℕ, zero, suc, ℤ, pos, negsuc, neg_ℤ, unsigned_abs, Bool, true, false, None, refl, sym, ap, ◌∙◌, subst, arith}
 use Rattle.std.specs.Prelude.{◌==◌, ◌||◌, if◌then◌else◌, int_lt}
 use Rattle.std.specs.Option.{option_or}
 use Rattle.std.proofs.lemmas.Bool.{le-leb}
@@ -12,7 +12,7 @@ use Rattle.time_values.specs.Dates as Dates
 use Rattle.time_values.specs.Moments.{offset_date, offset_time, offset_of}
 use Rattle.time_values.specs.Month.{month_number, month_refusal}
 use Rattle.time_values.specs.Offsets as Offsets
-use Rattle.time_values.specs.Offsets.{HasOneSign, HasOffset, offset_refusal}
+use Rattle.time_values.specs.Offsets.{offset_refusal}
 use Rattle.time_values.specs.Range.{greatest_year}
 use Rattle.time_values.specs.Sign.{signed_by, same_sign}
 use Rattle.time_values.specs.Times as Times
@@ -21,10 +21,10 @@ use Rattle.time_values.specs.declared.date.Date.{Date}
 use Rattle.time_values.specs.declared.offset_date_time.OffsetDateTime.{OffsetDateTime}
 use Rattle.time_values.specs.declared.time.Time.{Time}
 use Rattle.time_values.proofs.NumberLemmas.{month_number_in}
-use Rattle.time_readers.specs.Bytes.{sign_byte, is_negative}
+use Rattle.time_digits.specs.Bytes.{sign_byte, is_negative}
 use Rattle.time_readers.specs.Direct.{shown_second, shown_nanosecond, first_refusal, LeapSecondMayStand, IsMoment, IsMade}
-use Rattle.time_readers.specs.declared.Sign.{Sign}
-use Rattle.time_readers.specs.declared.Sign.TheVariants.{Negative, Positive}
+use Rattle.time_digits.specs.declared.Sign.{Sign}
+use Rattle.time_digits.specs.declared.Sign.TheVariants.{Negative, Positive}
 use Rattle.time_readers.specs.declared.direct.Said.{Said}
 use Rattle.time_parsing.specs.Written.{kept, IsCut}
 use Rattle.time_parsing.specs.exact.ToldMoment.{month_short}
@@ -54,24 +54,6 @@ signed_minutes (pos zero) (negsuc m) is = refl
 signed_minutes (pos (suc h)) (pos m) is = rw (not_below (suc h), not_below m) refl
 signed_minutes (pos (suc h)) (negsuc m) is = absurd (cc)
 signed_minutes (negsuc h) m is = is
-
--- so they are in each offset whose parts have no two signs
-same-sign : (h m s : ℤ)
-    → ((pos 0 ≤ℤ h) × (pos 0 ≤ℤ m) × (pos 0 ≤ℤ s)) ⊎ ((h ≤ℤ pos 0) × (m ≤ℤ pos 0) × (s ≤ℤ pos 0)) → m ≡ same_sign h m
-same-sign (pos zero) m s is = refl
-same-sign (pos (suc h)) (pos m) s is = refl
-same-sign (pos (suc h)) (negsuc m) s (inl is) = absurd (omega (arith, ints, is.1))
-same-sign (pos (suc h)) (negsuc m) s (inr is) = absurd (omega (arith, ints, is.0))
-same-sign (negsuc h) (pos zero) s is = refl
-same-sign (negsuc h) (pos (suc m)) s (inl is) = absurd (omega (arith, ints, is.0))
-same-sign (negsuc h) (pos (suc m)) s (inr is) = absurd (omega (arith, ints, is.1))
-same-sign (negsuc h) (negsuc m) s is = refl
-
-abbrev pub OneSign : OffsetDateTime → Type 0
-OneSign v = Offsets.minutes (offset_of v) ≡ same_sign (Offsets.hours (offset_of v)) (Offsets.minutes (offset_of v))
-
-pub one_sign : (v : OffsetDateTime) → HasOneSign (offset_of v) → OneSign v
-one_sign v is = same-sign (Offsets.hours (offset_of v)) (Offsets.minutes (offset_of v)) (Offsets.seconds (offset_of v)) is
 
 -- no second has no sign
 no_second : (h m : ℤ) → pos 0 ≡ same_sign h (same_sign m (pos 0))
@@ -173,7 +155,7 @@ day_below d =
     let day = d.day_in in
     omega (arith, day, month_short (Dates.year d) (month_number (Dates.month d)))
 
-module _ (k : ℕ) (v w : OffsetDateTime) (cut : IsCut k v w) (one : OneSign v)
+module _ (k : ℕ) (v w : OffsetDateTime) (cut : IsCut k v w)
     (year : IsBetween (pos 0) (pos 9999) (Dates.year (offset_date v)))
     (whole : Offsets.seconds (offset_of v) ≡ pos 0) where
   all-taken : first_refusal greatest_year (told k v) ≡ None
@@ -193,7 +175,7 @@ module _ (k : ℕ) (v w : OffsetDateTime) (cut : IsCut k v w) (one : OneSign v)
     clock = (cut.clock.0, cut.clock.1, cut.clock.2 ∙ sym (shown-second k v), cut.clock.3 ∙ sym (shown-nanosecond k v));
     offset = (
       ap Offsets.hours cut.offset,
-      ap Offsets.minutes cut.offset ∙ one,
+      ap Offsets.minutes cut.offset ∙ (offset_of v).one_sign.0,
       ap Offsets.seconds cut.offset ∙ whole ∙ no_second (Offsets.hours (offset_of v)) (Offsets.minutes (offset_of v)),
     );
   }

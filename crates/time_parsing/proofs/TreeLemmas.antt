@@ -2,7 +2,7 @@
 use Rattle.std.proofs.Common.{◌≡◌, ℕ, List, [], ◌∷◌, ◌++◌, Result, Ok, Err, Bor, refl, ap, sym, ◌∙◌, subst, inl, inr, append_assoc}
 use Rattle.time_values.specs.Refusal.{Refusal, refusal_of_description}
 use Rattle.time_values.specs.declared.error.ParseFromDescription.{ParseFromDescription}
-use Rattle.time_readers.specs.Tree.{Tree, Trees, literal, component, sequence, optional, first_of, none, more, trees}
+use Rattle.time_components.specs.Tree.{Tree, Trees, literal, component, sequence, optional, first_of, none, more, trees}
 use Rattle.time_record.specs.Answer.{Answers}
 use Rattle.time_record.specs.Reading.{Reads, ReadsAll, ReadsSome, IsFault, Refuses}
 use Rattle.time_record.specs.Record.{Record}

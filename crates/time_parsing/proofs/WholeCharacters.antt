@@ -1,10 +1,10 @@
 -- Marked and unmarked trees, where no `Ignore` ends inside a character. `Y` is the greatest year.
 use Rattle.std.proofs.Common.{ℕ, List, Bool, true, false, refl, sym, subst, inl, inr}
 use Rattle.time_values.specs.Refusal.{Refusal}
-use Rattle.time_readers.specs.declared.format_description.Component.{Component}
-use Rattle.time_readers.specs.declared.format_description.Component.TheVariants.{Ignore}
-use Rattle.time_readers.specs.Spelling.{Spells}
-use Rattle.time_readers.specs.Tree.{Tree, Trees, literal, component, sequence, optional, first_of, none, more}
+use Rattle.time_components.specs.declared.format_description.Component.{Component}
+use Rattle.time_components.specs.declared.format_description.Component.TheVariants.{Ignore}
+use Rattle.time_components.specs.Spelling.{Spells}
+use Rattle.time_components.specs.Tree.{Tree, Trees, literal, component, sequence, optional, first_of, none, more}
 use Rattle.time_record.specs.Clean.{CleanComponent, Clean, CleanAll, CleanFirst, unmarked, unmarked_all}
 use Rattle.time_record.specs.Reading.{HasNone, ReadsComponent, Reads, ReadsAll, ReadsSome, IsFault, IsFaultAll}
 use Rattle.time_record.specs.Record.{Record}

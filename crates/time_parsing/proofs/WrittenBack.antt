@@ -14,13 +14,13 @@ use Rattle.time_values.specs.Times as Times
 use Rattle.time_values.specs.Times.{time_refusal}
 use Rattle.time_values.specs.declared.offset_date_time.OffsetDateTime.{OffsetDateTime}
 use Rattle.time_values.proofs.NumberLemmas.{month_number_in}
-use Rattle.time_readers.specs.Bytes.{sign_byte, is_negative}
+use Rattle.time_digits.specs.Bytes.{sign_byte, is_negative}
 use Rattle.time_readers.specs.Direct.{IsMade, IsDirectRfc3339, RefusesRfc3339, said_rfc3339}
-use Rattle.time_readers.specs.Digits.{NoDigitFirst}
+use Rattle.time_digits.specs.Digits.{NoDigitFirst}
 use Rattle.time_readers.specs.Places.{Stand}
-use Rattle.time_readers.specs.Rfc3339.{Asks, offset_places, NoPointFirst}
-use Rattle.time_readers.specs.declared.Sign.{Sign}
-use Rattle.time_readers.specs.declared.Sign.TheVariants.{Negative, Positive}
+use Rattle.time_readers.specs.Rfc3339.{Asks, offset_places, NoDotFirst}
+use Rattle.time_digits.specs.declared.Sign.{Sign}
+use Rattle.time_digits.specs.declared.Sign.TheVariants.{Negative, Positive}
 use Rattle.time_readers.specs.declared.rfc3339.Numbers.{Numbers}
 use Rattle.time_readers.proofs.Made.{minute_stands}
 use Rattle.time_values.specs.Shown.{fixed, fraction_shown}
@@ -34,7 +34,7 @@ use Rattle.time_parsing.specs.Rfc3339.{Reads, Refuses}
 use Rattle.time_parsing.specs.Written.{kept, IsCut, written, ReadsBack, KeepsAll}
 use Rattle.time_parsing.proofs.KeptDigits.{significant-bound, keeps-auto}
 use Rattle.time_parsing.proofs.WrittenForm.{said, not_zero, fraction-stands, timed, zulu, numeric, zulu-stands, numeric-stands, bytes, written_form}
-use Rattle.time_parsing.proofs.Told.{OneSign, one_sign, told, made, sign_of, signed_hours, signed_minutes, sign_byte-sign_of, is_negative-sign_of, year-below, hours-below, minutes-below, some_month, day_below}
+use Rattle.time_parsing.proofs.Told.{told, made, sign_of, signed_hours, signed_minutes, sign_byte-sign_of, is_negative-sign_of, year-below, hours-below, minutes-below, some_month, day_below}
 
 -- nothing is in the way of a text
 writable : (y h s : ℤ) →
@@ -59,7 +59,7 @@ no_digit : (sign : Sign) (rest : List ℕ) → NoDigitFirst (sign_byte sign ∷ 
 no_digit Negative rest = λ h. omega (arith, h)
 no_digit Positive rest = λ h. omega (arith, h)
 
-no_point : (sign : Sign) (rest : List ℕ) → NoPointFirst (sign_byte sign ∷ rest)
+no_point : (sign : Sign) (rest : List ℕ) → NoDotFirst (sign_byte sign ∷ rest)
 no_point Negative rest = λ h. omega (arith, h)
 no_point Positive rest = λ h. omega (arith, h)
 
@@ -73,7 +73,7 @@ flat : (a b c d e f g h i j k l m : List ℕ) →
     ≡ a ++ (b ++ (c ++ (d ++ (e ++ (f ++ (g ++ (h ++ (i ++ (j ++ (k ++ (l ++ m)))))))))))
 flat a b c d e f g h i j k l m = simp append_assoc refl
 
-module _ (k : ℕ) (few : k ≤ 9) (v w : OffsetDateTime) (cut : IsCut k v w) (one : OneSign v)
+module _ (k : ℕ) (few : k ≤ 9) (v w : OffsetDateTime) (cut : IsCut k v w)
     (year : IsBetween (pos 0) (pos 9999) (Dates.year (offset_date v)))
     (hours : IsBetween (neg_ℤ (pos 23)) (pos 23) (Offsets.hours (offset_of v)))
     (whole : Offsets.seconds (offset_of v) ≡ pos 0) where
@@ -85,7 +85,7 @@ module _ (k : ℕ) (few : k ≤ 9) (v w : OffsetDateTime) (cut : IsCut k v w) (o
       (said k (Times.nanosecond (offset_time v))) (fraction_shown k (Times.nanosecond (offset_time v))) offset
 
   -- it is the moment that the offset's numbers say
-  stands-with : (offset : List ℕ) (all : Numbers) → NoDigitFirst offset → NoPointFirst offset →
+  stands-with : (offset : List ℕ) (all : Numbers) → NoDigitFirst offset → NoDotFirst offset →
       Stand (Asks false) offset_places (timed (unsigned_abs (Dates.year (offset_date v))) (month_number (Dates.month (offset_date v)))
       (Dates.day (offset_date v)) (Times.hour (offset_time v)) (Times.minute (offset_time v)) (Times.second (offset_time v))
       (said k (Times.nanosecond (offset_time v)))) offset [] all →
@@ -100,7 +100,7 @@ module _ (k : ℕ) (few : k ≤ 9) (v w : OffsetDateTime) (cut : IsCut k v w) (o
       (fraction-stands k (Times.nanosecond t) offset few t.nanosecond_in digit point) ends
       (omega (arith, h), omega (arith, m), omega (arith, s))
       (year-below (Dates.year d) year) (some_month d) (omega (arith, month)) (day_below d) in
-      (all, form, minute_stands all minute, subst (λ said. IsMade greatest_year said w) (sym is) (made k v w cut one year whole))
+      (all, form, minute_stands all minute, subst (λ said. IsMade greatest_year said w) (sym is) (made k v w cut year whole))
 
   -- of UTC, and of another offset
   zulu-back : is_none (offset_of v) ≡ true → IsDirectRfc3339 greatest_year (with_offset (codes "Z")) w
@@ -127,9 +127,9 @@ module _ (k : ℕ) (few : k ≤ 9) (v w : OffsetDateTime) (cut : IsCut k v w) (o
       let om = unsigned_abs (Offsets.minutes o) in
       let minutes = minutes-below (Offsets.minutes o) o.minutes_in in
       let hour : signed_by (is_negative sign) (pos oh) ≡ Offsets.hours o =
-      ap (λ b. signed_by b (pos oh)) (is_negative-sign_of (is_behind o)) ∙ sym (signed_hours (Offsets.hours o) (Offsets.minutes o) one) in
+      ap (λ b. signed_by b (pos oh)) (is_negative-sign_of (is_behind o)) ∙ sym (signed_hours (Offsets.hours o) (Offsets.minutes o) o.one_sign.0) in
       let minute : signed_by (is_negative sign) (pos om) ≡ Offsets.minutes o =
-      ap (λ b. signed_by b (pos om)) (is_negative-sign_of (is_behind o)) ∙ sym (signed_minutes (Offsets.hours o) (Offsets.minutes o) one) in
+      ap (λ b. signed_by b (pos om)) (is_negative-sign_of (is_behind o)) ∙ sym (signed_minutes (Offsets.hours o) (Offsets.minutes o) o.one_sign.0) in
       let text : (sign_byte sign ∷ fixed 2 oh) ++ (codes ":" ++ fixed 2 om) ≡ numeric_text o =
       ap (λ b. (b ∷ fixed 2 oh) ++ (codes ":" ++ fixed 2 om)) (sign_byte-sign_of (is_behind o))
       ∙ sym (append_assoc (_ ∷ fixed 2 oh) (codes ":") (fixed 2 om)) in
@@ -162,10 +162,10 @@ module _ (k : ℕ) (few : k ≤ 9) (v w : OffsetDateTime) (cut : IsCut k v w) (o
       (by_none (is_none (offset_of v)) refl)
 
 pub read_back : ReadsBack greatest_year (direct (RefusesRfc3339 greatest_year)) (Reads greatest_year) (Refuses greatest_year)
-read_back digits v w none one cut =
+read_back digits v w none cut =
     let is = writable (Dates.year (offset_date v)) (Offsets.hours (offset_of v)) (Offsets.seconds (offset_of v)) none in
     let few = few-digits digits (Times.nanosecond (offset_time v)) in
-    let back = written-back (written digits v) few v w cut (one_sign v one) is.0 is.1 is.2 in
+    let back = written-back (written digits v) few v w cut is.0 is.1 is.2 in
     let value = direct-value (moment_text (written digits v) v) w back in
     (value, value)
 

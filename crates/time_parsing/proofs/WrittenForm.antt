@@ -3,14 +3,14 @@ use Rattle.std.proofs.Common.{◌≡◌, ◌≢◌, ◌≤◌, ◌<◌, ◌+◌,
 use Rattle.std.specs.Prelude.{if◌then◌else◌, ◌==◌}
 use Rattle.std.proofs.lemmas.Bool.Decides.{nat_tests}
 use Rattle.std.proofs.lemmas.List.{take_all}
-use Rattle.time_readers.specs.Bytes.{sign_byte, is_negative}
-use Rattle.time_readers.specs.Digits.{AllDigits, digits_value, NoDigitFirst, IsDigitRun, IsFraction}
+use Rattle.time_digits.specs.Bytes.{sign_byte, is_negative}
+use Rattle.time_digits.specs.Digits.{AllDigits, digits_value, NoDigitFirst, IsDigitRun, IsFraction}
 use Rattle.time_readers.specs.Places.{Format, Stand}
-use Rattle.time_readers.specs.Rfc3339.{Asks, HasForm, IsSubsecond, NoPointFirst, nothing_read, time_places, offset_places}
-use Rattle.time_readers.specs.declared.Sign.{Sign}
+use Rattle.time_readers.specs.Rfc3339.{Asks, HasForm, IsSubsecond, NoDotFirst, nothing_read, time_places, offset_places}
+use Rattle.time_digits.specs.declared.Sign.{Sign}
 use Rattle.time_readers.specs.declared.rfc3339.Numbers.{Numbers}
 use Rattle.time_readers.specs.declared.rfc3339.Place.TheVariants.{Year, YearDash, Month, MonthDash, Day, Separator, Hour, HourColon, Minute, MinuteColon, Second, Subsecond, OffsetHour, OffsetColon, OffsetMinute}
-use Rattle.time_readers.proofs.Runs.{AllDigits-push, digits_value-push}
+use Rattle.time_digits.proofs.Runs.{AllDigits-push, digits_value-push}
 use Rattle.time_values.specs.Shown.{fixed, fraction_shown}
 use Rattle.time_parsing.specs.Written.{kept}
 use Rattle.time_parsing.proofs.KeptDigits.{fixed-length, take-fixed, front-below}
@@ -65,7 +65,7 @@ said k n = if k == 0 then None else Some (kept k n)
 pub not_zero : (k : ℕ) → (suc k == 0) ≡ false
 not_zero k = grind (arith, nat_tests)
 
-pub fraction-stands : (k n : ℕ) (rest : List ℕ) → k ≤ 9 → n < 10 ^ 9 → NoDigitFirst rest → NoPointFirst rest
+pub fraction-stands : (k n : ℕ) (rest : List ℕ) → k ≤ 9 → n < 10 ^ 9 → NoDigitFirst rest → NoDotFirst rest
     → IsSubsecond (fraction_shown k n) rest (said k n)
 fraction-stands zero n rest few below ends point = (refl, point)
 fraction-stands (suc k) n rest few below ends point =

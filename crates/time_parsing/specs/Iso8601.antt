@@ -1,10 +1,12 @@
 -- ISO 8601, read over a record. `Y` is the greatest year.
-use Rattle.std.specs.Prelude.{◌≡◌, ℕ, pos, List, [], ◌∷◌, codes, Bool, true, false, Option, Some, None, option_map, option_and_then, unwrap_or, Result, Ok, Err}
+use Rattle.std.specs.Prelude.{◌≡◌, ℕ, pos, List, [], ◌∷◌, codes, Bool, true, false, Option, Some, None, option_map, option_and_then, Result, Ok, Err}
+use Rattle.std.specs.Result.{result_ok}
 use Rattle.time_values.specs.Refusal.{Refusal, component}
 use Rattle.time_readers.specs.IsoAnswers.{Found}
 use Rattle.time_readers.specs.IsoDates.{IsoDate, calendar, ordinal, week, date_text, need}
 use Rattle.time_readers.specs.IsoTimes.{time_text}
 use Rattle.time_readers.specs.IsoOffsets.{offset_text}
+use Rattle.time_readers.specs.Readers.{ReaderOf, ◌then◌, ◌or◌, optional}
 use Rattle.time_readers.specs.declared.iso8601.ExtendedKind.{ExtendedKind}
 use Rattle.time_readers.specs.declared.iso8601.ExtendedKind.TheVariants.{Unknown}
 use Rattle.time_readers.specs.declared.iso8601.TimeNumbers.{TimeNumbers}
@@ -62,34 +64,37 @@ offset_over Y kind bytes r =
     option_and_then (λ o. option_map (λ q. (o.0, q)) (put_all Y (offset_entries o.1) (without_offset_sign r)))
     (offset_text kind bytes)
 
--- after a time: an offset, or nothing
-unfoldable pub after_time : ℕ → ExtendedKind → List ℕ → Record → List ℕ × Record
-after_time Y kind bytes r = unwrap_or (offset_over Y kind bytes r) (bytes, r)
+-- Each part is a reader, from the rest, the record and the kind before it to those after it. A date, which needs no
+-- kind before it:
+abbrev pub date : ℕ → ReaderOf (Found Record)
+date Y f = result_ok (date_over Y f.rest f.value)
 
--- after a date: a time and what stands after it, or nothing, and so no offset
-abbrev pub after_date : ℕ → Found Record → Option (Found Record) → List ℕ × Record
-after_date Y d (Some t) = after_time Y t.kind t.rest t.value
-after_date Y d None = (d.rest, d.value)
+-- a time of the kind so far, which may need its `T`
+abbrev pub time : ℕ → Bool → ReaderOf (Found Record)
+time Y needs_t f = time_over Y needs_t f.kind f.rest f.value
 
--- without a date, whose fault is given: a time and what stands after it, or an offset, or else the fault
-abbrev pub without_date : ℕ → Refusal → List ℕ → Record → Option (Found Record) → Result (List ℕ × Record) Refusal
-without_date Y fault bytes r (Some t) = Ok (after_time Y t.kind t.rest t.value)
-without_date Y fault bytes r None = need (offset_over Y Unknown bytes r) fault (λ o. Ok o)
+-- an offset of the kind so far
+abbrev pub offset : ℕ → ReaderOf (Found Record)
+offset Y f = option_map (λ o. record { rest = o.0; value = o.1; kind = f.kind }) (offset_over Y f.kind f.rest f.value)
 
--- the text with a date, after which a time needs its `T`, or without one
-abbrev pub date_or_none : ℕ → List ℕ → Record → Result (Found Record) Refusal → Result (List ℕ × Record) Refusal
-date_or_none Y bytes r (Ok d) = Ok (after_date Y d (time_over Y true d.kind d.rest d.value))
-date_or_none Y bytes r (Err fault) = without_date Y fault bytes r (time_over Y false Unknown bytes r)
+-- A date, after which a time may stand, which needs its `T`; or else a time; or else an offset. After a time an offset
+-- may stand.
+abbrev pub parts : ℕ → ReaderOf (Found Record)
+parts Y =
+    date Y then optional (time Y true then optional (offset Y))
+    or time Y false then optional (offset Y)
+    or offset Y
 
--- A front of the bytes, which is a date or nothing, a time or nothing and an offset or nothing, and at least one of
--- them: the bytes after it, and the record with what they say; or the fault of the date.
-unfoldable pub reading : ℕ → List ℕ → Record → Result (List ℕ × Record) Refusal
-reading Y bytes r = date_or_none Y bytes r (date_over Y bytes r)
+-- the bytes after the parts with which the bytes begin, and the record with what they say, or nothing without a part
+unfoldable pub reading : ℕ → List ℕ → Record → Option (List ℕ × Record)
+reading Y bytes r =
+    option_map (λ f. (f.rest, f.value)) (parts Y (record { rest = bytes; value = r; kind = Unknown }))
 
--- that front is read over the record, which allows a leap second
+-- the parts are read over the record, which allows a leap second
 abbrev pub Reads : ℕ → Reading
-Reads Y bytes r rest new = reading Y bytes (with_leap_second r) ≡ Ok (rest, new)
+Reads Y bytes r rest new = reading Y bytes (with_leap_second r) ≡ Some (rest, new)
 
--- no front is read
+-- there is no part, and the fault is the date's
 abbrev pub Refuses : ℕ → Refusing
-Refuses Y bytes r e = reading Y bytes (with_leap_second r) ≡ Err e
+Refuses Y bytes r e =
+    (reading Y bytes (with_leap_second r) ≡ None) × (date_over Y bytes (with_leap_second r) ≡ Err e)

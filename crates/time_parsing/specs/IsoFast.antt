@@ -1,3 +1,5 @@
+-- No public contract rests on this file.
+--
 -- What values say in the words of a text of ISO 8601, which the short forms need.
 use Rattle.std.specs.Prelude.{pos, Ok}
 use Rattle.time_values.specs.Dates as Dates
@@ -10,7 +12,7 @@ use Rattle.time_readers.specs.IsoDates.{IsoDate, calendar}
 use Rattle.time_readers.specs.declared.iso8601.OffsetNumbers.{OffsetNumbers}
 use Rattle.time_readers.specs.declared.iso8601.OffsetNumbers.TheVariants.{Zulu, Numeric}
 use Rattle.time_readers.specs.declared.iso8601.TimeNumbers.{TimeNumbers}
-use Rattle.time_record.specs.Resolution.{Gives}
+use Rattle.time_record.specs.Resolution.{IsConstructed}
 
 -- a date, by its year, month and day
 abbrev pub date_said : Date → IsoDate
@@ -29,4 +31,4 @@ time_said t = record {
 abbrev pub IsOffsetSaid : OffsetNumbers → UtcOffset → Type 0
 IsOffsetSaid Zulu o = IsUtc o
 IsOffsetSaid (Numeric hour minute) o =
-    Gives (offset_refusal hour minute (pos 0)) (HasOffset hour minute (pos 0)) (Ok o)
+    IsConstructed (offset_refusal hour minute (pos 0)) (HasOffset hour minute (pos 0)) (Ok o)

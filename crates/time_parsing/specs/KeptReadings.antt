@@ -1,6 +1,6 @@
 -- What stays read where the range of years grows. `Y` is the greatest year of the narrower range, and `Z` of the wider.
 use Rattle.std.specs.Prelude.{ℕ, List, []}
-use Rattle.time_readers.specs.Tree.{Tree, Trees, literal, component, sequence, optional, first_of, none, more}
+use Rattle.time_components.specs.Tree.{Tree, Trees, literal, component, sequence, optional, first_of, none, more}
 use Rattle.time_record.specs.Reading.{Reads}
 use Rattle.time_record.specs.Record.{Record, IsInRanges}
 use Rattle.time_parsing.specs.Outcome.{Reading}

@@ -1,5 +1,6 @@
 pub mod Iso8601
 pub mod IsoFast
+pub mod IsoSteps
 pub mod KeptReadings
 pub mod Outcome
 pub mod Rfc2822

@@ -2,7 +2,7 @@
 use Rattle.std.specs.Prelude.{◌≡◌, ℕ, List, [], ◌∷◌, ◌++◌, true, Option, Some, None, pos}
 use Rattle.time_values.specs.declared.weekday.Weekday.{Weekday}
 use Rattle.time_readers.specs.Rfc2822.{HasForm, FailsAt, fault}
-use Rattle.time_readers.specs.declared.Sign.{Sign}
+use Rattle.time_digits.specs.declared.Sign.{Sign}
 use Rattle.time_readers.specs.declared.rfc2822.Numbers.{Numbers}
 use Rattle.time_readers.specs.declared.rfc2822.Place.{Place}
 use Rattle.time_record.specs.Record.{Entry, put_all, weekday_is, year_is, month_is, day_is, hour_24_is, minute_is, second_is, offset_hour_is, offset_minute_is, offset_second_is}

@@ -3,7 +3,7 @@ use Rattle.std.specs.Prelude.{◌≡◌, ◌↔◌, ◌⊎◌, ℕ, List, [], �
 use Rattle.std.specs.Borrow.{Bor}
 use Rattle.time_values.specs.Refusal.{Refusal, refusal_of_description}
 use Rattle.time_values.specs.declared.error.ParseFromDescription.{ParseFromDescription}
-use Rattle.time_readers.specs.Tree.{Tree, sequence, optional, first_of, none, trees}
+use Rattle.time_components.specs.Tree.{Tree, sequence, optional, first_of, none, trees}
 use Rattle.time_record.specs.Answer.{Answers}
 use Rattle.time_record.specs.Clean.{Clean, unmarked}
 use Rattle.time_record.specs.Reading.{Reads, Refuses}
@@ -17,14 +17,18 @@ JoinedReads Y =
     ↔ ((mid : List ℕ) × (m : Record) × Reads Y (sequence (trees xs)) bytes r mid m
     × Reads Y (sequence (trees ys)) mid m rest q)
 
--- It is refused where the one is, or where the other is on what the one left, and with that fault.
+-- the one is refused so, or the other on what the one left
+abbrev pub EitherRefuses : ℕ → List Tree → List Tree → List ℕ → Record → Refusal → Type 0
+EitherRefuses Y xs ys bytes r e =
+    Refuses Y (sequence (trees xs)) bytes r e
+    ⊎ ((mid : List ℕ) × (m : Record) × Reads Y (sequence (trees xs)) bytes r mid m
+    × Refuses Y (sequence (trees ys)) mid m e)
+
+-- It is refused where either of them is, and with that fault.
 abbrev pub JoinedRefuses : ℕ → Type 0
 JoinedRefuses Y =
     (xs ys : List Tree) (bytes : List ℕ) (r : Record) (e : Refusal)
-    → Refuses Y (sequence (trees (xs ++ ys))) bytes r e
-    ↔ (Refuses Y (sequence (trees xs)) bytes r e
-    ⊎ ((mid : List ℕ) × (m : Record) × Reads Y (sequence (trees xs)) bytes r mid m
-    × Refuses Y (sequence (trees ys)) mid m e))
+    → Refuses Y (sequence (trees (xs ++ ys))) bytes r e ↔ EitherRefuses Y xs ys bytes r e
 
 -- what the one tree reads of the bytes over the record, the other reads too, and its faults are the same
 pub record AlikeOn (Y : ℕ) (t u : Tree) (bytes : List ℕ) (r : Record) : Type 0 where
@@ -50,6 +54,14 @@ OptionalAsFirst Y = (t : Tree) → Alike Y (optional t) (first_of (trees (t ∷ 
 abbrev pub told : Result (Bor (List ℕ)) ParseFromDescription → Result (List ℕ) Refusal
 told (Ok rest) = Ok rest.now
 told (Err e) = Err (refusal_of_description e)
+
+-- Where either of them is refused, the list's answer is that fault, and the record is as it was before both.
+abbrev pub JoinedLeaves : ℕ → Type 0
+JoinedLeaves Y =
+    (xs ys : List Tree) (bytes : List ℕ) (old new : Record) (e : Refusal)
+    (result : Result (Bor (List ℕ)) ParseFromDescription)
+    → EitherRefuses Y xs ys bytes old e → Answers Y (sequence (trees (xs ++ ys))) bytes old result new
+    → (told result ≡ Err e) × (new ≡ old)
 
 -- Equal trees answer the same, and leave the same record.
 abbrev pub AnswersAlike : ℕ → Tree → Tree → Type 0

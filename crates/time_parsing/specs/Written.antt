@@ -1,7 +1,6 @@
 -- Texts of RFC 3339 and RFC 2822 that were written, and are read.
 use Rattle.std.specs.Prelude.{◌≡◌, ℕ, ◌-◌, ◌*◌, ◌/◌, ◌^◌, ◌<◌, List, None, Ok}
 use Rattle.time_values.specs.Moments.{offset_date, offset_time, offset_of}
-use Rattle.time_values.specs.Offsets.{HasOneSign}
 use Rattle.time_values.specs.Times as Times
 use Rattle.time_values.specs.declared.offset_date_time.OffsetDateTime.{OffsetDateTime}
 use Rattle.time_writing.specs.Texts.{count_of, moment_text, unwritable_3339, unwritable_2822, IsMailText}
@@ -30,7 +29,7 @@ written digits v = count_of digits (Times.nanosecond (offset_time v))
 abbrev pub ReadsBack : ℕ → Path → Reading → Refusing → Type 0
 ReadsBack Y path reads refuses =
     (digits : FractionDigits) (v w : OffsetDateTime)
-    → unwritable_3339 v ≡ None → HasOneSign (offset_of v) → IsCut (written digits v) v w
+    → unwritable_3339 v ≡ None → IsCut (written digits v) v w
     → IsMomentOutcome Y path reads refuses (moment_text (written digits v) v) None (Ok w)
     × IsOutcome (IsMoment Y) reads refuses (moment_text (written digits v) v) empty (Ok w)
 
@@ -42,21 +41,21 @@ KeepsAll digits = (n : ℕ) → n < 1_000_000_000 → kept (count_of digits n) n
 abbrev pub OneText : Type 0
 OneText =
     (digits others : FractionDigits) (v w a b : OffsetDateTime)
-    → unwritable_3339 v ≡ None → HasOneSign (offset_of v) → IsCut (written digits v) v a
-    → unwritable_3339 w ≡ None → HasOneSign (offset_of w) → IsCut (written others w) w b
+    → unwritable_3339 v ≡ None → IsCut (written digits v) v a
+    → unwritable_3339 w ≡ None → IsCut (written others w) w b
     → moment_text (written digits v) v ≡ moment_text (written others w) w → a ≡ b
 
 -- Moments of one text with as many digits as each has are one.
 abbrev pub OneShortText : Type 0
 OneShortText =
     (v w : OffsetDateTime)
-    → unwritable_3339 v ≡ None → HasOneSign (offset_of v) → unwritable_3339 w ≡ None → HasOneSign (offset_of w)
+    → unwritable_3339 v ≡ None → unwritable_3339 w ≡ None
     → moment_text (written Auto v) v ≡ moment_text (written Auto w) w → v ≡ w
 
 -- The text of a mail date is read back as that moment without its fraction.
 abbrev pub ReadsMailBack : ℕ → Path → Reading → Refusing → Type 0
 ReadsMailBack Y path reads refuses =
     (v w : OffsetDateTime) (bytes : List ℕ)
-    → unwritable_2822 v ≡ None → HasOneSign (offset_of v) → IsCut 0 v w → IsMailText v bytes
+    → unwritable_2822 v ≡ None → IsCut 0 v w → IsMailText v bytes
     → IsMomentOutcome Y path reads refuses bytes None (Ok w)
     × IsOutcome (IsMoment Y) reads refuses bytes empty (Ok w)

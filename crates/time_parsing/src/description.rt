@@ -2,8 +2,8 @@
 ghost use Rattle.std.specs.Prelude.{map};
 ghost use Rattle.time_values.specs.Range.{greatest_year};
 ghost use Rattle.time_descriptions.specs.Description.{shape};
-ghost use Rattle.time_readers.specs.Shape.{borrowed_shape, owned_shape, v3_shape};
-ghost use Rattle.time_readers.specs.Tree.{sequence, trees};
+ghost use Rattle.time_components.specs.Shape.{borrowed_shape, owned_shape, v3_shape};
+ghost use Rattle.time_components.specs.Tree.{sequence, trees};
 ghost use Rattle.time_record.specs.Reading.{Reads, Refuses};
 ghost use Rattle.time_parsing.specs.Outcome.{over_record};
 ghost use Rattle.time_parsing.specs.exact.DescriptionLaws.{tree_exact};

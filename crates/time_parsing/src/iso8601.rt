@@ -10,6 +10,7 @@ ghost use Rattle.time_readers.specs.declared.iso8601.ExtendedKind.TheVariants.{U
 ghost use Rattle.time_record.specs.Record.{put_all};
 ghost use Rattle.time_record.specs.Resolution.{IsMoment};
 ghost use Rattle.time_parsing.specs.Iso8601 as spec;
+ghost use Rattle.time_parsing.specs.IsoSteps as steps;
 ghost use Rattle.time_parsing.specs.Outcome.{IsOutcome, begun, over_record, seen};
 ghost use Rattle.time_parsing.specs.Rfc3339.{without_offset_sign};
 
@@ -197,7 +198,7 @@ fn offset_over<'a>(input: &'a [u8], parsed: &mut Parsed, kind: ExtendedKind) -> 
 // Reads an offset after a time, or nothing, and answers the rest.
 #[inline(always)]
 fn after_time<'a>(input: &'a [u8], parsed: &mut Parsed, kind: ExtendedKind) -> &'a [u8]
-    ensures { spec.after_time greatest_year kind input.now parsed.old ≡ (result.now, parsed.new) }
+    ensures { steps.after_time greatest_year kind input.now parsed.old ≡ (result.now, parsed.new) }
 {
     match offset_over(input, parsed, kind) {
         Some(rest) => rest,
@@ -213,9 +214,9 @@ fn without_date<'a>(
     fault: ParseFromDescription,
 ) -> Result<&'a [u8], ParseFromDescription>
     ensures { MatchResult result
-        (λ rest. spec.without_date greatest_year (refusal_of_description fault) input.now parsed.old
+        (λ rest. steps.without_date greatest_year (refusal_of_description fault) input.now parsed.old
         (spec.time_over greatest_year false Unknown input.now parsed.old) ≡ Ok (rest.now, parsed.new))
-        (λ e. spec.without_date greatest_year (refusal_of_description fault) input.now parsed.old
+        (λ e. steps.without_date greatest_year (refusal_of_description fault) input.now parsed.old
         (spec.time_over greatest_year false Unknown input.now parsed.old) ≡ Err (refusal_of_description e)) }
 {
     if let Some(time) = time_over(input, parsed, ExtendedKind::Unknown, false) {
@@ -231,8 +232,9 @@ fn without_date<'a>(
 #[inline(always)]
 fn read<'a>(input: &'a [u8], parsed: &mut Parsed) -> Result<&'a [u8], ParseFromDescription>
     ensures { MatchResult result
-        (λ rest. spec.reading greatest_year input.now parsed.old ≡ Ok (rest.now, parsed.new))
-        (λ e. spec.reading greatest_year input.now parsed.old ≡ Err (refusal_of_description e)) }
+        (λ rest. spec.reading greatest_year input.now parsed.old ≡ Some (rest.now, parsed.new))
+        (λ e. (spec.reading greatest_year input.now parsed.old ≡ None)
+        × (spec.date_over greatest_year input.now parsed.old ≡ Err (refusal_of_description e))) }
 {
     match date_over(input, parsed) {
         Ok(date) => match time_over(date.0, parsed, date.1, true) {

@@ -9,7 +9,7 @@ ghost use Rattle.time_parsing.specs.Outcome.{OneOutcome, OneMomentOutcome, SameM
 ghost use Rattle.time_parsing.specs.Rfc2822 as Rfc2822;
 ghost use Rattle.time_parsing.specs.Rfc3339 as Rfc3339;
 ghost use Rattle.time_parsing.specs.Written.{ReadsBack, ReadsMailBack, KeepsAll, OneText, OneShortText};
-ghost use Rattle.time_parsing.specs.TreeLaws.{JoinedReads, JoinedRefuses, Flattens, OptionalAsFirst, AnswersAlike, WholeCharacters, LeavesSuffix};
+ghost use Rattle.time_parsing.specs.TreeLaws.{JoinedReads, JoinedRefuses, JoinedLeaves, Flattens, OptionalAsFirst, AnswersAlike, WholeCharacters, LeavesSuffix};
 ghost use Rattle.time_writing.specs.declared.fraction.FractionDigits.TheVariants.{Auto, Exactly};
 
 use crate::Parsable;
@@ -41,6 +41,7 @@ pub fn law_two_paths()
 pub fn law_joined_lists()
     ensures reads { JoinedReads greatest_year }
     ensures refuses { JoinedRefuses greatest_year }
+    ensures leaves { JoinedLeaves greatest_year }
 {}
 
 /// A list inside a list may be flattened: the same is read, and the same is refused.

@@ -4,7 +4,7 @@ use Rattle.std.specs.Prelude.{pos}
 use Rattle.std.proofs.lemmas.Bool.{ne_eqb}
 use Rattle.std.proofs.lemmas.List.{drop_more}
 use Rattle.time_values.specs.declared.month.Month.{Month}
-use Rattle.time_readers.specs.Digits.{IsDigit}
+use Rattle.time_digits.specs.Digits.{IsDigit}
 use Rattle.time_readers.specs.IsoDates.{date_text, forms, calendar}
 use Rattle.time_readers.specs.IsoPieces.{digits, sign, byte, year, month, positive, numbered, months}
 use Rattle.time_readers.specs.declared.iso8601.ExtendedKind.TheVariants.{Basic, Extended}

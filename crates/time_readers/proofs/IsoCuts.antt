@@ -5,18 +5,18 @@ use Rattle.std.proofs.lemmas.Bool.{leb-true, and_parts, cases_Bool, eqb-true, bo
 use Rattle.std.proofs.lemmas.List.{take-append-drop, length-take-le}
 use Rattle.std.proofs.lemmas.Option.{none-some, same_Some, some_pair_parts, option_and_then_some}
 use Rattle.std.proofs.Math.Seq.{drop-append_seam}
-use Rattle.time_readers.specs.Bytes.{IsSign, sign_byte}
-use Rattle.time_readers.specs.Cuts.{Cut}
-use Rattle.time_readers.specs.Digits.{AllDigits, digits_value, NoDigitFirst, IsDigitRun}
+use Rattle.time_digits.specs.Bytes.{IsSign, sign_byte}
+use Rattle.time_digits.specs.Cuts.{Cut}
+use Rattle.time_digits.specs.Digits.{AllDigits, digits_value, NoDigitFirst, IsDigitRun}
 use Rattle.time_readers.specs.IsoCuts.{IsYear, IsSaid, IsPoint, NoPointFirst, IsNumber}
 use Rattle.time_readers.specs.IsoPieces.{is_digit, all_digits, digits, leading_digits, byte, point, Number, plain, fraction, after_point, after_whole, number, digits_saying, sign, with_sign, year_after, year, month, weekday, positive, up_to, numbered, months, weekdays, not_zero, at_most}
 use Rattle.time_readers.specs.Laws.{IsoPiecesAreCuts}
-use Rattle.time_readers.specs.Spelling.{IsSigned}
-use Rattle.time_readers.specs.declared.Padding.TheVariants as padding
-use Rattle.time_readers.specs.declared.Sign.{Sign}
-use Rattle.time_readers.specs.declared.Sign.TheVariants.{Negative, Positive}
+use Rattle.time_components.specs.Spelling.{IsSigned}
+use Rattle.time_digits.specs.declared.Padding.TheVariants as padding
+use Rattle.time_digits.specs.declared.Sign.{Sign}
+use Rattle.time_digits.specs.declared.Sign.TheVariants.{Negative, Positive}
 use Rattle.time_readers.proofs.IsoPieces.{is_digit-true, is_digit-tells, all_digits-tells, digits-cut, sign-cut, sign-no_cut}
-use Rattle.time_readers.proofs.NumberLemmas.{no_sign_first, signed_cut}
+use Rattle.time_components.proofs.NumberLemmas.{no_sign_first, signed_cut}
 
 pub digits-tells : (n : ℕ) (s rest : List ℕ) (v : ℕ) → digits n s ≡ Some (rest, v) → Cut (IsDigitRun n n) s rest v
 unfolding digits

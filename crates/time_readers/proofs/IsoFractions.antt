@@ -1,6 +1,6 @@
 -- A fraction of a unit, from the last digit to the first.
-use Rattle.std.proofs.Common.{◌≡◌, ℕ, zero, suc, ◌+◌, ◌-◌, ◌*◌, ◌/◌, ◌^◌, ◌<◌, ◌≤◌, List, [], ◌∷◌, length, arith, pow-suc, mul-le-mul_right, add-mul, mul_assoc, mul_comm, sym, get_or, drop, drop-cons, subst, add-one}
-use Rattle.time_readers.specs.Digits.{IsDigit, AllDigits, digits_value}
+use Rattle.std.proofs.Common.{◌≡◌, ◌↔◌, ℕ, zero, suc, ◌+◌, ◌-◌, ◌*◌, ◌/◌, ◌^◌, ◌<◌, ◌≤◌, List, [], ◌∷◌, length, arith, pow-suc, mul-le-mul_right, add-mul, mul_assoc, mul_comm, div-mul-le_self, div-lt_iff_lt-mul, sym, get_or, drop, drop-cons, subst, add-one}
+use Rattle.time_digits.specs.Digits.{IsDigit, AllDigits, digits_value}
 use Rattle.time_readers.specs.IsoFractions.{IsFloor, IsRounded, floor_of, round_of}
 use Rattle.std.proofs.lemmas.Nat.{le-div, div_below}
 
@@ -85,6 +85,15 @@ ten_pow-pos : (n : ℕ) → 0 < 10 ^ n
 ten_pow-pos zero = omega arith
 ten_pow-pos (suc n) = omega (arith, pow-suc 10 n, ten_pow-pos n)
 
+-- and from below
+below_twice : (m power x : ℕ) → m * (2 * power) ≤ x + power → (2 * m - 1) * power ≤ x
+below_twice zero power x h = omega arith
+below_twice (suc m) power x h =
+    let one : 2 * suc m - 1 ≡ 2 * m + 1 = omega arith in
+    let left = mul_assoc (suc m) 2 power in
+    let right = add-mul (2 * m + 1) 1 power in
+    rw one (omega arith)
+
 -- the number cut is the quotient
 pub floor-is : (digits : List ℕ) (unit m : ℕ) → IsFloor digits unit m → m ≡ floor_of digits unit
 floor-is digits unit m is =
@@ -93,6 +102,15 @@ floor-is digits unit m is =
     let low = le-div m (digits_value digits * unit) power some is.low in
     let high = div_below (digits_value digits * unit) power (m + 1) some is.high in
     omega arith
+
+floor-there : (digits : List ℕ) (unit : ℕ) → IsFloor digits unit (floor_of digits unit)
+floor-there digits unit =
+    let power = 10 ^ length digits in
+    let all = digits_value digits * unit in
+    record { low = div-mul-le_self all power; high = (div-lt_iff_lt-mul (ten_pow-pos (length digits))).0 (omega arith) }
+
+pub floor-one : (digits : List ℕ) (unit m : ℕ) → IsFloor digits unit m ↔ (m ≡ floor_of digits unit)
+floor-one digits unit m = (floor-is digits unit m, λ is. subst (IsFloor digits unit) (sym is) (floor-there digits unit))
 
 -- and the number rounded the quotient of the doubles
 pub round-is : (digits : List ℕ) (unit m : ℕ) → IsRounded digits unit m → m ≡ round_of digits unit
@@ -106,6 +124,20 @@ round-is digits unit m is =
     omega (arith, add-mul (2 * m) 1 power, mul_assoc (m + 1) 2 power, add-mul (2 * m) 2 power) in
     let high = div_below all (2 * power) (m + 1) some (let h = is.high in omega arith) in
     omega arith
+
+round-there : (digits : List ℕ) (unit : ℕ) → IsRounded digits unit (round_of digits unit)
+round-there digits unit =
+    let power = 10 ^ length digits in
+    let all = 2 * digits_value digits * unit + power in
+    let m = all / (2 * power) in
+    let some : 0 < 2 * power = omega (arith, ten_pow-pos (length digits)) in
+    let above : all < (m + 1) * (2 * power) = (div-lt_iff_lt-mul some).0 (omega arith) in
+    let next : (2 * m + 1) * power + power ≡ (m + 1) * (2 * power) =
+    omega (arith, add-mul (2 * m) 1 power, mul_assoc (m + 1) 2 power, add-mul (2 * m) 2 power) in
+    record { low = below_twice m power (2 * digits_value digits * unit) (div-mul-le_self all (2 * power)); high = omega arith }
+
+pub round-one : (digits : List ℕ) (unit m : ℕ) → IsRounded digits unit m ↔ (m ≡ round_of digits unit)
+round-one digits unit m = (round-is digits unit m, λ is. subst (IsRounded digits unit) (sym is) (round-there digits unit))
 
 -- as many digits as the unit has places say a whole number of it
 pub round_whole : (digits : List ℕ) (unit : ℕ) → 10 ^ length digits ≡ unit → digits_value digits ≡ round_of digits unit

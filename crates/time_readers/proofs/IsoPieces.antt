@@ -6,19 +6,19 @@ use Rattle.std.proofs.lemmas.List.{take-append-drop, length-take-le}
 use Rattle.std.proofs.lemmas.Option.{none-some, cond_some, slice_get_past}
 use Rattle.std.proofs.Math.Bool.{and-false}
 use Rattle.std.proofs.Math.Seq.{take-append_seam, drop-append_seam}
-use Rattle.time_readers.proofs.CutLemmas.{take-drop}
-use Rattle.time_readers.specs.Cuts.{Cut, NoCut, Finds}
+use Rattle.time_digits.proofs.CutLemmas.{take-drop}
+use Rattle.time_digits.specs.Cuts.{Cut, NoCut, Finds}
 use Rattle.time_values.specs.Month.{month_number, month_refusal}
 use Rattle.time_values.specs.Refusal.{Constructs}
 use Rattle.time_values.specs.declared.error.ComponentRange.{ComponentRange}
 use Rattle.time_values.specs.declared.month.Month.{Month}
-use Rattle.time_readers.proofs.EachValue.{each_month}
-use Rattle.time_readers.proofs.Runs.{IsDigitRun-below}
-use Rattle.time_readers.specs.declared.ParsedItem.{ParsedItem}
-use Rattle.time_readers.specs.declared.Sign.{Sign}
-use Rattle.time_readers.specs.declared.Sign.TheVariants.{Negative, Positive}
-use Rattle.time_readers.specs.Bytes.{IsByte, IsSign}
-use Rattle.time_readers.specs.Digits.{IsDigit, AllDigits, digits_value, NoDigitFirst, IsDigitRun}
+use Rattle.time_components.proofs.EachValue.{each_month}
+use Rattle.time_digits.proofs.Runs.{IsDigitRun-below}
+use Rattle.time_digits.specs.declared.ParsedItem.{ParsedItem}
+use Rattle.time_digits.specs.declared.Sign.{Sign}
+use Rattle.time_digits.specs.declared.Sign.TheVariants.{Negative, Positive}
+use Rattle.time_digits.specs.Bytes.{IsByte, IsSign}
+use Rattle.time_digits.specs.Digits.{IsDigit, AllDigits, digits_value, NoDigitFirst, IsDigitRun}
 use Rattle.time_readers.specs.IsoPieces.{Number, is_digit, all_digits, digits, leading_digits, byte, point, plain, fraction, after_point, number, sign, months, numbered}
 use Rattle.time_readers.specs.IsoAnswers.{Gives}
 use Rattle.time_readers.specs.IsoFractions.{round_of}

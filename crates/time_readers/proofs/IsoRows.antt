@@ -8,12 +8,13 @@ use Rattle.time_readers.specs.declared.iso8601.TimeNumbers.{TimeNumbers}
 use Rattle.std.proofs.lemmas.Bool.{true≢false, false≢true}
 use Rattle.time_readers.specs.IsoKinds.{not_basic, is_extended}
 use Rattle.time_readers.specs.IsoPieces.{Number, plain, fraction, number, byte}
-use Rattle.time_readers.specs.IsoTimes.{time_rows, fitting, says, any_second, hour_and_minute}
+use Rattle.time_readers.specs.IsoTimes.{time_texts, says, any_second}
+use Rattle.time_readers.specs.IsoGrammar.{hour_and_minute}
 use Rattle.time_readers.proofs.IsoPieces.{colon-no_number}
 
 -- at most one row fits
 abbrev One : ExtendedKind → List ℕ → Type 0
-One kind b = length (fitting time_rows kind b) ≤ 1
+One kind b = length (time_texts kind b) ≤ 1
 
 -- A whole hour of 0 to 23, and no colon after it.
 module _ (b m : List ℕ) (h : ℕ) (hour : number b ≡ Some (m, plain h)) (small : nat_le h 23 ≡ true) (none : byte 58 m ≡ None) where

@@ -10,7 +10,8 @@ use Rattle.time_readers.specs.IsoAnswers.{Found, number_of}
 use Rattle.time_readers.specs.IsoFractions.{floor_of}
 use Rattle.time_readers.specs.IsoKinds.{not_basic, is_extended, basic_where_unknown}
 use Rattle.time_readers.specs.IsoPieces.{Number, plain, fraction, number, byte}
-use Rattle.time_readers.specs.IsoTimes.{time_after, says, any_second, past_hour, past_minute, hour_and_minute, second_found, basic_second, extended_second}
+use Rattle.time_readers.specs.IsoTimes.{time_after, says, any_second, past_hour, past_minute}
+use Rattle.time_readers.specs.IsoGrammar.{hour_and_minute, second_found, basic_second, extended_second}
 use Rattle.time_readers.proofs.IsoPieces.{colon-no_number}
 
 -- that text, and what follows it

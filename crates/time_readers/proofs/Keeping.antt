@@ -1,14 +1,14 @@
 -- The numbers of a text lie in the ranges of their places: a later place leaves an earlier number alone.
 use Rattle.std.proofs.Common.{◌≡◌, ◌≢◌, ℕ, ◌≤◌, List, [], ◌∷◌, ◌++◌, take, drop, ap, sym, ◌∙◌, subst, inl, inr, arith, rules, Bool, true, false, Option, Some, None, IfSome}
-use Rattle.time_readers.specs.Digits.{IsDigitRun}
+use Rattle.time_digits.specs.Digits.{IsDigitRun}
 use Rattle.time_readers.specs.Places.{Stand}
 use Rattle.time_readers.specs.Ranges.{IsWithin}
 use Rattle.time_readers.specs.declared.rfc3339.Numbers.{Numbers}
 use Rattle.time_readers.specs.declared.rfc3339.Place.{Place}
 use Rattle.time_readers.specs.declared.rfc3339.Place.TheVariants.{Year, YearDash, Month, MonthDash, Day, Separator, Hour, HourColon, Minute, MinuteColon, Second, Subsecond, OffsetHour, OffsetColon, OffsetMinute}
 use Rattle.time_readers.specs.Rfc3339.{Asks, HasForm, IsSubsecond, IsOffsetMinute, places, nothing_read}
-use Rattle.time_readers.proofs.Runs.{IsDigitRun-below}
-use Rattle.time_readers.proofs.Fractions.{fraction_nanoseconds-below}
+use Rattle.time_digits.proofs.Runs.{IsDigitRun-below}
+use Rattle.time_digits.proofs.Fractions.{fraction_nanoseconds-below}
 use Rattle.time_readers.proofs.KeptNumbers.{Alone, Ignores, said}
 
 -- the numbers n with what place p may say taken from m

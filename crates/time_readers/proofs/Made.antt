@@ -8,7 +8,7 @@ use Rattle.time_values.specs.Offsets.{HasOffset, offset_refusal}
 use Rattle.time_values.specs.Times.{HasClock, time_refusal}
 use Rattle.time_values.specs.declared.offset_date_time.OffsetDateTime.{OffsetDateTime}
 use Rattle.time_readers.specs.Direct.{shown_second, shown_nanosecond, date_refusal, first_refusal, HasDate, IsMoment, LeapSecondMayStand, IsMade, IsNotMade, IsRefusedAfter, IsDirect, RefusesDirectly, minute_refusal}
-use Rattle.time_readers.specs.Cuts.{Form}
+use Rattle.time_digits.specs.Cuts.{Form}
 use Rattle.time_readers.specs.declared.rfc3339.Numbers.{Numbers}
 use Rattle.time_values.specs.declared.error.Parse.{Parse}
 use Rattle.time_readers.specs.declared.direct.Said.{Said}

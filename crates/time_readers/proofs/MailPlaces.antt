@@ -2,18 +2,18 @@
 use Rattle.std.proofs.Common.{◌≡◌, ℕ, ◌≤◌, ◌<◌, List, [], ◌∷◌, ◌++◌, take, refl, ap, sym, ◌∙◌, subst, arith, append_assoc, Bool, true, false, Option, Some, None, Bor, option_copied}
 use Rattle.std.proofs.lemmas.Option.{same_Some, none-some}
 use Rattle.time_values.specs.declared.weekday.Weekday.{Weekday}
-use Rattle.time_readers.specs.Cuts.{Form, Cut, NoCut}
-use Rattle.time_readers.specs.Digits.{IsDigitRun}
-use Rattle.time_readers.specs.Bytes.{IsByte}
-use Rattle.time_readers.specs.Names.{weekday_name}
-use Rattle.time_readers.specs.Places.{Reads}
+use Rattle.time_digits.specs.Cuts.{Form, Cut, NoCut}
+use Rattle.time_digits.specs.Digits.{IsDigitRun}
+use Rattle.time_digits.specs.Bytes.{IsByte}
+use Rattle.time_components.specs.Names.{weekday_name}
+use Rattle.time_readers.specs.PlaceAnswers.{Reads}
 use Rattle.time_readers.specs.Readers.{Reader, IsRead}
 use Rattle.time_readers.specs.MailBlanks.{fws, cfws, opt_cfws, opt_cfws_colon_opt_cfws}
 use Rattle.time_readers.specs.declared.rfc2822.Numbers.{Numbers}
 use Rattle.time_readers.specs.Ranges.{IsTwoDigits}
 use Rattle.time_readers.specs.Rfc2822.{IsSilent, year_blanks, IsShortWeekday, IsWeekdayPart, IsYear, IsSecond}
-use Rattle.time_readers.proofs.Runs.{IsDigitRun-same, IsDigitRun-below}
-use Rattle.time_readers.proofs.ShortNames.{same_name, weekdays_told}
+use Rattle.time_digits.proofs.Runs.{IsDigitRun-same, IsDigitRun-below}
+use Rattle.time_components.proofs.ShortNames.{same_name, weekdays_told}
 use Rattle.time_readers.proofs.Repeats.{Leaves, takes-leaves}
 use Rattle.time_readers.proofs.MailBlanks.{fws-takes, cfws-takes, opt_cfws-leaves, colon-leaves}
 

@@ -1,15 +1,15 @@
 -- The numbers of a mail date lie in the ranges of their places.
 use Rattle.std.proofs.Common.{◌≡◌, ℕ, zero, suc, ◌≤◌, ◌⊎◌, List, ◌∷◌, ◌++◌, take, drop, refl, ap, sym, ◌∙◌, subst, inl, inr, arith, rules, Bool, true, false, Option, Some, None, IfSome, ℤ, pos, unsigned_abs}
 use Rattle.time_values.specs.Sign.{signed_by}
-use Rattle.time_readers.specs.Bytes.{is_negative}
+use Rattle.time_digits.specs.Bytes.{is_negative}
 use Rattle.time_readers.specs.Places.{Stand}
-use Rattle.time_readers.specs.declared.Sign.{Sign}
+use Rattle.time_digits.specs.declared.Sign.{Sign}
 use Rattle.time_readers.specs.declared.rfc2822.Numbers.{Numbers}
 use Rattle.time_readers.specs.declared.rfc2822.Place.{Place}
 use Rattle.time_readers.specs.declared.rfc2822.Place.TheVariants.{WeekdayName, Day, DayBlanks, MonthName, MonthBlanks, Year, YearBlanks, Hour, HourColon, Minute, Second, TimeBlanks, OffsetHour, OffsetMinute, EndBlanks}
 use Rattle.time_readers.specs.Ranges.{IsWithin}
 use Rattle.time_readers.specs.Rfc2822.{Asks, HasForm, IsZone, IsSignedHour, IsOffsetMinute, IsYear, IsSecond, places, nothing_read}
-use Rattle.time_readers.proofs.Runs.{IsDigitRun-below}
+use Rattle.time_digits.proofs.Runs.{IsDigitRun-below}
 use Rattle.time_readers.proofs.KeptNumbers.{Alone, Ignores, said, said_after}
 use Rattle.time_readers.proofs.MailZones.{zone-near}
 

@@ -4,7 +4,7 @@ use Rattle.std.proofs.lemmas.Option.{same_Some, none-some, some_pair_parts}
 use Rattle.std.specs.Char.{to_ascii_lowercase}
 use Rattle.std.specs.Str.{str_to_ascii_lowercase}
 use Rattle.time_readers.specs.MailZones.{zone_hours, beside, hours_of, is_military, military_zone, short_zone, zone_literal}
-use Rattle.time_readers.proofs.CutLemmas.{take-drop}
+use Rattle.time_digits.proofs.CutLemmas.{take-drop}
 
 pub zone-three : (s : List ℕ) → 3 ≤ length s
     → zone_literal s ≡ option_map (λ hours. (hours, take (length s - 3) (drop 3 s))) (hours_of (get_or s 0 0 ∷ get_or s 1 0 ∷ get_or s 2 0 ∷ []))

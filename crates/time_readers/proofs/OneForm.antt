@@ -1,17 +1,17 @@
 -- A text has one reading by the places of RFC 3339, or one place that doesn't stand.
 use Rattle.std.proofs.Common.{◌≡◌, ℕ, ◌⊎◌, List, ◌∷◌, ◌++◌, length, refl, ap, sym, ◌∙◌, subst, inl, inr, arith, Bool, true, false, Option, Some, None}
 use Rattle.std.specs.Char.{to_ascii_lowercase}
-use Rattle.time_readers.specs.Digits.{IsFraction, fraction_nanoseconds}
-use Rattle.time_readers.specs.Bytes.{sign_byte, is_negative}
-use Rattle.time_readers.specs.declared.Sign.{Sign}
-use Rattle.time_readers.specs.declared.Sign.TheVariants.{Negative, Positive}
+use Rattle.time_digits.specs.Digits.{IsFraction, fraction_nanoseconds}
+use Rattle.time_digits.specs.Bytes.{sign_byte, is_negative}
+use Rattle.time_digits.specs.declared.Sign.{Sign}
+use Rattle.time_digits.specs.declared.Sign.TheVariants.{Negative, Positive}
 use Rattle.time_readers.specs.declared.rfc3339.Numbers.{Numbers}
 use Rattle.time_readers.specs.declared.rfc3339.Place.{Place}
 use Rattle.time_readers.specs.declared.rfc3339.Place.TheVariants.{Year, YearDash, Month, MonthDash, Day, Separator, Hour, HourColon, Minute, MinuteColon, Second, Subsecond, OffsetHour, OffsetColon, OffsetMinute}
-use Rattle.time_readers.specs.Rfc3339.{Asks, IsSubsecond, NoPointFirst, IsZulu, IsSignedHour, IsOffsetColon, IsOffsetMinute}
-use Rattle.time_readers.proofs.NameLemmas.{same_front}
-use Rattle.time_readers.proofs.NumberLemmas.{sign_byte-one}
-use Rattle.time_readers.proofs.Runs.{run_says, IsDigitRun-unique, AllDigits-unique}
+use Rattle.time_readers.specs.Rfc3339.{Asks, IsSubsecond, NoDotFirst, IsZulu, IsSignedHour, IsOffsetColon, IsOffsetMinute}
+use Rattle.time_components.proofs.NameLemmas.{same_front}
+use Rattle.time_components.proofs.NumberLemmas.{sign_byte-one}
+use Rattle.time_digits.proofs.Runs.{run_says, IsDigitRun-unique, AllDigits-unique}
 use Rattle.time_readers.proofs.OneReading.{AtMostOneEach}
 
 fraction_one : (a b x y : List ℕ) (v w : ℕ) → IsFraction a x v → IsFraction b y w → a ++ x ≡ b ++ y → (x ≡ y) × (v ≡ w)
@@ -19,8 +19,8 @@ fraction_one a b x y v w p q e =
     let is = AllDigits-unique a b x y p.digits q.digits e p.ends q.ends in
     (is.1, p.is ∙ ap fraction_nanoseconds is.0 ∙ sym q.is)
 
-point_clash : (digits x y : List ℕ) → NoPointFirst y → y ≡ 46 ∷ (digits ++ x) → ⊥
-point_clash digits x y h e = subst NoPointFirst e h refl
+point_clash : (digits x y : List ℕ) → NoDotFirst y → y ≡ 46 ∷ (digits ++ x) → ⊥
+point_clash digits x y h e = subst NoDotFirst e h refl
 
 subsecond_one : (a b x y : List ℕ) (v w : Option ℕ) → IsSubsecond a x v → IsSubsecond b y w → a ++ x ≡ b ++ y → (x ≡ y) × (v ≡ w)
 subsecond_one a b x y None None p q e = (ap (λ t. t ++ x) (sym p.0) ∙ e ∙ ap (λ t. t ++ y) q.0, refl)

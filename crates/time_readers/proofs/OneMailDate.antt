@@ -4,22 +4,22 @@ use Rattle.std.proofs.lemmas.Option.{same_Some, none-some, some_pair_parts}
 use Rattle.time_readers.specs.Readers.{Reader, IsRead}
 use Rattle.time_readers.specs.MailBlanks.{opt_cfws, opt_cfws_colon_opt_cfws, cfws}
 use Rattle.time_readers.specs.MailZones.{zone_literal}
-use Rattle.time_readers.specs.Spelling.{IsShortOf, month, weekday}
-use Rattle.time_readers.specs.Names.{month_name}
+use Rattle.time_components.specs.Spelling.{IsShortOf, month, weekday}
+use Rattle.time_components.specs.Names.{month_name}
 use Rattle.time_readers.specs.Rfc2822.{Asks, year_blanks, IsShortWeekday, IsWeekdayPart, IsYear, IsSecond, IsZone, IsSignedHour, IsOffsetMinute, year_of_two}
-use Rattle.time_readers.specs.Bytes.{sign_byte, is_negative}
+use Rattle.time_digits.specs.Bytes.{sign_byte, is_negative}
 use Rattle.time_values.specs.Sign.{signed_by}
-use Rattle.time_readers.specs.declared.Sign.{Sign}
-use Rattle.time_readers.specs.declared.format_description.Component.TheVariants as component
+use Rattle.time_digits.specs.declared.Sign.{Sign}
+use Rattle.time_components.specs.declared.format_description.Component.TheVariants as component
 use Rattle.time_values.specs.declared.month.Month.{Month}
 use Rattle.time_values.specs.declared.weekday.Weekday.{Weekday}
 use Rattle.time_readers.specs.declared.rfc2822.Numbers.{Numbers}
 use Rattle.time_readers.specs.declared.rfc2822.Place.{Place}
 use Rattle.time_readers.specs.declared.rfc2822.Place.TheVariants.{WeekdayName, Day, DayBlanks, MonthName, MonthBlanks, Year, YearBlanks, Hour, HourColon, Minute, Second, TimeBlanks, OffsetHour, OffsetMinute, EndBlanks}
-use Rattle.time_readers.proofs.NumberLemmas.{sign_byte-one}
-use Rattle.time_readers.proofs.Runs.{run_says, IsDigitRun-unique}
+use Rattle.time_components.proofs.NumberLemmas.{sign_byte-one}
+use Rattle.time_digits.proofs.Runs.{run_says, IsDigitRun-unique}
 use Rattle.time_readers.proofs.OneReading.{AtMostOneEach}
-use Rattle.time_readers.proofs.OneSpelling.{one_spelling}
+use Rattle.time_components.proofs.OneSpelling.{one_spelling}
 
 -- what follows a reader's text
 reader_one : (p : Reader) (a b x y : List ℕ) → IsRead p a x → IsRead p b y → a ++ x ≡ b ++ y → x ≡ y

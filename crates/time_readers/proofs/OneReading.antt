@@ -1,6 +1,6 @@
 -- Places have one reading or one fault, where each place has at most one cut.
 use Rattle.std.proofs.Common.{◌≡◌, ℕ, ◌⊎◌, List, [], ◌∷◌, ◌++◌, refl, sym, ◌∙◌, subst, inl, inr}
-use Rattle.time_readers.specs.Cuts.{Cut, NoCut, AtMostOneCut}
+use Rattle.time_digits.specs.Cuts.{Cut, NoCut, AtMostOneCut}
 use Rattle.time_readers.specs.Laws.{OneForm}
 use Rattle.time_readers.specs.Places.{Stand, StopsAt, Format}
 

@@ -1,12 +1,12 @@
 -- Mail dates with ranges are those without, whose numbers lie in the ranges.
 use Rattle.std.proofs.Common.{◌⊎◌, ℕ, List, [], ◌∷◌, ap, drop, subst, inl, inr, rules, Bool, true, false, Option, Some, None, IfSome, pos, unsigned_abs}
 use Rattle.time_values.specs.Sign.{signed_by}
-use Rattle.time_readers.specs.Bytes.{is_negative}
+use Rattle.time_digits.specs.Bytes.{is_negative}
 use Rattle.time_readers.specs.Laws.{RangedForms}
 use Rattle.time_readers.specs.Places.{Stand}
 use Rattle.time_readers.specs.Ranges.{IsWithin}
 use Rattle.time_readers.specs.Rfc2822.{Asks, HasForm, InRanges, IsSecond, IsZone, IsSignedHour, IsOffsetMinute, places, nothing_read}
-use Rattle.time_readers.specs.declared.Sign.{Sign}
+use Rattle.time_digits.specs.declared.Sign.{Sign}
 use Rattle.time_readers.specs.declared.rfc2822.Numbers.{Numbers}
 use Rattle.time_readers.specs.declared.rfc2822.Place.{Place}
 use Rattle.time_readers.specs.declared.rfc2822.Place.TheVariants.{WeekdayName, Day, DayBlanks, MonthName, MonthBlanks, Year, YearBlanks, Hour, HourColon, Minute, Second, TimeBlanks, OffsetHour, OffsetMinute, EndBlanks}

@@ -1,8 +1,9 @@
 -- How the answer of places follows from the answers of each.
 use Rattle.std.proofs.Common.{◌≡◌, ℕ, List, [], ◌∷◌, ◌++◌, refl, ap, sym, ◌∙◌, subst, Result, Ok, Err, Option, Some, None, Bor, append_assoc, IsErr, IsErrAnd, MatchResult}
 use Rattle.std.specs.Option.{ok_or}
-use Rattle.time_readers.specs.Cuts.{Cut, NoCut, Form}
-use Rattle.time_readers.specs.Places.{Stand, StopsAt, Steps, Reads, Walks, Format}
+use Rattle.time_digits.specs.Cuts.{Cut, NoCut, Form}
+use Rattle.time_readers.specs.Places.{Stand, StopsAt, Format}
+use Rattle.time_readers.specs.PlaceAnswers.{Steps, Reads, Walks}
 
 pub Walks-none : {P N : Type 0} (A : Format P N) (n : N) (bytes : List ℕ) (rest : Bor (List ℕ)) → rest.now ≡ bytes → Walks A [] n bytes (Ok rest) n
 unfolding Stand

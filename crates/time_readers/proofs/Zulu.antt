@@ -1,7 +1,7 @@
 -- The places after a `Z` stand, and are empty.
 use Rattle.std.proofs.Common.{◌≡◌, ℕ, List, [], ◌∷◌, refl, sym, subst, Bool, true, Ok, Bor}
-use Rattle.time_readers.specs.Cuts.{Cut}
-use Rattle.time_readers.specs.Places.{Walks}
+use Rattle.time_digits.specs.Cuts.{Cut}
+use Rattle.time_readers.specs.PlaceAnswers.{Walks}
 use Rattle.time_readers.specs.declared.rfc3339.Numbers.{Numbers}
 use Rattle.time_readers.specs.declared.rfc3339.Place.TheVariants.{OffsetHour, OffsetColon, OffsetMinute}
 use Rattle.time_readers.specs.Rfc3339.{Asks, offset_places, IsOffsetColon, IsOffsetMinute}

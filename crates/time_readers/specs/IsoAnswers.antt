@@ -4,7 +4,7 @@ use Rattle.std.specs.Borrow.{Bor}
 use Rattle.time_values.specs.Refusal.{Refusal, refusal_of_description}
 use Rattle.time_values.specs.declared.error.ParseFromDescription.{ParseFromDescription}
 use Rattle.time_readers.specs.IsoPieces.{Number, plain, fraction}
-use Rattle.time_readers.specs.declared.ParsedItem.{ParsedItem}
+use Rattle.time_digits.specs.declared.ParsedItem.{ParsedItem}
 use Rattle.time_readers.specs.declared.iso8601.ExtendedKind.{ExtendedKind}
 use Rattle.time_readers.specs.declared.iso8601.Part.{Part}
 
@@ -19,11 +19,6 @@ abbrev pub number_of : ℕ → Option (Bor (List ℕ)) → Number
 number_of whole None = plain whole
 number_of whole (Some digits) = fraction whole digits.now
 
--- the reader of a byte answers what is left
-abbrev pub Leaves : Option (List ℕ) → Option (Bor (List ℕ)) → Type 0
-Leaves found None = found ≡ None
-Leaves found (Some rest) = found ≡ Some rest.now
-
 -- the reader of a piece answers what is left, and in that view the value
 abbrev pub GivesAs : {V W : Type 0} → (V → W) → Option (List ℕ × W) → Option (ParsedItem V) → Type 0
 GivesAs view found None = found ≡ None
@@ -37,12 +32,6 @@ Gives found result = GivesAs (λ v. v) found result
 abbrev pub GivesPart : {V : Type 0} → Option (Found V) → Option (Part V) → Type 0
 GivesPart found None = found ≡ None
 GivesPart found (Some p) = found ≡ Some (record { rest = p.rest.now; value = p.value; kind = p.kind })
-
--- the reader of a form answers what is left, and in that view the value; or the fault
-abbrev pub GivesForm : {V W : Type 0} → (V → W) → Result (List ℕ × W) Refusal
-    → Result (ParsedItem V) ParseFromDescription → Type 0
-GivesForm view found (Err e) = found ≡ Err (refusal_of_description e)
-GivesForm view found (Ok p) = found ≡ Ok (p.0.now, view p.1)
 
 -- the reader of a part answers what is left, in that view the value, and the kind; or the fault
 abbrev pub GivesPartOrFault : {V W : Type 0} → (V → W) → Result (Found W) Refusal

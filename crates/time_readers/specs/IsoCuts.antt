@@ -1,10 +1,10 @@
 -- The pieces of ISO 8601 texts as relations on a text, what follows it, and what it says.
 use Rattle.std.specs.Prelude.{◌≡◌, ◌≤◌, ◌⊎◌, ◌↔◌, ℕ, ℤ, List, [], ◌∷◌, ◌++◌, length, false, Option, Some}
-use Rattle.time_readers.specs.Cuts.{Form, Cut}
-use Rattle.time_readers.specs.Digits.{AllDigits, NoDigitFirst, IsDigitRun}
+use Rattle.time_digits.specs.Cuts.{Form, Cut}
+use Rattle.time_digits.specs.Digits.{AllDigits, NoDigitFirst, IsDigitRun}
 use Rattle.time_readers.specs.IsoPieces.{Piece, Number, plain, fraction, with_sign}
-use Rattle.time_readers.specs.Spelling.{IsSigned}
-use Rattle.time_readers.specs.declared.Sign.{Sign}
+use Rattle.time_components.specs.Spelling.{IsSigned}
+use Rattle.time_digits.specs.declared.Sign.{Sign}
 
 -- what the function finds is exactly the cut
 abbrev pub IsCutOf : {V : Type 0} → Piece V → Form V → Type 0

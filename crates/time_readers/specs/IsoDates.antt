@@ -17,8 +17,8 @@ pub data IsoDate : Type 0 where
   week : ℤ → ℕ → Weekday → IsoDate
 
 -- the text of a form, or its fault
-abbrev pub Form : Type 0
-Form = Result (List ℕ × IsoDate) Refusal
+abbrev pub FormOrFault : Type 0
+FormOrFault = Result (List ℕ × IsoDate) Refusal
 
 -- what has to stand, or else that refusal
 abbrev pub need : {A B : Type 0} → Option A → Refusal → (A → Result B Refusal) → Result B Refusal
@@ -31,7 +31,7 @@ dash true bytes = byte 45 bytes
 dash false bytes = Some bytes
 
 -- a month and a day
-abbrev pub first_form : Bool → ℤ → List ℕ → Form
+abbrev pub first_form : Bool → ℤ → List ℕ → FormOrFault
 first_form extended y bytes =
     need (month bytes) (component (codes "month")) (λ m.
     need (dash extended m.0) literal (λ after.
@@ -43,7 +43,7 @@ abbrev pub second_form : ℤ → List ℕ → Option (List ℕ × IsoDate)
 second_form y bytes = option_map (λ d. (d.0, ordinal y d.1)) (positive 3 bytes)
 
 -- a week and a weekday, after the `W`
-abbrev pub third_form : Bool → ℤ → List ℕ → Form
+abbrev pub third_form : Bool → ℤ → List ℕ → FormOrFault
 third_form extended y bytes =
     need (positive 2 bytes) (component (codes "week")) (λ w.
     need (dash extended w.0) literal (λ after.
@@ -51,20 +51,20 @@ third_form extended y bytes =
     Ok (d.0, week y w.1 d.1))))
 
 -- the first form that stands; and where none does the fault of the third where a `W` stood, and else of the first
-abbrev pub first_standing : Form → Option (List ℕ × IsoDate) → Option Form → Form
+abbrev pub first_standing : FormOrFault → Option (List ℕ × IsoDate) → Option FormOrFault → FormOrFault
 first_standing (Ok a) second third = Ok a
 first_standing (Err e) (Some a) third = Ok a
 first_standing (Err e) None (Some third) = third
 first_standing (Err e) None None = Err e
 
 -- what stands after a year
-unfoldable pub forms : Bool → ℤ → List ℕ → Form
+unfoldable pub forms : Bool → ℤ → List ℕ → FormOrFault
 forms extended y bytes =
     first_standing (first_form extended y bytes) (second_form y bytes)
     (option_map (third_form extended y) (byte 87 bytes))
 
 -- the text of that kind
-abbrev pub of_kind : ExtendedKind → Form → Result (Found IsoDate) Refusal
+abbrev pub of_kind : ExtendedKind → FormOrFault → Result (Found IsoDate) Refusal
 of_kind kind (Err e) = Err e
 of_kind kind (Ok f) = Ok (record { rest = f.0; value = f.1; kind = kind })
 

@@ -1,9 +1,12 @@
+-- No public contract rests on this file.
+--
 -- What the short forms of ISO 8601 are.
 use Rattle.std.specs.Prelude.{◌≡◌, ◌≢◌, ◌≤◌, ℕ, ◌+◌, ◌*◌, ◌-◌, pos, List, true, Some, Ok}
 use Rattle.time_values.specs.declared.month.Month.{Month}
 use Rattle.time_readers.specs.IsoDates.{calendar, date_text}
 use Rattle.time_readers.specs.IsoPieces.{Number, number, numbered, months}
-use Rattle.time_readers.specs.IsoTimes.{time_text, says, any_second, hour_and_minute}
+use Rattle.time_readers.specs.IsoTimes.{time_text, says, any_second}
+use Rattle.time_readers.specs.IsoGrammar.{hour_and_minute}
 use Rattle.time_readers.specs.declared.iso8601.fast.dates.CalendarDigits.{CalendarDigits}
 use Rattle.time_readers.specs.declared.iso8601.fast.dates_and_times.FirstSixteen.{FirstSixteen}
 
@@ -21,9 +24,9 @@ AreCalendarDigits text d =
       kind = d.kind;
     })
 
--- a number that is such a second and so many nanoseconds of it
-abbrev pub IsSecond : Number → ℕ → ℕ → Type 0
-IsSecond n second nanoseconds =
+-- the number says such a second, and so many nanoseconds of it
+abbrev pub SaysSecond : Number → ℕ → ℕ → Type 0
+SaysSecond n second nanoseconds =
     (h m : ℕ) → says any_second n (hour_and_minute h m)
     ≡ Some (record { hour = h; minute = m; second = second; subsecond = nanoseconds })
 
@@ -31,7 +34,7 @@ IsSecond n second nanoseconds =
 abbrev pub IsClock : FirstSixteen → Type 0
 IsClock f =
     (n : Number) (rest : List ℕ) (s nanoseconds : ℕ) → f.hour ≤ 23
-    → number f.after.now ≡ Some (rest, n) → IsSecond n s nanoseconds
+    → number f.after.now ≡ Some (rest, n) → SaysSecond n s nanoseconds
     → time_text true f.date.kind f.date.rest.now ≡ Some (record {
       rest = rest;
       value = record { hour = f.hour; minute = f.minute; second = s; subsecond = nanoseconds };

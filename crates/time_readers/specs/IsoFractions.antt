@@ -1,6 +1,6 @@
 -- What the digits of a fraction say of a unit: n digits of value w say w * unit / 10 ^ n.
 use Rattle.std.specs.Prelude.{ℕ, ◌+◌, ◌-◌, ◌*◌, ◌/◌, ◌^◌, ◌<◌, ◌≤◌, List, length}
-use Rattle.time_readers.specs.Digits.{digits_value}
+use Rattle.time_digits.specs.Digits.{digits_value}
 
 -- the number is the fraction of the unit, cut to a whole one
 pub record IsFloor (digits : List ℕ) (unit : ℕ) (m : ℕ) : Type 0 where

@@ -7,6 +7,11 @@ use Rattle.time_readers.specs.declared.iso8601.ExtendedKind.TheVariants.{Basic, 
 abbrev pub any : ExtendedKind → Bool
 any kind = true
 
+abbrev pub is_basic : ExtendedKind → Bool
+is_basic Basic = true
+is_basic Extended = false
+is_basic Unknown = false
+
 abbrev pub not_basic : ExtendedKind → Bool
 not_basic Basic = false
 not_basic Extended = true

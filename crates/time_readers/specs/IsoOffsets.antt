@@ -1,43 +1,67 @@
--- The offset of ISO 8601.
-use Rattle.std.specs.Prelude.{ℕ, List, if◌then◌else◌, Option, Some, None, option_map, option_and_then}
-use Rattle.time_readers.specs.declared.Sign.{Sign}
+-- The offset of ISO 8601: a table of the texts that say one.
+use Rattle.std.specs.Prelude.{ℕ, List, [], ◌∷◌, Bool, ◌&&◌, is_none, Option, Some, None, option_map}
+use Rattle.time_digits.specs.declared.Sign.{Sign}
 use Rattle.time_readers.specs.declared.iso8601.ExtendedKind.{ExtendedKind}
 use Rattle.time_readers.specs.declared.iso8601.OffsetNumbers.{OffsetNumbers}
 use Rattle.time_readers.specs.declared.iso8601.OffsetNumbers.TheVariants.{Zulu, Numeric}
-use Rattle.time_readers.specs.IsoKinds.{not_basic}
+use Rattle.time_readers.specs.IsoAnswers.{Found}
+use Rattle.time_readers.specs.IsoKinds.{any, is_basic, not_basic, as_before}
 use Rattle.time_readers.specs.IsoPieces.{Piece, digits, up_to, sign, with_sign, byte}
+use Rattle.time_readers.specs.IsoRows.{Row, row, anything, no_colon, Stands, first_fitting, fitting}
 
--- a minute without a colon: where two digits stand they have to be one, and else it is 0
-abbrev pub minute_or_none : List ℕ → Option (List ℕ × ℕ) → Option (List ℕ × ℕ)
-minute_or_none bytes None = Some (bytes, 0)
-minute_or_none bytes (Some f) = up_to 59 2 bytes
+-- What stands in a text of the table: `Z`, `-` or `+`, two digits of 0 to 25, `:`, or two digits of 0 to 59.
+pub data OffsetPlace : Type 0 where
+  z : OffsetPlace
+  plus_or_minus : OffsetPlace
+  hour : OffsetPlace
+  colon : OffsetPlace
+  minute : OffsetPlace
 
--- a minute after a colon, where one stands, or without
-abbrev pub minute_after : List ℕ → Option (List ℕ) → Option (List ℕ × ℕ)
-minute_after bytes (Some after) = up_to 59 2 after
-minute_after bytes None = minute_or_none bytes (digits 2 bytes)
+-- what follows a text
+abbrev pub no_digits : List ℕ → Bool
+no_digits bytes = is_none (digits 2 bytes)
 
--- a colon, in a text that may be extended
-abbrev pub colon_of : ExtendedKind → List ℕ → Option (List ℕ)
-colon_of kind bytes = if not_basic kind then byte 58 bytes else None
+abbrev pub no_colon_no_digits : List ℕ → Bool
+no_colon_no_digits bytes = no_colon bytes && no_digits bytes
 
--- the minute of an offset, 0 where none stands
-unfoldable pub offset_minute : ExtendedKind → Piece ℕ
-offset_minute kind bytes = minute_after bytes (colon_of kind bytes)
+-- The texts of an offset, after which the kind is as before. At most one of them fits (`law_one_offset_row`).
+abbrev pub offset_rows : List (Row OffsetPlace)
+offset_rows =
+    row (z ∷ []) any anything as_before
+    ∷ row (plus_or_minus ∷ hour ∷ []) is_basic no_digits as_before
+    ∷ row (plus_or_minus ∷ hour ∷ []) not_basic no_colon_no_digits as_before
+    ∷ row (plus_or_minus ∷ hour ∷ minute ∷ []) any anything as_before
+    ∷ row (plus_or_minus ∷ hour ∷ colon ∷ minute ∷ []) not_basic anything as_before
+    ∷ []
 
--- an hour and a minute, both with the sign
-abbrev pub numeric : Sign → ℕ → ℕ → OffsetNumbers
-numeric s hour minute = Numeric (with_sign s hour) (with_sign s minute)
+-- what the places say: an offset without a sign is `Z`, and a minute that doesn't stand is 0
+pub record OffsetParts : Type 0 where
+  pub signed : Option Sign
+  pub hour : ℕ
+  pub minute : ℕ
 
--- what stands after a sign and its hour
-abbrev pub after_hour : ExtendedKind → Sign → (List ℕ × ℕ) → Option (List ℕ × OffsetNumbers)
-after_hour kind s h = option_map (λ m. (m.0, numeric s h.1 m.1)) (offset_minute kind h.0)
+abbrev pub nothing_said : OffsetParts
+nothing_said = record { signed = None; hour = 0; minute = 0 }
 
-abbrev pub offset_after : ExtendedKind → List ℕ → Option (List ℕ) → Option (List ℕ × OffsetNumbers)
-offset_after kind bytes (Some after) = Some (after, Zulu)
-offset_after kind bytes None =
-    option_and_then (λ s. option_and_then (after_hour kind s.1) (up_to 25 2 s.0)) (sign bytes)
+-- the text of a place
+abbrev pub stands : Stands OffsetPlace OffsetParts
+stands z bytes o = option_map (λ rest. (rest, o)) (byte 90 bytes)
+stands plus_or_minus bytes o = option_map (λ f. (f.0, record o { signed = Some f.1 })) (sign bytes)
+stands hour bytes o = option_map (λ f. (f.0, record o { hour = f.1 })) (up_to 25 2 bytes)
+stands colon bytes o = option_map (λ rest. (rest, o)) (byte 58 bytes)
+stands minute bytes o = option_map (λ f. (f.0, record o { minute = f.1 })) (up_to 59 2 bytes)
 
--- `Z`, or a sign, two digits of 0 to 25 and the minute
+-- the texts of all rows that fit
+abbrev pub offset_texts : ExtendedKind → List ℕ → List (Found OffsetParts)
+offset_texts = fitting stands nothing_said offset_rows
+
+-- the hour and the minute, both with the sign, or `Z`
+abbrev pub numbers_of : Option Sign → ℕ → ℕ → OffsetNumbers
+numbers_of None h m = Zulu
+numbers_of (Some s) h m = Numeric (with_sign s h) (with_sign s m)
+
+-- the text of an offset
 unfoldable pub offset_text : ExtendedKind → Piece OffsetNumbers
-offset_text kind bytes = offset_after kind bytes (byte 90 bytes)
+offset_text kind bytes =
+    option_map (λ f. (f.rest, numbers_of f.value.signed f.value.hour f.value.minute))
+    (first_fitting stands nothing_said offset_rows kind bytes)

@@ -6,11 +6,11 @@ use Rattle.time_values.specs.declared.month.Month.{Month}
 use Rattle.time_values.specs.declared.month.Month.TheVariants.{January, February, March, April, May, June, July, August, September, October, November, December}
 use Rattle.time_values.specs.declared.weekday.Weekday.{Weekday}
 use Rattle.time_values.specs.declared.weekday.Weekday.TheVariants.{Monday, Tuesday, Wednesday, Thursday, Friday, Saturday, Sunday}
-use Rattle.time_readers.specs.Bytes.{is_negative}
-use Rattle.time_readers.specs.Digits.{digits_value}
+use Rattle.time_digits.specs.Bytes.{is_negative}
+use Rattle.time_digits.specs.Digits.{digits_value}
 use Rattle.time_readers.specs.Readers.{Reader, one_of, ◌or◌}
-use Rattle.time_readers.specs.declared.Sign.{Sign}
-use Rattle.time_readers.specs.declared.Sign.TheVariants.{Negative, Positive}
+use Rattle.time_digits.specs.declared.Sign.{Sign}
+use Rattle.time_digits.specs.declared.Sign.TheVariants.{Negative, Positive}
 
 -- what is left of the bytes after a text, and what the text says
 abbrev pub Piece : Type 0 → Type 0

@@ -1,13 +1,12 @@
 -- The time of ISO 8601: a table of the texts that say one.
-use Rattle.std.specs.Prelude.{ℕ, ◌/◌, ◌%◌, List, [], ◌∷◌, ◌++◌, Bool, true, false, ◌&&◌, is_none, nat_le, nat_lt, if◌then◌else◌, Option, Some, None, option_map, option_and_then, option_to_list}
-use Rattle.std.specs.Option.{option_or}
+use Rattle.std.specs.Prelude.{ℕ, ◌/◌, ◌%◌, List, [], ◌∷◌, Bool, true, false, ◌&&◌, is_none, nat_le, nat_lt, Option, Some, None, option_map, option_and_then}
 use Rattle.time_readers.specs.declared.iso8601.ExtendedKind.{ExtendedKind}
-use Rattle.time_readers.specs.declared.iso8601.ExtendedKind.TheVariants.{Basic, Extended}
 use Rattle.time_readers.specs.declared.iso8601.TimeNumbers.{TimeNumbers}
 use Rattle.time_readers.specs.IsoAnswers.{Found}
 use Rattle.time_readers.specs.IsoFractions.{floor_of, round_of}
 use Rattle.time_readers.specs.IsoKinds.{any, not_basic, not_extended, is_extended, as_before, basic, extended, basic_where_unknown}
 use Rattle.time_readers.specs.IsoPieces.{Number, plain, fraction, number, byte}
+use Rattle.time_readers.specs.IsoRows.{Row, row, anything, no_colon, when, Stands, first_fitting, fitting}
 
 -- What stands in a text of the table. A whole hour or minute has no fraction, and a second has one or none.
 pub data Place : Type 0 where
@@ -18,31 +17,15 @@ pub data Place : Type 0 where
   any_second : Place
   colon : Place
 
--- a text of the table, the kinds before it, what may follow it, and the kind after it
-pub record Row : Type 0 where
-  pub text : List Place
-  pub before : ExtendedKind → Bool
-  pub follows : List ℕ → Bool
-  pub after : ExtendedKind → ExtendedKind
-
-abbrev pub row : List Place → (ExtendedKind → Bool) → (List ℕ → Bool) → (ExtendedKind → ExtendedKind) → Row
-row text before follows after = record { text = text; before = before; follows = follows; after = after }
-
 -- what follows a text
-abbrev pub anything : List ℕ → Bool
-anything bytes = true
-
 abbrev pub no_number : List ℕ → Bool
 no_number bytes = is_none (number bytes)
-
-abbrev pub no_colon : List ℕ → Bool
-no_colon bytes = is_none (byte 58 bytes)
 
 abbrev pub no_colon_no_number : List ℕ → Bool
 no_colon_no_number bytes = no_colon bytes && no_number bytes
 
 -- The texts of a time. At most one of them fits (`law_one_time_row`).
-abbrev pub time_rows : List Row
+abbrev pub time_rows : List (Row Place)
 time_rows =
     row (hour_and_fraction ∷ []) any anything as_before
     ∷ row (whole_hour ∷ []) any no_colon_no_number as_before
@@ -60,10 +43,6 @@ time_rows =
 abbrev pub nothing_given : TimeNumbers
 nothing_given = record { hour = 0; minute = 0; second = 0; subsecond = 0 }
 
--- a whole hour and a whole minute
-abbrev pub hour_and_minute : ℕ → ℕ → TimeNumbers
-hour_and_minute h m = record nothing_given { hour = h; minute = m }
-
 -- so many nanoseconds after an hour, and after a minute
 abbrev pub past_hour : ℕ → TimeNumbers → TimeNumbers
 past_hour n t = record t {
@@ -74,10 +53,6 @@ past_hour n t = record t {
 
 abbrev pub past_minute : ℕ → TimeNumbers → TimeNumbers
 past_minute n t = record t { second = n / 1_000_000_000; subsecond = n % 1_000_000_000 }
-
--- a value where the test holds
-abbrev pub when : {A : Type 0} → Bool → A → Option A
-when test a = if test then Some a else None
 
 -- what a number says at a place, with what those before it say; nothing where it doesn't belong there
 abbrev pub says : Place → Number → TimeNumbers → Option TimeNumbers
@@ -94,37 +69,17 @@ says any_second (fraction v d) t =
 says _ _ t = None
 
 -- the text of a place
-abbrev pub stands : Place → List ℕ → TimeNumbers → Option (List ℕ × TimeNumbers)
+abbrev pub stands : Stands Place TimeNumbers
 stands colon bytes t = option_map (λ rest. (rest, t)) (byte 58 bytes)
 stands place bytes t = option_and_then (λ f. option_map (λ u. (f.0, u)) (says place f.1 t)) (number bytes)
 
--- the texts of places one after another
-abbrev pub all_stand : List Place → List ℕ → TimeNumbers → Option (List ℕ × TimeNumbers)
-all_stand [] bytes t = Some (bytes, t)
-all_stand (p ∷ ps) bytes t = option_and_then (λ f. all_stand ps f.0 f.1) (stands p bytes t)
-
--- the text of a row
-abbrev pub fits : Row → ExtendedKind → List ℕ → Option (Found TimeNumbers)
-fits r kind bytes =
-    if r.before kind
-    then option_and_then
-    (λ f. when (r.follows f.0) (record { rest = f.0; value = f.1; kind = r.after kind }))
-    (all_stand r.text bytes nothing_given)
-    else None
-
--- the text of the first of the rows that fits
-abbrev pub first_row : List Row → ExtendedKind → List ℕ → Option (Found TimeNumbers)
-first_row [] kind bytes = None
-first_row (r ∷ rs) kind bytes = option_or (fits r kind bytes) (first_row rs kind bytes)
-
 -- the texts of all rows that fit
-abbrev pub fitting : List Row → ExtendedKind → List ℕ → List (Found TimeNumbers)
-fitting [] kind bytes = []
-fitting (r ∷ rs) kind bytes = option_to_list (fits r kind bytes) ++ fitting rs kind bytes
+abbrev pub time_texts : ExtendedKind → List ℕ → List (Found TimeNumbers)
+time_texts = fitting stands nothing_given time_rows
 
 -- the text of a time after its `T`
 unfoldable pub time_after : ExtendedKind → List ℕ → Option (Found TimeNumbers)
-time_after kind bytes = first_row time_rows kind bytes
+time_after kind bytes = first_fitting stands nothing_given time_rows kind bytes
 
 abbrev pub after_t : Bool → ExtendedKind → List ℕ → Option (List ℕ) → Option (Found TimeNumbers)
 after_t needed kind bytes (Some rest) = time_after kind rest
@@ -134,16 +89,3 @@ after_t false kind bytes None = time_after kind bytes
 -- `T`, which may be needed, and the text of a time
 abbrev pub time_text : Bool → ExtendedKind → List ℕ → Option (Found TimeNumbers)
 time_text needed kind bytes = after_t needed kind bytes (byte 84 bytes)
-
--- What private functions answer: a second, of whose number the rest and what it says are given, and what stands after
--- an hour and a minute without separators and with them.
-abbrev pub second_found : TimeNumbers → ExtendedKind → (List ℕ × Number) → Option (Found TimeNumbers)
-second_found t kind f = option_map (λ u. record { rest = f.0; value = u; kind = kind }) (says any_second f.1 t)
-
-abbrev pub basic_second : TimeNumbers → List ℕ → Option (List ℕ × Number) → Option (Found TimeNumbers)
-basic_second t bytes None = Some (record { rest = bytes; value = t; kind = Basic })
-basic_second t bytes (Some f) = second_found t Basic f
-
-abbrev pub extended_second : TimeNumbers → List ℕ → Option (List ℕ) → Option (Found TimeNumbers)
-extended_second t bytes None = Some (record { rest = bytes; value = t; kind = Extended })
-extended_second t bytes (Some after) = option_and_then (second_found t Extended) (number after)

@@ -3,30 +3,16 @@ use Rattle.std.specs.Prelude.{◌≡◌, ◌≤◌, ◌↔◌, ℕ, List, ◌∷
 use Rattle.time_values.specs.Refusal.{Refusal}
 use Rattle.time_values.specs.declared.offset_date_time.OffsetDateTime.{OffsetDateTime}
 use Rattle.time_readers.specs.Readers.{Reader, zero_or_more}
-use Rattle.time_readers.specs.declared.Padding.{Padding}
-use Rattle.time_readers.specs.Cuts.{Form, AtMostOneCut}
-use Rattle.time_readers.specs.Digits.{IsDigitRun, IsPaddedRun}
-use Rattle.time_readers.specs.Bytes.{IsSign}
+use Rattle.time_digits.specs.Cuts.{Form}
+use Rattle.time_digits.specs.Digits.{IsDigitRun}
+use Rattle.time_digits.specs.Bytes.{IsSign}
 use Rattle.time_readers.specs.IsoCuts.{IsCutOf, IsYear, IsSaid, IsNumber}
 use Rattle.time_readers.specs.IsoFractions.{IsFloor, IsRounded, floor_of, round_of}
+use Rattle.time_readers.specs.IsoOffsets.{offset_texts}
 use Rattle.time_readers.specs.IsoPieces as IsoPieces
-use Rattle.time_readers.specs.IsoTimes.{fitting, time_rows}
+use Rattle.time_readers.specs.IsoTimes.{time_texts}
 use Rattle.time_readers.specs.declared.iso8601.ExtendedKind.{ExtendedKind}
 use Rattle.time_readers.specs.Places.{Format, Stand, StopsAt}
-use Rattle.time_readers.specs.Spelling.{Spells}
-use Rattle.time_readers.specs.declared.format_description.Component.{Component}
-
--- for one input at most one cut is a run of digits
-abbrev pub OneDigitRun : Type 0
-OneDigitRun = (least most : ℕ) → AtMostOneCut (IsDigitRun least most)
-
--- for one input at most one cut is a run of digits under the padding
-abbrev pub OnePaddedRun : Type 0
-OnePaddedRun = (padding : Padding) (least most : ℕ) → AtMostOneCut (IsPaddedRun padding least most)
-
--- for one input at most one cut spells a component
-abbrev pub OneSpelling : Type 0
-OneSpelling = (whole : Bool) (c : Component) → AtMostOneCut (Spells whole c)
 
 -- the bytes have one reading by the places or one first place that doesn't stand, and never both
 pub record OneForm {P N : Type 0} (A : Format P N) (ps : List P) (start : N) (bytes : List ℕ) : Type 0 where
@@ -57,12 +43,16 @@ pub record IsoPiecesAreCuts : Type 0 where
 
 -- at most one row of the table of times fits
 abbrev pub OneTimeRow : Type 0
-OneTimeRow = (kind : ExtendedKind) (bytes : List ℕ) → length (fitting time_rows kind bytes) ≤ 1
+OneTimeRow = (kind : ExtendedKind) (bytes : List ℕ) → length (time_texts kind bytes) ≤ 1
 
--- a fraction of a unit is one number
+-- at most one row of the table of offsets fits
+abbrev pub OneOffsetRow : Type 0
+OneOffsetRow = (kind : ExtendedKind) (bytes : List ℕ) → length (offset_texts kind bytes) ≤ 1
+
+-- a fraction of a unit is a number, and that one alone
 pub record OneFraction : Type 0 where
-  pub floor : (digits : List ℕ) (unit m : ℕ) → IsFloor digits unit m → m ≡ floor_of digits unit
-  pub rounded : (digits : List ℕ) (unit m : ℕ) → IsRounded digits unit m → m ≡ round_of digits unit
+  pub floor : (digits : List ℕ) (unit m : ℕ) → IsFloor digits unit m ↔ (m ≡ floor_of digits unit)
+  pub rounded : (digits : List ℕ) (unit m : ℕ) → IsRounded digits unit m ↔ (m ≡ round_of digits unit)
 
 -- a text with ranges is one without, whose numbers lie in them
 abbrev pub RangedForms : {N : Type 0} → Form N → Form N → (N → Type 0) → Type 0

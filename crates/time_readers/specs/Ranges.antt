@@ -1,7 +1,7 @@
 -- Numbers of places, whose range is asked or not.
 use Rattle.std.specs.Prelude.{◌≤◌, ℕ, Bool, true, false}
-use Rattle.time_readers.specs.Cuts.{Form}
-use Rattle.time_readers.specs.Digits.{IsDigitRun}
+use Rattle.time_digits.specs.Cuts.{Form}
+use Rattle.time_digits.specs.Digits.{IsDigitRun}
 
 -- where a range is asked, the number lies in it
 abbrev pub IsWithin : Bool → ℕ → ℕ → ℕ → Type 0

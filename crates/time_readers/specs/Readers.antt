@@ -1,12 +1,16 @@
--- Readers as functions: from the bytes left to the rest, or nothing where the reader refuses.
+-- Readers as functions: from what is left to the rest, or nothing where the reader refuses.
 use Rattle.std.specs.Prelude.{◌≡◌, ℕ, List, [], ◌∷◌, ◌++◌, Bool, ◌==◌, if◌then◌else◌, Option, Some, None, option_and_then}
 use Rattle.std.specs.Option.{option_or}
 use Rattle.std.specs.Str.{byte}
 use Prim.Native.String.{String}
 
+-- what is left after what is read of what was there before, or nothing where the reader refuses
+abbrev pub ReaderOf : Type 0 → Type 0
+ReaderOf S = S → Option S
+
 -- what is left of the bytes after what is read of them
 abbrev pub Reader : Type 0
-Reader = List ℕ → Option (List ℕ)
+Reader = ReaderOf (List ℕ)
 
 -- one byte that the test takes
 abbrev pub one_of : (ℕ → Bool) → Reader
@@ -20,15 +24,15 @@ char x = one_of (λ c. c == byte x)
 infixr 20 ◌then◌
 infixl 15 ◌or◌
 -- the first reader, and then the second on its rest
-abbrev pub ◌then◌ : Reader → Reader → Reader
+abbrev pub ◌then◌ : {S : Type 0} → ReaderOf S → ReaderOf S → ReaderOf S
 ◌then◌ p q s = option_and_then q (p s)
 
 -- the first reader, and where it refuses the second
-abbrev pub ◌or◌ : Reader → Reader → Reader
+abbrev pub ◌or◌ : {S : Type 0} → ReaderOf S → ReaderOf S → ReaderOf S
 ◌or◌ p q s = option_or (p s) (q s)
 
 -- nothing where the reader refuses
-abbrev pub optional : Reader → Reader
+abbrev pub optional : {S : Type 0} → ReaderOf S → ReaderOf S
 optional p = p or Some
 
 -- the reader as often as it reads, at most once for each byte of the list

@@ -5,17 +5,17 @@ use Rattle.time_values.specs.Sign.{signed_by}
 use Rattle.time_values.specs.declared.month.Month.{Month}
 use Rattle.time_values.specs.declared.month.Month.TheVariants.{January}
 use Rattle.time_values.specs.declared.weekday.Weekday.{Weekday}
-use Rattle.time_readers.specs.Cuts.{Form, NoCut}
-use Rattle.time_readers.specs.Digits.{IsDigitRun}
-use Rattle.time_readers.specs.Bytes.{sign_byte, is_negative}
-use Rattle.time_readers.specs.Names.{month_name, weekday_name}
-use Rattle.time_readers.specs.Spelling.{IsShortOf}
+use Rattle.time_digits.specs.Cuts.{Form, NoCut}
+use Rattle.time_digits.specs.Digits.{IsDigitRun}
+use Rattle.time_digits.specs.Bytes.{sign_byte, is_negative}
+use Rattle.time_components.specs.Names.{month_name, weekday_name}
+use Rattle.time_components.specs.Spelling.{IsShortOf}
 use Rattle.time_readers.specs.Places.{Format, Stand, StopsAt}
 use Rattle.time_readers.specs.Ranges.{IsWithin, IsTwoDigits}
 use Rattle.time_readers.specs.Readers.{Reader, IsRead}
 use Rattle.time_readers.specs.MailBlanks.{fws, cfws, opt_cfws, opt_cfws_colon_opt_cfws}
 use Rattle.time_readers.specs.MailZones.{zone_literal}
-use Rattle.time_readers.specs.declared.Sign.{Sign}
+use Rattle.time_digits.specs.declared.Sign.{Sign}
 use Rattle.time_readers.specs.declared.rfc2822.Numbers.{Numbers}
 use Rattle.time_readers.specs.declared.rfc2822.Place.{Place}
 use Rattle.time_readers.specs.declared.rfc2822.Place.TheVariants.{WeekdayName, Day, DayBlanks, MonthName, MonthBlanks, Year, YearBlanks, Hour, HourColon, Minute, Second, TimeBlanks, OffsetHour, OffsetMinute, EndBlanks}
@@ -168,7 +168,8 @@ fault OffsetHour = component (codes "offset hour")
 fault OffsetMinute = component (codes "offset minute")
 fault _ = literal
 
--- the ranges of the numbers, which a text asks where ranges are asked
+-- The ranges of the numbers, in the order in which a text asks them where ranges are asked: each with the form of its
+-- place, before the next place. So of a text with two numbers out of range the first place is refused.
 pub record InRanges (n : Numbers) : Type 0 where
   pub day : (1 ≤ n.day) × (n.day ≤ 31)
   pub hour : (0 ≤ n.hour) × (n.hour ≤ 23)

@@ -17,6 +17,8 @@ use time_values::error::{ComponentRange, Parse, ParseFromDescription, TryFromPar
 use time_values::{Date, Month, OffsetDateTime, Time, UtcOffset};
 
 /// What a text says of a moment.
+///
+/// No call takes it or answers it. It is public since the laws of parses say what both paths make of it.
 #[derive(Clone, Copy, Debug)]
 pub struct Said {
     /// The year, 0 to 9999.

@@ -4,24 +4,9 @@ ghost use Rattle.std.specs.Prelude.{ℕ, List, Bool, true, false};
 ghost use Rattle.time_values.specs.Range.{greatest_year};
 ghost use Rattle.time_readers.specs.Direct.{IsDirectRfc3339, RefusesRfc3339, IsDirectRfc2822, RefusesRfc2822};
 ghost use Rattle.time_readers.specs.Readers.{Reader};
-ghost use Rattle.time_readers.specs.Laws.{OneDigitRun, OnePaddedRun, OneSpelling, OneForm, Takes, IsRepeated, IsoPiecesAreCuts, OneTimeRow, OneFraction, RangedForms, OneDirect};
+ghost use Rattle.time_readers.specs.Laws.{OneForm, Takes, IsRepeated, IsoPiecesAreCuts, OneTimeRow, OneOffsetRow, OneFraction, RangedForms, OneDirect};
 ghost use Rattle.time_readers.specs.Rfc2822 as rfc2822;
 ghost use Rattle.time_readers.specs.Rfc3339 as rfc3339;
-
-/// For one input at most one beginning is a run of digits, with one value.
-pub fn law_one_digit_run()
-    ensures { OneDigitRun }
-{}
-
-/// For one input at most one beginning is a run of digits under a padding, with one value.
-pub fn law_one_padded_run()
-    ensures { OnePaddedRun }
-{}
-
-/// For one input at most one beginning spells a component, with one value.
-pub fn law_one_spelling()
-    ensures { OneSpelling }
-{}
 
 /// By the places of RFC 3339 bytes have one reading, or one first place that doesn't stand, and never
 /// both.
@@ -59,7 +44,12 @@ pub fn law_one_time_row()
     ensures { OneTimeRow }
 {}
 
-/// A fraction of a unit, cut or rounded, is one number.
+/// For one input and kind at most one row of the table of offsets of ISO 8601 fits.
+pub fn law_one_offset_row()
+    ensures { OneOffsetRow }
+{}
+
+/// A fraction of a unit, cut or rounded, is a number, and that one alone.
 pub fn law_one_fraction()
     ensures { OneFraction }
 {}

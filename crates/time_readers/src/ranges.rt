@@ -1,6 +1,6 @@
 //! Numbers of places, whose range is asked or not.
 ghost use Rattle.std.specs.Prelude.{IsTrue, ◌↔◌};
-ghost use Rattle.time_readers.specs.Cuts.{Finds};
+ghost use Rattle.time_digits.specs.Cuts.{Finds};
 ghost use Rattle.time_readers.specs.Ranges.{IsTwoDigits, IsWithin};
 
 use crate::ParsedItem;

@@ -7,7 +7,7 @@ ghost use Rattle.std.specs.Prelude.{◌≡◌, MatchResult, false, option_map};
 ghost use Rattle.time_values.specs.Refusal.{refusal_of_description};
 ghost use Rattle.time_readers.specs.MailBlanks as spec;
 ghost use Rattle.time_readers.specs.MailZones.{zone_literal};
-ghost use Rattle.time_readers.specs.Places.{Reads, Walks};
+ghost use Rattle.time_readers.specs.PlaceAnswers.{Reads, Walks};
 ghost use Rattle.time_readers.specs.Rfc2822.{Asks, day_places, to_offset_places, offset_places, HasForm, FailsAt, fault};
 ghost use Rattle.time_readers.specs.declared.rfc2822.Place.TheVariants as place;
 

@@ -7,7 +7,8 @@ use Rattle.std.proofs.lemmas.List.{get_or-set_same, get_or-set_other}
 use Rattle.std.proofs.lemmas.Nat.{or_lt, and_le_l, one_shl, pow_below}
 use Rattle.std.proofs.lemmas.Nat.Bits.{bit_at_and, bit_at_set_same, bit_at_set_other, bit_at_clear_same, bit_at_clear_other, bit_at_above, bit_at-lt, bit_at-zero, same_from_bits}
 use Rattle.time_record.specs.Record.{Record}
-use Rattle.time_record.specs.Cells.{bit, build, changed, holds, InCell, is_one, IsCell, IsSound, month_in, option_at, pick, put_cell, put_flag, Reads, ReadsClock, ReadsWide, value_at, weekday_in}
+use Rattle.time_record.specs.Cells.{bit, build, InCell, is_one, IsCell, IsSound, month_in, option_at, pick, value_at, weekday_in}
+use Rattle.time_record.specs.CellAnswers.{changed, holds, put_cell, put_flag, Reads, ReadsClock, ReadsWide}
 use Rattle.time_record.specs.Inverse.{bits_back, bits_from}
 
 -- ---- a change at one index

@@ -3,8 +3,9 @@ use Rattle.std.proofs.Common.{◌≡◌, ℕ, ◌+◌, List, refl, sym, ◌∙�
 use Rattle.std.specs.Option.{option_or}
 use Rattle.time_values.specs.declared.error.ParseFromDescription.{ParseFromDescription}
 use Rattle.time_values.specs.Refusal.{refusal_of_description}
-use Rattle.time_readers.specs.Tree.{Tree, Trees, first_of, none, more}
-use Rattle.time_record.specs.Count.{Begins, BeginsFirst, Counts, CountsFirst, raised}
+use Rattle.time_components.specs.Tree.{Tree, Trees, first_of, none, more}
+use Rattle.time_record.specs.Count.{Begins, BeginsFirst, Counts, raised}
+use Rattle.time_record.specs.WalkSteps.{CountsFirst}
 use Rattle.time_record.specs.Reading.{NoReading, Reads, ReadsSome, Refuses}
 use Rattle.time_record.specs.Record.{Record}
 use Rattle.time_record.proofs.Counting.{BeginsFirst-within_places}

@@ -2,11 +2,11 @@
 use Rattle.std.proofs.Common.{◌≡◌, ℕ, zero, suc, ◌+◌, ◌-◌, ◌<◌, ◌≤◌, List, [], ◌∷◌, length, drop, get_or, map, refl, ap, sym, ◌∙◌, subst, inr, arith}
 use Rattle.std.proofs.Math.Seq.{drop-nil}
 use Rattle.time_values.specs.Refusal.{Refusal}
-use Rattle.time_readers.specs.Tree.{Tree, literal, component, trees}
-use Rattle.time_record.specs.Count.{Begins, BeginsAll, IsLeaf, raised}
+use Rattle.time_components.specs.Tree.{Tree, literal, component, trees}
+use Rattle.time_record.specs.Count.{Begins, BeginsAll, raised}
+use Rattle.time_record.specs.WalkFast.{IsLeaf, ReadsLeaves}
 use Rattle.time_record.specs.Reading.{Reads, ReadsAll, RefusesAll}
 use Rattle.time_record.specs.Record.{Record}
-use Rattle.time_record.specs.WalkFast.{ReadsLeaves}
 use Rattle.time_record.proofs.Counting.{Counted}
 use Rattle.time_record.proofs.Steps.{trees_from, trees_from-item, ReadsAll-more, RefusesAll-more, Continues}
 

@@ -1,6 +1,6 @@
 -- The bytes of a literal that is kept as steps.
 use Rattle.std.proofs.Common.{◌≡◌, ◌≢◌, ℕ, ◌-◌, ◌≤◌, List, [], ◌∷◌, ◌++◌, length, take, drop, get_or, ap, sym, ◌∙◌, arith}
-use Rattle.time_readers.proofs.CutLemmas.{first_byte}
+use Rattle.time_digits.proofs.CutLemmas.{first_byte}
 
 -- These bytes have what is left of a literal in front where those have all of it, with the same rest.
 pub record Strips (all b0 left b : List ℕ) : Type 0 where

@@ -1,6 +1,6 @@
 -- A tree begins one number of items. `Y` is the greatest year.
 use Rattle.std.proofs.Common.{◌≡◌, ℕ, List, sym, ◌∙◌, subst, inl, inr, arith}
-use Rattle.time_readers.specs.Tree.{Trees, literal, component, sequence, optional, first_of, none, more}
+use Rattle.time_components.specs.Tree.{Trees, literal, component, sequence, optional, first_of, none, more}
 use Rattle.time_record.specs.Count.{Begins, BeginsAll, BeginsFirst}
 use Rattle.time_record.specs.Record.{Record}
 use Rattle.time_record.specs.Laws.{OneCount}

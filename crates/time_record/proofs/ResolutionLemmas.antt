@@ -17,7 +17,7 @@ use Rattle.time_values.specs.Weekday.{days_from_monday}
 use Rattle.time_values.proofs.InstantLemmas.{clock_nanos_range}
 use Rattle.time_values.proofs.SameLemmas.{same_date_by_iso_week, same_date_by_ordinal, same_date_by_parts, same_date_by_week, same_moment, same_offset, same_offset_by_parts, same_time_by_clock, same_timestamp}
 use Rattle.time_record.specs.Record.{Record}
-use Rattle.time_record.specs.Resolution.{Gives, IsDated, IsInUtc, IsInstantOfParts, IsMoment, IsMomentOfParts, IsOffset, IsOffsetOr, IsOffsetOrUtc, IsPlain, IsStamped, IsTimed, IsTimestamp, IsUtcMoment, IsUtcMomentOfParts, Judged, Then, Clock, clock_of, is_leap_second, offset_part, offset_seconds_of, stand_in}
+use Rattle.time_record.specs.Resolution.{IsConstructed, IsDated, IsInUtc, IsInstantOfParts, IsMoment, IsMomentOfParts, IsOffset, IsOffsetOr, IsOffsetOrUtc, IsPlain, IsStamped, IsTimed, IsTimestamp, IsUtcMoment, IsUtcMomentOfParts, Judged, Then, Clock, clock_of, is_leap_second, offset_part, offset_seconds_of, stand_in}
 use Rattle.time_record.specs.Rows.{HasRow, IsRowDate, Row, by_iso_week, by_monday_week, by_month_and_day, by_ordinal, by_sunday_week, first_row}
 
 -- at most one value has the property
@@ -53,13 +53,13 @@ Then-one First Next one each r s (inr h) (inr k) =
     each k.0 r s (subst (λ a. Next a r) same h.2) k.2
 
 -- an answer with one value has one answer
-Gives-one : {V : Type 0} (o : Option Refusal) (P : V → Type 0) → IsOne P → IsOne (Gives o P)
-Gives-one None P one (Ok v) (Ok w) h k = ap Ok (one v w h k)
-Gives-one None P one (Ok v) (Err f) h k = absurd k
-Gives-one None P one (Err e) s h k = absurd h
-Gives-one (Some r) P one (Ok v) s h k = absurd h
-Gives-one (Some r) P one (Err e) (Ok w) h k = absurd k
-Gives-one (Some r) P one (Err e) (Err f) h k = ap Err (h ∙ sym k)
+IsConstructed-one : {V : Type 0} (o : Option Refusal) (P : V → Type 0) → IsOne P → IsOne (IsConstructed o P)
+IsConstructed-one None P one (Ok v) (Ok w) h k = ap Ok (one v w h k)
+IsConstructed-one None P one (Ok v) (Err f) h k = absurd k
+IsConstructed-one None P one (Err e) s h k = absurd h
+IsConstructed-one (Some r) P one (Ok v) s h k = absurd h
+IsConstructed-one (Some r) P one (Err e) (Ok w) h k = absurd k
+IsConstructed-one (Some r) P one (Err e) (Err f) h k = ap Err (h ∙ sym k)
 
 -- and so has an answer by an option
 MatchOption-one : {X V : Type 0} (o : Option X) (P : Result V Refusal → Type 0) (Q : X → Result V Refusal → Type 0) →
@@ -104,15 +104,15 @@ unfolding IsTimed
 IsTimed-one r =
     let refused = λ (c : Clock). time_refusal c.hour c.minute c.second c.nanosecond in
     let Shows = λ (c : Clock). HasClock c.hour c.minute c.second c.nanosecond in
-    MatchOption-one (clock_of r) (λ s. s ≡ Err insufficient) (λ c. Gives (refused c) (Shows c)) (IsThat-one (Err insufficient))
-    (λ c. Gives-one (refused c) (Shows c) (same_time_by_clock c.hour c.minute c.second c.nanosecond))
+    MatchOption-one (clock_of r) (λ s. s ≡ Err insufficient) (λ c. IsConstructed (refused c) (Shows c)) (IsThat-one (Err insufficient))
+    (λ c. IsConstructed-one (refused c) (Shows c) (same_time_by_clock c.hour c.minute c.second c.nanosecond))
 
 IsOffsetOr-one : (Missing : Result UtcOffset Refusal → Type 0) (r : Record) → IsOne Missing → IsOne (IsOffsetOr Missing r)
 IsOffsetOr-one Missing r one =
     let m = offset_part r r.offset_minute in
     let s = offset_seconds_of r in
-    MatchOption-one r.offset_hour Missing (λ h. Gives (offset_refusal h m s) (HasOffset h m s)) one
-    (λ h. Gives-one (offset_refusal h m s) (HasOffset h m s) (same_offset h m s))
+    MatchOption-one r.offset_hour Missing (λ h. IsConstructed (offset_refusal h m s) (HasOffset h m s)) one
+    (λ h. IsConstructed-one (offset_refusal h m s) (HasOffset h m s) (same_offset h m s))
 
 pub IsOffset-one : (r : Record) → IsOne (IsOffset r)
 unfolding IsOffset

@@ -1,10 +1,10 @@
 -- The trees of a row of steps, item by item.
 use Rattle.std.proofs.Common.{◌≡◌, ℕ, zero, suc, ◌-◌, ◌≤◌, List, [], ◌∷◌, length, take, drop, get_or, refl, ap, sym, ◌∙◌, arith, length-take, length-drop}
 use Rattle.std.proofs.lemmas.List.{take_all}
-use Rattle.time_readers.specs.Steps.{group_tree, further, steps_after, steps_trees, tree_at, trees_in}
-use Rattle.time_readers.specs.Tree.{Trees, none, more}
-use Rattle.time_readers.specs.declared.step.Step.{Step}
-use Rattle.time_readers.specs.declared.step.Step.TheVariants as step
+use Rattle.time_components.specs.Steps.{group_tree, further, steps_after, steps_trees, tree_at, trees_in}
+use Rattle.time_components.specs.Tree.{Trees, none, more}
+use Rattle.time_components.specs.declared.step.Step.{Step}
+use Rattle.time_components.specs.declared.step.Step.TheVariants as step
 
 same_tree : (f g : List Step → Trees) (s : Step) (behind : List Step) →
     ((steps : List Step) → length steps ≤ length behind → f steps ≡ g steps) → tree_at f s behind ≡ tree_at g s behind

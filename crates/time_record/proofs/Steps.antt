@@ -4,7 +4,7 @@ use Rattle.std.specs.Option.{option_or}
 use Rattle.std.proofs.lemmas.List.{at_drop_more, at_drop_all}
 use Rattle.time_values.specs.declared.error.ParseFromDescription.{ParseFromDescription}
 use Rattle.time_values.specs.Refusal.{Refusal, refusal_of_description}
-use Rattle.time_readers.specs.Tree.{Tree, Trees, sequence, first_of, none, more, trees}
+use Rattle.time_components.specs.Tree.{Tree, Trees, sequence, first_of, none, more, trees}
 use Rattle.time_record.specs.Reading.{HasNone, Reads, ReadsAll, ReadsSome, NoReading, IsFault, IsFaultAll, Refuses, RefusesAll}
 use Rattle.time_record.specs.Record.{Record}
 use Rattle.time_record.proofs.Unique.{Reads-unique}

@@ -1,13 +1,13 @@
 -- A tree has at most one reading of the same bytes over the same record. `Y` is the greatest year.
 use Rattle.std.proofs.Common.{◌≡◌, ℕ, List, [], ◌∷◌, ◌++◌, Bool, Some, ap, sym, ◌∙◌, subst, inl, inr}
 use Rattle.time_values.specs.Refusal.{Refusal}
-use Rattle.time_readers.specs.declared.format_description.Component.{Component}
-use Rattle.time_readers.specs.Tree.{Tree, Trees, literal, component, sequence, optional, first_of, none, more}
+use Rattle.time_components.specs.declared.format_description.Component.{Component}
+use Rattle.time_components.specs.Tree.{Tree, Trees, literal, component, sequence, optional, first_of, none, more}
 use Rattle.time_record.specs.Components.{put_value}
 use Rattle.time_record.specs.Reading.{ReadsComponent, Reads, ReadsAll, ReadsSome, IsFault, IsFaultAll, Refuses}
 use Rattle.time_record.specs.Record.{Record}
 use Rattle.time_record.specs.Laws.{HasAtMostOne}
-use Rattle.time_readers.proofs.OneSpelling.{Spells-unique}
+use Rattle.time_components.proofs.OneSpelling.{Spells-unique}
 
 same_rest : (t x y : List ℕ) → t ++ x ≡ t ++ y → x ≡ y
 same_rest [] x y e = e

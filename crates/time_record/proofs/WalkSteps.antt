@@ -1,8 +1,9 @@
 -- How the answer and the count of trees in turn follow from those of their beginnings. `Y` is the greatest year.
 use Rattle.std.proofs.Common.{◌≡◌, ℕ, ◌+◌, List, refl, ap, sym, subst, inl, inr, arith}
 use Rattle.time_values.specs.Refusal.{Refusal}
-use Rattle.time_readers.specs.Tree.{Tree, Trees, sequence, none, more}
-use Rattle.time_record.specs.Count.{Begins, BeginsAll, Counts, CountsAll, IsLeaf, places_of_all, raised}
+use Rattle.time_components.specs.Tree.{Tree, Trees, sequence, none, more}
+use Rattle.time_record.specs.Count.{Begins, BeginsAll, Counts, CountsAll, places_of_all, raised}
+use Rattle.time_record.specs.WalkFast.{IsLeaf}
 use Rattle.time_record.specs.Reading.{NoReading, Reads, ReadsAll, IsFault, Refuses, RefusesAll}
 use Rattle.time_record.specs.Record.{Record}
 use Rattle.time_record.specs.WalkSteps.{Goes}

@@ -1,10 +1,10 @@
 -- Readings that leave each character whole. `Y` is the greatest year.
 use Rattle.std.specs.Prelude.{◌≡◌, ℕ, List, false}
-use Rattle.time_readers.specs.declared.format_description.Component.{Component}
-use Rattle.time_readers.specs.declared.format_description.Component.TheVariants.{Ignore}
-use Rattle.time_readers.specs.declared.modifier.Ignore.{Ignore as Ignore'}
-use Rattle.time_readers.specs.Spelling.{BeginsCharacter}
-use Rattle.time_readers.specs.Tree.{Tree, Trees, literal, component, sequence, optional, first_of, none, more}
+use Rattle.time_components.specs.declared.format_description.Component.{Component}
+use Rattle.time_components.specs.declared.format_description.Component.TheVariants.{Ignore}
+use Rattle.time_components.specs.declared.modifier.Ignore.{Ignore as Ignore'}
+use Rattle.time_components.specs.Spelling.{BeginsCharacter}
+use Rattle.time_components.specs.Tree.{Tree, Trees, literal, component, sequence, optional, first_of, none, more}
 use Rattle.time_record.specs.Reading.{ReadsComponent, Reads, NoReading}
 use Rattle.time_record.specs.Record.{Record}
 

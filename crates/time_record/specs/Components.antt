@@ -2,11 +2,11 @@
 use Rattle.std.specs.Prelude.{ℕ, ℤ, Bool, true, false, Option, Some, None, codes}
 use Rattle.std.specs.Option.{option_map}
 use Rattle.time_values.specs.Refusal.{Refusal, component as of_component, trailing}
-use Rattle.time_readers.specs.declared.format_description.Component.{Component}
-use Rattle.time_readers.specs.declared.format_description.Component.TheVariants as component
-use Rattle.time_readers.specs.declared.format_description.Period.{Period}
-use Rattle.time_readers.specs.declared.format_description.Period.TheVariants.{Am, Pm}
-use Rattle.time_readers.specs.Spelling.{Value, number, signed, flagged, month, weekday, period}
+use Rattle.time_components.specs.declared.format_description.Component.{Component}
+use Rattle.time_components.specs.declared.format_description.Component.TheVariants as component
+use Rattle.time_components.specs.declared.format_description.Period.{Period}
+use Rattle.time_components.specs.declared.format_description.Period.TheVariants.{Am, Pm}
+use Rattle.time_components.specs.Spelling.{Value, number, signed, flagged, month, weekday, period}
 use Rattle.time_record.specs.Record.{Record, Entry, put, year_is, year_century_is, year_last_two_is, iso_year_is, iso_year_century_is, iso_year_last_two_is, month_is, sunday_week_number_is, monday_week_number_is, iso_week_number_is, weekday_is, ordinal_is, day_is, hour_24_is, hour_12_is, hour_12_is_pm_is, minute_is, second_is, subsecond_is, offset_hour_is, offset_minute_is, offset_second_is, unix_timestamp_nanos_is}
 
 -- the half of the day that begins at noon

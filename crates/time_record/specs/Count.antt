@@ -1,6 +1,6 @@
 -- How many items a reading begins, and how many there are. `Y` is the greatest year.
-use Rattle.std.specs.Prelude.{◌≡◌, ℕ, zero, suc, ◌+◌, ◌-◌, ◌^◌, ◌≤◌, ◌⊎◌, List, min}
-use Rattle.time_readers.specs.Tree.{Tree, Trees, literal, component, sequence, optional, first_of, none, more}
+use Rattle.std.specs.Prelude.{◌≡◌, ℕ, ◌+◌, ◌-◌, ◌^◌, ◌≤◌, ◌⊎◌, List, min}
+use Rattle.time_components.specs.Tree.{Tree, Trees, literal, component, sequence, optional, first_of, none, more}
 use Rattle.time_record.specs.Reading.{Reads, NoReading}
 use Rattle.time_record.specs.Record.{Record}
 
@@ -40,12 +40,6 @@ unfoldable mutual
       (k : ℕ) × Begins Y t bytes r k × (((mid : List ℕ) × (q : Record) × Reads Y t bytes r mid q × (n ≡ k))
       ⊎ (NoReading Y t bytes r × (m : ℕ) × BeginsFirst Y ts bytes r m × (n ≡ k + m)))
 
--- a literal or a component, which has nothing inside it
-abbrev pub IsLeaf : Tree → Type 0
-IsLeaf (literal t) = Unit {0}
-IsLeaf (component whole c) = Unit {0}
-IsLeaf t = ⊥
-
 -- a count and so many more, where it doesn't pass the greatest number of 64 bits
 abbrev pub raised : ℕ → ℕ → ℕ
 raised old n = old + min n (2 ^ 64 - 1 - old)
@@ -64,7 +58,3 @@ Counts Y t bytes r = Rises (Begins Y t bytes r) (places t)
 -- the same for trees in turn, which are no place themselves
 abbrev pub CountsAll : ℕ → Trees → List ℕ → Record → ℕ → ℕ → Type 0
 CountsAll Y ts bytes r = Rises (BeginsAll Y ts bytes r) (places_of_all ts)
-
--- the same for alternatives
-abbrev pub CountsFirst : ℕ → Trees → List ℕ → Record → ℕ → ℕ → Type 0
-CountsFirst Y ts bytes r = Rises (BeginsFirst Y ts bytes r) (places_of_all ts)

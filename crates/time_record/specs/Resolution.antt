@@ -25,11 +25,11 @@ parsed_seen (Ok v) = Ok v
 parsed_seen (Err e) = Err (refusal_of_parsed e)
 
 -- a value with P, or where something is refused that refusal
-abbrev pub Gives : {V : Type 0} → Option Refusal → (V → Type 0) → Result V Refusal → Type 0
-Gives None P (Ok v) = P v
-Gives None P (Err e) = ⊥
-Gives (Some r) P (Ok v) = ⊥
-Gives (Some r) P (Err e) = e ≡ r
+abbrev pub IsConstructed : {V : Type 0} → Option Refusal → (V → Type 0) → Result V Refusal → Type 0
+IsConstructed None P (Ok v) = P v
+IsConstructed None P (Err e) = ⊥
+IsConstructed (Some r) P (Ok v) = ⊥
+IsConstructed (Some r) P (Err e) = e ≡ r
 
 -- one step and then the next: the refusal of the first, or what the next makes of the value
 abbrev pub Then : {A B : Type 0} →
@@ -74,7 +74,7 @@ clock_of r = option_and_then (λ h. clock_at h r.minute r.second r.subsecond) (h
 -- the time of a record
 unfoldable pub IsTimed : Record → Result Time Refusal → Type 0
 IsTimed r result = MatchOption (clock_of r) (result ≡ Err insufficient)
-    (λ c. Gives (time_refusal c.hour c.minute c.second c.nanosecond)
+    (λ c. IsConstructed (time_refusal c.hour c.minute c.second c.nanosecond)
     (HasClock c.hour c.minute c.second c.nanosecond) result)
 
 -- a part of an offset, with the sign that its getter gives it, or 0
@@ -89,7 +89,7 @@ offset_seconds_of r = option_map_or (λ _. offset_part r r.offset_second) r.offs
 abbrev pub IsOffsetOr : (Result UtcOffset Refusal → Type 0) → Record → Result UtcOffset Refusal → Type 0
 IsOffsetOr Missing r result = MatchOption r.offset_hour (Missing result)
     (λ h. let m = offset_part r r.offset_minute in let s = offset_seconds_of r in
-    Gives (offset_refusal h m s) (HasOffset h m s) result)
+    IsConstructed (offset_refusal h m s) (HasOffset h m s) result)
 
 -- the offset of a record; without an hour the information is insufficient
 unfoldable pub IsOffset : Record → Result UtcOffset Refusal → Type 0

@@ -100,6 +100,42 @@ fn names_and_values(rt: HostRuntime) -> Result<(), Fail> {
     let around = tried_around(&count);
     assert!(rt; around.is_some());
     tried = tried.saturating_add(around.unwrap_or(0));
-    assert!(rt; tried > 10000, "{tried}");
+    assert_eq!(rt; tried, 15893);
+    Ok(())
+}
+
+#[test]
+fn groups(rt: HostRuntime) {
+    let mut tried = 0usize;
+    for text in [
+        b"[optional [[day]]]".as_slice(),
+        b"[first [[day]] [a\\]b]]".as_slice(),
+        b"[optional [[first [[hour]:[minute]] [-]]]]".as_slice(),
+    ] {
+        let around = tried_around(text);
+        assert!(rt; around.is_some(), "{}", text.escape_ascii());
+        tried = tried.saturating_add(around.unwrap_or(0));
+    }
+    assert_eq!(rt; tried, 659);
+}
+
+// That many optional items inside one another.
+fn nested(alloc: Global, levels: usize) -> Result<Vec<u8>, AllocError> {
+    let mut text = Vec::new(alloc);
+    for _ in 0..levels {
+        text.extend_from_slice(b"[optional [")?;
+    }
+    for _ in 0..levels {
+        text.extend_from_slice(b"]]")?;
+    }
+    Ok(text)
+}
+
+#[test]
+fn deep_lists(rt: HostRuntime) -> Result<(), Fail> {
+    for levels in 1..12usize {
+        let text = nested(rt.alloc(), levels)?;
+        assert!(rt; is_told(&text), "{levels} levels");
+    }
     Ok(())
 }

@@ -1,3 +1,4 @@
+mod answers;
 mod described;
 mod fronts;
 mod iso_fronts;
@@ -5,5 +6,6 @@ mod iso_texts;
 mod mail_dates;
 mod mail_fronts;
 mod short_cuts;
+mod slow_stamps;
 mod two_paths;
 mod whole_parses;

@@ -6,7 +6,7 @@ use Rattle.time_values.specs.declared.date.Date.{Date}
 use Rattle.time_values.specs.declared.time.Time.{Time}
 use Rattle.time_values.specs.declared.utc_offset.UtcOffset.{UtcOffset}
 use Rattle.time_values.specs.Calendar.{IsBetween, years_before, day_limit}
-use Rattle.time_values.specs.Lengths.{IsNear}
+use Rattle.time_values.specs.MovedClocks.{IsNear}
 use Rattle.time_values.specs.Range.{greatest_year}
 use Rattle.time_values.specs.Dates.{day_number}
 use Rattle.time_values.specs.Times.{nanos_of_day}

@@ -18,6 +18,7 @@ use Rattle.time_values.specs.Dates.{ordinal, day_number, weekday, weekdays_so_fa
 use Rattle.time_values.specs.DateRefusals.{IsIsoDate, IsIsoDay}
 use Rattle.time_values.specs.Times.{HasClock, nanos_of_day}
 use Rattle.time_values.specs.Offsets.{HasOffset}
+use Rattle.time_values.specs.Sign.{HasOneSign}
 use Rattle.time_values.specs.Instants.{IsInstant, clock_nanos}
 use Rattle.time_values.proofs.YearLemmas.{year_start-next, days_of_years_closed, closed_mono}
 use Rattle.time_values.proofs.MonthLemmas.{days_of_months_closed}
@@ -159,6 +160,7 @@ same_offset_by_parts a b h m s = λ i. record {
   hours_in = is_prop→PathP (λ j. IsBetween (neg_ℤ (pos 25)) (pos 25) (h j)) (λ j. hlevel props) a.hours_in b.hours_in i;
   minutes_in = is_prop→PathP (λ j. IsBetween (neg_ℤ (pos 59)) (pos 59) (m j)) (λ j. hlevel props) a.minutes_in b.minutes_in i;
   seconds_in = is_prop→PathP (λ j. IsBetween (neg_ℤ (pos 59)) (pos 59) (s j)) (λ j. hlevel props) a.seconds_in b.seconds_in i;
+  one_sign = is_prop→PathP (λ j. HasOneSign (h j) (m j) (s j)) (λ j. hlevel props) a.one_sign b.one_sign i;
 }
 
 pub same_offset : (h m s : ℤ) (a b : UtcOffset) → HasOffset h m s a → HasOffset h m s b → a ≡ b

@@ -5,7 +5,3 @@ use Rattle.time_values.specs.Calendar.{IsBetween}
 -- that many nanoseconds have whole seconds, rounded towards 0, of 64 bits
 abbrev pub IsLength : ℤ → Type 0
 IsLength n = IsBetween (neg_ℤ (pos 9_223_372_036_854_775_808_999_999_999)) (pos 9_223_372_036_854_775_807_999_999_999) n
-
--- that many nanoseconds since 1970 are some that a clock can show, at any offset
-abbrev pub IsNear : ℤ → Type 0
-IsNear n = IsBetween (neg_ℤ (pos 32_000_000_000_000_000_000_000)) (pos 32_000_000_000_000_000_000_000) n

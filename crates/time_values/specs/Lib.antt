@@ -6,6 +6,7 @@ pub mod Dates
 pub mod Durations
 pub mod Instants
 pub mod Moments
+pub mod MovedClocks
 pub mod Lengths
 pub mod Month
 pub mod Offsets

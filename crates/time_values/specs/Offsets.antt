@@ -1,5 +1,5 @@
 -- What contracts see of an offset from UTC.
-use Rattle.std.specs.Prelude.{◌≡◌, ◌⊎◌, false, nat_le, if◌then◌else◌, Option, Some, None, codes, ℤ, pos, ◌+ℤ◌, ◌*ℤ◌, ◌≤ℤ◌, unsigned_abs}
+use Rattle.std.specs.Prelude.{◌≡◌, false, nat_le, if◌then◌else◌, Option, Some, None, codes, ℤ, pos, ◌+ℤ◌, ◌*ℤ◌, unsigned_abs}
 use Rattle.time_values.specs.declared.utc_offset.UtcOffset.{UtcOffset}
 use Rattle.time_values.specs.Refusal.{Refusal, range}
 use Rattle.time_values.specs.Sign.{same_sign}
@@ -29,12 +29,6 @@ offset_refusal h m s =
     if nat_le (unsigned_abs h) 25 then (if nat_le (unsigned_abs m) 59
     then (if nat_le (unsigned_abs s) 59 then None else Some (range (codes "seconds") false))
     else Some (range (codes "minutes") false)) else Some (range (codes "hours") false)
-
--- no part has another sign than another
-abbrev pub HasOneSign : UtcOffset → Type 0
-HasOneSign o =
-    ((pos 0 ≤ℤ hours o) × (pos 0 ≤ℤ minutes o) × (pos 0 ≤ℤ seconds o))
-    ⊎ ((hours o ≤ℤ pos 0) × (minutes o ≤ℤ pos 0) × (seconds o ≤ℤ pos 0))
 
 -- the refusal of a whole offset in seconds
 abbrev pub whole_offset_refusal : ℤ → Option Refusal

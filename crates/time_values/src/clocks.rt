@@ -1,7 +1,7 @@
 //! What clocks with other offsets show.
 ghost use Rattle.std.specs.Prelude.{◌≡◌, IfSome, IfNone, pos, neg_ℤ};
 ghost use Rattle.time_values.specs.Calendar.{IsBetween};
-ghost use Rattle.time_values.specs.Clocks.{moved_clock, other_clock};
+ghost use Rattle.time_values.specs.MovedClocks.{moved_clock, other_clock};
 ghost use Rattle.time_values.specs.Instants.{IsInstant};
 ghost use Rattle.time_values.specs.Moments.{utc_instant};
 ghost use Rattle.time_values.specs.Range.{greatest_year};

@@ -1,5 +1,6 @@
 ghost use Rattle.std.specs.Prelude.{◌≡◌, ◌↔◌, IsTrue, pos, ◌+ℤ◌, ◌-ℤ◌, ◌*ℤ◌, ◌<ℤ◌};
-ghost use Rattle.time_values.specs.Lengths.{IsLength, IsNear};
+ghost use Rattle.time_values.specs.Lengths.{IsLength};
+ghost use Rattle.time_values.specs.MovedClocks.{IsNear};
 
 /// A length of time, in nanoseconds of either sign. Its whole seconds have 64 bits.
 #[derive(Clone, Copy, Debug, PartialEq, Eq, PartialOrd, Ord, Hash)]

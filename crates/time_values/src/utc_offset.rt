@@ -13,12 +13,13 @@ pub struct UtcOffset {
     pub ghost hours_in: { IsBetween (neg_ℤ (pos 25)) (pos 25) hours },
     pub ghost minutes_in: { IsBetween (neg_ℤ (pos 59)) (pos 59) minutes },
     pub ghost seconds_in: { IsBetween (neg_ℤ (pos 59)) (pos 59) seconds },
+    pub ghost one_sign: { Sign.HasOneSign hours minutes seconds },
 }
 
 impl UtcOffset {
     ghost use Rattle.time_values.specs.Refusal.{Constructs};
     ghost use Rattle.time_values.specs.Offsets as Offsets;
-    ghost use Rattle.time_values.specs.Offsets.{HasOffset, HasOneSign, offset_refusal, offset_seconds, whole_offset_refusal};
+    ghost use Rattle.time_values.specs.Offsets.{HasOffset, offset_refusal, offset_seconds, whole_offset_refusal};
 
     /// UTC itself, an offset of 0.
     pub const UTC: UtcOffset = UtcOffset {
@@ -73,7 +74,7 @@ impl UtcOffset {
     /// The offset of that many seconds, whose parts have one sign. Refused as `seconds` outside -93599 to 93599.
     pub fn from_whole_seconds(seconds: i32) -> Result<UtcOffset, ComponentRange>
         ensures { Constructs (whole_offset_refusal seconds)
-            (λ o. (offset_seconds o ≡ seconds) × HasOneSign o) result }
+            (λ o. offset_seconds o ≡ seconds) result }
     {
         if seconds < -93_599 || seconds > 93_599 {
             return Err(ComponentRange {
@@ -87,8 +88,7 @@ impl UtcOffset {
     // The offset of that many seconds.
     fn at_seconds(seconds: i32) -> UtcOffset
         requires { IsBetween (neg_ℤ (pos 93_599)) (pos 93_599) seconds }
-        ensures value { offset_seconds result ≡ seconds }
-        ensures sign { HasOneSign result }
+        ensures { offset_seconds result ≡ seconds }
     {
         let magnitude = seconds.unsigned_abs();
         let hours = (magnitude / 3600) as i8;

@@ -3,11 +3,12 @@
 //! What `request` answers is what `cut_request` finds, field by field. `None`: not this form.
 ghost use Rattle.std.specs.Prelude.{ℕ, List, IfSome};
 ghost use Rattle.time_values.specs.Range.{greatest_year};
-ghost use Rattle.time_lines.specs.Formats as formats;
-ghost use Rattle.time_lines.specs.Lines.{BeginsNamed};
-ghost use Rattle.time_lines.specs.Output.{IsAnswer, IsParsed};
+ghost use Rattle.time_answers.specs.Formats as formats;
+ghost use Rattle.time_answers.specs.Output.{IsParsed};
+ghost use Rattle.time_lines.specs.Pieces.{BeginsNamed};
+ghost use Rattle.time_lines.specs.Output.{IsAnswer};
 
-use crate::formats::{Format, Target};
+use time_answers::formats::{Format, Target};
 
 // The format whose name and TAB the line begins with, and what stands after them. `None`: not this form.
 #[inline(always)]

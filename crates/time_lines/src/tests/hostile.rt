@@ -1,10 +1,11 @@
 //! Lines at the ends of the range of years, and every refusal that the program may meet.
 use super::{BUFFER, NEVER, Page, answer, make_source};
-use crate::serving::{Stop, run, serve, serve_in};
+use crate::serving::{run, serve, serve_in};
 use linked_list_allocator::LocalHeap;
 use std::alloc::{AllocError, Global};
 use std::io;
 use std::test::Fail;
+use time_answers::Stop;
 
 // The first moment of the years of four digits, and the first that there is.
 const RANGE_ENDS: [(&str, &str, &str, &str); 7] = [

@@ -1,6 +1,6 @@
 -- A description has one answer to a text over a record. `Y` is the greatest year.
 use Rattle.std.specs.Prelude.{ℕ}
-use Rattle.time_readers.specs.Tree.{Tree}
+use Rattle.time_components.specs.Tree.{Tree}
 use Rattle.time_record.specs.Reading.{Reads, Refuses}
 use Rattle.time_record.proofs.Unique.{Reads-unique, Refuses-unique, Reads-unrefused}
 use Rattle.time_parsing.specs.Outcome.{IsExact}

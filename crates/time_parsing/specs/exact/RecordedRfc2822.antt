@@ -14,9 +14,9 @@ use Rattle.time_values.proofs.NumberLemmas.{same_month}
 use Rattle.time_values.specs.declared.error.Parse.{Parse}
 use Rattle.time_readers.specs.Direct.{DirectRfc2822, IsDirectRfc2822, RefusesRfc2822, said_rfc2822, first_refusal}
 use Rattle.time_readers.specs.Rfc2822.{InRanges}
-use Rattle.time_readers.specs.declared.Sign.{Sign}
+use Rattle.time_digits.specs.declared.Sign.{Sign}
 use Rattle.time_readers.specs.declared.rfc2822.Numbers.{Numbers}
-use Rattle.time_readers.proofs.EachValue.{each_month}
+use Rattle.time_components.proofs.EachValue.{each_month}
 use Rattle.time_readers.proofs.MailRanges.{HasForm-in_places, HasForm-zone}
 use Rattle.time_readers.proofs.RangedMail.{ranged_mail}
 use Rattle.time_record.specs.Record.{Record, empty, put_all, day_is, month_is, year_is}

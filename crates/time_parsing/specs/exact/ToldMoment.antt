@@ -23,7 +23,7 @@ use Rattle.time_readers.specs.Direct.{shown_second, shown_nanosecond, date_refus
 use Rattle.time_readers.specs.declared.direct.Said.{Said}
 use Rattle.time_record.specs.Record.{Record}
 use Rattle.time_record.specs.Resolution as Resolution
-use Rattle.time_record.specs.Resolution.{Gives, Clock, clock_of, is_leap_second, stand_in, offset_part, offset_seconds_of, IsDated, IsTimed, IsOffset, IsMomentOfParts, IsStamped}
+use Rattle.time_record.specs.Resolution.{IsConstructed, Clock, clock_of, is_leap_second, stand_in, offset_part, offset_seconds_of, IsDated, IsTimed, IsOffset, IsMomentOfParts, IsStamped}
 use Rattle.time_record.specs.Rows.{Row, by_month_and_day, first_row, HasRow, IsRowDate}
 
 -- what is said of the clock
@@ -49,11 +49,11 @@ or-none (Some r) b e = absurd (cc)
 leap_told : (r : Record) (s : Said) → is_leap_second r ≡ (s.second == 60) → IsTrue (is_leap_second r) → s.second ≡ 60
 leap_told r s same leap = eqb-true s.second 60 (sym same ∙ leap)
 
-accepted : {V : Type 0} (o : Option Refusal) (P : V → Type 0) (v : V) → o ≡ None → P v → Gives o P (Ok v)
-accepted o P v none is = subst (λ x. Gives x P (Ok v)) (sym none) is
+accepted : {V : Type 0} (o : Option Refusal) (P : V → Type 0) (v : V) → o ≡ None → P v → IsConstructed o P (Ok v)
+accepted o P v none is = subst (λ x. IsConstructed x P (Ok v)) (sym none) is
 
 -- what is refused nothing
-pub given : {V : Type 0} (o : Option Refusal) (P : V → Type 0) (v : V) → Gives o P (Ok v) → (o ≡ None) × P v
+pub given : {V : Type 0} (o : Option Refusal) (P : V → Type 0) (v : V) → IsConstructed o P (Ok v) → (o ≡ None) × P v
 given None P v h = (refl, h)
 given (Some e) P v h = absurd h
 
@@ -75,7 +75,8 @@ of_date r row d e h = subst (λ x. DatedBy x d) e h
 -- the time of a clock
 abbrev ClockGives : Clock → Time → Type 0
 ClockGives c t =
-    Gives (time_refusal c.hour c.minute c.second c.nanosecond) (HasClock c.hour c.minute c.second c.nanosecond) (Ok t)
+    IsConstructed (time_refusal c.hour c.minute c.second c.nanosecond)
+    (HasClock c.hour c.minute c.second c.nanosecond) (Ok t)
 
 abbrev TimedBy : Option Clock → Time → Type 0
 TimedBy clock t = MatchOption clock (◌≡◌ {A = Result Time Refusal} (Ok t) (Err insufficient)) (λ c. ClockGives c t)
@@ -90,7 +91,7 @@ of_time r c t e h = subst (λ x. TimedBy x t) e h
 
 -- the offset of its parts
 abbrev OffsetGives : ℤ → ℤ → ℤ → UtcOffset → Type 0
-OffsetGives h m s o = Gives (offset_refusal h m s) (HasOffset h m s) (Ok o)
+OffsetGives h m s o = IsConstructed (offset_refusal h m s) (HasOffset h m s) (Ok o)
 
 abbrev OffsetBy : Option ℤ → ℤ → ℤ → UtcOffset → Type 0
 OffsetBy hour m s o =

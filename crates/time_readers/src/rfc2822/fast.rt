@@ -4,16 +4,16 @@
 //! comment begins with a byte above `(`.
 ghost use Rattle.std.specs.Prelude.{IfSome, MatchOption, Some, ◌≡◌, ◌∷◌, [], map, false};
 ghost use Rattle.time_readers.specs.Block.{AllWithin, pair_at};
-ghost use Rattle.time_readers.specs.Cuts.{Cut};
+ghost use Rattle.time_digits.specs.Cuts.{Cut};
 ghost use Rattle.time_readers.specs.MailBlanks as spec;
 ghost use Rattle.time_readers.specs.Places.{Stand};
 ghost use Rattle.time_readers.specs.Rfc2822.{Asks, to_offset_places, offset_places};
 ghost use Rattle.time_readers.specs.declared.rfc2822.Place.TheVariants as place;
 
-use crate::combinator::{block, sign};
+use crate::combinator::sign;
 use crate::ranges::is_in_range;
 use crate::rfc2822::{Numbers, grammar};
-use crate::{ParsedItem, component};
+use crate::{ParsedItem, block, component};
 use std::simd::prelude::*;
 
 // The least and the greatest byte at each of the first sixteen places, as of ` Jan 2021 03:04:`.

@@ -2,9 +2,9 @@
 ghost use Rattle.std.specs.Prelude.{◌≡◌, ◌≤◌, false, option_map, pos};
 ghost use Rattle.std.specs.Option.{option_copied};
 ghost use Rattle.time_values.specs.Sign.{signed_by};
-ghost use Rattle.time_readers.specs.Bytes.{is_negative};
+ghost use Rattle.time_digits.specs.Bytes.{is_negative};
 ghost use Rattle.time_readers.specs.MailBlanks as spec;
-ghost use Rattle.time_readers.specs.Places.{Reads, Walks};
+ghost use Rattle.time_readers.specs.PlaceAnswers.{Reads, Walks};
 ghost use Rattle.time_readers.specs.Rfc2822 as Rfc2822;
 ghost use Rattle.time_readers.specs.Rfc2822.{Asks, IsSilent, month_places, time_places, to_offset_places, offset_places};
 ghost use Rattle.time_readers.specs.declared.rfc2822.Numbers.{Numbers};

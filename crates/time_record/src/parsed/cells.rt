@@ -6,7 +6,8 @@
 ghost use Rattle.std.specs.Prelude.{◌≡◌, true, false, ◌≤◌, ◌<◌, ◌^◌, ◌&&◌, ℕ, IfSome};
 ghost use Rattle.time_values.specs.Range.{greatest_year};
 ghost use Rattle.time_record.specs.Record.{InRange, unix_timestamp_nanos_is};
-ghost use Rattle.time_record.specs.Cells.{bit, changed, holds, InCell, put_cell, put_flag, Reads};
+ghost use Rattle.time_record.specs.Cells.{bit, InCell};
+ghost use Rattle.time_record.specs.CellAnswers.{changed, holds, put_cell, put_flag, Reads};
 
 use crate::Parsed;
 

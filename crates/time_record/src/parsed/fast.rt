@@ -4,13 +4,13 @@
 //! `None`: not this form, and the record is as it was. Then the item's walk decides.
 ghost use Rattle.std.specs.Prelude.{false, true};
 ghost use Rattle.time_values.specs.Range.{greatest_year};
-ghost use Rattle.time_readers.specs.Tree as tree;
+ghost use Rattle.time_components.specs.Tree as tree;
 ghost use Rattle.time_record.specs.Record.{Record};
 ghost use Rattle.time_record.specs.WalkFast.{MayRead};
 
 use crate::Parsed;
-use time_readers::Component;
-use time_readers::component::fast;
+use time_components::Component;
+use time_components::component::fast;
 
 /// Reads one of the commonest components, and puts its value. `None`: not this form, and the record is as it was.
 #[inline(always)]

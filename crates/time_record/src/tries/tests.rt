@@ -1,6 +1,6 @@
 //! A count that is as great as it can be.
 use crate::{Parsed, Tries};
-use time_readers::BorrowedFormatItem;
+use time_components::BorrowedFormatItem;
 use time_values::error::ParseFromDescription;
 
 #[test]

@@ -1,17 +1,16 @@
 //! A leaf in front of a list, read with no call.
 ghost use Rattle.std.specs.Prelude.{◌≡◌, ◌∷◌, [], IfSome};
 ghost use Rattle.time_values.specs.Range.{greatest_year};
-ghost use Rattle.time_readers.specs.Steps.{further, steps_after, steps_trees, tree_at};
-ghost use Rattle.time_record.specs.Count.{IsLeaf};
-ghost use Rattle.time_readers.specs.Tree.{literal};
+ghost use Rattle.time_components.specs.Steps.{further, steps_after, steps_trees, tree_at};
+ghost use Rattle.time_record.specs.WalkFast.{IsLeaf, MayRead};
+ghost use Rattle.time_components.specs.Tree.{literal};
 ghost use Rattle.time_record.specs.Record.{Record};
-ghost use Rattle.time_record.specs.WalkFast.{MayRead};
 
 use super::steps::further_byte;
 use crate::Parsed;
 use crate::format_item::{Inspect, Node};
 use crate::parsed::fast;
-use time_readers::Step;
+use time_components::Step;
 
 /// Reads an item that has nothing inside it, and answers the rest that the walk would. `None`: not this form, and the
 /// record is as it was.

@@ -1,17 +1,17 @@
 //! The walk over the steps of a description that was read from a text.
 ghost use Rattle.std.specs.Prelude.{◌≡◌, ◌≢◌, ◌-◌, ◌≤◌, ◌++◌, ◌∷◌, [], ℕ, List, length, drop, MatchOption};
 ghost use Rattle.time_values.specs.Range.{greatest_year};
-ghost use Rattle.time_readers.specs.Steps as steps_;
-ghost use Rattle.time_readers.specs.Steps.{steps_shape, steps_trees, tree_at};
-ghost use Rattle.time_readers.specs.Tree.{first_of, optional, sequence, literal};
+ghost use Rattle.time_components.specs.Steps as steps_;
+ghost use Rattle.time_components.specs.Steps.{steps_shape, steps_trees, tree_at};
+ghost use Rattle.time_components.specs.Tree.{first_of, optional, sequence, literal};
 ghost use Rattle.time_record.specs.Answer.{Answers};
-ghost use Rattle.time_record.specs.Count.{Counts, CountsAll, CountsFirst};
+ghost use Rattle.time_record.specs.Count.{Counts, CountsAll};
+ghost use Rattle.time_record.specs.WalkSteps.{CountsFirst, Goes, IsFurther};
 ghost use Rattle.time_record.specs.Record.{Record};
-ghost use Rattle.time_record.specs.WalkSteps.{Goes, IsFurther};
 
 use super::fast;
 use crate::{Parsed, Tries};
-use time_readers::{Group, Step};
+use time_components::{Group, Step};
 use time_values::error::ParseFromDescription;
 
 /// Reads the steps in front of the input as a list, and counts it and the items inside it that are begun.

@@ -1,20 +1,9 @@
 //! The readers of the components.
+use super::answers;
 use std::num::NonZero;
 use time_readers::component::*;
 use time_readers::{Padding, ParsedItem, Period, SubsecondDigits, TrailingInput, modifier};
 use time_values::{Month, Weekday};
-
-// The answer is that value with that rest, or none.
-fn answers<T: PartialEq + Copy>(
-    answer: Option<ParsedItem<'_, T>>,
-    wanted: Option<(T, &[u8])>,
-) -> bool {
-    match (answer, wanted) {
-        (Some(found), Some(value)) => found.1 == value.0 && found.0 == value.1,
-        (None, None) => true,
-        _ => false,
-    }
-}
 
 #[test]
 fn components(rt: HostRuntime) {

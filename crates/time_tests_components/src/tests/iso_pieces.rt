@@ -1,22 +1,11 @@
 //! The pieces of ISO 8601 texts, and their kinds.
+use super::answers;
 use time_readers::ParsedItem;
 use time_readers::iso8601::{
     DateNumbers, ExtendedKind, date, day, dayk, dayo, float, hour, min, month, week, year,
 };
 use time_values::error::ParseFromDescription;
 use time_values::{Month, Weekday};
-
-// The answer is that value with that rest, or none.
-fn answers<T: PartialEq + Copy>(
-    answer: Option<ParsedItem<'_, T>>,
-    wanted: Option<(T, &[u8])>,
-) -> bool {
-    match (answer, wanted) {
-        (Some(found), Some(value)) => found.1 == value.0 && found.0 == value.1,
-        (None, None) => true,
-        _ => false,
-    }
-}
 
 #[test]
 fn iso_pieces_of_dates(rt: HostRuntime) {

@@ -1,95 +1,12 @@
-//! Texts of RFC 3339 with each byte at each place up to the second, which are read at once.
-use std::num::NonZero;
+//! Texts of RFC 3339 with each byte at each place, beside a slow reader.
+use super::answers::{Format, Numbers, TEXTS, both_ways, numbers};
+use super::slow_stamps::{moment, tail};
+use std::ops::Range;
 use std::test::Fail;
 use time_parsing::{Parsable, Rfc3339};
 use time_readers::{direct, rfc3339};
 use time_record::Parsed;
-use time_values::error::{ComponentRange, Parse, ParseFromDescription, TryFromParsed};
-use time_values::{Date, Month, OffsetDateTime, Time, UtcOffset};
-
-// The bytes that have to stand.
-const BYTES: [(usize, u8); 4] = [(4, b'-'), (7, b'-'), (13, b':'), (16, b':')];
-
-// Where the digits of each number begin and end, the least number that has the form, the least and the
-// greatest in its range, and the name of its refusal.
-const NUMBERS: [(usize, usize, u32, u32, u32, &str); 6] = [
-    (0, 4, 0, 0, 9999, "year"),
-    (5, 7, 1, 1, 12, "month"),
-    (8, 10, 0, 1, 31, "day"),
-    (11, 13, 0, 0, 23, "hour"),
-    (14, 16, 0, 0, 59, "minute"),
-    (17, 19, 0, 0, 60, "second"),
-];
-
-// The number that the bytes say, if each is a digit.
-fn number(text: &[u8], begin: usize, end: usize) -> Option<u32> {
-    let mut number = 0_u32;
-    for byte in text.get(begin..end)? {
-        if !byte.is_ascii_digit() {
-            return None;
-        }
-        number = number
-            .wrapping_mul(10)
-            .wrapping_add(u32::from(byte.wrapping_sub(b'0')));
-    }
-    Some(number)
-}
-
-// How a text is refused of which one place at most doesn't stand, with the ranges or by its form alone.
-fn fault(text: &[u8], ranged: bool) -> Option<ParseFromDescription> {
-    for (at, byte) in BYTES {
-        if text.get(at) != Some(&byte) {
-            return Some(ParseFromDescription::InvalidLiteral);
-        }
-    }
-    for (begin, end, least_form, least, greatest, name) in NUMBERS {
-        let (least, greatest) = if ranged {
-            (least, greatest)
-        } else {
-            (least_form, 9999)
-        };
-        match number(text, begin, end) {
-            Some(number) if least <= number && number <= greatest => {}
-            _ => return Some(ParseFromDescription::InvalidComponent(name)),
-        }
-    }
-    None
-}
-
-// The two digits, or 0 where they don't stand.
-fn pair(text: &[u8], begin: usize) -> u8 {
-    match number(text, begin, begin.saturating_add(2)) {
-        Some(number) => u8::try_from(number).unwrap_or(0),
-        None => 0,
-    }
-}
-
-// The moment that the numbers say, of which the calendar may refuse one. A leap second is one of UTC.
-fn moment_of(
-    text: &[u8],
-    nanosecond: u32,
-    offset: UtcOffset,
-) -> Result<OffsetDateTime, ComponentRange> {
-    let year = i32::try_from(number(text, 0, 4).unwrap_or(0)).unwrap_or(0);
-    let month = NonZero::<u8>::new(pair(text, 5)).unwrap_or(NonZero::<u8>::MIN);
-    let month = Month::from_number(month)?;
-    let day = pair(text, 8);
-    let date = Date::from_calendar_date(year, month, day)?;
-    let (hour, minute, second) = (pair(text, 11), pair(text, 14), pair(text, 17));
-    if second != 60 {
-        let time = Time::from_hms_nano(hour, minute, second, nanosecond)?;
-        return Ok(OffsetDateTime::new_in_offset(date, time, offset));
-    }
-    let time = Time::from_hms_nano(hour, minute, 59, 999_999_999)?;
-    let ends_month = Date::from_calendar_date(year, month, day.saturating_add(1)).is_err();
-    if (hour, minute, ends_month) != (23, 59, true) {
-        return Err(ComponentRange {
-            name: "second",
-            conditional: true,
-        });
-    }
-    Ok(OffsetDateTime::new_in_offset(date, time, offset))
-}
+use time_values::error::ParseFromDescription;
 
 // How the places of the text refuse it.
 fn refusal<const RANGED: bool>(text: &[u8]) -> Option<ParseFromDescription> {
@@ -99,56 +16,58 @@ fn refusal<const RANGED: bool>(text: &[u8]) -> Option<ParseFromDescription> {
     }
 }
 
-// The text is read as place by place: directly, over an empty record, and by its places alone.
-fn is_right(text: &[u8], nanosecond: u32, offset: UtcOffset) -> bool {
-    let (in_range, in_form) = (fault(text, true), fault(text, false));
-    let moment = match moment_of(text, nanosecond, offset) {
-        Ok(moment) => Ok(moment),
-        Err(e) => Err(Parse::TryFromParsed(TryFromParsed::ComponentRange(e))),
-    };
-    let wanted = match in_form {
-        Some(fault) => Err(fault.into()),
-        None => moment,
-    };
-    let wanted_over_a_record = match in_range {
-        Some(fault) => Err(fault.into()),
-        None => moment,
-    };
-    direct::rfc3339(text) == wanted
-        && Rfc3339.parse_offset_date_time(text, None) == wanted
-        && Rfc3339.parse_offset_date_time(text, Some(Parsed::new())) == wanted_over_a_record
-        && refusal::<true>(text) == in_range
-        && refusal::<false>(text) == in_form
+// The text is read as the slow reader does: directly, over an empty record, and by its places alone.
+fn is_right(text: &[u8]) -> bool {
+    let directly = moment(text, false);
+    let staged = Rfc3339.parse_offset_date_time(text, Some(Parsed::new()));
+    numbers(direct::rfc3339(text)) == directly
+        && numbers(Rfc3339.parse_offset_date_time(text, None)) == directly
+        && numbers(staged) == moment(text, true)
+        && refusal::<true>(text) == tail(text, true).err()
+        && refusal::<false>(text) == tail(text, false).err()
 }
 
-// Three texts, and what stands behind their seconds: the nanosecond, and the hours and minutes of the offset.
-const TEXTS: [(&[u8], u32, i8, i8); 3] = [
-    (b"1985-04-12T23:20:50.52Z", 520_000_000, 0, 0),
-    (b"1990-12-31T23:59:60Z", 0, 0, 0),
-    (
-        b"9999-12-31T23:59:59.999999999-23:59",
-        999_999_999,
-        -23,
-        -59,
-    ),
+// The place and the byte there with which the text is not read so.
+fn wrong_byte(text: &[u8], places: Range<usize>) -> Result<Option<(usize, u8)>, Fail> {
+    for place in places {
+        let mut changed = [b' '; 35];
+        let changed = changed.get_mut(..text.len()).ok_or("length")?;
+        changed.copy_from_slice(text);
+        for byte in 0..=u8::MAX {
+            *changed.get_mut(place).ok_or("place")? = byte;
+            if !is_right(changed) {
+                return Ok(Some((place, byte)));
+            }
+        }
+    }
+    Ok(None)
+}
+
+// The slow reader gives the answers of the table.
+#[test]
+fn slow_stamps(rt: HostRuntime) {
+    for (format, text, wanted) in &TEXTS {
+        let said = (moment(text, false), moment(text, true));
+        let is_stamp = *format == Format::Stamp;
+        assert!(rt; !is_stamp || said == both_ways(*wanted), "{text:?}");
+    }
+}
+
+const WHOLE: [&[u8]; 4] = [
+    b"1985-04-12T23:20:50.52Z",
+    b"1990-12-31T23:59:60Z",
+    b"1990-12-31T15:59:60-08:00",
+    b"9999-12-31T23:59:59.999999999-23:59",
 ];
+
+// Where the second ends.
+const SECOND_END: usize = 19;
 
 #[test]
 fn fronts(rt: HostRuntime) -> Result<(), Fail> {
-    for (text, nanosecond, hours, minutes) in TEXTS {
-        let offset = UtcOffset::from_hms(hours, minutes, 0)?;
-        for place in 0..19_usize {
-            let mut changed = [b' '; 35];
-            let changed = changed.get_mut(..text.len()).ok_or("length")?;
-            changed.copy_from_slice(text);
-            for byte in 0..=u8::MAX {
-                *changed.get_mut(place).ok_or("place")? = byte;
-                assert!(rt;
-                    is_right(changed, nanosecond, offset),
-                    "{text:?} {place} {byte}"
-                );
-            }
-        }
+    for text in WHOLE {
+        let wrong = wrong_byte(text, 0..SECOND_END)?;
+        assert!(rt; wrong == None, "{text:?} {wrong:?}");
     }
     Ok(())
 }
@@ -185,18 +104,18 @@ const TAILS: [(&[u8], Option<(u32, i8, i8)>); 24] = [
 ];
 
 // The nanosecond of a moment, and the hours and minutes of its offset.
-fn behind_second(moment: Result<OffsetDateTime, Parse>) -> Option<(u32, i8, i8)> {
-    let moment = moment.ok()?;
-    let (hours, minutes, _) = moment.offset().as_hms();
-    Some((moment.time().nanosecond(), hours, minutes))
+fn behind_second(numbers: Numbers) -> (u32, i8, i8) {
+    let (_, (_, _, _, nanosecond), (hours, minutes, _)) = numbers;
+    (nanosecond, hours, minutes)
 }
 
 #[test]
 fn tails(rt: HostRuntime) -> Result<(), Fail> {
     for (text, wanted) in TAILS {
-        let over_a_record = Rfc3339.parse_offset_date_time(text, Some(Parsed::new()));
-        assert!(rt; behind_second(direct::rfc3339(text)) == wanted, "{text:?}");
-        assert!(rt; behind_second(over_a_record) == wanted, "{text:?}");
+        let slow = moment(text, false).ok().map(behind_second);
+        assert!(rt; slow == wanted && is_right(text), "{text:?}");
+        let wrong = wrong_byte(text, SECOND_END..text.len())?;
+        assert!(rt; wrong == None, "{text:?} {wrong:?}");
     }
     Ok(())
 }

@@ -1,5 +1,7 @@
-//! The mail dates of RFC 2822: whole texts, and their blanks, comments and zone names.
+//! The mail dates of RFC 2822 over records, their places, and their blanks, comments and zone names.
+use super::answers::{Answer, Format, is_answered};
 use std::alloc::{AllocError, Global};
+use std::num::NonZero;
 use std::test::Fail;
 use time_parsing::{Parsable, Rfc2822};
 use time_readers::rfc2822::{
@@ -7,158 +9,21 @@ use time_readers::rfc2822::{
 };
 use time_readers::{Component, Padding, ParsedItem, modifier};
 use time_record::Parsed;
-use time_values::error::{Parse, ParseFromDescription, TryFromParsed};
-use time_values::{Date, Month, OffsetDateTime, Time, UtcOffset, Weekday};
+use time_values::error::{Parse, ParseFromDescription};
+use time_values::{Month, Time, Weekday};
 
-// The moment of the text, read over an empty record.
-fn staged(text: &[u8]) -> Result<OffsetDateTime, Parse> {
-    Rfc2822.parse_offset_date_time(text, Some(Parsed::new()))
-}
-
-// The text is refused so.
-fn is_refused(text: &[u8], refusal: ParseFromDescription) -> bool {
-    staged(text) == Err(Parse::ParseFromDescription(refusal))
-}
-
-// The day of January 2021 at 03:04, in UTC.
-fn january(day: u8) -> Result<OffsetDateTime, Fail> {
-    let date = Date::from_calendar_date(2021, Month::January, day)?;
-    let time = Time::from_hms_nano(3, 4, 0, 0)?;
-    Ok(OffsetDateTime::new_in_offset(date, time, UtcOffset::UTC))
-}
-
-// The first of January of the year at midnight, in UTC.
-fn new_year(year: i32) -> Result<OffsetDateTime, Fail> {
-    let date = Date::from_calendar_date(year, Month::January, 1)?;
-    let midnight = Time::from_hms_nano(0, 0, 0, 0)?;
-    Ok(OffsetDateTime::new_in_offset(date, midnight, UtcOffset::UTC))
-}
-
-const TRAILING: ParseFromDescription = ParseFromDescription::UnexpectedTrailingCharacters;
-
-const LITERAL: ParseFromDescription = ParseFromDescription::InvalidLiteral;
-
-const DAY: ParseFromDescription = ParseFromDescription::InvalidComponent("day");
-
-const MONTH: ParseFromDescription = ParseFromDescription::InvalidComponent("month");
-
-const YEAR: ParseFromDescription = ParseFromDescription::InvalidComponent("year");
-
-const HOUR: ParseFromDescription = ParseFromDescription::InvalidComponent("hour");
-
-const MINUTE: ParseFromDescription = ParseFromDescription::InvalidComponent("minute");
-
-const SECOND: ParseFromDescription = ParseFromDescription::InvalidComponent("second");
-
-const OFFSET_HOUR: ParseFromDescription = ParseFromDescription::InvalidComponent("offset hour");
-
-const OFFSET_MINUTE: ParseFromDescription = ParseFromDescription::InvalidComponent("offset minute");
-
-const REFUSED: [(&[u8], ParseFromDescription); 9] = [
-    (b"1 Jan 99 00:00 J", OFFSET_HOUR),
-    (b"1 Jan 99 00:00 Z (x)", OFFSET_HOUR),
-    (b"Mon 02 Jan 2021 03:04 +0000", LITERAL),
-    (b"1 Jan 2021(x)03:04 GMT", LITERAL),
-    (b"1 Jan 2021 \r\n03:04 GMT", LITERAL),
-    (b"1 Jan 2021 03:04 -2600", OFFSET_HOUR),
-    (b"0 Jan 2021 03:04 GMT", DAY),
-    (b"32 Jan 2021 03:04 GMT", DAY),
-    (b"1 Jan 99 00:00 Zx", TRAILING),
-];
-
-#[test]
-fn mail_dates(rt: HostRuntime) -> Result<(), Fail> {
-    let first_of_1999 = new_year(1999)?;
-    let first_of_2021 = january(1)?;
-    for (text, moment) in [
-        (b"1 Jan 99 00:00 Z".as_slice(), first_of_1999),
-        (b"1 Jan 99 00:00 UT", first_of_1999),
-        (b"1 Jan 21(x)03:04 GMT", first_of_2021),
-        (b"1 Jan 2021\r\n 03:04 GMT", first_of_2021),
-    ] {
-        assert!(rt; staged(text) == Ok(moment), "{text:?}");
-    }
-    for (text, refusal) in REFUSED {
-        assert!(rt; is_refused(text, refusal), "{text:?}");
-    }
-    Ok(())
-}
-
-#[test]
-fn mail_dates_far_from_utc(rt: HostRuntime) -> Result<(), Fail> {
-    let far = UtcOffset::from_hms(-25, 0, 0)?;
-    let in_utc = january(1)?;
-    let there = OffsetDateTime::new_in_offset(in_utc.date(), in_utc.time(), far);
-    assert!(rt; staged(b"1 Jan 2021 03:04 -2500") == Ok(there));
-    let farther = UtcOffset::from_hms(25, 59, 0)?;
-    assert!(rt; Rfc2822.parse_offset(b"1 Jan 2021 03:04 +2559", None) == Ok(farther));
-    let half_hour = UtcOffset::from_hms(0, -30, 0)?;
-    assert!(rt; Rfc2822.parse_offset(b"1 Jan 2021 03:04 -0030", None) == Ok(half_hour));
-    Ok(())
-}
-
-#[test]
-fn mail_dates_of_leap_seconds(rt: HostRuntime) -> Result<(), Fail> {
-    let date = Date::from_calendar_date(2016, Month::December, 31)?;
-    let last = Time::from_hms_nano(23, 59, 59, 999_999_999)?;
-    let moment = OffsetDateTime::new_in_offset(date, last, UtcOffset::UTC);
-    assert!(rt; staged(b"31 Dec 2016 23:59:60 GMT") == Ok(moment));
-    let refused = match staged(b"30 Dec 2016 23:59:60 GMT") {
-        Err(Parse::TryFromParsed(TryFromParsed::ComponentRange(range))) => {
-            range.name == "second" && range.conditional
-        }
-        _ => false,
-    };
-    assert!(rt; refused);
-    Ok(())
-}
-
-const SHORT_YEARS: [(&[u8], i32); 5] = [
-    (b"1 Jan 00 00:00 GMT", 2000),
-    (b"1 Jan 49 00:00 GMT", 2049),
-    (b"1 Jan 50 00:00 GMT", 1950),
-    (b"1 Jan 1900 00:00 GMT", 1900),
-    (b"1 Jan 9999 00:00 GMT", 9999),
-];
-
-#[test]
-fn mail_dates_of_short_years(rt: HostRuntime) -> Result<(), Fail> {
-    for (text, year) in SHORT_YEARS {
-        let moment = new_year(year)?;
-        assert!(rt; staged(text) == Ok(moment));
-    }
-    for (text, refusal) in [
-        (b"1 Jan 1899 00:00 GMT".as_slice(), YEAR),
-        (b"1 Jan 9 00:00 GMT", YEAR),
-        (b"1 Jan 199 00:00 GMT", LITERAL),
-    ] {
-        assert!(rt; is_refused(text, refusal), "{text:?}");
-    }
-    Ok(())
-}
-
-#[test]
-fn mail_dates_with_weekdays(rt: HostRuntime) -> Result<(), Fail> {
-    let second_of_january = january(2)?;
-    for text in [
-        b"Mon, 02 Jan 2021 03:04 GMT".as_slice(),
-        b" (x)sAt,2 jAN 2021 03 : 04 gmt",
-    ] {
-        assert!(rt; staged(text) == Ok(second_of_january), "{text:?}");
-    }
-    for (text, refusal) in [
-        (b"Mot, 02 Jan 2021 03:04 GMT".as_slice(), DAY),
-        (b"Monday, 02 Jan 2021 03:04 GMT", LITERAL),
-    ] {
-        assert!(rt; is_refused(text, refusal), "{text:?}");
-    }
+// A record of a negative offset of five hours, with the sign that was read.
+fn negative_offset() -> Result<Parsed, Fail> {
     let mut record = Parsed::new();
-    let read = Rfc2822.parse_into(b"Mon, 02 Jan 2021 03:04 GMT", &mut record);
-    assert!(rt; read.is_ok());
-    assert!(rt; (record.weekday(), record.second()) == (Some(Weekday::Monday), None));
-    Ok(())
+    let hour = Component::OffsetHour(modifier::OffsetHour {
+        padding: Padding::Zero,
+        sign_is_mandatory: false,
+    });
+    record.parse_component(b"-05", hour)?;
+    Ok(record)
 }
 
+// A number keeps the second of the defaults and none keeps their sign.
 #[test]
 fn mail_dates_over_defaults(rt: HostRuntime) -> Result<(), Fail> {
     let seconds = Parsed::new().with_second(7).ok_or("second")?;
@@ -167,80 +32,29 @@ fn mail_dates_over_defaults(rt: HostRuntime) -> Result<(), Fail> {
         .ok_or("offset second")?;
     let time = Time::from_hms_nano(3, 4, 7, 0)?;
     assert!(rt; Rfc2822.parse_time(b"1 Jan 2021 03:04 GMT", Some(seconds)) == Ok(time));
-    let offset = UtcOffset::from_hms(0, 30, 15)?;
-    assert!(rt; Rfc2822.parse_offset(b"1 Jan 2021 03:04 +0030", Some(seconds)) == Ok(offset));
-    let utc = Rfc2822.parse_offset(b"1 Jan 2021 03:04 GMT", Some(seconds));
-    assert!(rt; utc == Ok(UtcOffset::UTC));
+    let signed = negative_offset()?;
+    for (text, defaults, wanted) in [
+        (b"1 Jan 2021 03:04 +2559".as_slice(), None, (25, 59, 0)),
+        (b"1 Jan 2021 03:04 -0030", None, (0, -30, 0)),
+        (b"1 Jan 2021 03:04 +0030", Some(seconds), (0, 30, 15)),
+        (b"1 Jan 2021 03:04 GMT", Some(seconds), (0, 0, 0)),
+        (b"1 Jan 2021 03:04 +0030", Some(signed), (0, 30, 0)),
+    ] {
+        let offset = Rfc2822.parse_offset(text, defaults)?;
+        assert!(rt; offset.as_hms() == wanted, "{text:?}");
+    }
     Ok(())
 }
 
 #[test]
-fn mail_dates_forget_the_sign_of_the_defaults(rt: HostRuntime) -> Result<(), Fail> {
-    let mut signed = Parsed::new();
-    let hour = Component::OffsetHour(modifier::OffsetHour {
-        padding: Padding::Zero,
-        sign_is_mandatory: false,
-    });
-    let rest = signed.parse_component(b"-05", hour)?;
-    assert!(rt; rest.is_empty());
-    let half_hour = UtcOffset::from_hms(0, 30, 0)?;
-    assert!(rt; Rfc2822.parse_offset(b"1 Jan 2021 03:04 +0030", Some(signed)) == Ok(half_hour));
-    Ok(())
-}
-
-#[test]
-fn mail_dates_refused_keep_the_record(rt: HostRuntime) {
-    let mut parsed = Parsed::new();
-    assert!(rt; parsed.set_month(Month::March).is_some());
-    assert!(rt;
-        Rfc2822
-            .parse_into(b"1 Jan 2021 03:04 +0060", &mut parsed)
-            .is_err()
-    );
-    assert!(rt; parsed.month() == Some(Month::March));
-    assert!(rt; parsed.day().is_none());
-}
-
-const FAILED_PLACES: [(&[u8], ParseFromDescription); 13] = [
-    (b"", DAY),
-    (b"x Jan 2021 03:04 GMT", DAY),
-    (b"1Jan 2021 03:04 GMT", LITERAL),
-    (b"1 Jxn 2021 03:04 GMT", MONTH),
-    (b"1 Jan2021 03:04 GMT", LITERAL),
-    (b"1 Jan x 03:04 GMT", YEAR),
-    (b"1 Jan 202103:04 GMT", LITERAL),
-    (b"1 Jan 2021 24:00 GMT", HOUR),
-    (b"1 Jan 2021 3:04 GMT", HOUR),
-    (b"1 Jan 2021 03.04 GMT", LITERAL),
-    (b"1 Jan 2021 03:60 GMT", MINUTE),
-    (b"1 Jan 2021 03:04:61 GMT", SECOND),
-    (b"1 Jan 2021 03:04: GMT", SECOND),
-];
-
-#[test]
-fn mail_places_that_fail(rt: HostRuntime) {
-    for (text, refusal) in FAILED_PLACES {
-        assert!(rt; is_refused(text, refusal), "{text:?}");
-    }
-}
-
-const FAILED_OFFSETS: [(&[u8], ParseFromDescription); 9] = [
-    (b"1 Jan 2021 03:04GMT", LITERAL),
-    (b"1 Jan 2021 03:04:05+0000", LITERAL),
-    (b"1 Jan 2021 03:04 XYZ", OFFSET_HOUR),
-    (b"1 Jan 2021 03:04 0000", OFFSET_HOUR),
-    (b"1 Jan 2021 03:04 +2600", OFFSET_HOUR),
-    (b"1 Jan 2021 03:04 +0060", OFFSET_MINUTE),
-    (b"1 Jan 2021 03:04 +00", OFFSET_MINUTE),
-    (b"1 Jan 2021 03:04 +0000 x", TRAILING),
-    (b"1 Jan 2021 03:04 +00000", TRAILING),
-];
-
-#[test]
-fn mail_places_that_fail_in_the_offset(rt: HostRuntime) {
-    for (text, refusal) in FAILED_OFFSETS {
-        assert!(rt; is_refused(text, refusal), "{text:?}");
-    }
+fn mail_dates_into_a_record(rt: HostRuntime) {
+    let mut record = Parsed::new();
+    let read = Rfc2822.parse_into(b"Mon, 02 Jan 2021 03:04 GMT", &mut record);
+    assert!(rt; read.is_ok());
+    assert!(rt; (record.weekday(), record.second()) == (Some(Weekday::Monday), None));
+    let refused = Rfc2822.parse_into(b"1 Jun 2021 03:04 +0060", &mut record);
+    assert!(rt; refused.is_err());
+    assert!(rt; (record.month(), record.day()) == (Some(Month::January), NonZero::<u8>::new(2)));
 }
 
 #[test]
@@ -371,12 +185,16 @@ fn with_blanks(alloc: Global, part: &[u8], times: usize) -> Result<Vec<u8>, Allo
 
 #[test]
 fn long_mail_dates(rt: HostRuntime) -> Result<(), Fail> {
-    let folded = with_blanks(rt.alloc(), b"\r\n ", 100_000)?;
-    assert!(rt; staged(&folded) == Ok(january(1)?));
-    let commented = with_blanks(rt.alloc(), b"(a)", 100_000)?;
-    assert!(rt; staged(&commented) == Ok(january(1)?));
-    let opened = with_blanks(rt.alloc(), b"(", 100_000)?;
-    assert!(rt; is_refused(&opened, HOUR));
+    let moment = Answer::Moment((2021, Month::January, 1), (3, 4, 0, 0), (0, 0));
+    let hour = Parse::ParseFromDescription(ParseFromDescription::InvalidComponent("hour"));
+    for (part, wanted) in [
+        (b"\r\n ".as_slice(), moment),
+        (b"(a)", moment),
+        (b"(", Answer::Refused(hour, hour)),
+    ] {
+        let text = with_blanks(rt.alloc(), part, 100_000)?;
+        assert!(rt; is_answered(Format::Mail, &text, wanted), "{part:?}");
+    }
     Ok(())
 }
 

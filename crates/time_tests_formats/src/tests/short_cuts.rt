@@ -1,38 +1,7 @@
-//! Mail dates with a CR at each place of a blank, and the blanks before each byte.
-use std::test::Fail;
-use time_parsing::{Parsable, Rfc2822};
+//! Mail dates by the short cuts of their blanks, and the blanks before each byte.
+use super::answers::{Format, TEXTS, is_answered};
 use time_readers::ParsedItem;
 use time_readers::rfc2822::{cfws, fws, opt_cfws, opt_cfws_colon_opt_cfws};
-use time_record::Parsed;
-use time_values::error::{Parse, ParseFromDescription};
-
-const LITERAL: ParseFromDescription = ParseFromDescription::InvalidLiteral;
-
-const DAY: ParseFromDescription = ParseFromDescription::InvalidComponent("day");
-
-const MINUTE: ParseFromDescription = ParseFromDescription::InvalidComponent("minute");
-
-const SECOND: ParseFromDescription = ParseFromDescription::InvalidComponent("second");
-
-const TRAILING: ParseFromDescription = ParseFromDescription::UnexpectedTrailingCharacters;
-
-// A mail date with a CR in place of one of its blanks, and its refusal.
-const CARRIAGE_RETURNS: [(&[u8], ParseFromDescription); 14] = [
-    (b"\rSat, 02 Jan 2021 03 : 04 : 05 +0000 ", DAY),
-    (b" Sat,\r02 Jan 2021 03 : 04 : 05 +0000 ", DAY),
-    (b" Sat, 02\rJan 2021 03 : 04 : 05 +0000 ", LITERAL),
-    (b" Sat, 02 Jan\r2021 03 : 04 : 05 +0000 ", LITERAL),
-    (b" Sat, 02 Jan 2021\r03 : 04 : 05 +0000 ", LITERAL),
-    (b" Sat, 02 Jan 21\r03 : 04 : 05 +0000 ", LITERAL),
-    (b" Sat, 02 Jan 2021 03\r: 04 : 05 +0000 ", LITERAL),
-    (b" Sat, 02 Jan 2021 03 :\r04 : 05 +0000 ", MINUTE),
-    (b" Sat, 02 Jan 2021 03 : 04\r: 05 +0000 ", LITERAL),
-    (b" Sat, 02 Jan 2021 03 : 04 :\r05 +0000 ", SECOND),
-    (b" Sat, 02 Jan 2021 03 : 04 : 05\r+0000 ", LITERAL),
-    (b" Sat, 02 Jan 2021 03 : 04\r+0000 ", LITERAL),
-    (b" Sat, 02 Jan 2021 03 : 04 : 05 +0000\r", TRAILING),
-    (b" Sat, 02 Jan 2021 03 : 04 : 05 +0000 \r", TRAILING),
-];
 
 // How many bytes are left behind what is read.
 fn left(answer: Option<ParsedItem<'_, ()>>) -> Option<usize> {
@@ -62,15 +31,10 @@ fn takes_nothing(byte: u8) -> bool {
 }
 
 #[test]
-fn short_cuts(rt: HostRuntime) -> Result<(), Fail> {
-    for (text, refusal) in CARRIAGE_RETURNS {
-        let refused = Err(Parse::ParseFromDescription(refusal));
-        assert!(rt;
-            Rfc2822.parse_offset_date_time(text, None) == refused,
-            "{text:?}"
-        );
-        let staged = Rfc2822.parse_offset_date_time(text, Some(Parsed::new()));
-        assert!(rt; staged == refused, "{text:?}");
+fn short_cuts(rt: HostRuntime) {
+    for (format, text, wanted) in &TEXTS {
+        let is_mail = *format == Format::Mail;
+        assert!(rt; !is_mail || is_answered(*format, text, *wanted), "{text:?}");
     }
     for byte in 0..=u8::MAX {
         assert!(rt;
@@ -80,5 +44,4 @@ fn short_cuts(rt: HostRuntime) -> Result<(), Fail> {
         let is_blank = byte == b' ' || byte == b'\t';
         assert!(rt; is_blank || takes_nothing(byte), "{byte}");
     }
-    Ok(())
 }

@@ -1,5 +1,5 @@
 //! The callers that each `CALLING.md` shows, and their contracts.
-ghost use Rattle.std.specs.Prelude.{ℕ, List, [], Ok, IfOk, IfSome};
+ghost use Rattle.std.specs.Prelude.{ℕ, List, [], Ok, IfOk, IfSome, true};
 ghost use Rattle.time_values.specs.DateRefusals.{calendar_date_refusal};
 ghost use Rattle.time_values.specs.Dates as Dates;
 ghost use Rattle.time_values.specs.Moments.{plain_date, plain_time};
@@ -7,9 +7,10 @@ ghost use Rattle.time_values.specs.Month.{month_number};
 ghost use Rattle.time_values.specs.Range.{greatest_year};
 ghost use Rattle.time_values.specs.Refusal.{Constructs};
 ghost use Rattle.time_values.specs.Times.{HasClock};
-ghost use Rattle.time_readers.specs.Cuts.{Cut};
-ghost use Rattle.time_readers.specs.Digits.{IsDigitRun};
-ghost use Rattle.time_readers.specs.Shape.{borrowed_shape};
+ghost use Rattle.time_digits.specs.Cuts.{Cut};
+ghost use Rattle.time_digits.specs.Digits.{IsDigitRun};
+ghost use Rattle.time_components.specs.Shape.{borrowed_shape};
+ghost use Rattle.time_readers.specs.Rfc3339.{HasForm};
 ghost use Rattle.time_record.specs.Reading.{Reads};
 ghost use Rattle.time_record.specs.Record.{Record, empty, put, year_is};
 ghost use Rattle.time_record.specs.Resolution.{IsDated};
@@ -17,9 +18,11 @@ ghost use Rattle.time_parsing.specs.Outcome.{IsOutcome, begun, seen};
 
 use std::convert::TryFrom;
 use std::test::Fail;
+use time_components::{BorrowedFormatItem, Component, Padding, modifier};
+use time_digits::ParsedItem;
+use time_digits::combinator::exactly_n_digits;
 use time_parsing::{Parsable, Rfc3339};
-use time_readers::combinator::exactly_n_digits;
-use time_readers::{BorrowedFormatItem, Component, Padding, ParsedItem, modifier};
+use time_readers::rfc3339::{Numbers, Place, read};
 use time_record::Parsed;
 use time_values::error::{ComponentRange, Parse, ParseFromDescription};
 use time_values::{Date, Month, PlainDateTime, Time};
@@ -58,11 +61,27 @@ fn hour_and_minute(input: &[u8]) -> Option<ParsedItem<'_, (u32, u32)>>
 }
 
 #[test]
-fn callers_of_readers(rt: HostRuntime) {
+fn callers_of_digits(rt: HostRuntime) {
     let found = hour_and_minute(b"0930x").expect(&rt, "an hour and a minute");
     assert!(rt; found.1 == (9, 30));
     assert!(rt; found.0 == b"x".as_slice());
     assert!(rt; hour_and_minute(b"093").is_none());
+}
+
+// The numbers of a moment of RFC 3339 in front of a text, and the unread rest, or the first place that fails.
+fn numbers(input: &[u8]) -> Result<(Numbers, &[u8]), Place>
+    ensures { IfOk result (λ found. HasForm true input.now found.1.now found.0) }
+{
+    let found = read::<true>(input)?;
+    Ok((found.1, found.0))
+}
+
+#[test]
+fn callers_of_readers(rt: HostRuntime) {
+    let found = numbers(b"2021-01-02T03:04:05Z, and more").expect(&rt, "a moment");
+    assert!(rt; found.0.day == 2);
+    assert!(rt; found.1 == b", and more".as_slice());
+    assert!(rt; numbers(b"2021-01-02T25:04:05Z").is_err());
 }
 
 // The date of a text that the description reads whole.

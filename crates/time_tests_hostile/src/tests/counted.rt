@@ -87,7 +87,7 @@ struct Watched<'b> {
 }
 
 impl AnyFormatItem for Watched<'_> {
-    ghost use Rattle.time_readers.specs.Shape.{borrowed_shape};
+    ghost use Rattle.time_components.specs.Shape.{borrowed_shape};
 
     ghost shape = { λ w. borrowed_shape w.item };
 

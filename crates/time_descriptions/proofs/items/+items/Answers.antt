@@ -1,12 +1,12 @@
-use Rattle.std.proofs.Common.{◌≡◌, ℕ, suc, ◌+◌, ◌-◌, ◌<◌, ◌≤◌, List, [], ◌∷◌, ◌++◌, length, true, false, ap, sym, ◌∙◌, inr, append-nil, length-append, arith}
+use Rattle.std.proofs.Common.{◌≡◌, ℕ, suc, ◌+◌, ◌-◌, ◌<◌, ◌≤◌, List, [], ◌∷◌, ◌++◌, length, true, false, refl, ap, sym, ◌∙◌, inr, append-nil, length-append, arith}
 use Rattle.std.proofs.lemmas.Grind.{common_steps}
 use Rattle.std.specs.Prelude.{slice_set}
-use Rattle.time_readers.specs.declared.step.Group.TheVariants as groups
-use Rattle.time_readers.specs.declared.step.Step.{Step}
-use Rattle.time_readers.specs.declared.step.Step.TheVariants as step
-use Rattle.time_descriptions.specs.Grammar.{ends, item, list_by}
+use Rattle.time_components.specs.declared.step.Group.TheVariants as groups
+use Rattle.time_components.specs.declared.step.Step.{Step}
+use Rattle.time_components.specs.declared.step.Step.TheVariants as step
+use Rattle.time_descriptions.specs.Grammar.{ends, inside_by, item, list_by}
 use Rattle.time_descriptions.specs.Items.{flat, group, items_of, steps_of}
-use Rattle.time_descriptions.proofs.Adding.{at_end, at_fault, at_item, at_last, at_list, at_list_fault, before_none, closed_length, closed_steps, deeper, fault_on, group_ends, more_room, next_steps, not_ended, not_inside, not_opened, plain_item, shorter_of, too_deep}
+use Rattle.time_descriptions.proofs.Adding.{at_end, at_fault, at_item, at_lack, at_last, at_list, at_list_fault, at_list_lack, group_lacks, list_lacking, no_more, same_count, before_none, closed_length, closed_steps, deeper, fault_on, group_ends, more_room, next_steps, no_room, not_ended, not_inside, not_opened, plain_item, shorter_of, too_deep}
 use Rattle.time_descriptions.proofs.items.+items.Goals as goal
 
 pub add_group-returns-in-Err : goal.add_group-returns-in-Err
@@ -23,7 +23,12 @@ add_group-returns-in-Err-add_inside g t c =
       length-append c.args.steps.now.items
           (step.Group c.args.group 0 ∷ []),
     ) in
-    fault_on _ _ _ _ _ _ c.in-Err-add_inside.ensures h
+    let begun : length c.open_group.new.steps.items ≡ length c.args.steps.now.items + 1 =
+    omega (arith, ap length c.in_ok-index-in-Ok.ensures.ok.1, length-append c.args.steps.now.items (step.Group c.args.group 0 ∷ [])) in
+    let read = item c.args.version c.args.depth true in
+    fault_on _ _ _ _ _ _ _ _ c.in-Err-add_inside.ensures h
+    (λ l. group_lacks read c.args.opening c.args.group c.args.text.now c.in-Ok.inside.now c.in-Ok.ensures.reads g.row.N c.args.steps.now.items
+    (same_count flat g.row.N _ _ (inside_by (list_by read c.args.opening) c.args.group c.in-Ok.inside.now) begun l))
     (not_inside (item c.args.version c.args.depth true) c.args.opening c.args.group c.args.text.now c.in-Ok.inside.now c.in-Ok.ensures.reads
     c.in-Err-add_inside.fault)
 
@@ -92,7 +97,9 @@ add_items-returns-in-Err-clause-adds g t c =
     let i = c.loop-version.invariant in
     let on : ends c.args.nested c.loop-version.rest.now ≡ false = grind (arith, common_steps) in
     let some : 0 < i.most = omega (arith, i.within, not_ended c.args.nested c.loop-version.rest.now on) in
-    fault_on _ _ _ _ _ _ c.in-Err.ensures.adds i.room
+    fault_on _ _ _ _ _ _ _ _ c.in-Err.ensures.adds i.room
+    (at_lack (item c.args.version c.args.depth c.args.nested) c.args.nested c.loop-version.rest.now _ i.front i.most i.told g.row.N
+    c.args.steps.now.items c.loop-version.steps.items some i.steps on)
     (at_fault (item c.args.version c.args.depth c.args.nested) c.args.nested c.loop-version.rest.now _ i.front i.most i.told c.in-Err.fault some on)
 
 pub add_items-returns-clause-adds : goal.add_items-returns-clause-adds
@@ -119,7 +126,12 @@ add_lists-returns-in-Err g t c =
     let some : 0 < i.most = omega (arith, i.within) in
     let h : length c.open_group.new.steps.items + length c.loop-index.inside.now ≤ length c.args.steps.now.items + (length c.args.text.now + 1) =
     omega (arith, i.room, ap length begun.1, length-append c.loop-index.steps.items (step.Group groups.List 0 ∷ [])) in
-    fault_on _ _ _ _ _ _ c.in-Err.ensures.adds h
+    let list = list_by (item c.args.version c.args.depth true) c.args.opening in
+    let more : length c.open_group.new.steps.items ≡ length c.loop-index.steps.items + 1 =
+    omega (arith, ap length begun.1, length-append c.loop-index.steps.items (step.Group groups.List 0 ∷ [])) in
+    fault_on _ _ _ _ _ _ _ _ c.in-Err.ensures.adds h
+    (λ l. at_list_lack list c.loop-index.inside.now _ i.front i.most i.told g.row.N c.args.steps.now.items c.loop-index.steps.items some i.steps
+    (same_count flat g.row.N _ _ (list c.loop-index.inside.now) more l))
     (at_list_fault (list_by (item c.args.version c.args.depth true) c.args.opening) c.loop-index.inside.now _ i.front i.most i.told c.in-Err.fault some)
 
 pub add_lists-loop-index-preserved : goal.add_lists-loop-index-preserved
@@ -167,3 +179,32 @@ add_lists-returns-in-None g t c =
           (closed_steps cur mid new groups.List added.0 m s),
       omega (arith, i.room, added.3, n, ap length begun.1, length-append cur (step.Group groups.List 0 ∷ [])),
     )
+
+pub add_list-returns-in-Err-clause-adds : goal.add_list-returns-in-Err-clause-adds
+add_list-returns-in-Err-clause-adds g t c =
+    let read = item c.args.version c.args.depth true in
+    fault_on _ _ _ _ _ _ _ _ c.in-Err.ensures.adds (omega arith)
+    (list_lacking g.row.N (length c.args.steps.now.items) read c.args.opening c.args.text.now)
+    (λ e. rw e refl)
+
+pub add_group-returns-in_err-index-in-Ok : goal.add_group-returns-in_err-index-in-Ok
+add_group-returns-in_err-index-in-Ok g t c =
+    let e = c.in_err-index-in-Ok.ensures.err in
+    let read = item c.args.version c.args.depth true in
+    let inside = inside_by (list_by read c.args.opening) c.args.group c.in-Ok.inside.now in
+    let full : g.row.N + 1 ≡ length c.args.steps.now.items + 1 = omega (arith, e.1) in
+    let lacks = group_lacks read c.args.opening c.args.group c.args.text.now c.in-Ok.inside.now c.in-Ok.ensures.reads g.row.N
+    c.args.steps.now.items (same_count flat g.row.N _ _ inside full (no_more flat g.row.N inside)) in
+    no_room steps_of g.row.N _ _ _ c.from_residual.result _ _ c.from_residual.ensures e.0 (omega (arith, e.1, c.in-Ok.ensures.shorter)) lacks
+
+pub add_lists-returns-in_err-index : goal.add_lists-returns-in_err-index
+add_lists-returns-in_err-index g t c =
+    let i = c.loop-index.invariant in
+    let e = c.in_err-index.ensures.err in
+    let list = list_by (item c.args.version c.args.depth true) c.args.opening in
+    let some : 0 < i.most = omega (arith, i.within) in
+    let read = list c.loop-index.inside.now in
+    let full : g.row.N + 1 ≡ length c.loop-index.steps.items + 1 = omega (arith, e.1) in
+    let lacks = at_list_lack list c.loop-index.inside.now _ i.front i.most i.told g.row.N c.args.steps.now.items c.loop-index.steps.items some
+    i.steps (same_count flat g.row.N _ _ read full (no_more flat g.row.N read)) in
+    no_room flat g.row.N _ _ _ c.from_residual.result _ _ c.from_residual.ensures e.0 (omega (arith, e.1, i.room)) lacks

@@ -1,5 +1,5 @@
 use Rattle.std.proofs.Common.{◌≡◌, ℕ, List, sym, ◌∙◌}
-use Rattle.time_readers.specs.Tree.{Tree}
+use Rattle.time_components.specs.Tree.{Tree}
 use Rattle.time_descriptions.specs.Strftime.{DescribesStrftime}
 use Rattle.time_descriptions.proofs.laws.law_one_strftime_description.Goals as goal
 

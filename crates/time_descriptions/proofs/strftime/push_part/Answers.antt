@@ -1,8 +1,8 @@
 use Rattle.std.proofs.Common.{◌≡◌, ℕ, List, [], ◌∷◌, ◌++◌, map, Option, Some, None, refl, ap, ◌∙◌}
 use Rattle.std.proofs.lemmas.List.{length-map}
-use Rattle.time_readers.specs.declared.format_description.Component.{Component}
-use Rattle.time_readers.specs.declared.step.Step.{Step}
-use Rattle.time_readers.specs.declared.step.Step.TheVariants as step
+use Rattle.time_components.specs.declared.format_description.Component.{Component}
+use Rattle.time_components.specs.declared.step.Step.{Step}
+use Rattle.time_components.specs.declared.step.Step.TheVariants as step
 use Rattle.time_descriptions.specs.declared.strftime.Part.{Part}
 use Rattle.time_descriptions.specs.Grammar.{by_option}
 use Rattle.time_descriptions.specs.Items.{flat, literal, component, steps_of}

@@ -1,4 +1,4 @@
-use Rattle.std.proofs.Common.{◌≡◌, List, length}
+use Rattle.std.proofs.Common.{◌≡◌, ◌≤◌, List, length}
 use Rattle.time_descriptions.specs.Items.{Item, flat}
 use Rattle.time_descriptions.specs.Strftime.{followed, strftime}
 use Rattle.time_descriptions.proofs.strftime.read_steps.Given as goal
@@ -10,6 +10,7 @@ invariant-loop-rest g l =
       front : List Item;
       told : strftime l.text ≡ followed front (strftime l.rest);
       steps : l.steps.items ≡ flat front;
+      room : length l.steps.items ≤ g.row.N;
     }
 
 abbrev pub decreases-loop-rest : goal.decreases-loop-rest

@@ -1,5 +1,5 @@
 use Rattle.std.proofs.Common.{refl}
-use Rattle.time_parsing.specs.Iso8601.{after_time}
+use Rattle.time_parsing.specs.IsoSteps.{after_time}
 use Rattle.time_parsing.proofs.iso8601.after_time.Goals as goal
 
 pub returns-in-Some : goal.returns-in-Some

@@ -1,5 +1,5 @@
 use Rattle.std.proofs.Common.{subst}
-use Rattle.time_readers.specs.Places.{Walks}
+use Rattle.time_readers.specs.PlaceAnswers.{Walks}
 use Rattle.time_readers.specs.Rfc2822.{Asks, to_offset_places}
 use Rattle.time_readers.proofs.rfc2822.to_offset.Goals as goal
 

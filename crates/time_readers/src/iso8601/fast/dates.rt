@@ -1,7 +1,7 @@
 //! A date of the calendar whose year has four digits, by one pattern.
 ghost use Rattle.std.specs.Prelude.{◌≡◌, ◌≢◌, ◌+◌, ◌*◌, pos, IfSome, Ok, Some};
 ghost use Rattle.time_values.specs.declared.month.Month.{Month as Month_};
-ghost use Rattle.time_readers.specs.Digits.{IsDigit};
+ghost use Rattle.time_digits.specs.Digits.{IsDigit};
 ghost use Rattle.time_readers.specs.IsoAnswers.{GivesPartOrFault};
 ghost use Rattle.time_readers.specs.IsoDates.{calendar, date_text, iso_date};
 ghost use Rattle.time_readers.specs.IsoFast as spec;

@@ -4,7 +4,7 @@ ghost use Rattle.time_readers.specs.Block.{AllWithin, pair_at};
 ghost use Rattle.time_readers.specs.IsoDatesAndTimes.{GivesDateAndTime};
 ghost use Rattle.time_readers.specs.IsoFast.{IsFirstSixteen};
 
-use crate::combinator::block;
+use crate::block;
 use crate::iso8601::fast::dates::{CalendarDigits, date_of};
 use crate::iso8601::fast::times::second;
 use crate::iso8601::grammar::pieces::byte;

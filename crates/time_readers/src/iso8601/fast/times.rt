@@ -1,7 +1,7 @@
 //! An hour, a minute and a second after `T`.
 ghost use Rattle.std.specs.Prelude.{◌≡◌, ◌≤◌, ◌<◌, ℕ, List, Bool, IfSome, Some, None};
 ghost use Rattle.time_readers.specs.IsoAnswers.{GivesPart};
-ghost use Rattle.time_readers.specs.IsoFast.{IsSecond};
+ghost use Rattle.time_readers.specs.IsoFast.{SaysSecond};
 ghost use Rattle.time_readers.specs.IsoFractions.{round_of};
 ghost use Rattle.time_readers.specs.IsoPieces.{Number, number, byte, plain, fraction};
 ghost use Rattle.time_readers.specs.IsoTimes as spec;
@@ -99,7 +99,7 @@ fn extended_time<'a>(input: &'a [u8], kind: ExtendedKind, hour: u8) -> Option<Pa
 #[inline(always)]
 pub(super) fn second(input: &[u8]) -> Option<ParsedItem<'_, (u8, u32)>>
     ensures { IfSome result (λ p. (n : Number) × (number input.now ≡ Some (p.0.now, n))
-        × IsSecond n p.1.0 p.1.1) }
+        × SaysSecond n p.1.0 p.1.1) }
 {
     if let Some(found) = whole_number(input) {
         if found.1 > 60 {
@@ -120,7 +120,7 @@ pub(super) fn second(input: &[u8]) -> Option<ParsedItem<'_, (u8, u32)>>
 #[inline(never)]
 fn rounded_second(input: &[u8]) -> Option<ParsedItem<'_, (u8, u32)>>
     ensures { IfSome result (λ p. (n : Number) × (number input.now ≡ Some (p.0.now, n))
-        × IsSecond n p.1.0 p.1.1) }
+        × SaysSecond n p.1.0 p.1.1) }
 {
     let found = float(input)?;
     let digits = found.1.1?;

@@ -1,7 +1,8 @@
 //! The date of an ISO 8601 text: of the calendar, as `2021-01-02`, by the day of the year, as `2021-002`, or by
 //! the week, as `2020-W53-6`.
 ghost use Rattle.std.specs.Prelude.{◌≡◌};
-ghost use Rattle.time_readers.specs.IsoAnswers.{Leaves, GivesForm, GivesPartOrFault};
+ghost use Rattle.time_readers.specs.IsoAnswers.{GivesPartOrFault};
+ghost use Rattle.time_readers.specs.IsoGrammar.{Leaves, GivesForm};
 ghost use Rattle.time_readers.specs.IsoDates as spec;
 
 use crate::ParsedItem;

@@ -1,6 +1,6 @@
 //! Fractions of a unit, exactly, from digits of any number.
 ghost use Rattle.std.specs.Prelude.{◌≤◌, ◌<◌};
-ghost use Rattle.time_readers.specs.Digits.{AllDigits};
+ghost use Rattle.time_digits.specs.Digits.{AllDigits};
 ghost use Rattle.time_readers.specs.IsoFractions.{IsFloor, IsRounded};
 
 /// The fraction of a unit, cut to a whole number: of n digits that say w it is the floor of w times the unit

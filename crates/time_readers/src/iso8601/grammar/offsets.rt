@@ -1,7 +1,8 @@
 //! The offset of an ISO 8601 text, as `Z`, `+05`, `-0530` or `-05:30`.
 ghost use Rattle.std.specs.Prelude.{◌≡◌, ◌≤◌, IfSome};
 ghost use Rattle.time_readers.specs.IsoAnswers.{Gives};
-ghost use Rattle.time_readers.specs.IsoOffsets as spec;
+ghost use Rattle.time_readers.specs.IsoGrammar as pieces;
+ghost use Rattle.time_readers.specs.IsoOffsets.{offset_text};
 ghost use Rattle.time_readers.specs.IsoPieces.{with_sign};
 
 use crate::iso8601::grammar::pieces::{byte, sign, two_digits, up_to};
@@ -13,9 +14,9 @@ use crate::{ParsedItem, Sign};
 /// Where the text isn't basic and a colon follows, two digits of 0 to 59 have to stand after it. Where none
 /// follows two digits may stand, and if they do they have to be 0 to 59. It refuses by `None`.
 #[inline(always)]
-#[tactic(auto, unfolding(crate::specs::IsoOffsets::offset_text))]
+#[tactic(auto, using(crate::proofs::IsoOffsets::offset_by_pieces_is), unfolding(crate::specs::IsoGrammar::offset_by_pieces))]
 pub fn offset(input: &[u8], kind: ExtendedKind) -> Option<ParsedItem<'_, OffsetNumbers>>
-    ensures { Gives (spec.offset_text kind input.now) result }
+    ensures { Gives (offset_text kind input.now) result }
 {
     if let Some(after) = byte::<b'Z'>(input) {
         return Some(ParsedItem(after, OffsetNumbers::Zulu));
@@ -45,9 +46,9 @@ fn offset_part(sign: Sign, number: u8) -> i8
 
 // The minute of an offset, 0 where none stands.
 #[inline(always)]
-#[tactic(auto, unfolding(crate::specs::IsoOffsets::offset_minute))]
+#[tactic(auto, unfolding(crate::specs::IsoGrammar::offset_minute))]
 fn offset_minute(input: &[u8], kind: ExtendedKind) -> Option<ParsedItem<'_, u8>>
-    ensures is { Gives (spec.offset_minute kind input.now) result }
+    ensures is { Gives (pieces.offset_minute kind input.now) result }
     ensures within { IfSome result (λ p. p.1 ≤ 59) }
 {
     if kind.maybe_extended() {

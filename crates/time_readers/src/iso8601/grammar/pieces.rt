@@ -1,9 +1,10 @@
 //! The pieces of ISO 8601 texts. Each reads a text of a fixed form, or refuses by `None`.
 ghost use Rattle.std.specs.Prelude.{◌≡◌, ◌≤◌, ◌<◌, ◌^◌, IfSome};
 ghost use Rattle.std.specs.Int.NonZero.{non_zero_u8_get, non_zero_u16_get};
-ghost use Rattle.time_readers.specs.Cuts.{Finds};
-ghost use Rattle.time_readers.specs.Digits.{AllDigits, IsDigitRun};
-ghost use Rattle.time_readers.specs.IsoAnswers.{Leaves, Gives, GivesAs, number_of};
+ghost use Rattle.time_digits.specs.Cuts.{Finds};
+ghost use Rattle.time_digits.specs.Digits.{AllDigits, IsDigitRun};
+ghost use Rattle.time_readers.specs.IsoAnswers.{Gives, GivesAs, number_of};
+ghost use Rattle.time_readers.specs.IsoGrammar.{Leaves};
 ghost use Rattle.time_readers.specs.IsoPieces as spec;
 
 use crate::combinator::{self, ascii_char, exactly_n_digits, leading_digits};

@@ -1,8 +1,9 @@
 //! The time of an ISO 8601 text, as `T03`, `0304`, `03:04:05` or `03:04,5`.
 ghost use Rattle.std.specs.Prelude.{◌≡◌, ◌≤◌, ℕ, List, IfSome, Some, None, true, option_map};
-ghost use Rattle.time_readers.specs.Digits.{AllDigits};
+ghost use Rattle.time_digits.specs.Digits.{AllDigits};
 ghost use Rattle.time_readers.specs.IsoAnswers.{GivesPart, number_of};
 ghost use Rattle.time_readers.specs.IsoFractions.{floor_of};
+ghost use Rattle.time_readers.specs.IsoGrammar as pieces;
 ghost use Rattle.time_readers.specs.IsoKinds.{not_basic};
 ghost use Rattle.time_readers.specs.IsoPieces.{number, byte, plain};
 ghost use Rattle.time_readers.specs.IsoTimes as spec;
@@ -136,7 +137,7 @@ fn minute_after_colon<'a>(
 // A second after an hour and a minute without separators, if one stands there.
 #[inline(always)]
 fn basic_second(input: &[u8], numbers: TimeNumbers) -> Option<Part<'_, TimeNumbers>>
-    ensures { GivesPart (spec.basic_second numbers input.now (number input.now)) result }
+    ensures { GivesPart (pieces.basic_second numbers input.now (number input.now)) result }
 {
     match float(input) {
         Some(second) => with_second(second, numbers, ExtendedKind::Basic),
@@ -151,7 +152,7 @@ fn basic_second(input: &[u8], numbers: TimeNumbers) -> Option<Part<'_, TimeNumbe
 // A colon and a second after an hour and a minute, if a colon stands there.
 #[inline(always)]
 fn extended_second(input: &[u8], numbers: TimeNumbers) -> Option<Part<'_, TimeNumbers>>
-    ensures { GivesPart (spec.extended_second numbers input.now (byte 58 input.now)) result }
+    ensures { GivesPart (pieces.extended_second numbers input.now (byte 58 input.now)) result }
 {
     match byte::<b':'>(input) {
         Some(after) => with_second(float(after)?, numbers, ExtendedKind::Extended),
@@ -172,7 +173,7 @@ fn with_second<'a>(
 ) -> Option<Part<'a, TimeNumbers>>
     requires { IfSome second.1.1 (λ d. AllDigits d.now) }
     ensures { GivesPart
-        (spec.second_found numbers kind (second.entry.0.now, number_of second.entry.1.0 second.entry.1.1)) result }
+        (pieces.second_found numbers kind (second.entry.0.now, number_of second.entry.1.0 second.entry.1.1)) result }
 {
     if second.1.0 > 60 {
         return None;
@@ -202,7 +203,7 @@ fn with_second<'a>(
 // A whole hour and a whole minute.
 #[inline(always)]
 fn hour_and_minute(hour: u8, minute: u8) -> TimeNumbers
-    ensures { result ≡ spec.hour_and_minute hour minute }
+    ensures { result ≡ pieces.hour_and_minute hour minute }
 {
     TimeNumbers {
         hour,
@@ -215,7 +216,7 @@ fn hour_and_minute(hour: u8, minute: u8) -> TimeNumbers
 // An hour and the digits of its fraction.
 fn past_hour(hour: u8, digits: &[u8]) -> TimeNumbers
     requires { AllDigits digits.now }
-    ensures { result ≡ spec.past_hour (floor_of digits.now 3_600_000_000_000) (spec.hour_and_minute hour 0) }
+    ensures { result ≡ spec.past_hour (floor_of digits.now 3_600_000_000_000) (pieces.hour_and_minute hour 0) }
 {
     let nanoseconds = floor_fraction(digits, 3_600_000_000_000);
     TimeNumbers {
@@ -229,7 +230,7 @@ fn past_hour(hour: u8, digits: &[u8]) -> TimeNumbers
 // A whole hour, a minute and the digits of its fraction.
 fn past_minute(hour: u8, minute: u8, digits: &[u8]) -> TimeNumbers
     requires { AllDigits digits.now }
-    ensures { result ≡ spec.past_minute (floor_of digits.now 60_000_000_000) (spec.hour_and_minute hour minute) }
+    ensures { result ≡ spec.past_minute (floor_of digits.now 60_000_000_000) (pieces.hour_and_minute hour minute) }
 {
     let nanoseconds = floor_fraction(digits, 60_000_000_000);
     TimeNumbers {

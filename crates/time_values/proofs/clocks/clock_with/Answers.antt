@@ -3,10 +3,13 @@ use Rattle.std.specs.Prelude.{IfSome, IfNone}
 use Rattle.std.proofs.lemmas.Int.{ints}
 use Rattle.time_values.specs.Instants.{IsInstant}
 use Rattle.time_values.specs.Moments.{utc_instant}
-use Rattle.time_values.specs.Clocks.{moved_clock}
+use Rattle.time_values.specs.MovedClocks.{moved_clock}
 use Rattle.time_values.specs.Offsets.{offset_seconds}
 use Rattle.time_values.specs.Range.{greatest_year}
 use Rattle.time_values.proofs.clocks.clock_with.Goals as goal
+
+pub moved-requires : goal.moved-requires
+moved-requires c = omega (arith, ints)
 
 pub returns-clause-value : goal.returns-clause-value
 returns-clause-value c =

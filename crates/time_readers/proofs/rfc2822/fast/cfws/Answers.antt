@@ -1,5 +1,5 @@
 use Rattle.std.proofs.Common.{Some, ap, sym, ◌∙◌, inl, arith}
-use Rattle.time_readers.proofs.CutLemmas.{take-drop}
+use Rattle.time_digits.proofs.CutLemmas.{take-drop}
 use Rattle.time_readers.proofs.ShortCuts.{cfws-short}
 use Rattle.time_readers.proofs.rfc2822.fast.cfws.Goals as goal
 

@@ -1,7 +1,7 @@
 use Rattle.std.proofs.Common.{◌≡◌, ◌+◌, ◌-◌, ◌*◌, ◌≤◌, length, ◌++◌, get_or, drop, refl, ap, sym, ◌∙◌, arith}
 use Rattle.std.proofs.lemmas.List.{take_all, length-take-le, length-drop, take-append-drop}
 use Rattle.time_readers.specs.Block.{AllWithin}
-use Rattle.time_readers.specs.Digits.{IsDigit}
+use Rattle.time_digits.specs.Digits.{IsDigit}
 use Rattle.time_readers.specs.declared.rfc2822.fast.TheConstants.{LEAST, GREATEST}
 use Rattle.time_readers.proofs.MailToOffset.{to_offset_lists}
 use Rattle.time_readers.proofs.rfc2822.fast.to_offset.Goals as goal

@@ -1,7 +1,7 @@
 use Rattle.std.proofs.Common.{◌≡◌, ◌∷◌, [], ◌++◌, drop, None, Some, refl, ap, sym, ◌∙◌, inl, inr, rules, w8, SFits}
 use Rattle.std.proofs.lemmas.Int.{to_z-of_z}
 use Rattle.std.proofs.lemmas.Option.{none-some}
-use Rattle.time_readers.specs.Bytes.{sign_byte}
+use Rattle.time_digits.specs.Bytes.{sign_byte}
 use Rattle.time_readers.specs.MailZones.{zone_literal}
 use Rattle.time_readers.proofs.MailOffset.{no_zone}
 use Rattle.time_readers.proofs.MailPlaces.{Reads-none, two_digits-below}

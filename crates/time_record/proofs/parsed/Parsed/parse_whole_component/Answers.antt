@@ -1,5 +1,5 @@
 use Rattle.std.proofs.Common.{refl, true}
-use Rattle.time_readers.specs.declared.format_description.Component.TheVariants.{Ignore}
+use Rattle.time_components.specs.declared.format_description.Component.TheVariants.{Ignore}
 use Rattle.time_record.proofs.ComponentLemmas.{Answers-whole, reads_whole_ignore, refuses_component, unread_inside, unread_whole_ignore}
 use Rattle.time_record.proofs.parsed.Parsed.parse_whole_component.Goals as goal
 

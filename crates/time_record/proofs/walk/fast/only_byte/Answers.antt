@@ -1,5 +1,5 @@
 use Rattle.std.proofs.Common.{◌≡◌, [], ◌∷◌, refl, arith, rules}
-use Rattle.time_readers.specs.Steps.{further}
+use Rattle.time_components.specs.Steps.{further}
 use Rattle.time_record.proofs.ComponentLemmas.{reads_byte}
 use Rattle.time_record.proofs.walk.fast.only_byte.Goals as goal
 

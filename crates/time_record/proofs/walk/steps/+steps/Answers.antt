@@ -1,6 +1,6 @@
 use Rattle.std.proofs.Common.{ap, sym, ◌∙◌, length, drop, ◌-◌, refl, arith, length-take, length-drop}
-use Rattle.time_readers.specs.Steps.{steps_after, steps_trees, tree_at}
-use Rattle.time_readers.specs.Tree.{more}
+use Rattle.time_components.specs.Steps.{steps_after, steps_trees, tree_at}
+use Rattle.time_components.specs.Tree.{more}
 use Rattle.time_record.proofs.ChooseSteps.{Chooses-reads, Chooses-counts, Chooses-refused, Chooses-fault, Chooses-nothing, Chooses-counts_end}
 use Rattle.time_record.proofs.StepRows.{behind_first, first_item, steps_trees-end}
 use Rattle.time_record.proofs.WalkSteps.{Goes-end, Goes-refused, Walked-counts, Walked-counts_refused, Walked-further, Walked-reads}

@@ -1,6 +1,6 @@
 use Rattle.std.proofs.Common.{◌+◌, ◌*◌, ◌≤◌, length}
 use Rattle.time_values.specs.Range.{greatest_year}
-use Rattle.time_readers.specs.Steps.{steps_trees}
+use Rattle.time_components.specs.Steps.{steps_trees}
 use Rattle.time_record.proofs.ChooseSteps.{Chooses}
 use Rattle.time_record.proofs.WalkSteps.{Walked}
 use Rattle.time_record.proofs.walk.steps.+steps.Given as goal

@@ -1,5 +1,5 @@
 use Rattle.std.proofs.Common.{length}
-use Rattle.time_readers.specs.Steps.{further}
+use Rattle.time_components.specs.Steps.{further}
 use Rattle.time_record.proofs.Literals.{Strips}
 use Rattle.time_record.proofs.walk.steps.after_bytes.Given as goal
 

@@ -1,5 +1,5 @@
 use Rattle.std.proofs.Common.{◌∷◌, refl, sym, arith}
-use Rattle.time_readers.specs.Steps.{further}
+use Rattle.time_components.specs.Steps.{further}
 use Rattle.time_record.proofs.ComponentLemmas.{reads_literal, refuses_literal}
 use Rattle.time_record.proofs.Literals.{Strips-more, Strips-other, Strips-start}
 use Rattle.time_record.proofs.walk.steps.read_literal.Goals as goal

@@ -1,7 +1,7 @@
 use Rattle.std.proofs.Common.{ap, subst, ◌∙◌, length, drop, ◌-◌, arith, length-take, length-drop}
 use Rattle.time_values.specs.Range.{greatest_year}
-use Rattle.time_readers.specs.Steps.{steps_trees, tree_at}
-use Rattle.time_readers.specs.Tree.{more}
+use Rattle.time_components.specs.Steps.{steps_trees, tree_at}
+use Rattle.time_components.specs.Tree.{more}
 use Rattle.time_record.specs.WalkSteps.{Goes}
 use Rattle.time_record.proofs.StepRows.{behind_first, first_item}
 use Rattle.time_record.proofs.WalkSteps.{Goes-leaf}

@@ -1,6 +1,10 @@
-use Rattle.std.proofs.Common.{arith, inr}
+use Rattle.std.proofs.Common.{arith}
 use Rattle.std.proofs.lemmas.Int.{ints}
+use Rattle.time_values.proofs.SignLemmas.{below-one}
 use Rattle.time_values.proofs.utc_offset.UtcOffset.at_seconds.Goals as goal
 
-pub returns-then-seconds-lt0-clause-sign : goal.returns-then-seconds-lt0-clause-sign
-returns-then-seconds-lt0-clause-sign c = inr (omega (arith, ints), omega (arith, ints), omega (arith, ints))
+pub invariant_of-result-clause-one_sign : goal.invariant_of-result-clause-one_sign
+invariant_of-result-clause-one_sign c = below-one _ _ _ (omega (arith, ints)) (omega (arith, ints)) (omega (arith, ints))
+
+pub returns-then-seconds-lt0 : goal.returns-then-seconds-lt0
+returns-then-seconds-lt0 c = omega (arith, ints)

@@ -1,7 +1,7 @@
 use Rattle.std.proofs.Common.{◌∙◌, ap, sym, arith}
 use Rattle.time_readers.specs.IsoDates.{date_text}
 use Rattle.time_readers.specs.IsoPieces.{numbered, months}
-use Rattle.time_readers.proofs.CutLemmas.{take-drop}
+use Rattle.time_digits.proofs.CutLemmas.{take-drop}
 use Rattle.time_readers.proofs.IsoCalendarDates.{extended_date, first_ten}
 use Rattle.time_readers.proofs.iso8601.fast.dates.extended_date.Goals as goal
 

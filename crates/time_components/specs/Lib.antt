@@ -1,0 +1,8 @@
+pub mod Laws
+pub mod Letters
+pub mod Names
+pub mod Shape
+pub mod ShortNames
+pub mod Spelling
+pub mod Steps
+pub mod Tree

@@ -1,0 +1,31 @@
+-- No public contract rests on this file.
+--
+-- The first three letters of names, and what follows them.
+use Rattle.std.specs.Prelude.{◌≡◌, ◌≢◌, ℕ, List, [], ◌∷◌, length, take, Bool, true, false, ◌&&◌, Option, MatchOption}
+use Rattle.std.specs.Char.{is_ascii_uppercase, is_ascii_lowercase}
+use Rattle.std.specs.Str.{str_to_ascii_lowercase}
+use Rattle.time_digits.specs.Cuts.{Form}
+use Rattle.time_components.specs.Names.{IsNamed}
+
+-- a capital and two small letters
+abbrev pub is_title_case : List ℕ → Bool
+is_title_case (a ∷ b ∷ c ∷ []) = is_ascii_uppercase a && (is_ascii_lowercase b && is_ascii_lowercase c)
+is_title_case _ = false
+
+-- three bytes in small letters, which are a capital and two small letters where the case matters
+abbrev pub IsTitleCase : Bool → Form (List ℕ)
+IsTitleCase case_sensitive text rest letters =
+    (length text ≡ 3) × (letters ≡ str_to_ascii_lowercase text) × (case_sensitive ≡ true → is_title_case text ≡ true)
+
+-- the first three letters of a name, in small letters
+abbrev pub letters_of : {A : Type 0} → (A → List ℕ) → A → List ℕ
+letters_of name_of value = str_to_ascii_lowercase (take 3 (name_of value))
+
+-- the value whose name begins with these letters, or nothing where none does
+abbrev pub IsWithLetters : {A : Type 0} → (A → List ℕ) → List ℕ → Option A → Type 0
+IsWithLetters {A} name_of letters result =
+    MatchOption result ((value : A) → letters ≢ letters_of name_of value) (λ value. letters ≡ letters_of name_of value)
+
+-- The text is the ending of a name.
+abbrev pub IsEnding : List ℕ → Bool → Form (Unit {0})
+IsEnding ending case_sensitive text rest nothing = IsNamed case_sensitive ending text

@@ -1,0 +1,202 @@
+-- How each component is spelled.
+use Rattle.std.specs.Prelude.{◌≡◌, ℕ, ◌+◌, ◌*◌, ◌%◌, ◌≤◌, ◌<◌, ◌⊎◌, ℤ, pos, List, [], ◌∷◌, length, take, Bool, true, false}
+use Rattle.time_values.specs.Month.{month_number}
+use Rattle.time_values.specs.Sign.{signed_by}
+use Rattle.time_values.specs.Weekday.{days_from_monday}
+use Rattle.time_values.specs.declared.month.Month.{Month}
+use Rattle.time_values.specs.declared.weekday.Weekday.{Weekday}
+use Rattle.time_digits.specs.declared.Padding.{Padding}
+use Rattle.time_digits.specs.declared.Sign.{Sign}
+use Rattle.time_digits.specs.declared.Sign.TheVariants.{Positive}
+use Rattle.time_components.specs.declared.format_description.Component.{Component}
+use Rattle.time_components.specs.declared.format_description.Component.TheVariants as component
+use Rattle.time_components.specs.declared.format_description.Period.{Period}
+use Rattle.time_components.specs.declared.modifier.SubsecondDigits.{SubsecondDigits}
+use Rattle.time_components.specs.declared.modifier.SubsecondDigits.TheVariants.{One, Two, Three, Four, Five, Six, Seven, Eight, Nine, OneOrMore}
+use Rattle.time_components.specs.declared.modifier.TrailingInput.{TrailingInput}
+use Rattle.time_components.specs.declared.modifier.TrailingInput.TheVariants.{Prohibit, Discard}
+use Rattle.time_digits.specs.Bytes.{sign_byte, is_negative}
+use Rattle.time_digits.specs.Cuts.{Form}
+use Rattle.time_digits.specs.Digits.{IsDigitRun, IsPaddedRun, digits_value, fraction_nanoseconds}
+use Rattle.time_components.specs.Names.{month_name, weekday_name, period_name, IsNamed}
+
+-- what a component's text says
+pub data Value : Type 0 where
+  number : ℕ → Value
+  signed : ℤ → Value
+  -- a number, and whether a minus stood before it, also where it is 0
+  flagged : ℤ → Bool → Value
+  month : Month → Value
+  weekday : Weekday → Value
+  period : Period → Value
+  nothing : Value
+
+-- what a sign and a number say: the number with that sign
+abbrev pub signed_value : Sign × ℕ → Value
+signed_value v = signed (signed_by (is_negative v.0) (pos v.1))
+
+-- and whether the sign is a minus
+abbrev pub flagged_value : Sign × ℕ → Value
+flagged_value v = flagged (signed_by (is_negative v.0) (pos v.1)) (is_negative v.0)
+
+-- or that many units with that sign
+abbrev pub scaled_value : ℕ → Sign × ℕ → Value
+scaled_value unit v = signed (signed_by (is_negative v.0) (pos (v.1 * unit)))
+
+-- a number without a sign, where a component has signed ones
+abbrev pub positive : ℕ → Value
+positive n = signed (pos n)
+
+-- The text spells something, and the value says what.
+abbrev pub Says : {A : Type 0} → (A → Value) → Form A → Form Value
+Says {A} says S text rest value = (a : A) × (value ≡ says a) × S text rest a
+
+-- The text is a sign and what `behind` spells, or what `alone` spells, unless a sign has to stand.
+abbrev pub IsSigned : Bool → Form ℕ → Form ℕ → Form (Sign × ℕ)
+IsSigned mandatory behind alone text rest v =
+    ((tail : List ℕ) × (text ≡ sign_byte v.0 ∷ tail) × behind tail rest v.1)
+    ⊎ ((mandatory ≡ false) × (v.0 ≡ Positive) × alone text rest v.1)
+
+-- four digits, or a sign and four to so many, under the padding
+abbrev pub SaysYear : Bool → Padding → ℕ → Form Value
+SaysYear mandatory padding most =
+    Says signed_value (IsSigned mandatory (IsPaddedRun padding 4 most) (IsPaddedRun padding 4 4))
+
+-- one or two digits, or a sign and two to so many under the padding
+abbrev pub SaysCentury : Bool → Padding → ℕ → Form Value
+SaysCentury mandatory padding most =
+    Says flagged_value (IsSigned mandatory (IsPaddedRun padding 2 most) (IsDigitRun 1 2))
+
+-- two digits under the padding, with a sign or without
+abbrev pub SaysOffsetHour : Bool → Padding → Form Value
+SaysOffsetHour mandatory padding =
+    Says flagged_value (IsSigned mandatory (IsPaddedRun padding 2 2) (IsPaddedRun padding 2 2))
+
+-- up to so many digits, with a sign or without, which count units of so many nanoseconds
+abbrev pub SaysTimestamp : ℕ → Bool → ℕ → Form Value
+SaysTimestamp unit mandatory most =
+    Says (scaled_value unit) (IsSigned mandatory (IsDigitRun 1 most) (IsDigitRun 1 most))
+
+-- a run of so many places under the padding, and not of 0
+abbrev pub IsPositiveRun : Padding → ℕ → Form ℕ
+IsPositiveRun padding places text rest n = IsPaddedRun padding places places text rest n × (0 < n)
+
+-- the whole name of something
+abbrev pub IsNameOf : {A : Type 0} → Bool → (A → List ℕ) → Form A
+IsNameOf case_sensitive name text rest a = IsNamed case_sensitive (name a) text
+
+-- the first three letters of its name
+abbrev pub IsShortOf : {A : Type 0} → Bool → (A → List ℕ) → Form A
+IsShortOf case_sensitive name text rest a = IsNamed case_sensitive (take 3 (name a)) text
+
+-- its number, in two places under the padding
+abbrev pub IsNumberOf : {A : Type 0} → Padding → (A → ℕ) → Form A
+IsNumberOf padding number_of text rest a = IsPaddedRun padding 2 2 text rest (number_of a)
+
+-- the digit of the number 0: `1` where it is one-indexed, and otherwise `0`
+abbrev pub first_digit : Bool → ℕ
+first_digit true = 49
+first_digit false = 48
+
+-- one digit, that of its number
+abbrev pub IsDigitOf : {A : Type 0} → Bool → (A → ℕ) → Form A
+IsDigitOf one_indexed number_of text rest a = text ≡ (first_digit one_indexed + number_of a) ∷ []
+
+-- how many days the weekday is after a Sunday
+abbrev pub days_from_sunday : Weekday → ℕ
+days_from_sunday day = (days_from_monday day + 1) % 7
+
+-- the least number of digits of a fraction of a second
+abbrev pub least_digits : SubsecondDigits → ℕ
+least_digits One = 1
+least_digits Two = 2
+least_digits Three = 3
+least_digits Four = 4
+least_digits Five = 5
+least_digits Six = 6
+least_digits Seven = 7
+least_digits Eight = 8
+least_digits Nine = 9
+least_digits OneOrMore = 1
+
+-- the greatest number of its digits
+abbrev pub most_digits : SubsecondDigits → ℕ
+most_digits One = 1
+most_digits Two = 2
+most_digits Three = 3
+most_digits Four = 4
+most_digits Five = 5
+most_digits Six = 6
+most_digits Seven = 7
+most_digits Eight = 8
+most_digits Nine = 9
+most_digits OneOrMore = 32
+
+-- a fraction of a second as a run of digits, in nanoseconds
+abbrev pub IsFractionRun : ℕ → ℕ → Form ℕ
+IsFractionRun least most text rest n =
+    IsDigitRun least most text rest (digits_value text) × (n ≡ fraction_nanoseconds text)
+
+-- what may be left of the input at its end: nothing, or anything
+abbrev pub EndsBy : TrailingInput → List ℕ → Type 0
+EndsBy Prohibit text = text ≡ []
+EndsBy Discard text = Unit {0}
+
+-- the rest of the input, of which that may be left
+abbrev pub IsEnd : TrailingInput → Form Value
+IsEnd trailing_input text rest value = (value ≡ nothing) × (rest ≡ []) × EndsBy trailing_input text
+
+-- The first byte, if there is one, begins a character (RFC 3629, section 3).
+abbrev pub BeginsCharacter : List ℕ → Type 0
+BeginsCharacter [] = Unit {0}
+BeginsCharacter (c ∷ cs) = (c < 128) ⊎ (192 ≤ c)
+
+-- the fact, where whole characters are asked for
+abbrev pub OnWhole : Bool → Type 0 → Type 0
+OnWhole true p = p
+OnWhole false p = Unit {0}
+
+-- so many bytes, which under `whole` end between characters
+abbrev pub IsIgnored : Bool → ℕ → Form Value
+IsIgnored whole count text rest value =
+    (value ≡ nothing) × (length text ≡ count) × OnWhole whole (BeginsCharacter rest)
+
+-- The text, with that rest behind it, spells the value. Under `whole` an `Ignore` ends between characters.
+abbrev pub Spells : Bool → Component → Form Value
+Spells whole (component.Day m) = Says number (IsPositiveRun m.padding 2)
+Spells whole (component.MonthShort m) = Says month (IsShortOf m.case_sensitive month_name)
+Spells whole (component.MonthLong m) = Says month (IsNameOf m.case_sensitive month_name)
+Spells whole (component.MonthNumerical m) = Says month (IsNumberOf m.padding month_number)
+Spells whole (component.Ordinal m) = Says number (IsPositiveRun m.padding 3)
+Spells whole (component.WeekdayShort m) = Says weekday (IsShortOf m.case_sensitive weekday_name)
+Spells whole (component.WeekdayLong m) = Says weekday (IsNameOf m.case_sensitive weekday_name)
+Spells whole (component.WeekdaySunday m) = Says weekday (IsDigitOf m.one_indexed days_from_sunday)
+Spells whole (component.WeekdayMonday m) = Says weekday (IsDigitOf m.one_indexed days_from_monday)
+Spells whole (component.WeekNumberIso m) = Says number (IsPaddedRun m.padding 2 2)
+Spells whole (component.WeekNumberSunday m) = Says number (IsPaddedRun m.padding 2 2)
+Spells whole (component.WeekNumberMonday m) = Says number (IsPaddedRun m.padding 2 2)
+Spells whole (component.CalendarYearFullExtendedRange m) = SaysYear m.sign_is_mandatory m.padding 6
+Spells whole (component.CalendarYearFullStandardRange m) = SaysYear m.sign_is_mandatory m.padding 4
+Spells whole (component.IsoYearFullExtendedRange m) = SaysYear m.sign_is_mandatory m.padding 6
+Spells whole (component.IsoYearFullStandardRange m) = SaysYear m.sign_is_mandatory m.padding 4
+Spells whole (component.CalendarYearCenturyExtendedRange m) = SaysCentury m.sign_is_mandatory m.padding 4
+Spells whole (component.CalendarYearCenturyStandardRange m) = SaysCentury m.sign_is_mandatory m.padding 2
+Spells whole (component.IsoYearCenturyExtendedRange m) = SaysCentury m.sign_is_mandatory m.padding 4
+Spells whole (component.IsoYearCenturyStandardRange m) = SaysCentury m.sign_is_mandatory m.padding 2
+Spells whole (component.CalendarYearLastTwo m) = Says number (IsPaddedRun m.padding 2 2)
+Spells whole (component.IsoYearLastTwo m) = Says number (IsPaddedRun m.padding 2 2)
+Spells whole (component.Hour12 m) = Says number (IsPaddedRun m.padding 2 2)
+Spells whole (component.Hour24 m) = Says number (IsPaddedRun m.padding 2 2)
+Spells whole (component.Minute m) = Says number (IsPaddedRun m.padding 2 2)
+Spells whole (component.Period m) = Says period (IsNameOf m.case_sensitive (period_name m.is_uppercase))
+Spells whole (component.Second m) = Says number (IsPaddedRun m.padding 2 2)
+Spells whole (component.Subsecond m) = Says number (IsFractionRun (least_digits m.digits) (most_digits m.digits))
+Spells whole (component.OffsetHour m) = SaysOffsetHour m.sign_is_mandatory m.padding
+Spells whole (component.OffsetMinute m) = Says positive (IsPaddedRun m.padding 2 2)
+Spells whole (component.OffsetSecond m) = Says positive (IsPaddedRun m.padding 2 2)
+Spells whole (component.Ignore m) = IsIgnored whole m.count.value
+Spells whole (component.UnixTimestampSecond m) = SaysTimestamp 1000000000 m.sign_is_mandatory 14
+Spells whole (component.UnixTimestampMillisecond m) = SaysTimestamp 1000000 m.sign_is_mandatory 17
+Spells whole (component.UnixTimestampMicrosecond m) = SaysTimestamp 1000 m.sign_is_mandatory 20
+Spells whole (component.UnixTimestampNanosecond m) = SaysTimestamp 1 m.sign_is_mandatory 23
+Spells whole (component.End m) = IsEnd m.trailing_input

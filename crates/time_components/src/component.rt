@@ -1,0 +1,589 @@
+//! Readers of the components, one for each variant of [`Component`](crate::Component).
+//!
+//! A reader answers what is left of its input and a value, exactly where a beginning of the input
+//! spells that value, and `None` otherwise. A run of digits takes as many as it may, and nothing goes
+//! back.
+ghost use Rattle.std.specs.Prelude.{◌≤◌, false};
+ghost use Rattle.time_digits.specs.Cuts.{Finds};
+ghost use Rattle.time_components.specs.Spelling.{SaysOffsetHour, SaysYear, Spells, number, signed, flagged, month, weekday, period, nothing};
+ghost use Rattle.time_components.specs.declared.format_description.Component.TheVariants as component;
+
+pub mod fast;
+mod fractions;
+mod letters;
+mod names;
+mod numbers;
+
+use crate::{Padding, ParsedItem, Period, SubsecondDigits, TrailingInput, modifier};
+use fractions::{fraction, long_fraction};
+use letters::{weekday_digit, weekday_from_monday};
+use names::{ending_of, month_ending, weekday_ending};
+use numbers::{century, offset_part, timestamp, two_digits, two_places};
+use std::num::NonZero;
+use time_values::{Month, Weekday};
+
+// Which reader goes first of those that stand in `fast` and in `numbers`.
+
+// A year: four digits, or a sign and four to `MOST` digits.
+#[inline(always)]
+fn full_year<const MOST: u8>(
+    input: &[u8],
+    padding: Padding,
+    sign_is_mandatory: bool,
+) -> Option<ParsedItem<'_, i32>>
+    requires least { 4 ≤ MOST }
+    requires most { MOST ≤ 6 }
+    ensures { Finds (SaysYear sign_is_mandatory padding MOST) signed input.now result }
+{
+    match fast::year::<MOST>(input, padding, sign_is_mandatory) {
+        Some(year) => Some(year),
+        None => numbers::full_year::<MOST>(input, padding, sign_is_mandatory),
+    }
+}
+
+// The hours of an offset. The bool says whether the sign is a minus.
+#[inline(always)]
+fn offset_hour(
+    input: &[u8],
+    padding: Padding,
+    sign_is_mandatory: bool,
+) -> Option<ParsedItem<'_, (i8, bool)>>
+    ensures { Finds (SaysOffsetHour sign_is_mandatory padding) (λ v. flagged v.0 v.1) input.now result }
+{
+    match fast::offset_hour(input, padding, sign_is_mandatory) {
+        Some(hour) => Some(hour),
+        None => numbers::offset_hour(input, padding, sign_is_mandatory),
+    }
+}
+
+/// Reads a calendar year, in the range that a sign extends.
+///
+/// Four digits, or a sign and four to six digits, under the padding. `None` where no such text
+/// stands, also where a mandatory sign is missing.
+#[inline]
+pub fn parse_calendar_year_full_extended_range(
+    input: &[u8],
+    modifiers: modifier::CalendarYearFullExtendedRange,
+) -> Option<ParsedItem<'_, i32>>
+    ensures { Finds (Spells false (component.CalendarYearFullExtendedRange modifiers)) signed input.now result }
+{
+    let modifier::CalendarYearFullExtendedRange {
+        padding,
+        sign_is_mandatory,
+    } = modifiers;
+    full_year::<6>(input, padding, sign_is_mandatory)
+}
+
+/// Reads a calendar year.
+///
+/// Four digits under the padding, with or without a sign. `None` where no such text stands, also
+/// where a mandatory sign is missing.
+#[inline]
+pub fn parse_calendar_year_full_standard_range(
+    input: &[u8],
+    modifiers: modifier::CalendarYearFullStandardRange,
+) -> Option<ParsedItem<'_, i32>>
+    ensures { Finds (Spells false (component.CalendarYearFullStandardRange modifiers)) signed input.now result }
+{
+    let modifier::CalendarYearFullStandardRange {
+        padding,
+        sign_is_mandatory,
+    } = modifiers;
+    full_year::<4>(input, padding, sign_is_mandatory)
+}
+
+/// Reads an ISO week year, in the range that a sign extends.
+///
+/// Four digits, or a sign and four to six digits, under the padding. `None` where no such text
+/// stands, also where a mandatory sign is missing.
+#[inline]
+pub fn parse_iso_year_full_extended_range(
+    input: &[u8],
+    modifiers: modifier::IsoYearFullExtendedRange,
+) -> Option<ParsedItem<'_, i32>>
+    ensures { Finds (Spells false (component.IsoYearFullExtendedRange modifiers)) signed input.now result }
+{
+    let modifier::IsoYearFullExtendedRange {
+        padding,
+        sign_is_mandatory,
+    } = modifiers;
+    full_year::<6>(input, padding, sign_is_mandatory)
+}
+
+/// Reads an ISO week year.
+///
+/// Four digits under the padding, with or without a sign. `None` where no such text stands, also
+/// where a mandatory sign is missing.
+#[inline]
+pub fn parse_iso_year_full_standard_range(
+    input: &[u8],
+    modifiers: modifier::IsoYearFullStandardRange,
+) -> Option<ParsedItem<'_, i32>>
+    ensures { Finds (Spells false (component.IsoYearFullStandardRange modifiers)) signed input.now result }
+{
+    let modifier::IsoYearFullStandardRange {
+        padding,
+        sign_is_mandatory,
+    } = modifiers;
+    full_year::<4>(input, padding, sign_is_mandatory)
+}
+
+/// Reads a calendar year without its last two digits, in the range that a sign extends.
+///
+/// A sign and two to four digits under the padding, or one or two digits without a sign, whatever
+/// the padding. The bool says whether the sign is a minus. `None` where no such text stands, also
+/// where a mandatory sign is missing.
+#[inline]
+pub fn parse_calendar_year_century_extended_range(
+    input: &[u8],
+    modifiers: modifier::CalendarYearCenturyExtendedRange,
+) -> Option<ParsedItem<'_, (i16, bool)>>
+    ensures { Finds (Spells false (component.CalendarYearCenturyExtendedRange modifiers)) (λ v. flagged v.0 v.1)
+        input.now result }
+{
+    let modifier::CalendarYearCenturyExtendedRange {
+        padding,
+        sign_is_mandatory,
+    } = modifiers;
+    century::<4>(input, padding, sign_is_mandatory)
+}
+
+/// Reads a calendar year without its last two digits.
+///
+/// A sign and two digits under the padding, or one or two digits without a sign, whatever the
+/// padding. The bool says whether the sign is a minus. `None` where no such text stands, also
+/// where a mandatory sign is missing.
+#[inline]
+pub fn parse_calendar_year_century_standard_range(
+    input: &[u8],
+    modifiers: modifier::CalendarYearCenturyStandardRange,
+) -> Option<ParsedItem<'_, (i16, bool)>>
+    ensures { Finds (Spells false (component.CalendarYearCenturyStandardRange modifiers)) (λ v. flagged v.0 v.1)
+        input.now result }
+{
+    let modifier::CalendarYearCenturyStandardRange {
+        padding,
+        sign_is_mandatory,
+    } = modifiers;
+    century::<2>(input, padding, sign_is_mandatory)
+}
+
+/// Reads an ISO week year without its last two digits, in the range that a sign extends.
+///
+/// A sign and two to four digits under the padding, or one or two digits without a sign, whatever
+/// the padding. The bool says whether the sign is a minus. `None` where no such text stands, also
+/// where a mandatory sign is missing.
+#[inline]
+pub fn parse_iso_year_century_extended_range(
+    input: &[u8],
+    modifiers: modifier::IsoYearCenturyExtendedRange,
+) -> Option<ParsedItem<'_, (i16, bool)>>
+    ensures { Finds (Spells false (component.IsoYearCenturyExtendedRange modifiers)) (λ v. flagged v.0 v.1)
+        input.now result }
+{
+    let modifier::IsoYearCenturyExtendedRange {
+        padding,
+        sign_is_mandatory,
+    } = modifiers;
+    century::<4>(input, padding, sign_is_mandatory)
+}
+
+/// Reads an ISO week year without its last two digits.
+///
+/// A sign and two digits under the padding, or one or two digits without a sign, whatever the
+/// padding. The bool says whether the sign is a minus. `None` where no such text stands, also
+/// where a mandatory sign is missing.
+#[inline]
+pub fn parse_iso_year_century_standard_range(
+    input: &[u8],
+    modifiers: modifier::IsoYearCenturyStandardRange,
+) -> Option<ParsedItem<'_, (i16, bool)>>
+    ensures { Finds (Spells false (component.IsoYearCenturyStandardRange modifiers)) (λ v. flagged v.0 v.1)
+        input.now result }
+{
+    let modifier::IsoYearCenturyStandardRange {
+        padding,
+        sign_is_mandatory,
+    } = modifiers;
+    century::<2>(input, padding, sign_is_mandatory)
+}
+
+/// Reads the last two digits of a calendar year, 0 to 99. `None` where they don't stand.
+#[inline]
+pub fn parse_calendar_year_last_two(
+    input: &[u8],
+    modifiers: modifier::CalendarYearLastTwo,
+) -> Option<ParsedItem<'_, u8>>
+    ensures { Finds (Spells false (component.CalendarYearLastTwo modifiers)) number input.now result }
+{
+    let modifier::CalendarYearLastTwo { padding } = modifiers;
+    two_places(input, padding)
+}
+
+/// Reads the last two digits of an ISO week year, 0 to 99. `None` where they don't stand.
+#[inline]
+pub fn parse_iso_year_last_two(
+    input: &[u8],
+    modifiers: modifier::IsoYearLastTwo,
+) -> Option<ParsedItem<'_, u8>>
+    ensures { Finds (Spells false (component.IsoYearLastTwo modifiers)) number input.now result }
+{
+    let modifier::IsoYearLastTwo { padding } = modifiers;
+    two_places(input, padding)
+}
+
+/// Reads the first three letters of a month's English name. `None` where none stands.
+#[inline(always)]
+pub fn parse_month_short(
+    input: &[u8],
+    modifiers: modifier::MonthShort,
+) -> Option<ParsedItem<'_, Month>>
+    ensures { Finds (Spells false (component.MonthShort modifiers)) month input.now result }
+{
+    let modifier::MonthShort { case_sensitive } = modifiers;
+    match fast::month_short(input, case_sensitive) {
+        Some(month) => Some(month),
+        None => names::month_short(input, case_sensitive),
+    }
+}
+
+/// Reads a month's English name. `None` if no complete name is there.
+#[inline]
+pub fn parse_month_long(
+    input: &[u8],
+    modifiers: modifier::MonthLong,
+) -> Option<ParsedItem<'_, Month>>
+    ensures { Finds (Spells false (component.MonthLong modifiers)) month input.now result }
+{
+    let modifier::MonthLong { case_sensitive } = modifiers;
+    let short = parse_month_short(input, modifier::MonthShort { case_sensitive })?;
+    let ending = ending_of(short.0, month_ending(short.1), case_sensitive)?;
+    Some(ParsedItem(ending.0, short.1))
+}
+
+/// Reads the number of a month, 1 to 12, in two places. `None` where none stands.
+#[inline]
+pub fn parse_month_numerical(
+    input: &[u8],
+    modifiers: modifier::MonthNumerical,
+) -> Option<ParsedItem<'_, Month>>
+    ensures { Finds (Spells false (component.MonthNumerical modifiers)) month input.now result }
+{
+    let modifier::MonthNumerical { padding } = modifiers;
+    let number = two_digits(input, padding)?;
+    match Month::from_number(NonZero::<u8>::new(number.1)?) {
+        Ok(month) => Some(ParsedItem(number.0, month)),
+        Err(_) => None,
+    }
+}
+
+/// Reads the number of an ISO week, in two places, 0 to 99. `None` where none stands.
+#[inline]
+pub fn parse_week_number_iso(
+    input: &[u8],
+    modifiers: modifier::WeekNumberIso,
+) -> Option<ParsedItem<'_, u8>>
+    ensures { Finds (Spells false (component.WeekNumberIso modifiers)) number input.now result }
+{
+    let modifier::WeekNumberIso { padding } = modifiers;
+    two_places(input, padding)
+}
+
+/// Reads the number of a week that begins on Sunday, in two places, 0 to 99. `None` where none
+/// stands.
+#[inline]
+pub fn parse_week_number_sunday(
+    input: &[u8],
+    modifiers: modifier::WeekNumberSunday,
+) -> Option<ParsedItem<'_, u8>>
+    ensures { Finds (Spells false (component.WeekNumberSunday modifiers)) number input.now result }
+{
+    let modifier::WeekNumberSunday { padding } = modifiers;
+    two_places(input, padding)
+}
+
+/// Reads the number of a week that begins on Monday, in two places, 0 to 99. `None` where none
+/// stands.
+#[inline]
+pub fn parse_week_number_monday(
+    input: &[u8],
+    modifiers: modifier::WeekNumberMonday,
+) -> Option<ParsedItem<'_, u8>>
+    ensures { Finds (Spells false (component.WeekNumberMonday modifiers)) number input.now result }
+{
+    let modifier::WeekNumberMonday { padding } = modifiers;
+    two_places(input, padding)
+}
+
+/// Reads the first three letters of a weekday's English name. `None` where none stands.
+#[inline(always)]
+pub fn parse_weekday_short(
+    input: &[u8],
+    modifiers: modifier::WeekdayShort,
+) -> Option<ParsedItem<'_, Weekday>>
+    ensures { Finds (Spells false (component.WeekdayShort modifiers)) weekday input.now result }
+{
+    let modifier::WeekdayShort { case_sensitive } = modifiers;
+    match fast::weekday_short(input, case_sensitive) {
+        Some(weekday) => Some(weekday),
+        None => names::weekday_short(input, case_sensitive),
+    }
+}
+
+/// Reads a weekday's English name. `None` if no complete name is there.
+#[inline]
+pub fn parse_weekday_long(
+    input: &[u8],
+    modifiers: modifier::WeekdayLong,
+) -> Option<ParsedItem<'_, Weekday>>
+    ensures { Finds (Spells false (component.WeekdayLong modifiers)) weekday input.now result }
+{
+    let modifier::WeekdayLong { case_sensitive } = modifiers;
+    let short = parse_weekday_short(input, modifier::WeekdayShort { case_sensitive })?;
+    let ending = ending_of(short.0, weekday_ending(short.1), case_sensitive)?;
+    Some(ParsedItem(ending.0, short.1))
+}
+
+/// Reads the number of a weekday, counted from Sunday: one digit of `0` to `6`, or of `1` to `7`
+/// where it is one-indexed. `None` where none stands.
+#[inline]
+pub fn parse_weekday_sunday(
+    input: &[u8],
+    modifiers: modifier::WeekdaySunday,
+) -> Option<ParsedItem<'_, Weekday>>
+    ensures { Finds (Spells false (component.WeekdaySunday modifiers)) weekday input.now result }
+{
+    let modifier::WeekdaySunday { one_indexed } = modifiers;
+    let digit = weekday_digit(input, one_indexed)?;
+    Some(ParsedItem(digit.0, weekday_from_monday((digit.1 + 6) % 7)))
+}
+
+/// Reads the number of a weekday, counted from Monday: one digit of `0` to `6`, or of `1` to `7`
+/// where it is one-indexed. `None` where none stands.
+#[inline]
+pub fn parse_weekday_monday(
+    input: &[u8],
+    modifiers: modifier::WeekdayMonday,
+) -> Option<ParsedItem<'_, Weekday>>
+    ensures { Finds (Spells false (component.WeekdayMonday modifiers)) weekday input.now result }
+{
+    let modifier::WeekdayMonday { one_indexed } = modifiers;
+    let digit = weekday_digit(input, one_indexed)?;
+    Some(ParsedItem(digit.0, weekday_from_monday(digit.1)))
+}
+
+/// Reads the day of the year, in three places, 1 to 999. `None` where none stands.
+#[inline]
+pub fn parse_ordinal(
+    input: &[u8],
+    modifiers: modifier::Ordinal,
+) -> Option<ParsedItem<'_, NonZero<u16>>>
+    ensures { Finds (Spells false (component.Ordinal modifiers)) (λ n. number n.value) input.now result }
+{
+    let modifier::Ordinal { padding } = modifiers;
+    match fast::ordinal(input, padding) {
+        Some(ordinal) => Some(ordinal),
+        None => numbers::ordinal(input, padding),
+    }
+}
+
+/// Reads the day of the month, in two places, 1 to 99. `None` where none stands.
+#[inline]
+pub fn parse_day(input: &[u8], modifiers: modifier::Day) -> Option<ParsedItem<'_, NonZero<u8>>>
+    ensures { Finds (Spells false (component.Day modifiers)) (λ n. number n.value) input.now result }
+{
+    let modifier::Day { padding } = modifiers;
+    let day = two_digits(input, padding)?;
+    Some(ParsedItem(day.0, NonZero::<u8>::new(day.1)?))
+}
+
+/// Reads the hour on a clock of 12 hours, in two places, 0 to 99. `None` where none stands.
+#[inline]
+pub fn parse_hour_12(input: &[u8], modifiers: modifier::Hour12) -> Option<ParsedItem<'_, u8>>
+    ensures { Finds (Spells false (component.Hour12 modifiers)) number input.now result }
+{
+    let modifier::Hour12 { padding } = modifiers;
+    two_places(input, padding)
+}
+
+/// Reads the hour on a clock of 24 hours, in two places, 0 to 99. `None` where none stands.
+#[inline]
+pub fn parse_hour_24(input: &[u8], modifiers: modifier::Hour24) -> Option<ParsedItem<'_, u8>>
+    ensures { Finds (Spells false (component.Hour24 modifiers)) number input.now result }
+{
+    let modifier::Hour24 { padding } = modifiers;
+    two_places(input, padding)
+}
+
+/// Reads the minute, in two places, 0 to 99. `None` where none stands.
+#[inline]
+pub fn parse_minute(input: &[u8], modifiers: modifier::Minute) -> Option<ParsedItem<'_, u8>>
+    ensures { Finds (Spells false (component.Minute modifiers)) number input.now result }
+{
+    let modifier::Minute { padding } = modifiers;
+    two_places(input, padding)
+}
+
+/// Reads the second, in two places, 0 to 99. `None` where none stands.
+#[inline]
+pub fn parse_second(input: &[u8], modifiers: modifier::Second) -> Option<ParsedItem<'_, u8>>
+    ensures { Finds (Spells false (component.Second modifiers)) number input.now result }
+{
+    let modifier::Second { padding } = modifiers;
+    two_places(input, padding)
+}
+
+/// Reads the half of the day: `AM` or `PM`, or `am` or `pm`, where the case matters, and else
+/// these letters in any case. `None` where none of them stands.
+#[inline]
+pub fn parse_period(input: &[u8], modifiers: modifier::Period) -> Option<ParsedItem<'_, Period>>
+    ensures { Finds (Spells false (component.Period modifiers)) period input.now result }
+{
+    match fast::period(input, modifiers) {
+        Some(period) => Some(period),
+        None => letters::period(input, modifiers),
+    }
+}
+
+/// Reads a fraction of a second, in nanoseconds: exactly so many digits, or one or more, of which
+/// 32 are read at most and the first nine count. `None` where too few stand.
+pub fn parse_subsecond(input: &[u8], modifiers: modifier::Subsecond) -> Option<ParsedItem<'_, u32>>
+    ensures { Finds (Spells false (component.Subsecond modifiers)) number input.now result }
+{
+    let modifier::Subsecond { digits } = modifiers;
+    match digits {
+        SubsecondDigits::One => fraction::<1>(input),
+        SubsecondDigits::Two => fraction::<2>(input),
+        SubsecondDigits::Three => fraction::<3>(input),
+        SubsecondDigits::Four => fraction::<4>(input),
+        SubsecondDigits::Five => fraction::<5>(input),
+        SubsecondDigits::Six => fraction::<6>(input),
+        SubsecondDigits::Seven => fraction::<7>(input),
+        SubsecondDigits::Eight => fraction::<8>(input),
+        SubsecondDigits::Nine => fraction::<9>(input),
+        SubsecondDigits::OneOrMore => long_fraction(input),
+    }
+}
+
+/// Reads the hours of an offset from UTC, in two places, with or without a sign. The bool says
+/// whether the sign is a minus. `None` where no such text stands, also where a mandatory sign is
+/// missing.
+#[inline(always)]
+pub fn parse_offset_hour(
+    input: &[u8],
+    modifiers: modifier::OffsetHour,
+) -> Option<ParsedItem<'_, (i8, bool)>>
+    ensures { Finds (Spells false (component.OffsetHour modifiers)) (λ v. flagged v.0 v.1) input.now result }
+{
+    let modifier::OffsetHour {
+        padding,
+        sign_is_mandatory,
+    } = modifiers;
+    offset_hour(input, padding, sign_is_mandatory)
+}
+
+/// Reads the minutes of an offset from UTC, in two places and without a sign, 0 to 99. `None`
+/// where none stand.
+#[inline]
+pub fn parse_offset_minute(
+    input: &[u8],
+    modifiers: modifier::OffsetMinute,
+) -> Option<ParsedItem<'_, i8>>
+    ensures { Finds (Spells false (component.OffsetMinute modifiers)) signed input.now result }
+{
+    let modifier::OffsetMinute { padding } = modifiers;
+    offset_part(input, padding)
+}
+
+/// Reads the seconds of an offset from UTC, in two places and without a sign, 0 to 99. `None`
+/// where none stand.
+#[inline]
+pub fn parse_offset_second(
+    input: &[u8],
+    modifiers: modifier::OffsetSecond,
+) -> Option<ParsedItem<'_, i8>>
+    ensures { Finds (Spells false (component.OffsetSecond modifiers)) signed input.now result }
+{
+    let modifier::OffsetSecond { padding } = modifiers;
+    offset_part(input, padding)
+}
+
+/// Skips so many bytes. `None` where fewer are left.
+#[inline]
+pub fn parse_ignore(input: &[u8], modifiers: modifier::Ignore) -> Option<ParsedItem<'_, ()>>
+    ensures { Finds (Spells false (component.Ignore modifiers)) (λ unit. nothing) input.now result }
+{
+    let modifier::Ignore { count } = modifiers;
+    let (_, rest) = input.split_at_checked(usize::from(count.get()))?;
+    Some(ParsedItem(rest, ()))
+}
+
+/// Reads seconds since 1970-01-01T00:00:00Z, in up to 14 digits, with or without a sign, and
+/// answers them in nanoseconds. `None` where no such text stands, also where a mandatory sign is
+/// missing.
+#[inline]
+pub fn parse_unix_timestamp_second(
+    input: &[u8],
+    modifiers: modifier::UnixTimestampSecond,
+) -> Option<ParsedItem<'_, i128>>
+    ensures { Finds (Spells false (component.UnixTimestampSecond modifiers)) signed input.now result }
+{
+    let modifier::UnixTimestampSecond { sign_is_mandatory } = modifiers;
+    timestamp::<14>(input, 1_000_000_000, sign_is_mandatory)
+}
+
+/// Reads milliseconds since 1970-01-01T00:00:00Z, in up to 17 digits, with or without a sign, and
+/// answers them in nanoseconds. `None` where no such text stands, also where a mandatory sign is
+/// missing.
+#[inline]
+pub fn parse_unix_timestamp_millisecond(
+    input: &[u8],
+    modifiers: modifier::UnixTimestampMillisecond,
+) -> Option<ParsedItem<'_, i128>>
+    ensures { Finds (Spells false (component.UnixTimestampMillisecond modifiers)) signed input.now result }
+{
+    let modifier::UnixTimestampMillisecond { sign_is_mandatory } = modifiers;
+    timestamp::<17>(input, 1_000_000, sign_is_mandatory)
+}
+
+/// Reads microseconds since 1970-01-01T00:00:00Z, in up to 20 digits, with or without a sign, and
+/// answers them in nanoseconds. `None` where no such text stands, also where a mandatory sign is
+/// missing.
+#[inline]
+pub fn parse_unix_timestamp_microsecond(
+    input: &[u8],
+    modifiers: modifier::UnixTimestampMicrosecond,
+) -> Option<ParsedItem<'_, i128>>
+    ensures { Finds (Spells false (component.UnixTimestampMicrosecond modifiers)) signed input.now result }
+{
+    let modifier::UnixTimestampMicrosecond { sign_is_mandatory } = modifiers;
+    timestamp::<20>(input, 1_000, sign_is_mandatory)
+}
+
+/// Reads nanoseconds since 1970-01-01T00:00:00Z, in up to 23 digits, with or without a sign, and
+/// answers them in nanoseconds. `None` where no such text stands, also where a mandatory sign is
+/// missing.
+#[inline]
+pub fn parse_unix_timestamp_nanosecond(
+    input: &[u8],
+    modifiers: modifier::UnixTimestampNanosecond,
+) -> Option<ParsedItem<'_, i128>>
+    ensures { Finds (Spells false (component.UnixTimestampNanosecond modifiers)) signed input.now result }
+{
+    let modifier::UnixTimestampNanosecond { sign_is_mandatory } = modifiers;
+    timestamp::<23>(input, 1, sign_is_mandatory)
+}
+
+/// Reads the end of the input, with all that is left of it where that is discarded. `None` where
+/// bytes are left and prohibited.
+#[inline]
+pub fn parse_end(input: &[u8], modifiers: modifier::End) -> Option<ParsedItem<'_, ()>>
+    ensures { Finds (Spells false (component.End modifiers)) (λ unit. nothing) input.now result }
+{
+    let modifier::End { trailing_input } = modifiers;
+    match trailing_input {
+        TrailingInput::Prohibit if input.is_empty() => Some(ParsedItem(input, ())),
+        TrailingInput::Prohibit => None,
+        TrailingInput::Discard => Some(ParsedItem(&input[input.len()..], ())),
+    }
+}

@@ -1,0 +1,184 @@
+//! The commonest texts of components, read with no call.
+//!
+//! Each reader answers what the component's plain reader answers, under each padding, or `None`: not this form. Then the
+//! plain reader decides.
+ghost use Rattle.std.specs.Prelude.{◌≡◌, IfSome, take, true};
+ghost use Rattle.std.specs.Int.NonZero.{non_zero_u16_get};
+ghost use Rattle.time_digits.specs.Cuts.{Cut};
+ghost use Rattle.time_components.specs.Names as Names;
+ghost use Rattle.time_components.specs.Names.{period_name};
+ghost use Rattle.time_components.specs.Spelling as Spelling;
+ghost use Rattle.time_components.specs.Spelling.{IsFractionRun, IsNameOf, IsPositiveRun, IsShortOf, Says, SaysOffsetHour, SaysYear, flagged, least_digits, month, most_digits, number, signed, weekday};
+
+use crate::combinator::{exactly_n_digits, sign, two_digits};
+use crate::component::numbers::signed_hour;
+use crate::{Padding, ParsedItem, Period, SubsecondDigits, modifier};
+use std::num::NonZero;
+use time_values::{Month, Weekday};
+
+/// Reads a year of four digits without a sign. `None`: not this form.
+#[inline(always)]
+pub fn year<const MOST: u8>(
+    input: &[u8],
+    padding: Padding,
+    sign_is_mandatory: bool,
+) -> Option<ParsedItem<'_, i32>>
+    ensures { IfSome result (λ found. Cut (SaysYear sign_is_mandatory padding MOST)
+        input.now found.0.now (signed found.1)) }
+{
+    if sign_is_mandatory {
+        return None;
+    }
+    let year = exactly_n_digits::<4>(input)?;
+    Some(ParsedItem(year.0, year.1 as i32))
+}
+
+/// Reads an ordinal of three digits. `None`: not this form.
+#[inline(always)]
+pub fn ordinal(input: &[u8], padding: Padding) -> Option<ParsedItem<'_, NonZero<u16>>>
+    ensures { IfSome result (λ found. Cut (Says number (IsPositiveRun padding 3))
+        input.now found.0.now (number (non_zero_u16_get found.1))) }
+{
+    let ordinal = exactly_n_digits::<3>(input)?;
+    Some(ParsedItem(ordinal.0, NonZero::<u16>::new(ordinal.1 as u16)?))
+}
+
+/// Reads a sign and two digits of an offset's hour. The bool says whether the sign is a minus. `None`: not this form.
+#[inline(always)]
+pub fn offset_hour(
+    input: &[u8],
+    padding: Padding,
+    sign_is_mandatory: bool,
+) -> Option<ParsedItem<'_, (i8, bool)>>
+    ensures { IfSome result (λ found. Cut (SaysOffsetHour sign_is_mandatory padding)
+        input.now found.0.now (flagged found.1.0 found.1.1)) }
+{
+    let sign = sign(input)?;
+    let hour = two_digits(sign.0)?;
+    Some(ParsedItem(hour.0, signed_hour(sign.1, hour.1)))
+}
+
+/// Reads a fraction of up to nine digits, where it may have any number of them. `None`: not this form.
+#[inline(always)]
+pub fn subsecond(input: &[u8], digits: SubsecondDigits) -> Option<ParsedItem<'_, u32>>
+    ensures { IfSome result (λ found. Cut (Says number (IsFractionRun (least_digits digits) (most_digits digits)))
+        input.now found.0.now (number found.1)) }
+{
+    match digits {
+        SubsecondDigits::OneOrMore => short_fraction(input),
+        _ => None,
+    }
+}
+
+// Reads a fraction of one to nine digits, in nanoseconds.
+#[inline(always)]
+fn short_fraction(input: &[u8]) -> Option<ParsedItem<'_, u32>>
+    ensures { IfSome result (λ found. Cut (Says number (IsFractionRun 1 32))
+        input.now found.0.now (number found.1)) }
+{
+    let mut nanoseconds = 0;
+    // What a one counts at the last place that is read.
+    let mut unit = 1_000_000_000;
+    let mut rest = input;
+    while let [digit @ b'0'..=b'9', tail @ ..] = rest {
+        unit /= 10;
+        if unit == 0 {
+            return None;
+        }
+        nanoseconds += unit * u32::from(*digit - b'0');
+        rest = tail;
+    }
+    if unit == 1_000_000_000 {
+        return None;
+    }
+    Some(ParsedItem(rest, nanoseconds))
+}
+
+// Reads a month's first three letters, a capital and two small ones. `None`: not this form.
+#[inline(always)]
+pub(super) fn month_short(input: &[u8], case_sensitive: bool) -> Option<ParsedItem<'_, Month>>
+    ensures { IfSome result (λ found. Cut (Says month (IsShortOf case_sensitive Names.month_name))
+        input.now found.0.now (month found.1)) }
+{
+    let [first, second, third, rest @ ..] = input else {
+        return None;
+    };
+    let month = month_name([*first, *second, *third])?;
+    Some(ParsedItem(rest, month))
+}
+
+// Reads a weekday's first three letters, a capital and two small ones. `None`: not this form.
+#[inline(always)]
+pub(super) fn weekday_short(input: &[u8], case_sensitive: bool) -> Option<ParsedItem<'_, Weekday>>
+    ensures { IfSome result (λ found. Cut (Says weekday (IsShortOf case_sensitive Names.weekday_name))
+        input.now found.0.now (weekday found.1)) }
+{
+    let [first, second, third, rest @ ..] = input else {
+        return None;
+    };
+    let weekday = weekday_name([*first, *second, *third])?;
+    Some(ParsedItem(rest, weekday))
+}
+
+/// The month whose name begins with these letters as they stand. `None`: not this form.
+#[inline(always)]
+pub fn month_name(letters: [u8; 3]) -> Option<Month>
+    ensures { IfSome result (λ v. letters ≡ take 3 (Names.month_name v)) }
+{
+    match &letters {
+        b"Jan" => Some(Month::January),
+        b"Feb" => Some(Month::February),
+        b"Mar" => Some(Month::March),
+        b"Apr" => Some(Month::April),
+        b"May" => Some(Month::May),
+        b"Jun" => Some(Month::June),
+        b"Jul" => Some(Month::July),
+        b"Aug" => Some(Month::August),
+        b"Sep" => Some(Month::September),
+        b"Oct" => Some(Month::October),
+        b"Nov" => Some(Month::November),
+        b"Dec" => Some(Month::December),
+        _ => None,
+    }
+}
+
+/// The weekday whose name begins with these letters as they stand. `None`: not this form.
+#[inline(always)]
+pub fn weekday_name(letters: [u8; 3]) -> Option<Weekday>
+    ensures { IfSome result (λ v. letters ≡ take 3 (Names.weekday_name v)) }
+{
+    match &letters {
+        b"Mon" => Some(Weekday::Monday),
+        b"Tue" => Some(Weekday::Tuesday),
+        b"Wed" => Some(Weekday::Wednesday),
+        b"Thu" => Some(Weekday::Thursday),
+        b"Fri" => Some(Weekday::Friday),
+        b"Sat" => Some(Weekday::Saturday),
+        b"Sun" => Some(Weekday::Sunday),
+        _ => None,
+    }
+}
+
+// Reads `AM` or `PM`, where capitals are taken. `None`: not this form.
+#[inline(always)]
+pub(super) fn period(input: &[u8], modifiers: modifier::Period) -> Option<ParsedItem<'_, Period>>
+    ensures { IfSome result (λ found. Cut (Says Spelling.period (IsNameOf modifiers.case_sensitive (period_name modifiers.is_uppercase)))
+        input.now found.0.now (Spelling.period found.1)) }
+{
+    match capitals(input) {
+        Some(found) if modifiers.is_uppercase || !modifiers.case_sensitive => Some(found),
+        _ => None,
+    }
+}
+
+// Reads `AM` or `PM`.
+#[inline(always)]
+fn capitals(input: &[u8]) -> Option<ParsedItem<'_, Period>>
+    ensures { IfSome result (λ found. Cut (λ text rest v. text ≡ period_name true v) input.now found.0.now found.1) }
+{
+    match input {
+        [b'A', b'M', rest @ ..] => Some(ParsedItem(rest, Period::Am)),
+        [b'P', b'M', rest @ ..] => Some(ParsedItem(rest, Period::Pm)),
+        _ => None,
+    }
+}

@@ -1,0 +1,157 @@
+//! Names of months and weekdays.
+ghost use Rattle.std.specs.Prelude.{◌≡◌, ◌↔◌, drop, IsTrue};
+ghost use Rattle.time_digits.specs.Cuts.{Finds};
+ghost use Rattle.time_components.specs.Names.{IsNamed, month_name, weekday_name};
+ghost use Rattle.time_components.specs.ShortNames as ShortNames;
+ghost use Rattle.time_components.specs.ShortNames.{IsTitleCase, IsWithLetters, IsEnding};
+ghost use Rattle.time_components.specs.Spelling.{IsShortOf, Says, month, weekday};
+
+use crate::ParsedItem;
+use time_values::{Month, Weekday};
+
+// Reads the first three letters of a month's name.
+#[inline(always)]
+pub(super) fn month_short(input: &[u8], case_sensitive: bool) -> Option<ParsedItem<'_, Month>>
+    ensures { Finds (Says month (IsShortOf case_sensitive month_name)) month input.now result }
+{
+    let letters = three_letters(input, case_sensitive)?;
+    let month = month_of(letters.1)?;
+    Some(ParsedItem(letters.0, month))
+}
+
+// Reads the first three letters of a weekday's name.
+#[inline(always)]
+pub(super) fn weekday_short(input: &[u8], case_sensitive: bool) -> Option<ParsedItem<'_, Weekday>>
+    ensures { Finds (Says weekday (IsShortOf case_sensitive weekday_name)) weekday input.now result }
+{
+    let letters = three_letters(input, case_sensitive)?;
+    let weekday = weekday_of(letters.1)?;
+    Some(ParsedItem(letters.0, weekday))
+}
+
+// Reads three bytes as small letters. Where the case matters, they have to be a capital and two small
+// letters.
+#[inline(always)]
+fn three_letters(input: &[u8], case_sensitive: bool) -> Option<ParsedItem<'_, [u8; 3]>>
+    ensures { Finds (IsTitleCase case_sensitive) (λ v. v) input.now result }
+{
+    let [first, second, third, rest @ ..] = input else {
+        return None;
+    };
+    if case_sensitive && !is_title_case([*first, *second, *third]) {
+        return None;
+    }
+    let small = [
+        first.to_ascii_lowercase(),
+        second.to_ascii_lowercase(),
+        third.to_ascii_lowercase(),
+    ];
+    Some(ParsedItem(rest, small))
+}
+
+// Whether the letters are a capital and two small ones.
+#[inline]
+fn is_title_case(letters: [u8; 3]) -> bool
+    ensures { result ≡ ShortNames.is_title_case letters }
+{
+    let [first, second, third] = letters;
+    first.is_ascii_uppercase() && second.is_ascii_lowercase() && third.is_ascii_lowercase()
+}
+
+// The month whose name begins with these small letters.
+#[inline(always)]
+fn month_of(letters: [u8; 3]) -> Option<Month>
+    ensures { IsWithLetters month_name letters result }
+{
+    match &letters {
+        b"jan" => Some(Month::January),
+        b"feb" => Some(Month::February),
+        b"mar" => Some(Month::March),
+        b"apr" => Some(Month::April),
+        b"may" => Some(Month::May),
+        b"jun" => Some(Month::June),
+        b"jul" => Some(Month::July),
+        b"aug" => Some(Month::August),
+        b"sep" => Some(Month::September),
+        b"oct" => Some(Month::October),
+        b"nov" => Some(Month::November),
+        b"dec" => Some(Month::December),
+        _ => None,
+    }
+}
+
+// The weekday whose name begins with these small letters.
+#[inline(always)]
+fn weekday_of(letters: [u8; 3]) -> Option<Weekday>
+    ensures { IsWithLetters weekday_name letters result }
+{
+    match &letters {
+        b"mon" => Some(Weekday::Monday),
+        b"tue" => Some(Weekday::Tuesday),
+        b"wed" => Some(Weekday::Wednesday),
+        b"thu" => Some(Weekday::Thursday),
+        b"fri" => Some(Weekday::Friday),
+        b"sat" => Some(Weekday::Saturday),
+        b"sun" => Some(Weekday::Sunday),
+        _ => None,
+    }
+}
+
+// What follows the first three letters of the month's name.
+pub(super) fn month_ending(month: Month) -> &'static [u8]
+    ensures { result.now ≡ drop 3 (month_name month) }
+{
+    match month {
+        Month::January => b"uary",
+        Month::February => b"ruary",
+        Month::March => b"ch",
+        Month::April => b"il",
+        Month::May => b"",
+        Month::June => b"e",
+        Month::July => b"y",
+        Month::August => b"ust",
+        Month::September => b"tember",
+        Month::October => b"ober",
+        Month::November | Month::December => b"ember",
+    }
+}
+
+// What follows the first three letters of the weekday's name.
+pub(super) fn weekday_ending(weekday: Weekday) -> &'static [u8]
+    ensures { result.now ≡ drop 3 (weekday_name weekday) }
+{
+    match weekday {
+        Weekday::Tuesday => b"sday",
+        Weekday::Wednesday => b"nesday",
+        Weekday::Thursday => b"rsday",
+        Weekday::Saturday => b"urday",
+        Weekday::Monday | Weekday::Friday | Weekday::Sunday => b"day",
+    }
+}
+
+// Reads the ending of a name.
+pub(super) fn ending_of<'a>(
+    input: &'a [u8],
+    ending: &[u8],
+    case_sensitive: bool,
+) -> Option<ParsedItem<'a, ()>>
+    ensures { Finds (IsEnding ending.now case_sensitive) (λ v. v) input.now result }
+{
+    match input.split_at_checked(ending.len()) {
+        Some(parts) if is_named(parts.0, ending, case_sensitive) => {
+            Some(ParsedItem(parts.1, ()))
+        }
+        _ => None,
+    }
+}
+
+// Whether the text is the name.
+fn is_named(text: &[u8], name: &[u8], case_sensitive: bool) -> bool
+    ensures { IsTrue result ↔ IsNamed case_sensitive name.now text.now }
+{
+    if case_sensitive {
+        text == name
+    } else {
+        text.eq_ignore_ascii_case(name)
+    }
+}

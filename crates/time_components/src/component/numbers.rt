@@ -1,0 +1,233 @@
+//! Numbers under a padding, and numbers with a sign.
+ghost use Rattle.std.specs.Prelude.{◌≡◌, ◌+◌, ◌*◌, ◌^◌, ◌<◌, ◌≤◌, pos};
+ghost use Rattle.time_values.specs.Sign.{signed_by};
+ghost use Rattle.time_digits.specs.Bytes.{is_negative};
+ghost use Rattle.time_digits.specs.Cuts.{Finds, NoCut};
+ghost use Rattle.time_digits.specs.Digits.{IsDigitRun, IsPaddedRun};
+ghost use Rattle.time_digits.specs.declared.Padding.TheVariants.{Space};
+ghost use Rattle.time_components.specs.Spelling.{IsPositiveRun, Says, SaysYear, SaysCentury, SaysTimestamp, SaysOffsetHour, IsSigned, number, signed, flagged, positive};
+
+use crate::combinator::{self, n_to_m_digits_padded, one_or_two_digits, sign};
+use crate::{Integer, Padding, ParsedItem, Sign};
+use std::num::NonZero;
+
+// Reads `N` to `M` digits under the padding, where the type holds each number of `M` digits.
+#[inline(always)]
+fn run<const N: u8, const M: u8, T: Integer>(
+    input: &[u8],
+    padding: Padding,
+) -> Option<ParsedItem<'_, T>>
+    requires least { 1 ≤ N }
+    requires ordered { N ≤ M }
+    requires most { M ≤ T.MAX_NUM_DIGITS }
+    requires fits { 10 ^ M ≤ T.greatest + 1 }
+    ensures { Finds (IsPaddedRun padding N M) T.value input.now result }
+{
+    n_to_m_digits_padded::<N, M, T>(input, padding)
+}
+
+// Reads a number in two places: two digits under each padding, else one digit, alone or after a space.
+#[inline(always)]
+pub(super) fn two_digits(input: &[u8], padding: Padding) -> Option<ParsedItem<'_, u8>>
+    ensures { Finds (IsPaddedRun padding 2 2) (λ v. v) input.now result }
+{
+    if let Some(found) = combinator::two_digits(input) {
+        return Some(found);
+    }
+    match padding {
+        Padding::Zero => None,
+        Padding::None => one_or_two_digits(input),
+        Padding::Space => spaced_digit(input),
+    }
+}
+
+// Reads a space and a digit, where two digits don't stand.
+#[inline(always)]
+#[tactic(auto, using(time_digits::proofs::PaddedRuns::no_spaced_digit))]
+fn spaced_digit(input: &[u8]) -> Option<ParsedItem<'_, u8>>
+    requires { NoCut (IsDigitRun 2 2) input.now }
+    ensures { Finds (IsPaddedRun Space 2 2) (λ v. v) input.now result }
+{
+    let [space, digit, rest @ ..] = input else {
+        return None;
+    };
+    if *space == b' ' && b'0' <= *digit && *digit <= b'9' {
+        Some(ParsedItem(rest, *digit - b'0'))
+    } else {
+        None
+    }
+}
+
+// Reads a number in two places.
+#[inline(always)]
+pub(super) fn two_places(input: &[u8], padding: Padding) -> Option<ParsedItem<'_, u8>>
+    ensures { Finds (Says number (IsPaddedRun padding 2 2)) number input.now result }
+{
+    two_digits(input, padding)
+}
+
+// Reads an ordinal in three places, 1 to 999.
+#[inline]
+pub(super) fn ordinal(input: &[u8], padding: Padding) -> Option<ParsedItem<'_, NonZero<u16>>>
+    ensures { Finds (Says number (IsPositiveRun padding 3)) (λ n. number n.value) input.now result }
+{
+    let ordinal = run::<3, 3, u16>(input, padding)?;
+    Some(ParsedItem(ordinal.0, NonZero::<u16>::new(ordinal.1)?))
+}
+
+// Reads a sign and `N` to `M` digits under the padding. Without a sign, which then mustn't be
+// mandatory, it reads `A` to `B` digits under the second padding.
+#[inline]
+fn sign_and_run<const N: u8, const M: u8, const A: u8, const B: u8, T: Integer>(
+    input: &[u8],
+    sign_is_mandatory: bool,
+    padding: Padding,
+    padding_alone: Padding,
+) -> Option<ParsedItem<'_, (Sign, T)>>
+    requires least { 1 ≤ N }
+    requires ordered { N ≤ M }
+    requires most { M ≤ T.MAX_NUM_DIGITS }
+    requires fits { 10 ^ M ≤ T.greatest + 1 }
+    requires least_alone { 1 ≤ A }
+    requires ordered_alone { A ≤ B }
+    requires most_alone { B ≤ T.MAX_NUM_DIGITS }
+    requires fits_alone { 10 ^ B ≤ T.greatest + 1 }
+    ensures { Finds (IsSigned sign_is_mandatory (IsPaddedRun padding N M) (IsPaddedRun padding_alone A B))
+        (λ v. (v.0, T.value v.1)) input.now result }
+{
+    match sign(input) {
+        Some(found) => {
+            let number = run::<N, M, T>(found.0, padding)?;
+            Some(ParsedItem(number.0, (found.1, number.1)))
+        }
+        None if sign_is_mandatory => None,
+        None => {
+            let number = run::<A, B, T>(input, padding_alone)?;
+            Some(ParsedItem(number.0, (Sign::Positive, number.1)))
+        }
+    }
+}
+
+// Reads a year: four digits, or a sign and four to `MOST` digits.
+#[cold]
+#[inline(never)]
+pub(super) fn full_year<const MOST: u8>(
+    input: &[u8],
+    padding: Padding,
+    sign_is_mandatory: bool,
+) -> Option<ParsedItem<'_, i32>>
+    requires least { 4 ≤ MOST }
+    requires most { MOST ≤ 6 }
+    ensures { Finds (SaysYear sign_is_mandatory padding MOST) signed input.now result }
+{
+    let found = sign_and_run::<4, MOST, 4, 4, u32>(input, sign_is_mandatory, padding, padding)?;
+    Some(ParsedItem(found.0, signed_year(found.1.0, found.1.1)))
+}
+
+// Reads a century: one or two digits, or a sign and two to `MOST` digits under the padding. The
+// bool says whether the sign is a minus.
+#[inline]
+pub(super) fn century<const MOST: u8>(
+    input: &[u8],
+    padding: Padding,
+    sign_is_mandatory: bool,
+) -> Option<ParsedItem<'_, (i16, bool)>>
+    requires least { 2 ≤ MOST }
+    requires most { MOST ≤ 4 }
+    ensures { Finds (SaysCentury sign_is_mandatory padding MOST) (λ v. flagged v.0 v.1) input.now result }
+{
+    let found = sign_and_run::<2, MOST, 1, 2, u16>(
+        input,
+        sign_is_mandatory,
+        padding,
+        Padding::Zero,
+    )?;
+    Some(ParsedItem(found.0, signed_century(found.1.0, found.1.1)))
+}
+
+// Reads a time since 1970-01-01T00:00:00Z in up to `MOST` digits, in units of so many nanoseconds,
+// and answers it in nanoseconds.
+#[inline]
+pub(super) fn timestamp<const MOST: u8>(
+    input: &[u8],
+    unit: u128,
+    sign_is_mandatory: bool,
+) -> Option<ParsedItem<'_, i128>>
+    requires least { 1 ≤ MOST }
+    requires most { MOST ≤ 23 }
+    requires fits { 10 ^ MOST * unit ≤ 10 ^ 23 }
+    ensures { Finds (SaysTimestamp unit sign_is_mandatory MOST) signed input.now result }
+{
+    let found = sign_and_run::<1, MOST, 1, MOST, u128>(
+        input,
+        sign_is_mandatory,
+        Padding::Zero,
+        Padding::Zero,
+    )?;
+    Some(ParsedItem(found.0, signed_nanoseconds(found.1.0, found.1.1 * unit)))
+}
+
+// Reads the hours of an offset. The bool says whether the sign is a minus.
+#[cold]
+#[inline(never)]
+pub(super) fn offset_hour(
+    input: &[u8],
+    padding: Padding,
+    sign_is_mandatory: bool,
+) -> Option<ParsedItem<'_, (i8, bool)>>
+    ensures { Finds (SaysOffsetHour sign_is_mandatory padding) (λ v. flagged v.0 v.1) input.now result }
+{
+    let found = sign_and_run::<2, 2, 2, 2, u8>(input, sign_is_mandatory, padding, padding)?;
+    Some(ParsedItem(found.0, signed_hour(found.1.0, found.1.1)))
+}
+
+// Reads the minutes or the seconds of an offset, which have no sign.
+#[inline]
+pub(super) fn offset_part(input: &[u8], padding: Padding) -> Option<ParsedItem<'_, i8>>
+    ensures { Finds (Says positive (IsPaddedRun padding 2 2)) signed input.now result }
+{
+    let part = two_digits(input, padding)?;
+    Some(ParsedItem(part.0, part.1 as i8))
+}
+
+fn signed_year(sign: Sign, year: u32) -> i32
+    requires { year < 10 ^ 6 }
+    ensures { result ≡ signed_by (is_negative sign) (pos year) }
+{
+    match sign {
+        Sign::Negative => -(year as i32),
+        Sign::Positive => year as i32,
+    }
+}
+
+fn signed_century(sign: Sign, century: u16) -> (i16, bool)
+    requires { century < 10 ^ 4 }
+    ensures number { result.0 ≡ signed_by (is_negative sign) (pos century) }
+    ensures minus { result.1 ≡ is_negative sign }
+{
+    match sign {
+        Sign::Negative => (-(century as i16), true),
+        Sign::Positive => (century as i16, false),
+    }
+}
+
+pub(super) fn signed_hour(sign: Sign, hour: u8) -> (i8, bool)
+    requires { hour < 10 ^ 2 }
+    ensures number { result.0 ≡ signed_by (is_negative sign) (pos hour) }
+    ensures minus { result.1 ≡ is_negative sign }
+{
+    match sign {
+        Sign::Negative => (-(hour as i8), true),
+        Sign::Positive => (hour as i8, false),
+    }
+}
+
+fn signed_nanoseconds(sign: Sign, nanoseconds: u128) -> i128
+    requires { nanoseconds ≤ 10 ^ 23 }
+    ensures { result ≡ signed_by (is_negative sign) (pos nanoseconds) }
+{
+    match sign {
+        Sign::Negative => -(nanoseconds as i128),
+        Sign::Positive => nanoseconds as i128,
+    }
+}

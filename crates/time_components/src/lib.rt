@@ -1,0 +1,18 @@
+//! Readers of the components of date-time texts, and the descriptions that name them.
+//!
+//! The readers of digits, and what a reader answers, are those of `time_digits`.
+#![tactic(auto)]
+
+pub mod component;
+pub mod format_description;
+pub mod laws;
+pub mod modifier;
+mod step;
+
+pub use format_description::{
+    BorrowedFormatItem, Component, FormatDescriptionV3, FormatDescriptionV3Inner, OwnedFormatItem,
+    Period,
+};
+pub use modifier::{SubsecondDigits, TrailingInput};
+pub use step::{Group, Step};
+pub use time_digits::{Integer, Padding, ParsedItem, Sign, combinator};

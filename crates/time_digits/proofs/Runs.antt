@@ -1,0 +1,184 @@
+-- Runs of digits: how one grows, and that at most one cut of a text is one.
+use Rattle.std.proofs.Common.{◌≡◌, ℕ, zero, suc, ◌+◌, ◌-◌, ◌*◌, ◌^◌, ◌<◌, ◌≤◌, ◌⊎◌, List, [], ◌∷◌, ◌++◌, length, take, drop, get_or, refl, ap, sym, ◌∙◌, inl, inr, arith, subst, length-append, pow-suc, mul_assoc, mul_comm, mul-le-mul_right}
+use Rattle.std.proofs.lemmas.List.{length-take, length-take-le, take_all, take-append-drop, take_more}
+use Rattle.std.proofs.lemmas.Bool.{cases_lt}
+use Rattle.time_digits.specs.Cuts.{Cut, NoCut}
+use Rattle.time_digits.proofs.CutLemmas.{take-drop, IsUnique}
+use Rattle.time_digits.specs.Digits.{IsDigit, AllDigits, digits_value, NoDigitFirst, IsDigitRun, IsDigitRunUpTo}
+
+pub AllDigits-push : (xs : List ℕ) (c : ℕ) → AllDigits xs → IsDigit c → AllDigits (xs ++ c ∷ [])
+AllDigits-push [] c h d = (d, tt)
+AllDigits-push (x ∷ xs) c h d = (h.0, AllDigits-push xs c h.1 d)
+
+ten_times : (d p : ℕ) → d * (10 * p) ≡ 10 * (d * p)
+ten_times d p = omega (arith, mul_assoc d 10 p, mul_assoc 10 d p, mul_comm d 10)
+
+pow_next : (n : ℕ) → 10 ^ suc n ≡ 10 * 10 ^ n
+pow_next n = omega (arith, pow-suc 10 n)
+
+pub digits_value-push : (xs : List ℕ) (c : ℕ) → digits_value (xs ++ c ∷ []) ≡ 10 * digits_value xs + (c - 48)
+digits_value-push [] c = omega arith
+digits_value-push (x ∷ xs) c =
+    let one_more : length (xs ++ c ∷ []) ≡ suc (length xs) = omega (arith, length-append xs (c ∷ [])) in
+    let place : (x - 48) * 10 ^ length (xs ++ c ∷ []) ≡ 10 * ((x - 48) * 10 ^ length xs) =
+    ap (λ n. (x - 48) * 10 ^ n) one_more ∙ ap (λ p. (x - 48) * p) (pow_next (length xs)) ∙ ten_times (x - 48) (10 ^ length xs) in
+    let others = digits_value-push xs c in
+    omega arith
+
+pub digits_value-below : (xs : List ℕ) → AllDigits xs → digits_value xs < 10 ^ length xs
+digits_value-below [] h = omega arith
+digits_value-below (x ∷ xs) h =
+    let others = digits_value-below xs h.1 in
+    let first : (x - 48) * 10 ^ length xs ≤ 9 * 10 ^ length xs = mul-le-mul_right (10 ^ length xs) (omega (arith, h.0)) in
+    let place = pow-suc 10 (length xs) in
+    omega arith
+
+pub pow-mono : (m n : ℕ) → m ≤ n → 10 ^ m ≤ 10 ^ n
+pow-mono m zero h = let same : m ≡ 0 = omega arith in rw same (omega arith)
+pow-mono m (suc n) h =
+    let place = pow-suc 10 n in
+    elim (cases_lt n m) [
+      | inl past ↦ let same : m ≡ suc n = omega arith in rw same (omega arith)
+      | inr before ↦ let less = pow-mono m n before in omega arith
+    ]
+
+pub AllDigits-append : (xs ys : List ℕ) → AllDigits xs → AllDigits ys → AllDigits (xs ++ ys)
+AllDigits-append [] ys p q = q
+AllDigits-append (x ∷ xs) ys p q = (p.0, AllDigits-append xs ys p.1 q)
+
+pub AllDigits-take : (n : ℕ) (xs : List ℕ) → AllDigits xs → AllDigits (take n xs)
+AllDigits-take zero xs h = tt
+AllDigits-take (suc n) [] h = tt
+AllDigits-take (suc n) (x ∷ xs) h = (h.0, AllDigits-take n xs h.1)
+
+pub AllDigits-at : (xs : List ℕ) (n : ℕ) → AllDigits xs → n < length xs → IsDigit (get_or xs n 0)
+AllDigits-at [] n h below = absurd (omega arith)
+AllDigits-at (x ∷ xs) zero h below = h.0
+AllDigits-at (x ∷ xs) (suc n) h below = AllDigits-at xs n h.1 (omega arith)
+
+-- the value with one digit more
+pub digits_value-more : (s : List ℕ) (count : ℕ) → count < length s
+    → digits_value (take (count + 1) s) ≡ 10 * digits_value (take count s) + (get_or s count 0 - 48)
+digits_value-more s count h =
+    let more : take (count + 1) s ≡ take count s ++ get_or s count 0 ∷ [] = take_more s count 0 h in
+    ap digits_value more ∙ digits_value-push (take count s) (get_or s count 0)
+
+-- the value with the last digit
+pub digits_value-last : (s : List ℕ) (count : ℕ) → count + 1 ≡ length s
+    → digits_value s ≡ 10 * digits_value (take count s) + (get_or s count 0 - 48)
+digits_value-last s count e =
+    ap digits_value (sym (take_all (count + 1) s (omega arith))) ∙ digits_value-more s count (omega arith)
+
+-- one more digit fits where the greatest number has more digits
+pub digits_value-fits : (s : List ℕ) (count places greatest : ℕ) → AllDigits s → count < length s
+    → 10 ^ (places - 1) ≤ greatest → count + 1 < places
+    → 10 * digits_value (take count s) + (get_or s count 0 - 48) ≤ greatest
+digits_value-fits s count places greatest all h room few =
+    let l : length (take count s) ≡ count = length-take-le count s (omega arith) in
+    let below : digits_value (take count s) < 10 ^ count =
+    subst (λ n. digits_value (take count s) < 10 ^ n) l (digits_value-below (take count s) (AllDigits-take count s all)) in
+    let nine = AllDigits-at s count all h in
+    let place = pow-suc 10 count in
+    let wide = pow-mono (suc count) (places - 1) (omega arith) in
+    omega arith
+
+-- Two runs of digits in one text end at one place, from `done` digits on.
+one_end : (a b x y : List ℕ) (done most : ℕ) → AllDigits a → AllDigits b → a ++ x ≡ b ++ y → done + length a ≤ most → done + length b ≤ most
+    → (done + length a ≡ most) ⊎ NoDigitFirst x → (done + length b ≡ most) ⊎ NoDigitFirst y → (a ≡ b) × (x ≡ y)
+one_end [] [] x y n m da db e la lb ea eb = (refl, e)
+one_end [] (d ∷ b) x y n m da db e la lb (inl all) eb = absurd (omega arith)
+one_end [] (d ∷ b) x y n m da db e la lb (inr ends) eb = absurd (subst NoDigitFirst e ends db.0)
+one_end (c ∷ a) [] x y n m da db e la lb ea (inl all) = absurd (omega arith)
+one_end (c ∷ a) [] x y n m da db e la lb ea (inr ends) = absurd (subst NoDigitFirst (sym e) ends da.0)
+one_end (c ∷ a) (d ∷ b) x y n m da db e la lb ea eb =
+    let tails : a ++ x ≡ b ++ y = cc in
+    let ea' : ((n + 1) + length a ≡ m) ⊎ NoDigitFirst x = elim ea [ inl q ↦ inl (omega arith) | inr q ↦ inr q ] in
+    let eb' : ((n + 1) + length b ≡ m) ⊎ NoDigitFirst y = elim eb [ inl q ↦ inl (omega arith) | inr q ↦ inr q ] in
+    let is = one_end a b x y (n + 1) m da.1 db.1 tails (omega arith) (omega arith) ea' eb' in
+    let text = is.0 in
+    let rest = is.1 in
+    (cc, rest)
+
+-- two texts of digits before texts that don't begin with one
+pub AllDigits-unique : (a b x y : List ℕ) → AllDigits a → AllDigits b → a ++ x ≡ b ++ y → NoDigitFirst x → NoDigitFirst y → (a ≡ b) × (x ≡ y)
+AllDigits-unique a b x y p q e ends ends' = one_end a b x y 0 (length a + length b) p q e (omega arith) (omega arith) (inr ends) (inr ends')
+
+-- at most one cut of a text is a run
+pub IsDigitRun-unique : (least least' most : ℕ) (a b x y : List ℕ) (v w : ℕ) → IsDigitRun least most a x v → IsDigitRun least' most b y w
+    → a ++ x ≡ b ++ y → (a ≡ b) × (x ≡ y) × (v ≡ w)
+IsDigitRun-unique least least' most a b x y v w p q e =
+    let ep : (0 + length a ≡ most) ⊎ NoDigitFirst x = elim p.ends [ inl h ↦ inl (omega arith) | inr h ↦ inr h ] in
+    let eq : (0 + length b ≡ most) ⊎ NoDigitFirst y = elim q.ends [ inl h ↦ inl (omega arith) | inr h ↦ inr h ] in
+    let is = one_end a b x y 0 most p.digits q.digits e (omega (arith, p.within)) (omega (arith, q.within)) ep eq in
+    (is.0, is.1, p.is ∙ ap digits_value is.0 ∙ sym q.is)
+
+pub IsDigitRun-one : (least most : ℕ) → IsUnique (IsDigitRun least most)
+IsDigitRun-one least most a b x y v w p q e = let is = IsDigitRun-unique least least most a b x y v w p q e in (is.1, is.2)
+
+-- the digits that stand there, as many as may, are a run
+pub leading_run : (s : List ℕ) (count most : ℕ) → count ≤ length s → count ≤ most → AllDigits (take count s)
+    → (count ≡ most) ⊎ NoDigitFirst (drop count s)
+    → IsDigitRun 0 most (take count s) (drop count s) (digits_value (take count s))
+leading_run s count most in_range within digits all =
+    let l : length (take count s) ≡ count = length-take-le count s in_range in
+    record {
+      digits = digits;
+      enough = omega arith;
+      within = omega arith;
+      ends = elim all [ inl most ↦ inl (l ∙ most) | inr none ↦ inr none ];
+      is = refl;
+    }
+
+-- they are too few
+pub IsDigitRun-short : (least most greatest count value : ℕ) (s : List ℕ)
+    → IsDigitRun 0 most (take count s) (drop count s) value → count < least → NoCut (IsDigitRunUpTo greatest least most) s
+IsDigitRun-short least most greatest count value s found h text rest v e (run, small) =
+    let whole = sym e ∙ sym (take-append-drop count s) in
+    let is = IsDigitRun-unique least 0 most text (take count s) rest (drop count s) v value run found whole in
+    let l : length text ≡ length (take count s) = ap length is.0 in
+    let m : length (take count s) ≤ count = omega (arith, length-take count s) in
+    omega (arith, run.enough)
+
+-- their value is too great
+pub IsDigitRun-great : (least most greatest count value : ℕ) (s : List ℕ)
+    → IsDigitRun 0 most (take count s) (drop count s) value → greatest < value → NoCut (IsDigitRunUpTo greatest least most) s
+IsDigitRun-great least most greatest count value s found h text rest v e (run, small) =
+    let whole = sym e ∙ sym (take-append-drop count s) in
+    let is = IsDigitRun-unique least 0 most text (take count s) rest (drop count s) v value run found whole in
+    let same : v ≡ value = is.2 in
+    omega arith
+
+-- a run has at most so many values
+pub IsDigitRun-below : (least most : ℕ) (text rest : List ℕ) (value : ℕ) → IsDigitRun least most text rest value → value < 10 ^ most
+IsDigitRun-below least most text rest value run =
+    let below = digits_value-below text run.digits in
+    let wide = pow-mono (length text) most run.within in
+    omega (arith, run.is)
+
+-- the value of a run in a text is one
+pub IsDigitRun-same : (least most : ℕ) (s rest : List ℕ) (value : ℕ) → Cut (IsDigitRun least most) s rest value
+    → (text after : List ℕ) (v : ℕ) → s ≡ text ++ after → IsDigitRun least most text after v → v ≡ value
+IsDigitRun-same least most s rest value cut text after v e run =
+    (IsDigitRun-unique least least most text cut.0 after rest v value run cut.2 (sym e ∙ cut.1)).2
+
+-- four digits that stand there
+pub IsDigitRun-four : (s : List ℕ) (value : ℕ) → 4 ≤ length s → IsDigit (get_or s 0 0) → IsDigit (get_or s 1 0)
+    → IsDigit (get_or s 2 0) → IsDigit (get_or s 3 0)
+    → value ≡ 1000 * (get_or s 0 0 - 48) + 100 * (get_or s 1 0 - 48) + 10 * (get_or s 2 0 - 48) + (get_or s 3 0 - 48)
+    → Cut (IsDigitRun 4 4) s (take (length s - 4) (drop 4 s)) value
+IsDigitRun-four [] value h i j k l e = absurd (omega arith)
+IsDigitRun-four (a ∷ []) value h i j k l e = absurd (omega arith)
+IsDigitRun-four (a ∷ b ∷ []) value h i j k l e = absurd (omega arith)
+IsDigitRun-four (a ∷ b ∷ c ∷ []) value h i j k l e = absurd (omega arith)
+IsDigitRun-four (a ∷ b ∷ c ∷ d ∷ s) value h i j k l e = (
+  a ∷ b ∷ c ∷ d ∷ [],
+  ap (λ r. a ∷ b ∷ c ∷ d ∷ r) (sym (take-drop (a ∷ b ∷ c ∷ d ∷ s) 4 h)),
+  record { digits = (i, (j, (k, (l, tt)))); enough = omega arith; within = omega arith; ends = inl refl; is = omega arith },
+)
+
+-- what is said by a run of digits at the beginning of a text
+pub run_says : {N : Type 0} (least most : ℕ) (f : ℕ → N) (a b x y : List ℕ) (v w : ℕ) (m k : N) → IsDigitRun least most a x v
+    → IsDigitRun least most b y w → a ++ x ≡ b ++ y → m ≡ f v → k ≡ f w → (x ≡ y) × (m ≡ k)
+run_says least most f a b x y v w m k p q e says says' =
+    let is = IsDigitRun-unique least least most a b x y v w p q e in
+    (is.1, says ∙ ap f is.2 ∙ sym says')

@@ -1,0 +1,5 @@
+pub mod Bytes
+pub mod CombinatorFast
+pub mod Cuts
+pub mod Digits
+pub mod Laws

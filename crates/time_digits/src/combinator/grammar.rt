@@ -1,0 +1,160 @@
+//! Runs of digits and of spaces, one byte after another.
+ghost use Rattle.std.specs.Prelude.{◌≡◌, ◌-◌, ◌^◌, ◌<◌, ◌≤◌, ◌⊎◌, ℕ, List, ◌++◌, MatchOption, IsTrue, ◌↔◌, length, take, drop, replicate};
+ghost use Rattle.time_digits.specs.Cuts.{Finds};
+ghost use Rattle.time_digits.specs.Digits.{IsDigit, AllDigits, digits_value, NoDigitFirst, NoSpaceFirst, IsDigitRun, IsDigitRunUpTo, IsFraction};
+
+use crate::combinator::{n_to_m_digits, three_digits, two_digits};
+use crate::{Integer, ParsedItem};
+
+// How many nanoseconds a one counts so many places after the point of a second.
+const NANOSECONDS_OF_PLACE: [u32; 10] = [
+    1_000_000_000,
+    100_000_000,
+    10_000_000,
+    1_000_000,
+    100_000,
+    10_000,
+    1_000,
+    100,
+    10,
+    1,
+];
+
+// Reads exactly `N` digits.
+#[inline]
+pub(super) fn exactly_n_digits<const N: u8>(input: &[u8]) -> Option<ParsedItem<'_, u32>>
+    requires { N ≤ 9 }
+    ensures { Finds (IsDigitRun N N) (λ v. v) input.now result }
+{
+    if N == 2 {
+        return match two_digits(input) {
+            Some(found) => Some(ParsedItem(found.0, u32::from(found.1))),
+            None => None,
+        };
+    }
+    if N == 3 {
+        return three_digits(input);
+    }
+    exact_run(input, N)
+}
+
+// Reads exactly `n` digits, one after another.
+#[inline]
+fn exact_run(input: &[u8], n: u8) -> Option<ParsedItem<'_, u32>>
+    requires { n ≤ 9 }
+    ensures { Finds (IsDigitRun n n) (λ v. v) input.now result }
+{
+    digit_run(input, usize::from(n), usize::from(n))
+}
+
+// The run of digits with which the input begins, if it is long enough and its value fits.
+#[inline]
+pub(super) fn digit_run<T: Integer>(
+    input: &[u8],
+    least: usize,
+    most: usize,
+) -> Option<ParsedItem<'_, T>>
+    requires { most ≤ T.MAX_NUM_DIGITS }
+    ensures { Finds (IsDigitRunUpTo T.greatest least most) T.value input.now result }
+{
+    let count = leading_digits(input, most);
+    if count < least {
+        return None;
+    }
+    let value = value_of_digits(&input[..count])?;
+    Some(ParsedItem(&input[count..], value))
+}
+
+/// How many digits the input begins with, counted up to `most`.
+#[inline]
+pub fn leading_digits(input: &[u8], most: usize) -> usize
+    ensures in_range { result ≤ length input.now }
+    ensures within { result ≤ most }
+    ensures digits { AllDigits (take result input.now) }
+    ensures all { (result ≡ most) ⊎ NoDigitFirst (drop result input.now) }
+{
+    let mut count = 0;
+    while count < most && count < input.len() && is_digit(input[count]) {
+        count += 1;
+    }
+    count
+}
+
+#[inline]
+fn is_digit(byte: u8) -> bool
+    ensures { IsTrue result ↔ IsDigit byte }
+{
+    byte >= b'0' && byte <= b'9'
+}
+
+// The number that the digits say, if it fits. It moves at each digit, so `T` need not be `Copy`.
+#[inline]
+fn value_of_digits<T: Integer>(digits: &[u8]) -> Option<T>
+    requires all { AllDigits digits.now }
+    requires most { length digits.now ≤ T.MAX_NUM_DIGITS }
+    ensures { MatchOption result
+        (T.greatest < digits_value digits.now)
+        (λ v. (T.value v ≡ digits_value digits.now) × (digits_value digits.now ≤ T.greatest)) }
+{
+    let mut value = T::ZERO;
+    let mut count = 0;
+    while count < digits.len() {
+        let digit = digits[count] - b'0';
+        count += 1;
+        if count < usize::from(T::MAX_NUM_DIGITS) {
+            value = value.push_digit(digit);
+        } else {
+            value = value.checked_push_digit(digit)?;
+        }
+    }
+    Some(value)
+}
+
+// How many spaces the input begins with, counted up to `most`.
+#[inline]
+pub(super) fn leading_spaces(input: &[u8], most: usize) -> usize
+    ensures in_range { result ≤ length input.now }
+    ensures within { result ≤ most }
+    ensures spaces { input.now ≡ replicate result 32 ++ drop result input.now }
+    ensures all { (result ≡ most) ⊎ NoSpaceFirst (drop result input.now) }
+{
+    let mut count = 0;
+    while count < most && count < input.len() && input[count] == b' ' {
+        count += 1;
+    }
+    count
+}
+
+// Reads the digits of a fraction of a second, as many as stand there, and answers nanoseconds: nine
+// digits count, later ones are dropped.
+pub(super) fn fraction(input: &[u8]) -> Option<ParsedItem<'_, u32>>
+    ensures { Finds IsFraction (λ v. v) input.now result }
+{
+    let Some(found) = n_to_m_digits::<1, 9, u32>(input) else {
+        return None;
+    };
+    let count = input.len() - found.0.len();
+    let nanoseconds = found.1 * nanoseconds_of_place(count);
+    Some(ParsedItem(without_digits(found.0), nanoseconds))
+}
+
+// What follows the digits with which the input begins.
+#[inline(always)]
+pub(super) fn without_digits(input: &[u8]) -> &[u8]
+    ensures { (digits : List ℕ) × (input.now ≡ digits ++ result.now) × AllDigits digits × NoDigitFirst result.now }
+{
+    let mut rest = input;
+    while let [b'0'..=b'9', tail @ ..] = rest {
+        rest = tail;
+    }
+    rest
+}
+
+// How many nanoseconds a one counts so many places after the point of a second.
+#[inline]
+fn nanoseconds_of_place(digits: usize) -> u32
+    requires { digits ≤ 9 }
+    ensures { result ≡ 10 ^ (9 - digits) }
+{
+    NANOSECONDS_OF_PLACE[digits]
+}

@@ -1,0 +1,4 @@
+pub mod Fault
+pub mod Arguments
+pub mod Request
+pub mod Laws

@@ -1,0 +1,83 @@
+//! Reads texts of dates and times from standard input, and prints what they say.
+//!
+//! `time_parse FORMAT TARGET` reads each line by the format, and answers it by a line.
+#![tactic(auto)]
+
+mod arguments;
+mod fault;
+mod laws;
+mod request;
+mod serving;
+#[cfg(test)]
+mod tests;
+
+use arguments::{Command, Question, command_of};
+use fault::told;
+use serving::{Failure, serve};
+use std::io::Write;
+use std::process::ExitCode;
+use std::{env, io};
+
+const USAGE: &str = "usage: time_parse [--v1] FORMAT TARGET";
+
+const HELP: &str = "Reads texts from standard input, one a line, and answers each by a line: its
+value, or `error: ` and why it has none.
+
+FORMAT is a name: rfc3339, rfc2822, iso8601, ymd, clock, unix or local.
+Else it is a description, where it has a `[`, as `[year]-[month]-[day]`. With
+--v1 it is one of version 1.
+Else it is a description as strftime has it, where it has a `%`, as `%d/%b/%Y`.
+TARGET is date, time, offset, plain, utc, datetime, staged or timestamp.
+
+The status is 0; or 1 after a failed write; or 2 after a fault of the arguments,
+or a failed read.";
+
+// Answers the lines of standard input, and gives the exit status.
+fn answer(rt: &HostRuntime, question: Question<'_>) -> io::Result<u8> {
+    match serve(
+        question,
+        rt.alloc(),
+        &mut rt.reader(),
+        &mut std::io::writer(rt),
+    ) {
+        Ok(()) => Ok(0),
+        Err(Failure::Stopped(stop)) => Ok(stop.status()),
+        Err(Failure::Asked(fault)) => {
+            let Ok(lines) = told(rt.alloc(), fault) else {
+                return Ok(2);
+            };
+            rt.stderr().write_all(lines.as_slice())?;
+            Ok(2)
+        }
+    }
+}
+
+// Tells how the program is called.
+fn tell_usage(rt: &HostRuntime) -> io::Result<u8> {
+    eprintln!(rt; "{USAGE}")?;
+    Ok(2)
+}
+
+// Does what the words of the command line ask for.
+fn follow(rt: &HostRuntime, words: &[String]) -> io::Result<u8> {
+    match command_of(words) {
+        Command::Help => {
+            println!(rt; "{USAGE}\n\n{HELP}")?;
+            Ok(0)
+        }
+        Command::Version => {
+            println!(rt; "time_parse 0.1.0")?;
+            Ok(0)
+        }
+        Command::Parse(question) => answer(rt, question),
+        Command::Unknown => tell_usage(rt),
+    }
+}
+
+fn main(rt: HostRuntime) -> io::Result<ExitCode> {
+    let Ok(arguments) = env::args(&rt) else {
+        return Ok(ExitCode::from(tell_usage(&rt)?));
+    };
+    let words: Vec<String> = arguments.skip(1).collect(rt.alloc())?;
+    Ok(ExitCode::from(follow(&rt, words.as_slice())?))
+}

@@ -1,0 +1,160 @@
+//! What the arguments ask for: which format reads a text, and what is made of it.
+ghost use Rattle.std.specs.Prelude.{◌≡◌, Some, IfOk, IfErr, MatchResult};
+ghost use Rattle.time_values.specs.Range.{greatest_year};
+ghost use Rattle.time_descriptions.specs.Description.{IsRefused, shape, version_of};
+ghost use Rattle.time_descriptions.specs.Grammar.{Describes};
+ghost use Rattle.time_descriptions.specs.Refusal.{refusal_of};
+ghost use Rattle.time_descriptions.specs.Strftime.{DescribesStrftime, IsRefusedStrftime};
+ghost use Rattle.time_answers.specs.Formats.{target_named};
+ghost use Rattle.time_parse.specs.Fault.{reason_of};
+ghost use Rattle.time_parse.specs.Request.{IsAnswer, IsFault, IsFaultBy, IsFaulty, Means, MeansTree, meaning_of, number_of, writing_of};
+
+use crate::fault::Fault;
+use std::io::Write;
+use time_answers::formats::{Format, Target, find_format, find_target};
+use time_answers::{Answering, Unwritten, write_parsed, write_value};
+use time_descriptions::{Description, InvalidFormatDescription, parse_borrowed, parse_strftime};
+
+// The most steps that a description may have. One of so many bytes has room.
+pub(crate) const MOST_STEPS: usize = 1024;
+
+/// The version of a description in brackets.
+#[derive(Clone, Copy, Debug, PartialEq, Eq)]
+pub enum Version {
+    /// The one in which `[[` stands for a bracket.
+    One,
+    /// The one in which `\[` does.
+    Two,
+}
+
+/// How a format is written.
+#[derive(Clone, Copy, Debug)]
+pub enum Writing {
+    /// By its name.
+    Name(Format),
+    /// As a description in brackets.
+    Brackets,
+    /// As a description of strftime.
+    Strftime,
+    /// In none of these ways.
+    Unknown,
+}
+
+/// The format that reads a text.
+#[derive(Drop)]
+pub enum Chosen {
+    /// One that has a name.
+    Named(Format),
+    /// One that is described.
+    Described(Description<MOST_STEPS>),
+}
+
+/// A format, and the target of its texts.
+#[derive(Drop)]
+pub struct Request {
+    chosen: Chosen,
+    target: Target,
+}
+
+// How the format is written: by a name, else as a description where it has a `[`, else as one of strftime where it has
+// a `%`.
+fn find_writing(format: &[u8]) -> Writing
+    ensures { result ≡ writing_of format.now }
+{
+    if let Some(named) = find_format(format) {
+        Writing::Name(named)
+    } else if format.contains(&b'[') {
+        Writing::Brackets
+    } else if format.contains(&b'%') {
+        Writing::Strftime
+    } else {
+        Writing::Unknown
+    }
+}
+
+// Reads a description in brackets of the version.
+fn read_brackets(
+    version: Version,
+    format: &[u8],
+) -> Result<Description<MOST_STEPS>, InvalidFormatDescription<'_>>
+    ensures ok { IfOk result (λ d. Describes (version_of (number_of version)) format.now (shape d)) }
+    ensures err { IfErr result (λ e. IsRefused MOST_STEPS (version_of (number_of version)) format.now (refusal_of e)) }
+{
+    match version {
+        Version::One => parse_borrowed::<1, MOST_STEPS>(format),
+        Version::Two => parse_borrowed::<2, MOST_STEPS>(format),
+    }
+}
+
+// The format that is described in brackets.
+fn bracketed(version: Version, format: &[u8]) -> Result<Chosen, Fault<'_>>
+    ensures { MatchResult result
+        (λ chosen. MeansTree (Describes (version_of (number_of version)) format.now) (meaning_of chosen))
+        (λ fault. IsFaulty (IsRefused MOST_STEPS (version_of (number_of version)) format.now) format.now (reason_of fault)) }
+{
+    match read_brackets(version, format) {
+        Ok(description) => Ok(Chosen::Described(description)),
+        Err(error) => Err(Fault::Description { format, error }),
+    }
+}
+
+// The format that is described as strftime has it.
+fn lettered(format: &[u8]) -> Result<Chosen, Fault<'_>>
+    ensures { MatchResult result
+        (λ chosen. MeansTree (DescribesStrftime format.now) (meaning_of chosen))
+        (λ fault. IsFaulty (IsRefusedStrftime MOST_STEPS format.now) format.now (reason_of fault)) }
+{
+    match parse_strftime::<MOST_STEPS>(format) {
+        Ok(description) => Ok(Chosen::Described(description)),
+        Err(error) => Err(Fault::Description { format, error }),
+    }
+}
+
+// What the format means, or its fault.
+fn choose(version: Version, format: &[u8]) -> Result<Chosen, Fault<'_>>
+    ensures { MatchResult result
+        (λ chosen. Means version format.now (meaning_of chosen))
+        (λ fault. IsFaultBy (writing_of format.now) version format.now (reason_of fault)) }
+{
+    match find_writing(format) {
+        Writing::Name(named) => Ok(Chosen::Named(named)),
+        Writing::Brackets => bracketed(version, format),
+        Writing::Strftime => lettered(format),
+        Writing::Unknown => Err(Fault::UnknownFormat { name: format }),
+    }
+}
+
+impl Request {
+    /// What the words ask for: a format that has a name, or is described, and the target of that name.
+    ///
+    /// # Errors
+    ///
+    /// The fault of the format, or else that of the target.
+    pub fn new<'a>(
+        version: Version,
+        format: &'a [u8],
+        target: &'a [u8],
+    ) -> Result<Request, Fault<'a>>
+        ensures { MatchResult result
+            (λ request. Means version format.now (meaning_of request.chosen) × (target_named target.now ≡ Some request.target))
+            (λ fault. IsFault version format.now target.now (reason_of fault)) }
+    {
+        let chosen = choose(version, format)?;
+        match find_target(target) {
+            Some(target) => Ok(Request { chosen, target }),
+            None => Err(Fault::UnknownTarget { name: target }),
+        }
+    }
+}
+
+impl Answering for Request {
+    ghost is_answer = { λ request. IsAnswer greatest_year (meaning_of request.chosen) request.target };
+
+    #[inline(always)]
+    fn write_answer<W: Write>(&self, line: &[u8], out: &mut W) -> Result<(), Unwritten> {
+        match &self.chosen {
+            Chosen::Named(format) => write_parsed(*format, self.target, line, out),
+            Chosen::Described(description) => write_value(description, self.target, line, out),
+        }
+    }
+}

@@ -1,0 +1,141 @@
+use crate::arguments::{Command, Question, command_of};
+use crate::fault::told;
+use crate::request::Version;
+use crate::serving::{Failure, serve};
+use std::test::Fail;
+
+// A format, a target, the lines, and their answers.
+const ANSWERS: [(&str, &str, &str, &str); 8] = [
+    ("[year]-[month]-[day]", "date", "2021-03-04", "2021-03-04\n"),
+    (
+        "%d/%b/%Y:%H:%M:%S %z",
+        "datetime",
+        "02/Jan/2021:03:04:05 -0030\n",
+        "2021-01-02 03:04:05.000000000 -00:30:00\n",
+    ),
+    (
+        "ymd",
+        "date",
+        "2021-03-04\n\n2021-03-0",
+        "2021-03-04\nerror: the 'year' component could not be parsed\nerror: the 'day' component could not be parsed\n",
+    ),
+    ("rfc3339", "staged", "", ""),
+    ("unix", "timestamp", "-1", "-1000000000\n"),
+    (
+        "100%% [hour]",
+        "offset",
+        "100%% 23",
+        "error: the `Parsed` struct did not include enough information to construct the type\n",
+    ),
+    ("%H%%", "time", "23%", "23:00:00.000000000\n"),
+    (
+        "[hour]:[minute]",
+        "time",
+        "23:59\n23:60\n24:00\n",
+        "23:59:00.000000000\nerror: the 'minute' component could not be parsed\nerror: the 'hour' component could not be parsed\n",
+    ),
+];
+
+#[test]
+fn answers(rt: HostRuntime) -> Result<(), Fail> {
+    for (format, target, input, wanted) in &ANSWERS {
+        let question = Question {
+            version: Version::Two,
+            format,
+            target,
+        };
+        let mut out = Vec::new(rt.alloc());
+        assert!(rt; serve(question, rt.alloc(), &mut input.as_bytes(), &mut out).is_ok());
+        assert_eq!(rt; out.as_slice(), wanted.as_bytes());
+    }
+    Ok(())
+}
+
+// A version, a format, a target, and what is told of their fault.
+const FAULTS: [(Version, &str, &str, &str); 8] = [
+    (
+        Version::Two,
+        "rfc3340",
+        "datum",
+        "error: no format has this name, and a description has a `[` or a `%`\n  rfc3340\n  ^\n",
+    ),
+    (
+        Version::Two,
+        "ymd",
+        "datum",
+        "error: no target has this name\n  datum\n  ^\n",
+    ),
+    (
+        Version::Two,
+        "[year]-[moon]",
+        "date",
+        "error: invalid component name `moon` at byte index 8\n  [year]-[moon]\n          ^\n",
+    ),
+    (
+        Version::Two,
+        "\u{e9}\t[year",
+        "date",
+        "error: unclosed opening bracket at byte index 3\n  ???[year\n     ^\n",
+    ),
+    (
+        Version::Two,
+        "[[year]",
+        "date",
+        "error: missing component name at byte index 0\n  [[year]\n  ^\n",
+    ),
+    (
+        Version::One,
+        "[[year] [hour",
+        "date",
+        "error: unclosed opening bracket at byte index 8\n  [[year] [hour\n          ^\n",
+    ),
+    (
+        Version::Two,
+        "%Y-%Q",
+        "date",
+        "error: invalid component name `Q` at byte index 4\n  %Y-%Q\n      ^\n",
+    ),
+    (
+        Version::Two,
+        "",
+        "date",
+        "error: no format has this name, and a description has a `[` or a `%`\n  \n  ^\n",
+    ),
+];
+
+#[test]
+fn faults(rt: HostRuntime) -> Result<(), Fail> {
+    for (version, format, target, wanted) in &FAULTS {
+        let question = Question {
+            version: *version,
+            format,
+            target,
+        };
+        let mut out = Vec::new(rt.alloc());
+        let Err(Failure::Asked(fault)) = serve(
+            question,
+            rt.alloc(),
+            &mut b"2021".as_slice(),
+            &mut out,
+        ) else {
+            return Err("no fault".into());
+        };
+        assert_eq!(rt; told(rt.alloc(), fault)?.as_slice(), wanted.as_bytes());
+        assert!(rt; out.is_empty());
+    }
+    Ok(())
+}
+
+// The words of the command line, and whether they ask for a page, for answers or for nothing.
+#[test]
+fn commands(rt: HostRuntime) -> Result<(), Fail> {
+    let mut words = Vec::new(rt.alloc());
+    assert!(rt; matches!(command_of(words.as_slice()), Command::Unknown));
+    words.push("--help".to_string(rt.alloc())?)?;
+    assert!(rt; matches!(command_of(words.as_slice()), Command::Help));
+    words.push("date".to_string(rt.alloc())?)?;
+    assert!(rt; matches!(command_of(words.as_slice()), Command::Parse(_)));
+    words.push("date".to_string(rt.alloc())?)?;
+    assert!(rt; matches!(command_of(words.as_slice()), Command::Unknown));
+    Ok(())
+}

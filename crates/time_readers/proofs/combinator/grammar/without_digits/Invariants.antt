@@ -1,9 +1,0 @@
-use Rattle.std.proofs.Common.{◌≡◌, List, ℕ, ◌++◌, length}
-use Rattle.time_readers.specs.Digits.{AllDigits}
-use Rattle.time_readers.proofs.combinator.grammar.without_digits.Given as goal
-
-abbrev pub invariant-loop-rest : goal.invariant-loop-rest
-invariant-loop-rest l = (digits : List ℕ) × (l.input ≡ digits ++ l.rest) × AllDigits digits
-
-abbrev pub decreases-loop-rest : goal.decreases-loop-rest
-decreases-loop-rest l = length l.rest

@@ -1,0 +1,79 @@
+-- No public contract rests on this file.
+--
+-- What the readers of single pieces and parts of ISO 8601 answer.
+use Rattle.std.specs.Prelude.{◌≡◌, ℕ, List, if◌then◌else◌, Option, Some, None, Result, Ok, Err, option_map, option_and_then}
+use Rattle.std.specs.Borrow.{Bor}
+use Rattle.time_values.specs.Refusal.{Refusal, refusal_of_description}
+use Rattle.time_values.specs.declared.error.ParseFromDescription.{ParseFromDescription}
+use Rattle.time_digits.specs.declared.ParsedItem.{ParsedItem}
+use Rattle.time_digits.specs.declared.Sign.{Sign}
+use Rattle.time_readers.specs.declared.iso8601.ExtendedKind.{ExtendedKind}
+use Rattle.time_readers.specs.declared.iso8601.ExtendedKind.TheVariants.{Basic, Extended}
+use Rattle.time_readers.specs.declared.iso8601.OffsetNumbers.{OffsetNumbers}
+use Rattle.time_readers.specs.declared.iso8601.OffsetNumbers.TheVariants.{Zulu}
+use Rattle.time_readers.specs.declared.iso8601.TimeNumbers.{TimeNumbers}
+use Rattle.time_readers.specs.IsoAnswers.{Found}
+use Rattle.time_readers.specs.IsoKinds.{not_basic}
+use Rattle.time_readers.specs.IsoOffsets.{numbers_of}
+use Rattle.time_readers.specs.IsoPieces.{Piece, Number, number, digits, up_to, sign, byte}
+use Rattle.time_readers.specs.IsoTimes.{nothing_given, says, any_second}
+
+-- the reader of a byte answers what is left
+abbrev pub Leaves : Option (List ℕ) → Option (Bor (List ℕ)) → Type 0
+Leaves found None = found ≡ None
+Leaves found (Some rest) = found ≡ Some rest.now
+
+-- the reader of a form answers what is left, and in that view the value; or the fault
+abbrev pub GivesForm : {V W : Type 0} → (V → W) → Result (List ℕ × W) Refusal
+    → Result (ParsedItem V) ParseFromDescription → Type 0
+GivesForm view found (Err e) = found ≡ Err (refusal_of_description e)
+GivesForm view found (Ok p) = found ≡ Ok (p.0.now, view p.1)
+
+-- a whole hour and a whole minute
+abbrev pub hour_and_minute : ℕ → ℕ → TimeNumbers
+hour_and_minute h m = record nothing_given { hour = h; minute = m }
+
+-- a second, of whose number the rest and what it says are given
+abbrev pub second_found : TimeNumbers → ExtendedKind → (List ℕ × Number) → Option (Found TimeNumbers)
+second_found t kind f = option_map (λ u. record { rest = f.0; value = u; kind = kind }) (says any_second f.1 t)
+
+-- what stands after an hour and a minute without separators: a second, or nothing
+abbrev pub basic_second : TimeNumbers → List ℕ → Option (List ℕ × Number) → Option (Found TimeNumbers)
+basic_second t bytes None = Some (record { rest = bytes; value = t; kind = Basic })
+basic_second t bytes (Some f) = second_found t Basic f
+
+-- what stands after them with separators: a colon and a second, or nothing
+abbrev pub extended_second : TimeNumbers → List ℕ → Option (List ℕ) → Option (Found TimeNumbers)
+extended_second t bytes None = Some (record { rest = bytes; value = t; kind = Extended })
+extended_second t bytes (Some after) = option_and_then (second_found t Extended) (number after)
+
+-- a minute of an offset without a colon: where two digits stand they have to be one, and else it is 0
+abbrev pub minute_or_none : List ℕ → Option (List ℕ × ℕ) → Option (List ℕ × ℕ)
+minute_or_none bytes None = Some (bytes, 0)
+minute_or_none bytes (Some f) = up_to 59 2 bytes
+
+-- a minute after a colon, where one stands, or without
+abbrev pub minute_after : List ℕ → Option (List ℕ) → Option (List ℕ × ℕ)
+minute_after bytes (Some after) = up_to 59 2 after
+minute_after bytes None = minute_or_none bytes (digits 2 bytes)
+
+-- a colon, in a text that may be extended
+abbrev pub colon_of : ExtendedKind → List ℕ → Option (List ℕ)
+colon_of kind bytes = if not_basic kind then byte 58 bytes else None
+
+-- the minute of an offset, 0 where none stands
+unfoldable pub offset_minute : ExtendedKind → Piece ℕ
+offset_minute kind bytes = minute_after bytes (colon_of kind bytes)
+
+-- what stands after a sign and its hour
+abbrev pub after_hour : ExtendedKind → Sign → (List ℕ × ℕ) → Option (List ℕ × OffsetNumbers)
+after_hour kind s h = option_map (λ m. (m.0, numbers_of (Some s) h.1 m.1)) (offset_minute kind h.0)
+
+abbrev pub offset_after : ExtendedKind → List ℕ → Option (List ℕ) → Option (List ℕ × OffsetNumbers)
+offset_after kind bytes (Some after) = Some (after, Zulu)
+offset_after kind bytes None =
+    option_and_then (λ s. option_and_then (after_hour kind s.1) (up_to 25 2 s.0)) (sign bytes)
+
+-- an offset, one piece after another
+unfoldable pub offset_by_pieces : ExtendedKind → Piece OffsetNumbers
+offset_by_pieces kind bytes = offset_after kind bytes (byte 90 bytes)

@@ -1,0 +1,473 @@
+//! Texts of RFC 3339 and RFC 2822, and what each says directly and over an empty record.
+use self::Answer::{Moment, Refused};
+use self::Format::{Mail, Stamp};
+use time_parsing::{Parsable, Rfc2822, Rfc3339};
+use time_readers::direct;
+use time_record::Parsed;
+use time_values::Month::{April, December, January};
+use time_values::error::{ComponentRange, Parse, ParseFromDescription, TryFromParsed};
+use time_values::{Month, OffsetDateTime};
+
+/// The format of a text.
+#[derive(Clone, Copy, PartialEq)]
+pub(super) enum Format {
+    /// RFC 3339.
+    Stamp,
+    /// RFC 2822.
+    Mail,
+}
+
+/// Year, month and day, then hour, minute, second and nanosecond, then the offset's hours, minutes and seconds.
+pub(super) type Numbers = ((i32, Month, u8), (u8, u8, u8, u32), (i8, i8, i8));
+
+/// What a text says.
+#[derive(Clone, Copy)]
+pub(super) enum Answer {
+    /// One moment: its date, its time, and the hours and minutes of its offset.
+    Moment((i32, Month, u8), (u8, u8, u8, u32), (i8, i8)),
+    /// None: the refusal without a record, and the one over an empty record.
+    Refused(Parse, Parse),
+}
+
+/// The numbers of a moment, or its refusal.
+pub(super) fn numbers(answer: Result<OffsetDateTime, Parse>) -> Result<Numbers, Parse> {
+    let moment = answer?;
+    Ok((
+        moment.to_calendar_date(),
+        moment.to_hms_nano(),
+        moment.offset().as_hms(),
+    ))
+}
+
+/// The answer without a record, and over an empty one.
+pub(super) fn both_ways(answer: Answer) -> (Result<Numbers, Parse>, Result<Numbers, Parse>) {
+    match answer {
+        Moment(date, time, (hours, minutes)) => {
+            let said = Ok((date, time, (hours, minutes, 0)));
+            (said, said)
+        }
+        Refused(without, over) => (Err(without), Err(over)),
+    }
+}
+
+/// The text has this answer by the format without defaults, by the direct path, and over an empty record.
+pub(super) fn is_answered(format: Format, text: &[u8], wanted: Answer) -> bool {
+    let empty = Some(Parsed::new());
+    let [whole, direct, staged] = match format {
+        Stamp => [
+            Rfc3339.parse_offset_date_time(text, None),
+            direct::rfc3339(text),
+            Rfc3339.parse_offset_date_time(text, empty),
+        ],
+        Mail => [
+            Rfc2822.parse_offset_date_time(text, None),
+            direct::rfc2822(text),
+            Rfc2822.parse_offset_date_time(text, empty),
+        ],
+    };
+    let (wanted, wanted_over_a_record) = both_ways(wanted);
+    numbers(whole) == wanted && numbers(direct) == wanted && numbers(staged) == wanted_over_a_record
+}
+
+// The refusal of a component that can't be read.
+macro_rules! unread {
+    ($name:literal) => {
+        Parse::ParseFromDescription(ParseFromDescription::InvalidComponent($name))
+    };
+}
+
+// The refusal of a component out of its range, which others narrow or not.
+macro_rules! out {
+    ($name:literal, $conditional:literal) => {
+        Parse::TryFromParsed(TryFromParsed::ComponentRange(ComponentRange {
+            name: $name,
+            conditional: $conditional,
+        }))
+    };
+}
+
+const LITERAL: Parse = Parse::ParseFromDescription(ParseFromDescription::InvalidLiteral);
+
+const TRAILING: Parse = Parse::ParseFromDescription(
+    ParseFromDescription::UnexpectedTrailingCharacters,
+);
+
+// What a place's text isn't.
+const YEAR: Parse = unread!("year");
+
+const MONTH: Parse = unread!("month");
+
+const DAY: Parse = unread!("day");
+
+const HOUR: Parse = unread!("hour");
+
+const MINUTE: Parse = unread!("minute");
+
+const SECOND: Parse = unread!("second");
+
+const OFFSET_HOUR: Parse = unread!("offset hour");
+
+const OFFSET_MINUTE: Parse = unread!("offset minute");
+
+// What there isn't of that number.
+const NO_MONTH: Parse = out!("month", false);
+
+const NO_DAY: Parse = out!("day", true);
+
+const NO_HOUR: Parse = out!("hour", false);
+
+const NO_MINUTE: Parse = out!("minute", false);
+
+const NO_SECOND: Parse = out!("second", false);
+
+const NO_LEAP_SECOND: Parse = out!("second", true);
+
+const NO_HOURS: Parse = out!("hours", false);
+
+const NO_MINUTES: Parse = out!("minutes", false);
+
+/// The texts, with the format of each.
+pub(super) static TEXTS: [(Format, &[u8], Answer); 99] = [
+    (
+        Stamp,
+        b"1985-04-12T23:20:50.52Z",
+        Moment((1985, April, 12), (23, 20, 50, 520_000_000), (0, 0)),
+    ),
+    (
+        Stamp,
+        b"1990-12-31T15:59:60-08:00",
+        Moment((1990, December, 31), (15, 59, 59, 999_999_999), (-8, 0)),
+    ),
+    (
+        Stamp,
+        b"1990-12-31T23:59:60Z",
+        Moment((1990, December, 31), (23, 59, 59, 999_999_999), (0, 0)),
+    ),
+    (
+        Stamp,
+        b"9999-12-31T23:59:59.999999999-23:59",
+        Moment((9999, December, 31), (23, 59, 59, 999_999_999), (-23, -59)),
+    ),
+    (
+        Stamp,
+        b"2021-01-02T03:04:05.1234567899Z",
+        Moment((2021, January, 2), (3, 4, 5, 123_456_789), (0, 0)),
+    ),
+    (
+        Stamp,
+        b"2021-01-02T03:04:05Z",
+        Moment((2021, January, 2), (3, 4, 5, 0), (0, 0)),
+    ),
+    (
+        Stamp,
+        b"2021-01-02t03:04:05.1234567899-05:30",
+        Moment((2021, January, 2), (3, 4, 5, 123_456_789), (-5, -30)),
+    ),
+    (
+        Stamp,
+        b"1990-12-30T23:59:60Z",
+        Refused(NO_LEAP_SECOND, NO_LEAP_SECOND),
+    ),
+    (Stamp, b"2021-13-01T00:00:00Z", Refused(NO_MONTH, MONTH)),
+    (Stamp, b"2021-13-01T00:00:00Zx", Refused(TRAILING, MONTH)),
+    (Stamp, b"2021-01-02\xc3\xa903:04:05Z", Refused(HOUR, HOUR)),
+    (Stamp, b"", Refused(YEAR, YEAR)),
+    (Stamp, b"2021-00-01T00:00:00Z", Refused(MONTH, MONTH)),
+    (Stamp, b"2021-01-00T00:00:00Z", Refused(NO_DAY, DAY)),
+    (Stamp, b"2021-01-32T25:00:00Z", Refused(NO_DAY, DAY)),
+    (Stamp, b"2021-01-02T24:04:05Z", Refused(NO_HOUR, HOUR)),
+    (Stamp, b"2021-01-02T03:60:05Z", Refused(NO_MINUTE, MINUTE)),
+    (Stamp, b"2021-01-02T03:04:61Z", Refused(NO_SECOND, SECOND)),
+    (
+        Stamp,
+        b"2021-01-02T03:04:05+24:00",
+        Refused(OFFSET_HOUR, OFFSET_HOUR),
+    ),
+    (
+        Stamp,
+        b"2021-01-02T03:04:05+05:60x",
+        Refused(NO_MINUTES, OFFSET_MINUTE),
+    ),
+    (
+        Mail,
+        b"Mon, 02 Jan 2021 03:04:05 +0607",
+        Moment((2021, January, 2), (3, 4, 5, 0), (6, 7)),
+    ),
+    (
+        Mail,
+        b"02 Jan 49 03:04 EST",
+        Moment((2049, January, 2), (3, 4, 0, 0), (-5, 0)),
+    ),
+    (
+        Mail,
+        b"02 Jan 2021 03:04 -0030",
+        Moment((2021, January, 2), (3, 4, 0, 0), (0, -30)),
+    ),
+    (
+        Mail,
+        b"02 Jan 2021 03:04 GMT (x)",
+        Moment((2021, January, 2), (3, 4, 0, 0), (0, 0)),
+    ),
+    (
+        Mail,
+        b"02 (a(b\\)c)) Jan 2021 03:04 +0000",
+        Moment((2021, January, 2), (3, 4, 0, 0), (0, 0)),
+    ),
+    // A comment of 31 levels, the most that are read.
+    (
+        Mail,
+        b"02 ((((((((((((((((((((((((((((((())))))))))))))))))))))))))))))) Jan 2021 03:04 +0000",
+        Moment((2021, January, 2), (3, 4, 0, 0), (0, 0)),
+    ),
+    (
+        Mail,
+        b"1 Jan 99 00:00 Z",
+        Moment((1999, January, 1), (0, 0, 0, 0), (0, 0)),
+    ),
+    (
+        Mail,
+        b"1 Jan 99 00:00 UT",
+        Moment((1999, January, 1), (0, 0, 0, 0), (0, 0)),
+    ),
+    (
+        Mail,
+        b"1 Jan 21(x)03:04 GMT",
+        Moment((2021, January, 1), (3, 4, 0, 0), (0, 0)),
+    ),
+    (
+        Mail,
+        b"1 Jan 2021\r\n 03:04 GMT",
+        Moment((2021, January, 1), (3, 4, 0, 0), (0, 0)),
+    ),
+    (
+        Mail,
+        b"31 Dec 2016 23:59:60 GMT",
+        Moment((2016, December, 31), (23, 59, 59, 999_999_999), (0, 0)),
+    ),
+    (
+        Mail,
+        b"31 Dec 1990 15:59:60 -0800",
+        Moment((1990, December, 31), (15, 59, 59, 999_999_999), (-8, 0)),
+    ),
+    (
+        Mail,
+        b"1 Jan 2021 03:04 -2500",
+        Moment((2021, January, 1), (3, 4, 0, 0), (-25, 0)),
+    ),
+    (
+        Mail,
+        b"1 Jan 00 00:00 GMT",
+        Moment((2000, January, 1), (0, 0, 0, 0), (0, 0)),
+    ),
+    (
+        Mail,
+        b"1 Jan 49 00:00 GMT",
+        Moment((2049, January, 1), (0, 0, 0, 0), (0, 0)),
+    ),
+    (
+        Mail,
+        b"1 Jan 50 00:00 GMT",
+        Moment((1950, January, 1), (0, 0, 0, 0), (0, 0)),
+    ),
+    (
+        Mail,
+        b"1 Jan 1900 00:00 GMT",
+        Moment((1900, January, 1), (0, 0, 0, 0), (0, 0)),
+    ),
+    (
+        Mail,
+        b"1 Jan 9999 00:00 GMT",
+        Moment((9999, January, 1), (0, 0, 0, 0), (0, 0)),
+    ),
+    (
+        Mail,
+        b"Mon, 02 Jan 2021 03:04 GMT",
+        Moment((2021, January, 2), (3, 4, 0, 0), (0, 0)),
+    ),
+    (
+        Mail,
+        b" (x)sAt,2 jAN 2021 03 : 04 gmt",
+        Moment((2021, January, 2), (3, 4, 0, 0), (0, 0)),
+    ),
+    (
+        Mail,
+        b"Sat, 02 Jan 2021 03:04:05 PST (x)",
+        Moment((2021, January, 2), (3, 4, 5, 0), (-8, 0)),
+    ),
+    // A comment of 32 levels.
+    (
+        Mail,
+        b"02 (((((((((((((((((((((((((((((((()))))))))))))))))))))))))))))))) Jan 2021 03:04 +0000",
+        Refused(MONTH, MONTH),
+    ),
+    (Mail, b"02 Jan 2021\r03:04 +0000", Refused(LITERAL, LITERAL)),
+    (Mail, b"02 Jan 1899 03:04 +0000", Refused(YEAR, YEAR)),
+    (Mail, b"1 Jan 99 00:00 J", Refused(OFFSET_HOUR, OFFSET_HOUR)),
+    (
+        Mail,
+        b"1 Jan 99 00:00 Z (x)",
+        Refused(OFFSET_HOUR, OFFSET_HOUR),
+    ),
+    (Mail, b"1 Jan 99 00:00 Zx", Refused(TRAILING, TRAILING)),
+    (
+        Mail,
+        b"Mon 02 Jan 2021 03:04 +0000",
+        Refused(LITERAL, LITERAL),
+    ),
+    (Mail, b"1 Jan 2021(x)03:04 GMT", Refused(LITERAL, LITERAL)),
+    (Mail, b"1 Jan 2021 \r\n03:04 GMT", Refused(LITERAL, LITERAL)),
+    (
+        Mail,
+        b"1 Jan 2021 03:04 -2600",
+        Refused(NO_HOURS, OFFSET_HOUR),
+    ),
+    (Mail, b"0 Jan 2021 03:04 GMT", Refused(NO_DAY, DAY)),
+    (Mail, b"32 Jan 2021 03:04 GMT", Refused(NO_DAY, DAY)),
+    (Mail, b"32 Jan 2021 03:04 Zx", Refused(TRAILING, DAY)),
+    (Mail, b"1 Jan 2021 24:00 GMT", Refused(NO_HOUR, HOUR)),
+    (Mail, b"1 Jan 2021 03:60 GMT", Refused(NO_MINUTE, MINUTE)),
+    (Mail, b"1 Jan 2021 03:04:61 GMT", Refused(NO_SECOND, SECOND)),
+    (
+        Mail,
+        b"1 Jan 2021 03:04 -2560",
+        Refused(NO_MINUTES, OFFSET_MINUTE),
+    ),
+    (
+        Mail,
+        b"1 Jan 2021 03:04 +2600",
+        Refused(NO_HOURS, OFFSET_HOUR),
+    ),
+    (
+        Mail,
+        b"1 Jan 2021 03:04 +0060",
+        Refused(NO_MINUTES, OFFSET_MINUTE),
+    ),
+    (
+        Mail,
+        b"31 Dec 1990 15:58:60 -0800",
+        Refused(NO_LEAP_SECOND, NO_LEAP_SECOND),
+    ),
+    (
+        Mail,
+        b"30 Dec 2016 23:59:60 GMT",
+        Refused(NO_LEAP_SECOND, NO_LEAP_SECOND),
+    ),
+    (Mail, b"1 Jan 1899 00:00 GMT", Refused(YEAR, YEAR)),
+    (Mail, b"1 Jan 9 00:00 GMT", Refused(YEAR, YEAR)),
+    (Mail, b"1 Jan 199 00:00 GMT", Refused(LITERAL, LITERAL)),
+    (Mail, b"Mot, 02 Jan 2021 03:04 GMT", Refused(DAY, DAY)),
+    (
+        Mail,
+        b"Monday, 02 Jan 2021 03:04 GMT",
+        Refused(LITERAL, LITERAL),
+    ),
+    (Mail, b"", Refused(DAY, DAY)),
+    (Mail, b"x Jan 2021 03:04 GMT", Refused(DAY, DAY)),
+    (Mail, b"1Jan 2021 03:04 GMT", Refused(LITERAL, LITERAL)),
+    (Mail, b"1 Jxn 2021 03:04 GMT", Refused(MONTH, MONTH)),
+    (Mail, b"1 Jan2021 03:04 GMT", Refused(LITERAL, LITERAL)),
+    (Mail, b"1 Jan x 03:04 GMT", Refused(YEAR, YEAR)),
+    (Mail, b"1 Jan 202103:04 GMT", Refused(LITERAL, LITERAL)),
+    (Mail, b"1 Jan 2021 3:04 GMT", Refused(HOUR, HOUR)),
+    (Mail, b"1 Jan 2021 03.04 GMT", Refused(LITERAL, LITERAL)),
+    (Mail, b"1 Jan 2021 03:04: GMT", Refused(SECOND, SECOND)),
+    (Mail, b"1 Jan 2021 03:04", Refused(LITERAL, LITERAL)),
+    (Mail, b"1 Jan 2021 03:04GMT", Refused(LITERAL, LITERAL)),
+    (Mail, b"1 Jan 2021 03:04:05+0000", Refused(LITERAL, LITERAL)),
+    (
+        Mail,
+        b"1 Jan 2021 03:04 XYZ",
+        Refused(OFFSET_HOUR, OFFSET_HOUR),
+    ),
+    (
+        Mail,
+        b"1 Jan 2021 03:04 0000",
+        Refused(OFFSET_HOUR, OFFSET_HOUR),
+    ),
+    (
+        Mail,
+        b"1 Jan 2021 03:04 +00",
+        Refused(OFFSET_MINUTE, OFFSET_MINUTE),
+    ),
+    (
+        Mail,
+        b"1 Jan 2021 03:04 +0000 x",
+        Refused(TRAILING, TRAILING),
+    ),
+    (
+        Mail,
+        b"1 Jan 2021 03:04 +00000",
+        Refused(TRAILING, TRAILING),
+    ),
+    // A carriage return in place of each blank.
+    (
+        Mail,
+        b"\rSat, 02 Jan 2021 03 : 04 : 05 +0000 ",
+        Refused(DAY, DAY),
+    ),
+    (
+        Mail,
+        b" Sat,\r02 Jan 2021 03 : 04 : 05 +0000 ",
+        Refused(DAY, DAY),
+    ),
+    (
+        Mail,
+        b" Sat, 02\rJan 2021 03 : 04 : 05 +0000 ",
+        Refused(LITERAL, LITERAL),
+    ),
+    (
+        Mail,
+        b" Sat, 02 Jan\r2021 03 : 04 : 05 +0000 ",
+        Refused(LITERAL, LITERAL),
+    ),
+    (
+        Mail,
+        b" Sat, 02 Jan 2021\r03 : 04 : 05 +0000 ",
+        Refused(LITERAL, LITERAL),
+    ),
+    (
+        Mail,
+        b" Sat, 02 Jan 21\r03 : 04 : 05 +0000 ",
+        Refused(LITERAL, LITERAL),
+    ),
+    (
+        Mail,
+        b" Sat, 02 Jan 2021 03\r: 04 : 05 +0000 ",
+        Refused(LITERAL, LITERAL),
+    ),
+    (
+        Mail,
+        b" Sat, 02 Jan 2021 03 :\r04 : 05 +0000 ",
+        Refused(MINUTE, MINUTE),
+    ),
+    (
+        Mail,
+        b" Sat, 02 Jan 2021 03 : 04\r: 05 +0000 ",
+        Refused(LITERAL, LITERAL),
+    ),
+    (
+        Mail,
+        b" Sat, 02 Jan 2021 03 : 04 :\r05 +0000 ",
+        Refused(SECOND, SECOND),
+    ),
+    (
+        Mail,
+        b" Sat, 02 Jan 2021 03 : 04 : 05\r+0000 ",
+        Refused(LITERAL, LITERAL),
+    ),
+    (
+        Mail,
+        b" Sat, 02 Jan 2021 03 : 04\r+0000 ",
+        Refused(LITERAL, LITERAL),
+    ),
+    (
+        Mail,
+        b" Sat, 02 Jan 2021 03 : 04 : 05 +0000\r",
+        Refused(TRAILING, TRAILING),
+    ),
+    (
+        Mail,
+        b" Sat, 02 Jan 2021 03 : 04 : 05 +0000 \r",
+        Refused(TRAILING, TRAILING),
+    ),
+];

@@ -1,7 +1,7 @@
 //! The names of a line by patterns.
 //!
 //! What `request` answers is what `cut_request` finds, field by field. `None`: not this form.
-ghost use Rattle.std.specs.Prelude.{ℕ, List, IfSome};
+ghost use Rattle.std.specs.Prelude.{◌≡◌, ℕ, List, ◌++◌, IfSome};
 ghost use Rattle.time_values.specs.Range.{greatest_year};
 ghost use Rattle.time_answers.specs.Formats as formats;
 ghost use Rattle.time_answers.specs.Output.{IsParsed};
@@ -10,22 +10,31 @@ ghost use Rattle.time_lines.specs.Output.{IsAnswer};
 
 use time_answers::formats::{Format, Target};
 
+// What stands after a name and TAB that the bytes begin with. `None`: not this form.
+#[inline(always)]
+fn after<'a>(bytes: &'a [u8], name: &[u8]) -> Option<&'a [u8]>
+    ensures { IfSome result (λ rest. bytes.now ≡ name.now ++ rest.now) }
+{
+    bytes.strip_prefix(name)
+}
+
 // The format whose name and TAB the line begins with, and what stands after them. `None`: not this form.
 #[inline(always)]
 fn format(line: &[u8]) -> Option<(Format, &[u8])>
     ensures { IfSome result (λ read. BeginsNamed formats.format_named line.now read.0 read.1.now) }
 {
-    let (format, rest) = match line {
-        [b'r', b'f', b'c', b'3', b'3', b'3', b'9', b'\t', rest @ ..] => (Format::Rfc3339, rest),
-        [b'r', b'f', b'c', b'2', b'8', b'2', b'2', b'\t', rest @ ..] => (Format::Rfc2822, rest),
-        [b'i', b's', b'o', b'8', b'6', b'0', b'1', b'\t', rest @ ..] => (Format::Iso8601, rest),
-        [b'y', b'm', b'd', b'\t', rest @ ..] => (Format::Ymd, rest),
-        [b'c', b'l', b'o', b'c', b'k', b'\t', rest @ ..] => (Format::Clock, rest),
-        [b'u', b'n', b'i', b'x', b'\t', rest @ ..] => (Format::Unix, rest),
-        [b'l', b'o', b'c', b'a', b'l', b'\t', rest @ ..] => (Format::Local, rest),
-        _ => return None,
-    };
-    Some((format, rest))
+    match line {
+        [b'r', ..] => match after(line, b"rfc3339\t") {
+            Some(rest) => Some((Format::Rfc3339, rest)),
+            None => Some((Format::Rfc2822, after(line, b"rfc2822\t")?)),
+        },
+        [b'i', ..] => Some((Format::Iso8601, after(line, b"iso8601\t")?)),
+        [b'y', ..] => Some((Format::Ymd, after(line, b"ymd\t")?)),
+        [b'c', ..] => Some((Format::Clock, after(line, b"clock\t")?)),
+        [b'u', ..] => Some((Format::Unix, after(line, b"unix\t")?)),
+        [b'l', ..] => Some((Format::Local, after(line, b"local\t")?)),
+        _ => None,
+    }
 }
 
 // The target whose name and TAB the bytes begin with, and what stands after them. `None`: not this form.
@@ -34,20 +43,18 @@ fn target(bytes: &[u8]) -> Option<(Target, &[u8])>
     ensures { IfSome result (λ read. BeginsNamed formats.target_named bytes.now read.0 read.1.now) }
 {
     match bytes {
-        [b'd', b'a', b't', b'e', b'\t', rest @ ..] => Some((Target::Date, rest)),
-        [b't', b'i', b'm', b'e', b'\t', rest @ ..] => Some((Target::Time, rest)),
-        [b'o', b'f', b'f', b's', b'e', b't', b'\t', rest @ ..] => Some((Target::Offset, rest)),
-        [b'p', b'l', b'a', b'i', b'n', b'\t', rest @ ..] => Some((Target::Plain, rest)),
-        [b'u', b't', b'c', b'\t', rest @ ..] => Some((Target::Utc, rest)),
-        [b's', b't', b'a', b'g', b'e', b'd', b'\t', rest @ ..] => Some((Target::Staged, rest)),
-        [b'd', b'a', b't', b'e', rest @ ..] => match rest {
-            [b't', b'i', b'm', b'e', b'\t', rest @ ..] => Some((Target::DateTime, rest)),
-            _ => None,
+        [b'd', ..] => match after(bytes, b"date\t") {
+            Some(rest) => Some((Target::Date, rest)),
+            None => Some((Target::DateTime, after(bytes, b"datetime\t")?)),
         },
-        [b't', b'i', b'm', b'e', rest @ ..] => match rest {
-            [b's', b't', b'a', b'm', b'p', b'\t', rest @ ..] => Some((Target::Timestamp, rest)),
-            _ => None,
+        [b't', ..] => match after(bytes, b"time\t") {
+            Some(rest) => Some((Target::Time, rest)),
+            None => Some((Target::Timestamp, after(bytes, b"timestamp\t")?)),
         },
+        [b'o', ..] => Some((Target::Offset, after(bytes, b"offset\t")?)),
+        [b'p', ..] => Some((Target::Plain, after(bytes, b"plain\t")?)),
+        [b'u', ..] => Some((Target::Utc, after(bytes, b"utc\t")?)),
+        [b's', ..] => Some((Target::Staged, after(bytes, b"staged\t")?)),
         _ => None,
     }
 }

@@ -4,7 +4,6 @@ pub mod ResolvedLemmas
 pub mod JoinedLists
 pub mod TreeLemmas
 pub mod WholeCharacters
-mod KeptDigits
 mod WrittenForm
 mod Told
 pub mod WrittenBack
@@ -15,3 +14,7 @@ pub mod KeptReadings
 pub mod KeptIsoTexts
 pub mod IsoParts
 mod IsoWhole
+mod IsoForm
+pub mod IsoBack
+pub mod UtcBack
+pub mod OneWrittenText

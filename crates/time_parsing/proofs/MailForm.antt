@@ -22,7 +22,7 @@ use Rattle.time_readers.proofs.ShortCuts.{fws-short, cfws-short, colon-short, op
 use Rattle.time_values.specs.Shown.{fixed}
 use Rattle.time_writing.specs.Texts.{short_weekday, short_month}
 use Rattle.time_parsing.proofs.WrittenForm.{fixed-run, Stand-text, Stand-none}
-use Rattle.time_parsing.proofs.KeptDigits.{fixed-length}
+use Rattle.time_writing.proofs.KeptDigits.{fixed-length}
 
 -- a text begins with a byte that is no blank and begins no comment
 abbrev IsPlain : List ℕ → Type 0

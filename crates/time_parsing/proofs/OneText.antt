@@ -15,9 +15,9 @@ use Rattle.time_parsing.specs.Rfc3339.{Reads, Refuses}
 use Rattle.time_parsing.specs.Written.{IsCut, written, OneText, OneShortText}
 use Rattle.time_parsing.specs.exact.Rfc3339Laws.{rfc3339_exact}
 use Rattle.time_parsing.proofs.OneOutcome.{one_outcome}
-use Rattle.time_parsing.proofs.WrittenBack.{read_back, auto-keeps}
+use Rattle.time_parsing.proofs.WrittenBack.{read_back, auto-keeps, nine-keeps}
 
-same_Ok : (v w : OffsetDateTime) → ◌≡◌ {A = Result OffsetDateTime Refusal} (Ok v) (Ok w) → v ≡ w
+pub same_Ok : (v w : OffsetDateTime) → ◌≡◌ {A = Result OffsetDateTime Refusal} (Ok v) (Ok w) → v ≡ w
 same_Ok v w e = cc
 
 pub one_text : OneText
@@ -33,6 +33,14 @@ whole : (v : OffsetDateTime) → IsCut (written Auto v) v v
 whole v = record {
   date = refl;
   clock = (refl, refl, refl, sym (auto-keeps (Times.nanosecond (offset_time v)) (offset_time v).nanosecond_in));
+  offset = refl;
+}
+
+-- nor with nine digits
+pub all_digits : (v : OffsetDateTime) → IsCut 9 v v
+all_digits v = record {
+  date = refl;
+  clock = (refl, refl, refl, sym (nine-keeps (Times.nanosecond (offset_time v)) (offset_time v).nanosecond_in));
   offset = refl;
 }
 

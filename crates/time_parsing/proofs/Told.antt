@@ -56,7 +56,7 @@ signed_minutes (pos (suc h)) (negsuc m) is = absurd (cc)
 signed_minutes (negsuc h) m is = is
 
 -- no second has no sign
-no_second : (h m : ℤ) → pos 0 ≡ same_sign h (same_sign m (pos 0))
+pub no_second : (h m : ℤ) → pos 0 ≡ same_sign h (same_sign m (pos 0))
 no_second (pos zero) (pos zero) = refl
 no_second (pos zero) (pos (suc m)) = refl
 no_second (pos zero) (negsuc m) = refl
@@ -144,11 +144,14 @@ no_refusal-kept k t =
           (kept k t.nanosecond) 999_999_999 (omega (arith, less, n)),
     ) refl
 
-offset-taken : (h m : ℤ) → unsigned_abs h ≤ 25 → unsigned_abs m ≤ 59 → offset_refusal h m (pos 0) ≡ None
+pub offset-taken : (h m : ℤ) → unsigned_abs h ≤ 25 → unsigned_abs m ≤ 59 → offset_refusal h m (pos 0) ≡ None
 offset-taken h m p q = rw (le-leb (unsigned_abs h) 25 p, le-leb (unsigned_abs m) 59 q) refl
 
 pub some_month : (d : Date) → month_number (Dates.month d) ≢ 0
 some_month d is = let within = month_number_in (Dates.month d) in absurd (omega (arith, within, is))
+
+pub some_day : (d : Date) → Dates.day d ≢ 0
+some_day d is = let day = d.day_in in absurd (omega (arith, day, is))
 
 pub day_below : (d : Date) → Dates.day d < 10 ^ 2
 day_below d =

@@ -32,12 +32,12 @@ use Rattle.time_parsing.specs.Outcome.{direct}
 use Rattle.time_parsing.specs.exact.RecordedRfc3339.{direct-value}
 use Rattle.time_parsing.specs.Rfc3339.{Reads, Refuses}
 use Rattle.time_parsing.specs.Written.{kept, IsCut, written, ReadsBack, KeepsAll}
-use Rattle.time_parsing.proofs.KeptDigits.{significant-bound, keeps-auto}
+use Rattle.time_writing.proofs.KeptDigits.{significant-bound, keeps-auto}
 use Rattle.time_parsing.proofs.WrittenForm.{said, not_zero, fraction-stands, timed, zulu, numeric, zulu-stands, numeric-stands, bytes, written_form}
 use Rattle.time_parsing.proofs.Told.{told, made, sign_of, signed_hours, signed_minutes, sign_byte-sign_of, is_negative-sign_of, year-below, hours-below, minutes-below, some_month, day_below}
 
 -- nothing is in the way of a text
-writable : (y h s : ℤ) →
+pub writable : (y h s : ℤ) →
     (if int_lt y (pos 0) || int_lt (pos 9999) y then Some Year else
     if int_lt h (neg_ℤ (pos 23)) || int_lt (pos 23) h then Some OffsetHour else
     if int_eq s (pos 0) then None else Some OffsetSecond) ≡ None
@@ -45,7 +45,7 @@ writable : (y h s : ℤ) →
 writable y h s is = search rules
 
 -- how many digits are written
-few-digits : (digits : FractionDigits) (n : ℕ) → count_of digits n ≤ 9
+pub few-digits : (digits : FractionDigits) (n : ℕ) → count_of digits n ≤ 9
 few-digits Auto n = significant-bound 9 n
 few-digits (Exactly k) n = search rules
 
@@ -55,7 +55,7 @@ said-kept zero n below = omega (arith, below)
 said-kept (suc k) n below = rw (not_zero k) refl
 
 -- a sign is no digit, and no point
-no_digit : (sign : Sign) (rest : List ℕ) → NoDigitFirst (sign_byte sign ∷ rest)
+pub no_digit : (sign : Sign) (rest : List ℕ) → NoDigitFirst (sign_byte sign ∷ rest)
 no_digit Negative rest = λ h. omega (arith, h)
 no_digit Positive rest = λ h. omega (arith, h)
 
@@ -64,11 +64,11 @@ no_point Negative rest = λ h. omega (arith, h)
 no_point Positive rest = λ h. omega (arith, h)
 
 -- neither hours nor minutes
-none-is : (h m : ℤ) → (int_eq h (pos 0) && int_eq m (pos 0)) ≡ true → (h ≡ pos 0) × (m ≡ pos 0)
+pub none-is : (h m : ℤ) → (int_eq h (pos 0) && int_eq m (pos 0)) ≡ true → (h ≡ pos 0) × (m ≡ pos 0)
 none-is h m is = search rules
 
 -- thirteen texts, one behind another
-flat : (a b c d e f g h i j k l m : List ℕ) →
+pub flat : (a b c d e f g h i j k l m : List ℕ) →
     a ++ b ++ c ++ d ++ e ++ f ++ (g ++ h ++ i ++ j ++ k) ++ l ++ m
     ≡ a ++ (b ++ (c ++ (d ++ (e ++ (f ++ (g ++ (h ++ (i ++ (j ++ (k ++ (l ++ m)))))))))))
 flat a b c d e f g h i j k l m = simp append_assoc refl

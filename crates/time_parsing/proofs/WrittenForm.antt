@@ -13,7 +13,7 @@ use Rattle.time_readers.specs.declared.rfc3339.Place.TheVariants.{Year, YearDash
 use Rattle.time_digits.proofs.Runs.{AllDigits-push, digits_value-push}
 use Rattle.time_values.specs.Shown.{fixed, fraction_shown}
 use Rattle.time_parsing.specs.Written.{kept}
-use Rattle.time_parsing.proofs.KeptDigits.{fixed-length, take-fixed, front-below}
+use Rattle.time_writing.proofs.KeptDigits.{fixed-length, take-fixed, front-below}
 
 -- digits of a number that has no more are a run that says it
 fixed-digits : (k n : ℕ) → AllDigits (fixed k n)
@@ -51,7 +51,7 @@ fixed-fraction k n rest some few below ends =
     }
 
 -- so are the first k of nine
-written-fraction : (k n : ℕ) (rest : List ℕ) → 1 ≤ k → k ≤ 9 → n < 10 ^ 9 → NoDigitFirst rest
+pub written-fraction : (k n : ℕ) (rest : List ℕ) → 1 ≤ k → k ≤ 9 → n < 10 ^ 9 → NoDigitFirst rest
     → IsFraction (take k (fixed 9 n)) rest (kept k n)
 written-fraction k n rest some few below ends =
     let sum : 9 ≡ k + (9 - k) = omega (arith, few) in

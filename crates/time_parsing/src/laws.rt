@@ -5,10 +5,13 @@ ghost use Rattle.time_descriptions.specs.Description.{shape};
 ghost use Rattle.time_readers.specs.Direct.{IsDirectRfc3339, IsDirectRfc2822, RefusesRfc3339, RefusesRfc2822};
 ghost use Rattle.time_parsing.specs.Iso8601 as Iso8601;
 ghost use Rattle.time_parsing.specs.KeptReadings.{KeepsReadings, KeepsRecords, KeepsTexts};
-ghost use Rattle.time_parsing.specs.Outcome.{OneOutcome, OneMomentOutcome, SameMoments, direct};
+ghost use Rattle.time_parsing.specs.OneWritten.{OneMailText, OneExtendedText, OneBasicText, ExtendedOrBasic};
+ghost use Rattle.time_parsing.specs.Outcome.{OneOutcome, OneMomentOutcome, SameMoments, direct, over_record};
 ghost use Rattle.time_parsing.specs.Rfc2822 as Rfc2822;
 ghost use Rattle.time_parsing.specs.Rfc3339 as Rfc3339;
 ghost use Rattle.time_parsing.specs.Written.{ReadsBack, ReadsMailBack, KeepsAll, OneText, OneShortText};
+ghost use Rattle.time_parsing.specs.WrittenIso.{ReadsBasicBack};
+ghost use Rattle.time_parsing.specs.WrittenUtc.{ReadsUtcBack, ReadsBasicUtcBack, ReadsMailUtcBack};
 ghost use Rattle.time_parsing.specs.TreeLaws.{JoinedReads, JoinedRefuses, JoinedLeaves, Flattens, OptionalAsFirst, AnswersAlike, WholeCharacters, LeavesSuffix};
 ghost use Rattle.time_writing.specs.declared.fraction.FractionDigits.TheVariants.{Auto, Exactly};
 
@@ -102,6 +105,39 @@ pub fn law_one_text()
 pub fn law_mail_read_back()
     ensures { ReadsMailBack greatest_year (direct (RefusesRfc2822 greatest_year)) (Rfc2822.Reads greatest_year)
         (Rfc2822.Refuses greatest_year) }
+{}
+
+/// What [`text_8601`](time_writing::text_8601) writes of a moment is read back by [`Iso8601`](crate::Iso8601) as that
+/// moment, and what [`text_8601_basic`](time_writing::text_8601_basic) writes as that moment without its fraction,
+/// without defaults and over a record. The first is the text of RFC 3339 with nine digits of a fraction. Of any number
+/// of digits such a text is read back as the moment but for the digits that aren't written.
+pub fn law_iso_read_back()
+    ensures extended { ReadsBack greatest_year over_record (Iso8601.Reads greatest_year) (Iso8601.Refuses greatest_year) }
+    ensures basic { ReadsBasicBack greatest_year over_record (Iso8601.Reads greatest_year)
+        (Iso8601.Refuses greatest_year) }
+{}
+
+/// The texts of [`law_read_back`], [`law_mail_read_back`] and [`law_iso_read_back`] are read back as dates and times in
+/// UTC too, each as that of the moment but for the digits that aren't written. So the text of `OffsetDateTime::from` a
+/// date and time in UTC is read back as that date and time, but for the same digits.
+pub fn law_utc_read_back()
+    ensures rfc3339 { ReadsUtcBack greatest_year (Rfc3339.Reads greatest_year) (Rfc3339.Refuses greatest_year) }
+    ensures rfc2822 { ReadsMailUtcBack greatest_year (Rfc2822.Reads greatest_year) (Rfc2822.Refuses greatest_year) }
+    ensures extended { ReadsUtcBack greatest_year (Iso8601.Reads greatest_year) (Iso8601.Refuses greatest_year) }
+    ensures basic { ReadsBasicUtcBack greatest_year (Iso8601.Reads greatest_year) (Iso8601.Refuses greatest_year) }
+{}
+
+/// Moments with one text of RFC 2822 are one but for their fractions, which aren't written.
+pub fn law_one_mail_text()
+    ensures { OneMailText }
+{}
+
+/// Moments with one extended text of ISO 8601 are one, and those with one basic text are one but for their fractions,
+/// which aren't written. No text is extended and basic.
+pub fn law_one_iso_text()
+    ensures extended { OneExtendedText }
+    ensures basic { OneBasicText }
+    ensures apart { ExtendedOrBasic }
 {}
 
 /// Where years ran from -9999 to 9999 nothing was read otherwise. Each reading by a description in which nothing is

@@ -1,1 +1,5 @@
+pub mod KeptDigits
+pub mod OneShown
+pub mod SameParts
+pub mod SameTexts
 pub mod WritableLemmas

@@ -3,6 +3,7 @@
 
 mod fraction;
 mod iso8601;
+pub mod laws;
 mod parts;
 mod rfc2822;
 mod rfc3339;

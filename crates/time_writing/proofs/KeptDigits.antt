@@ -6,7 +6,6 @@ use Rattle.std.proofs.lemmas.List.{length-append, take-append-le}
 use Rattle.std.proofs.Math.Nat.{div-div-eq-div-mul, pow-suc, pow-succ', mul_assoc}
 use Rattle.std.proofs.Math.Seq.{take-length}
 use Rattle.time_values.specs.Shown.{fixed, significant}
-use Rattle.time_parsing.specs.Written.{kept}
 
 -- how long they are
 pub fixed-length : (k n : ℕ) → length (fixed k n) ≡ k
@@ -76,11 +75,11 @@ by_last true m n (suc j) before last is =
 by_last false m n j before last is = none-cut n j (omega (arith, is))
 
 -- the zeros at the end that don't count are those that are cut off
-zeros-cut : (m n j : ℕ) → m ≡ significant m n + j → n / 10 ^ j * 10 ^ j ≡ n
+pub zeros-cut : (m n j : ℕ) → m ≡ significant m n + j → n / 10 ^ j * 10 ^ j ≡ n
 unfolding significant
 zeros-cut zero n j is = none-cut n j (omega (arith, is))
 zeros-cut (suc m) n j is = by_last (n % 10 == 0) m n j (λ i. zeros-cut m (n / 10) i) refl is
 
 -- all digits up to the last that counts keep it
-pub keeps-auto : (n : ℕ) → kept (significant 9 n) n ≡ n
+pub keeps-auto : (n : ℕ) → n / 10 ^ (9 - significant 9 n) * 10 ^ (9 - significant 9 n) ≡ n
 keeps-auto n = let bound = significant-bound 9 n in zeros-cut 9 n (9 - significant 9 n) (omega (arith, bound))

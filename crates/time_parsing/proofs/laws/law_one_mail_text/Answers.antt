@@ -1,0 +1,5 @@
+use Rattle.time_parsing.proofs.OneWrittenText.{one_mail_text}
+use Rattle.time_parsing.proofs.laws.law_one_mail_text.Goals as goal
+
+pub returns : goal.returns
+returns c = one_mail_text

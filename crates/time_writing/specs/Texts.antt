@@ -1,5 +1,5 @@
 -- Texts of moments by RFC 3339, section 5.6, by RFC 2822, section 3.3, and by ISO 8601.
-use Rattle.std.specs.Prelude.{◌≡◌, ℕ, min, pos, neg_ℤ, int_lt, unsigned_abs, List, ◌∷◌, ◌++◌, codes, Bool, ◌||◌, ◌&&◌, ◌==◌, if◌then◌else◌, Option, None, Some, Result, Err, IfOk, MatchOption}
+use Rattle.std.specs.Prelude.{◌≡◌, ℕ, min, pos, neg_ℤ, int_lt, unsigned_abs, List, ◌∷◌, ◌++◌, codes, Bool, ◌||◌, ◌&&◌, ◌==◌, if◌then◌else◌, Option, None, Some, Result, Err, IsOkAnd, MatchOption}
 use Rattle.std.specs.Ordering.{int_eq}
 use Rattle.time_values.specs.Dates as Dates
 use Rattle.time_values.specs.Moments.{offset_date, offset_time, offset_of}
@@ -131,12 +131,12 @@ unwritable_2822 v =
     then Some Year else
     if int_eq (Offsets.seconds (offset_of v)) (pos 0) then None else Some OffsetSecond
 
--- The result is that reason, or where there is none, such a text.
+-- The result is that reason; where there is none, it is such a text.
 abbrev pub WritesSuch : Option Unwritable → (List ℕ → Type 0) → Result Items Unwritable → Type 0
 WritesSuch reason such result =
-    MatchOption reason (IfOk result (λ text. such text.items)) (λ why. result ≡ Err why)
+    MatchOption reason (IsOkAnd result (λ text. such text.items)) (λ why. result ≡ Err why)
 
--- The result is that reason, or where there is none, a text of those bytes.
+-- The result is that reason; where there is none, it is a text of those bytes.
 abbrev pub Writes : Option Unwritable → List ℕ → Result Items Unwritable → Type 0
 Writes reason bytes result =
-    MatchOption reason (IfOk result (λ text. text.items ≡ bytes)) (λ why. result ≡ Err why)
+    MatchOption reason (IsOkAnd result (λ text. text.items ≡ bytes)) (λ why. result ≡ Err why)

@@ -49,6 +49,19 @@ IsOutcome resolves reads refuses bytes begin (Ok v) = (r : Record) × reads byte
 IsOutcome resolves reads refuses bytes begin (Err e) =
     IsWhole reads refuses bytes begin (Err e) ⊎ ((r : Record) × reads bytes begin [] r × resolves r (Err e))
 
+-- the result of a parse of a front, its refusal without where its text lies in memory
+abbrev pub seen_front : {V : Type 0} → Result (V × Bor (List ℕ)) Parse → Result (V × List ℕ) Refusal
+seen_front (Ok x) = Ok (x.0, x.1.now)
+seen_front (Err e) = Err (refusal_of e)
+
+-- The outcome of a parse of a front: the value to which the record of a front of the bytes resolves, with the rest of
+-- the bytes; or the refusal of the reading, or the one of the record that was read. Bytes that remain are no refusal.
+abbrev pub IsFront : {V : Type 0} → Resolving V → Reading → Refusing → List ℕ → Record
+    → Result (V × List ℕ) Refusal → Type 0
+IsFront resolves reads refuses bytes begin (Ok x) = (r : Record) × reads bytes begin x.1 r × resolves r (Ok x.0)
+IsFront resolves reads refuses bytes begin (Err e) =
+    refuses bytes begin e ⊎ ((rest : List ℕ) × (r : Record) × reads bytes begin rest r × resolves r (Err e))
+
 -- A format has one answer to a text over a record: one reading or one refusal, and never both.
 pub record IsExact (reads : Reading) (refuses : Refusing) : Type 0 where
   pub one_rest : (bytes : List ℕ) (r : Record) (x y : List ℕ) (p q : Record)
@@ -65,6 +78,13 @@ OneOutcome {V} resolves reads refuses =
     (bytes : List ℕ) (begin : Record) (result other : Result V Refusal)
     → IsOutcome resolves reads refuses bytes begin result
     → IsOutcome resolves reads refuses bytes begin other → result ≡ other
+
+-- a parse of a front has one outcome
+abbrev pub OneFront : {V : Type 0} → Resolving V → Reading → Refusing → Type 0
+OneFront {V} resolves reads refuses =
+    (bytes : List ℕ) (begin : Record) (result other : Result (V × List ℕ) Refusal)
+    → IsFront resolves reads refuses bytes begin result
+    → IsFront resolves reads refuses bytes begin other → result ≡ other
 
 -- how a format reads a moment where no defaults are given: over a record, as all else, or directly, with these refusals
 pub data Path : Type 1 where

@@ -6,7 +6,7 @@ ghost use Rattle.time_readers.specs.Direct.{IsDirectRfc3339, IsDirectRfc2822, Re
 ghost use Rattle.time_parsing.specs.Iso8601 as Iso8601;
 ghost use Rattle.time_parsing.specs.KeptReadings.{KeepsReadings, KeepsRecords, KeepsTexts};
 ghost use Rattle.time_parsing.specs.OneWritten.{OneMailText, OneExtendedText, OneBasicText, ExtendedOrBasic};
-ghost use Rattle.time_parsing.specs.Outcome.{OneOutcome, OneMomentOutcome, SameMoments, direct, over_record};
+ghost use Rattle.time_parsing.specs.Outcome.{OneFront, OneOutcome, OneMomentOutcome, SameMoments, direct, over_record};
 ghost use Rattle.time_parsing.specs.Rfc2822 as Rfc2822;
 ghost use Rattle.time_parsing.specs.Rfc3339 as Rfc3339;
 ghost use Rattle.time_parsing.specs.Written.{ReadsBack, ReadsMailBack, KeepsAll, OneText, OneShortText};
@@ -28,6 +28,7 @@ pub fn law_one_outcome<T: Parsable>(format: &T)
     ensures utc_date_time { OneOutcome (IsUtcMoment greatest_year) (T.reads format.now) (T.refuses format.now) }
     ensures offset_date_time { OneMomentOutcome greatest_year (T.path format.now) (T.reads format.now) (T.refuses format.now) }
     ensures timestamp { OneOutcome (IsTimestamp greatest_year) (T.reads format.now) (T.refuses format.now) }
+    ensures front { OneFront (IsMoment greatest_year) (T.reads format.now) (T.refuses format.now) }
 {}
 
 /// The direct paths of RFC 3339 and RFC 2822 accept the texts that a parse over an empty record accepts, with the

@@ -4,7 +4,7 @@ ghost use Rattle.time_values.specs.Range.{greatest_year};
 ghost use Rattle.time_values.specs.Refusal.{refusal_of, refusal_of_parsed, trailing};
 ghost use Rattle.time_values.specs.declared.error.TryFromParsed.{TryFromParsed as TryFromParsed_};
 ghost use Rattle.time_record.specs.Resolution.{IsDated, IsTimed, IsOffset, IsPlain, IsUtcMoment, IsMoment, IsTimestamp};
-ghost use Rattle.time_parsing.specs.Outcome.{Reading, Refusing, begun, seen, ParsesInto, IsWhole, IsOutcome, IsExact, Path, over_record, IsMomentOutcome, IsExactPath};
+ghost use Rattle.time_parsing.specs.Outcome.{Reading, Refusing, begun, seen, ParsesInto, IsWhole, IsOutcome, seen_front, IsFront, IsExact, Path, over_record, IsMomentOutcome, IsExactPath};
 
 use std::convert::TryFrom;
 use time_record::Parsed;
@@ -13,7 +13,7 @@ use time_values::{Date, OffsetDateTime, PlainDateTime, Time, Timestamp, UtcDateT
 
 /// A format that texts can be parsed by.
 ///
-/// The calls that parse a whole text take defaults for what the text leaves out, as the year of
+/// The calls that parse a text take defaults for what the text leaves out, as the year of
 /// `03-04`: the text is read over them, and what it says replaces them. `None` means no defaults.
 pub trait Parsable {
     // A front of the bytes is read over a record: the rest, and the record after it.
@@ -123,6 +123,22 @@ pub trait Parsable {
         let mut parsed = begin(defaults);
         let rest = self.parse_into(input, &mut parsed)?;
         value_before::<Timestamp>(rest, &parsed)
+    }
+
+    /// The date, time and offset of a front of the input, read over the defaults, and the unread rest. The text is read
+    /// over a record, so its refusals are those of [`Parsable::parse_into`] and of the record; bytes that remain are none.
+    fn parse_front<'a>(
+        &self,
+        input: &'a [u8],
+        defaults: Option<Parsed>,
+    ) -> Result<(OffsetDateTime, &'a [u8]), Parse>
+        ensures { IsFront (IsMoment greatest_year) (reads self.now) (refuses self.now) input.now
+            (begun defaults) (seen_front result) }
+    {
+        let mut parsed = begin(defaults);
+        let rest = self.parse_into(input, &mut parsed)?;
+        let value = OffsetDateTime::try_from(parsed)?;
+        Ok((value, rest))
     }
 
     // The format has one answer to a text over a record.

@@ -1,5 +1,6 @@
 mod answers;
 mod described;
+mod front_moments;
 mod fronts;
 mod iso_fronts;
 mod iso_texts;

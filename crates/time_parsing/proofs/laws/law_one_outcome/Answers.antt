@@ -1,7 +1,7 @@
 use Rattle.time_values.specs.Range.{greatest_year}
-use Rattle.time_record.specs.Resolution.{IsDated, IsTimed, IsOffset, IsPlain, IsUtcMoment, IsTimestamp}
+use Rattle.time_record.specs.Resolution.{IsDated, IsTimed, IsOffset, IsPlain, IsUtcMoment, IsMoment, IsTimestamp}
 use Rattle.time_record.proofs.ResolutionLemmas.{IsDated-one, IsTimed-one, IsOffset-one, IsPlain-one, IsUtcMoment-one, IsMoment-one, IsTimestamp-one}
-use Rattle.time_parsing.proofs.OneOutcome.{one_outcome, one_moment_outcome}
+use Rattle.time_parsing.proofs.OneOutcome.{one_outcome, one_moment_outcome, one_front}
 use Rattle.time_parsing.proofs.laws.law_one_outcome.Goals as goal
 
 pub returns : goal.returns
@@ -18,4 +18,5 @@ returns g c =
       offset_date_time = one_moment_outcome (g.T.Parsable.path c.args.format.now) reads refuses exact
           (g.met.T.Parsable.exact_path c.args.format.now) IsMoment-one;
       timestamp = one_outcome reads refuses exact (IsTimestamp greatest_year) IsTimestamp-one;
+      front = one_front reads refuses exact (IsMoment greatest_year) IsMoment-one;
     }

@@ -1,7 +1,7 @@
 -- The trees of the steps of items are the items' trees.
-use Rattle.std.proofs.Common.{◌≡◌, ℕ, zero, suc, ◌+◌, ◌<◌, ◌≤◌, List, [], ◌∷◌, ◌++◌, length, map, drop, true, false, Ok, Err, refl, ap, ◌∙◌, arith, length-append, inl, inr}
+use Rattle.std.proofs.Common.{◌≡◌, ℕ, zero, suc, ◌+◌, ◌-◌, ◌<◌, ◌≤◌, List, [], ◌∷◌, ◌++◌, length, map, drop, true, false, Ok, Err, refl, ap, ◌∙◌, arith, length-append, inl, inr}
 use Rattle.std.proofs.Math.Seq.{take-append_seam, drop-append_seam}
-use Rattle.std.specs.Prelude.{◌⊎◌, IfOk}
+use Rattle.std.specs.Prelude.{◌⊎◌}
 use Rattle.time_components.specs.Steps.{further, group_tree, steps_shape, trees_in}
 use Rattle.time_components.specs.Tree.{Trees, sequence, literal as literal_tree, component as component_tree, more as more_trees}
 use Rattle.time_descriptions.specs.declared.fault.Fault.{Fault}
@@ -10,8 +10,8 @@ use Rattle.time_components.specs.declared.step.Step.{Step}
 use Rattle.time_components.specs.declared.step.Step.TheVariants as step
 use Rattle.time_descriptions.specs.declared.version.Version.{Version}
 use Rattle.time_descriptions.specs.Description.{IsRefused}
-use Rattle.time_descriptions.specs.Grammar.{description, ends, Describes, Lacks}
-use Rattle.time_descriptions.specs.Components.{Read}
+use Rattle.time_descriptions.specs.Counting.{steps_begun}
+use Rattle.time_descriptions.specs.Grammar.{description, ends, Describes}
 use Rattle.time_descriptions.specs.Items.{Item, Items, literal, component, group, none, more, items_of, flat, steps_of, all_steps_of, tree_of, trees_of}
 use Rattle.time_descriptions.specs.Refusal.{Refusal, refusal_at}
 
@@ -83,14 +83,15 @@ described version text rest is old steps read e o s =
       ap steps_shape all ∙ steps_shape-flat is,
     )
 
-lacking : (n : ℕ) (read : Read (List Item)) (old : List Step) → old ≡ [] → Lacks flat n read old → IfOk read (λ x. n < length (flat x.0))
-lacking n (Ok x) old o l = omega (arith, l, ap length o)
-lacking n (Err e) old o l = tt
-
 -- a fault is told with its place
 pub refused : (n : ℕ) (version : Version) (text : List ℕ) (e : Fault) (refusal : Refusal) (old : List Step)
-    → ((e ≡ fault.NoRoom) × (n < length old + length text) × Lacks flat n (description version text) old) ⊎ (description version text ≡ Err e)
+    → ((e ≡ fault.NoRoom) × (n < length old + length text) × (n - length old < steps_begun version text))
+    ⊎ ((description version text ≡ Err e) × (steps_begun version text ≤ n - length old))
     → old ≡ [] → refusal ≡ refusal_at text e → IsRefused n version text refusal
 refused n version text e refusal old (inl x) o r =
-    inl (r ∙ ap (refusal_at text) x.0, omega (arith, x.1, ap length o), lacking n (description version text) old o x.2)
-refused n version text e refusal old (inr x) o r = inr (e, x, r)
+    inl (r ∙ ap (refusal_at text) x.0, omega (arith, x.1, ap length o), omega (arith, x.2, ap length o))
+refused n version text e refusal old (inr x) o r = inr (e, x.0, r, omega (arith, x.1, ap length o))
+
+-- what there is room for
+pub fitting : (n begun : ℕ) (old : List Step) → old ≡ [] → begun ≤ n - length old → begun ≤ n
+fitting n begun old o h = omega (arith, h, ap length o)

@@ -23,15 +23,15 @@ use Rattle.time_descriptions.specs.Modifiers as chosen
 use Rattle.time_descriptions.specs.Names.{component_names}
 use Rattle.time_descriptions.specs.Words.{is_of_word, is_space, look_up}
 
-abbrev Bare : List ℕ → Type 0
+abbrev pub Bare : List ℕ → Type 0
 Bare text = has_no_escape text ≡ true
 
 -- what is left after what is read is bare
-abbrev Leaves : {A : Type 0} → A × List ℕ → Type 0
+abbrev pub Leaves : {A : Type 0} → A × List ℕ → Type 0
 Leaves x = Bare x.1
 
 -- both give one, and what they give is so
-abbrev Same : {A : Type 0} → (A → Type 0) → Result A Fault → Result A Fault → Type 0
+abbrev pub Same : {A : Type 0} → (A → Type 0) → Result A Fault → Result A Fault → Type 0
 Same Q one two = (one ≡ two) × IfOk one Q
 
 bare_rest : (b : ℕ) (rest : List ℕ) → Bare (b ∷ rest) → Bare rest
@@ -135,7 +135,7 @@ pick R true false z a b c d e h f s p q = (refl, p)
 pick R false y true a b c d e h f s p q = absurd (true≢false f)
 pick R false y false a b c d e h f s p q = (s, q)
 
-same_leaf : (nested : Bool) (text : List ℕ) → Bare text → Same Leaves (leaf versions.One nested text) (leaf versions.Two nested text)
+pub same_leaf : (nested : Bool) (text : List ℕ) → Bare text → Same Leaves (leaf versions.One nested text) (leaf versions.Two nested text)
 unfolding leaf
 same_leaf nested [] p = (refl, tt)
 same_leaf nested (b ∷ rest) p =
@@ -195,7 +195,7 @@ opened_pick : (c : Bool) (e : Fault) (r : Result (List ℕ) Fault) → IfOk r Ba
 opened_pick true e r p = tt
 opened_pick false e r p = p
 
-opened_bare : (g : Group) (text : List ℕ) → Bare text → IfOk (opened g text) Bare
+pub opened_bare : (g : Group) (text : List ℕ) → Bare text → IfOk (opened g text) Bare
 unfolding opened
 opened_bare g text p =
     let space = prefix_len is_space text in
@@ -208,11 +208,11 @@ unfolding closed
 closed_bare opening text p =
     byte_bare 93 (fault.UnclosedOpeningBracket opening) (drop (prefix_len is_space text) text) (bare_drop (prefix_len is_space text) text p)
 
-next_bare : (text : List ℕ) → Bare text → IfSome (next_list text) Bare
+pub next_bare : (text : List ℕ) → Bare text → IfSome (next_list text) Bare
 unfolding next_list
 next_bare text p = tail_bare 91 (drop (prefix_len is_space text) text) (bare_drop (prefix_len is_space text) text p)
 
-abbrev Follows : Group × List ℕ → Type 0
+abbrev pub Follows : Group × List ℕ → Type 0
 Follows x = Bare x.1
 
 word_pick : (b : Bool) (o : Option Group) (rest : List ℕ) → Bare rest
@@ -221,7 +221,7 @@ word_pick true (Some g) rest p = p
 word_pick true None rest p = tt
 word_pick false o rest p = tt
 
-word_bare : (text : List ℕ) → Bare text → IfSome (group_word text) Follows
+pub word_bare : (text : List ℕ) → Bare text → IfSome (group_word text) Follows
 unfolding group_word
 word_bare [] p = tt
 word_bare (b ∷ rest) p =
@@ -231,7 +231,7 @@ word_bare (b ∷ rest) p =
     (bare_drop len named (bare_drop (prefix_len is_space rest) rest (bare_rest b rest p)))
 
 module _ (one two : List ℕ → Read Item) (same : (text : List ℕ) → Bare text → Same Leaves (one text) (two text)) where
-  same_items : (n : ℕ) (nested : Bool) (text : List ℕ) → Bare text → Same Leaves (items_by one n nested text) (items_by two n nested text)
+  pub same_items : (n : ℕ) (nested : Bool) (text : List ℕ) → Bare text → Same Leaves (items_by one n nested text) (items_by two n nested text)
   unfolding items_by
   same_items zero nested text p = (refl, p)
   same_items (suc n) nested text p =
@@ -241,7 +241,7 @@ module _ (one two : List ℕ → Read Item) (same : (text : List ℕ) → Bare t
       (λ x k. same_before (x.0 ∷ []) (items_by one n nested x.1) (items_by two n nested x.1) (same_items n nested x.1 k))
       (one text) (two text) (same text p))
 
-  same_list : (opening : ℕ) (text : List ℕ) → Bare text → Same Leaves (list_by one opening text) (list_by two opening text)
+  pub same_list : (opening : ℕ) (text : List ℕ) → Bare text → Same Leaves (list_by one opening text) (list_by two opening text)
   same_list opening text p =
       let put : List Item → List ℕ → Read (List Item) = λ is rest. Ok (is, rest) in
       let shut : List ℕ → Result (List ℕ) Fault = after_byte 93 (fault.UnclosedOpeningBracket opening) in
@@ -282,7 +282,7 @@ module _ (one two : List ℕ → Read Item) (same : (text : List ℕ) → Bare t
       (inside_by (list_by one opening) found.0 text) (inside_by (list_by two opening) found.0 text) (same_inside opening found.0 text k))
       (opened found.0 found.1) (opened_bare found.0 found.1 p)
 
-same_item : (depth : ℕ) (nested : Bool) (text : List ℕ) → Bare text
+pub same_item : (depth : ℕ) (nested : Bool) (text : List ℕ) → Bare text
     → Same Leaves (item versions.One depth nested text) (item versions.Two depth nested text)
 unfolding item
 same_item zero nested text p =

@@ -8,8 +8,7 @@
 --     escape      = "[[" in version 1, for "[" | "\" , ( "[" | "]" | "\" ) in version 2, for that byte
 --     optional    = "[" , [ space ] , "optional" , space , list , [ space ] , "]"
 --     first       = "[" , [ space ] , "first" , space , list , { [ space ] , list } , [ space ] , "]"
-use Rattle.std.proofs.Common.{Bor}
-use Rattle.std.specs.Prelude.{◌≡◌, ◌⊎◌, ◌+◌, ◌<◌, ◌≤◌, ℕ, zero, suc, List, [], ◌∷◌, ◌++◌, Bool, true, false, not, ◌&&◌, ◌||◌, ◌==◌, length, take, drop, codes, Option, Some, None, Result, Ok, Err, IfOk, if◌then◌else◌}
+use Rattle.std.specs.Prelude.{◌≡◌, ℕ, zero, suc, List, [], ◌∷◌, ◌++◌, Bool, true, false, not, ◌&&◌, ◌||◌, ◌==◌, length, take, drop, codes, Option, Some, None, Result, Ok, Err, if◌then◌else◌}
 use Rattle.std.specs.List.{prefix_len}
 use Rattle.std.specs.Option.{option_map}
 use Rattle.std.specs.Str.{bytes_eq}
@@ -21,7 +20,6 @@ use Rattle.time_descriptions.specs.declared.fault.Expectation.TheVariants as exp
 use Rattle.time_descriptions.specs.declared.fault.Unsupported.TheVariants as unsupported
 use Rattle.time_components.specs.declared.step.Group.{Group}
 use Rattle.time_components.specs.declared.step.Group.TheVariants as groups
-use Rattle.time_components.specs.declared.step.Step.{Step}
 use Rattle.time_descriptions.specs.declared.version.Version.{Version}
 use Rattle.time_descriptions.specs.declared.version.Version.TheVariants as versions
 use Rattle.time_descriptions.specs.Components.{Read, ◌>>=◌, bracketed}
@@ -174,16 +172,3 @@ description version text = items version most_lists false text
 unfoldable pub Describes : Version → List ℕ → Tree → Type 0
 Describes version text tree =
     (is : List Item) × (description version text ≡ Ok (is, [])) × (tree ≡ sequence (trees_of (items_of is)))
-
--- If something is read, its steps and the old ones are more than n.
-abbrev pub Lacks : {A : Type 0} → (A → List Step) → ℕ → Read A → List Step → Type 0
-Lacks steps n read old = IfOk read (λ x. n < length old + length (steps x.0))
-
--- What was added to old are the steps of what is read, and steps and bytes left are no more than there were of old
--- steps and of room; or the first fault is told, or that n steps are less than that, and than what is read takes.
-abbrev pub Adds : {A : Type 0} → (A → List Step) → ℕ → Read A → ℕ
-    → List Step → Result (Bor (List ℕ)) Fault → List Step → Type 0
-Adds {A} steps n read room old (Ok rest) new =
-    (x : A) × (read ≡ Ok (x, rest.now)) × (new ≡ old ++ steps x) × (length new + length rest.now ≤ length old + room)
-Adds steps n read room old (Err e) new =
-    ((e ≡ fault.NoRoom) × (n < length old + room) × Lacks steps n read old) ⊎ (read ≡ Err e)

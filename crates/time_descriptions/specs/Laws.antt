@@ -1,10 +1,12 @@
 -- What holds of descriptions.
-use Rattle.std.specs.Prelude.{◌≡◌, ◌↔◌, ℕ, List, [], ◌∷◌, Bool, true, not, ◌&&◌, ◌==◌}
+use Rattle.std.specs.Prelude.{◌≡◌, ◌↔◌, ℕ, List, [], ◌∷◌, Bool, true, not, ◌&&◌, ◌==◌, length, Ok}
 use Rattle.time_components.specs.Tree.{Tree}
 use Rattle.time_descriptions.specs.declared.version.Version.{Version}
 use Rattle.time_descriptions.specs.declared.version.Version.TheVariants as versions
+use Rattle.time_descriptions.specs.Counting.{steps_begun, TakesAtMost}
 use Rattle.time_descriptions.specs.Description.{IsRefused}
-use Rattle.time_descriptions.specs.Grammar.{Describes, begins_with}
+use Rattle.time_descriptions.specs.Grammar.{Describes, begins_with, description}
+use Rattle.time_descriptions.specs.Items.{Item, flat}
 use Rattle.time_descriptions.specs.Pieces.{HasPieces}
 use Rattle.time_descriptions.specs.Refusal.{Refusal}
 use Rattle.time_descriptions.specs.Strftime.{DescribesStrftime, Fits, IsRefusedStrftime}
@@ -41,6 +43,17 @@ abbrev pub OneStrftimeOutcome : Type 0
 OneStrftimeOutcome = (n : ℕ) (text : List ℕ) (r : Refusal) → IsRefusedStrftime n text r
     → ((s : Refusal) → IsRefusedStrftime n text s → r ≡ s)
     × ((tree : Tree) → DescribesStrftime text tree → Fits n text → ⊥)
+
+-- A text that is refused, where there is room for n steps, is refused in one way, and describes no tree in so many.
+abbrev pub OneOutcome : Type 0
+OneOutcome = (n : ℕ) (version : Version) (text : List ℕ) (r : Refusal) → IsRefused n version text r
+    → ((s : Refusal) → IsRefused n version text s → r ≡ s)
+    × ((tree : Tree) → Describes version text tree → TakesAtMost n version text → ⊥)
+
+-- A text that is read begins the steps of its items.
+abbrev pub StepsOfRead : Type 0
+StepsOfRead = (version : Version) (text : List ℕ) (is : List Item) → description version text ≡ Ok (is, [])
+    → steps_begun version text ≡ length (flat is)
 
 -- A text of strftime describes the tree of its pieces, each of which stands for what the tables say, and no other.
 abbrev pub StrftimePieces : Type 0

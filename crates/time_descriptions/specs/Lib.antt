@@ -1,4 +1,6 @@
+pub mod Adding
 pub mod Components
+pub mod Counting
 pub mod Description
 pub mod Grammar
 pub mod Items

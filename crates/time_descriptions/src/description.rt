@@ -1,5 +1,6 @@
 //! Descriptions that were read.
-ghost use Rattle.std.specs.Prelude.{◌≡◌, ◌⊎◌, IfOk, IfErr};
+ghost use Rattle.std.specs.Prelude.{◌≡◌, ◌⊎◌, IfOk, IfErr, OnOk};
+ghost use Rattle.time_descriptions.specs.Counting.{TakesAtMost};
 ghost use Rattle.time_descriptions.specs.Description.{IsRefused, shape, version_of};
 ghost use Rattle.time_descriptions.specs.Grammar.{Describes};
 ghost use Rattle.time_descriptions.specs.Refusal.{refusal_of};
@@ -46,13 +47,14 @@ fn version_of(number: usize) -> Version
 ///
 /// # Errors
 ///
-/// The first fault from the left, with its index in the text; or [`InvalidFormatDescription::TooLong`], which comes only
-/// where the text has more than `N` bytes, and where its steps are more than `N`, if it describes a tree.
+/// [`InvalidFormatDescription::TooLong`] exactly where the text up to its first fault or its end begins more than `N`
+/// steps, which it doesn't where it has at most `N` bytes; else the first fault from the left, with its index in the text.
 pub fn parse_borrowed<const VERSION: usize, const N: usize>(
     text: &[u8],
 ) -> Result<Description<N>, InvalidFormatDescription<'_>>
     requires { (VERSION ≡ 1) ⊎ (VERSION ≡ 2) }
     ensures ok { IfOk result (λ d. Describes (version_of VERSION) text.now (shape d)) }
+    ensures fits { OnOk result (TakesAtMost N (version_of VERSION) text.now) }
     ensures err { IfErr result (λ e. IsRefused N (version_of VERSION) text.now (refusal_of e)) }
 {
     let mut steps = ArrayVec::new();

@@ -3,7 +3,8 @@ ghost use Rattle.std.specs.Prelude.{◌≡◌, ◌<◌, ◌≤◌, ◌+◌, ◌-
 ghost use Rattle.std.specs.List.{prefix_len};
 ghost use Rattle.time_descriptions.specs.Components.{Gives};
 ghost use Rattle.time_descriptions.specs.Grammar as grammar;
-ghost use Rattle.time_descriptions.specs.Grammar.{Adds};
+ghost use Rattle.time_descriptions.specs.Adding.{Adds};
+ghost use Rattle.time_descriptions.specs.Counting as counting;
 ghost use Rattle.time_descriptions.specs.Items.{flat, steps_of};
 ghost use Rattle.time_descriptions.specs.Leaves.{leaf_item, Sees};
 ghost use Rattle.time_descriptions.specs.declared.fault.Fault.TheVariants as fault;
@@ -131,6 +132,7 @@ pub(crate) fn push<const N: usize>(steps: &mut ArrayVec<Step, N>, step: Step) ->
 // The steps of a leaf, if there is room.
 fn push_leaf<const N: usize>(steps: &mut ArrayVec<Step, N>, leaf: Leaf<'_>) -> Result<(), Fault>
     ensures ok { OnOk result (steps.new.items ≡ steps.old.items ++ steps_of (leaf_item leaf.entry)) }
+    ensures room { OnOk result (length steps.new.items ≤ N) }
     ensures err { IfErr result (λ e. (e ≡ fault.NoRoom)
         × (N < length steps.old.items + length (steps_of (leaf_item leaf.entry)))) }
 {
@@ -146,6 +148,7 @@ fn push_leaf<const N: usize>(steps: &mut ArrayVec<Step, N>, leaf: Leaf<'_>) -> R
 // The further bytes of a literal, if there is room.
 fn push_further<const N: usize>(steps: &mut ArrayVec<Step, N>, bytes: &[u8]) -> Result<(), Fault>
     ensures ok { OnOk result (steps.new.items ≡ steps.old.items ++ map step.More bytes.now) }
+    ensures room { OnOk result (length steps.old.items ≤ N → length steps.new.items ≤ N) }
     ensures err { IfErr result (λ e. (e ≡ fault.NoRoom) × (N < length steps.old.items + length bytes.now)) }
 {
     for byte in bytes {
@@ -157,7 +160,7 @@ fn push_further<const N: usize>(steps: &mut ArrayVec<Step, N>, bytes: &[u8]) -> 
 // A group of no steps yet, if there is room, and its index.
 fn open_group<const N: usize>(steps: &mut ArrayVec<Step, N>, group: Group) -> Result<usize, Fault>
     ensures ok { IfOk result (λ index. (index ≡ length steps.old.items)
-        × (steps.new.items ≡ steps.old.items ++ step.Group group 0 ∷ [])) }
+        × (steps.new.items ≡ steps.old.items ++ step.Group group 0 ∷ []) × (length steps.old.items < N)) }
     ensures err { IfErr result (λ e. (e ≡ fault.NoRoom) × (length steps.old.items ≡ N)) }
 {
     let index = steps.len();
@@ -182,8 +185,8 @@ fn add_leaf<'a, const N: usize>(
     text: &'a [u8],
     steps: &mut ArrayVec<Step, N>,
 ) -> Result<&'a [u8], Fault>
-    ensures adds { Adds steps_of N (grammar.leaf version nested text.now) (length text.now) steps.old.items
-        result steps.new.items }
+    ensures adds { Adds steps_of N (grammar.leaf version nested text.now) (counting.leaf_begun version nested text.now)
+        (length text.now) steps.old.items result steps.new.items }
     ensures shorter { IfOk result (λ rest. length rest.now < length text.now) }
 {
     match read_leaf(version, nested, text) {
@@ -205,8 +208,8 @@ fn add_item<'a, const N: usize>(
     text: &'a [u8],
     steps: &mut ArrayVec<Step, N>,
 ) -> Result<&'a [u8], Fault>
-    ensures adds { Adds steps_of N (grammar.item version depth nested text.now) (length text.now) steps.old.items
-        result steps.new.items }
+    ensures adds { Adds steps_of N (grammar.item version depth nested text.now)
+        (counting.item_begun version depth nested text.now) (length text.now) steps.old.items result steps.new.items }
     ensures shorter { IfOk result (λ rest. length rest.now < length text.now) }
 {
     match group_word(text) {
@@ -233,8 +236,9 @@ fn add_group<'a, const N: usize>(
     text: &'a [u8],
     steps: &mut ArrayVec<Step, N>,
 ) -> Result<&'a [u8], Fault>
-    ensures { Adds steps_of N (grammar.group_by (grammar.item version depth true) opening (group, text.now)) (length text.now)
-        steps.old.items result steps.new.items }
+    ensures { let item = grammar.item version depth true in let begun = counting.item_begun version depth true in
+        Adds steps_of N (grammar.group_by item opening (group, text.now))
+        (counting.group_begun item begun opening (group, text.now)) (length text.now) steps.old.items result steps.new.items }
 {
     match opened(group, text) {
         Err(fault) => Err(fault),
@@ -261,8 +265,10 @@ fn add_inside<'a, const N: usize>(
     text: &'a [u8],
     steps: &mut ArrayVec<Step, N>,
 ) -> Result<&'a [u8], Fault>
-    ensures { Adds flat N (grammar.inside_by (grammar.list_by (grammar.item version depth true) opening) group text.now)
-        (length text.now + 1) steps.old.items result steps.new.items }
+    ensures { let item = grammar.item version depth true in let begun = counting.item_begun version depth true in
+        Adds flat N (grammar.inside_by (grammar.list_by item opening) group text.now)
+        (counting.inside_begun item begun opening group text.now) (length text.now + 1) steps.old.items
+        result steps.new.items }
 {
     match group {
         Group::Optional => add_list(version, depth, opening, text, steps),
@@ -279,8 +285,10 @@ fn add_lists<'a, const N: usize>(
     text: &'a [u8],
     steps: &mut ArrayVec<Step, N>,
 ) -> Result<&'a [u8], Fault>
-    ensures { Adds flat N (grammar.lists_by (grammar.list_by (grammar.item version depth true) opening) (suc (length text.now))
-        text.now) (length text.now + 1) steps.old.items result steps.new.items }
+    ensures { let item = grammar.item version depth true in let begun = counting.item_begun version depth true in
+        Adds flat N (grammar.lists_by (grammar.list_by item opening) (suc (length text.now)) text.now)
+        (counting.lists_begun item begun opening (suc (length text.now)) text.now) (length text.now + 1) steps.old.items
+        result steps.new.items }
 {
     let mut inside = text;
     loop {
@@ -307,7 +315,8 @@ fn add_list<'a, const N: usize>(
     text: &'a [u8],
     steps: &mut ArrayVec<Step, N>,
 ) -> Result<&'a [u8], Fault>
-    ensures adds { Adds flat N (grammar.list_by (grammar.item version depth true) opening text.now) (length text.now)
+    ensures adds { let item = grammar.item version depth true in let begun = counting.item_begun version depth true in
+        Adds flat N (grammar.list_by item opening text.now) (counting.list_begun item begun text.now) (length text.now)
         steps.old.items result steps.new.items }
     ensures shorter { IfOk result (λ rest. length rest.now < length text.now) }
 {
@@ -327,7 +336,9 @@ pub fn add_items<'a, const N: usize>(
     text: &'a [u8],
     steps: &mut ArrayVec<Step, N>,
 ) -> Result<&'a [u8], Fault>
-    ensures adds { Adds flat N (grammar.items version depth nested text.now) (length text.now) steps.old.items
+    ensures adds { let item = grammar.item version depth nested in let begun = counting.item_begun version depth nested in
+        Adds flat N (grammar.items version depth nested text.now)
+        (counting.items_begun item begun (length text.now) nested text.now) (length text.now) steps.old.items
         result steps.new.items }
     ensures ended { IfOk result (λ rest. grammar.ends nested rest.now ≡ true) }
 {

@@ -1,5 +1,5 @@
 //! What holds of descriptions, each as a function's contract.
-ghost use Rattle.time_descriptions.specs.Laws.{DescribedBack, OneDescription, OneStrftimeDescription, OneStrftimeOutcome, StrftimePieces, VersionsAgree};
+ghost use Rattle.time_descriptions.specs.Laws.{DescribedBack, OneDescription, OneOutcome, OneStrftimeDescription, OneStrftimeOutcome, StepsOfRead, StrftimePieces, VersionsAgree};
 
 /// A text describes one tree at most, in each version.
 pub fn law_one_description()
@@ -9,6 +9,17 @@ pub fn law_one_description()
 /// A text describes one tree at most, as strftime has it.
 pub fn law_one_strftime_description()
     ensures { OneStrftimeDescription }
+{}
+
+/// A text that is refused is refused in one way, and then it describes no tree in as many steps as there is room for.
+pub fn law_one_outcome()
+    ensures { OneOutcome }
+{}
+
+/// A text that is read begins as many steps as its items have, so there is room for it exactly where there is for them.
+#[tactic(auto, using(crate::proofs::ReadCounts::steps_of_read))]
+pub fn law_steps_of_read()
+    ensures { StepsOfRead }
 {}
 
 /// Versions 1 and 2 read a text alike that has neither a backslash nor two opening brackets in a row: it describes the

@@ -1,4 +1,5 @@
-use Rattle.std.proofs.Common.{◌≡◌, ℕ, suc, ◌+◌, ◌*◌, ◌<◌, ◌≤◌, List, ◌++◌, length, true}
+use Rattle.std.proofs.Common.{◌≡◌, ℕ, suc, ◌+◌, ◌-◌, ◌*◌, ◌<◌, ◌≤◌, List, ◌++◌, length, true}
+use Rattle.time_descriptions.specs.Counting.{item_begun, items_begun, lists_begun}
 use Rattle.time_descriptions.specs.Grammar.{before, item, items_by, list_by, lists_by}
 use Rattle.time_descriptions.specs.Items.{Item, flat}
 use Rattle.time_descriptions.proofs.items.+items.Given as goal
@@ -33,6 +34,10 @@ invariant-add_items-loop-version g l =
       told :
           items_by (item l.version l.depth l.nested) (length l.text) l.nested l.text
           ≡ before front (items_by (item l.version l.depth l.nested) most l.nested l.rest);
+      begun :
+          items_begun (item l.version l.depth l.nested) (item_begun l.version l.depth l.nested) (length l.text) l.nested l.text
+          ≡ length (flat front) + items_begun (item l.version l.depth l.nested) (item_begun l.version l.depth l.nested) most l.nested l.rest;
+      fits : length (flat front) ≤ g.row.N - length l.fn.steps.items;
     }
 
 abbrev pub decreases-add_items-loop-version : goal.decreases-add_items-loop-version
@@ -50,6 +55,10 @@ invariant-add_lists-loop-index g l =
       told :
           lists_by (list_by (item l.version l.depth true) l.opening) (suc (length l.text)) l.text
           ≡ before front (lists_by (list_by (item l.version l.depth true) l.opening) most l.inside);
+      begun :
+          lists_begun (item l.version l.depth true) (item_begun l.version l.depth true) l.opening (suc (length l.text)) l.text
+          ≡ length (flat front) + lists_begun (item l.version l.depth true) (item_begun l.version l.depth true) l.opening most l.inside;
+      fits : length (flat front) ≤ g.row.N - length l.fn.steps.items;
     }
 
 abbrev pub decreases-add_lists-loop-index : goal.decreases-add_lists-loop-index

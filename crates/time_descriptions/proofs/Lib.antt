@@ -2,6 +2,7 @@ pub mod Adding
 pub mod Begun
 pub mod Ignored
 pub mod ModifierSteps
+pub mod Owning
 pub mod ReadComponents
 pub mod ReadCounts
 pub mod Rows

@@ -68,7 +68,7 @@ mutual
 pub steps_shape-flat : (is : List Item) → steps_shape (flat is) ≡ sequence (trees_of (items_of is))
 steps_shape-flat is = ap sequence (items_trees (items_of is) (length (flat is)) (omega arith))
 
-at_top : (rest : List ℕ) → ends false rest ≡ true → rest ≡ []
+pub at_top : (rest : List ℕ) → ends false rest ≡ true → rest ≡ []
 at_top [] e = refl
 at_top (b ∷ rest) e = absurd (grind (arith, e))
 

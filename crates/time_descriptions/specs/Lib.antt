@@ -9,6 +9,7 @@ pub mod Leaves
 pub mod Letters
 pub mod Modifiers
 pub mod Names
+pub mod Owned
 pub mod Parts
 pub mod Pieces
 pub mod Refusal

@@ -12,7 +12,7 @@ use crate::version::Version;
 use arrayvec::ArrayVec;
 
 /// How many lists may stand inside one another.
-const MOST_LISTS: usize = 8;
+pub(crate) const MOST_LISTS: usize = 8;
 
 /// A description of how a date, a time or an offset is written, of at most `N` steps.
 ///
@@ -33,7 +33,7 @@ impl<const N: usize> Description<N> {
 }
 
 // The version of that number.
-fn version_of(number: usize) -> Version
+pub(crate) fn version_of(number: usize) -> Version
     ensures { result ≡ version_of number }
 {
     if number == 1 {

@@ -19,7 +19,7 @@ use crate::words::{after, front, space_len, word_len};
 use arrayvec::ArrayVec;
 
 // Whether the items end here.
-fn ends(nested: bool, text: &[u8]) -> bool
+pub(crate) fn ends(nested: bool, text: &[u8]) -> bool
     ensures { result ≡ grammar.ends nested text.now }
 {
     match text {
@@ -43,7 +43,7 @@ fn group_named(word: &[u8]) -> Option<Group>
 
 // The group that begins in front of the text, and what stands after its word.
 #[tactic(auto, unfolding(crate::specs::Grammar::group_word))]
-fn group_word(text: &[u8]) -> Option<(Group, &[u8])>
+pub(crate) fn group_word(text: &[u8]) -> Option<(Group, &[u8])>
     ensures found { Sees (λ x. (x.0, x.1.now)) result (grammar.group_word text.now) }
     ensures shorter { IfSome result (λ x. length x.1.now < length text.now) }
 {
@@ -60,7 +60,7 @@ fn group_word(text: &[u8]) -> Option<(Group, &[u8])>
 
 // What stands in the first list of a group.
 #[tactic(auto, unfolding(crate::specs::Grammar::opened))]
-fn opened(group: Group, text: &[u8]) -> Result<&[u8], Fault>
+pub(crate) fn opened(group: Group, text: &[u8]) -> Result<&[u8], Fault>
     ensures reads { Gives (λ x. x.now) result (grammar.opened group text.now) }
     ensures shorter { IfOk result (λ rest. length rest.now + 2 ≤ length text.now) }
 {
@@ -87,7 +87,7 @@ fn opened(group: Group, text: &[u8]) -> Result<&[u8], Fault>
 
 // What stands in the next list of a group, if one follows.
 #[tactic(auto, unfolding(crate::specs::Grammar::next_list))]
-fn next_list(text: &[u8]) -> Option<&[u8]>
+pub(crate) fn next_list(text: &[u8]) -> Option<&[u8]>
     ensures found { Sees (λ x. x.now) result (grammar.next_list text.now) }
     ensures shorter { IfSome result (λ x. length x.now < length text.now) }
 {
@@ -98,7 +98,7 @@ fn next_list(text: &[u8]) -> Option<&[u8]>
 }
 
 // What stands after the closing bracket in front of the text.
-fn after_closing(text: &[u8], opening: usize) -> Result<&[u8], Fault>
+pub(crate) fn after_closing(text: &[u8], opening: usize) -> Result<&[u8], Fault>
     ensures reads { Gives (λ x. x.now) result (grammar.after_byte 93 (fault.UnclosedOpeningBracket opening) text.now) }
     ensures shorter { IfOk result (λ rest. length rest.now < length text.now) }
 {
@@ -110,7 +110,7 @@ fn after_closing(text: &[u8], opening: usize) -> Result<&[u8], Fault>
 
 // What stands after a group. So many bytes are left from its opening bracket on.
 #[tactic(auto, unfolding(crate::specs::Grammar::closed))]
-fn closed(text: &[u8], opening: usize) -> Result<&[u8], Fault>
+pub(crate) fn closed(text: &[u8], opening: usize) -> Result<&[u8], Fault>
     ensures reads { Gives (λ x. x.now) result (grammar.closed opening text.now) }
     ensures shorter { IfOk result (λ rest. length rest.now < length text.now) }
 {

@@ -11,6 +11,7 @@ mod leaf;
 mod letters;
 mod modifiers;
 mod names;
+mod owned;
 mod step;
 mod strftime;
 #[cfg(test)]
@@ -23,5 +24,6 @@ mod words;
 
 pub use description::{Description, parse_borrowed};
 pub use error::InvalidFormatDescription;
+pub use owned::{OwnedError, parse_owned};
 pub use step::{Group, Step};
 pub use strftime::parse_strftime;

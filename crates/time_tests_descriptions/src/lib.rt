@@ -1,7 +1,9 @@
 //! Tests of descriptions written as text: every short text, and every cut and changed one, has the fault that a slow
-//! reader gives; and of the room for their steps.
+//! reader gives; and of the room for their steps, and of their trees as items that own their parts.
 #![tactic(auto)]
 
+#[cfg(test)]
+mod owned;
 #[cfg(test)]
 mod room;
 #[cfg(test)]

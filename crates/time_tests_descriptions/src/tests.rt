@@ -2,7 +2,7 @@
 use crate::slow::{NAMES, Slow};
 use std::alloc::{AllocError, Global};
 use std::test::Fail;
-use time_descriptions::parse_borrowed;
+use time_descriptions::{OwnedError, parse_borrowed, parse_owned};
 
 // Whether the text has the fault that the slow reader gives, in both versions.
 fn is_told(text: &[u8]) -> bool {
@@ -10,6 +10,15 @@ fn is_told(text: &[u8]) -> bool {
     let two = Slow { text, version: 2 };
     parse_borrowed::<1, 128>(text).err() == one.fault()
         && parse_borrowed::<2, 128>(text).err() == two.fault()
+}
+
+// The same of the text as an item that owns its parts, and of one in room for 128 steps.
+fn is_told_alike(alloc: Global, text: &[u8]) -> bool {
+    let one = Slow { text, version: 1 }.fault();
+    let two = Slow { text, version: 2 }.fault();
+    is_told(text)
+        && parse_owned::<1>(alloc, text).err() == one.map(OwnedError::Invalid)
+        && parse_owned::<2>(alloc, text).err() == two.map(OwnedError::Invalid)
 }
 
 // The bytes of short texts.
@@ -46,7 +55,7 @@ fn short_texts(rt: HostRuntime) {
 
 // How many texts around this one were tried: each front, and each with one byte changed. `None`: one of them has
 // another fault than the slow reader gives.
-fn tried_around(text: &[u8]) -> Option<usize> {
+fn tried_around(alloc: Global, text: &[u8]) -> Option<usize> {
     let mut tried = 0usize;
     let mut copy = [0u8; 64];
     let len = text.len().min(64);
@@ -57,17 +66,17 @@ fn tried_around(text: &[u8]) -> Option<usize> {
         let kept = copy[cut];
         for byte in ALPHABET {
             copy[cut] = byte;
-            if !is_told(&copy[..len]) {
+            if !is_told_alike(alloc, &copy[..len]) {
                 return None;
             }
         }
         copy[cut] = kept;
-        if !is_told(&copy[..cut]) {
+        if !is_told_alike(alloc, &copy[..cut]) {
             return None;
         }
         tried = tried.saturating_add(8);
     }
-    if is_told(&copy[..len]) {
+    if is_told_alike(alloc, &copy[..len]) {
         Some(tried.saturating_add(1))
     } else {
         None
@@ -90,14 +99,14 @@ fn names_and_values(rt: HostRuntime) -> Result<(), Fail> {
         for (key, values) in keys {
             for value in *values {
                 let text = component(rt.alloc(), name, key, value)?;
-                let around = tried_around(&text);
+                let around = tried_around(rt.alloc(), &text);
                 assert!(rt; around.is_some(), "{name} {key}:{value}");
                 tried = tried.saturating_add(around.unwrap_or(0));
             }
         }
     }
     let count = component(rt.alloc(), "ignore", "count", "65535")?;
-    let around = tried_around(&count);
+    let around = tried_around(rt.alloc(), &count);
     assert!(rt; around.is_some());
     tried = tried.saturating_add(around.unwrap_or(0));
     assert_eq!(rt; tried, 15893);
@@ -112,7 +121,7 @@ fn groups(rt: HostRuntime) {
         b"[first [[day]] [a\\]b]]".as_slice(),
         b"[optional [[first [[hour]:[minute]] [-]]]]".as_slice(),
     ] {
-        let around = tried_around(text);
+        let around = tried_around(rt.alloc(), text);
         assert!(rt; around.is_some(), "{}", text.escape_ascii());
         tried = tried.saturating_add(around.unwrap_or(0));
     }
@@ -135,7 +144,7 @@ fn nested(alloc: Global, levels: usize) -> Result<Vec<u8>, AllocError> {
 fn deep_lists(rt: HostRuntime) -> Result<(), Fail> {
     for levels in 1..12usize {
         let text = nested(rt.alloc(), levels)?;
-        assert!(rt; is_told(&text), "{levels} levels");
+        assert!(rt; is_told_alike(rt.alloc(), &text), "{levels} levels");
     }
     Ok(())
 }

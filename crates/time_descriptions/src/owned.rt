@@ -1,0 +1,276 @@
+//! Descriptions that were read, as items that own their parts.
+ghost use Rattle.std.specs.Prelude.{◌≡◌, ◌⊎◌, ◌<◌, ◌≤◌, alloc_error, length, map, suc, true, IfOk};
+ghost use Rattle.time_components.specs.Shape.{owned_shape};
+ghost use Rattle.time_components.specs.Steps.{group_tree};
+ghost use Rattle.time_components.specs.Tree.{sequence, trees};
+ghost use Rattle.time_descriptions.specs.Description.{version_of};
+ghost use Rattle.time_descriptions.specs.Grammar as grammar;
+ghost use Rattle.time_descriptions.specs.Leaves.{leaf_item};
+ghost use Rattle.time_descriptions.specs.Owned.{owned_error_text, OwnedOutcome, Owns, SaysItem, SaysItems};
+ghost use Rattle.time_descriptions.specs.declared.owned.Unread.TheVariants as unread;
+
+use crate::description::{MOST_LISTS, version_of};
+use crate::error::InvalidFormatDescription;
+use crate::fault::{Fault, Unsupported};
+use crate::items::{after_closing, closed, ends, group_word, next_list, opened};
+use crate::leaf::{Leaf, read_leaf};
+use crate::step::Group;
+use crate::version::Version;
+use std::alloc::{AllocError, AllocFailed, Global};
+use std::fmt;
+use time_components::OwnedFormatItem;
+
+/// Why a text gives no description that owns its parts.
+#[derive(Clone, Copy, Debug, PartialEq, Eq)]
+pub enum OwnedError<'a> {
+    /// The text is no description.
+    Invalid(InvalidFormatDescription<'a>),
+    /// Memory is short.
+    Memory(AllocError),
+}
+
+impl fmt::Display for OwnedError<'_> {
+    ghost output = { λ e. owned_error_text e };
+
+    fn fmt<W: fmt::Write>(&self, f: &mut fmt::Formatter<W>) -> fmt::Result {
+        match self {
+            OwnedError::Invalid(e) => write!(f, "{e}"),
+            OwnedError::Memory(_) => write!(f, "memory is short"),
+        }
+    }
+}
+
+impl std::error::Error for OwnedError<'_> {}
+
+/// Why nothing is read.
+#[derive(Clone, Copy)]
+pub enum Unread {
+    /// The first fault.
+    Fault(Fault),
+    /// Memory is short.
+    Memory(AllocError),
+}
+
+impl From<Fault> for Unread {
+    ghost from_gives = { λ e r. r ≡ unread.Fault e };
+
+    fn from(fault: Fault) -> Unread {
+        Unread::Fault(fault)
+    }
+}
+
+impl From<AllocError> for Unread {
+    ghost from_gives = { λ e r. r ≡ unread.Memory e };
+
+    fn from(error: AllocError) -> Unread {
+        Unread::Memory(error)
+    }
+}
+
+impl<T: Drop> From<AllocFailed<T>> for Unread {
+    ghost from_gives = { λ _ r. r ≡ unread.Memory alloc_error };
+
+    fn from(failed: AllocFailed<T>) -> Unread {
+        Unread::Memory(failed.into())
+    }
+}
+
+// The item that a leaf is.
+fn owned_leaf(alloc: Global, leaf: Leaf<'_>) -> Result<OwnedFormatItem, AllocError>
+    ensures { IfOk result (λ item. SaysItem item (leaf_item leaf.entry)) }
+{
+    match leaf {
+        Leaf::Component(component) => Ok(OwnedFormatItem::Component(component)),
+        Leaf::Literal(first, further) => {
+            let mut bytes = Vec::new(alloc);
+            bytes.push(first)?;
+            bytes.extend_from_slice(further)?;
+            Ok(OwnedFormatItem::Literal(bytes))
+        }
+    }
+}
+
+// The list of these items.
+fn compound(items: Vec<OwnedFormatItem>) -> OwnedFormatItem
+    ensures { owned_shape result ≡ sequence (trees (map owned_shape items.items)) }
+{
+    OwnedFormatItem::Compound(items)
+}
+
+// The item of a group with these inside.
+fn owned_group(
+    alloc: Global,
+    group: Group,
+    items: Vec<OwnedFormatItem>,
+) -> Result<OwnedFormatItem, AllocError>
+    ensures { IfOk result (λ item. owned_shape item ≡ group_tree group (trees (map owned_shape items.items))) }
+{
+    match group {
+        Group::Optional => {
+            let item = Box::new(alloc, compound(items))?;
+            Ok(OwnedFormatItem::Optional(item))
+        }
+        Group::First => Ok(OwnedFormatItem::First(items)),
+        Group::List => Ok(compound(items)),
+    }
+}
+
+// The item in front of the text, in which so many lists may stand inside one another, and what is left after it.
+#[cycle(owned)]
+fn read_item<'a>(
+    alloc: Global,
+    version: Version,
+    depth: usize,
+    nested: bool,
+    text: &'a [u8],
+) -> Result<(OwnedFormatItem, &'a [u8]), Unread>
+    ensures owns { Owns SaysItem (grammar.item version depth nested text.now) result }
+    ensures shorter { IfOk result (λ x. length x.1.now < length text.now) }
+{
+    match group_word(text) {
+        None => {
+            let (leaf, rest) = read_leaf(version, nested, text)?;
+            let item = owned_leaf(alloc, leaf)?;
+            Ok((item, rest))
+        }
+        Some((group, rest)) => {
+            if depth == 0 {
+                return Err(Unread::Fault(Fault::NotSupported {
+                    what: Unsupported::DeepList,
+                    left: text.len(),
+                }));
+            }
+            read_group(alloc, version, depth - 1, group, text.len(), rest)
+        }
+    }
+}
+
+// The group after its word, and what is left after it. So many bytes are left from its opening bracket on.
+#[cycle(owned)]
+fn read_group<'a>(
+    alloc: Global,
+    version: Version,
+    depth: usize,
+    group: Group,
+    opening: usize,
+    text: &'a [u8],
+) -> Result<(OwnedFormatItem, &'a [u8]), Unread>
+    ensures owns { Owns SaysItem (grammar.group_by (grammar.item version depth true) opening (group, text.now)) result }
+    ensures shorter { IfOk result (λ x. length x.1.now < length text.now) }
+{
+    let inside = opened(group, text)?;
+    let (items, unread) = read_inside(alloc, version, depth, group, opening, inside)?;
+    let rest = closed(unread, opening)?;
+    let item = owned_group(alloc, group, items)?;
+    Ok((item, rest))
+}
+
+// What stands in a group, where its first list is open, and what is left after it.
+#[cycle(owned)]
+fn read_inside<'a>(
+    alloc: Global,
+    version: Version,
+    depth: usize,
+    group: Group,
+    opening: usize,
+    text: &'a [u8],
+) -> Result<(Vec<OwnedFormatItem>, &'a [u8]), Unread>
+    ensures owns { Owns (λ v is. SaysItems v.items is)
+        (grammar.inside_by (grammar.list_by (grammar.item version depth true) opening) group text.now) result }
+    ensures shorter { IfOk result (λ x. length x.1.now < length text.now) }
+{
+    match group {
+        Group::Optional => read_list(alloc, version, depth, opening, text),
+        _ => read_lists(alloc, version, depth, opening, text),
+    }
+}
+
+// The list in front of the text and those after it, where the first is open, and what is left after them.
+#[cycle(owned)]
+fn read_lists<'a>(
+    alloc: Global,
+    version: Version,
+    depth: usize,
+    opening: usize,
+    text: &'a [u8],
+) -> Result<(Vec<OwnedFormatItem>, &'a [u8]), Unread>
+    ensures owns { Owns (λ v is. SaysItems v.items is)
+        (grammar.lists_by (grammar.list_by (grammar.item version depth true) opening) (suc (length text.now)) text.now) result }
+    ensures shorter { IfOk result (λ x. length x.1.now < length text.now) }
+{
+    let mut lists = Vec::new(alloc);
+    let mut inside = text;
+    loop {
+        let (items, rest) = read_list(alloc, version, depth, opening, inside)?;
+        lists.push(compound(items))?;
+        match next_list(rest) {
+            Some(next) => inside = next,
+            None => return Ok((lists, rest)),
+        }
+    }
+}
+
+// The items of an open list, and what stands after its closing bracket.
+#[cycle(owned)]
+fn read_list<'a>(
+    alloc: Global,
+    version: Version,
+    depth: usize,
+    opening: usize,
+    text: &'a [u8],
+) -> Result<(Vec<OwnedFormatItem>, &'a [u8]), Unread>
+    ensures owns { Owns (λ v is. SaysItems v.items is)
+        (grammar.list_by (grammar.item version depth true) opening text.now) result }
+    ensures shorter { IfOk result (λ x. length x.1.now < length text.now) }
+{
+    let (items, unread) = read_items(alloc, version, depth, true, text)?;
+    let rest = after_closing(unread, opening)?;
+    Ok((items, rest))
+}
+
+// The items in front of the text, up to its end or, where they are nested, to a closing bracket, and what is left after
+// them.
+#[cycle(owned)]
+fn read_items<'a>(
+    alloc: Global,
+    version: Version,
+    depth: usize,
+    nested: bool,
+    text: &'a [u8],
+) -> Result<(Vec<OwnedFormatItem>, &'a [u8]), Unread>
+    ensures owns { Owns (λ v is. SaysItems v.items is) (grammar.items version depth nested text.now) result }
+    ensures ended { IfOk result (λ x. grammar.ends nested x.1.now ≡ true) }
+    ensures within { IfOk result (λ x. length x.1.now ≤ length text.now) }
+{
+    let mut items = Vec::new(alloc);
+    let mut rest = text;
+    while !ends(nested, rest) {
+        let (item, unread) = read_item(alloc, version, depth, nested, rest)?;
+        items.push(item)?;
+        rest = unread;
+    }
+    Ok((items, rest))
+}
+
+/// Reads a description of the version, 1 or 2, of any number of steps. The item is a list of those of the text, each
+/// literal as its bytes.
+///
+/// # Errors
+///
+/// [`OwnedError::Invalid`] for the first fault from the left, with its index in the text; [`OwnedError::Memory`] where
+/// memory is short.
+pub fn parse_owned<const VERSION: usize>(
+    alloc: Global,
+    text: &[u8],
+) -> Result<OwnedFormatItem, OwnedError<'_>>
+    requires { (VERSION ≡ 1) ⊎ (VERSION ≡ 2) }
+    ensures { OwnedOutcome (version_of VERSION) text.now result }
+{
+    match read_items(alloc, version_of(VERSION), MOST_LISTS, false, text) {
+        Ok((items, _rest)) => Ok(compound(items)),
+        Err(Unread::Fault(fault)) => Err(OwnedError::Invalid(InvalidFormatDescription::at(
+            text, fault,
+        ))),
+        Err(Unread::Memory(error)) => Err(OwnedError::Memory(error)),
+    }
+}

@@ -1,0 +1,5 @@
+pub mod Described
+pub mod Formats
+pub mod Handed
+pub mod Laws
+pub mod Status

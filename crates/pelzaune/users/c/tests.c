@@ -1,0 +1,394 @@
+/* Tests of the C interface. Each text ends where a page ends that nothing may touch. Prints 'N passed, M failed'. */
+#define _GNU_SOURCE
+#include "pelzaune.h"
+#include <errno.h>
+#include <pthread.h>
+#include <stdio.h>
+#include <string.h>
+#include <sys/mman.h>
+#include <time.h>
+
+static int passed, failed;
+
+static void expect(int is_right, const char *what, int line)
+{
+    if (is_right) passed++;
+    else { failed++; printf("tests.c:%d: %s\n", line, what); }
+}
+#define EXPECT(is_right) expect((is_right), #is_right, __LINE__)
+
+enum { PAGE = 4096 };
+static uint8_t *page; /* with a page before it and one after it that may not be touched */
+
+static uint8_t *guarded_page(void)
+{
+    uint8_t *pages = mmap(NULL, 3 * PAGE, PROT_NONE, MAP_PRIVATE | MAP_ANONYMOUS, -1, 0);
+    if (pages == MAP_FAILED || mprotect(pages + PAGE, PAGE, PROT_READ | PROT_WRITE)) return NULL;
+    return pages + PAGE;
+}
+
+/* The bytes at the end of the page, and at its front. */
+static const uint8_t *at_end(const char *text, size_t length)
+{
+    return memcpy(page + PAGE - length, text, length);
+}
+static const uint8_t *at_front(const char *text, size_t length)
+{
+    return memcpy(page, text, length);
+}
+#define TEXT(text) at_end((text), sizeof(text) - 1), sizeof(text) - 1
+
+/* Twenty texts of moments, and how many of the beginnings of each are a moment too, as `+05` of `+05:30`. The first five
+ * are the examples of RFC 3339, section 5.8; the next three of RFC 2822, appendix A. */
+typedef struct {
+    uint32_t format;
+    const char *text;
+    int shorter;
+    pelzaune_moment value; /* year, nanosecond, offset, month, day, hour, minute, second */
+} row;
+static const row rows[] = {
+    { PELZAUNE_RFC3339, "1985-04-12T23:20:50.52Z", 0, { 1985, 520000000, 0, 4, 12, 23, 20, 50 } },
+    { PELZAUNE_RFC3339, "1996-12-19T16:39:57-08:00", 0, { 1996, 0, -28800, 12, 19, 16, 39, 57 } },
+    { PELZAUNE_RFC3339, "1990-12-31T23:59:60Z", 0, { 1990, 999999999, 0, 12, 31, 23, 59, 59 } },
+    { PELZAUNE_RFC3339, "1990-12-31T15:59:60-08:00", 0, { 1990, 999999999, -28800, 12, 31, 15, 59, 59 } },
+    { PELZAUNE_RFC3339, "1937-01-01T12:00:27.87+00:20", 0, { 1937, 870000000, 1200, 1, 1, 12, 0, 27 } },
+    { PELZAUNE_RFC2822, "Fri, 21 Nov 1997 09:55:06 -0600", 0, { 1997, 0, -21600, 11, 21, 9, 55, 6 } },
+    { PELZAUNE_RFC2822, "Tue, 1 Jul 2003 10:52:37 +0200", 0, { 2003, 0, 7200, 7, 1, 10, 52, 37 } },
+    { PELZAUNE_RFC2822, "Thu, 13 Feb 1969 23:32:54 -0330", 0, { 1969, 0, -12600, 2, 13, 23, 32, 54 } },
+    { PELZAUNE_RFC3339, "2021-01-02T03:04:05.123456789+05:30", 0, { 2021, 123456789, 19800, 1, 2, 3, 4, 5 } },
+    { PELZAUNE_RFC3339, "0000-02-29t00:00:00z", 0, { 0, 0, 0, 2, 29, 0, 0, 0 } },
+    { PELZAUNE_RFC3339, "2021-01-02 03:04:05.5-00:30", 0, { 2021, 500000000, -1800, 1, 2, 3, 4, 5 } },
+    { PELZAUNE_RFC2822, "Thu,\r\n 13\r\n Feb (a comment) 1969\r\n 23:32\r\n -0330", 0, { 1969, 0, -12600, 2, 13, 23, 32, 0 } },
+    { PELZAUNE_RFC2822, "21 Nov 97 09:55:06 +0000", 0, { 1997, 0, 0, 11, 21, 9, 55, 6 } },
+    { PELZAUNE_ISO8601, "20210102T030405Z", 0, { 2021, 0, 0, 1, 2, 3, 4, 5 } },
+    { PELZAUNE_ISO8601, "2021-01-02T03:04:05,25-00:30", 1, { 2021, 250000000, -1800, 1, 2, 3, 4, 5 } },
+    { PELZAUNE_ISO8601, "2020-W53-6T03:04:05Z", 0, { 2021, 0, 0, 1, 2, 3, 4, 5 } },
+    { PELZAUNE_ISO8601, "2020-366T23Z", 0, { 2020, 0, 0, 12, 31, 23, 0, 0 } },
+    { PELZAUNE_ISO8601, "2021-01-02T03,5Z", 0, { 2021, 0, 0, 1, 2, 3, 30, 0 } },
+    { PELZAUNE_ISO8601, "+012345-06-07T08:09:10+05:30", 1, { 12345, 0, 19800, 6, 7, 8, 9, 10 } },
+    { PELZAUNE_ISO8601, "-000001-12-31T23:59:59.9Z", 0, { -1, 900000000, 0, 12, 31, 23, 59, 59 } },
+};
+enum { ROWS = sizeof rows / sizeof *rows };
+
+static int is_same(const pelzaune_moment *m, const pelzaune_moment *other)
+{
+    return m->year == other->year && m->month == other->month && m->day == other->day && m->hour == other->hour
+        && m->minute == other->minute && m->second == other->second && m->nanosecond == other->nanosecond
+        && m->offset == other->offset;
+}
+
+/* The Unix seconds of a moment, by the C library. */
+static int64_t seconds_of(const pelzaune_moment *m)
+{
+    struct tm tm = { .tm_year = m->year - 1900, .tm_mon = m->month - 1, .tm_mday = m->day,
+        .tm_hour = m->hour, .tm_min = m->minute, .tm_sec = m->second };
+    return (int64_t)timegm(&tm) - m->offset;
+}
+
+/* All values of a text agree with its moment. A leap second has no local time: then `is_leap`. */
+static int agree(const row *it, const uint8_t *text, size_t length, int is_leap)
+{
+    const pelzaune_moment *m = &it->value;
+    pelzaune_instant instant;
+    pelzaune_local local, utc;
+    pelzaune_date date;
+    pelzaune_time time;
+    int32_t offset;
+    int64_t nanoseconds, seconds = seconds_of(m);
+    int right = pelzaune_parse_instant(it->format, text, length, &instant) == PELZAUNE_OK
+        && instant.seconds == seconds && instant.nanoseconds == m->nanosecond;
+    right &= pelzaune_parse_date(it->format, text, length, &date) == PELZAUNE_OK
+        && date.year == m->year && date.month == m->month && date.day == m->day;
+    right &= pelzaune_parse_offset(it->format, text, length, &offset) == PELZAUNE_OK && offset == m->offset;
+    right &= pelzaune_parse_utc(it->format, text, length, &utc) == PELZAUNE_OK;
+    pelzaune_moment in_utc = { utc.year, utc.nanosecond, 0, utc.month, utc.day, utc.hour, utc.minute, utc.second };
+    right &= seconds_of(&in_utc) == seconds && utc.nanosecond == m->nanosecond;
+    pelzaune_status count = pelzaune_parse_nanoseconds(it->format, text, length, &nanoseconds);
+    if (seconds > INT64_MAX / 1000000000 || seconds < INT64_MIN / 1000000000) right &= count == PELZAUNE_TOO_WIDE;
+    else right &= count == PELZAUNE_OK && nanoseconds == seconds * 1000000000 + m->nanosecond;
+    pelzaune_status shown = pelzaune_parse_local(it->format, text, length, &local);
+    pelzaune_status clock = pelzaune_parse_time(it->format, text, length, &time);
+    if (is_leap) return right && PELZAUNE_KIND(shown) == PELZAUNE_RANGE && PELZAUNE_KIND(clock) == PELZAUNE_RANGE;
+    right &= shown == PELZAUNE_OK && local.year == m->year && local.month == m->month && local.day == m->day
+        && local.hour == m->hour && local.minute == m->minute && local.second == m->second;
+    return right && clock == PELZAUNE_OK && time.hour == m->hour && time.minute == m->minute
+        && time.second == m->second && time.nanosecond == m->nanosecond && local.nanosecond == m->nanosecond;
+}
+
+/* Every beginning of a text, at the end of the page and at its front. A refusal leaves what was there. */
+static int beginnings(const row *it)
+{
+    pelzaune_moment kept = { 7, 7, 7, 7, 7, 7, 7, 7 };
+    int shorter = 0, same = 1;
+    for (size_t length = 0; length < strlen(it->text); length++) {
+        pelzaune_moment m = kept, other = kept;
+        pelzaune_status status = pelzaune_parse_moment(it->format, at_end(it->text, length), length, &m);
+        same &= pelzaune_parse_moment(it->format, at_front(it->text, length), length, &other) == status;
+        same &= is_same(&m, &other) && (status == PELZAUNE_OK || is_same(&m, &kept));
+        shorter += status == PELZAUNE_OK;
+    }
+    return same && shorter == it->shorter;
+}
+
+static void test_rows(void)
+{
+    EXPECT(ROWS == 20);
+    for (const row *it = rows; it < rows + ROWS; it++) {
+        size_t length = strlen(it->text);
+        pelzaune_moment m;
+        pelzaune_status status = pelzaune_parse_moment(it->format, at_end(it->text, length), length, &m);
+        expect(status == PELZAUNE_OK && is_same(&m, &it->value), it->text, __LINE__);
+        expect(agree(it, at_end(it->text, length), length, strstr(it->text, ":60") != NULL), it->text, __LINE__);
+        expect(beginnings(it), it->text, __LINE__);
+    }
+}
+
+/* The parts of a text, and those that a text has not. */
+static void test_parts(void)
+{
+    pelzaune_parts p = { { 7, 7, 7 }, { 7, 7, 7, 7 }, 7, 7, 7, 7 };
+    EXPECT(pelzaune_parse_parts(PELZAUNE_RFC3339, TEXT("2021-01-02T03:04:05.5-00:30"), &p) == PELZAUNE_OK);
+    EXPECT(p.date_status == 0 && p.date.year == 2021 && p.date.month == 1 && p.date.day == 2);
+    EXPECT(p.time_status == 0 && p.time.hour == 3 && p.time.minute == 4 && p.time.second == 5 && p.time.nanosecond == 500000000);
+    EXPECT(p.offset_status == 0 && p.offset == -1800);
+    pelzaune_parts kept = p;
+    EXPECT(pelzaune_parse_parts(PELZAUNE_RFC3339, TEXT("2022-02-03T04:05:06Zx"), &p) == PELZAUNE_TRAILING);
+    EXPECT(pelzaune_parse_parts(0, TEXT("2022-02-03T04:05:06Z"), &p) == PELZAUNE_UNKNOWN_FORMAT);
+    EXPECT(memcmp(&p, &kept, sizeof p) == 0);
+    EXPECT(pelzaune_parse_parts(PELZAUNE_ISO8601, TEXT("2020-W53-5"), &p) == PELZAUNE_OK);
+    EXPECT(p.date_status == 0 && p.date.year == 2021 && p.date.month == 1 && p.date.day == 1);
+    EXPECT(p.time_status == PELZAUNE_INSUFFICIENT && p.offset_status == PELZAUNE_INSUFFICIENT);
+    EXPECT(p.time.second == 5 && p.offset == -1800);
+    EXPECT(pelzaune_parse_parts(PELZAUNE_ISO8601, TEXT("T06:07+01"), &p) == PELZAUNE_OK);
+    EXPECT(p.date_status == PELZAUNE_INSUFFICIENT && p.time_status == 0 && p.time.hour == 6 && p.time.minute == 7);
+    EXPECT(p.offset_status == 0 && p.offset == 3600 && p.date.day == 1);
+    EXPECT(pelzaune_parse_parts(PELZAUNE_RFC3339, TEXT("2021-02-30T23:59:60Z"), &p) == PELZAUNE_OK);
+    EXPECT(p.date_status == PELZAUNE_RANGE_OF_OTHERS + 256 * 3 && p.time_status == PELZAUNE_RANGE + 256 * 10 && p.offset == 0);
+}
+
+static void test_refusals(void)
+{
+    pelzaune_moment m;
+    pelzaune_date d;
+    pelzaune_time t;
+    pelzaune_local l;
+    EXPECT(pelzaune_parse_moment(PELZAUNE_RFC3339, TEXT("1985-04-31T23:20:50Z"), &m) == PELZAUNE_RANGE_OF_OTHERS + 256 * 3);
+    EXPECT(pelzaune_parse_moment(PELZAUNE_RFC3339, TEXT("1985-13-01T23:20:50Z"), &m) == PELZAUNE_RANGE + 256 * 2);
+    EXPECT(pelzaune_parse_moment(PELZAUNE_RFC3339, TEXT("x"), &m) == PELZAUNE_INVALID_COMPONENT + 256 * 1);
+    EXPECT(pelzaune_parse_moment(PELZAUNE_RFC3339, TEXT("1985-04-12T23:20:50Zx"), &m) == PELZAUNE_TRAILING);
+    EXPECT(pelzaune_parse_moment(PELZAUNE_RFC3339, TEXT("1985/04-12T23:20:50Z"), &m) == PELZAUNE_INVALID_LITERAL);
+    EXPECT(pelzaune_parse_moment(PELZAUNE_ISO8601, TEXT("2020-W53-6T03:04:05"), &m) == PELZAUNE_INSUFFICIENT);
+    EXPECT(pelzaune_parse_utc(PELZAUNE_ISO8601, TEXT("2020-W53-6T03:04:05"), &l) == PELZAUNE_OK && l.hour == 3);
+    EXPECT(pelzaune_parse_date(PELZAUNE_ISO8601, TEXT("2021-02-29"), &d) == PELZAUNE_RANGE_OF_OTHERS + 256 * 3);
+    EXPECT(pelzaune_parse_date(PELZAUNE_ISO8601, TEXT("2020-02-29"), &d) == PELZAUNE_OK && d.day == 29);
+    EXPECT(pelzaune_parse_time(PELZAUNE_ISO8601, TEXT("T03:04"), &t) == PELZAUNE_OK && t.hour == 3 && t.minute == 4);
+    EXPECT(pelzaune_parse_time(PELZAUNE_RFC3339, TEXT("2016-12-31T23:59:60Z"), &t) == PELZAUNE_RANGE + 256 * 10);
+    for (uint32_t format = 4; format; format <<= 1)
+        EXPECT(pelzaune_parse_moment(format, TEXT("1985-04-12T23:20:50Z"), &m) == PELZAUNE_UNKNOWN_FORMAT);
+    EXPECT(pelzaune_parse_date(0, TEXT("1985-04-12"), &d) == PELZAUNE_UNKNOWN_FORMAT);
+}
+
+/* A description ends where a page ends too, one of its own. */
+static uint8_t *other_page;
+static const uint8_t *described(const char *text, size_t length)
+{
+    return memcpy(other_page + PAGE - length, text, length);
+}
+#define DESCRIPTION(text) described((text), sizeof(text) - 1), sizeof(text) - 1
+#define YMD DESCRIPTION("[year]-[month]-[day]")
+#define LOG DESCRIPTION("%d/%b/%Y:%H:%M:%S %z")
+
+static void test_descriptions(void)
+{
+    pelzaune_date d = { 7, 7, 7 };
+    EXPECT(pelzaune_read_date(PELZAUNE_BRACKETS_2, YMD, TEXT("2021-03-04"), &d) == PELZAUNE_OK && d.year == 2021 && d.month == 3 && d.day == 4);
+    EXPECT(pelzaune_read_date(PELZAUNE_BRACKETS_1, YMD, TEXT("2021-12-31"), &d) == PELZAUNE_OK && d.month == 12 && d.day == 31);
+    EXPECT(pelzaune_read_date(PELZAUNE_STRFTIME, DESCRIPTION("%Y-%m-%d"), TEXT("2020-02-29"), &d) == PELZAUNE_OK && d.day == 29);
+    EXPECT(pelzaune_read_date(PELZAUNE_STRFTIME, DESCRIPTION("%Y-%m-%d"), TEXT("2021-02-29"), &d) == PELZAUNE_RANGE_OF_OTHERS + 256 * 3);
+    EXPECT(pelzaune_read_date(PELZAUNE_BRACKETS_2, YMD, TEXT("2021-13-04"), &d) == PELZAUNE_INVALID_COMPONENT + 256 * 2);
+    EXPECT(pelzaune_read_date(PELZAUNE_BRACKETS_2, YMD, TEXT("2021/03/04"), &d) == PELZAUNE_INVALID_LITERAL);
+    EXPECT(pelzaune_read_date(PELZAUNE_BRACKETS_2, YMD, TEXT("2021-03-04 "), &d) == PELZAUNE_TRAILING);
+    EXPECT(pelzaune_read_date(PELZAUNE_BRACKETS_2, DESCRIPTION("[year]-[month]"), TEXT("2021-03"), &d) == PELZAUNE_INSUFFICIENT);
+    EXPECT(pelzaune_read_date(PELZAUNE_BRACKETS_2, DESCRIPTION("[yaer]"), TEXT("2021"), &d) == PELZAUNE_COMPONENT_NAME);
+    EXPECT(pelzaune_read_date(4, YMD, TEXT("2021-03-04"), &d) == PELZAUNE_UNKNOWN_SYNTAX && d.day == 29);
+    pelzaune_moment m;
+    EXPECT(pelzaune_read_moment(PELZAUNE_STRFTIME, LOG, TEXT("02/Jan/2021:03:04:05 -0030"), &m) == PELZAUNE_OK);
+    EXPECT(m.year == 2021 && m.month == 1 && m.day == 2 && m.hour == 3 && m.second == 5 && m.offset == -1800);
+    /* 2021-01-02T03:34:05Z: 18629 days after 1970-01-01, of 86400 seconds, and 12845 seconds */
+    pelzaune_instant i;
+    int64_t n, log = 18629 * INT64_C(86400) + 12845;
+    EXPECT(pelzaune_read_instant(PELZAUNE_STRFTIME, LOG, TEXT("02/Jan/2021:03:04:05 -0030"), &i) == PELZAUNE_OK && i.seconds == log);
+    EXPECT(pelzaune_read_nanoseconds(PELZAUNE_STRFTIME, LOG, TEXT("02/Jan/2021:03:04:05 -0030"), &n) == PELZAUNE_OK && n == log * 1000000000);
+    EXPECT(pelzaune_read_nanoseconds(PELZAUNE_BRACKETS_2, DESCRIPTION("[unix_timestamp]"), TEXT("-1"), &n) == PELZAUNE_OK && n == -1000000000);
+    pelzaune_local l;
+    EXPECT(pelzaune_read_utc(PELZAUNE_BRACKETS_2, DESCRIPTION("[unix_timestamp]"), TEXT("86400"), &l) == PELZAUNE_OK && l.year == 1970 && l.day == 2);
+    EXPECT(pelzaune_read_local(PELZAUNE_STRFTIME, LOG, TEXT("02/Jan/2021:03:04:05 -0030"), &l) == PELZAUNE_OK && l.hour == 3 && l.minute == 4);
+    pelzaune_time t;
+    EXPECT(pelzaune_read_time(PELZAUNE_BRACKETS_2, DESCRIPTION("[hour repr:12 padding:none]:[minute][optional [:[second]]] [period]"), TEXT("1:05 PM"), &t)
+        == PELZAUNE_OK && t.hour == 13 && t.minute == 5 && t.second == 0);
+    int32_t offset;
+    EXPECT(pelzaune_read_offset(PELZAUNE_STRFTIME, DESCRIPTION("%z"), TEXT("+0530"), &offset) == PELZAUNE_OK && offset == 19800);
+    pelzaune_parts p;
+    EXPECT(pelzaune_read_parts(PELZAUNE_STRFTIME, DESCRIPTION("%H:%M"), TEXT("23:59"), &p) == PELZAUNE_OK && p.time.hour == 23);
+    EXPECT(p.date_status == PELZAUNE_INSUFFICIENT && p.time_status == PELZAUNE_OK && p.offset_status == PELZAUNE_INSUFFICIENT);
+}
+
+/* What is no description, and where its first fault is. */
+static void test_faults(void)
+{
+    size_t index = 77;
+    EXPECT(pelzaune_check_description(PELZAUNE_BRACKETS_2, YMD, &index) == PELZAUNE_OK && index == 77);
+    EXPECT(pelzaune_check_description(PELZAUNE_STRFTIME, NULL, 0, &index) == PELZAUNE_OK && index == 77);
+    EXPECT(pelzaune_check_description(0, YMD, &index) == PELZAUNE_UNKNOWN_SYNTAX && index == 77);
+    EXPECT(pelzaune_check_description(PELZAUNE_BRACKETS_2, DESCRIPTION("[year]-[month"), &index) == PELZAUNE_UNCLOSED_BRACKET && index == 7);
+    EXPECT(pelzaune_check_description(PELZAUNE_BRACKETS_2, DESCRIPTION("at [yaer]"), &index) == PELZAUNE_COMPONENT_NAME && index == 4);
+    EXPECT(pelzaune_check_description(PELZAUNE_BRACKETS_2, DESCRIPTION("[day padding:two]"), &index) == PELZAUNE_MODIFIER && index == 13);
+    EXPECT(pelzaune_check_description(PELZAUNE_BRACKETS_2, DESCRIPTION("[year][]"), &index) == PELZAUNE_MISSING_NAME && index == 6);
+    EXPECT(pelzaune_check_description(PELZAUNE_BRACKETS_2, DESCRIPTION("[ignore]"), &index) == PELZAUNE_MISSING_MODIFIER && index == 1);
+    EXPECT(pelzaune_check_description(PELZAUNE_BRACKETS_2, DESCRIPTION("a\\b"), &index) == PELZAUNE_EXPECTED && index == 2);
+    EXPECT(pelzaune_check_description(PELZAUNE_STRFTIME, DESCRIPTION("%Y %Z"), &index) == PELZAUNE_NOT_SUPPORTED && index == 3);
+    index = 77;
+    char long_text[65];
+    memset(long_text, '-', sizeof long_text);
+    EXPECT(pelzaune_check_description(PELZAUNE_BRACKETS_2, described(long_text, 64), 64, &index) == PELZAUNE_OK);
+    EXPECT(pelzaune_check_description(PELZAUNE_BRACKETS_2, described(long_text, 65), 65, &index) == PELZAUNE_TOO_LONG && index == 77);
+    for (uint32_t syntax = 1; syntax <= 3; syntax++)
+        for (size_t length = 0; length <= 20; length++)
+            (void)pelzaune_check_description(syntax, described("[year]-[month]-%Y-%z", length), length, &index);
+}
+
+/* The ends of what 64 bits count, 2^63 nanoseconds before and after 1970, and the first and the last moment: year
+ * -999999 begins 365961662 days before 1970, and 730484634 days after it the last year ends. */
+static void test_limits(void)
+{
+    int64_t n;
+    EXPECT(pelzaune_parse_nanoseconds(PELZAUNE_RFC3339, TEXT("2262-04-11T23:47:16.854775807Z"), &n) == 0 && n == INT64_MAX);
+    EXPECT(pelzaune_parse_nanoseconds(PELZAUNE_RFC3339, TEXT("1677-09-21T00:12:43.145224192Z"), &n) == 0 && n == INT64_MIN);
+    n = 7;
+    EXPECT(pelzaune_parse_nanoseconds(PELZAUNE_RFC3339, TEXT("2262-04-11T23:47:16.854775808Z"), &n) == PELZAUNE_TOO_WIDE);
+    EXPECT(pelzaune_parse_nanoseconds(PELZAUNE_RFC3339, TEXT("1677-09-21T00:12:43.145224191Z"), &n) == PELZAUNE_TOO_WIDE);
+    EXPECT(pelzaune_parse_nanoseconds(PELZAUNE_RFC3339, TEXT("1970-02-30T00:00:00Z"), &n) == PELZAUNE_RANGE_OF_OTHERS + 256 * 3);
+    EXPECT(n == 7);
+    pelzaune_instant i;
+    EXPECT(pelzaune_parse_instant(PELZAUNE_ISO8601, TEXT("-999999-01-01T00:00:00Z"), &i) == 0 && i.seconds == -365961662 * INT64_C(86400));
+    EXPECT(pelzaune_parse_instant(PELZAUNE_ISO8601, TEXT("+999999-12-31T23:59:59Z"), &i) == 0
+        && i.seconds == (730484634 - 365961662) * INT64_C(86400) - 1);
+    EXPECT(pelzaune_parse_instant(PELZAUNE_RFC3339, TEXT("1969-12-31T23:59:59.9Z"), &i) == 0 && i.seconds == -1 && i.nanoseconds == 900000000);
+}
+
+/* A text of no bytes, also one at NULL, is refused by each call, which writes nothing. */
+static int refuses_no_bytes(uint32_t format, const uint8_t *text)
+{
+    pelzaune_moment m = { 7, 7, 7, 7, 7, 7, 7, 7 };
+    pelzaune_local l = { 7, 7, 7, 7, 7, 7, 7 };
+    pelzaune_date d = { 7, 7, 7 };
+    pelzaune_time t = { 7, 7, 7, 7 };
+    pelzaune_instant i = { 7, 7 };
+    int32_t offset = 7;
+    int64_t n = 7;
+    int refused = pelzaune_parse_moment(format, text, 0, &m) && pelzaune_parse_local(format, text, 0, &l)
+        && pelzaune_parse_utc(format, text, 0, &l) && pelzaune_parse_date(format, text, 0, &d)
+        && pelzaune_parse_time(format, text, 0, &t) && pelzaune_parse_offset(format, text, 0, &offset)
+        && pelzaune_parse_instant(format, text, 0, &i) && pelzaune_parse_nanoseconds(format, text, 0, &n);
+    return refused && m.day == 7 && l.day == 7 && d.day == 7 && t.hour == 7 && i.seconds == 7 && offset == 7 && n == 7;
+}
+
+static void test_no_bytes(void)
+{
+    for (uint32_t format = 0; format <= 4; format++) {
+        EXPECT(refuses_no_bytes(format, page + PAGE));
+        EXPECT(refuses_no_bytes(format, NULL));
+    }
+}
+
+/* Texts of letters that dates are made of: no call reads before or after them, and no refusal writes. */
+static void test_made_texts(void)
+{
+    static const char letters[] = "0123456789012345678901234567890123456789-:.,TZWz+() JanSat";
+    uint64_t seed = 3339;
+    int right = 1;
+    for (int round = 0; round < 60000; round++) {
+        char text[40];
+        size_t length = 0;
+        for (int wanted = (int)(seed >> 40) % 40; (int)length < wanted; length++) {
+            seed = seed * UINT64_C(6364136223846793005) + 1442695040888963407;
+            text[length] = letters[(seed >> 33) % (sizeof letters - 1)];
+        }
+        seed = seed * UINT64_C(6364136223846793005) + 1442695040888963407;
+        uint32_t format = 1 + (uint32_t)round % 3;
+        pelzaune_moment m = { 7, 7, 7, 7, 7, 7, 7, 7 };
+        pelzaune_time t = { 7, 7, 7, 7 };
+        if (pelzaune_parse_moment(format, at_end(text, length), length, &m)) right &= m.year == 7 && m.second == 7;
+        if (pelzaune_parse_time(format, at_front(text, length), length, &t)) right &= t.hour == 7 && t.second == 7;
+    }
+    EXPECT(right);
+}
+
+/* The texts of the header are those of the library, for each kind and component. */
+static void test_texts(void)
+{
+    int right = 1;
+    for (uint32_t kind = 0; kind < 256; kind++)
+        for (uint32_t component = 0; component < 24; component++) {
+            uint8_t text[128];
+            const char *other = pelzaune_text(kind + 256 * component);
+            size_t length = pelzaune_write_text(kind + 256 * component, text, sizeof text);
+            right &= length == strlen(other) && memcmp(text, other, length) == 0;
+        }
+    EXPECT(right);
+    uint8_t few[] = "....";
+    EXPECT(pelzaune_write_text(PELZAUNE_TRAILING, few, 3) == 61 && memcmp(few, "une.", 4) == 0);
+    EXPECT(pelzaune_write_text(PELZAUNE_RANGE + 256, few, 4) == 20 && memcmp(few, "year", 4) == 0);
+    EXPECT(pelzaune_write_text(PELZAUNE_OK, few, 4) == 0 && pelzaune_write_text(18, few, 4) == 0 && memcmp(few, "year", 4) == 0);
+    EXPECT(pelzaune_write_text(PELZAUNE_TRAILING, NULL, 0) == 61);
+    EXPECT(pelzaune_write_text(PELZAUNE_TRAILING, page + PAGE - 61, 61) == 61 && memcmp(page + PAGE - 8, "expected", 8) == 0);
+}
+
+/* Seconds of a minute, over and over, beside three other threads that do the same. */
+static void *parse_minutes(void *unused)
+{
+    uintptr_t wrong = 0;
+    (void)unused;
+    for (int second = 0; second < 20000; second++) {
+        pelzaune_moment m;
+        char text[] = "2021-01-02T03:04:05.123456789+05:30";
+        text[17] = (char)('0' + second / 10 % 6);
+        text[18] = (char)('0' + second % 10);
+        wrong += pelzaune_parse_moment(PELZAUNE_RFC3339, (const uint8_t *)text, sizeof text - 1, &m) || m.second != second % 60;
+    }
+    return (void *)wrong;
+}
+
+static void test_threads(void)
+{
+    pthread_t threads[4];
+    for (int k = 0; k < 4; k++) EXPECT(pthread_create(&threads[k], NULL, parse_minutes, NULL) == 0);
+    for (int k = 0; k < 4; k++) {
+        void *wrong;
+        EXPECT(pthread_join(threads[k], &wrong) == 0 && wrong == NULL);
+    }
+}
+
+int main(void)
+{
+    page = guarded_page();
+    other_page = guarded_page();
+    if (!page || !other_page) return 2;
+    EXPECT(pelzaune_version() == PELZAUNE_VERSION);
+    EXPECT(sizeof(pelzaune_date) == 8 && sizeof(pelzaune_time) == 8 && sizeof(pelzaune_local) == 16);
+    EXPECT(sizeof(pelzaune_moment) == 20 && sizeof(pelzaune_instant) == 16 && sizeof(pelzaune_parts) == 32);
+    errno = 77;
+    test_rows();
+    test_parts();
+    test_refusals();
+    test_descriptions();
+    test_faults();
+    test_limits();
+    test_no_bytes();
+    test_made_texts();
+    test_texts();
+    EXPECT(errno == 77);
+    test_threads();
+    printf("%d passed, %d failed\n", passed, failed);
+    return failed != 0;
+}

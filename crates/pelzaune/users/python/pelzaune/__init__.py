@@ -1,0 +1,37 @@
+"""Parses date-time texts by RFC 3339, mail dates of RFC 2822, ISO 8601, and descriptions of your own.
+
+>>> import pelzaune
+>>> pelzaune.parse("1985-04-12T23:20:50.52Z")
+datetime.datetime(1985, 4, 12, 23, 20, 50, 520000, tzinfo=datetime.timezone.utc)
+>>> pelzaune.unix_ns("Fri, 02 Jan 1970 00:00:00 GMT", pelzaune.RFC2822)
+86400000000000
+>>> pelzaune.parse_date("2020-W53-6", pelzaune.ISO8601)
+datetime.date(2021, 1, 2)
+>>> try:
+...     pelzaune.parse("1985-04-31T00:00:00Z")
+... except pelzaune.ParseError as error:
+...     print(error, "|", error.component)
+day is out of range for the other components | day
+
+A format may be a description too, as strftime has it where it has a `%`, and else in brackets:
+
+>>> pelzaune.parse("02/Jan/2021:03:04:05 +0000", "%d/%b/%Y:%H:%M:%S %z")
+datetime.datetime(2021, 1, 2, 3, 4, 5, tzinfo=datetime.timezone.utc)
+>>> pelzaune.parse_time("1:05 PM", "[hour repr:12 padding:none]:[minute] [period]")
+datetime.time(13, 5)
+
+A text is a `str` or `bytes`, and is read as a whole. A call never returns a value for a text that its format refuses.
+"""
+from pelzaune._pelzaune import (
+    ISO8601,
+    RFC2822,
+    RFC3339,
+    ParseError,
+    parse,
+    parse_date,
+    parse_time,
+    unix_ns,
+)
+
+__all__ = ["ISO8601", "RFC2822", "RFC3339", "ParseError", "parse", "parse_date", "parse_time", "unix_ns"]
+__version__ = "1.0.0"

@@ -1,0 +1,25 @@
+"""Builds the extension module over include/pelzaune.h and out/libpelzaune.a of the folder PELZAUNE_HOME, or else of the
+folder of the library, two above this one."""
+import os
+
+from setuptools import Extension, setup
+
+HERE = os.path.dirname(os.path.abspath(__file__))
+HOME = os.environ.get("PELZAUNE_HOME", os.path.dirname(os.path.dirname(HERE)))
+ARCHIVE = os.path.join(HOME, "out", "libpelzaune.a")
+if not os.path.exists(ARCHIVE):
+    raise SystemExit(f"no {ARCHIVE}: run make in the folder of the library, or set PELZAUNE_HOME")
+
+setup(
+    ext_modules=[
+        Extension(
+            "pelzaune._pelzaune",
+            sources=["pelzaune/_pelzaune.c"],
+            include_dirs=[os.path.join(HOME, "include")],
+            extra_objects=[ARCHIVE],
+            extra_compile_args=["-std=c99", "-Wall", "-Wextra", "-fvisibility=hidden"],
+            extra_link_args=["-Wl,--exclude-libs,ALL"],
+            depends=[ARCHIVE],
+        )
+    ]
+)

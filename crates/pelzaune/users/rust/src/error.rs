@@ -1,0 +1,116 @@
+//! Why a text has no value.
+use crate::ffi;
+use std::fmt;
+use std::num::NonZeroU32;
+
+/// What is wrong.
+#[derive(Clone, Copy, Debug, PartialEq, Eq, Hash)]
+#[non_exhaustive]
+pub enum Kind {
+    /// A byte that has to stand isn't there.
+    InvalidLiteral,
+    /// The component can't be parsed.
+    InvalidComponent,
+    /// Bytes are left over.
+    Trailing,
+    /// The text says too little for the value.
+    Insufficient,
+    /// The component is out of its range.
+    Range,
+    /// It is out of the range that other components leave.
+    RangeOfOthers,
+    /// 64 bits don't count the nanoseconds of the instant.
+    TooWide,
+    /// Of a description: an opening bracket is never closed.
+    UnclosedBracket,
+    /// No component has that name.
+    ComponentName,
+    /// The component has no such modifier, or the modifier no such value.
+    Modifier,
+    /// Brackets without the name of a component.
+    MissingName,
+    /// The component needs a modifier.
+    MissingModifier,
+    /// Something else should stand there.
+    Expected,
+    /// What no description has.
+    NotSupported,
+    /// The description has too many steps.
+    TooLong,
+    /// A kind that this crate doesn't know.
+    Unknown,
+}
+
+impl Kind {
+    // The kind of a status.
+    pub(crate) fn of(status: u32) -> Kind {
+        match status & 0xff {
+            1 => Kind::InvalidLiteral,
+            2 => Kind::InvalidComponent,
+            3 => Kind::Trailing,
+            4 => Kind::Insufficient,
+            5 => Kind::Range,
+            6 => Kind::RangeOfOthers,
+            7 => Kind::TooWide,
+            9 => Kind::UnclosedBracket,
+            10 => Kind::ComponentName,
+            11 => Kind::Modifier,
+            12 => Kind::MissingName,
+            13 => Kind::MissingModifier,
+            14 => Kind::Expected,
+            15 => Kind::NotSupported,
+            16 => Kind::TooLong,
+            _ => Kind::Unknown,
+        }
+    }
+}
+
+/// Why a text has no value. It prints as the library says it.
+#[derive(Clone, Copy, PartialEq, Eq, Hash)]
+pub struct Error(NonZeroU32);
+
+// More than the longest text of a status.
+const ROOM: usize = 128;
+
+impl Error {
+    pub(crate) fn new(status: NonZeroU32) -> Error {
+        Error(status)
+    }
+
+    /// What is wrong.
+    pub fn kind(self) -> Kind {
+        Kind::of(self.0.get())
+    }
+
+    /// The name of the component that is wrong, if it is one.
+    pub fn component(self) -> Option<String> {
+        let number = self.0.get() >> 8;
+        if number == 0 {
+            return None;
+        }
+        let text = text_of(5 + 256 * number);
+        Some(text.strip_suffix(" is out of range")?.to_string())
+    }
+}
+
+// What a status says.
+pub(crate) fn text_of(status: u32) -> String {
+    let mut text = [0; ROOM];
+    // SAFETY: the pointer and the length are those of the array, which is borrowed alone.
+    let length = unsafe { ffi::pelzaune_write_text(status, text.as_mut_ptr(), text.len()) };
+    String::from_utf8_lossy(&text[..length.min(ROOM)]).into_owned()
+}
+
+impl fmt::Display for Error {
+    fn fmt(&self, f: &mut fmt::Formatter<'_>) -> fmt::Result {
+        f.write_str(&text_of(self.0.get()))
+    }
+}
+
+impl fmt::Debug for Error {
+    fn fmt(&self, f: &mut fmt::Formatter<'_>) -> fmt::Result {
+        write!(f, "Error({:?})", text_of(self.0.get()))
+    }
+}
+
+impl std::error::Error for Error {}

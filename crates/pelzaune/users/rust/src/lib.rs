@@ -1,0 +1,229 @@
+//! Parses date-time texts by RFC 3339, mail dates of RFC 2822, ISO 8601, and descriptions of your own.
+//!
+//! This crate is a safe layer over the proved static library `libpelzaune.a`. A call reads a whole text, given as
+//! text or as bytes, takes no memory and keeps no state.
+//!
+//! ```
+//! use pelzaune::{Format, Moment};
+//!
+//! let moment = Moment::parse("1985-04-12T23:20:50.52-08:30", Format::Rfc3339)?;
+//! assert_eq!((moment.year, moment.month, moment.day), (1985, 4, 12));
+//! assert_eq!(moment.offset, -30_600);
+//!
+//! let error = Moment::parse("1985-04-31T00:00:00Z", Format::Rfc3339).unwrap_err();
+//! assert_eq!(error.to_string(), "day is out of range for the other components");
+//! # Ok::<(), pelzaune::Error>(())
+//! ```
+//!
+//! A description is a format too. It is checked when it is made, and read anew by each call:
+//!
+//! ```
+//! use pelzaune::{Date, Description, Format};
+//!
+//! let description = Description::strftime("%d.%m.%Y")?;
+//! let date = Date::parse("02.01.2021", Format::Described(description))?;
+//! assert_eq!((date.year, date.month, date.day), (2021, 1, 2));
+//! assert_eq!(Description::brackets("[year]-[moth]").unwrap_err().index, Some(8));
+//! # Ok::<(), Box<dyn std::error::Error>>(())
+//! ```
+
+use std::mem::MaybeUninit;
+use std::num::NonZeroU32;
+use std::time::{Duration, SystemTime, UNIX_EPOCH};
+
+mod description;
+mod error;
+mod ffi;
+
+pub use description::{Description, InvalidDescription};
+pub use error::{Error, Kind};
+
+/// The formats.
+#[derive(Clone, Copy, Debug, PartialEq, Eq, Hash)]
+pub enum Format<'a> {
+    /// RFC 3339, section 5.6, as `1985-04-12T23:20:50.52Z`.
+    Rfc3339,
+    /// Mail dates, RFC 2822, section 3.3, as `Sat, 02 Jan 2021 03:04:05 +0000`.
+    Rfc2822,
+    /// ISO 8601, as `20210102T0304Z`, `2020-W53-6` or `2020-366`.
+    Iso8601,
+    /// A description of your own.
+    Described(Description<'a>),
+}
+
+/// A date in the proleptic Gregorian calendar.
+#[repr(C)]
+#[derive(Clone, Copy, Debug, PartialEq, Eq, PartialOrd, Ord, Hash)]
+pub struct Date {
+    /// -999999 to 999999.
+    pub year: i32,
+    /// 1 to 12.
+    pub month: u8,
+    /// 1 to 31.
+    pub day: u8,
+}
+
+/// A time of day.
+#[repr(C)]
+#[derive(Clone, Copy, Debug, PartialEq, Eq, Hash)]
+pub struct Time {
+    /// 0 to 999999999.
+    pub nanosecond: u32,
+    /// 0 to 23.
+    pub hour: u8,
+    /// 0 to 59.
+    pub minute: u8,
+    /// 0 to 59.
+    pub second: u8,
+}
+
+/// A date and a time, as a clock shows them.
+#[repr(C)]
+#[derive(Clone, Copy, Debug, PartialEq, Eq, Hash)]
+pub struct Local {
+    /// -999999 to 999999.
+    pub year: i32,
+    /// 0 to 999999999.
+    pub nanosecond: u32,
+    /// 1 to 12.
+    pub month: u8,
+    /// 1 to 31.
+    pub day: u8,
+    /// 0 to 23.
+    pub hour: u8,
+    /// 0 to 59.
+    pub minute: u8,
+    /// 0 to 59.
+    pub second: u8,
+}
+
+/// A date and a time, as a clock shows them, and how far it is ahead of UTC.
+#[repr(C)]
+#[derive(Clone, Copy, Debug, PartialEq, Eq, Hash)]
+pub struct Moment {
+    /// -999999 to 999999.
+    pub year: i32,
+    /// 0 to 999999999.
+    pub nanosecond: u32,
+    /// The seconds that the clock is ahead of UTC, -93599 to 93599.
+    pub offset: i32,
+    /// 1 to 12.
+    pub month: u8,
+    /// 1 to 31.
+    pub day: u8,
+    /// 0 to 23.
+    pub hour: u8,
+    /// 0 to 59.
+    pub minute: u8,
+    /// 0 to 59.
+    pub second: u8,
+}
+
+/// An instant, by the time since 1970-01-01T00:00:00Z.
+#[repr(C)]
+#[derive(Clone, Copy, Debug, PartialEq, Eq, PartialOrd, Ord, Hash)]
+pub struct Instant {
+    /// Whole seconds, rounded down.
+    pub seconds: i64,
+    /// The nanoseconds after them, 0 to 999999999.
+    pub nanoseconds: u32,
+}
+
+// The value that a call wrote, where its status is 0.
+fn answer<T>(call: impl FnOnce(*mut T) -> u32) -> Result<T, Error> {
+    let mut value = MaybeUninit::uninit();
+    match NonZeroU32::new(call(value.as_mut_ptr())) {
+        // SAFETY: a call with the status 0 has written each member of the value.
+        None => Ok(unsafe { value.assume_init() }),
+        Some(status) => Err(Error::new(status)),
+    }
+}
+
+// The call of the library on a text, given as text or as bytes: the first by a format that has a number, the second by a
+// description.
+macro_rules! parse {
+    ($parse:ident, $read:ident, $text:expr, $format:expr) => {{
+        let text = $text.as_ref();
+        let number = match $format {
+            Format::Rfc3339 => 1,
+            Format::Rfc2822 => 2,
+            Format::Iso8601 => 3,
+            Format::Described(Description { syntax, text: described }) => {
+                // SAFETY: the pointers and the lengths are those of slices, and nothing else sees the value.
+                return answer(|out| unsafe {
+                    ffi::$read(syntax, described.as_ptr(), described.len(), text.as_ptr(), text.len(), out)
+                });
+            }
+        };
+        // SAFETY: the pointer and the length are those of a slice, and nothing else sees the value.
+        answer(|out| unsafe { ffi::$parse(number, text.as_ptr(), text.len(), out) })
+    }};
+}
+
+impl Date {
+    /// The date of a whole text.
+    pub fn parse(text: impl AsRef<[u8]>, format: Format<'_>) -> Result<Date, Error> {
+        parse!(pelzaune_parse_date, pelzaune_read_date, text, format)
+    }
+}
+
+impl Time {
+    /// The time of a whole text.
+    pub fn parse(text: impl AsRef<[u8]>, format: Format<'_>) -> Result<Time, Error> {
+        parse!(pelzaune_parse_time, pelzaune_read_time, text, format)
+    }
+}
+
+impl Local {
+    /// The date and time of a whole text, whatever its offset.
+    pub fn parse(text: impl AsRef<[u8]>, format: Format<'_>) -> Result<Local, Error> {
+        parse!(pelzaune_parse_local, pelzaune_read_local, text, format)
+    }
+
+    /// The date and time in UTC of a whole text. One without an offset is taken as in UTC.
+    pub fn parse_utc(text: impl AsRef<[u8]>, format: Format<'_>) -> Result<Local, Error> {
+        parse!(pelzaune_parse_utc, pelzaune_read_utc, text, format)
+    }
+}
+
+impl Moment {
+    /// The date, time and offset of a whole text.
+    pub fn parse(text: impl AsRef<[u8]>, format: Format<'_>) -> Result<Moment, Error> {
+        parse!(pelzaune_parse_moment, pelzaune_read_moment, text, format)
+    }
+}
+
+impl Instant {
+    /// The instant of a whole text that has a date, a time and an offset.
+    pub fn parse(text: impl AsRef<[u8]>, format: Format<'_>) -> Result<Instant, Error> {
+        parse!(pelzaune_parse_instant, pelzaune_read_instant, text, format)
+    }
+
+    /// The same instant of the system's clock, or `None` where that clock has no such instant.
+    pub fn to_system_time(self) -> Option<SystemTime> {
+        let whole = Duration::from_secs(self.seconds.unsigned_abs());
+        let second = if self.seconds < 0 {
+            UNIX_EPOCH.checked_sub(whole)
+        } else {
+            UNIX_EPOCH.checked_add(whole)
+        };
+        second?.checked_add(Duration::from_nanos(self.nanoseconds.into()))
+    }
+}
+
+/// The offset of a whole text, in seconds ahead of UTC.
+pub fn parse_offset(text: impl AsRef<[u8]>, format: Format<'_>) -> Result<i32, Error> {
+    parse!(pelzaune_parse_offset, pelzaune_read_offset, text, format)
+}
+
+/// The nanoseconds from 1970-01-01T00:00:00Z to the instant of a whole text. [`Kind::TooWide`] says that 64 bits don't
+/// count them.
+pub fn parse_nanoseconds(text: impl AsRef<[u8]>, format: Format<'_>) -> Result<i64, Error> {
+    parse!(pelzaune_parse_nanoseconds, pelzaune_read_nanoseconds, text, format)
+}
+
+/// The version of the library's interface: 256 times its major number, and its minor number.
+pub fn version() -> u32 {
+    // SAFETY: the call asks nothing.
+    unsafe { ffi::pelzaune_version() }
+}

@@ -50,8 +50,8 @@ pub fn pieces_of(status: u32) -> [&'static str; 3]
             "",
         ],
         4 => [
-            "the `Parsed` struct did not include enough information to construct the type",
-            "",
+            "the `Parsed` struct did not include enough information",
+            " to construct the type",
             "",
         ],
         5 => ["", name, " is out of range"],

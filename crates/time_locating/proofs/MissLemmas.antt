@@ -1,0 +1,108 @@
+-- What the misses of a tree say. `Y` is the greatest year.
+use Rattle.std.proofs.Common.{◌≡◌, ℕ, ◌<◌, ◌≤◌, List, [], ◌∷◌, ◌++◌, Option, Some, None, All, Bool, true, false, nat_lt, if◌then◌else◌, refl, ap, sym, ◌∙◌, subst, inl, inr, arith}
+use Rattle.std.proofs.lemmas.List.Elements.{All-append, All-cons}
+use Rattle.std.proofs.lemmas.Bool.Decides.{nat_tests}
+use Rattle.time_values.specs.Refusal.{Refusal}
+use Rattle.time_components.specs.declared.format_description.Component.{Component}
+use Rattle.time_components.specs.declared.format_description.Component.TheVariants as named_
+use Rattle.time_components.specs.Tree.{Tree, Trees, literal, component, sequence, optional, first_of, none, more}
+use Rattle.time_record.specs.Components.{component_fault}
+use Rattle.time_record.specs.Reading.{IsFault, IsFaultAll, NoReading, Reads, ReadsAll, ReadsSome}
+use Rattle.time_record.specs.Record.{Record}
+use Rattle.time_record.proofs.Unique.{Reads-unique}
+use Rattle.time_locating.proofs.Places.{no_furthest}
+use Rattle.time_locating.specs.Laws.{FurthestLeavesFewest, OwnMissFirst, refusal_by}
+use Rattle.time_locating.specs.Misses.{Miss, Misses, MissesAll, MissesFirst, Telling, further, further_of, furthest, wanted_by}
+
+-- the first of some misses tells that refusal
+abbrev BeginsWith : List Miss → Refusal → Type 0
+BeginsWith ms e = (m : Miss) × (others : List Miss) × (ms ≡ m ∷ others) × (refusal_by m.wanted ≡ e)
+
+begins-append : (ms ns : List Miss) (e : Refusal) → BeginsWith ms e → BeginsWith (ms ++ ns) e
+begins-append ms ns e (m, others, is, told) = (m, others ++ ns, ap (λ xs. xs ++ ns) is, told)
+
+begins-is : (ms ns : List Miss) (e : Refusal) → ms ≡ ns → BeginsWith ns e → BeginsWith ms e
+begins-is ms ns e is h = subst (λ xs. BeginsWith xs e) (sym is) h
+
+-- what a component wants tells its refusal
+told_component : (c : Component) → refusal_by (wanted_by c) ≡ component_fault c
+told_component (named_.Day m) = refl
+told_component _ = refl
+
+mutual
+  unfolding Misses MissesAll MissesFirst Reads ReadsAll ReadsSome IsFault IsFaultAll
+
+  own : (Y : ℕ) (told : Telling) (t : Tree) (b : List ℕ) (r : Record) (e : Refusal) (ms : List Miss) → NoReading Y t b r →
+      IsFault Y t b r e → Misses Y told t b r ms → BeginsWith ms e
+  own Y told (literal x) b r e ms unread f (inl h) = absurd (unread h.0.0 h.0.1 h.0.2)
+  own Y told (literal x) b r e ms unread f (inr h) = (_, [], h.1, sym f)
+  own Y told (component w c) b r e ms unread f (inl h) = absurd (unread h.0.0 h.0.1 h.0.2)
+  own Y told (component w c) b r e ms unread f (inr h) = (_, [], h.1, told_component c ∙ sym f)
+  own Y told (sequence ts) b r e ms unread f h = own-all Y told ts b r e ms f h
+  own Y told (optional t) b r e ms unread f h = absurd f
+  own Y told (first_of none) b r e ms unread f h = absurd f
+  own Y told (first_of (more t ts)) b r e ms unread f (i, h, inl (x, q, s, is)) = absurd (unread x q (inl s))
+  own Y told (first_of (more t ts)) b r e ms unread f (i, h, inr (s, later, ks, is)) =
+      begins-is ms (i ++ later) e is (begins-append i later e (own Y told t b r e i s f h))
+
+  own-all : (Y : ℕ) (told : Telling) (ts : Trees) (b : List ℕ) (r : Record) (e : Refusal) (ms : List Miss) → IsFaultAll Y ts b r e →
+      MissesAll Y told ts b r ms → BeginsWith ms e
+  own-all Y told none b r e ms f h = absurd f
+  own-all Y told (more t ts) b r e ms (inl f) (i, h, inl hs) = begins-is ms i e hs.1 (own Y told t b r e i f.0 f.1 h)
+  own-all Y told (more t ts) b r e ms (inl f) (i, h, inr (mid, q, s, later, ks, is)) = absurd (f.0 mid q s)
+  own-all Y told (more t ts) b r e ms (inr f) (i, h, inl hs) = absurd (hs.0 f.0 f.1 f.2)
+  own-all Y told (more t ts) b r e ms (inr (x, p, u, fs)) (i, h, inr (mid, q, s, later, ks, is)) =
+      let one = Reads-unique Y t b r x p mid q u s in
+      let there = subst (λ o. IsFaultAll Y ts mid o e) one.1 (subst (λ z. IsFaultAll Y ts z p e) one.0 fs) in
+      begins-is ms (later ++ i) e is (begins-append later i e (own-all Y told ts mid q e later there ks))
+
+pub own_miss_first : OwnMissFirst
+own_miss_first Y told t b r e ms refused h = own Y told t b r e ms refused.unread refused.fault h
+
+-- such a miss is found in the list, with those before it leaving more and those after it no fewer
+abbrev FoundIn : List Miss → Miss → Type 0
+FoundIn xs m = (before after : List Miss) × (xs ≡ before ++ m ∷ after) × All (λ n. m.left < n.left) before × All (λ n. m.left ≤ n.left) after
+
+all_none : (P : Miss → Type 0) → All P []
+all_none P k d within = absurd (omega arith)
+
+all_weaker : (P Q : Miss → Type 0) → ((x : Miss) → P x → Q x) → (xs : List Miss) → All P xs → All Q xs
+all_weaker P Q weaker xs h k d within = weaker _ (h k d within)
+
+is_below : (n m : ℕ) → nat_lt n m ≡ true → n < m
+is_below n m is = grind (arith, nat_tests)
+
+is_not_below : (n m : ℕ) → nat_lt n m ≡ false → m ≤ n
+is_not_below n m is = grind (arith, nat_tests)
+
+-- the miss of two
+choose : (x k m : Miss) (xs : List Miss) (b : Bool) → nat_lt k.left x.left ≡ b → (if b then k else x) ≡ m → FoundIn xs k → FoundIn (x ∷ xs) m
+choose x k m xs true lt is (before, after, e, more_left, no_fewer) =
+    subst (FoundIn (x ∷ xs)) is (
+      x ∷ before,
+      after,
+      ap (λ ys. x ∷ ys) e,
+      All-cons (λ (n : Miss). k.left < n.left) x before (is_below k.left x.left lt) more_left,
+      no_fewer,
+    )
+choose x k m xs false lt is (before, after, e, more_left, no_fewer) =
+    let near = is_not_below k.left x.left lt in
+    let P : Miss → Type 0 = λ n. x.left ≤ n.left in
+    let first = all_weaker (λ n. k.left < n.left) P (λ n h. omega arith) before more_left in
+    let last = all_weaker (λ n. k.left ≤ n.left) P (λ n h. omega arith) after no_fewer in
+    let all = All-append P before (k ∷ after) first (All-cons P k after near last) in
+    subst (FoundIn (x ∷ xs)) is ([], xs, refl, all_none (λ n. x.left < n.left), subst (All P) (sym e) all)
+
+of_two : (x : Miss) (xs : List Miss) (m : Miss) → ((k : Miss) → furthest xs ≡ Some k → FoundIn xs k) → (o : Option Miss) → furthest xs ≡ o →
+    further (Some x) o ≡ Some m → FoundIn (x ∷ xs) m
+of_two x xs m later None e is =
+    let same : x ≡ m = cc in
+    let none = no_furthest xs e in
+    subst (FoundIn (x ∷ xs)) same ([], xs, refl, all_none (λ n. x.left < n.left), subst (All (λ (n : Miss). x.left ≤ n.left)) (sym none) (all_none _))
+of_two x xs m later (Some k) e is =
+    let same : further_of x k ≡ m = cc in
+    choose x k m xs (nat_lt k.left x.left) refl same (later k e)
+
+pub furthest_leaves_fewest : FurthestLeavesFewest
+furthest_leaves_fewest [] m is = let clash : None ≡ Some m = is in cc
+furthest_leaves_fewest (x ∷ xs) m is = of_two x xs m (λ k e. furthest_leaves_fewest xs k e) (furthest xs) refl is

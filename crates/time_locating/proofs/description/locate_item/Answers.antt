@@ -1,0 +1,7 @@
+use Rattle.std.proofs.Common.{sym}
+use Rattle.time_locating.specs.Misses.{all_bytes}
+use Rattle.time_locating.proofs.description.locate_item.Goals as goal
+
+pub returns : goal.returns
+returns g c =
+    rw (sym c.begin-parsed.ensures) (c.place.ensures all_bytes _ c.begin-parsed.result _ c.walk.ensures.reads c.walk.ensures.misses)

@@ -1,0 +1,9 @@
+use Rattle.std.proofs.Common.{sym}
+use Rattle.time_locating.specs.Misses.{Misses, all_bytes}
+use Rattle.time_locating.proofs.description.locate_items.Goals as goal
+
+pub returns : goal.returns
+unfolding Misses
+returns g c =
+    rw (sym c.begin-parsed.ensures)
+    (c.place.ensures all_bytes _ c.begin-parsed.result _ c.walk_all.ensures.reads c.walk_all.ensures.misses)

@@ -1,0 +1,12 @@
+use Rattle.std.proofs.Common.{refl}
+use Rattle.time_locating.proofs.Leaves.{literal_misses, literal_reads}
+use Rattle.time_locating.proofs.walk.literal.Goals as goal
+
+pub returns-in-Ok-clause-misses : goal.returns-in-Ok-clause-misses
+returns-in-Ok-clause-misses c = λ r. literal_reads _ _ _ r _ _ _ (c.in-Ok.ensures r)
+
+pub returns-in-Err-clause-reads : goal.returns-in-Err-clause-reads
+returns-in-Err-clause-reads c = λ r. record { unread = (c.in-Err.ensures r).0.unread; same = refl }
+
+pub returns-in-Err-clause-misses : goal.returns-in-Err-clause-misses
+returns-in-Err-clause-misses c = λ r. literal_misses _ _ _ r _ (c.in-Err.ensures r).0.unread

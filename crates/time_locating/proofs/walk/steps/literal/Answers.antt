@@ -1,0 +1,15 @@
+use Rattle.time_locating.proofs.Leaves.{alone_reads, alone_unread, literal_misses, literal_reads}
+use Rattle.time_locating.proofs.walk.steps.literal.Goals as goal
+
+pub returns-in-Ok-clause-reads : goal.returns-in-Ok-clause-reads
+returns-in-Ok-clause-reads c text is = alone_reads _ _ _ is _ _ _ _ c.in-Ok.ensures
+
+pub returns-in-Ok-clause-misses : goal.returns-in-Ok-clause-misses
+returns-in-Ok-clause-misses c text is = literal_reads _ _ _ _ _ _ _ (alone_reads _ _ _ is _ _ _ _ c.in-Ok.ensures)
+
+pub returns-in-Err-clause-reads : goal.returns-in-Err-clause-reads
+returns-in-Err-clause-reads c text is = record { unread = alone_unread _ _ _ is _ _ c.in-Err.ensures.0.unread; same = c.in-Err.ensures.1 }
+
+pub returns-in-Err-clause-misses : goal.returns-in-Err-clause-misses
+returns-in-Err-clause-misses c text is =
+    rw c.from_ref.ensures.value (literal_misses _ _ _ _ _ (alone_unread _ _ _ is _ _ c.in-Err.ensures.0.unread))

@@ -1,0 +1,33 @@
+-- Laws of misses. `Y` is the greatest year.
+use Rattle.std.specs.Prelude.{◌≡◌, ◌<◌, ◌≤◌, ℕ, List, ◌∷◌, ◌++◌, Some, All}
+use Rattle.time_values.specs.Refusal.{Refusal, literal, component, trailing}
+use Rattle.time_components.specs.Tree.{Tree}
+use Rattle.time_record.specs.Reading.{Refuses}
+use Rattle.time_record.specs.Record.{Record}
+use Rattle.time_locating.specs.Misses.{Wanted, these_bytes, named, the_end, Miss, Misses, Telling, furthest}
+
+-- A tree has one list of misses of the same bytes over the same record.
+abbrev pub OneList : Type 0
+OneList =
+    (Y : ℕ) (told : Telling) (t : Tree) (bytes : List ℕ) (r : Record) (ms ns : List Miss)
+    → Misses Y told t bytes r ms → Misses Y told t bytes r ns → ms ≡ ns
+
+-- the refusal of a leaf that wants this
+abbrev pub refusal_by : Wanted → Refusal
+refusal_by (these_bytes text) = literal
+refusal_by (named name) = component name
+refusal_by the_end = trailing
+
+-- Where a tree is refused, the list begins with the miss that the refusal names.
+abbrev pub OwnMissFirst : Type 0
+OwnMissFirst =
+    (Y : ℕ) (told : Telling) (t : Tree) (bytes : List ℕ) (r : Record) (e : Refusal) (ms : List Miss)
+    → Refuses Y t bytes r e → Misses Y told t bytes r ms
+    → (m : Miss) × (others : List Miss) × (ms ≡ m ∷ others) × (refusal_by m.wanted ≡ e)
+
+-- No miss leaves fewer bytes than the furthest, and those before it leave more.
+abbrev pub FurthestLeavesFewest : Type 0
+FurthestLeavesFewest =
+    (ms : List Miss) (m : Miss) → furthest ms ≡ Some m
+    → (before after : List Miss) × (ms ≡ before ++ m ∷ after)
+    × All (λ n. m.left < n.left) before × All (λ n. m.left ≤ n.left) after

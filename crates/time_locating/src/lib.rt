@@ -1,0 +1,13 @@
+//! Where a text that a format refuses goes wrong, and what was expected there.
+#![tactic(auto)]
+
+mod description;
+mod inspect;
+pub mod laws;
+mod locate;
+mod located;
+mod miss;
+mod walk;
+
+pub use locate::Locate;
+pub use located::{Expected, Located};

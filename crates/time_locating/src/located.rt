@@ -1,0 +1,38 @@
+//! Where a text is refused.
+ghost use Rattle.time_locating.specs.Shown.{expected_text};
+
+use std::fmt;
+
+/// What was expected where a text is refused.
+#[derive(Clone, Copy, Debug, PartialEq, Eq)]
+pub enum Expected<'a> {
+    /// These bytes. Of a literal of a `Description`, which keeps each byte by itself, it is the first.
+    Literal(&'a [u8]),
+    /// The component of this name.
+    Component(&'static str),
+    /// The end of the text.
+    End,
+}
+
+/// Prints `expected` with the bytes between quotes, the component's name, or `the end`. A byte that doesn't print is
+/// escaped, as `\x00`.
+impl fmt::Display for Expected<'_> {
+    ghost output = { expected_text };
+
+    fn fmt<W: fmt::Write>(&self, f: &mut fmt::Formatter<W>) -> fmt::Result {
+        match self {
+            Expected::Literal(bytes) => write!(f, "expected '{}'", bytes.escape_ascii()),
+            Expected::Component(name) => write!(f, "expected {name}"),
+            Expected::End => write!(f, "expected the end"),
+        }
+    }
+}
+
+/// Where a text is refused.
+#[derive(Clone, Copy, Debug, PartialEq, Eq)]
+pub struct Located<'a> {
+    /// The index in the text at which that begins which can't be read. It is the length where the text is too short.
+    pub index: usize,
+    /// What was expected there.
+    pub expected: Expected<'a>,
+}

@@ -1,0 +1,39 @@
+//! Leaves of a description that read nothing.
+ghost use Rattle.std.specs.Prelude.{◌≡◌};
+ghost use Rattle.time_values.specs.Refusal.{refusal_of_description};
+ghost use Rattle.time_locating.specs.Located.{seen_miss, wants};
+ghost use Rattle.time_locating.specs.Misses as spec;
+
+use crate::Expected;
+use time_values::error::ParseFromDescription;
+
+/// A literal or a component that is begun and reads nothing, or the end of a text that bytes are left before.
+#[derive(Clone, Copy)]
+pub(crate) struct Miss<'a> {
+    /// How many bytes were left where it was tried.
+    pub(crate) left: usize,
+    /// What it wanted.
+    pub(crate) expected: Expected<'a>,
+}
+
+/// The first miss, but the second where it leaves fewer bytes.
+pub(crate) fn further<'a>(first: Option<Miss<'a>>, second: Option<Miss<'a>>) -> Option<Miss<'a>>
+    ensures { seen_miss result ≡ spec.further (seen_miss first.entry) (seen_miss second.entry) }
+{
+    match (first, second) {
+        (Some(one), Some(other)) if other.left < one.left => Some(other),
+        (Some(one), _) => Some(one),
+        (None, _) => second,
+    }
+}
+
+/// What was wanted where there is that refusal of a component.
+pub(crate) fn wanted_of(fault: ParseFromDescription) -> Expected<'static>
+    ensures { wants result ≡ spec.wanted_of (refusal_of_description fault) }
+{
+    match fault {
+        ParseFromDescription::InvalidComponent(name) => Expected::Component(name),
+        ParseFromDescription::InvalidLiteral | ParseFromDescription::UnexpectedTrailingCharacters =>
+            Expected::End,
+    }
+}

@@ -1,0 +1,180 @@
+//! The walk over the steps of a description that was read from a text.
+ghost use Rattle.std.specs.Prelude.{◌≡◌, ◌∷◌, ℕ, List, length, MatchOption};
+ghost use Rattle.time_values.specs.Range.{greatest_year};
+ghost use Rattle.time_components.specs.Steps as steps_;
+ghost use Rattle.time_components.specs.Steps.{group_tree, steps_shape, steps_trees};
+ghost use Rattle.time_components.specs.Tree as tree;
+ghost use Rattle.time_components.specs.Tree.{Tree, first_of, more, none};
+ghost use Rattle.time_record.specs.Attempts.{Attempts};
+ghost use Rattle.time_locating.specs.Located.{seen_miss};
+ghost use Rattle.time_locating.specs.Misses.{IsFurthest, Misses, MissesFirst, first_byte};
+ghost use Rattle.time_locating.specs.StepRows as spec;
+ghost use Rattle.time_locating.specs.StepRows.{IsSplit};
+
+use super::read_component;
+use crate::Expected;
+use crate::miss::{Miss, further};
+use std::slice;
+use time_components::{Group, Step};
+use time_record::Parsed;
+
+/// Reads the steps in front of the input as a list, as `walk` reads an item.
+#[cycle(steps)]
+pub(crate) fn walk_list<'a, 'd>(
+    steps: &'d [Step],
+    parsed: &mut Parsed,
+    input: &'a [u8],
+) -> (Option<&'a [u8]>, Option<Miss<'d>>)
+    ensures reads { Attempts greatest_year (steps_shape steps.now) input.now parsed.old result.0 parsed.new }
+    ensures misses { IsFurthest (Misses greatest_year first_byte (steps_shape steps.now) input.now parsed.old)
+        (seen_miss result.1) }
+{
+    let before = *parsed;
+    let mut left = steps;
+    let mut rest = input;
+    let mut furthest = None;
+    while let Some((item, after)) = split_item(left) {
+        let (unread, missed) = walk_item(item, parsed, rest);
+        furthest = further(missed, furthest);
+        match unread {
+            Some(unread) => rest = unread,
+            None => {
+                *parsed = before;
+                return (None, furthest);
+            }
+        }
+        left = after;
+    }
+    (Some(rest), furthest)
+}
+
+// Reads the first item that reads, and nothing where there are none.
+#[cycle(steps)]
+fn walk_first<'a, 'd>(
+    steps: &'d [Step],
+    parsed: &mut Parsed,
+    input: &'a [u8],
+) -> (Option<&'a [u8]>, Option<Miss<'d>>)
+    ensures reads { Attempts greatest_year (first_of (steps_trees steps.now)) input.now parsed.old result.0 parsed.new }
+    ensures misses { IsFurthest (MissesFirst greatest_year first_byte (steps_trees steps.now) input.now parsed.old)
+        (seen_miss result.1) }
+{
+    let mut left = steps;
+    let mut furthest = None;
+    while let Some((item, after)) = split_item(left) {
+        let (unread, missed) = walk_item(item, parsed, input);
+        furthest = further(furthest, missed);
+        if let Some(rest) = unread {
+            return (Some(rest), furthest);
+        }
+        left = after;
+    }
+    if steps.is_empty() {
+        return (Some(input), furthest);
+    }
+    (None, furthest)
+}
+
+// Reads the steps of one item.
+#[cycle(steps)]
+fn walk_item<'a, 'd>(
+    item: &'d [Step],
+    parsed: &mut Parsed,
+    input: &'a [u8],
+) -> (Option<&'a [u8]>, Option<Miss<'d>>)
+    ensures reads { (t : Tree) → steps_trees item.now ≡ more t none
+        → Attempts greatest_year t input.now parsed.old result.0 parsed.new }
+    ensures misses { (t : Tree) → steps_trees item.now ≡ more t none
+        → IsFurthest (Misses greatest_year first_byte t input.now parsed.old) (seen_miss result.1) }
+{
+    let [step, inside @ ..] = item else {
+        return (Some(input), None);
+    };
+    match step {
+        Step::Literal(byte) | Step::More(byte) => literal(byte, item, parsed, input),
+        Step::Component(component) => read_component(*component, parsed, input),
+        Step::Group(group, _) => walk_group(*group, inside, parsed, input),
+    }
+}
+
+// Reads a group of these steps.
+#[cycle(steps)]
+fn walk_group<'a, 'd>(
+    group: Group,
+    inside: &'d [Step],
+    parsed: &mut Parsed,
+    input: &'a [u8],
+) -> (Option<&'a [u8]>, Option<Miss<'d>>)
+    ensures reads { Attempts greatest_year (group_tree group (steps_trees inside.now)) input.now parsed.old result.0 parsed.new }
+    ensures misses { IsFurthest (Misses greatest_year first_byte (group_tree group (steps_trees inside.now)) input.now parsed.old)
+        (seen_miss result.1) }
+{
+    match group {
+        Group::List => walk_list(inside, parsed, input),
+        Group::Optional => {
+            let (rest, missed) = walk_list(inside, parsed, input);
+            (Some(rest.unwrap_or(input)), missed)
+        }
+        Group::First => walk_first(inside, parsed, input),
+    }
+}
+
+// Reads the steps of a literal that begins with this byte.
+fn literal<'a, 'd>(
+    byte: &'d u8,
+    item: &[Step],
+    parsed: &mut Parsed,
+    input: &'a [u8],
+) -> (Option<&'a [u8]>, Option<Miss<'d>>)
+    ensures reads { (text : List ℕ) → steps_trees item.now ≡ more (tree.literal (byte.now ∷ text)) none
+        → Attempts greatest_year (tree.literal (byte.now ∷ text)) input.now parsed.old result.0 parsed.new }
+    ensures misses { (text : List ℕ) → steps_trees item.now ≡ more (tree.literal (byte.now ∷ text)) none
+        → IsFurthest (Misses greatest_year first_byte (tree.literal (byte.now ∷ text)) input.now parsed.old) (seen_miss result.1) }
+{
+    match parsed.parse_steps(input, item) {
+        Ok(rest) => (Some(rest), None),
+        Err(_) => (
+            None,
+            Some(Miss {
+                left: input.len(),
+                expected: Expected::Literal(slice::from_ref(byte)),
+            }),
+        ),
+    }
+}
+
+// The steps of the first item, and those after it.
+fn split_item(steps: &[Step]) -> Option<(&[Step], &[Step])>
+    ensures { MatchOption result (length steps.now ≡ 0) (λ p. IsSplit steps.now p.0.now p.1.now) }
+{
+    let [step, behind @ ..] = steps else {
+        return None;
+    };
+    let after = behind.len() - inside(step, behind);
+    Some(steps.split_at(steps.len() - after))
+}
+
+// How many of the steps after a step belong to its item.
+fn inside(step: &Step, behind: &[Step]) -> usize
+    ensures { result ≡ spec.inside step.now behind.now }
+{
+    match step {
+        Step::Literal(_) | Step::More(_) => more_bytes(behind),
+        Step::Component(_) => 0,
+        Step::Group(_, len) => (*len).min(behind.len()),
+    }
+}
+
+// How many further bytes of a literal stand in front of the steps.
+fn more_bytes(steps: &[Step]) -> usize
+    ensures { result ≡ length (steps_.further steps.now) }
+{
+    let mut count = 0;
+    for step in steps {
+        let Step::More(_) = step else {
+            return count;
+        };
+        count += 1;
+    }
+    count
+}

@@ -1,0 +1,5 @@
+//! Tests of where texts are refused.
+#![tactic(auto)]
+
+#[cfg(test)]
+mod tests;

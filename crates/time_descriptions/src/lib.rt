@@ -14,10 +14,6 @@ mod names;
 mod owned;
 mod step;
 mod strftime;
-#[cfg(test)]
-mod strftime_tests;
-#[cfg(test)]
-mod tests;
 mod values;
 mod version;
 mod words;

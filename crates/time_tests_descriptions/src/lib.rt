@@ -1,5 +1,6 @@
-//! Tests of descriptions written as text: every short text, and every cut and changed one, has the fault that a slow
-//! reader gives; and of the room for their steps, and of their trees as items that own their parts.
+//! Tests of descriptions written as text: worked ones have their steps or their fault; every short text, and every cut
+//! and changed one, has the fault that a slow reader gives; and of the room for their steps, and of their trees as items
+//! that own their parts.
 #![tactic(auto)]
 
 #[cfg(test)]
@@ -8,5 +9,9 @@ mod owned;
 mod room;
 #[cfg(test)]
 mod slow;
+#[cfg(test)]
+mod steps;
+#[cfg(test)]
+mod strftime;
 #[cfg(test)]
 mod tests;

@@ -43,7 +43,7 @@ fn short_texts(rt: HostRuntime) {
         for number in 0..texts {
             let text = short_text(number, len);
             assert!(rt;
-                is_told(&text[..len.min(6)]),
+                is_told_alike(rt.alloc(), &text[..len.min(6)]),
                 "number {number} of {len} bytes"
             );
         }

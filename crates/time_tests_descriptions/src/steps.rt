@@ -1,7 +1,6 @@
-//! Descriptions of both versions, and each fault with its index.
-use crate::step::{Group, Step};
-use crate::{InvalidFormatDescription, parse_borrowed};
+//! Steps of descriptions of both versions, and each fault with its index.
 use time_components::{Component, Padding, modifier};
+use time_descriptions::{Group, InvalidFormatDescription, Step, parse_borrowed};
 
 // The step of `[day]`.
 const DAY: Step = Step::Component(Component::Day(modifier::Day {

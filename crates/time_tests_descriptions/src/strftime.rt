@@ -1,7 +1,6 @@
 //! Descriptions as strftime has them, and each fault with its index.
-use crate::step::Step;
-use crate::{InvalidFormatDescription, parse_borrowed, parse_strftime};
 use time_components::{Component, Padding, modifier};
+use time_descriptions::{InvalidFormatDescription, Step, parse_borrowed, parse_strftime};
 
 // Whether the text has these steps.
 fn has_steps(text: &[u8], steps: &[Step]) -> bool {

@@ -1,0 +1,71 @@
+-- Which trees a text of version 2 describes: those of items in turn.
+use Rattle.std.specs.Prelude.{ℕ, zero, suc, List, [], ◌∷◌, Bool, true, false, not, ◌&&◌, ◌||◌, nat_lt}
+use Rattle.time_components.specs.declared.format_description.Component.{Component}
+use Rattle.time_components.specs.declared.format_description.Component.TheVariants as component
+use Rattle.time_components.specs.Tree.{Tree, Trees, literal, component as component_tree, sequence, optional, first_of, none, more}
+use Rattle.time_descriptions.specs.declared.version.Version.TheVariants as versions
+use Rattle.time_descriptions.specs.Grammar.{is_plain, most_lists}
+use Rattle.time_descriptions.specs.Writing.{is_escaped}
+
+-- one byte that is written after a backslash
+abbrev pub is_escape : List ℕ → Bool
+is_escape (b ∷ []) = is_escaped b
+is_escape bytes = false
+
+-- bytes that stand for themselves
+abbrev pub are_plain : Bool → List ℕ → Bool
+are_plain nested [] = true
+are_plain nested (b ∷ bytes) = is_plain versions.Two nested b && are_plain nested bytes
+
+abbrev pub is_literal : Bool → List ℕ → Bool
+is_literal nested [] = false
+is_literal nested (b ∷ bytes) = is_escape (b ∷ bytes) || are_plain nested (b ∷ bytes)
+
+-- a literal that stands for itself; one after another would be one literal
+abbrev pub is_run : Tree → Bool
+is_run (literal bytes) = not (is_escape bytes)
+is_run _ = false
+
+abbrev pub begins_run : Trees → Bool
+begins_run none = false
+begins_run (more t ts) = is_run t
+
+-- a count has 16 bits
+abbrev pub has_words : Component → Bool
+has_words (component.Ignore m) = not (nat_lt 65535 m.count.value)
+has_words _ = true
+
+abbrev pub is_some : Trees → Bool
+is_some none = false
+is_some (more t ts) = true
+
+unfoldable mutual
+  -- an item, in which at most depth lists stand inside one another
+  pub is_item : ℕ → Bool → Tree → Bool
+  is_item depth nested (literal bytes) = is_literal nested bytes
+  is_item depth nested (component_tree ends c) = not ends && has_words c
+  is_item depth nested (sequence ts) = false
+  is_item zero nested (optional t) = false
+  is_item (suc depth) nested (optional t) = is_list depth t
+  is_item zero nested (first_of ts) = false
+  is_item (suc depth) nested (first_of ts) = is_some ts && are_lists depth ts
+
+  pub is_list : ℕ → Tree → Bool
+  is_list depth (sequence ts) = are_items depth true ts
+  is_list depth _ = false
+
+  -- lists of a choice
+  pub are_lists : ℕ → Trees → Bool
+  are_lists depth none = true
+  are_lists depth (more t ts) = is_list depth t && are_lists depth ts
+
+  -- items in turn
+  pub are_items : ℕ → Bool → Trees → Bool
+  are_items depth nested none = true
+  are_items depth nested (more t ts) =
+      is_item depth nested t && not (is_run t && begins_run ts) && are_items depth nested ts
+
+-- a tree that a text describes
+abbrev pub is_described : Tree → Bool
+is_described (sequence ts) = are_items most_lists false ts
+is_described _ = false

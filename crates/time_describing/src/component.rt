@@ -1,0 +1,227 @@
+//! What is written of a component.
+ghost use Rattle.std.specs.Prelude.{◌≡◌, ◌++◌, codes};
+ghost use Rattle.std.specs.Prelude.{false};
+ghost use Rattle.time_components.specs.Tree as tree;
+ghost use Rattle.time_descriptions.specs.Writing as writing;
+ghost use Rattle.time_descriptions.specs.Writing.{tree_text};
+ghost use Rattle.time_describing.specs.Parts as parts;
+ghost use Rattle.time_describing.specs.Puts.{Puts};
+
+use crate::text::{DescriptionText, Full};
+use itoa::Buffer;
+use time_components::{Component, Padding, SubsecondDigits, TrailingInput};
+
+// The name, with the modifiers that tell the form.
+fn name_part(component: Component) -> &'static str
+    ensures { result.now ≡ parts.name_part component }
+{
+    match component {
+        Component::Day(_) => "day",
+        Component::MonthShort(_) => "month repr:short",
+        Component::MonthLong(_) => "month repr:long",
+        Component::MonthNumerical(_) => "month",
+        Component::Ordinal(_) => "ordinal",
+        Component::WeekdayShort(_) => "weekday repr:short",
+        Component::WeekdayLong(_) => "weekday",
+        Component::WeekdaySunday(_) => "weekday repr:sunday",
+        Component::WeekdayMonday(_) => "weekday repr:monday",
+        Component::WeekNumberIso(_) => "week_number",
+        Component::WeekNumberSunday(_) => "week_number repr:sunday",
+        Component::WeekNumberMonday(_) => "week_number repr:monday",
+        Component::CalendarYearFullExtendedRange(_) => "year",
+        Component::CalendarYearFullStandardRange(_) => "year range:standard",
+        Component::IsoYearFullExtendedRange(_) => "year base:iso_week",
+        Component::IsoYearFullStandardRange(_) => "year base:iso_week range:standard",
+        Component::CalendarYearCenturyExtendedRange(_) => "year repr:century",
+        Component::CalendarYearCenturyStandardRange(_) => "year repr:century range:standard",
+        Component::IsoYearCenturyExtendedRange(_) => "year repr:century base:iso_week",
+        Component::IsoYearCenturyStandardRange(_) =>
+            "year repr:century base:iso_week range:standard",
+        Component::CalendarYearLastTwo(_) => "year repr:last_two",
+        Component::IsoYearLastTwo(_) => "year repr:last_two base:iso_week",
+        Component::Hour12(_) => "hour repr:12",
+        Component::Hour24(_) => "hour",
+        Component::Minute(_) => "minute",
+        Component::Period(m) if m.is_uppercase => "period",
+        Component::Period(_) => "period case:lower",
+        Component::Second(_) => "second",
+        Component::Subsecond(_) => "subsecond",
+        Component::OffsetHour(_) => "offset_hour",
+        Component::OffsetMinute(_) => "offset_minute",
+        Component::OffsetSecond(_) => "offset_second",
+        Component::Ignore(_) => "ignore count:",
+        Component::UnixTimestampSecond(_) => "unix_timestamp",
+        Component::UnixTimestampMillisecond(_) => "unix_timestamp precision:millisecond",
+        Component::UnixTimestampMicrosecond(_) => "unix_timestamp precision:microsecond",
+        Component::UnixTimestampNanosecond(_) => "unix_timestamp precision:nanosecond",
+        Component::End(_) => "end",
+    }
+}
+
+// What fills the number up, which of a component without a number is nothing to write.
+fn padding_of(component: Component) -> Padding
+    ensures { writing.padding_text result ≡ parts.padding_part component }
+{
+    match component {
+        Component::Day(m) => m.padding,
+        Component::MonthNumerical(m) => m.padding,
+        Component::Ordinal(m) => m.padding,
+        Component::WeekNumberIso(m) => m.padding,
+        Component::WeekNumberSunday(m) => m.padding,
+        Component::WeekNumberMonday(m) => m.padding,
+        Component::CalendarYearFullExtendedRange(m) => m.padding,
+        Component::CalendarYearFullStandardRange(m) => m.padding,
+        Component::IsoYearFullExtendedRange(m) => m.padding,
+        Component::IsoYearFullStandardRange(m) => m.padding,
+        Component::CalendarYearCenturyExtendedRange(m) => m.padding,
+        Component::CalendarYearCenturyStandardRange(m) => m.padding,
+        Component::IsoYearCenturyExtendedRange(m) => m.padding,
+        Component::IsoYearCenturyStandardRange(m) => m.padding,
+        Component::CalendarYearLastTwo(m) => m.padding,
+        Component::IsoYearLastTwo(m) => m.padding,
+        Component::Hour12(m) => m.padding,
+        Component::Hour24(m) => m.padding,
+        Component::Minute(m) => m.padding,
+        Component::Second(m) => m.padding,
+        Component::OffsetHour(m) => m.padding,
+        Component::OffsetMinute(m) => m.padding,
+        Component::OffsetSecond(m) => m.padding,
+        _ => Padding::Zero,
+    }
+}
+
+fn padding_text(padding: Padding) -> &'static str
+    ensures { result.now ≡ writing.padding_text padding }
+{
+    match padding {
+        Padding::Zero => "",
+        Padding::Space => " padding:space",
+        Padding::None => " padding:none",
+    }
+}
+
+fn sign_text(sign_is_mandatory: bool) -> &'static str
+    ensures { result.now ≡ writing.sign_text sign_is_mandatory }
+{
+    if sign_is_mandatory {
+        " sign:mandatory"
+    } else {
+        ""
+    }
+}
+
+fn case_sensitive_text(case_sensitive: bool) -> &'static str
+    ensures { result.now ≡ writing.case_sensitive_text case_sensitive }
+{
+    if case_sensitive {
+        ""
+    } else {
+        " case_sensitive:false"
+    }
+}
+
+fn one_indexed_text(one_indexed: bool) -> &'static str
+    ensures { result.now ≡ writing.one_indexed_text one_indexed }
+{
+    if one_indexed {
+        ""
+    } else {
+        " one_indexed:false"
+    }
+}
+
+fn digits_text(digits: SubsecondDigits) -> &'static str
+    ensures { result.now ≡ writing.digits_text digits }
+{
+    match digits {
+        SubsecondDigits::One => " digits:1",
+        SubsecondDigits::Two => " digits:2",
+        SubsecondDigits::Three => " digits:3",
+        SubsecondDigits::Four => " digits:4",
+        SubsecondDigits::Five => " digits:5",
+        SubsecondDigits::Six => " digits:6",
+        SubsecondDigits::Seven => " digits:7",
+        SubsecondDigits::Eight => " digits:8",
+        SubsecondDigits::Nine => " digits:9",
+        SubsecondDigits::OneOrMore => "",
+    }
+}
+
+fn trailing_input_text(trailing_input: TrailingInput) -> &'static str
+    ensures { result.now ≡ writing.trailing_input_text trailing_input }
+{
+    match trailing_input {
+        TrailingInput::Prohibit => "",
+        TrailingInput::Discard => " trailing_input:discard",
+    }
+}
+
+// The modifier after the padding, where it isn't the default.
+fn modifier_part(component: Component) -> &'static str
+    ensures { result.now ≡ parts.modifier_part component }
+{
+    match component {
+        Component::MonthShort(m) => case_sensitive_text(m.case_sensitive),
+        Component::MonthLong(m) => case_sensitive_text(m.case_sensitive),
+        Component::WeekdayShort(m) => case_sensitive_text(m.case_sensitive),
+        Component::WeekdayLong(m) => case_sensitive_text(m.case_sensitive),
+        Component::WeekdaySunday(m) => one_indexed_text(m.one_indexed),
+        Component::WeekdayMonday(m) => one_indexed_text(m.one_indexed),
+        Component::CalendarYearFullExtendedRange(m) => sign_text(m.sign_is_mandatory),
+        Component::CalendarYearFullStandardRange(m) => sign_text(m.sign_is_mandatory),
+        Component::IsoYearFullExtendedRange(m) => sign_text(m.sign_is_mandatory),
+        Component::IsoYearFullStandardRange(m) => sign_text(m.sign_is_mandatory),
+        Component::CalendarYearCenturyExtendedRange(m) => sign_text(m.sign_is_mandatory),
+        Component::CalendarYearCenturyStandardRange(m) => sign_text(m.sign_is_mandatory),
+        Component::IsoYearCenturyExtendedRange(m) => sign_text(m.sign_is_mandatory),
+        Component::IsoYearCenturyStandardRange(m) => sign_text(m.sign_is_mandatory),
+        Component::Period(m) => case_sensitive_text(m.case_sensitive),
+        Component::Subsecond(m) => digits_text(m.digits),
+        Component::OffsetHour(m) => sign_text(m.sign_is_mandatory),
+        Component::UnixTimestampSecond(m) => sign_text(m.sign_is_mandatory),
+        Component::UnixTimestampMillisecond(m) => sign_text(m.sign_is_mandatory),
+        Component::UnixTimestampMicrosecond(m) => sign_text(m.sign_is_mandatory),
+        Component::UnixTimestampNanosecond(m) => sign_text(m.sign_is_mandatory),
+        Component::End(m) => trailing_input_text(m.trailing_input),
+        _ => "",
+    }
+}
+
+// Puts the digits of a count.
+fn put_count<const N: usize>(
+    component: Component,
+    text: &mut DescriptionText<N>,
+) -> Result<(), Full>
+    ensures { Puts N (parts.count_part component) text.old.bytes.items result text.new.bytes.items }
+{
+    match component {
+        Component::Ignore(m) => text.put(Buffer::new().format(m.count.get()).as_bytes()),
+        _ => Ok(()),
+    }
+}
+
+// Puts what stands in the component's brackets.
+fn put_words<const N: usize>(
+    component: Component,
+    text: &mut DescriptionText<N>,
+) -> Result<(), Full>
+    ensures { Puts N (parts.parts_of component) text.old.bytes.items result text.new.bytes.items }
+{
+    text.put(name_part(component).as_bytes())?;
+    text.put(padding_text(padding_of(component)).as_bytes())?;
+    text.put(modifier_part(component).as_bytes())?;
+    put_count(component, text)
+}
+
+/// Puts the component in its brackets.
+#[tactic(auto, using(crate::proofs::WrittenParts::words_by_parts))]
+pub(crate) fn put_component<const N: usize>(
+    component: Component,
+    text: &mut DescriptionText<N>,
+) -> Result<(), Full>
+    ensures { Puts N (tree_text (tree.component false component)) text.old.bytes.items result text.new.bytes.items }
+{
+    text.put(b"[")?;
+    put_words(component, text)?;
+    text.put(b"]")
+}

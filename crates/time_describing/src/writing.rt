@@ -1,0 +1,102 @@
+//! What is written of items.
+ghost use Rattle.std.specs.Prelude.{map};
+ghost use Rattle.time_components.specs.Tree as tree;
+ghost use Rattle.time_components.specs.Tree.{trees};
+ghost use Rattle.time_descriptions.specs.Writing.{lists_text, tree_text, trees_text};
+ghost use Rattle.time_describing.specs.Puts.{list_text, Puts};
+
+use crate::component::put_component;
+use crate::inspect::{Inspect, Node};
+use crate::text::{DescriptionText, Full};
+
+// Puts a literal, with a backslash before a byte that is none by itself.
+fn put_literal<const N: usize>(bytes: &[u8], text: &mut DescriptionText<N>) -> Result<(), Full>
+    ensures { Puts N (tree_text (tree.literal bytes.now)) text.old.bytes.items result text.new.bytes.items }
+{
+    if let [b'[' | b'\\' | b']'] = bytes {
+        text.put(b"\\")?;
+    }
+    text.put(bytes)
+}
+
+/// Puts the text of an item.
+#[cycle(items)]
+pub(crate) fn put_item<const N: usize, I: Inspect>(
+    item: &I,
+    text: &mut DescriptionText<N>,
+) -> Result<(), Full>
+    ensures { Puts N (tree_text (I.shape item.now)) text.old.bytes.items result text.new.bytes.items }
+{
+    match item.node() {
+        Node::Literal(bytes) => put_literal(bytes, text),
+        Node::Component(component) => put_component(component, text),
+        Node::List(items) => put_items(items, text),
+        Node::Optional(item) => put_optional(item, text),
+        Node::First(items) => put_first(items, text),
+    }
+}
+
+// Puts the texts of items in turn.
+#[cycle(items)]
+fn put_items<const N: usize, I: Inspect>(
+    items: &[I],
+    text: &mut DescriptionText<N>,
+) -> Result<(), Full>
+    ensures { Puts N (trees_text (trees (map I.shape items.now))) text.old.bytes.items result text.new.bytes.items }
+{
+    for item in items {
+        put_item(item, text)?;
+    }
+    Ok(())
+}
+
+// Puts an item that may be missing.
+#[cycle(items)]
+fn put_optional<const N: usize, I: Inspect>(
+    item: &I,
+    text: &mut DescriptionText<N>,
+) -> Result<(), Full>
+    ensures { Puts N (tree_text (tree.optional (I.shape item.now))) text.old.bytes.items result text.new.bytes.items }
+{
+    text.put(b"[optional [")?;
+    put_item(item, text)?;
+    text.put(b"]]")
+}
+
+// Puts a choice.
+#[cycle(items)]
+fn put_first<const N: usize, I: Inspect>(
+    items: &[I],
+    text: &mut DescriptionText<N>,
+) -> Result<(), Full>
+    ensures { Puts N (tree_text (tree.first_of (trees (map I.shape items.now)))) text.old.bytes.items result
+        text.new.bytes.items }
+{
+    text.put(b"[first")?;
+    put_lists(items, text)?;
+    text.put(b"]")
+}
+
+// Puts the lists of a choice.
+#[cycle(items)]
+fn put_lists<const N: usize, I: Inspect>(
+    items: &[I],
+    text: &mut DescriptionText<N>,
+) -> Result<(), Full>
+    ensures { Puts N (lists_text (trees (map I.shape items.now))) text.old.bytes.items result text.new.bytes.items }
+{
+    for item in items {
+        put_list(item, text)?;
+    }
+    Ok(())
+}
+
+// Puts a list of a choice.
+#[cycle(items)]
+fn put_list<const N: usize, I: Inspect>(item: &I, text: &mut DescriptionText<N>) -> Result<(), Full>
+    ensures { Puts N (list_text (I.shape item.now)) text.old.bytes.items result text.new.bytes.items }
+{
+    text.put(b" [")?;
+    put_item(item, text)?;
+    text.put(b"]")
+}

@@ -1,0 +1,268 @@
+-- Rows of steps, and what is read at once in them.
+use Rattle.std.proofs.Common.{◌≡◌, ℕ, zero, suc, ◌+◌, ◌-◌, ◌≤◌, ◌<◌, List, [], ◌∷◌, ◌++◌, length, take, drop, get_or, inl, inr, refl, ap, sym, ◌∙◌, arith, false, length-take, length-drop}
+use Rattle.std.specs.Prelude.{min}
+use Rattle.std.proofs.lemmas.List.{take_all, drop_all}
+use Rattle.std.proofs.lemmas.Bool.{cases_lt}
+use Rattle.time_components.specs.Steps.{further, group_tree, steps_after, steps_trees, tree_at}
+use Rattle.time_components.specs.Tree.{literal, component, none, more}
+use Rattle.time_components.specs.declared.step.Group.{Group}
+use Rattle.time_components.specs.declared.step.Step.{Step}
+use Rattle.time_components.specs.declared.step.Step.TheVariants as step
+use Rattle.time_record.proofs.StepRows.{behind_first, behind_is, first_item, steps_trees-end}
+use Rattle.time_preparing.specs.Joined.{BeginsWith, Fits, parts, Says}
+use Rattle.time_preparing.specs.Walk.{followed_by, item_length, leaves}
+use Rattle.time_preparing.specs.declared.joined.Joined.{Joined}
+use Rattle.time_preparing.specs.declared.joined.Joined.TheVariants as joined
+
+take_joined : (xs ys : List Step) (n : ℕ) → length xs ≤ n → take n (xs ++ ys) ≡ xs ++ take (n - length xs) ys
+take_joined [] ys n h = ap (λ k. take k ys) (omega arith)
+take_joined (x ∷ xs) ys zero h = absurd (omega arith)
+take_joined (x ∷ xs) ys (suc n) h =
+    let same : n - length xs ≡ suc n - length (x ∷ xs) = omega arith in
+    ap (λ zs. x ∷ zs) (take_joined xs ys n (omega arith) ∙ ap (λ k. xs ++ take k ys) same)
+
+pub drop_joined : (xs ys : List Step) → drop (length xs) (xs ++ ys) ≡ ys
+drop_joined [] ys = refl
+drop_joined (x ∷ xs) ys = drop_joined xs ys
+
+further_take : (n : ℕ) (steps : List Step) → further steps ≡ [] → further (take n steps) ≡ []
+further_take zero steps h = refl
+further_take (suc n) [] h = refl
+further_take (suc n) (step.Literal b ∷ steps) h = refl
+further_take (suc n) (step.More b ∷ steps) h = absurd (cc)
+further_take (suc n) (step.Component c ∷ steps) h = refl
+further_take (suc n) (step.Group g len ∷ steps) h = refl
+
+begins_short : (front steps : List Step) (n : ℕ) → length front ≤ length (take n steps) → BeginsWith front steps → BeginsWith front (take n steps)
+begins_short front steps n enough begins =
+    let enough' : length front ≤ n = omega (arith, length-take n steps) in (
+      take (n - length front) begins.0,
+      ap (take n) begins.1 ∙ take_joined front begins.0 n enough',
+      further_take (n - length front) begins.0 begins.2,
+    )
+
+says_short : (j : Joined) (steps : List Step) (n : ℕ) → Says j steps → Says j (take n steps)
+says_short j steps n says =
+    λ some enough. begins_short (parts j) steps n enough (says some (omega (arith, length-take n steps)))
+
+pub Fits-take : (n : ℕ) (js : List Joined) (steps : List Step) → Fits js steps → Fits (take n js) (take n steps)
+Fits-take zero js steps h = tt
+Fits-take (suc n) [] steps h = tt
+Fits-take (suc n) (j ∷ js) [] h = tt
+Fits-take (suc n) (j ∷ js) (s ∷ steps) h = (says_short j (s ∷ steps) (suc n) h.0, Fits-take n js steps h.1)
+
+pub Fits-drop : (n : ℕ) (js : List Joined) (steps : List Step) → Fits js steps → Fits (drop n js) (drop n steps)
+Fits-drop zero js steps h = h
+Fits-drop (suc n) [] steps h = tt
+Fits-drop (suc n) (j ∷ js) [] h = fits_none (drop n js)
+  where
+    fits_none : (js : List Joined) → Fits js []
+    fits_none [] = tt
+    fits_none (j ∷ js) = tt
+Fits-drop (suc n) (j ∷ js) (s ∷ steps) h = Fits-drop n js steps h.1
+
+pub says_at : (i : ℕ) (d : Joined) (js : List Joined) (steps : List Step) → Fits js steps → i < length js → length js ≡ length steps →
+    Says (get_or js i d) (drop i steps)
+says_at i d [] steps h within same = absurd (omega arith)
+says_at i d (j ∷ js) [] h within same = absurd (omega arith)
+says_at zero d (j ∷ js) (s ∷ steps) h within same = h.0
+says_at (suc i) d (j ∷ js) (s ∷ steps) h within same = says_at i d js steps h.1 (omega arith) (omega arith)
+
+drop_nothing : (n : ℕ) → drop {A = Step} n [] ≡ []
+drop_nothing zero = refl
+drop_nothing (suc n) = refl
+
+pub drop_further : (n m : ℕ) (steps : List Step) → drop (n + m) steps ≡ drop m (drop n steps)
+drop_further zero m steps = let same : 0 + m ≡ m = omega arith in ap (λ k. drop k steps) same
+drop_further (suc n) m [] = drop_nothing (suc n + m) ∙ sym (drop_nothing m)
+drop_further (suc n) m (s ∷ steps) =
+    let same : suc n + m ≡ suc (n + m) = omega arith in
+    ap (λ k. drop k (s ∷ steps)) same ∙ drop_further n m steps
+
+-- one more at the end
+pub Fits-push : (js : List Joined) (steps : List Step) (j : Joined) → length js ≤ length steps → Fits js steps → Says j (drop (length js) steps) →
+    Fits (js ++ j ∷ []) steps
+Fits-push [] [] j within h says = tt
+Fits-push [] (s ∷ steps) j within h says = (says, tt)
+Fits-push (k ∷ js) [] j within h says = tt
+Fits-push (k ∷ js) (s ∷ steps) j within h says = (h.0, Fits-push js steps j (omega arith) h.1 says)
+
+-- the steps are bytes and components, each on its own
+abbrev AllPlain : List Step → Type 0
+AllPlain [] = Unit {0}
+AllPlain (step.Literal b ∷ steps) = AllPlain steps
+AllPlain (step.More b ∷ steps) = ⊥
+AllPlain (step.Component c ∷ steps) = AllPlain steps
+AllPlain (step.Group g len ∷ steps) = ⊥
+
+plain_parts : (j : Joined) → AllPlain (parts j)
+plain_parts joined.Nothing = tt
+plain_parts (joined.Byte b) = tt
+plain_parts (joined.Date b) = tt
+plain_parts (joined.Time b) = tt
+
+pub first_step : (s : Step) (steps : List Step) →
+    steps_trees (s ∷ steps) ≡ more (tree_at steps_trees s steps) (steps_trees (steps_after s steps))
+first_step s steps =
+    first_item (s ∷ steps) s (omega arith) refl
+    ∙ ap (λ ys. more (tree_at steps_trees s ys) (steps_trees (steps_after s ys))) (behind_is (s ∷ steps) (omega arith))
+
+further_plain : (front after : List Step) → AllPlain front → further after ≡ [] → further (front ++ after) ≡ []
+further_plain [] after p e = e
+further_plain (step.Literal b ∷ front) after p e = refl
+further_plain (step.More b ∷ front) after p e = absurd p
+further_plain (step.Component c ∷ front) after p e = refl
+further_plain (step.Group g len ∷ front) after p e = absurd p
+
+plain_row : (front after : List Step) → AllPlain front → further after ≡ [] →
+    steps_trees (front ++ after) ≡ followed_by (leaves front) (steps_trees after)
+plain_row [] after p e = refl
+plain_row (step.Literal b ∷ front) after p e =
+    first_step (step.Literal b) (front ++ after)
+    ∙ ap (λ f. more (literal (b ∷ f)) (steps_trees (drop (length f) (front ++ after)))) (further_plain front after p e)
+    ∙ ap (more (literal (b ∷ []))) (plain_row front after p e)
+plain_row (step.More b ∷ front) after p e = absurd p
+plain_row (step.Component c ∷ front) after p e =
+    first_step (step.Component c) (front ++ after) ∙ ap (more (component false c)) (plain_row front after p e)
+plain_row (step.Group g len ∷ front) after p e = absurd p
+
+-- the trees of steps, of which the first ones are read at once
+pub joined_row : (j : Joined) (steps : List Step) → Says j steps → 0 < length (parts j) → length (parts j) ≤ length steps →
+    steps_trees steps ≡ followed_by (leaves (parts j)) (steps_trees (drop (length (parts j)) steps))
+joined_row j steps says some enough =
+    let begins = says some enough in
+    let after : drop (length (parts j)) steps ≡ begins.0 = ap (drop (length (parts j))) begins.1 ∙ drop_joined (parts j) begins.0 in
+    ap steps_trees begins.1 ∙ plain_row (parts j) begins.0 (plain_parts j) begins.2
+    ∙ ap (λ ys. followed_by (leaves (parts j)) (steps_trees ys)) (sym after)
+
+-- A literal's further bytes are as many as stand there.
+further_within : (steps : List Step) → length (further steps) ≤ length steps
+further_within [] = omega arith
+further_within (step.Literal b ∷ steps) = omega arith
+further_within (step.More b ∷ steps) = let h = further_within steps in omega arith
+further_within (step.Component c ∷ steps) = omega arith
+further_within (step.Group g len ∷ steps) = omega arith
+
+further_alone : (steps : List Step) → further (take (length (further steps)) steps) ≡ further steps
+further_alone [] = refl
+further_alone (step.Literal b ∷ steps) = refl
+further_alone (step.More b ∷ steps) = ap (λ bs. b ∷ bs) (further_alone steps)
+further_alone (step.Component c ∷ steps) = refl
+further_alone (step.Group g len ∷ steps) = refl
+
+take_most : (len : ℕ) (steps : List Step) → take (min len (length steps)) steps ≡ take len steps
+take_most len steps =
+    elim (cases_lt len (length steps)) [
+      | inl low ↦ let same : min len (length steps) ≡ len = omega arith in ap (λ k. take k steps) same
+      | inr high ↦ take_all (min len (length steps)) steps (omega arith) ∙ sym (take_all len steps high)
+    ]
+
+take_twice : (len : ℕ) (steps : List Step) → take len (take (min len (length steps)) steps) ≡ take len steps
+take_twice len steps = ap (take len) (take_most len steps) ∙ take_all len (take len steps) (omega (arith, length-take len steps))
+
+drop_most : (len : ℕ) (steps : List Step) → drop (min len (length steps)) steps ≡ drop len steps
+drop_most len steps =
+    elim (cases_lt len (length steps)) [
+      | inl low ↦ let same : min len (length steps) ≡ len = omega arith in ap (λ k. drop k steps) same
+      | inr high ↦ drop_all (min len (length steps)) steps (omega arith) ∙ sym (drop_all len steps high)
+    ]
+
+drop_end : (n : ℕ) (steps : List Step) → length steps ≤ n → steps_trees (drop n steps) ≡ none
+drop_end n steps h = steps_trees-end (drop n steps) (omega (arith, length-drop n steps))
+
+pub item_within : (s : Step) (behind : List Step) → item_length s behind ≤ length behind
+item_within (step.Literal b) behind = further_within behind
+item_within (step.More b) behind = further_within behind
+item_within (step.Component c) behind = omega arith
+item_within (step.Group g len) behind = omega arith
+
+pub item_after : (s : Step) (behind : List Step) → drop (item_length s behind) behind ≡ steps_after s behind
+item_after (step.Literal b) behind = refl
+item_after (step.More b) behind = refl
+item_after (step.Component c) behind = refl
+item_after (step.Group g len) behind = drop_most len behind
+
+-- an item on its own
+pub item_alone : (s : Step) (behind : List Step) →
+    steps_trees (s ∷ take (item_length s behind) behind) ≡ more (tree_at steps_trees s behind) none
+item_alone (step.Literal b) behind =
+    let n = length (further behind) in
+    let most = further_within behind in
+    first_step (step.Literal b) (take n behind)
+    ∙ ap (λ f. more (literal (b ∷ f)) (steps_trees (drop (length f) (take n behind)))) (further_alone behind)
+    ∙ ap (more (literal (b ∷ further behind))) (drop_end n (take n behind) (omega (arith, length-take n behind)))
+item_alone (step.More b) behind =
+    let n = length (further behind) in
+    let most = further_within behind in
+    first_step (step.More b) (take n behind)
+    ∙ ap (λ f. more (literal (b ∷ f)) (steps_trees (drop (length f) (take n behind)))) (further_alone behind)
+    ∙ ap (more (literal (b ∷ further behind))) (drop_end n (take n behind) (omega (arith, length-take n behind)))
+item_alone (step.Component c) behind =
+    first_step (step.Component c) (take 0 behind)
+    ∙ ap (more (component false c)) (drop_end 0 (take 0 behind) (omega (arith, length-take 0 behind)))
+item_alone (step.Group g len) behind =
+    let n = min len (length behind) in
+    first_step (step.Group g len) (take n behind)
+    ∙ ap (λ ys. more (group_tree g (steps_trees ys)) (steps_trees (drop len (take n behind)))) (take_twice len behind)
+    ∙ ap (more (group_tree g (steps_trees (take len behind)))) (drop_end len (take n behind) (omega (arith, length-take n behind)))
+
+-- a first step and those behind it, as a pattern has them
+pub first_and_behind : (left : List Step) (x : Step) → 1 ≤ length left → x ≡ get_or left 0 x → left ≡ x ∷ behind_first left
+first_and_behind [] x within is = absurd (omega arith)
+first_and_behind (s ∷ left) x within is =
+    ap (λ y. y ∷ left) (sym is) ∙ ap (λ ys. x ∷ ys) (sym (behind_is (s ∷ left) (omega arith)))
+
+pub begins_nothing : (front steps : List Step) → length front ≤ 0 → further steps ≡ [] → BeginsWith front steps
+begins_nothing [] steps h e = (steps, refl, e)
+begins_nothing (s ∷ front) steps h e = absurd (omega arith)
+
+pub begins_more : (front steps : List Step) (part s : Step) → 1 ≤ length front → 1 ≤ length steps → part ≡ get_or front 0 part →
+    s ≡ get_or steps 0 s → s ≡ part → BeginsWith (behind_first front) (behind_first steps) → BeginsWith front steps
+begins_more front steps part s some some' is is' same begins =
+    let front_is = first_and_behind front part some is in
+    let steps_is = first_and_behind steps s some' is' in (
+      begins.0,
+      steps_is ∙ ap (λ y. y ∷ behind_first steps) same ∙ ap (λ ys. part ∷ ys) begins.1 ∙ ap (λ xs. xs ++ begins.0) (sym front_is),
+      begins.2,
+    )
+
+module _ (left : List Step) (x : Step) (some : 1 ≤ length left) (is : x ≡ get_or left 0 x) where
+  cut_one : (k : ℕ) → (take (1 + k) left ≡ x ∷ take k (behind_first left)) × (drop (1 + k) left ≡ drop k (behind_first left))
+  cut_one k =
+      let same : 1 + k ≡ suc k = omega arith in
+      let whole = first_and_behind left x some is in
+      (ap (λ n. take n left) same ∙ ap (take (suc k)) whole, ap (λ n. drop n left) same ∙ ap (drop (suc k)) whole)
+
+  -- an item of a row, and those after it
+  module _ (k : ℕ) (len : k ≡ item_length x (behind_first left)) where
+    pub item_trees : (part : List Step) → part ≡ take (1 + k) left → steps_trees part ≡ more (tree_at steps_trees x (behind_first left)) none
+    item_trees part front =
+        ap steps_trees (front ∙ (cut_one k).0)
+        ∙ ap (λ n. steps_trees (x ∷ take n (behind_first left))) len ∙ item_alone x (behind_first left)
+
+    pub item_row : (after : List Step) → after ≡ drop (1 + k) left →
+        steps_trees left ≡ more (tree_at steps_trees x (behind_first left)) (steps_trees after)
+    item_row after back =
+        let rest : steps_after x (behind_first left) ≡ after =
+        sym (item_after x (behind_first left)) ∙ ap (λ n. drop n (behind_first left)) (sym len) ∙ sym (back ∙ (cut_one k).1) in
+        first_item left x some is ∙ ap (λ ys. more (tree_at steps_trees x (behind_first left)) (steps_trees ys)) rest
+
+  -- a group, and the steps after it
+  pub group_row : (g : Group) (len n : ℕ) (inside after : List Step) → x ≡ step.Group g len → n ≡ min len (length (behind_first left)) →
+      inside ≡ take n (behind_first left) → after ≡ drop n (behind_first left) →
+      steps_trees left ≡ more (group_tree g (steps_trees inside)) (steps_trees after)
+  group_row g len n inside after of least front back =
+      let behind = behind_first left in
+      let front' : take len behind ≡ inside = sym (take_most len behind) ∙ ap (λ m. take m behind) (sym least) ∙ sym front in
+      let back' : drop len behind ≡ after = sym (drop_most len behind) ∙ ap (λ m. drop m behind) (sym least) ∙ sym back in
+      first_item left x some is
+      ∙ ap (λ y. more (tree_at steps_trees y behind) (steps_trees (steps_after y behind))) of
+      ∙ ap (λ ys. more (group_tree g (steps_trees ys)) (steps_trees (drop len behind))) front'
+      ∙ ap (λ ys. more (group_tree g (steps_trees inside)) (steps_trees ys)) back'
+
+-- what is read at once in the steps behind a first one
+pub Fits-behind : (js : List Joined) (steps later : List Step) (later_js behind_js : List Joined) (n : ℕ) → Fits js steps →
+    later_js ≡ drop n js → later ≡ drop n steps → behind_js ≡ drop 1 later_js → 1 ≤ length later → Fits behind_js (behind_first later)
+Fits-behind js steps later later_js behind_js n fits is is' behind some =
+    let later_fits : Fits later_js later = rw (is, is') (Fits-drop n js steps fits) in
+    rw (behind, behind_is later some) (Fits-drop 1 later_js later later_fits)

@@ -1,0 +1,35 @@
+use Rattle.std.proofs.Common.{◌≡◌, ◌+◌, ◌*◌, ◌≤◌, length}
+use Rattle.time_values.specs.Range.{greatest_year}
+use Rattle.time_components.specs.Steps.{steps_trees}
+use Rattle.time_preparing.specs.Joined.{Fits}
+use Rattle.time_preparing.specs.Walk.{Goes}
+use Rattle.time_preparing.proofs.Choosing.{Chooses}
+use Rattle.time_preparing.proofs.walk.+walk.Given as goal
+
+abbrev pub decreases-walk_list : goal.decreases-walk_list
+decreases-walk_list l = 4 * length l.steps.now
+
+abbrev pub decreases-walk_first : goal.decreases-walk_first
+decreases-walk_first l = 4 * length l.steps.now + 1
+
+abbrev pub decreases-walk_optional : goal.decreases-walk_optional
+decreases-walk_optional l = 4 * length l.inside.now + 1
+
+abbrev pub decreases-walk_group : goal.decreases-walk_group
+decreases-walk_group l = 4 * length l.inside.now + 2
+
+abbrev pub invariant-walk_list-loop-later : goal.invariant-walk_list-loop-later
+invariant-walk_list-loop-later l =
+    Goes greatest_year (steps_trees l.steps) l.fn.input l.fn.parsed (steps_trees l.left) l.rest l.parsed
+    × Fits l.left_joined l.left × (length l.left_joined ≡ length l.left) × (length l.left ≤ length l.steps)
+
+abbrev pub decreases-walk_list-loop-later : goal.decreases-walk_list-loop-later
+decreases-walk_list-loop-later l = length l.left
+
+abbrev pub invariant-walk_first-loop-left : goal.invariant-walk_first-loop-left
+invariant-walk_first-loop-left l =
+    Chooses greatest_year (steps_trees l.steps) (steps_trees l.left) l.input l.fn.parsed l.first_fault × (l.parsed ≡ l.fn.parsed)
+    × Fits l.left_joined l.left × (length l.left_joined ≡ length l.left) × (length l.left ≤ length l.steps)
+
+abbrev pub decreases-walk_first-loop-left : goal.decreases-walk_first-loop-left
+decreases-walk_first-loop-left l = length l.left

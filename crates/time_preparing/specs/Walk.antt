@@ -1,0 +1,49 @@
+-- No public contract rests on this file.
+--
+-- What a walk over trees in turn does. `Y` is the greatest year.
+use Rattle.std.specs.Prelude.{◌≡◌, ℕ, List, [], ◌∷◌, length, min, Option, Some, None, Result, Ok, Err, false}
+use Rattle.std.specs.Borrow.{Bor}
+use Rattle.time_values.specs.Refusal.{Refusal, refusal_of_description}
+use Rattle.time_values.specs.declared.error.ParseFromDescription.{ParseFromDescription}
+use Rattle.time_components.specs.Steps.{further}
+use Rattle.time_components.specs.Tree.{Tree, Trees, literal, component, none, more}
+use Rattle.time_components.specs.declared.step.Step.{Step}
+use Rattle.time_components.specs.declared.step.Step.TheVariants as step
+use Rattle.time_record.specs.Reading.{Reads, Refuses, ReadsAll, RefusesAll}
+use Rattle.time_record.specs.Record.{Record}
+
+-- trees, and then further trees
+abbrev pub followed_by : Trees → Trees → Trees
+followed_by none us = us
+followed_by (more t ts) us = more t (followed_by ts us)
+
+-- the trees of steps that are bytes and components, each on its own
+abbrev pub leaves : List Step → Trees
+leaves [] = none
+leaves (step.Literal b ∷ steps) = more (literal (b ∷ [])) (leaves steps)
+leaves (step.More b ∷ steps) = more (literal (b ∷ [])) (leaves steps)
+leaves (step.Component c ∷ steps) = more (component false c) (leaves steps)
+leaves (step.Group g len ∷ steps) = leaves steps
+
+-- the rest and the record of a reading; or nothing is said, and the record is as it was
+abbrev pub MayReadAll : ℕ → Trees → List ℕ → Record → Option (Bor (List ℕ)) → Record → Type 0
+MayReadAll Y ts bytes r (Some rest) r' = ReadsAll Y ts bytes r rest.now r'
+MayReadAll Y ts bytes r None r' = r' ≡ r
+
+-- the rest and the record of the tree's reading; or its fault, and nothing is said of the record
+abbrev pub Tells : ℕ → Tree → List ℕ → Record → Result (Bor (List ℕ)) ParseFromDescription → Record → Type 0
+Tells Y t bytes r (Ok rest) r' = Reads Y t bytes r rest.now r'
+Tells Y t bytes r (Err e) r' = Refuses Y t bytes r (refusal_of_description e)
+
+-- What the trees that are left answer, all of them answer: those before them were read.
+pub record Goes (Y : ℕ) (all : Trees) (b0 : List ℕ) (r0 : Record) (left : Trees) (b : List ℕ)
+    (r : Record) : Type 0 where
+  pub reads : (rest : List ℕ) (q : Record) → ReadsAll Y left b r rest q → ReadsAll Y all b0 r0 rest q
+  pub refuses : (e : Refusal) → RefusesAll Y left b r e → RefusesAll Y all b0 r0 e
+
+-- how many of the steps behind this one belong to its item
+abbrev pub item_length : Step → List Step → ℕ
+item_length (step.Literal b) behind = length (further behind)
+item_length (step.More b) behind = length (further behind)
+item_length (step.Component c) behind = 0
+item_length (step.Group g len) behind = min len (length behind)

@@ -1,0 +1,16 @@
+//! The law of prepared descriptions. Its statement is that of equal trees.
+ghost use Rattle.time_values.specs.Range.{greatest_year};
+ghost use Rattle.time_components.specs.Steps.{steps_shape};
+ghost use Rattle.time_descriptions.specs.Description.{shape};
+ghost use Rattle.time_parsing.specs.TreeLaws.{AnswersAlike};
+
+use crate::Prepared;
+use time_descriptions::Description;
+
+/// A prepared description and a description of its tree give the same results, and leave the same record.
+pub fn law_prepared<const N: usize, const M: usize>(
+    prepared: &Prepared<N>,
+    description: &Description<M>,
+)
+    ensures { AnswersAlike greatest_year (steps_shape prepared.now) (shape description.now) }
+{}

@@ -1,0 +1,94 @@
+//! Prepared descriptions.
+ghost use Rattle.std.specs.Prelude.{◌≡◌, ◌<◌, ◌≤◌, length, MatchOption};
+ghost use Rattle.time_values.specs.Range.{greatest_year};
+ghost use Rattle.time_components.specs.Steps.{steps_shape};
+ghost use Rattle.time_record.specs.Answer.{Answers};
+ghost use Rattle.time_preparing.specs.Joined.{Fits};
+
+use crate::joined::{Joined, joined_at};
+use crate::walk::walk_list;
+use arrayvec::ArrayVec;
+use std::marker::Model;
+use time_components::Step;
+use time_record::Parsed;
+use time_values::error::ParseFromDescription;
+
+/// A description of at most `N` steps that is prepared for many texts.
+///
+/// It is the steps of the description, in their order. Beside each it knows which steps from there on are read at once.
+#[derive(Drop)]
+pub struct Prepared<const N: usize> {
+    steps: ArrayVec<Step, N>,
+    joined: ArrayVec<Joined, N>,
+}
+
+impl<const N: usize> Model for Prepared<N> {
+    ghost use Rattle.std.specs.Prelude.{◌≡◌, List, length};
+    ghost use Rattle.time_preparing.specs.Joined.{Fits};
+    ghost use Rattle.time_components.specs.declared.step.Step.{Step};
+
+    ghost Value = { List Step };
+
+    ghost view = { λ p. p.steps.items };
+
+    ghost invariant = { λ p. Fits p.joined.items p.steps.items × (length p.joined.items ≡ length p.steps.items) };
+}
+
+impl<const N: usize> Prepared<N> {
+    /// Prepares the steps of a description, as [`Description::steps`](time_descriptions::Description::steps) gives them.
+    /// `None` exactly where there are more than `N`.
+    pub fn from_steps(steps: &[Step]) -> Option<Prepared<N>>
+        ensures { MatchOption result (N < length steps.now) (λ p. p ≡ steps.now) }
+    {
+        if steps.len() > N {
+            return None;
+        }
+        Some(prepare(steps))
+    }
+
+    /// The steps of the description.
+    pub fn steps(&self) -> &[Step]
+        ensures { result.now ≡ self.now }
+    {
+        self.steps.as_slice()
+    }
+
+    /// Parses a front of the input into the record, and answers the unread rest. A refusal names what does not stand
+    /// there, and leaves the record as it was.
+    pub fn parse_front_into<'a>(
+        &self,
+        input: &'a [u8],
+        parsed: &mut Parsed,
+    ) -> Result<&'a [u8], ParseFromDescription>
+        ensures { Answers greatest_year (steps_shape self.now) input.now parsed.old result parsed.new }
+    {
+        let before = *parsed;
+        match walk_list(self.steps.as_slice(), self.joined.as_slice(), parsed, input) {
+            Ok(rest) => Ok(rest),
+            Err(fault) => {
+                *parsed = before;
+                Err(fault)
+            }
+        }
+    }
+}
+
+// The steps, with what is read at once beside each.
+#[tactic(auto, using(crate::proofs::Preparing::kept_all, crate::proofs::Preparing::room))]
+fn prepare<const N: usize>(steps: &[Step]) -> Prepared<N>
+    requires { length steps.now ≤ N }
+    ensures { result ≡ steps.now }
+{
+    let mut kept = ArrayVec::new();
+    let mut joined = ArrayVec::new();
+    let mut left = steps;
+    while let [step, behind @ ..] = left {
+        kept.push(*step);
+        joined.push(joined_at(left));
+        left = behind;
+    }
+    Prepared {
+        steps: kept,
+        joined,
+    }
+}

@@ -1,0 +1,191 @@
+//! The walk over the steps of a prepared description.
+//!
+//! It reads what is read at once, and the groups. The first step in a list that is neither, and all after it in that
+//! list, are read by the walk over a description's steps.
+ghost use Rattle.std.specs.Prelude.{◌≡◌, ◌≤◌, length, drop};
+ghost use Rattle.time_values.specs.Range.{greatest_year};
+ghost use Rattle.time_components.specs.Steps as steps_;
+ghost use Rattle.time_components.specs.Steps.{steps_shape, steps_trees, further};
+ghost use Rattle.time_components.specs.Tree.{first_of, optional};
+ghost use Rattle.time_preparing.specs.Joined.{Fits};
+ghost use Rattle.time_preparing.specs.Walk.{Goes, Tells, item_length};
+
+use crate::joined::{Joined, fast};
+use time_components::{Group, Step};
+use time_record::Parsed;
+use time_values::error::ParseFromDescription;
+
+// Reads what is read at once, as far as it goes, and answers how many steps that were, and the rest.
+#[inline(always)]
+fn read_joined<'a>(
+    steps: &[Step],
+    joined: &[Joined],
+    parsed: &mut Parsed,
+    input: &'a [u8],
+) -> (usize, &'a [u8])
+    requires fits { Fits joined.now steps.now }
+    requires each { length joined.now ≡ length steps.now }
+    ensures within { result.0 ≤ length steps.now }
+    ensures goes { Goes greatest_year (steps_trees steps.now) input.now parsed.old
+        (steps_trees (drop result.0 steps.now)) result.1.now parsed.new }
+{
+    let mut next = 0;
+    let mut rest = input;
+    while next < joined.len() {
+        let first = &joined[next];
+        let count = first.count();
+        if joined.len() - next < count {
+            return (next, rest);
+        }
+        match fast::read(first, parsed, rest) {
+            Some(unread) => rest = unread,
+            None => return (next, rest),
+        }
+        next += count;
+    }
+    (next, rest)
+}
+
+/// Reads the steps in front of the input as a list. After a refusal the record may have changed.
+#[cycle(walk)]
+pub(crate) fn walk_list<'a>(
+    steps: &[Step],
+    joined: &[Joined],
+    parsed: &mut Parsed,
+    input: &'a [u8],
+) -> Result<&'a [u8], ParseFromDescription>
+    requires fits { Fits joined.now steps.now }
+    requires each { length joined.now ≡ length steps.now }
+    ensures { Tells greatest_year (steps_shape steps.now) input.now parsed.old result parsed.new }
+{
+    let mut left = steps;
+    let mut left_joined = joined;
+    let mut rest = input;
+    loop {
+        let (count, unread) = read_joined(left, left_joined, parsed, rest);
+        let (_, later) = left.split_at(count);
+        let (_, later_joined) = left_joined.split_at(count);
+        let [step, behind @ ..] = later else {
+            return Ok(unread);
+        };
+        let Step::Group(group, len) = step else {
+            return parsed.parse_steps(unread, later);
+        };
+        let (_, behind_joined) = later_joined.split_at(1);
+        let len = (*len).min(behind.len());
+        let (inside, after) = behind.split_at(len);
+        let (inside_joined, after_joined) = behind_joined.split_at(len);
+        match walk_group(*group, inside, inside_joined, parsed, unread) {
+            Ok(more) => rest = more,
+            Err(fault) => return Err(fault),
+        }
+        left = after;
+        left_joined = after_joined;
+    }
+}
+
+// Reads a group of these steps. After a refusal the record may have changed.
+#[cycle(walk)]
+#[inline(always)]
+fn walk_group<'a>(
+    group: Group,
+    inside: &[Step],
+    joined: &[Joined],
+    parsed: &mut Parsed,
+    input: &'a [u8],
+) -> Result<&'a [u8], ParseFromDescription>
+    requires fits { Fits joined.now inside.now }
+    requires each { length joined.now ≡ length inside.now }
+    ensures { Tells greatest_year (steps_.group_tree group (steps_trees inside.now)) input.now parsed.old result parsed.new }
+{
+    match group {
+        Group::List => walk_list(inside, joined, parsed, input),
+        Group::Optional => walk_optional(inside, joined, parsed, input),
+        Group::First => walk_first(inside, joined, parsed, input),
+    }
+}
+
+// Reads steps that may be missing.
+#[cycle(walk)]
+#[inline(always)]
+#[tactic(auto, unfolding(time_record::specs::Reading::Reads))]
+fn walk_optional<'a>(
+    inside: &[Step],
+    joined: &[Joined],
+    parsed: &mut Parsed,
+    input: &'a [u8],
+) -> Result<&'a [u8], ParseFromDescription>
+    requires fits { Fits joined.now inside.now }
+    requires each { length joined.now ≡ length inside.now }
+    ensures { Tells greatest_year (optional (steps_shape inside.now)) input.now parsed.old result parsed.new }
+{
+    let before = *parsed;
+    match walk_list(inside, joined, parsed, input) {
+        Ok(rest) => Ok(rest),
+        Err(_) => {
+            *parsed = before;
+            Ok(input)
+        }
+    }
+}
+
+// Reads the first item that reads. Where none does, the fault is the first one's, and the record as it was.
+#[cycle(walk)]
+fn walk_first<'a>(
+    steps: &[Step],
+    joined: &[Joined],
+    parsed: &mut Parsed,
+    input: &'a [u8],
+) -> Result<&'a [u8], ParseFromDescription>
+    requires fits { Fits joined.now steps.now }
+    requires each { length joined.now ≡ length steps.now }
+    ensures { Tells greatest_year (first_of (steps_trees steps.now)) input.now parsed.old result parsed.new }
+{
+    let before = *parsed;
+    let mut first_fault = None;
+    let mut left = steps;
+    let mut left_joined = joined;
+    while let [step, behind @ ..] = left {
+        let count = 1 + item_len(step, behind);
+        let (item, after) = left.split_at(count);
+        let (item_joined, after_joined) = left_joined.split_at(count);
+        match walk_list(item, item_joined, parsed, input) {
+            Ok(rest) => return Ok(rest),
+            Err(fault) => first_fault = first_fault.or(Some(fault)),
+        }
+        *parsed = before;
+        left = after;
+        left_joined = after_joined;
+    }
+    match first_fault {
+        Some(fault) => Err(fault),
+        None => Ok(input),
+    }
+}
+
+// How many of the steps behind this one belong to its item.
+#[inline(always)]
+fn item_len(step: &Step, behind: &[Step]) -> usize
+    ensures len { result ≡ item_length step.now behind.now }
+    ensures within { result ≤ length behind.now }
+{
+    match step {
+        Step::Literal(_) | Step::More(_) => further_len(behind),
+        Step::Component(_) => 0,
+        Step::Group(_, len) => (*len).min(behind.len()),
+    }
+}
+
+// How many of the steps in front are further bytes of a literal.
+fn further_len(steps: &[Step]) -> usize
+    ensures len { result ≡ length (further steps.now) }
+    ensures within { result ≤ length steps.now }
+{
+    let [step, behind @ ..] = steps else {
+        return 0;
+    };
+    match step {
+        Step::More(_) => 1 + further_len(behind),
+        _ => 0,
+    }
+}

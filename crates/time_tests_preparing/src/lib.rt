@@ -1,0 +1,5 @@
+//! Tests of prepared descriptions.
+#![tactic(auto)]
+
+#[cfg(test)]
+mod tests;

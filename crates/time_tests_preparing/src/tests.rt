@@ -1,0 +1,30 @@
+//! What a prepared description answers: worked values, and the same as the walk over its steps.
+mod alike;
+mod worked;
+
+use std::test::Fail;
+use time_descriptions::{Description, parse_borrowed};
+use time_preparing::Prepared;
+
+/// A description with its prepared one.
+#[derive(Drop)]
+pub struct Both {
+    /// As it was read.
+    pub description: Description<64>,
+    /// The same, prepared.
+    pub prepared: Prepared<64>,
+}
+
+/// The description of that text, as it was read and prepared.
+pub fn read(text: &[u8]) -> Result<Both, Fail> {
+    let Ok(description) = parse_borrowed::<2, 64>(text) else {
+        return Err("no description".into());
+    };
+    match Prepared::from_steps(description.steps()) {
+        Some(prepared) => Ok(Both {
+            description,
+            prepared,
+        }),
+        None => Err("too long".into()),
+    }
+}

@@ -6,3 +6,8 @@ pub mod TurnSteps
 pub mod ChoiceSteps
 pub mod Places
 pub mod StepRows
+pub mod RankedPlaces
+pub mod Rfc3339Places
+pub mod PlaceSteps
+pub mod WholeTexts
+pub mod MailParts

@@ -1,7 +1,11 @@
+pub mod ByPlaces
 pub mod Laws
 pub mod Located
+pub mod MailPlaces
 pub mod Misses
 pub mod Nodes
+pub mod Rfc2822
+pub mod Rfc3339
 pub mod Shown
 pub mod StepRows
 pub mod exact

@@ -1,5 +1,5 @@
 -- Where a text is refused, over what a format reads and the place of a text that it doesn't read whole.
-use Rattle.std.specs.Prelude.{◌≡◌, ℕ, ◌+◌, ◌-◌, List, [], length, Option, Some, None}
+use Rattle.std.specs.Prelude.{◌≡◌, ℕ, ◌+◌, ◌-◌, List, [], ◌∷◌, length, Option, Some, None}
 use Rattle.time_record.specs.Record.{Record}
 use Rattle.time_parsing.specs.Outcome.{Reading}
 use Rattle.time_locating.specs.Misses.{Wanted, these_bytes, named, the_end, Miss, missed}
@@ -43,6 +43,11 @@ seen_place (Some at) = Some (missed at.index (wants at.expected))
 abbrev pub place_in : ℕ → Option Miss → Option Miss
 place_in all None = None
 place_in all (Some m) = Some (missed (all - m.left) m.wanted)
+
+-- what is answered where these bytes remain of so many after all that is read
+abbrev pub end_of : ℕ → List ℕ → Option Miss
+end_of all [] = None
+end_of all (b ∷ rest) = Some (missed (all - length (b ∷ rest)) the_end)
 
 -- a text has one answer
 abbrev pub OneAnswer : Reading → Locating → Type 0

@@ -7,6 +7,8 @@ pub mod laws;
 mod locate;
 mod located;
 mod miss;
+mod rfc2822;
+mod rfc3339;
 mod walk;
 
 pub use locate::Locate;

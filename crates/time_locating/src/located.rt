@@ -1,4 +1,6 @@
 //! Where a text is refused.
+ghost use Rattle.std.specs.Prelude.{◌≡◌, ◌≤◌, length};
+ghost use Rattle.time_locating.specs.Located.{end_of, seen_place};
 ghost use Rattle.time_locating.specs.Shown.{expected_text};
 
 use std::fmt;
@@ -35,4 +37,18 @@ pub struct Located<'a> {
     pub index: usize,
     /// What was expected there.
     pub expected: Expected<'a>,
+}
+
+/// Where a text goes wrong of which these bytes remain, or `None` where none do.
+pub(crate) fn after_all<'a>(rest: &[u8], input: &[u8]) -> Option<Located<'a>>
+    requires { length rest.now ≤ length input.now }
+    ensures { seen_place result ≡ end_of (length input.now) rest.now }
+{
+    if rest.is_empty() {
+        return None;
+    }
+    Some(Located {
+        index: input.len() - rest.len(),
+        expected: Expected::End,
+    })
 }

@@ -4,4 +4,6 @@
 mod cuts;
 mod described;
 mod items;
+mod rfc2822;
+mod rfc3339;
 mod shown;

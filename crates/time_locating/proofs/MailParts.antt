@@ -1,0 +1,128 @@
+-- What is left after the places of a mail date.
+use Rattle.std.proofs.Common.{◌≡◌, ◌≢◌, ℕ, zero, suc, ◌+◌, ◌<◌, ◌≤◌, List, [], ◌∷◌, ◌++◌, length, drop, get_or, refl, ap, sym, ◌∙◌, subst, arith, true, false, Bool, Option, Some, None, is_some, option_copied, Bor, drop-cons}
+use Rattle.std.proofs.lemmas.Option.{same_Some, none-some}
+use Rattle.time_values.specs.declared.weekday.Weekday.{Weekday}
+use Rattle.time_digits.specs.Cuts.{Cut, NoCut}
+use Rattle.time_digits.specs.Digits.{IsDigitRun}
+use Rattle.time_digits.proofs.CutLemmas.{IsUnique-cut}
+use Rattle.time_digits.proofs.Runs.{IsDigitRun-one}
+use Rattle.time_readers.specs.Places.{Stand}
+use Rattle.time_readers.specs.Rfc2822.{Asks, FailsAt, IsWeekdayPart, IsYear, nothing_read, places}
+use Rattle.time_readers.specs.declared.rfc2822.Numbers.{Numbers}
+use Rattle.time_readers.specs.declared.rfc2822.Place.{Place}
+use Rattle.time_readers.specs.declared.rfc2822.Place.TheVariants.{WeekdayName, Day, DayBlanks, MonthName, MonthBlanks, Year, YearBlanks, Hour, HourColon, Minute, Second, TimeBlanks, OffsetHour, OffsetMinute, EndBlanks}
+use Rattle.time_readers.proofs.OneMailDate.{MailAsks-unique}
+use Rattle.time_locating.specs.MailPlaces.{Agrees, rank}
+use Rattle.time_locating.specs.declared.rfc2822.Passed.{Passed}
+use Rattle.time_locating.proofs.RankedPlaces.{RankedFrom, rank-before}
+
+pub day_same : (s x y : List ℕ) (v w : ℕ) → Cut (IsDigitRun 1 2) s x v → Cut (IsDigitRun 1 2) s y w → x ≡ y
+day_same s x y v w p q = (IsUnique-cut (IsDigitRun 1 2) (IsDigitRun-one 1 2) s x y v w p q).0
+
+pub weekday_same : (s x y : List ℕ) (v w : Option Weekday) → Cut IsWeekdayPart s x v → Cut IsWeekdayPart s y w → x ≡ y
+weekday_same s x y v w p q =
+    let one = record nothing_read { weekday = v } in
+    let other = record nothing_read { weekday = w } in
+    (MailAsks-unique true WeekdayName nothing_read s x y one other (p.0, p.1, (v, p.2, refl)) (q.0, q.1, (w, q.2, refl))).0
+
+-- four digits stand, so the year has four
+pub year_full : (s x rest : List ℕ) (w v : ℕ) (full : Bool) → Cut (IsDigitRun 4 4) s x w → Cut (IsYear full) s rest v → (x ≡ rest) × (true ≡ full)
+year_full s x rest w v true four cut =
+    ((IsUnique-cut (IsDigitRun 4 4) (IsDigitRun-one 4 4) s x rest w v four (cut.0, cut.1, cut.2.0)).0, refl)
+year_full s x rest w v false four cut = absurd (cut.2.0 four.0 x w (sym cut.1 ∙ four.1) four.2)
+
+-- what a place asks that is another's
+pub asked : (n m : Numbers) (s rest : List ℕ) (p q : Place) → p ≡ q → Cut (Asks true p n) s rest m → Cut (Asks true q n) s rest m
+asked n m s rest p q is = subst (λ x. Cut (Asks true x n) s rest m) is
+
+-- a place that says nothing of those after it
+pub kept : (n m k : Numbers) (passed : Passed) → m ≡ k → k.year_is_full ≡ n.year_is_full → is_some k.offset_sign ≡ is_some n.offset_sign
+    → Agrees n passed → Agrees m passed
+kept n m k passed is year sign h = (
+  ap (λ (x : Numbers). x.year_is_full) is ∙ year ∙ h.0,
+  ap (λ (x : Numbers). is_some x.offset_sign) is ∙ sign ∙ h.1,
+)
+
+pub rank-below : (p : Place) → rank p < 15
+rank-below WeekdayName = omega arith
+rank-below Day = omega arith
+rank-below DayBlanks = omega arith
+rank-below MonthName = omega arith
+rank-below MonthBlanks = omega arith
+rank-below Year = omega arith
+rank-below YearBlanks = omega arith
+rank-below Hour = omega arith
+rank-below HourColon = omega arith
+rank-below Minute = omega arith
+rank-below Second = omega arith
+rank-below TimeBlanks = omega arith
+rank-below OffsetHour = omega arith
+rank-below OffsetMinute = omega arith
+rank-below EndBlanks = omega arith
+
+RankedFrom-drop : (i k j : ℕ) (ps : List Place) → j ≡ k + i → RankedFrom rank k ps → RankedFrom rank j (drop i ps)
+RankedFrom-drop zero k j ps is h = let same : k ≡ j = omega arith in subst (λ x. RankedFrom rank x ps) same h
+RankedFrom-drop (suc i) k j [] is h = tt
+RankedFrom-drop (suc i) k j (p ∷ ps) is h = RankedFrom-drop i (suc k) j ps (omega arith) h.1
+
+ranked : (i : ℕ) → RankedFrom rank i (drop i places)
+ranked i =
+    RankedFrom-drop i 0 i places (omega arith)
+    (refl, (refl, (refl, (refl, (refl, (refl, (refl, (refl, (refl, (refl, (refl, (refl, (refl, (refl, (refl, tt)))))))))))))))
+
+-- so many of the places are passed, and those that are left stand up to the one that doesn't
+pub record Reached (bytes : List ℕ) (p : Place) (s : FailsAt true bytes p) (i : ℕ) (rest : List ℕ) (passed : Passed) : Type 0 where
+  pub left : List Place
+  pub numbers : Numbers
+  pub ahead : drop i places ≡ left ++ p ∷ s.after
+  pub stand : Stand (Asks true) left numbers rest s.mid s.numbers
+  pub agrees : Agrees numbers passed
+
+pub Reached-start : (bytes : List ℕ) (p : Place) (s : FailsAt true bytes p) (passed : Passed) → Agrees nothing_read passed
+    → Reached bytes p s 0 bytes passed
+Reached-start bytes p s passed h = record {
+  left = s.before;
+  numbers = nothing_read;
+  ahead = s.place;
+  stand = s.stand;
+  agrees = h;
+}
+
+stands_empty : (left : List Place) (n m : Numbers) (rest mid : List ℕ) → length left ≡ 0 → Stand (Asks true) left n rest mid m → rest ≡ mid
+unfolding Stand
+stands_empty [] n m rest mid none stand = sym stand.0
+stands_empty (x ∷ left) n m rest mid none stand = absurd (omega arith)
+
+-- what a place leaves, as it is answered, with what is known then
+abbrev pub Answers : Place → List ℕ → Passed → Option (List ℕ) → Passed → Type 0
+Answers q rest passed found after =
+    (n m : Numbers) (mid : List ℕ) → Agrees n passed → Cut (Asks true q n) rest mid m → (found ≡ Some mid) × Agrees m after
+
+-- the place is reached
+pub Reached-here : (bytes : List ℕ) (p : Place) (s : FailsAt true bytes p) (i : ℕ) (rest : List ℕ) (passed : Passed) → i ≡ rank p
+    → Reached bytes p s i rest passed → rest ≡ s.mid
+Reached-here bytes p s i rest passed is r =
+    let many = rank-before rank i (drop i places) r.left s.after p (ranked i) r.ahead in
+    stands_empty r.left r.numbers s.numbers rest s.mid (omega arith) r.stand
+
+module _ (bytes : List ℕ) (p : Place) (s : FailsAt true bytes p) (i : ℕ) (rest : List ℕ) (passed : Passed) (q : Place) (early : i < rank p) where
+  further_on : (left : List Place) (n : Numbers) → drop i places ≡ q ∷ drop (suc i) places
+      → drop i places ≡ left ++ p ∷ s.after → Stand (Asks true) left n rest s.mid s.numbers → Agrees n passed
+      → (found : Option (List ℕ)) (after : Passed) → Answers q rest passed found after
+      → (mid : List ℕ) × (found ≡ Some mid) × Reached bytes p s (suc i) mid after
+  unfolding Stand
+  further_on [] n here ahead stand h found after step =
+      let many = rank-before rank i (drop i places) [] s.after p (ranked i) ahead in absurd (omega arith)
+  further_on (x ∷ left) n here ahead stand h found after step =
+      let heads : q ∷ drop (suc i) places ≡ x ∷ (left ++ p ∷ s.after) = sym here ∙ ahead in
+      let same : x ≡ q = cc in
+      let tails : drop (suc i) places ≡ left ++ p ∷ s.after = cc in
+      let found_is = step n stand.1 stand.0 h (asked n stand.1 rest stand.0 x q same stand.2) in
+      (stand.0, found_is.0, record { left = left; numbers = stand.1; ahead = tails; stand = stand.3; agrees = found_is.1 })
+
+  -- the place isn't reached, and the next is passed
+  pub Reached-next : drop i places ≡ q ∷ drop (suc i) places → Reached bytes p s i rest passed
+      → (found : Option (List ℕ)) (after : Passed) → Answers q rest passed found after
+      → (mid : List ℕ) × (found ≡ Some mid) × Reached bytes p s (suc i) mid after
+  Reached-next here r found after step =
+      further_on r.left r.numbers here r.ahead r.stand r.agrees found after step

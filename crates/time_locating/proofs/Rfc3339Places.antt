@@ -1,0 +1,292 @@
+-- How many bytes the places of RFC 3339 take.
+use Rattle.std.proofs.Common.{◌≡◌, ℕ, ◌+◌, ◌≤◌, List, [], ◌∷◌, ◌++◌, length, take, drop, refl, ap, sym, ◌∙◌, subst, inl, inr, arith, true, false, Bool, Option, Some, None, length-append}
+use Rattle.time_digits.specs.Cuts.{Cut, NoCut}
+use Rattle.time_digits.specs.Digits.{AllDigits, IsDigitRun, NoDigitFirst}
+use Rattle.time_digits.proofs.Runs.{AllDigits-unique}
+use Rattle.time_readers.specs.Places.{Stand, StopsAt}
+use Rattle.time_readers.specs.Rfc3339.{Asks, FailsAt, IsOffsetColon, IsOffsetMinute, IsSubsecond, places, nothing_read}
+use Rattle.time_readers.specs.declared.rfc3339.Numbers.{Numbers}
+use Rattle.time_readers.specs.declared.rfc3339.Place.{Place}
+use Rattle.time_readers.specs.declared.rfc3339.Place.TheVariants.{Year, YearDash, Month, MonthDash, Day, Separator, Hour, HourColon, Minute, MinuteColon, Second, Subsecond, OffsetHour, OffsetColon, OffsetMinute}
+use Rattle.std.proofs.lemmas.List.{drop_at, length-take-le, take-append-drop}
+use Rattle.time_readers.proofs.Walking.{Stand-ends, Stand-split}
+use Rattle.time_locating.proofs.RankedPlaces.{stands-before}
+
+-- where it stands among the places
+abbrev pub rank : Place → ℕ
+rank Year = 0
+rank YearDash = 1
+rank Month = 2
+rank MonthDash = 3
+rank Day = 4
+rank Separator = 5
+rank Hour = 6
+rank HourColon = 7
+rank Minute = 8
+rank MinuteColon = 9
+rank Second = 10
+rank Subsecond = 11
+rank OffsetHour = 12
+rank OffsetColon = 13
+rank OffsetMinute = 14
+
+before : (bytes : List ℕ) (p : Place) (s : FailsAt true bytes p) → Stand (Asks true) (take (rank p) places) nothing_read bytes s.mid s.numbers
+before bytes p s =
+    stands-before (Asks true) rank places nothing_read bytes p
+    (refl, (refl, (refl, (refl, (refl, (refl, (refl, (refl, (refl, (refl, (refl, (refl, (refl, (refl, (refl, tt))))))))))))))) s
+
+-- the texts of places take so many bytes, which are none of those whose length varies
+abbrev Takes : Place → ℕ → Type 0
+Takes Year n = n ≡ 4
+Takes YearDash n = n ≡ 1
+Takes Month n = n ≡ 2
+Takes MonthDash n = n ≡ 1
+Takes Day n = n ≡ 2
+Takes Separator n = n ≡ 1
+Takes Hour n = n ≡ 2
+Takes HourColon n = n ≡ 1
+Takes Minute n = n ≡ 2
+Takes MinuteColon n = n ≡ 1
+Takes Second n = n ≡ 2
+Takes _ n = ⊥
+
+abbrev pub TakeAll : List Place → ℕ → Type 0
+TakeAll [] n = n ≡ 0
+TakeAll (p ∷ ps) n = (k m : ℕ) × Takes p k × TakeAll ps m × (n ≡ k + m)
+
+run_length : (n : ℕ) (text after : List ℕ) (v : ℕ) → IsDigitRun n n text after v → length text ≡ n
+run_length n text after v run = omega (arith, run.enough, run.within)
+
+asks-take : (p : Place) (k : ℕ) (n m : Numbers) (text after : List ℕ) → Takes p k → Asks true p n text after m → length text ≡ k
+asks-take Year k n m text after t a = run_length 4 text after a.0 a.1 ∙ sym t
+asks-take YearDash k n m text after t a = ap length a.0 ∙ sym t
+asks-take Month k n m text after t a = run_length 2 text after a.0 a.1.0 ∙ sym t
+asks-take MonthDash k n m text after t a = ap length a.0 ∙ sym t
+asks-take Day k n m text after t a = run_length 2 text after a.0 a.1.0 ∙ sym t
+asks-take Separator k n m text after t a = a.0 ∙ sym t
+asks-take Hour k n m text after t a = run_length 2 text after a.0 a.1.0 ∙ sym t
+asks-take HourColon k n m text after t a = ap length a.0 ∙ sym t
+asks-take Minute k n m text after t a = run_length 2 text after a.0 a.1.0 ∙ sym t
+asks-take MinuteColon k n m text after t a = ap length a.0 ∙ sym t
+asks-take Second k n m text after t a = run_length 2 text after a.0 a.1.0 ∙ sym t
+asks-take Subsecond k n m text after t a = absurd t
+asks-take OffsetHour k n m text after t a = absurd t
+asks-take OffsetColon k n m text after t a = absurd t
+asks-take OffsetMinute k n m text after t a = absurd t
+
+stand-take : (ps : List Place) (k : ℕ) (n m : Numbers) (bytes rest : List ℕ) → TakeAll ps k → Stand (Asks true) ps n bytes rest m
+    → k + length rest ≡ length bytes
+unfolding Stand
+stand-take [] k n m bytes rest t s = let same = ap length s.0 in omega (arith, t)
+stand-take (p ∷ ps) k n m bytes rest t s =
+    let text = asks-take p t.0 n s.1 s.2.0 s.0 t.2 s.2.2 in
+    let others = stand-take ps t.1 s.1 m s.0 rest t.3 s.3 in
+    let cut = ap length s.2.1 ∙ length-append s.2.0 s.0 in
+    omega (arith, t.4)
+
+-- the place that doesn't stand begins after so many bytes
+pub fixed : (bytes : List ℕ) (p q : Place) (k : ℕ) → p ≡ q → TakeAll (take (rank q) places) k → (s : FailsAt true bytes p)
+    → k + length s.mid ≡ length bytes
+fixed bytes p q k is t s =
+    let all = subst (λ x. TakeAll (take (rank x) places) k) (sym is) t in
+    stand-take (take (rank p) places) k nothing_read s.numbers bytes s.mid all (before bytes p s)
+
+to_second : TakeAll (take 11 places) 19
+to_second = (
+  4,
+  15,
+  refl,
+  (
+    1,
+    14,
+    refl,
+    (
+      2,
+      12,
+      refl,
+      (
+        1,
+        11,
+        refl,
+        (
+          2,
+          9,
+          refl,
+          (
+            1,
+            8,
+            refl,
+            (
+              2,
+              6,
+              refl,
+              (
+                1,
+                5,
+                refl,
+                (
+                  2,
+                  3,
+                  refl,
+                  (
+                    1,
+                    2,
+                    refl,
+                    (2, 0, refl, refl, refl),
+                    refl,
+                  ),
+                  refl,
+                ),
+                refl,
+              ),
+              refl,
+            ),
+            refl,
+          ),
+          refl,
+        ),
+        refl,
+      ),
+      refl,
+    ),
+    refl,
+  ),
+  refl,
+)
+
+-- how many bytes a fraction takes
+abbrev pub IsFractionLength : List ℕ → ℕ → Type 0
+IsFractionLength bytes k = (text rest : List ℕ) (v : Option ℕ) → bytes ≡ text ++ rest → IsSubsecond text rest v → k ≡ length text
+
+fraction_digits : (digits text rest : List ℕ) (v : Option ℕ) (k : ℕ) → k ≤ length digits → AllDigits (take k digits)
+    → NoDigitFirst (drop k digits) → 46 ∷ digits ≡ text ++ rest → IsSubsecond text rest v → 1 + k ≡ length text
+fraction_digits digits text [] None k within all ends cut (is, point) =
+    let clash : 46 ∷ digits ≡ [] = cut ∙ ap (λ t. t ++ []) is in cc
+fraction_digits digits text (c ∷ rest) None k within all ends cut (is, point) =
+    let heads : 46 ∷ digits ≡ c ∷ rest = cut ∙ ap (λ t. t ++ c ∷ rest) is in absurd (point (cc))
+fraction_digits digits text rest (Some v) k within all ends cut (more, is, run) =
+    let heads : 46 ∷ digits ≡ 46 ∷ (more ++ rest) = cut ∙ ap (λ t. t ++ rest) is in
+    let tails : digits ≡ more ++ rest = cc in
+    let same = AllDigits-unique (take k digits) more (drop k digits) rest all run.digits (take-append-drop k digits ∙ tails) ends run.ends in
+    let long = ap length same.0 in
+    let whole = ap length is in
+    omega (arith, length-take-le k digits within)
+
+-- a point and the digits after it
+pub fraction_len-point : (bytes digits : List ℕ) (k : ℕ) → bytes ≡ 46 ∷ digits → k ≤ length digits → AllDigits (take k digits)
+    → NoDigitFirst (drop k digits) → IsFractionLength bytes (1 + k)
+fraction_len-point bytes digits k is within all ends text rest v cut form =
+    fraction_digits digits text rest v k within all ends (sym is ∙ cut) form
+
+-- no point
+pub fraction_len-none : (bytes : List ℕ) → ((rest : List ℕ) → bytes ≡ 46 ∷ rest → ⊥) → IsFractionLength bytes 0
+fraction_len-none bytes none text rest None cut form = sym (ap length form.0)
+fraction_len-none bytes none text rest (Some v) cut form = absurd (none (form.0 ++ rest) (cut ∙ ap (λ t. t ++ rest) form.1))
+
+-- what stands after the second
+record AfterSecond (bytes mid : List ℕ) : Type 0 where
+  text : List ℕ
+  subsecond : Option ℕ
+  is : IsSubsecond text mid subsecond
+  whole : 19 + length (text ++ mid) ≡ length bytes
+  tail : drop 19 bytes ≡ text ++ mid
+
+after_second : (n m : Numbers) (bytes mid : List ℕ) → Stand (Asks true) (take 12 places) nothing_read bytes mid m → AfterSecond bytes mid
+unfolding Stand
+after_second n m bytes mid s =
+    let parts = Stand-split (Asks true) (take 11 places) (Subsecond ∷ []) nothing_read m bytes mid s in
+    let ends = Stand-ends (Asks true) (take 11 places) nothing_read parts.1.0 bytes parts.0 parts.1.1 in
+    let long = stand-take (take 11 places) 19 nothing_read parts.1.0 bytes parts.0 to_second parts.1.1 in
+    let sub = parts.1.2 in
+    let cut = sub.2 in
+    let after : sub.0 ≡ mid = sym sub.3.0 in
+    let here : parts.0 ≡ cut.0 ++ mid = cut.1 ∙ ap (λ t. cut.0 ++ t) after in
+    let front : length ends.0 ≡ 19 = omega (arith, ap length ends.1 ∙ length-append ends.0 parts.0) in
+    record {
+      text = cut.0;
+      subsecond = cut.2.0;
+      is = subst (λ t. IsSubsecond cut.0 t cut.2.0) after cut.2.1;
+      whole = subst (λ t. 19 + length t ≡ length bytes) here long;
+      tail = ap (drop 19) ends.1 ∙ drop_at ends.0 parts.0 19 front ∙ here;
+    }
+
+offset_hour : (n k : Numbers) (bytes mid : List ℕ) → Cut (Asks true OffsetHour n) bytes mid k → (k.is_utc ≡ true → ⊥)
+    → length bytes ≡ 3 + length mid
+offset_hour n k bytes mid (text, is, inl zulu) signed = absurd (signed (ap (λ (x : Numbers). x.is_utc) zulu.1))
+offset_hour n k bytes mid (text, is, inr hour) signed =
+    let whole = ap length is ∙ length-append text mid in
+    let cut = ap length hour.cut in
+    let run = run_length 2 hour.digits mid hour.hour hour.run.0 in
+    omega arith
+
+colon_stands : (n : Numbers) (bytes : List ℕ) → NoCut (Asks true OffsetColon n) bytes → n.is_utc ≡ true → ⊥
+colon_stands n bytes none is = none [] bytes n refl (subst (λ b. IsOffsetColon b []) (sym is) refl, refl)
+
+minute_stands : (n : Numbers) (bytes : List ℕ) → NoCut (Asks true OffsetMinute n) bytes → n.is_utc ≡ true → ⊥
+minute_stands n bytes none is =
+    none [] bytes n refl (subst (λ b. IsOffsetMinute true b n [] bytes n) (sym is) (refl, refl))
+
+colon_length : (u : Bool) (text : List ℕ) → (u ≡ true → ⊥) → IsOffsetColon u text → length text ≡ 1
+colon_length true text signed is = absurd (signed refl)
+colon_length false text signed is = ap length is
+
+-- the bytes after the second, where a fraction of so many bytes stands first
+abbrev pub AfterFraction : List ℕ → ℕ → Type 0
+AfterFraction bytes fraction = 19 ≤ length bytes → IsFractionLength (drop 19 bytes) fraction
+
+past_fraction : (bytes mid : List ℕ) (fraction : ℕ) → AfterFraction bytes fraction → AfterSecond bytes mid → 19 + fraction + length mid ≡ length bytes
+past_fraction bytes mid fraction len a =
+    let whole = a.whole in
+    let text = len (omega arith) a.text mid a.subsecond a.tail a.is in
+    omega (arith, length-append a.text mid)
+
+offset_hour_at : (bytes : List ℕ) (fraction : ℕ) → AfterFraction bytes fraction → (s : FailsAt true bytes OffsetHour)
+    → 19 + fraction + 0 + length s.mid ≡ length bytes
+offset_hour_at bytes fraction len s =
+    omega (arith, past_fraction bytes s.mid fraction len (after_second nothing_read s.numbers bytes s.mid (before bytes OffsetHour s)))
+
+offset_colon_at : (bytes : List ℕ) (fraction : ℕ) → AfterFraction bytes fraction → (s : FailsAt true bytes OffsetColon)
+    → 19 + fraction + 3 + length s.mid ≡ length bytes
+unfolding Stand
+offset_colon_at bytes fraction len s =
+    let parts = Stand-split (Asks true) (take 12 places) (OffsetHour ∷ []) nothing_read s.numbers bytes s.mid (before bytes OffsetColon s) in
+    let hour = parts.1.2 in
+    let after : hour.0 ≡ s.mid = sym hour.3.0 in
+    let numbers : hour.1 ≡ s.numbers = sym hour.3.1 in
+    let signed = λ (is : hour.1.is_utc ≡ true). colon_stands s.numbers s.mid s.stops (ap (λ (x : Numbers). x.is_utc) (sym numbers) ∙ is) in
+    let long = offset_hour parts.1.0 hour.1 parts.0 hour.0 hour.2 signed in
+    let same = ap length after in
+    omega (arith, past_fraction bytes parts.0 fraction len (after_second nothing_read parts.1.0 bytes parts.0 parts.1.1))
+
+offset_minute_at : (bytes : List ℕ) (fraction : ℕ) → AfterFraction bytes fraction → (s : FailsAt true bytes OffsetMinute)
+    → 19 + fraction + 4 + length s.mid ≡ length bytes
+unfolding Stand
+offset_minute_at bytes fraction len s =
+    let parts = Stand-split (Asks true) (take 12 places) (OffsetHour ∷ OffsetColon ∷ []) nothing_read s.numbers bytes s.mid (before bytes OffsetMinute s) in
+    let hour = parts.1.2 in
+    let colon = hour.3 in
+    let after : colon.0 ≡ s.mid = sym colon.3.0 in
+    let numbers : colon.1 ≡ s.numbers = sym colon.3.1 in
+    let same : s.numbers ≡ hour.1 = sym numbers ∙ colon.2.2.1 in
+    let signed = λ (is : hour.1.is_utc ≡ true). minute_stands s.numbers s.mid s.stops (ap (λ (x : Numbers). x.is_utc) same ∙ is) in
+    let long = offset_hour parts.1.0 hour.1 parts.0 hour.0 hour.2 signed in
+    let one = colon_length hour.1.is_utc colon.2.0 signed colon.2.2.0 in
+    let whole = ap length colon.2.1 ∙ length-append colon.2.0 colon.0 in
+    let end = ap length after in
+    omega (arith, past_fraction bytes parts.0 fraction len (after_second nothing_read parts.1.0 bytes parts.0 parts.1.1))
+
+-- the same of a place that is one of those
+pub at_offset_hour : (bytes : List ℕ) (fraction : ℕ) → AfterFraction bytes fraction → (p : Place) → p ≡ OffsetHour → (s : FailsAt true bytes p)
+    → 19 + fraction + 0 + length s.mid ≡ length bytes
+at_offset_hour bytes fraction len p is =
+    subst (λ x. (s : FailsAt true bytes x) → 19 + fraction + 0 + length s.mid ≡ length bytes) (sym is) (offset_hour_at bytes fraction len)
+
+pub at_offset_colon : (bytes : List ℕ) (fraction : ℕ) → AfterFraction bytes fraction → (p : Place) → p ≡ OffsetColon → (s : FailsAt true bytes p)
+    → 19 + fraction + 3 + length s.mid ≡ length bytes
+at_offset_colon bytes fraction len p is =
+    subst (λ x. (s : FailsAt true bytes x) → 19 + fraction + 3 + length s.mid ≡ length bytes) (sym is) (offset_colon_at bytes fraction len)
+
+pub at_offset_minute : (bytes : List ℕ) (fraction : ℕ) → AfterFraction bytes fraction → (p : Place) → p ≡ OffsetMinute → (s : FailsAt true bytes p)
+    → 19 + fraction + 4 + length s.mid ≡ length bytes
+at_offset_minute bytes fraction len p is =
+    subst (λ x. (s : FailsAt true bytes x) → 19 + fraction + 4 + length s.mid ≡ length bytes) (sym is) (offset_minute_at bytes fraction len)

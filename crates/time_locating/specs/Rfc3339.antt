@@ -1,0 +1,22 @@
+-- The place of a text that RFC 3339 refuses.
+use Rattle.std.specs.Prelude.{true, codes}
+use Rattle.time_readers.specs.Rfc3339.{Asks, places, nothing_read, fault}
+use Rattle.time_readers.specs.declared.rfc3339.Place.{Place}
+use Rattle.time_readers.specs.declared.rfc3339.Place.TheVariants.{YearDash, MonthDash, HourColon, MinuteColon, OffsetColon}
+use Rattle.time_locating.specs.ByPlaces.{LocatesPlace}
+use Rattle.time_locating.specs.Located.{Locating}
+use Rattle.time_locating.specs.Misses.{Wanted, these_bytes, wanted_of}
+
+-- what is wanted at a place: the byte that is fixed there, or else the component that its refusal names
+abbrev pub wanted_at : Place → Wanted
+wanted_at YearDash = these_bytes (codes "-")
+wanted_at MonthDash = these_bytes (codes "-")
+wanted_at HourColon = these_bytes (codes ":")
+wanted_at MinuteColon = these_bytes (codes ":")
+wanted_at OffsetColon = these_bytes (codes ":")
+wanted_at p = wanted_of (fault p)
+
+-- The first of the fifteen places that doesn't have its form or whose number is out of its range, whatever the record;
+-- or else the end.
+abbrev pub Locates : Locating
+Locates bytes r m = LocatesPlace (Asks true) places nothing_read wanted_at bytes m

@@ -1,0 +1,12 @@
+-- A text has one place by RFC 2822. `Y` is the greatest year.
+use Rattle.std.proofs.Common.{ℕ, true}
+use Rattle.time_readers.specs.Rfc2822.{Asks, places, nothing_read}
+use Rattle.time_readers.proofs.OneMailDate.{MailAsks-unique}
+use Rattle.time_parsing.specs.Rfc2822.{Reads}
+use Rattle.time_locating.specs.Located.{IsExactPlace}
+use Rattle.time_locating.specs.Rfc2822.{Locates, wanted_at}
+use Rattle.time_locating.specs.exact.PlaceLaws.{place_exact}
+
+pub rfc2822_exact_place : (Y : ℕ) → IsExactPlace (Reads Y) Locates
+rfc2822_exact_place Y =
+    place_exact (Asks true) (MailAsks-unique true) places nothing_read wanted_at (Reads Y) (λ b r q h. (h.0, h.1))

@@ -1,0 +1,218 @@
+//! Where a text is refused by RFC 2822.
+ghost use Rattle.std.specs.Prelude.{◌≡◌, ℕ, ◌++◌, Bool, true, List, length, Option, Some, is_some, option_map};
+ghost use Rattle.std.specs.Option.{option_copied};
+ghost use Rattle.time_values.specs.Range.{greatest_year};
+ghost use Rattle.time_values.specs.declared.weekday.Weekday.{Weekday};
+ghost use Rattle.time_digits.specs.Cuts.{Cut};
+ghost use Rattle.time_digits.specs.Digits.{IsDigitRun};
+ghost use Rattle.time_readers.specs.Rfc2822.{Asks, FailsAt, IsSecond, IsWeekdayPart, IsYear};
+ghost use Rattle.time_readers.specs.declared.rfc2822.Numbers.{Numbers};
+ghost use Rattle.time_readers.specs.declared.rfc2822.Place.TheVariants as place;
+ghost use Rattle.time_locating.specs.MailPlaces.{Agrees, rank};
+ghost use Rattle.time_locating.specs.Located.{wants};
+ghost use Rattle.time_locating.specs.Rfc2822.{wanted_at};
+
+use crate::located::after_all;
+use crate::miss::wanted_of;
+use crate::{Expected, Locate, Located};
+use time_parsing::Rfc2822;
+use time_readers::combinator::{ascii_char, four_digits, one_or_two_digits};
+use time_readers::component::parse_weekday_short;
+use time_readers::rfc2822::{
+    Place, cfws, fws, opt_cfws, opt_cfws_colon_opt_cfws, place_fault, read, zone_literal,
+};
+use time_readers::{ParsedItem, modifier};
+use time_record::Parsed;
+
+// The places in order.
+const PLACES: [Place; 15] = [
+    Place::WeekdayName,
+    Place::Day,
+    Place::DayBlanks,
+    Place::MonthName,
+    Place::MonthBlanks,
+    Place::Year,
+    Place::YearBlanks,
+    Place::Hour,
+    Place::HourColon,
+    Place::Minute,
+    Place::Second,
+    Place::TimeBlanks,
+    Place::OffsetHour,
+    Place::OffsetMinute,
+    Place::EndBlanks,
+];
+
+// What is expected at a place.
+fn expected_at(place: Place) -> Expected<'static>
+    ensures { wants result ≡ wanted_at place }
+{
+    match place {
+        Place::WeekdayName => Expected::Literal(b","),
+        Place::DayBlanks | Place::MonthBlanks | Place::YearBlanks | Place::TimeBlanks => {
+            Expected::Literal(b" ")
+        }
+        Place::HourColon => Expected::Literal(b":"),
+        _ => wanted_of(place_fault(place)),
+    }
+}
+
+// What the places that are passed say of those after them.
+#[derive(Clone, Copy)]
+struct Passed {
+    // Whether the year has four digits.
+    year_is_full: bool,
+    // Whether the offset has a sign, and isn't a zone name.
+    offset_has_sign: bool,
+}
+
+// What is left after blanks, where they are read.
+fn past_blanks(found: Option<ParsedItem<'_, ()>>) -> Option<&[u8]>
+    ensures { option_copied result ≡ option_map (λ p. p.0.now) found.entry }
+{
+    Some(found?.0)
+}
+
+// What is left after so many bytes.
+fn past_bytes(input: &[u8], count: usize) -> Option<&[u8]>
+    ensures { (text rest : List ℕ) → input.now ≡ text ++ rest → length text ≡ count → option_copied result ≡ Some rest }
+{
+    input.get(count..)
+}
+
+// What is left after the weekday's part.
+fn past_weekday(input: &[u8]) -> Option<&[u8]>
+    ensures { (rest : List ℕ) (v : Option Weekday) → Cut IsWeekdayPart input.now rest v → option_copied result ≡ Some rest }
+{
+    let rest = opt_cfws(input).0;
+    let any_case = modifier::WeekdayShort {
+        case_sensitive: false,
+    };
+    match parse_weekday_short(rest, any_case) {
+        Some(name) => {
+            let comma = ascii_char::<b','>(name.0)?;
+            Some(opt_cfws(comma.0).0)
+        }
+        None => Some(rest),
+    }
+}
+
+// What is left after a day.
+fn past_day(input: &[u8]) -> Option<&[u8]>
+    ensures { (rest : List ℕ) (v : ℕ) → Cut (IsDigitRun 1 2) input.now rest v → option_copied result ≡ Some rest }
+{
+    let found = one_or_two_digits(input)?;
+    Some(found.0)
+}
+
+// What is left after a year, and whether it has four digits.
+fn past_year(input: &[u8]) -> (Option<&[u8]>, bool)
+    ensures { (full : Bool) (rest : List ℕ) (v : ℕ) → Cut (IsYear full) input.now rest v
+        → (option_copied result.0 ≡ Some rest) × (result.1 ≡ full) }
+{
+    match four_digits(input) {
+        Some(found) => (Some(found.0), true),
+        None => (past_bytes(input, 2), false),
+    }
+}
+
+// What is left after a second or nothing.
+fn past_second(input: &[u8]) -> Option<&[u8]>
+    ensures { (rest : List ℕ) (v : Option ℕ) → Cut (IsSecond true) input.now rest v → option_copied result ≡ Some rest }
+{
+    match opt_cfws_colon_opt_cfws(input) {
+        Some(colon) => past_bytes(colon.0, 2),
+        None => Some(input),
+    }
+}
+
+// What is left after a zone name, or a sign and an hour, and whether there is a sign.
+fn past_offset_hour(input: &[u8]) -> (Option<&[u8]>, bool)
+    ensures { (n m : Numbers) (rest : List ℕ) → Cut (Asks true place.OffsetHour n) input.now rest m
+        → (option_copied result.0 ≡ Some rest) × (result.1 ≡ is_some m.offset_sign) }
+{
+    match zone_literal(input) {
+        Some(zone) => (Some(zone.0), false),
+        None => (past_bytes(input, 3), true),
+    }
+}
+
+// What is left after a place that stands there.
+fn past<'a>(place: Place, input: &'a [u8], passed: &mut Passed) -> Option<&'a [u8]>
+    ensures { (n m : Numbers) (rest : List ℕ) → Agrees n passed.old → Cut (Asks true place n) input.now rest m
+        → (option_copied result ≡ Some rest) × Agrees m passed.new }
+{
+    match place {
+        Place::WeekdayName => past_weekday(input),
+        Place::Day => past_day(input),
+        Place::DayBlanks | Place::MonthBlanks | Place::TimeBlanks => past_blanks(cfws(input)),
+        Place::MonthName => past_bytes(input, 3),
+        Place::Year => {
+            let (rest, is_full) = past_year(input);
+            passed.year_is_full = is_full;
+            rest
+        }
+        Place::YearBlanks => {
+            if passed.year_is_full {
+                past_blanks(fws(input))
+            } else {
+                past_blanks(cfws(input))
+            }
+        }
+        Place::Hour | Place::Minute => past_bytes(input, 2),
+        Place::HourColon => past_blanks(opt_cfws_colon_opt_cfws(input)),
+        Place::Second => past_second(input),
+        Place::OffsetHour => {
+            let (rest, has_sign) = past_offset_hour(input);
+            passed.offset_has_sign = has_sign;
+            rest
+        }
+        Place::OffsetMinute => past_bytes(input, if passed.offset_has_sign { 2 } else { 0 }),
+        Place::EndBlanks => Some(opt_cfws(input).0),
+    }
+}
+
+// How many places stand before this one.
+fn places_before(place: Place) -> usize
+    ensures { result ≡ rank place }
+{
+    place as usize
+}
+
+// What is left before the place that doesn't stand, where those before it do.
+fn rest_before<'a>(place: Place, input: &'a [u8]) -> Option<&'a [u8]>
+    ensures { (stop : FailsAt true input.now place) → option_copied result ≡ Some stop.mid }
+{
+    let mut rest = input;
+    let mut passed = Passed {
+        year_is_full: false,
+        offset_has_sign: false,
+    };
+    for before in &PLACES[..places_before(place)] {
+        rest = past(*before, rest, &mut passed)?;
+    }
+    Some(rest)
+}
+
+impl Locate for Rfc2822 {
+    ghost use Rattle.time_locating.specs.Rfc2822.{Locates};
+
+    ghost locates = { λ _. Locates };
+
+    fn locate<'a>(&'a self, input: &[u8], _defaults: Option<Parsed>) -> Option<Located<'a>> {
+        match read::<true>(input) {
+            Ok(found) => after_all(found.0, input),
+            Err(place) => {
+                let rest = rest_before(place, input)?;
+                Some(Located {
+                    index: input.len() - rest.len(),
+                    expected: expected_at(place),
+                })
+            }
+        }
+    }
+
+    ghost use Rattle.time_locating.specs.exact.Rfc2822Laws.{rfc2822_exact_place};
+
+    ghost exact_place = { λ _. rfc2822_exact_place greatest_year };
+}

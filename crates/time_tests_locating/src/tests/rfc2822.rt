@@ -1,0 +1,155 @@
+//! Texts that RFC 2822 refuses. The first place that doesn't have its form, or whose number is out of its range, is told
+//! at the index where it begins, with the blanks and the colon that belong to it. Of `02 Jan 2021 03:04 +0100` the month
+//! begins at 3, the year at 7, the hour at 12, the minute at 15, a second at 17 and the offset at 18.
+use std::test::Fail;
+use time_locating::Expected::{Component, End, Literal};
+use time_locating::{Expected, Locate, Located};
+use time_parsing::{Parsable, Rfc2822};
+
+// A text, the index at which it goes wrong, and what is expected there.
+type Row = (&'static [u8], usize, Expected<'static>);
+
+static PLACES: [Row; 38] = [
+    (b"Sat 02 Jan 2021 03:04 +0100", 0, Literal(b",")),
+    (b" Sat 02 Jan 2021 03:04 +0100", 0, Literal(b",")),
+    (b"Sat, Jan 2021 03:04 +0100", 5, Component("day")),
+    // No weekday begins with `Sut`, so a day should stand first.
+    (b"Sut, 02 Jan 2021 03:04 +0100", 0, Component("day")),
+    (b"32 Jan 2021 03:04 +0100", 0, Component("day")),
+    (b"00 Jan 2021 03:04 +0100", 0, Component("day")),
+    (b"\r\n02 Jan 2021 03:04 +0100", 0, Component("day")),
+    (b"02Jan 2021 03:04 +0100", 2, Literal(b" ")),
+    (b"02 Jna 2021 03:04 +0100", 3, Component("month")),
+    (b"02 Jan2021 03:04 +0100", 6, Literal(b" ")),
+    (b"02 Jan x 03:04 +0100", 7, Component("year")),
+    (b"02 Jan 1899 03:04 +0100", 7, Component("year")),
+    // Four digits don't stand, so the year has two.
+    (b"02 Jan 202 03:04 +0100", 9, Literal(b" ")),
+    (b"02 Jan 202103:04 +0100", 11, Literal(b" ")),
+    // After a year of four digits no comment stands.
+    (b"02 Jan 2021(c)03:04 +0100", 11, Literal(b" ")),
+    (b"02 Jan 2021 (c)03:04 +0100", 12, Component("hour")),
+    (b"02 Jan 2021 24:04 +0100", 12, Component("hour")),
+    (b"02 Jan 2021 3:04 +0100", 12, Component("hour")),
+    (b"02 Jan 2021 03.04 +0100", 14, Literal(b":")),
+    (b"02 Jan 2021 0304 +0100", 14, Literal(b":")),
+    (b"02 Jan 2021 03:60 +0100", 15, Component("minute")),
+    (b"02 Jan 2021 03 : 4 +0100", 17, Component("minute")),
+    (b"02 Jan 2021 03:04:61 +0100", 17, Component("second")),
+    (b"02 Jan 2021 03:04 : 5 +0100", 17, Component("second")),
+    (b"02 Jan 2021 03:04+0100", 17, Literal(b" ")),
+    (b"02 Jan 2021 03:04:05+0100", 20, Literal(b" ")),
+    (b"02 Jan 2021 03:04 0100", 18, Component("offset hour")),
+    (b"02 Jan 2021 03:04 +2600", 18, Component("offset hour")),
+    (b"02 Jan 2021 03:04 XYZ", 18, Component("offset hour")),
+    // No zone is named by `J`.
+    (b"02 Jan 2021 03:04 J", 18, Component("offset hour")),
+    (b"02 Jan 2021 03:04 +0160", 21, Component("offset minute")),
+    (b"02 Jan 2021 03:04 +01:00", 21, Component("offset minute")),
+    (b"02 Jan 2021 03:04 +0100x", 23, End),
+    (b"02 Jan 2021 03:04 GMT+1", 21, End),
+    (b"02 Jan 2021 03:04 +0100  x", 25, End),
+    // A fold without the blank that it needs belongs to no blanks.
+    (b"02 Jan 2021 03:04 +0100 \r\n", 23, End),
+    (b"02 Jan 2021 03:04 +0100)", 23, End),
+    (b"02 Jan 2021 03:04 +0100 (a))", 27, End),
+];
+
+// Comments that don't close. Where blanks had to stand and none do the place is theirs; where a blank stands before the
+// comment it is the next place, at the bracket, or what trails.
+static OPEN: [Row; 9] = [
+    (b"(Sat, 02 Jan 2021 03:04 +0100", 0, Component("day")),
+    (b" (Sat, 02 Jan 2021 03:04 +0100", 1, Component("day")),
+    (b"Sat, (02 Jan 2021 03:04 +0100", 5, Component("day")),
+    (b"02(Jan 2021 03:04 +0100", 2, Literal(b" ")),
+    (b"02 (Jan 2021 03:04 +0100", 3, Component("month")),
+    (b"02 Jan 2021 03 (a : 04 +0100", 14, Literal(b":")),
+    (b"02 Jan 2021 03:04(+0100", 17, Literal(b" ")),
+    (b"02 Jan 2021 03:04 (+0100", 18, Component("offset hour")),
+    (b"02 Jan 2021 03:04 +0100 (a (b)", 24, End),
+];
+
+// `Sat, 02 Jan 2021 03:04:05 +0607` cut off at each byte: where the place begins that the cut is in. A day 0 is none, a
+// year of two digits is one, and the colon of a second belongs to it.
+static BEGINS: [(usize, Expected<'static>); 31] = [
+    (0, Component("day")),
+    (0, Component("day")),
+    (0, Component("day")),
+    (0, Literal(b",")),
+    (4, Component("day")),
+    (5, Component("day")),
+    (5, Component("day")),
+    (7, Literal(b" ")),
+    (8, Component("month")),
+    (8, Component("month")),
+    (8, Component("month")),
+    (11, Literal(b" ")),
+    (12, Component("year")),
+    (12, Component("year")),
+    (14, Literal(b" ")),
+    (14, Literal(b" ")),
+    (16, Literal(b" ")),
+    (17, Component("hour")),
+    (17, Component("hour")),
+    (19, Literal(b":")),
+    (20, Component("minute")),
+    (20, Component("minute")),
+    (22, Literal(b" ")),
+    (22, Component("second")),
+    (22, Component("second")),
+    (25, Literal(b" ")),
+    (26, Component("offset hour")),
+    (26, Component("offset hour")),
+    (26, Component("offset hour")),
+    (29, Component("offset minute")),
+    (29, Component("offset minute")),
+];
+
+fn is_at(found: Option<Located<'_>>, row: &Row) -> bool {
+    let (_, index, expected) = *row;
+    found == Some(Located { index, expected })
+}
+
+#[test]
+fn places(rt: HostRuntime) -> Result<(), Fail> {
+    for row in &PLACES {
+        assert!(rt; is_at(Rfc2822.locate(row.0, None), row), "{:?}", row.0);
+        assert!(rt; Rfc2822.parse_date(row.0, None).is_err(), "{:?}", row.0);
+    }
+    Ok(())
+}
+
+#[test]
+fn open_comments(rt: HostRuntime) -> Result<(), Fail> {
+    for row in &OPEN {
+        assert!(rt; is_at(Rfc2822.locate(row.0, None), row), "{:?}", row.0);
+    }
+    Ok(())
+}
+
+#[test]
+fn cuts(rt: HostRuntime) -> Result<(), Fail> {
+    let text = b"Sat, 02 Jan 2021 03:04:05 +0607";
+    for (length, (index, expected)) in BEGINS.iter().enumerate() {
+        let cut = text.get(..length).ok_or("cut")?;
+        let place = Located {
+            index: *index,
+            expected: *expected,
+        };
+        assert_eq!(rt; Rfc2822.locate(cut, None), Some(place), "{length}");
+    }
+    assert_eq!(rt; Rfc2822.locate(text, None), None);
+    Ok(())
+}
+
+// A text that is read whole has no place, also where the calendar has no such day.
+#[test]
+fn read_whole(rt: HostRuntime) -> Result<(), Fail> {
+    assert_eq!(rt; Rfc2822.locate(b"30 Feb 2021 03:04 +0100", None), None);
+    assert_eq!(rt; Rfc2822.locate(b"2 Jan 21(c)03:04 UT", None), None);
+    assert_eq!(rt;
+        Rfc2822.locate(b"(a) Sat, 02 Jan 2021 03:04 +0100 (b)", None),
+        None
+    );
+    Ok(())
+}

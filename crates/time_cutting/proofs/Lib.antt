@@ -1,0 +1,3 @@
+pub mod TextLemmas
+pub mod QuoteLemmas
+pub mod FieldLemmas

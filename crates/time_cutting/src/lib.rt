@@ -1,0 +1,9 @@
+//! Where the time stands in a line.
+#![tactic(auto)]
+
+mod cuts;
+mod fields;
+mod texts;
+
+pub use cuts::{Cut, Place, find_span, find_time};
+pub use fields::{Fields, Span};

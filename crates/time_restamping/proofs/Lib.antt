@@ -1,0 +1,4 @@
+pub mod Counts
+pub mod ReadingLemmas
+pub mod OneWriting
+pub mod OneVerdict

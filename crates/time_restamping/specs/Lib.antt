@@ -1,0 +1,6 @@
+pub mod Reason
+pub mod Reading
+pub mod Form
+pub mod Naming
+pub mod Job
+pub mod Laws

@@ -1,0 +1,99 @@
+-- How a time is read. `Y` is the greatest year.
+use Rattle.std.specs.Prelude.{◌≡◌, ℕ, ◌-◌, Bool, true, false, ◌&&◌, ◌==◌, List, [], ◌∷◌, length, take, slice_index, if◌then◌else◌, Option, None, Result, Ok, Err, MatchResult}
+use Rattle.std.specs.List.{list_any}
+use Rattle.time_values.specs.Refusal.{Refusal, refusal_of}
+use Rattle.time_values.specs.declared.error.Parse.{Parse}
+use Rattle.time_values.specs.declared.offset_date_time.OffsetDateTime.{OffsetDateTime}
+use Rattle.time_descriptions.specs.Description.{shape}
+use Rattle.time_readers.specs.Direct.{RefusesRfc3339, RefusesRfc2822}
+use Rattle.time_record.specs.Reading as Description
+use Rattle.time_record.specs.Record.{Record}
+use Rattle.time_record.specs.Resolution.{IsMoment}
+use Rattle.time_parsing.specs.Outcome.{Refusing, Path, over_record, direct, begun, IsFront, IsMomentOutcome}
+use Rattle.time_parsing.specs.Outcome as Outcome
+use Rattle.time_parsing.specs.Iso8601 as Iso8601
+use Rattle.time_parsing.specs.Rfc2822 as Rfc2822
+use Rattle.time_parsing.specs.Rfc3339 as Rfc3339
+use Rattle.time_restamping.specs.Reason.{Reason, unread, negative_fraction}
+use Rattle.time_restamping.specs.declared.reading.Reading.{Reading}
+use Rattle.time_restamping.specs.declared.reading.Reading.TheVariants as reading
+use Rattle.time_restamping.specs.declared.reading.Said.{Said}
+
+-- a moment that so many bytes say
+abbrev pub said : OffsetDateTime → ℕ → Said
+said v n = record { moment = v; length = n }
+
+-- a result, with its refusal without where its text lies in memory
+abbrev pub seen_said : Result Said Parse → Result Said Refusal
+seen_said (Ok s) = Ok s
+seen_said (Err e) = Err (refusal_of e)
+
+-- what a whole text says, by the outcome of its parse
+abbrev pub all_of : List ℕ → Result OffsetDateTime Refusal → Result Said Refusal
+all_of text (Ok v) = Ok (said v (length text))
+all_of text (Err e) = Err e
+
+-- what a front of a text says, by the outcome of its parse, which tells what is left
+abbrev pub front_of : List ℕ → Result (OffsetDateTime × List ℕ) Refusal → Result Said Refusal
+front_of text (Ok x) = Ok (said x.0 (length text - length x.1))
+front_of text (Err e) = Err e
+
+-- what a text says by a format: a front of it where it is open, and else the whole of it
+abbrev pub IsReadBy : ℕ → Bool → Path → Outcome.Reading → Refusing → List ℕ → Option Record → Result Said Refusal
+    → Type 0
+IsReadBy Y true path reads refuses text defaults result =
+    (outcome : Result (OffsetDateTime × List ℕ) Refusal)
+    × IsFront (IsMoment Y) reads refuses text (begun defaults) outcome × (result ≡ front_of text outcome)
+IsReadBy Y false path reads refuses text defaults result =
+    (outcome : Result OffsetDateTime Refusal)
+    × IsMomentOutcome Y path reads refuses text defaults outcome × (result ≡ all_of text outcome)
+
+-- The same by any of the formats. A text of RFC 3339 or RFC 2822 says all of a moment, so that defaults don't count.
+abbrev pub IsRead : ℕ → Reading → Bool → List ℕ → Option Record → Result Said Refusal → Type 0
+IsRead Y reading.Rfc3339 is_open text defaults =
+    IsReadBy Y is_open (direct (RefusesRfc3339 Y)) (Rfc3339.Reads Y) (Rfc3339.Refuses Y) text None
+IsRead Y reading.Rfc2822 is_open text defaults =
+    IsReadBy Y is_open (direct (RefusesRfc2822 Y)) (Rfc2822.Reads Y) (Rfc2822.Refuses Y) text None
+IsRead Y reading.Iso8601 is_open text defaults =
+    IsReadBy Y is_open over_record (Iso8601.Reads Y) (Iso8601.Refuses Y) text defaults
+IsRead Y (reading.Described d) is_open text defaults =
+    IsReadBy Y is_open over_record (Description.Reads Y (shape d)) (Description.Refuses Y (shape d)) text defaults
+IsRead Y (reading.Counted d) is_open text defaults =
+    IsReadBy Y is_open over_record (Description.Reads Y (shape d)) (Description.Refuses Y (shape d)) text defaults
+
+-- whether a fraction after a minus is refused
+abbrev pub is_counted : Reading → Bool
+is_counted reading.Rfc3339 = false
+is_counted reading.Rfc2822 = false
+is_counted reading.Iso8601 = false
+is_counted (reading.Described d) = false
+is_counted (reading.Counted d) = true
+
+-- a number begins with a minus, and has a point
+abbrev pub is_negative_fraction : List ℕ → Bool
+is_negative_fraction number = slice_index number 0 == 45 && list_any (λ x. x == 46) number
+
+-- what is refused beside what the format refuses
+abbrev pub guarded : Reading → List ℕ → Result Said Refusal → Result Said Reason
+guarded format text (Ok s) =
+    if is_counted format && is_negative_fraction (take s.length text) then Err negative_fraction else Ok s
+guarded format text (Err e) = Err (unread e)
+
+-- what a text says by a format, or why it says nothing
+abbrev pub Says : ℕ → Reading → Bool → List ℕ → Option Record → Result Said Reason → Type 0
+Says Y format is_open text defaults result =
+    (outcome : Result Said Refusal) × IsRead Y format is_open text defaults outcome
+    × (result ≡ guarded format text outcome)
+
+-- what it says by the first of these formats by which it says something, or else that reason
+abbrev pub AreTried : ℕ → List Reading → Bool → List ℕ → Option Record → Reason → Result Said Reason → Type 0
+AreTried Y [] is_open text defaults reason result = result ≡ Err reason
+AreTried Y (format ∷ formats) is_open text defaults reason result =
+    (first : Result Said Reason) × Says Y format is_open text defaults first
+    × MatchResult first (λ s. result ≡ Ok s) (λ _. AreTried Y formats is_open text defaults reason result)
+
+-- the same, where the reason is that of the first format
+abbrev pub IsReadInTurn : ℕ → Reading → List Reading → Bool → List ℕ → Option Record → Result Said Reason → Type 0
+IsReadInTurn Y format formats is_open text defaults result =
+    (first : Result Said Reason) × Says Y format is_open text defaults first
+    × MatchResult first (λ s. result ≡ Ok s) (λ reason. AreTried Y formats is_open text defaults reason result)

@@ -1,0 +1,119 @@
+//! How a time is written.
+ghost use Rattle.std.specs.Prelude.{◌≡◌, ◌≤◌, length, codes};
+ghost use Rattle.std.specs.Fmt.{signed_decimal};
+ghost use Rattle.time_values.specs.Range.{greatest_year};
+ghost use Rattle.time_restamping.specs.Form as spec;
+ghost use Rattle.time_restamping.specs.Reason.{seen_written};
+
+use crate::reason::Reason;
+use time_values::{OffsetDateTime, Timestamp, UtcOffset};
+use time_writing::{FractionDigits, Text, Unwritable, text_2822, text_3339, text_8601};
+
+/// What is counted since 1970-01-01T00:00:00Z.
+#[derive(Clone, Copy, Debug, PartialEq, Eq)]
+pub enum Unit {
+    /// Whole seconds, rounded down.
+    Seconds,
+    /// Whole milliseconds, rounded down.
+    Milliseconds,
+    /// Whole microseconds, rounded down.
+    Microseconds,
+    /// Nanoseconds.
+    Nanoseconds,
+}
+
+/// The format that a time is written by.
+#[derive(Clone, Copy, Debug, PartialEq, Eq)]
+pub enum Writing {
+    /// RFC 3339.
+    Rfc3339,
+    /// A mail date, RFC 2822, which has no fraction.
+    Rfc2822,
+    /// ISO 8601 with nine digits of a fraction.
+    Iso8601,
+    /// A decimal number of units.
+    Count(Unit),
+}
+
+/// All that says how a time is written.
+#[derive(Clone, Copy, Debug)]
+pub struct Form {
+    /// The format.
+    pub writing: Writing,
+    /// How many digits of a fraction RFC 3339 has.
+    pub digits: FractionDigits,
+    /// The offset at which the time is shown, or `None` for its own.
+    pub offset: Option<UtcOffset>,
+}
+
+// A text, or that there is none.
+fn written(text: Result<Text, Unwritable>) -> Result<Text, Reason>
+    ensures { seen_written result ≡ spec.written text }
+{
+    match text {
+        Ok(text) => Ok(text),
+        Err(why) => Err(Reason::Unwritable(why)),
+    }
+}
+
+// The moment on a clock with the offset, if one is given.
+fn shown(moment: OffsetDateTime, offset: Option<UtcOffset>) -> Option<OffsetDateTime>
+    ensures { spec.IsShown greatest_year offset moment result }
+{
+    match offset {
+        None => Some(moment),
+        Some(offset) => moment.checked_to_offset(offset),
+    }
+}
+
+// A number that has at most 64 bits.
+fn number(count: i64) -> Text
+    ensures { result.items ≡ signed_decimal count }
+{
+    let mut buffer = itoa::Buffer::new();
+    let mut text = Text::new();
+    text.append(buffer.format(count).as_bytes());
+    text
+}
+
+// A number of at most 34 digits.
+fn wide_number(count: i128) -> Text
+    requires { length (signed_decimal count) ≤ 35 }
+    ensures { result.items ≡ signed_decimal count }
+{
+    let mut buffer = itoa::Buffer::new();
+    let mut text = Text::new();
+    text.append(buffer.format(count).as_bytes());
+    text
+}
+
+// The units of the moment since 1970.
+fn write_count(moment: OffsetDateTime, unit: Unit) -> Result<Text, Reason>
+    ensures { spec.IsCounted greatest_year unit moment (seen_written result) }
+{
+    let Some(utc) = moment.checked_to_utc() else {
+        return Err(Reason::OutOfRange);
+    };
+    let stamp = Timestamp::from(utc);
+    match unit {
+        Unit::Seconds => Ok(number(stamp.as_seconds())),
+        Unit::Milliseconds => Ok(number(stamp.as_milliseconds())),
+        Unit::Microseconds => Ok(wide_number(stamp.as_microseconds())),
+        Unit::Nanoseconds => Ok(wide_number(stamp.nanoseconds())),
+    }
+}
+
+/// The text of the moment, or why it has none.
+pub fn write_moment(moment: OffsetDateTime, form: Form) -> Result<Text, Reason>
+    ensures { spec.IsWritten greatest_year form moment (seen_written result) }
+{
+    let Some(moment) = shown(moment, form.offset) else {
+        return Err(Reason::OutOfRange);
+    };
+    match form.writing {
+        Writing::Rfc3339 => written(text_3339(moment, form.digits)),
+        Writing::Rfc2822 => written(text_2822(moment)),
+        Writing::Iso8601 => written(text_8601(moment)),
+        Writing::Count(unit) => write_count(moment, unit),
+    }
+}

@@ -1,0 +1,129 @@
+//! What becomes of a line.
+ghost use Rattle.std.specs.Prelude.{◌≡◌, ◌≤◌, ◌<◌, ◌+◌, ◌^◌, length};
+ghost use Rattle.time_values.specs.Range.{greatest_year};
+ghost use Rattle.time_restamping.specs.Job as spec;
+
+use crate::form::{Form, write_moment};
+use crate::reading::{Reading, Said, read_in_turn};
+use crate::reason::Reason;
+use std::cmp::Ordering;
+use time_cutting::{Place, find_span};
+use time_record::Parsed;
+use time_values::OffsetDateTime;
+use time_values::text::Text;
+
+/// What is done with each line.
+#[derive(Clone, Copy)]
+pub struct Job<'a> {
+    /// Where its time stands.
+    pub place: Place<'a>,
+    /// The format that reads it.
+    pub first: &'a Reading,
+    /// The formats that are tried in turn where that one doesn't.
+    pub others: &'a [Reading],
+    /// What stands for what a time leaves out.
+    pub defaults: Option<Parsed>,
+    /// How it is written.
+    pub form: Form,
+    /// Drops lines whose time is before.
+    pub since: Option<OffsetDateTime>,
+    /// Drops lines whose time isn't before.
+    pub until: Option<OffsetDateTime>,
+    /// Refuses lines that have no place for a time.
+    pub asks_for_times: bool,
+}
+
+/// What becomes of a line.
+#[derive(Drop)]
+pub enum Verdict {
+    /// It has no place for a time, and stays.
+    Without,
+    /// So many of its bytes, from that place on, give way to the text.
+    Rewritten {
+        /// How many bytes stand before them.
+        start: usize,
+        /// How many they are.
+        length: usize,
+        /// The text.
+        text: Text,
+    },
+    /// It is left out.
+    Dropped,
+    /// It stays, and is told with its reason.
+    Refused {
+        /// Where the time begins, from 1.
+        column: usize,
+        /// Why.
+        reason: Reason,
+    },
+}
+
+// Whether the moment lies before the bound; `otherwise` where there is none.
+fn is_before(moment: OffsetDateTime, bound: Option<OffsetDateTime>, otherwise: bool) -> bool
+    ensures { result ≡ spec.is_before greatest_year moment bound otherwise }
+{
+    match bound {
+        None => otherwise,
+        Some(bound) => moment.cmp_instant(bound) == Ordering::Less,
+    }
+}
+
+impl Job<'_> {
+    // Whether the moment lies within the bounds.
+    fn keeps(&self, moment: OffsetDateTime) -> bool
+        ensures { result ≡ spec.is_kept greatest_year self.now moment }
+    {
+        !is_before(moment, self.since, false) && is_before(moment, self.until, true)
+    }
+
+    // The verdict on a line of which some bytes say a moment.
+    fn put(&self, start: usize, said: Said) -> Verdict
+        requires { start + 1 < 2 ^ 64 }
+        ensures put { spec.IsPut greatest_year self.now start said (spec.seen_verdict result) }
+        ensures within { spec.IsWithin (start + said.length) (spec.seen_verdict result) }
+    {
+        if !self.keeps(said.moment) {
+            return Verdict::Dropped;
+        }
+        match write_moment(said.moment, self.form) {
+            Ok(text) => Verdict::Rewritten {
+                start,
+                length: said.length,
+                text,
+            },
+            Err(reason) => Verdict::Refused {
+                column: start + 1,
+                reason,
+            },
+        }
+    }
+
+    /// The verdict on a line, which has no LF. A time that is refused leaves the line as it is.
+    pub fn judge(&self, line: &[u8]) -> Verdict
+        ensures verdict { spec.IsJudged greatest_year self.now line.now (spec.seen_verdict result) }
+        ensures within { spec.IsWithin (length line.now) (spec.seen_verdict result) }
+    {
+        let Some(span) = find_span(self.place, line) else {
+            if self.asks_for_times {
+                return Verdict::Refused {
+                    column: 1,
+                    reason: Reason::Missing,
+                };
+            }
+            return Verdict::Without;
+        };
+        match read_in_turn(
+            self.first,
+            self.others,
+            self.place.is_open(),
+            &line[span.start..span.stop],
+            &self.defaults,
+        ) {
+            Ok(said) => self.put(span.start, said),
+            Err(reason) => Verdict::Refused {
+                column: span.start + 1,
+                reason,
+            },
+        }
+    }
+}

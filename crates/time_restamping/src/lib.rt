@@ -1,0 +1,15 @@
+//! What becomes of a line whose time is read by one format and written by another.
+#![tactic(auto)]
+
+mod form;
+mod job;
+pub mod laws;
+mod naming;
+mod reading;
+mod reason;
+
+pub use form::{Form, Unit, Writing, write_moment};
+pub use job::{Job, Verdict};
+pub use naming::{FormatFault, find_reading, find_writing};
+pub use reading::{MOST_STEPS, Reading, Said, read};
+pub use reason::Reason;

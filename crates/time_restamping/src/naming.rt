@@ -1,0 +1,144 @@
+//! Formats by their names, and by descriptions.
+ghost use Rattle.std.specs.Prelude.{◌≡◌, MatchResult, if◌then◌else◌};
+ghost use Rattle.time_restamping.specs.Naming as spec;
+
+use crate::form::{Unit, Writing};
+use crate::reading::{MOST_STEPS, Reading};
+use time_descriptions::{InvalidFormatDescription, parse_borrowed, parse_strftime};
+
+/// What is wrong with a format.
+#[derive(Clone, Copy, Debug)]
+pub enum FormatFault<'a> {
+    /// It has no name, and is no description.
+    Unknown,
+    /// The description is faulty.
+    Description(InvalidFormatDescription<'a>),
+}
+
+// How a format is named.
+#[derive(Clone, Copy)]
+enum Way<'a> {
+    Rfc3339,
+    Rfc2822,
+    Iso8601,
+    // A description of a number of seconds.
+    Counted(&'a [u8]),
+    Brackets(&'a [u8]),
+    Strftime(&'a [u8]),
+    Unknown,
+}
+
+// A format that the text describes: in brackets where it has a `[`, else as strftime has it where it has a `%`.
+fn described_way(name: &[u8]) -> Way<'_>
+    ensures { spec.seen_way result ≡ spec.described_way name.now }
+{
+    if name.contains(&b'[') {
+        Way::Brackets(name)
+    } else if name.contains(&b'%') {
+        Way::Strftime(name)
+    } else {
+        Way::Unknown
+    }
+}
+
+// How the format is named.
+fn find_way(name: &[u8]) -> Way<'_>
+    ensures { spec.seen_way result ≡ spec.way_of name.now }
+{
+    if name == b"rfc3339".as_slice() {
+        Way::Rfc3339
+    } else if name == b"rfc2822".as_slice() {
+        Way::Rfc2822
+    } else if name == b"iso8601".as_slice() {
+        Way::Iso8601
+    } else if name == b"unix".as_slice() {
+        Way::Counted(b"[unix_timestamp][optional [.[subsecond]]]")
+    } else if name == b"unix-ms".as_slice() {
+        Way::Brackets(b"[unix_timestamp precision:millisecond]")
+    } else if name == b"unix-us".as_slice() {
+        Way::Brackets(b"[unix_timestamp precision:microsecond]")
+    } else if name == b"unix-ns".as_slice() {
+        Way::Brackets(b"[unix_timestamp precision:nanosecond]")
+    } else if name == b"common".as_slice() {
+        Way::Brackets(
+            b"[day]/[month repr:short]/[year]:[hour]:[minute]:[second] [offset_hour sign:mandatory][offset_minute]",
+        )
+    } else if name == b"syslog".as_slice() {
+        Way::Brackets(b"[month repr:short] [day padding:space] [hour]:[minute]:[second]")
+    } else {
+        described_way(name)
+    }
+}
+
+// The format that the text describes in brackets; of a number of seconds where it is one.
+fn bracketed(text: &[u8], is_count: bool) -> Result<Reading, FormatFault<'_>>
+    ensures { MatchResult result
+        (λ reading. spec.Means (if is_count then spec.counted text.now else spec.brackets text.now) (spec.meaning_of reading))
+        (λ fault. spec.IsFault (if is_count then spec.counted text.now else spec.brackets text.now) (spec.fault_of fault)) }
+{
+    match parse_borrowed::<2, MOST_STEPS>(text) {
+        Ok(description) => {
+            if is_count {
+                Ok(Reading::Counted(description))
+            } else {
+                Ok(Reading::Described(description))
+            }
+        }
+        Err(error) => Err(FormatFault::Description(error)),
+    }
+}
+
+// The format that the text describes as strftime has it.
+fn lettered(text: &[u8]) -> Result<Reading, FormatFault<'_>>
+    ensures { MatchResult result
+        (λ reading. spec.Means (spec.strftime text.now) (spec.meaning_of reading))
+        (λ fault. spec.IsFault (spec.strftime text.now) (spec.fault_of fault)) }
+{
+    match parse_strftime::<MOST_STEPS>(text) {
+        Ok(description) => Ok(Reading::Described(description)),
+        Err(error) => Err(FormatFault::Description(error)),
+    }
+}
+
+/// The format of that name: `rfc3339`, `rfc2822`, `iso8601`, `common`, `syslog`, `unix`, `unix-ms`, `unix-us` or
+/// `unix-ns`; or the one that the text describes, in brackets where it has a `[`, else as strftime has it where it has a
+/// `%`.
+pub fn find_reading(name: &[u8]) -> Result<Reading, FormatFault<'_>>
+    ensures { MatchResult result
+        (λ reading. spec.Means (spec.way_of name.now) (spec.meaning_of reading))
+        (λ fault. spec.IsFault (spec.way_of name.now) (spec.fault_of fault)) }
+{
+    match find_way(name) {
+        Way::Rfc3339 => Ok(Reading::Rfc3339),
+        Way::Rfc2822 => Ok(Reading::Rfc2822),
+        Way::Iso8601 => Ok(Reading::Iso8601),
+        Way::Counted(text) => bracketed(text, true),
+        Way::Brackets(text) => bracketed(text, false),
+        Way::Strftime(text) => lettered(text),
+        Way::Unknown => Err(FormatFault::Unknown),
+    }
+}
+
+/// The format of that name that times are written by: `rfc3339`, `rfc2822`, `iso8601`, `unix`, `unix-ms`, `unix-us` or
+/// `unix-ns`.
+pub fn find_writing(name: &[u8]) -> Option<Writing>
+    ensures { result ≡ spec.writing_named name.now }
+{
+    if name == b"rfc3339".as_slice() {
+        Some(Writing::Rfc3339)
+    } else if name == b"rfc2822".as_slice() {
+        Some(Writing::Rfc2822)
+    } else if name == b"iso8601".as_slice() {
+        Some(Writing::Iso8601)
+    } else if name == b"unix".as_slice() {
+        Some(Writing::Count(Unit::Seconds))
+    } else if name == b"unix-ms".as_slice() {
+        Some(Writing::Count(Unit::Milliseconds))
+    } else if name == b"unix-us".as_slice() {
+        Some(Writing::Count(Unit::Microseconds))
+    } else if name == b"unix-ns".as_slice() {
+        Some(Writing::Count(Unit::Nanoseconds))
+    } else {
+        None
+    }
+}

@@ -1,0 +1,5 @@
+//! Tests of where a time stands in a line.
+#![tactic(auto)]
+
+#[cfg(test)]
+mod places;

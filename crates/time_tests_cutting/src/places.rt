@@ -1,0 +1,146 @@
+//! Where a time stands.
+use std::test::Fail;
+use time_cutting::{Fields, Place, find_span, find_time};
+
+// A place, a line, and its three parts.
+type Row = (
+    Place<'static>,
+    &'static [u8],
+    &'static [u8],
+    &'static [u8],
+    &'static [u8],
+);
+
+const FOUND: [Row; 22] = [
+    (Place::Whole, b"now", b"", b"now", b""),
+    (Place::Whole, b"now\r", b"", b"now", b"\r"),
+    (Place::Whole, b"", b"", b"", b""),
+    (Place::Whole, b"\r\r", b"", b"\r", b"\r"),
+    (Place::Front, b"now x\r", b"", b"now x\r", b""),
+    (
+        Place::Field(Fields::Delimited(b','), 1),
+        b"a,b,c",
+        b"",
+        b"a",
+        b",b,c",
+    ),
+    (
+        Place::Field(Fields::Delimited(b','), 2),
+        b"a,b,c",
+        b"a,",
+        b"b",
+        b",c",
+    ),
+    (
+        Place::Field(Fields::Delimited(b','), 3),
+        b"a,b,c\r",
+        b"a,b,",
+        b"c",
+        b"\r",
+    ),
+    (
+        Place::Field(Fields::Delimited(b','), 3),
+        b"a,b,",
+        b"a,b,",
+        b"",
+        b"",
+    ),
+    (
+        Place::Field(Fields::Delimited(b'\t'), 2),
+        b"a\t\tb",
+        b"a\t",
+        b"",
+        b"\tb",
+    ),
+    (Place::Field(Fields::Blank, 1), b"  a b", b"  ", b"a", b" b"),
+    (
+        Place::Field(Fields::Blank, 2),
+        b"a \t b",
+        b"a \t ",
+        b"b",
+        b"",
+    ),
+    (Place::Field(Fields::Blank, 2), b"a b\r", b"a ", b"b", b"\r"),
+    (
+        Place::Field(Fields::Quoted(b','), 2),
+        b"\"a,b\",c",
+        b"\"a,b\",",
+        b"c",
+        b"",
+    ),
+    (
+        Place::Field(Fields::Quoted(b','), 1),
+        b"\"a,b\",c",
+        b"\"",
+        b"a,b",
+        b"\",c",
+    ),
+    (
+        Place::Field(Fields::Quoted(b','), 1),
+        b"\"a\"\"b\",c",
+        b"\"",
+        b"a\"\"b",
+        b"\",c",
+    ),
+    (
+        Place::Field(Fields::Quoted(b';'), 2),
+        b"a;\"b\"",
+        b"a;\"",
+        b"b",
+        b"\"",
+    ),
+    (
+        Place::Between(b"[", b"]"),
+        b"x [a] [b]",
+        b"x [",
+        b"a",
+        b"] [b]",
+    ),
+    (
+        Place::Between(b"<t>", b"</t>"),
+        b"<t>a</t>",
+        b"<t>",
+        b"a",
+        b"</t>",
+    ),
+    (Place::Between(b"", b"|"), b"a|b", b"", b"a", b"|b"),
+    (Place::After(b"Date: "), b"Date: a", b"Date: ", b"a", b""),
+    (Place::After(b"t="), b"at=t=b", b"at=", b"t=b", b""),
+];
+
+#[test]
+fn found(rt: HostRuntime) -> Result<(), Fail> {
+    for (place, line, before, time, after) in FOUND {
+        let cut = find_time(place, line).ok_or("no place")?;
+        assert_eq!(rt; cut.before, before, "{line:?}");
+        assert_eq!(rt; cut.time, time, "{line:?}");
+        assert_eq!(rt; cut.after, after, "{line:?}");
+    }
+    Ok(())
+}
+
+// A place that a line lacks: the reasons are too few fields, no such text, a quote that isn't closed, and text after one.
+const MISSING: [(Place<'static>, &[u8]); 12] = [
+    (Place::Field(Fields::Delimited(b','), 0), b"a"),
+    (Place::Field(Fields::Delimited(b','), 2), b"a"),
+    (Place::Field(Fields::Delimited(b','), 2), b""),
+    (Place::Field(Fields::Blank, 1), b" \t"),
+    (Place::Field(Fields::Blank, 3), b"a b "),
+    (Place::Field(Fields::Quoted(b','), 1), b"\"a"),
+    (Place::Field(Fields::Quoted(b','), 1), b"\"a\"\""),
+    (Place::Field(Fields::Quoted(b','), 2), b"\"a\"x,b"),
+    (Place::Between(b"[", b"]"), b"x a]"),
+    (Place::Between(b"[", b"]"), b"] [a"),
+    (Place::Between(b"||", b"||"), b"|| a |"),
+    (Place::After(b"Date:"), b"date: a"),
+];
+
+#[test]
+fn missing(rt: HostRuntime) -> Result<(), Fail> {
+    for (place, line) in MISSING {
+        assert!(rt; find_span(place, line).is_none(), "{line:?}");
+    }
+    assert!(rt; Place::Front.is_open());
+    assert!(rt; !Place::Between(b"a", b"b").is_open());
+    Ok(())
+}

@@ -1,0 +1,23 @@
+-- What was done to files, and then to one more.
+use Rattle.std.proofs.Common.{ℕ, ◌+◌, ◌<◌, List, [], ◌∷◌, ◌++◌, length, take, map, get_or, refl, sym, subst, Option}
+use Rattle.std.proofs.lemmas.List.{map_more}
+use Rattle.time_rewriting.specs.declared.fate.Fate.{Fate}
+use Rattle.time_rewriting.specs.declared.settings.Settings.{Settings}
+use Rattle.time_rewriting.specs.Answers.{State, job_of}
+use Rattle.time_rewriting.specs.Files.{DidFile, DidFiles}
+
+module _ (is_fate : List ℕ → Fate → Type 0) (is_reason : List ℕ → ℕ → List ℕ → Type 0) (settings : Settings) (bytes_of : List ℕ → Option (List ℕ)) where
+  abbrev Did : State → State → List (List ℕ) → Type 0
+  Did = DidFiles is_fate is_reason settings bytes_of
+
+  DidFiles-push : (a b c : State) (names : List (List ℕ)) (name : List ℕ) → Did a b names → DidFile (job_of is_fate is_reason name settings) (bytes_of name) b c
+      → Did a c (names ++ name ∷ [])
+  DidFiles-push a b c [] name p q = (c, subst (λ (s : State). DidFile (job_of is_fate is_reason name settings) (bytes_of name) s c) (sym p) q, refl)
+  DidFiles-push a b c (first ∷ names) name p q = (p.0, p.1, DidFiles-push p.0 b c names name p.2 q)
+
+  -- the file at the index was answered
+  pub DidFiles-more : {X : Type 0} (f : X → List ℕ) (a b c : State) (xs : List X) (i : ℕ) (x : X) → Did a b (map f (take i xs)) → i < length xs
+      → DidFile (job_of is_fate is_reason (f (get_or xs i x)) settings) (bytes_of (f (get_or xs i x))) b c
+      → Did a c (map f (take (i + 1) xs))
+  DidFiles-more {X} f a b c xs i x p below q =
+      subst (Did a c) (sym (map_more f xs i x below)) (DidFiles-push a b c (map f (take i xs)) (f (get_or xs i x)) p q)

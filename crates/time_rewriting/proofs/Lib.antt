@@ -1,0 +1,9 @@
+pub mod BlockLemmas
+pub mod LinesLemmas
+pub mod DidLemmas
+pub mod ReportLemmas
+pub mod AnsweredLemmas
+pub mod StoppedLemmas
+pub mod ServedLemmas
+pub mod LawLemmas
+pub mod FilesLemmas

@@ -1,0 +1,23 @@
+-- What was done to several files, one after the other.
+use Rattle.std.specs.Prelude.{◌≡◌, ◌⊎◌, ℕ, List, [], ◌∷◌, Option, IfSome}
+use Rattle.time_rewriting.specs.declared.fate.Fate.{Fate}
+use Rattle.time_rewriting.specs.declared.settings.Settings.{Settings}
+use Rattle.time_rewriting.specs.Answers.{Job, job_of, State, DidAll}
+use Rattle.time_rewriting.specs.Streams.{Fails, DidSome}
+
+-- From the one state to the other a file that has those bytes, where they are known, was answered: all its lines, or
+-- those that were read until a read failed, or none where it was not opened.
+abbrev pub DidFile : Job → Option (List ℕ) → State → State → Type 0
+DidFile job bytes before after =
+    IfSome bytes (DidAll job before after)
+    ⊎ (((left : Option (List ℕ)) × DidSome job bytes left before after)
+    ⊎ Fails job.name before after)
+
+-- the same of the files of those names
+abbrev pub DidFiles : (List ℕ → Fate → Type 0) → (List ℕ → ℕ → List ℕ → Type 0) → Settings → (List ℕ → Option (List ℕ))
+    → State → State → List (List ℕ) → Type 0
+DidFiles is_fate is_reason settings bytes_of before after [] = before ≡ after
+DidFiles is_fate is_reason settings bytes_of before after (name ∷ names) =
+    (between : State)
+    × DidFile (job_of is_fate is_reason name settings) (bytes_of name) before between
+    × DidFiles is_fate is_reason settings bytes_of between after names

@@ -1,0 +1,9 @@
+pub mod Lines
+pub mod Fates
+pub mod Reports
+pub mod Answers
+pub mod Streams
+pub mod Held
+pub mod Files
+pub mod Status
+pub mod Laws

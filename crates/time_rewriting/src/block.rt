@@ -1,0 +1,107 @@
+//! Bytes that were read and are not answered yet.
+ghost use Rattle.std.specs.Io.KnownBytes.{Consumes, Keeps, IsAtEnd};
+ghost use Rattle.std.specs.Prelude.{◌≡◌, ◌+◌, ◌-◌, ◌<◌, ◌≤◌, ℕ, List, [], ◌++◌, length, take, drop, MatchResult, IsTrue, false};
+ghost use Rattle.time_rewriting.specs.Lines.{Items};
+ghost use Rattle.time_rewriting.specs.declared.block.TheConstants.{LIMIT};
+
+use std::io;
+use std::io::{ErrorKind, Read};
+use std::marker::Model;
+
+/// By how many bytes a line is answered. Its time has to end within them.
+pub const LIMIT: usize = 262144;
+
+/// Bytes that were read and are not answered yet: at most [`LIMIT`].
+#[derive(Drop)]
+pub struct Block {
+    array: [u8; LIMIT],
+    len: usize,
+}
+
+impl Model for Block {
+    ghost Value = { Items };
+
+    ghost view = { λ b. record { items = take b.len b.array } };
+
+    ghost invariant = { λ b. b.len ≤ LIMIT };
+}
+
+impl Block {
+    /// None.
+    pub fn new() -> Block
+        ensures { result.items ≡ [] }
+    {
+        Block {
+            array: [0; LIMIT],
+            len: 0,
+        }
+    }
+
+    /// Whether no byte is held.
+    pub fn is_empty(&self) -> bool
+        ensures empty { IsTrue result → length self.now.items ≡ 0 }
+        ensures some { result ≡ false → 0 < length self.now.items }
+    {
+        self.len == 0
+    }
+
+    /// The bytes.
+    pub fn as_slice(&self) -> &[u8]
+        ensures bytes { result.now ≡ self.now.items }
+        ensures room { length result.now ≤ LIMIT }
+    {
+        &self.array[..self.len]
+    }
+
+    // Reads once after what is held. 0 is the end.
+    fn read_once<R: Read>(&mut self, input: &mut R) -> io::Result<usize>
+        requires { length self.old.items < LIMIT }
+        ensures { MatchResult result
+            (λ n. (more : List ℕ) × (self.new.items ≡ self.old.items ++ more) × (length more ≡ n)
+            × Consumes (R.remaining input.old) (R.remaining input.new) more
+            × (n ≡ 0 → IsAtEnd (R.remaining input.new)))
+            (λ _. Keeps (R.remaining input.old) (R.remaining input.new) × (self.new.items ≡ self.old.items)) }
+    {
+        let n = input.read(&mut self.array[self.len..])?;
+        self.len += n;
+        Ok(n)
+    }
+
+    /// Reads once after what is held. `false` is the end. An interrupted read gives no byte, and may be tried again.
+    pub fn fill<R: Read>(&mut self, input: &mut R) -> io::Result<bool>
+        requires { length self.old.items < LIMIT }
+        ensures { MatchResult result
+            (λ goes_on. (more : List ℕ) × (self.new.items ≡ self.old.items ++ more)
+            × Consumes (R.remaining input.old) (R.remaining input.new) more
+            × (goes_on ≡ false → (more ≡ []) × IsAtEnd (R.remaining input.new)))
+            (λ _. Keeps (R.remaining input.old) (R.remaining input.new) × (self.new.items ≡ self.old.items)) }
+    {
+        match self.read_once(input) {
+            Ok(0) => Ok(false),
+            Ok(_) => Ok(true),
+            Err(e) => {
+                if e.kind() == ErrorKind::Interrupted {
+                    Ok(true)
+                } else {
+                    Err(e)
+                }
+            }
+        }
+    }
+
+    /// Forgets all but the last n bytes.
+    pub fn keep_last(&mut self, n: usize)
+        requires { n ≤ length self.old.items }
+        ensures { self.new.items ≡ drop (length self.old.items - n) self.old.items }
+    {
+        self.array.copy_within(self.len - n..self.len, 0);
+        self.len = n;
+    }
+
+    /// Forgets them.
+    pub fn clear(&mut self)
+        ensures { self.new.items ≡ [] }
+    {
+        self.len = 0;
+    }
+}

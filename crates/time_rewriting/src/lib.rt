@@ -1,0 +1,28 @@
+//! Rewrites a stream line by line, with a log of what was refused, a tally, and a fixed amount of memory.
+#![tactic(auto)]
+
+mod block;
+mod ending;
+mod fate;
+mod files;
+mod laws;
+mod lines;
+mod message;
+mod rewriting;
+mod serving;
+mod settings;
+mod stop;
+mod stream;
+mod tally;
+mod waiting;
+
+pub use block::{Block, LIMIT};
+pub use ending::status;
+pub use fate::Fate;
+pub use files::Opening;
+pub use laws::{law_kept, law_one_result};
+pub use rewriting::Rewriting;
+pub use settings::{Output, Reports, Settings};
+pub use stop::Stop;
+pub use stream::Stream;
+pub use tally::Tally;

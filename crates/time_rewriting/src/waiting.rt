@@ -1,0 +1,84 @@
+//! Bytes that wait for one write.
+ghost use Rattle.std.specs.Io.KnownBytes.{Appends, append_known};
+ghost use Rattle.std.specs.Prelude.{◌≡◌, ◌≤◌, [], ◌++◌, take, OnOk};
+ghost use Rattle.time_rewriting.specs.Lines.{Items};
+ghost use Rattle.time_rewriting.specs.declared.waiting.TheConstants.{MOST};
+
+use std::io;
+use std::io::Write;
+use std::marker::Model;
+
+// How many bytes may wait.
+const MOST: usize = 65536;
+
+/// Bytes that wait for one write.
+#[derive(Drop)]
+pub struct Waiting {
+    array: [u8; MOST],
+    len: usize,
+}
+
+impl Model for Waiting {
+    ghost Value = { Items };
+
+    ghost view = { λ w. record { items = take w.len w.array } };
+
+    ghost invariant = { λ w. w.len ≤ MOST };
+}
+
+impl Waiting {
+    /// None.
+    pub fn new() -> Waiting
+        ensures { result.items ≡ [] }
+    {
+        Waiting {
+            array: [0; MOST],
+            len: 0,
+        }
+    }
+
+    /// Writes what waits.
+    pub fn write_all_to<W: Write>(&mut self, out: &mut W) -> io::Result<()>
+        ensures written { OnOk result (Appends (W.contents out.old) (W.contents out.new) self.old.items) }
+        ensures none { OnOk result (self.new.items ≡ []) }
+    {
+        if self.len == 0 {
+            return Ok(());
+        }
+        out.write_all(&self.array[..self.len])?;
+        self.len = 0;
+        Ok(())
+    }
+
+    /// Puts bytes after what waits, which is written first where they don't fit.
+    #[inline(always)]
+    pub fn put<W: Write>(&mut self, bytes: &[u8], out: &mut W) -> io::Result<()>
+        ensures { OnOk result (Appends (append_known (W.contents out.old) self.old.items)
+            (append_known (W.contents out.new) self.new.items) bytes.now) }
+    {
+        if MOST - self.len < bytes.len() {
+            return self.put_many(bytes, out);
+        }
+        let end = self.len + bytes.len();
+        self.array[self.len..end].copy_from_slice(bytes);
+        self.len = end;
+        Ok(())
+    }
+
+    // The same where they don't fit.
+    #[inline(never)]
+    fn put_many<W: Write>(&mut self, bytes: &[u8], out: &mut W) -> io::Result<()>
+        ensures { OnOk result (Appends (append_known (W.contents out.old) self.old.items)
+            (append_known (W.contents out.new) self.new.items) bytes.now) }
+    {
+        self.write_all_to(out)?;
+        out.write_all(bytes)
+    }
+
+    /// Forgets them.
+    pub fn clear(&mut self)
+        ensures { self.new.items ≡ [] }
+    {
+        self.len = 0;
+    }
+}

@@ -5,7 +5,7 @@
  *
  * A text is `length` bytes, and needs no 0 at its end. It is read as a whole: bytes that are left over are refused. A
  * call that parses answers PELZAUNE_OK (0) and writes *out, or it answers why there is no value and leaves *out
- * unchanged. Where a length is 0, its text may be NULL.
+ * unchanged. Where a length or a capacity is 0, its pointer may be NULL.
  *
  * Your part, which nothing checks: a pointer leads to as much as is said, of one object of at most PTRDIFF_MAX bytes;
  * nobody changes a text or *out during the call; and *out doesn't overlap the text. */
@@ -20,7 +20,7 @@ extern "C" {
 #endif
 
 /* 256 * major + minor. A program can't go on where pelzaune_version() has another major number than it was compiled for. */
-#define PELZAUNE_VERSION 0x0100u
+#define PELZAUNE_VERSION 0x0101u
 uint32_t pelzaune_version(void);
 
 /* Formats. Any other number is answered by PELZAUNE_UNKNOWN_FORMAT. */
@@ -84,7 +84,9 @@ enum {
     PELZAUNE_EXPECTED,          /* something else should stand there */
     PELZAUNE_NOT_SUPPORTED,     /* what no description has, as %Z */
     PELZAUNE_TOO_LONG,          /* it has more than 64 steps */
-    PELZAUNE_UNKNOWN_SYNTAX     /* no syntax of descriptions has that number */
+    PELZAUNE_UNKNOWN_SYNTAX,    /* no syntax of descriptions has that number */
+    /* of a moment that is written: */
+    PELZAUNE_NO_TEXT            /* the format has no text for the component */
 };
 #define PELZAUNE_KIND(status) ((status) & 0xffu)
 #define PELZAUNE_COMPONENT(status) ((status) >> 8)
@@ -148,6 +150,34 @@ pelzaune_status pelzaune_read_nanoseconds(uint32_t syntax, const uint8_t *descri
 pelzaune_status pelzaune_read_parts(uint32_t syntax, const uint8_t *description, size_t description_length,
     const uint8_t *text, size_t length, pelzaune_parts *out);
 
+/* What an entry of a column has where its line is refused: the least number, which numpy's datetime64 has for NaT. It is
+ * also the count of one instant, the first that 64 bits count; so `*refused` says whether a line was refused. */
+#define PELZAUNE_NO_COUNT INT64_MIN
+
+/* Parses each line of a text as pelzaune_parse_nanoseconds does, into the entry of its place: as many lines as there are
+ * entries. *refused is how many of these lines are refused, and an entry that has no line is unchanged.
+ *
+ * The answer is how many lines the whole text has: so a call with no entries, which may be NULL then, counts the lines. A
+ * line ends with LF, which the last may lack. CR is no part of a line end: a line that ends with it is refused. */
+size_t pelzaune_column(uint32_t format, const uint8_t *text, size_t length, int64_t *entries, size_t capacity, size_t *refused);
+
+/* The same by a description, which is read once. By a text that describes nothing each line is refused. */
+size_t pelzaune_read_column(uint32_t syntax, const uint8_t *description, size_t description_length, const uint8_t *text,
+    size_t length, int64_t *entries, size_t capacity, size_t *refused);
+
+/* The longest text of a moment. */
+#define PELZAUNE_MOMENT_TEXT 35u
+
+/* Writes a moment by a format over the front of the buffer, as far as its `capacity` goes and with no 0 at its end, and
+ * into *length how many bytes the whole text has. By RFC 3339 it has as many digits of a fraction as it needs, as
+ * 1985-04-12T23:20:50.52Z, by RFC 2822 none, and by ISO 8601 nine.
+ *
+ * PELZAUNE_RANGE and PELZAUNE_RANGE_OF_OTHERS name a member that is out of its range (`seconds` is the offset), and
+ * PELZAUNE_NO_TEXT a component for which the format has no text: by RFC 2822 a year before 1900, by the others one before
+ * 0 and an offset of 24 hours, by all a year after 9999 and an offset with seconds. Then *length and the buffer are
+ * unchanged. */
+pelzaune_status pelzaune_format_moment(uint32_t format, const pelzaune_moment *moment, uint8_t *buffer, size_t capacity, size_t *length);
+
 /* Writes what a status says over the front of the buffer, as far as its `capacity` goes and with no 0 at its end, and
  * answers how many bytes the whole text has: 0 for PELZAUNE_OK and for a kind that there isn't. */
 size_t pelzaune_write_text(pelzaune_status status, uint8_t *buffer, size_t capacity);
@@ -158,7 +188,8 @@ static inline const char *pelzaune_text(pelzaune_status status)
 #define PELZAUNE_TEXTS(number, name) \
     case PELZAUNE_INVALID_COMPONENT + 256u * number: return "the '" name "' component could not be parsed"; \
     case PELZAUNE_RANGE + 256u * number: return name " is out of range"; \
-    case PELZAUNE_RANGE_OF_OTHERS + 256u * number: return name " is out of range for the other components";
+    case PELZAUNE_RANGE_OF_OTHERS + 256u * number: return name " is out of range for the other components"; \
+    case PELZAUNE_NO_TEXT + 256u * number: return "the '" name "' component has no text in that format";
     switch (PELZAUNE_KIND(status)) {
     case PELZAUNE_INVALID_LITERAL: return "a character literal was not valid";
     case PELZAUNE_TRAILING: return "unexpected trailing characters; the end of input was expected";

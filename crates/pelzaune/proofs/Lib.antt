@@ -1,2 +1,4 @@
+pub mod ColumnLemmas
+pub mod Constructed
 pub mod Instants
 pub mod Laid

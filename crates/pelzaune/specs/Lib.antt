@@ -1,5 +1,7 @@
+pub mod Columns
 pub mod Described
 pub mod Formats
 pub mod Handed
 pub mod Laws
 pub mod Status
+pub mod Written

@@ -91,6 +91,7 @@ kind_text kind name =
     if nat_eq kind 15 then codes "that is not supported in a description" else
     if nat_eq kind 16 then codes "the description is too long" else
     if nat_eq kind 17 then codes "no syntax of descriptions has that number" else
+    if nat_eq kind 18 then codes "the '" ++ name ++ codes "' component has no text in that format" else
     []
 
 -- what a status says

@@ -46,9 +46,9 @@ pub fn hand_by<V: Target, P: From<V> + Copy>(format: u32, text: &[u8], out: &mut
     }
 }
 
-// Hands over the nanoseconds of a text's moment.
+/// Hands over the nanoseconds of a text's moment.
 #[inline(always)]
-fn count<F: Parsable>(format: &F, text: &[u8], out: &mut Nanoseconds) -> u32
+pub fn count<F: Parsable>(format: &F, text: &[u8], out: &mut Nanoseconds) -> u32
     ensures { IsHandedOver IsCountHanded
         (of_moment (F.path format.now) (F.reads format.now) (F.refuses format.now) text.now) result out.old out.new }
 {

@@ -12,6 +12,8 @@ ghost use Rattle.pelzaune.specs.Formats.{format_of};
 ghost use Rattle.pelzaune.specs.Handed.{Hands, HandsCount, HandsParts, IsHanded, IsCountHanded, ArePartsHanded, HasDate, HasTime, HasOffset, HasPlain, HasUtc, HasMoment, HasInstant, over_empty, of_record, of_moment};
 ghost use Rattle.pelzaune.specs.Status.{laid_over, status_text};
 
+mod columns;
+mod cuts;
 mod descriptions;
 mod formats;
 mod handing;
@@ -19,6 +21,7 @@ pub mod laws;
 mod parts;
 mod status;
 mod text;
+mod writing;
 
 use crate::descriptions::check;
 use crate::handing::{count_by, count_read, hand_by, hand_read, parts_by, parts_read};
@@ -32,9 +35,9 @@ use time_values::{Date, OffsetDateTime, PlainDateTime, Time, UtcDateTime, UtcOff
 /// minor number.
 #[unsafe(no_mangle)]
 pub extern "C" fn pelzaune_version() -> u32
-    ensures { result ≡ 0x0100 }
+    ensures { result ≡ 0x0101 }
 {
-    0x0100
+    0x0101
 }
 
 /// Writes what a status says over the front of the buffer, as far as the buffer goes, and answers how many bytes the

@@ -56,7 +56,8 @@ fn status_of_description(error: ParseFromDescription) -> u32
     }
 }
 
-fn status_of_range(error: ComponentRange) -> u32
+/// The status of a part that is out of its range.
+pub fn status_of_range(error: ComponentRange) -> u32
     ensures { result ≡ Status.status_of (refusal_of_range error) }
 {
     let component = 256 * component_number(error.name);

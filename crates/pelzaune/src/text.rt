@@ -71,8 +71,17 @@ pub fn pieces_of(status: u32) -> [&'static str; 3]
         15 => ["that is not supported in a description", "", ""],
         16 => ["the description is too long", "", ""],
         17 => ["no syntax of descriptions has that number", "", ""],
+        18 => ["the '", name, "' component has no text in that format"],
         _ => ["", "", ""],
     }
+}
+
+/// Lays bytes over the front of the buffer, as far as it goes.
+pub fn lay_bytes(bytes: &[u8], buffer: &mut [u8])
+    ensures { buffer.new ≡ Status.laid_over bytes.now buffer.old }
+{
+    let count = bytes.len().min(buffer.len());
+    buffer[..count].copy_from_slice(&bytes[..count]);
 }
 
 /// Lays the pieces one after another over the front of the buffer, as far as it goes.

@@ -1,74 +1,8 @@
-/* Tests of the C interface. Each text ends where a page ends that nothing may touch. Prints 'N passed, M failed'. */
-#define _GNU_SOURCE
-#include "pelzaune.h"
+/* Tests of the calls that parse. Prints 'N passed, M failed'. */
+#include "check.h"
 #include <errno.h>
 #include <pthread.h>
-#include <stdio.h>
-#include <string.h>
-#include <sys/mman.h>
 #include <time.h>
-
-static int passed, failed;
-
-static void expect(int is_right, const char *what, int line)
-{
-    if (is_right) passed++;
-    else { failed++; printf("tests.c:%d: %s\n", line, what); }
-}
-#define EXPECT(is_right) expect((is_right), #is_right, __LINE__)
-
-enum { PAGE = 4096 };
-static uint8_t *page; /* with a page before it and one after it that may not be touched */
-
-static uint8_t *guarded_page(void)
-{
-    uint8_t *pages = mmap(NULL, 3 * PAGE, PROT_NONE, MAP_PRIVATE | MAP_ANONYMOUS, -1, 0);
-    if (pages == MAP_FAILED || mprotect(pages + PAGE, PAGE, PROT_READ | PROT_WRITE)) return NULL;
-    return pages + PAGE;
-}
-
-/* The bytes at the end of the page, and at its front. */
-static const uint8_t *at_end(const char *text, size_t length)
-{
-    return memcpy(page + PAGE - length, text, length);
-}
-static const uint8_t *at_front(const char *text, size_t length)
-{
-    return memcpy(page, text, length);
-}
-#define TEXT(text) at_end((text), sizeof(text) - 1), sizeof(text) - 1
-
-/* Twenty texts of moments, and how many of the beginnings of each are a moment too, as `+05` of `+05:30`. The first five
- * are the examples of RFC 3339, section 5.8; the next three of RFC 2822, appendix A. */
-typedef struct {
-    uint32_t format;
-    const char *text;
-    int shorter;
-    pelzaune_moment value; /* year, nanosecond, offset, month, day, hour, minute, second */
-} row;
-static const row rows[] = {
-    { PELZAUNE_RFC3339, "1985-04-12T23:20:50.52Z", 0, { 1985, 520000000, 0, 4, 12, 23, 20, 50 } },
-    { PELZAUNE_RFC3339, "1996-12-19T16:39:57-08:00", 0, { 1996, 0, -28800, 12, 19, 16, 39, 57 } },
-    { PELZAUNE_RFC3339, "1990-12-31T23:59:60Z", 0, { 1990, 999999999, 0, 12, 31, 23, 59, 59 } },
-    { PELZAUNE_RFC3339, "1990-12-31T15:59:60-08:00", 0, { 1990, 999999999, -28800, 12, 31, 15, 59, 59 } },
-    { PELZAUNE_RFC3339, "1937-01-01T12:00:27.87+00:20", 0, { 1937, 870000000, 1200, 1, 1, 12, 0, 27 } },
-    { PELZAUNE_RFC2822, "Fri, 21 Nov 1997 09:55:06 -0600", 0, { 1997, 0, -21600, 11, 21, 9, 55, 6 } },
-    { PELZAUNE_RFC2822, "Tue, 1 Jul 2003 10:52:37 +0200", 0, { 2003, 0, 7200, 7, 1, 10, 52, 37 } },
-    { PELZAUNE_RFC2822, "Thu, 13 Feb 1969 23:32:54 -0330", 0, { 1969, 0, -12600, 2, 13, 23, 32, 54 } },
-    { PELZAUNE_RFC3339, "2021-01-02T03:04:05.123456789+05:30", 0, { 2021, 123456789, 19800, 1, 2, 3, 4, 5 } },
-    { PELZAUNE_RFC3339, "0000-02-29t00:00:00z", 0, { 0, 0, 0, 2, 29, 0, 0, 0 } },
-    { PELZAUNE_RFC3339, "2021-01-02 03:04:05.5-00:30", 0, { 2021, 500000000, -1800, 1, 2, 3, 4, 5 } },
-    { PELZAUNE_RFC2822, "Thu,\r\n 13\r\n Feb (a comment) 1969\r\n 23:32\r\n -0330", 0, { 1969, 0, -12600, 2, 13, 23, 32, 0 } },
-    { PELZAUNE_RFC2822, "21 Nov 97 09:55:06 +0000", 0, { 1997, 0, 0, 11, 21, 9, 55, 6 } },
-    { PELZAUNE_ISO8601, "20210102T030405Z", 0, { 2021, 0, 0, 1, 2, 3, 4, 5 } },
-    { PELZAUNE_ISO8601, "2021-01-02T03:04:05,25-00:30", 1, { 2021, 250000000, -1800, 1, 2, 3, 4, 5 } },
-    { PELZAUNE_ISO8601, "2020-W53-6T03:04:05Z", 0, { 2021, 0, 0, 1, 2, 3, 4, 5 } },
-    { PELZAUNE_ISO8601, "2020-366T23Z", 0, { 2020, 0, 0, 12, 31, 23, 0, 0 } },
-    { PELZAUNE_ISO8601, "2021-01-02T03,5Z", 0, { 2021, 0, 0, 1, 2, 3, 30, 0 } },
-    { PELZAUNE_ISO8601, "+012345-06-07T08:09:10+05:30", 1, { 12345, 0, 19800, 6, 7, 8, 9, 10 } },
-    { PELZAUNE_ISO8601, "-000001-12-31T23:59:59.9Z", 0, { -1, 900000000, 0, 12, 31, 23, 59, 59 } },
-};
-enum { ROWS = sizeof rows / sizeof *rows };
 
 static int is_same(const pelzaune_moment *m, const pelzaune_moment *other)
 {
@@ -188,13 +122,6 @@ static void test_refusals(void)
     EXPECT(pelzaune_parse_date(0, TEXT("1985-04-12"), &d) == PELZAUNE_UNKNOWN_FORMAT);
 }
 
-/* A description ends where a page ends too, one of its own. */
-static uint8_t *other_page;
-static const uint8_t *described(const char *text, size_t length)
-{
-    return memcpy(other_page + PAGE - length, text, length);
-}
-#define DESCRIPTION(text) described((text), sizeof(text) - 1), sizeof(text) - 1
 #define YMD DESCRIPTION("[year]-[month]-[day]")
 #define LOG DESCRIPTION("%d/%b/%Y:%H:%M:%S %z")
 
@@ -339,7 +266,7 @@ static void test_texts(void)
     uint8_t few[] = "....";
     EXPECT(pelzaune_write_text(PELZAUNE_TRAILING, few, 3) == 61 && memcmp(few, "une.", 4) == 0);
     EXPECT(pelzaune_write_text(PELZAUNE_RANGE + 256, few, 4) == 20 && memcmp(few, "year", 4) == 0);
-    EXPECT(pelzaune_write_text(PELZAUNE_OK, few, 4) == 0 && pelzaune_write_text(18, few, 4) == 0 && memcmp(few, "year", 4) == 0);
+    EXPECT(pelzaune_write_text(PELZAUNE_OK, few, 4) == 0 && pelzaune_write_text(19, few, 4) == 0 && memcmp(few, "year", 4) == 0);
     EXPECT(pelzaune_write_text(PELZAUNE_TRAILING, NULL, 0) == 61);
     EXPECT(pelzaune_write_text(PELZAUNE_TRAILING, page + PAGE - 61, 61) == 61 && memcmp(page + PAGE - 8, "expected", 8) == 0);
 }
@@ -371,9 +298,7 @@ static void test_threads(void)
 
 int main(void)
 {
-    page = guarded_page();
-    other_page = guarded_page();
-    if (!page || !other_page) return 2;
+    if (!has_pages()) return 2;
     EXPECT(pelzaune_version() == PELZAUNE_VERSION);
     EXPECT(sizeof(pelzaune_date) == 8 && sizeof(pelzaune_time) == 8 && sizeof(pelzaune_local) == 16);
     EXPECT(sizeof(pelzaune_moment) == 20 && sizeof(pelzaune_instant) == 16 && sizeof(pelzaune_parts) == 32);

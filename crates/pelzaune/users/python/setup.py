@@ -1,5 +1,5 @@
-"""Builds the extension module over include/pelzaune.h and out/libpelzaune.a of the folder PELZAUNE_HOME, or else of the
-folder of the library, two above this one."""
+"""Builds the extension module over include/pelzaune.h and libpelzaune.a: in lib/ of this folder, as a source archive has
+it, or in out/ of the folder PELZAUNE_HOME, or else of the folder of the library, two above this one."""
 import os
 
 from setuptools import Extension, setup
@@ -7,6 +7,8 @@ from setuptools import Extension, setup
 HERE = os.path.dirname(os.path.abspath(__file__))
 HOME = os.environ.get("PELZAUNE_HOME", os.path.dirname(os.path.dirname(HERE)))
 ARCHIVE = os.path.join(HOME, "out", "libpelzaune.a")
+if os.path.exists(os.path.join(HERE, "lib")):
+    HOME, ARCHIVE = HERE, os.path.join(HERE, "lib", "libpelzaune.a")
 if not os.path.exists(ARCHIVE):
     raise SystemExit(f"no {ARCHIVE}: run make in the folder of the library, or set PELZAUNE_HOME")
 
@@ -19,7 +21,7 @@ setup(
             extra_objects=[ARCHIVE],
             extra_compile_args=["-std=c99", "-Wall", "-Wextra", "-fvisibility=hidden"],
             extra_link_args=["-Wl,--exclude-libs,ALL"],
-            depends=[ARCHIVE],
+            depends=[ARCHIVE, "pelzaune/asking.h", "pelzaune/columns.h"],
         )
     ]
 )

@@ -1,4 +1,4 @@
-"""Parses date-time texts by RFC 3339, mail dates of RFC 2822, ISO 8601, and descriptions of your own.
+"""Parses date-time texts by RFC 3339, mail dates of RFC 2822, ISO 8601, and descriptions of your own; and writes them.
 
 >>> import pelzaune
 >>> pelzaune.parse("1985-04-12T23:20:50.52Z")
@@ -20,18 +20,38 @@ datetime.datetime(2021, 1, 2, 3, 4, 5, tzinfo=datetime.timezone.utc)
 >>> pelzaune.parse_time("1:05 PM", "[hour repr:12 padding:none]:[minute] [period]")
 datetime.time(13, 5)
 
+The lines of a file are a column of numbers, of which a line that is refused has `NO_COUNT`:
+
+>>> pelzaune.column(b"1970-01-02T00:00:00Z\\n1970-01-01T00:00:00.000000001Z\\n?\\n")
+array('q', [86400000000000, 1, -9223372036854775808])
+
+A datetime is written too:
+
+>>> pelzaune.format_datetime(pelzaune.parse("1985-04-12T23:20:50.52-08:30"), pelzaune.RFC2822)
+'Fri, 12 Apr 1985 23:20:50 -0830'
+
 A text is a `str` or `bytes`, and is read as a whole. A call never returns a value for a text that its format refuses.
 """
 from pelzaune._pelzaune import (
     ISO8601,
+    NO_COUNT,
     RFC2822,
     RFC3339,
+    DescriptionError,
+    FormatError,
     ParseError,
+    column,
+    column_into,
+    format_datetime,
     parse,
     parse_date,
+    parse_parts,
     parse_time,
     unix_ns,
 )
 
-__all__ = ["ISO8601", "RFC2822", "RFC3339", "ParseError", "parse", "parse_date", "parse_time", "unix_ns"]
-__version__ = "1.0.0"
+__all__ = [
+    "ISO8601", "NO_COUNT", "RFC2822", "RFC3339", "DescriptionError", "FormatError", "ParseError", "column", "column_into",
+    "format_datetime", "parse", "parse_date", "parse_parts", "parse_time", "unix_ns",
+]
+__version__ = "1.1.0"

@@ -1,96 +1,31 @@
-/* The extension module: texts to Python's dates, times and numbers. */
-#define PY_SSIZE_T_CLEAN
-#include <Python.h>
-#include <datetime.h>
-#include "pelzaune.h"
-
-static PyObject *parse_error; /* pelzaune.ParseError */
-
-/* Raises ParseError with the text and the name of a component, or None where the length is 0. */
-static PyObject *raise(const char *text, const char *component, Py_ssize_t length)
-{
-    PyObject *error = PyObject_CallFunction(parse_error, "s", text);
-    PyObject *name = length ? PyUnicode_FromStringAndSize(component, length) : Py_NewRef(Py_None);
-    if (error && name && PyObject_SetAttrString(error, "component", name) == 0) PyErr_SetObject(parse_error, error);
-    Py_XDECREF(name);
-    Py_XDECREF(error);
-    return NULL;
-}
-
-static PyObject *refuse(pelzaune_status status)
-{
-    const char *name = "";
-    Py_ssize_t length = 0;
-    if (PELZAUNE_COMPONENT(status)) {
-        name = pelzaune_text(PELZAUNE_RANGE + 256 * PELZAUNE_COMPONENT(status));
-        length = (Py_ssize_t)(strlen(name) - strlen(" is out of range"));
-    }
-    return raise(pelzaune_text(status), name, length);
-}
-
-/* The text of a call, and its format: the number of one, or a description. */
-typedef struct {
-    const uint8_t *bytes, *description;
-    size_t length, description_length;
-    uint32_t number; /* of the format, or of the description's syntax */
-} question;
-
-/* The bytes of a `str` or of `bytes`. A `str` is read as UTF-8, which every format refuses where it isn't ASCII. */
-static const uint8_t *bytes_of(PyObject *text, const char *name, size_t *length)
-{
-    Py_ssize_t count = 0;
-    const char *bytes = NULL;
-    if (PyUnicode_Check(text)) bytes = PyUnicode_AsUTF8AndSize(text, &count);
-    else if (PyBytes_Check(text)) {
-        bytes = PyBytes_AS_STRING(text);
-        count = PyBytes_GET_SIZE(text);
-    } else PyErr_Format(PyExc_TypeError, "%s must be str or bytes, not %s", name, Py_TYPE(text)->tp_name);
-    *length = (size_t)count;
-    return (const uint8_t *)bytes;
-}
-
-/* Reads the arguments. A description with a `%` is one of strftime, and any other one is in brackets. */
-static int parse_arguments(PyObject *args, PyObject *named, question *asked)
-{
-    static char *names[] = { "text", "format", NULL };
-    PyObject *text, *format = NULL;
-    if (!PyArg_ParseTupleAndKeywords(args, named, "O|O", names, &text, &format)) return 0;
-    asked->bytes = bytes_of(text, "text", &asked->length);
-    asked->description = NULL;
-    asked->number = PELZAUNE_RFC3339;
-    if (!asked->bytes || !format) return asked->bytes != NULL;
-    if (PyLong_Check(format)) {
-        unsigned long number = PyLong_AsUnsignedLong(format);
-        asked->number = number > UINT32_MAX ? 0 : (uint32_t)number;
-        return !PyErr_Occurred();
-    }
-    asked->description = bytes_of(format, "format", &asked->description_length);
-    if (!asked->description) return 0;
-    asked->number = memchr(asked->description, '%', asked->description_length) ? PELZAUNE_STRFTIME : PELZAUNE_BRACKETS_2;
-    return 1;
-}
-
-/* What a call of the library answers, by a format or by a description. */
-#define ASK(target, asked, out) ((asked).description \
-    ? pelzaune_read_##target((asked).number, (asked).description, (asked).description_length, (asked).bytes, (asked).length, out) \
-    : pelzaune_parse_##target((asked).number, (asked).bytes, (asked).length, out))
+/* The extension module: texts to Python's dates, times and numbers, and back. */
+#include "asking.h"
+#include "columns.h"
 
 /* Python has the years 1 to 9999, and raises where there is none. */
-static int has_year(int32_t year)
+static inline int has_year(int32_t year)
 {
     if (year >= 1 && year <= 9999) return 1;
-    raise("year is out of the range 1 to 9999 of datetime", "year", 4);
+    raise(parse_error, "year is out of the range 1 to 9999 of datetime", PyUnicode_FromString("year"));
     return 0;
 }
 
-/* Python's zone of an offset, of less than a day. */
+/* Python's zone of an offset, of less than a day. The last zone of each place of a table is kept. */
 static PyObject *zone_of(int32_t offset)
 {
+    static struct { PyObject *zone; int32_t offset; } kept[128];
     if (offset == 0) return Py_NewRef(PyDateTime_TimeZone_UTC);
-    if (offset <= -86400 || offset >= 86400) return raise("offset hour is out of the range of datetime", "offset hour", 11);
+    if (offset <= -86400 || offset >= 86400)
+        return raise(parse_error, "offset hour is out of the range of datetime", PyUnicode_FromString("offset hour"));
+    size_t place = (size_t)(uint32_t)((offset + 86400) / 900) % 128;
+    if (kept[place].zone && kept[place].offset == offset) return Py_NewRef(kept[place].zone);
     PyObject *delta = PyDelta_FromDSU(0, offset, 0);
     PyObject *zone = delta ? PyTimeZone_FromOffset(delta) : NULL;
     Py_XDECREF(delta);
+    if (zone) {
+        kept[place].offset = offset;
+        Py_XSETREF(kept[place].zone, Py_NewRef(zone));
+    }
     return zone;
 }
 
@@ -106,55 +41,82 @@ static PyObject *datetime_of(const pelzaune_moment *m, PyObject *zone)
     return value;
 }
 
-static PyObject *parse(PyObject *self, PyObject *args, PyObject *named)
+static PyObject *parse(GIVEN)
 {
     question asked;
     pelzaune_moment m;
     (void)self;
-    if (!parse_arguments(args, named, &asked)) return NULL;
+    if (!ask("parse", given, count, named, &asked)) return NULL;
     pelzaune_status status = ASK(moment, asked, &m);
     if (status == PELZAUNE_OK) return datetime_of(&m, zone_of(m.offset));
     pelzaune_local l;
-    if (status != PELZAUNE_INSUFFICIENT || ASK(local, asked, &l) != PELZAUNE_OK)
-        return refuse(status);
+    if (status != PELZAUNE_INSUFFICIENT || ASK(local, asked, &l) != PELZAUNE_OK) return refuse(status, &asked);
     /* a text without an offset has a datetime without a zone */
     pelzaune_moment shown = { l.year, l.nanosecond, 0, l.month, l.day, l.hour, l.minute, l.second };
     return datetime_of(&shown, Py_NewRef(Py_None));
 }
 
-static PyObject *parse_date(PyObject *self, PyObject *args, PyObject *named)
+static PyObject *date_of(const pelzaune_date *d)
+{
+    return has_year(d->year) ? PyDate_FromDate(d->year, d->month, d->day) : NULL;
+}
+
+static PyObject *time_of(const pelzaune_time *t)
+{
+    return PyTime_FromTime(t->hour, t->minute, t->second, (int)(t->nanosecond / 1000));
+}
+
+static PyObject *parse_date(GIVEN)
 {
     question asked;
     pelzaune_date d;
     (void)self;
-    if (!parse_arguments(args, named, &asked)) return NULL;
+    if (!ask("parse_date", given, count, named, &asked)) return NULL;
     pelzaune_status status = ASK(date, asked, &d);
-    if (status != PELZAUNE_OK) return refuse(status);
-    return has_year(d.year) ? PyDate_FromDate(d.year, d.month, d.day) : NULL;
+    return status == PELZAUNE_OK ? date_of(&d) : refuse(status, &asked);
 }
 
-static PyObject *parse_time(PyObject *self, PyObject *args, PyObject *named)
+static PyObject *parse_time(GIVEN)
 {
     question asked;
     pelzaune_time t;
     (void)self;
-    if (!parse_arguments(args, named, &asked)) return NULL;
+    if (!ask("parse_time", given, count, named, &asked)) return NULL;
     pelzaune_status status = ASK(time, asked, &t);
-    if (status != PELZAUNE_OK) return refuse(status);
-    return PyTime_FromTime(t.hour, t.minute, t.second, (int)(t.nanosecond / 1000));
+    return status == PELZAUNE_OK ? time_of(&t) : refuse(status, &asked);
 }
 
-static PyObject *unix_ns(PyObject *self, PyObject *args, PyObject *named)
+static PyObject *parse_parts(GIVEN)
+{
+    question asked;
+    pelzaune_parts p;
+    (void)self;
+    if (!ask("parse_parts", given, count, named, &asked)) return NULL;
+    pelzaune_status status = ASK(parts, asked, &p);
+    if (status != PELZAUNE_OK) return refuse(status, &asked);
+    pelzaune_status each[] = { p.date_status, p.time_status, p.offset_status };
+    for (int k = 0; k < 3; k++)
+        if (each[k] != PELZAUNE_OK && each[k] != PELZAUNE_INSUFFICIENT) return refuse(each[k], &asked);
+    PyObject *date = p.date_status ? Py_NewRef(Py_None) : date_of(&p.date);
+    PyObject *time = p.time_status ? Py_NewRef(Py_None) : time_of(&p.time);
+    PyObject *zone = p.offset_status ? Py_NewRef(Py_None) : zone_of(p.offset);
+    PyObject *parts = date && time && zone ? PyTuple_Pack(3, date, time, zone) : NULL;
+    Py_XDECREF(date);
+    Py_XDECREF(time);
+    Py_XDECREF(zone);
+    return parts;
+}
+
+static PyObject *unix_ns(GIVEN)
 {
     question asked;
     pelzaune_instant i;
-    int64_t count;
+    int64_t nanoseconds;
     (void)self;
-    if (!parse_arguments(args, named, &asked)) return NULL;
-    pelzaune_status status = ASK(nanoseconds, asked, &count);
-    if (status == PELZAUNE_OK) return PyLong_FromLongLong(count);
-    if (status != PELZAUNE_TOO_WIDE || ASK(instant, asked, &i) != PELZAUNE_OK)
-        return refuse(status);
+    if (!ask("unix_ns", given, count, named, &asked)) return NULL;
+    pelzaune_status status = ASK(nanoseconds, asked, &nanoseconds);
+    if (status == PELZAUNE_OK) return PyLong_FromLongLong(nanoseconds);
+    if (status != PELZAUNE_TOO_WIDE || ASK(instant, asked, &i) != PELZAUNE_OK) return refuse(status, &asked);
     PyObject *seconds = PyLong_FromLongLong(i.seconds), *billion = PyLong_FromLong(1000000000);
     PyObject *whole = seconds && billion ? PyNumber_Multiply(seconds, billion) : NULL;
     PyObject *rest = PyLong_FromUnsignedLong(i.nanoseconds);
@@ -166,30 +128,103 @@ static PyObject *unix_ns(PyObject *self, PyObject *args, PyObject *named)
     return sum;
 }
 
-#define CALL(name, doc) { #name, (PyCFunction)(void (*)(void))name, METH_VARARGS | METH_KEYWORDS, #name "(text, format=RFC3339)\n--\n\n" doc }
+/* How many seconds a datetime's clock is ahead of UTC. */
+static int offset_of(PyObject *value, int32_t *offset)
+{
+    PyObject *delta = PyObject_CallMethod(value, "utcoffset", NULL);
+    int known = delta && PyDelta_Check(delta);
+    if (delta && !known) raise(format_error, "a datetime without a zone has no text", PyUnicode_FromString("offset hour"));
+    if (known && PyDateTime_DELTA_GET_MICROSECONDS(delta)) {
+        raise(format_error, "an offset of a part of a second has no text", PyUnicode_FromString("offset second"));
+        known = 0;
+    }
+    if (known) *offset = PyDateTime_DELTA_GET_DAYS(delta) * 86400 + PyDateTime_DELTA_GET_SECONDS(delta);
+    Py_XDECREF(delta);
+    return known;
+}
+
+static PyObject *format_datetime(GIVEN)
+{
+    static const char *const names[] = { "value", "format" };
+    PyObject *values[2];
+    question asked;
+    uint8_t text[PELZAUNE_MOMENT_TEXT];
+    size_t length;
+    int32_t offset;
+    (void)self;
+    if (!arguments("format_datetime", names, 1, 2, given, count, named, values) || !format_of(values[1], &asked)) return NULL;
+    if (asked.description) {
+        PyErr_SetString(PyExc_TypeError, "format must be RFC3339, RFC2822 or ISO8601: no text is written by a description");
+        return NULL;
+    }
+    if (!PyDateTime_Check(values[0])) {
+        PyErr_Format(PyExc_TypeError, "value must be datetime, not %s", Py_TYPE(values[0])->tp_name);
+        return NULL;
+    }
+    if (!offset_of(values[0], &offset)) return NULL;
+    pelzaune_moment m = { PyDateTime_GET_YEAR(values[0]), 1000 * (uint32_t)PyDateTime_DATE_GET_MICROSECOND(values[0]), offset,
+        (uint8_t)PyDateTime_GET_MONTH(values[0]), (uint8_t)PyDateTime_GET_DAY(values[0]), (uint8_t)PyDateTime_DATE_GET_HOUR(values[0]),
+        (uint8_t)PyDateTime_DATE_GET_MINUTE(values[0]), (uint8_t)PyDateTime_DATE_GET_SECOND(values[0]) };
+    pelzaune_status status = pelzaune_format_moment(asked.number, &m, text, sizeof text, &length);
+    if (status != PELZAUNE_OK) return raise(format_error, pelzaune_text(status), name_of(PELZAUNE_COMPONENT(status)));
+    return PyUnicode_FromStringAndSize((const char *)text, (Py_ssize_t)length);
+}
+
+#define CALL(name, signature, doc) { #name, (PyCFunction)(void (*)(void))name, METH_FASTCALL | METH_KEYWORDS, #name signature "\n--\n\n" doc }
+#define OF_TEXT "(text, format=RFC3339)"
 
 static PyMethodDef methods[] = {
-    CALL(parse, "The datetime of a whole text.\n\n"
+    CALL(parse, OF_TEXT, "The datetime of a whole text.\n\n"
         "A text of ISO 8601 without an offset has a datetime without a zone. Digits after the microsecond are dropped, and\n"
         "a leap second is the last microsecond before it. Raises ParseError, also outside the years 1 to 9999."),
-    CALL(parse_date, "The date of a whole text. Raises ParseError, also outside the years 1 to 9999."),
-    CALL(parse_time, "The time of a whole text, without a zone. Digits after the microsecond are dropped. Raises ParseError."),
-    CALL(unix_ns, "The nanoseconds from 1970-01-01T00:00:00Z to the instant of a whole text, which needs an offset.\n\n"
+    CALL(parse_date, OF_TEXT, "The date of a whole text. Raises ParseError, also outside the years 1 to 9999."),
+    CALL(parse_time, OF_TEXT, "The time of a whole text, without a zone. Digits after the microsecond are dropped. Raises ParseError."),
+    CALL(parse_parts, OF_TEXT, "The date, the time and the zone of a whole text, each None where the text says too little of it.\n\n"
+        "Raises ParseError."),
+    CALL(unix_ns, OF_TEXT, "The nanoseconds from 1970-01-01T00:00:00Z to the instant of a whole text, which needs an offset.\n\n"
         "They are exact, and of any size. Raises ParseError."),
+    CALL(column, OF_TEXT, "The nanoseconds of each line of a text, as array('q'). A line that is refused has NO_COUNT.\n\n"
+        "The text is str, or any contiguous buffer. A line ends with LF, which the last may lack. Other threads run\n"
+        "meanwhile. Raises ParseError where the format is none."),
+    CALL(column_into, "(text, out, format=RFC3339)", "Puts the nanoseconds of each line of a text into a writable buffer of numbers of 64 bits.\n\n"
+        "As many lines are parsed as the buffer has numbers. Answers how many lines the text has, and how many of the\n"
+        "parsed ones are refused and have NO_COUNT. Raises ParseError where the format is none."),
+    CALL(format_datetime, "(value, format=RFC3339)", "The text of a datetime with a zone. Raises FormatError where it has none in that format."),
     { NULL, NULL, 0, NULL },
 };
 
 static struct PyModuleDef module = { PyModuleDef_HEAD_INIT, "pelzaune._pelzaune", NULL, -1, methods, NULL, NULL, NULL, NULL };
 
+/* Adds an exception that has those attributes. */
+static PyObject *add_error(PyObject *made, const char *name, PyObject *base, const char *doc, PyObject *attributes)
+{
+    char whole[64];
+    snprintf(whole, sizeof whole, "pelzaune.%s", name);
+    PyObject *error = attributes ? PyErr_NewExceptionWithDoc(whole, doc, base, attributes) : NULL;
+    Py_XDECREF(attributes);
+    if (error && PyModule_AddObjectRef(made, name, error)) Py_CLEAR(error);
+    return error;
+}
+
 static int add_names(PyObject *made)
 {
-    PyObject *attributes = Py_BuildValue("{s:O}", "component", Py_None);
-    if (!attributes) return -1;
-    parse_error = PyErr_NewExceptionWithDoc("pelzaune.ParseError",
-        "Why a text has no value. `component` is the name of the component that is wrong, or None.", PyExc_ValueError, attributes);
-    Py_DECREF(attributes);
-    if (!parse_error || PyModule_AddObjectRef(made, "ParseError", parse_error)) return -1;
-    return PyModule_AddIntConstant(made, "RFC3339", PELZAUNE_RFC3339) || PyModule_AddIntConstant(made, "RFC2822", PELZAUNE_RFC2822)
+    parse_error = add_error(made, "ParseError", PyExc_ValueError,
+        "Why a text has no value. `component` is the name of the component that is wrong, or None.",
+        Py_BuildValue("{s:O}", "component", Py_None));
+    description_error = !parse_error ? NULL : add_error(made, "DescriptionError", parse_error,
+        "Why a text is no description. `index` is that of its first fault, or None where it is too long.",
+        Py_BuildValue("{s:O}", "index", Py_None));
+    format_error = add_error(made, "FormatError", PyExc_ValueError,
+        "Why a datetime has no text. `component` is the name of the component that the format has no text for, or None.",
+        Py_BuildValue("{s:O}", "component", Py_None));
+    if (!parse_error || !description_error || !format_error) return -1;
+    PyObject *arrays = PyImport_ImportModule("array");
+    array_of_q = arrays ? PyObject_CallMethod(arrays, "array", "s[i]", "q", 0) : NULL;
+    PyObject *least = PyLong_FromLongLong(PELZAUNE_NO_COUNT);
+    int failed = !array_of_q || !least || PyModule_AddObjectRef(made, "NO_COUNT", least);
+    Py_XDECREF(arrays);
+    Py_XDECREF(least);
+    return failed || PyModule_AddIntConstant(made, "RFC3339", PELZAUNE_RFC3339) || PyModule_AddIntConstant(made, "RFC2822", PELZAUNE_RFC2822)
         || PyModule_AddIntConstant(made, "ISO8601", PELZAUNE_ISO8601);
 }
 

@@ -1,4 +1,5 @@
 """Tests of the Python module, against datetime and email.utils."""
+import array
 import datetime
 import doctest
 import email.utils
@@ -6,6 +7,7 @@ import pickle
 import random
 import subprocess
 import sys
+import threading
 import unittest
 
 import pelzaune
@@ -52,6 +54,31 @@ class Values(unittest.TestCase):
         self.assertEqual(pelzaune.unix_ns("2262-04-11T23:47:16.854775808Z"), 2**63)
         self.assertEqual(pelzaune.unix_ns("1677-09-21T00:12:43.145224191Z"), -(2**63) - 1)
 
+    def test_parts(self):
+        self.assertEqual(pelzaune.parse_parts("2020-W53-5", pelzaune.ISO8601), (datetime.date(2021, 1, 1), None, None))
+        self.assertEqual(pelzaune.parse_parts("23:59 -0030", "%H:%M %z"), (None, datetime.time(23, 59), zone(-30)))
+        self.assertEqual(pelzaune.parse_parts("2021-01-02T03:04:05.5Z"), (datetime.date(2021, 1, 2), datetime.time(3, 4, 5, 500000), UTC))
+        self.assertRaises(pelzaune.ParseError, pelzaune.parse_parts, "2021-02-30T03:04:05Z")
+
+    def test_zones_are_kept_apart(self):
+        for seconds in [*range(-86340, 86400, 60), *range(-86399, 86400, 977)] * 2:
+            sign, rest = "-" if seconds < 0 else "+", abs(seconds)
+            text = f"2021-01-02T03:04:05{sign}{rest // 3600:02}:{rest // 60 % 60:02}"
+            self.assertEqual(pelzaune.parse(text).utcoffset(), datetime.timedelta(minutes=(-1 if seconds < 0 else 1) * (rest // 60)))
+
+    def test_texts(self):
+        when = datetime.datetime(1985, 4, 12, 23, 20, 50, 520000, zone(-510))
+        self.assertEqual(pelzaune.format_datetime(when), "1985-04-12T23:20:50.52-08:30")
+        self.assertEqual(pelzaune.format_datetime(when, pelzaune.ISO8601), "1985-04-12T23:20:50.520000000-08:30")
+        r = random.Random(822)
+        for _ in range(2000):
+            when = datetime.datetime(r.randint(1900, 9999), r.randint(1, 12), r.randint(1, 28), r.randint(0, 23), r.randint(0, 59),
+                                     r.randint(0, 59), r.choice([0, r.randint(0, 999999)]), zone(r.randint(-1439, 1439)))
+            self.assertEqual(pelzaune.format_datetime(value=when, format=pelzaune.RFC2822), email.utils.format_datetime(when))
+            for form in (pelzaune.RFC3339, pelzaune.ISO8601):
+                got = pelzaune.parse(pelzaune.format_datetime(when, form), form)
+                self.assertEqual((got, got.utcoffset()), (when, when.utcoffset()))
+
     def test_against_datetime_and_email(self):
         r = random.Random(3339)
         for _ in range(3000):
@@ -70,6 +97,53 @@ class Values(unittest.TestCase):
                 text = email.utils.format_datetime(when)
                 got = pelzaune.parse(text, pelzaune.RFC2822)
                 self.assertEqual((got, got.utcoffset()), (email.utils.parsedate_to_datetime(text), when.utcoffset()))
+
+
+class Columns(unittest.TestCase):
+    LINES = b"1970-01-01T00:00:01Z\n\n1970-01-01T00:00:02Zx\n1969-12-31T23:59:59.5-00:01"
+    COUNTS = [10**9, pelzaune.NO_COUNT, pelzaune.NO_COUNT, 59500000000]
+
+    def test_buffers(self):
+        for lines in (self.LINES, self.LINES.decode(), bytearray(self.LINES), memoryview(self.LINES), array.array("b", self.LINES)):
+            got = pelzaune.column(lines)
+            self.assertEqual((got.typecode, got.tolist()), ("q", self.COUNTS))
+        self.assertEqual(pelzaune.column("").tolist(), [])
+        self.assertEqual(pelzaune.column(format="[unix_timestamp]", text="1\n-1\n").tolist(), [10**9, -(10**9)])
+        self.assertEqual(pelzaune.column("Fri, 02 Jan 1970 00:00:00 GMT", pelzaune.RFC2822).tolist(), [86400 * 10**9])
+
+    def test_into(self):
+        out = array.array("q", [7] * 5)
+        self.assertEqual(pelzaune.column_into(self.LINES, out), (4, 2))
+        self.assertEqual(out.tolist(), [*self.COUNTS, 7])
+        self.assertEqual(pelzaune.column_into(self.LINES, memoryview(out)[3:]), (4, 1))
+        self.assertEqual(out.tolist(), [*self.COUNTS[:3], 10**9, pelzaune.NO_COUNT])
+        bytes_of = bytearray(16)
+        self.assertEqual(pelzaune.column_into(self.LINES, memoryview(bytes_of).cast("q"), pelzaune.RFC3339), (4, 1))
+        self.assertEqual(int.from_bytes(bytes_of[:8], "little"), 10**9)
+
+    def test_each_line_as_alone(self):
+        r = random.Random(1)
+        texts = [f"20{r.randrange(100):02}-{r.randint(1, 13):02}-{r.randint(1, 31):02}T03:04:05Z" for _ in range(20000)]
+        counts = []
+        for text in texts:
+            try:
+                counts.append(pelzaune.unix_ns(text))
+            except pelzaune.ParseError:
+                counts.append(pelzaune.NO_COUNT)
+        self.assertTrue(1000 < counts.count(pelzaune.NO_COUNT) < 10000)
+        self.assertEqual(pelzaune.column("\n".join(texts)).tolist(), counts)
+
+    def test_others_run_meanwhile(self):
+        lines = b"2021-01-02T03:04:05.123456789+05:30\n" * 400000
+        done, turns = threading.Event(), 0
+        columns = []
+        thread = threading.Thread(target=lambda: (columns.append(pelzaune.column(lines)), done.set()))
+        thread.start()
+        while not done.is_set():
+            turns += 1
+        thread.join()
+        self.assertTrue(turns > 1000)
+        self.assertEqual(set(columns[0]), {pelzaune.unix_ns("2021-01-02T03:04:05.123456789+05:30")})
 
 
 class Refusals(unittest.TestCase):
@@ -92,6 +166,29 @@ class Refusals(unittest.TestCase):
     def test_faults_of_descriptions(self):
         self.refused("2021", "no component has that name", None, format="[yaer]")
         self.refused("2021", "that is not supported in a description", None, format="%Z")
+        for call in (pelzaune.parse, pelzaune.column):
+            with self.assertRaises(pelzaune.DescriptionError) as caught:
+                call("2021", "[year]-[moth]")
+            self.assertEqual((caught.exception.index, caught.exception.component), (8, None))
+        with self.assertRaises(pelzaune.DescriptionError) as caught:
+            pelzaune.parse("2021", "-" * 65)
+        self.assertEqual((str(caught.exception), caught.exception.index), ("the description is too long", None))
+
+    def test_texts(self):
+        def why(when, form):
+            with self.assertRaises(pelzaune.FormatError) as caught:
+                pelzaune.format_datetime(when, form)
+            self.assertIsInstance(caught.exception, ValueError)
+            return str(caught.exception), caught.exception.component
+
+        when = datetime.datetime(1899, 1, 2, tzinfo=UTC)
+        self.assertEqual(why(when, pelzaune.RFC2822), ("the 'year' component has no text in that format", "year"))
+        self.assertEqual(why(when.replace(tzinfo=None), pelzaune.RFC3339), ("a datetime without a zone has no text", "offset hour"))
+        odd = datetime.timezone(datetime.timedelta(seconds=1))
+        self.assertEqual(why(when.replace(tzinfo=odd), pelzaune.RFC3339)[1], "offset second")
+        odd = datetime.timezone(datetime.timedelta(microseconds=1))
+        self.assertEqual(why(when.replace(tzinfo=odd), pelzaune.RFC3339)[1], "offset second")
+        self.assertEqual(why(when, 9), ("no format has that number", None))
 
     def test_what_python_lacks(self):
         self.refused("0000-01-02T03:04:05Z", "year is out of the range 1 to 9999 of datetime", "year")
@@ -128,8 +225,10 @@ class Program(unittest.TestCase):
 class Documents(unittest.TestCase):
     def test_examples(self):
         self.assertEqual(doctest.testmod(pelzaune).failed, 0)
-        for call in (pelzaune.parse, pelzaune.parse_date, pelzaune.parse_time, pelzaune.unix_ns):
-            self.assertIn("ParseError", call.__doc__)
+        for name in pelzaune.__all__:
+            if callable(call := getattr(pelzaune, name)):
+                self.assertTrue(call.__doc__)
+                self.assertTrue(isinstance(call, type) or "Error" in call.__doc__)
 
 
 if __name__ == "__main__":

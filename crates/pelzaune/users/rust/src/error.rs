@@ -37,6 +37,8 @@ pub enum Kind {
     NotSupported,
     /// The description has too many steps.
     TooLong,
+    /// Of a moment that is written: the format has no text for the component.
+    NoText,
     /// A kind that this crate doesn't know.
     Unknown,
 }
@@ -60,6 +62,7 @@ impl Kind {
             14 => Kind::Expected,
             15 => Kind::NotSupported,
             16 => Kind::TooLong,
+            18 => Kind::NoText,
             _ => Kind::Unknown,
         }
     }
@@ -84,13 +87,18 @@ impl Error {
 
     /// The name of the component that is wrong, if it is one.
     pub fn component(self) -> Option<String> {
-        let number = self.0.get() >> 8;
-        if number == 0 {
-            return None;
-        }
-        let text = text_of(5 + 256 * number);
-        Some(text.strip_suffix(" is out of range")?.to_string())
+        component_of(self.0.get())
     }
+}
+
+// The name of the component of a status, if it has one.
+pub(crate) fn component_of(status: u32) -> Option<String> {
+    let number = status >> 8;
+    if number == 0 {
+        return None;
+    }
+    let text = text_of(5 + 256 * number);
+    Some(text.strip_suffix(" is out of range")?.to_string())
 }
 
 // What a status says.

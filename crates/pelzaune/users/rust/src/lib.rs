@@ -27,16 +27,37 @@
 //! # Ok::<(), Box<dyn std::error::Error>>(())
 //! ```
 
+//!
+//! A moment is written into text, and the lines of a file are parsed into a column of numbers:
+//!
+//! ```
+//! use pelzaune::{column, Format, Moment};
+//!
+//! let moment = Moment::parse("1985-04-12T23:20:50.52Z", Format::Rfc3339)?;
+//! assert_eq!(moment.text(Format::Rfc2822)?.as_str(), "Fri, 12 Apr 1985 23:20:50 +0000");
+//!
+//! let mut entries = [0; 2];
+//! let column = column("1970-01-02T00:00:00Z\n?\n", Format::Rfc3339, &mut entries);
+//! assert_eq!((entries, column.lines, column.refused), ([86_400_000_000_000, i64::MIN], 2, 1));
+//! # Ok::<(), pelzaune::Error>(())
+//! ```
+
 use std::mem::MaybeUninit;
 use std::num::NonZeroU32;
 use std::time::{Duration, SystemTime, UNIX_EPOCH};
 
+mod column;
 mod description;
 mod error;
 mod ffi;
+mod parts;
+mod text;
 
+pub use column::{column, Column};
 pub use description::{Description, InvalidDescription};
 pub use error::{Error, Kind};
+pub use parts::Parts;
+pub use text::MomentText;
 
 /// The formats.
 #[derive(Clone, Copy, Debug, PartialEq, Eq, Hash)]
@@ -130,7 +151,7 @@ pub struct Instant {
 }
 
 // The value that a call wrote, where its status is 0.
-fn answer<T>(call: impl FnOnce(*mut T) -> u32) -> Result<T, Error> {
+pub(crate) fn answer<T>(call: impl FnOnce(*mut T) -> u32) -> Result<T, Error> {
     let mut value = MaybeUninit::uninit();
     match NonZeroU32::new(call(value.as_mut_ptr())) {
         // SAFETY: a call with the status 0 has written each member of the value.
@@ -159,6 +180,8 @@ macro_rules! parse {
         answer(|out| unsafe { ffi::$parse(number, text.as_ptr(), text.len(), out) })
     }};
 }
+
+pub(crate) use parse;
 
 impl Date {
     /// The date of a whole text.

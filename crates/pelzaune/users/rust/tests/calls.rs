@@ -1,4 +1,5 @@
-use pelzaune::{parse_nanoseconds, parse_offset, Date, Description, Format, Instant, Kind, Local, Moment, Time};
+use pelzaune::{column, parse_nanoseconds, parse_offset, Column, Date, Description, Format, Instant, Kind, Local, Moment};
+use pelzaune::{Parts, Time};
 use std::time::{Duration, UNIX_EPOCH};
 
 #[test]
@@ -64,4 +65,43 @@ fn the_clock_of_the_system() {
 #[test]
 fn the_interface_is_the_one_that_was_written_for() {
     assert_eq!(pelzaune::version() >> 8, 1);
+}
+
+#[test]
+fn parts() {
+    let parts = Parts::parse("2020-W53-5", Format::Iso8601).unwrap();
+    assert_eq!(parts.date, Ok(Date { year: 2021, month: 1, day: 1 }));
+    assert_eq!((parts.time.unwrap_err().kind(), parts.offset.unwrap_err().kind()), (Kind::Insufficient, Kind::Insufficient));
+    let clock = Format::Described(Description::strftime("%H:%M %z").unwrap());
+    let parts = Parts::parse("23:59 -0030", clock).unwrap();
+    assert_eq!((parts.time.map(|t| (t.hour, t.minute)), parts.offset), (Ok((23, 59)), Ok(-1_800)));
+    assert_eq!(Parts::parse("2020-W53-5x", Format::Iso8601).unwrap_err().kind(), Kind::Trailing);
+}
+
+#[test]
+fn columns() {
+    let lines = "1970-01-01T00:00:01Z\n\n1970-01-01T00:00:02Zx\n1969-12-31T23:59:59.5-00:01";
+    let mut entries = [7; 5];
+    let all = column(lines, Format::Rfc3339, &mut entries);
+    assert_eq!(all, Column { lines: 4, refused: 2 });
+    assert_eq!(entries, [1_000_000_000, i64::MIN, i64::MIN, 59_500_000_000, 7]);
+    assert_eq!(column(lines, Format::Rfc3339, &mut entries[..1]), Column { lines: 4, refused: 0 });
+    assert_eq!(column("", Format::Rfc3339, &mut []), Column { lines: 0, refused: 0 });
+    let days = Format::Described(Description::brackets("[unix_timestamp]").unwrap());
+    assert_eq!(column("1\n-1\n", days, &mut entries), Column { lines: 2, refused: 0 });
+    assert_eq!(entries[..2], [1_000_000_000, -1_000_000_000]);
+}
+
+#[test]
+fn texts() {
+    let m = Moment::parse("1985-04-12T23:20:50.52-08:30", Format::Rfc3339).unwrap();
+    assert_eq!(m.text(Format::Rfc3339).unwrap().as_str(), "1985-04-12T23:20:50.52-08:30");
+    assert_eq!(m.text(Format::Iso8601).unwrap().to_string(), "1985-04-12T23:20:50.520000000-08:30");
+    assert_eq!(m.text(Format::Rfc2822).unwrap().as_str(), "Fri, 12 Apr 1985 23:20:50 -0830");
+    let error = Moment { year: 1899, ..m }.text(Format::Rfc2822).unwrap_err();
+    assert_eq!((error.kind(), error.component().as_deref()), (Kind::NoText, Some("year")));
+    let error = Moment { month: 4, day: 31, ..m }.text(Format::Rfc3339).unwrap_err();
+    assert_eq!(error.to_string(), "day is out of range for the other components");
+    let ymd = Format::Described(Description::brackets("[year]").unwrap());
+    assert_eq!(m.text(ymd).unwrap_err().kind(), Kind::Unknown);
 }

@@ -1,0 +1,39 @@
+#!/bin/sh
+# Packs what users of the library take.
+#
+#     pack.sh VERSION TARGET
+#
+# It stands in the library's folder, whose libraries and module are built, and writes TARGET, an archive with one folder
+# pelzaune-VERSION. PYTHON names the Python of the wheel.
+set -e
+version=$1 target=$(realpath -m "$2") python=${PYTHON:-python3}
+at=$(mktemp -d)
+trap 'rm -rf "$at"' EXIT
+all=$at/pelzaune-$version
+mkdir -p "$all/c/include" "$all/c/lib/pkgconfig" "$all/rust/lib" "$all/python"
+cp ../../LICENSE-MIT ../../LICENSE-Apache users/dist/README.md "$all"
+
+cp users/dist/c.md "$all/c/README.md"
+cp users/dist/moment.c "$all/c"
+cp include/pelzaune.h "$all/c/include"
+cp out/libpelzaune.a "$all/c/lib"
+cp out/c/libpelzaune.so "$all/c/lib/libpelzaune.so.1"
+ln -s libpelzaune.so.1 "$all/c/lib/libpelzaune.so"
+sed -e "s|@PREFIX@|/usr/local|" -e "s|@VERSION@|$version|" pelzaune.pc.in > "$all/c/lib/pkgconfig/pelzaune.pc"
+
+cp -r users/rust/. "$all/rust"
+cp users/dist/rust.md "$all/rust/README.md"
+cp out/libpelzaune.a "$all/rust/lib"
+
+cp users/dist/python.md "$all/python/README.md"
+"$python" users/dist/wheel.py out/c/python "$version.0" "$all/python"
+source=$at/source
+cp -r users/python "$source"
+mkdir "$source/include" "$source/lib"
+cp include/pelzaune.h "$source/include"
+cp out/libpelzaune.a "$source/lib"
+cp users/dist/python.md "$source/README.md"
+cp ../../LICENSE-MIT ../../LICENSE-Apache "$source"
+(cd "$source" && "$python" setup.py --quiet sdist --dist-dir "$all/python" > "$at/log" 2>&1) || { cat "$at/log"; exit 1; }
+
+tar -C "$at" -czf "$target" "pelzaune-$version"

@@ -1,0 +1,39 @@
+"""Packs a built package into a wheel.
+
+    wheel.py FOLDER VERSION TARGET
+
+FOLDER holds the package `pelzaune` with its extension module, and the wheel is written into TARGET.
+"""
+import base64
+import hashlib
+import os
+import sys
+import sysconfig
+import zipfile
+
+folder, version, target = sys.argv[1:]
+python = f"cp{sys.version_info.major}{sys.version_info.minor}"
+platform = sysconfig.get_platform().replace("-", "_").replace(".", "_")
+tag = f"{python}-{python}-{platform}"
+info = f"pelzaune-{version}.dist-info"
+files = {}
+for name in sorted(os.listdir(f"{folder}/pelzaune")):
+    if not name.endswith((".c", ".h")) and os.path.isfile(f"{folder}/pelzaune/{name}"):
+        with open(f"{folder}/pelzaune/{name}", "rb") as file:
+            files[f"pelzaune/{name}"] = file.read()
+files[f"{info}/METADATA"] = (
+    f"Metadata-Version: 2.1\nName: pelzaune\nVersion: {version}\n"
+    "Summary: Parses date-time texts by RFC 3339, RFC 2822 and ISO 8601\n"
+    "License: MIT OR Apache-2.0\nRequires-Python: >=3.10\n").encode()
+files[f"{info}/WHEEL"] = f"Wheel-Version: 1.0\nGenerator: pelzaune\nRoot-Is-Purelib: false\nTag: {tag}\n".encode()
+record = ""
+for name, data in files.items():
+    digest = base64.urlsafe_b64encode(hashlib.sha256(data).digest()).rstrip(b"=").decode()
+    record += f"{name},sha256={digest},{len(data)}\n"
+files[f"{info}/RECORD"] = f"{record}{info}/RECORD,,\n".encode()
+with zipfile.ZipFile(f"{target}/pelzaune-{version}-{tag}.whl", "w", zipfile.ZIP_DEFLATED) as wheel:
+    for name, data in files.items():
+        member = zipfile.ZipInfo(name)
+        member.external_attr = 0o100644 << 16
+        member.compress_type = zipfile.ZIP_DEFLATED
+        wheel.writestr(member, data)

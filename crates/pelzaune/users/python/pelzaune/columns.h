@@ -1,0 +1,123 @@
+/* The lines of a text, as numbers in a buffer. */
+#ifndef COLUMNS_H
+#define COLUMNS_H
+
+#include "asking.h"
+
+static PyObject *array_of_q; /* array('q', [0]) */
+
+/* The lines of a column: a buffer that is held, or bytes that a call may read while the interpreter runs on. */
+typedef struct {
+    Py_buffer held;
+    int is_held;
+    uint8_t *copy; /* of a buffer that others may change meanwhile */
+    question asked;
+} lines;
+
+/* Lets the lines go. */
+static void release(lines *these)
+{
+    if (these->is_held) PyBuffer_Release(&these->held);
+    PyMem_RawFree(these->copy);
+}
+
+/* Takes the lines of a `str` or of a contiguous buffer, and the format. */
+static int take_lines(PyObject *text, PyObject *format, lines *these)
+{
+    memset(these, 0, sizeof *these);
+    if (!format_of(format, &these->asked)) return 0;
+    if (PyUnicode_Check(text) || PyBytes_Check(text)) {
+        these->asked.bytes = bytes_of(text, "text", &these->asked.length);
+        return these->asked.bytes != NULL;
+    }
+    if (PyObject_GetBuffer(text, &these->held, PyBUF_SIMPLE)) return 0;
+    these->is_held = 1;
+    these->asked.bytes = these->held.buf;
+    these->asked.length = (size_t)these->held.len;
+    if (these->held.readonly) return 1;
+    these->copy = PyMem_RawMalloc(these->asked.length + 1);
+    if (!these->copy) {
+        PyErr_NoMemory();
+        release(these);
+        return 0;
+    }
+    memcpy(these->copy, these->held.buf, these->asked.length);
+    these->asked.bytes = these->copy;
+    return 1;
+}
+
+/* Parses the lines, as many as there are entries, and answers how many there are. The interpreter runs on meanwhile. */
+static size_t read_lines(const question *asked, int64_t *entries, size_t capacity, size_t *refused)
+{
+    size_t all;
+    Py_BEGIN_ALLOW_THREADS
+    all = asked->description
+        ? pelzaune_read_column(asked->number, asked->description, asked->description_length, asked->bytes, asked->length,
+            entries, capacity, refused)
+        : pelzaune_column(asked->number, asked->bytes, asked->length, entries, capacity, refused);
+    Py_END_ALLOW_THREADS
+    return all;
+}
+
+/* A format that there isn't, and a description that is none, are raised before any line is parsed. */
+static int is_format(const question *asked)
+{
+    pelzaune_status status = PELZAUNE_OK;
+    size_t index;
+    if (asked->description)
+        status = pelzaune_check_description(asked->number, asked->description, asked->description_length, &index);
+    else if (asked->number < PELZAUNE_RFC3339 || asked->number > PELZAUNE_ISO8601) status = PELZAUNE_UNKNOWN_FORMAT;
+    if (status != PELZAUNE_OK) refuse(status, asked);
+    return status == PELZAUNE_OK;
+}
+
+static PyObject *column(GIVEN)
+{
+    static const char *const names[] = { "text", "format" };
+    PyObject *values[2];
+    lines these;
+    Py_buffer entries;
+    size_t refused;
+    (void)self;
+    if (!arguments("column", names, 1, 2, given, count, named, values) || !take_lines(values[0], values[1], &these)) return NULL;
+    PyObject *made = is_format(&these.asked) ? PySequence_Repeat(array_of_q, (Py_ssize_t)read_lines(&these.asked, NULL, 0, &refused)) : NULL;
+    if (made && PyObject_GetBuffer(made, &entries, PyBUF_WRITABLE)) Py_CLEAR(made);
+    if (made) {
+        read_lines(&these.asked, entries.buf, (size_t)entries.len / sizeof(int64_t), &refused);
+        PyBuffer_Release(&entries);
+    }
+    release(&these);
+    return made;
+}
+
+/* Whether a buffer has signed numbers of 64 bits, as this processor has them. */
+static int is_of_numbers(const Py_buffer *entries)
+{
+    const char *format = entries->format ? entries->format : "B";
+    if (strchr("@=<", format[0])) format++;
+    return entries->itemsize == sizeof(int64_t) && (strcmp(format, "q") == 0 || strcmp(format, "l") == 0)
+        && (!entries->len || (uintptr_t)entries->buf % sizeof(int64_t) == 0);
+}
+
+static PyObject *column_into(GIVEN)
+{
+    static const char *const names[] = { "text", "out", "format" };
+    PyObject *values[3], *answer = NULL;
+    lines these;
+    Py_buffer entries;
+    (void)self;
+    if (!arguments("column_into", names, 2, 3, given, count, named, values) || !take_lines(values[0], values[2], &these)) return NULL;
+    if (is_format(&these.asked) && PyObject_GetBuffer(values[1], &entries, PyBUF_WRITABLE | PyBUF_C_CONTIGUOUS | PyBUF_FORMAT) == 0) {
+        size_t refused = 0;
+        if (!is_of_numbers(&entries)) PyErr_SetString(PyExc_TypeError, "out must be a buffer of signed numbers of 64 bits, as array('q') is");
+        else {
+            size_t all = read_lines(&these.asked, entries.buf, (size_t)entries.len / sizeof(int64_t), &refused);
+            answer = Py_BuildValue("nn", (Py_ssize_t)all, (Py_ssize_t)refused);
+        }
+        PyBuffer_Release(&entries);
+    }
+    release(&these);
+    return answer;
+}
+
+#endif

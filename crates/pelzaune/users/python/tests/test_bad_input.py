@@ -1,0 +1,189 @@
+"""Wrong arguments, odd buffers and odd texts: each is refused by a named error, or answered, and nothing crashes."""
+import array
+import ctypes
+import datetime
+import mmap
+import random
+import sys
+import threading
+import unittest
+
+import pelzaune
+
+OF_TEXT = (pelzaune.parse, pelzaune.parse_date, pelzaune.parse_time, pelzaune.parse_parts, pelzaune.unix_ns)
+FORMATS = (pelzaune.RFC3339, pelzaune.RFC2822, pelzaune.ISO8601, "[year]-[month]-[day]", "%d/%b/%Y:%H:%M:%S %z")
+TEXTS = ("1985-04-12T23:20:50.52Z", "Thu, 13 Feb 1969 23:32:54 -0330", "2020-W53-6T03:04:05,25-00:30", "2021-03-04",
+         "02/Jan/2021:03:04:05 -0030")
+
+
+class Arguments(unittest.TestCase):
+    def test_types(self):
+        wrong = (None, 5, 1.5, [], object(), bytearray(b"2021"), memoryview(b"2021"), array.array("q", [1]))
+        for call in OF_TEXT:
+            for it in wrong:
+                self.assertRaises(TypeError, call, it)
+            for it in (None, 1.5, [], bytearray(b"%Y")):
+                self.assertRaises(TypeError, call, "2021", it)
+            self.assertRaises(OverflowError, call, "2021", -1)
+            self.assertRaises(OverflowError, call, "2021", 2**70)
+            self.assertRaises(pelzaune.ParseError, call, "2021", 2**32 + 1)
+
+    def test_counts(self):
+        for call in (*OF_TEXT, pelzaune.column):
+            self.assertRaises(TypeError, call)
+            self.assertRaises(TypeError, call, "2021", 1, 1)
+            self.assertRaises(TypeError, call, "2021", text="2021")
+            self.assertRaises(TypeError, call, "2021", 1, format=1)
+            self.assertRaises(TypeError, call, "2021", target=1)
+            self.assertRaises(TypeError, call, format=1)
+        self.assertRaises(TypeError, pelzaune.column_into, "2021")
+        self.assertRaises(TypeError, pelzaune.column_into, out=array.array("q"))
+        self.assertRaises(TypeError, pelzaune.format_datetime)
+
+    def test_values_to_write(self):
+        for it in (None, "2021", datetime.date(2021, 1, 2), datetime.time(1), 5):
+            self.assertRaises(TypeError, pelzaune.format_datetime, it)
+        when = datetime.datetime(2021, 1, 2, tzinfo=datetime.timezone.utc)
+        self.assertRaises(TypeError, pelzaune.format_datetime, when, "%Y")
+        self.assertRaises(pelzaune.FormatError, pelzaune.format_datetime, when.replace(tzinfo=None))
+
+        class Odd(datetime.tzinfo):
+            def __init__(self, answer):
+                self.answer = answer
+
+            def utcoffset(self, when):
+                if self.answer is KeyError:
+                    raise KeyError
+                return self.answer
+
+        self.assertRaises(pelzaune.FormatError, pelzaune.format_datetime, when.replace(tzinfo=Odd(None)))
+        self.assertRaises(KeyError, pelzaune.format_datetime, when.replace(tzinfo=Odd(KeyError)))
+        self.assertRaises(TypeError, pelzaune.format_datetime, when.replace(tzinfo=Odd(5)))
+
+
+class Texts(unittest.TestCase):
+    def answered(self, call, text, form):
+        try:
+            return call(text, form)
+        except pelzaune.ParseError as error:
+            return type(error), str(error), error.component
+
+    def test_beginnings(self):
+        for text in TEXTS:
+            for form in FORMATS:
+                for call in OF_TEXT:
+                    for length in range(len(text) + 1):
+                        whole = text[:length]
+                        self.assertEqual(self.answered(call, whole, form), self.answered(call, whole.encode(), form))
+
+    def test_beginnings_of_descriptions(self):
+        for form in ("[year]-[month repr:short][optional [[day]]][first [Z] [\\[]]", "%a, %d %b %Y %H:%M:%S %z %%"):
+            for length in range(len(form) + 1):
+                for text in TEXTS:
+                    self.answered(pelzaune.parse, text, form[:length])
+                    self.answered(pelzaune.parse, text, form[:length].encode())
+
+    def test_odd_characters(self):
+        for call in (*OF_TEXT, pelzaune.column):
+            self.assertRaises(UnicodeEncodeError, call, "2021\ud800")
+            self.assertRaises(UnicodeEncodeError, call, "2021", "%Y\udfff")
+        for text in ("2021-01-02T03:04:05Z\0", "\x002021-01-02T03:04:05Z", "2021-01-02T03:04:05\u00e9", "\U0001f550", "2021\u201301-02T03:04:05Z"):
+            for form in FORMATS:
+                for call in OF_TEXT:
+                    self.assertEqual(self.answered(call, text, form)[0], pelzaune.ParseError)
+        self.assertEqual(pelzaune.column("\0\n\u00e9\n2021-01-02T03:04:05Z\0\n").tolist(), [pelzaune.NO_COUNT] * 3)
+
+    def test_made_bytes(self):
+        r = random.Random(2822)
+        letters = b"0123456789012345678901234567890123456789-:.,TZWz+() JanSat\0\xff%[]"
+        for _ in range(20000):
+            text = bytes(r.choice(letters) for _ in range(r.randrange(40)))
+            form = r.choice(FORMATS + (text,))
+            self.answered(r.choice(OF_TEXT), text, form)
+
+
+class Buffers(unittest.TestCase):
+    LINE = b"1970-01-01T00:00:01Z\n"
+
+    def test_texts(self):
+        doubled = bytes(b for b in self.LINE for _ in range(2))
+        self.assertRaises(BufferError, pelzaune.column, memoryview(doubled)[::2])
+        for it in (None, 5, [], object()):
+            self.assertRaises(TypeError, pelzaune.column, it)
+        released = memoryview(bytearray(self.LINE))
+        released.release()
+        self.assertRaises(ValueError, pelzaune.column, released)
+        with mmap.mmap(-1, mmap.PAGESIZE) as mapped:
+            mapped[-len(self.LINE):] = self.LINE
+            self.assertEqual(pelzaune.column(memoryview(mapped)[-len(self.LINE):]).tolist(), [10**9])
+
+    def test_every_length(self):
+        lines = self.LINE * 2 + b"\n\r\n" + self.LINE[:-1]
+        for length in range(len(lines) + 1):
+            got = pelzaune.column(lines[:length])
+            self.assertEqual(len(got), lines[:length].count(b"\n") + (not lines[:length].endswith(b"\n") and length > 0))
+            self.assertEqual(pelzaune.column_into(lines[:length], array.array("q", [0] * 9))[0], len(got))
+
+    def test_outs(self):
+        column_into = pelzaune.column_into
+        for it in (None, 5, [0], "text"):
+            self.assertRaises(TypeError, column_into, self.LINE, it)
+        for it in (b"\0" * 8, memoryview(array.array("q", [0])).toreadonly()):
+            self.assertRaises(BufferError, column_into, self.LINE, it)
+        for it in (bytearray(8), array.array("d", [0]), array.array("Q", [0]), array.array("i", [0, 0]), (ctypes.c_double * 1)()):
+            self.assertRaises(TypeError, column_into, self.LINE, it)
+        self.assertRaises(BufferError, column_into, self.LINE, memoryview(array.array("q", [0] * 4))[::2])
+        numbers = (ctypes.c_int64 * 2)(7, 7)
+        self.assertEqual(column_into(self.LINE, numbers), (1, 0))
+        self.assertEqual(list(numbers), [10**9, 7])
+        shifted = bytearray(17)
+        start = ctypes.addressof((ctypes.c_char * 17).from_buffer(shifted)) % 8
+        odd = (ctypes.c_int64 * 1).from_buffer(shifted, 1 if start == 0 else 0)
+        if ctypes.addressof(odd) % 8:
+            self.assertRaises(TypeError, column_into, self.LINE, odd)
+        self.assertEqual(column_into(self.LINE, array.array("q")), (1, 0))
+
+    def test_one_buffer_as_text_and_out(self):
+        both = bytearray(self.LINE + b"1234")
+        both = both[:24]
+        numbers = memoryview(both).cast("q")
+        self.assertEqual(pelzaune.column_into(both, numbers)[0], 2)
+        self.assertEqual(numbers[0], 10**9)
+
+    def test_held_while_read(self):
+        lines = bytearray(self.LINE * 20000)
+        failures = []
+
+        def read():
+            for _ in range(10):
+                if len(pelzaune.column(lines)) != 20000:
+                    failures.append("lines")
+
+        threads = [threading.Thread(target=read) for _ in range(4)]
+        for thread in threads:
+            thread.start()
+        r = random.Random(5)
+        while any(thread.is_alive() for thread in threads):
+            lines[21 * r.randrange(20000)] = r.choice(b"1x")
+        for thread in threads:
+            thread.join()
+        self.assertEqual(failures, [])
+
+    def test_references(self):
+        out = array.array("q", [0])
+        for it in (self.LINE, bytearray(self.LINE), out):
+            before = sys.getrefcount(it)
+            for _ in range(1000):
+                if it is out:
+                    pelzaune.column_into(self.LINE, it)
+                else:
+                    pelzaune.column(it)
+            self.assertEqual(sys.getrefcount(it), before)
+        lines = bytearray(self.LINE)
+        self.assertRaises(pelzaune.ParseError, pelzaune.column, lines, 9)
+        self.assertRaises(pelzaune.ParseError, pelzaune.column, lines, "[yaer]")
+        lines.append(0)  # nothing holds it
+
+
+if __name__ == "__main__":
+    unittest.main()

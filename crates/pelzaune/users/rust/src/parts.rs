@@ -1,0 +1,35 @@
+//! What a text has of a date, a time and an offset.
+use crate::{answer, ffi, parse, Date, Description, Error, Format, Time};
+use std::num::NonZeroU32;
+
+/// What a text has of a date, a time and an offset: each is there, or the error says why it isn't.
+#[derive(Clone, Copy, Debug, PartialEq, Eq)]
+pub struct Parts {
+    /// The date.
+    pub date: Result<Date, Error>,
+    /// The time.
+    pub time: Result<Time, Error>,
+    /// The offset, in seconds ahead of UTC.
+    pub offset: Result<i32, Error>,
+}
+
+// A part, where its status is 0.
+fn part<T>(value: T, status: u32) -> Result<T, Error> {
+    NonZeroU32::new(status).map_or(Ok(value), |status| Err(Error::new(status)))
+}
+
+impl Parts {
+    /// The parts of a whole text, which is parsed once. An error says that it isn't parsed as a whole.
+    pub fn parse(text: impl AsRef<[u8]>, format: Format<'_>) -> Result<Parts, Error> {
+        let found = Parts::found(text.as_ref(), format)?;
+        Ok(Parts {
+            date: part(found.date, found.date_status),
+            time: part(found.time, found.time_status),
+            offset: part(found.offset, found.offset_status),
+        })
+    }
+
+    fn found(text: &[u8], format: Format<'_>) -> Result<ffi::Parts, Error> {
+        parse!(pelzaune_parse_parts, pelzaune_read_parts, text, format)
+    }
+}

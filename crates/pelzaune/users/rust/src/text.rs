@@ -1,0 +1,53 @@
+//! The texts of moments.
+use crate::{ffi, Error, Format, Moment};
+use std::fmt;
+use std::num::NonZeroU32;
+
+// The longest text of a moment.
+const ROOM: usize = 35;
+
+/// The text of a moment, which takes no memory.
+#[derive(Clone, Copy, PartialEq, Eq, Hash)]
+pub struct MomentText {
+    bytes: [u8; ROOM],
+    length: usize,
+}
+
+impl MomentText {
+    /// The text.
+    pub fn as_str(&self) -> &str {
+        std::str::from_utf8(&self.bytes[..self.length]).unwrap_or("")
+    }
+}
+
+impl fmt::Display for MomentText {
+    fn fmt(&self, f: &mut fmt::Formatter<'_>) -> fmt::Result {
+        f.pad(self.as_str())
+    }
+}
+
+impl fmt::Debug for MomentText {
+    fn fmt(&self, f: &mut fmt::Formatter<'_>) -> fmt::Result {
+        fmt::Debug::fmt(self.as_str(), f)
+    }
+}
+
+impl Moment {
+    /// The text of the moment by a format: by RFC 3339 with as many digits of a fraction as it needs, by RFC 2822 with none,
+    /// and by ISO 8601 with nine. Refused where a member is out of its range, or where the format has no such text
+    /// (`NoText`), as each description is by `Unknown`.
+    pub fn text(&self, format: Format<'_>) -> Result<MomentText, Error> {
+        let number = match format {
+            Format::Rfc3339 => 1,
+            Format::Rfc2822 => 2,
+            Format::Iso8601 => 3,
+            Format::Described(_) => 0,
+        };
+        let mut text = MomentText { bytes: [0; ROOM], length: 0 };
+        // SAFETY: the pointer and the length are those of the array, which is borrowed alone, as the length is.
+        let status = unsafe {
+            ffi::pelzaune_format_moment(number, self, text.bytes.as_mut_ptr(), ROOM, &mut text.length)
+        };
+        NonZeroU32::new(status).map_or(Ok(text), |status| Err(Error::new(status)))
+    }
+}

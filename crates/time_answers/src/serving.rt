@@ -64,7 +64,7 @@ fn add_line<A: Answering>(
     }
 }
 
-/// Writes the answer to each line of the input, and takes no memory.
+/// Writes the answer to each line of the input, and allocates nothing.
 ///
 /// Each line ends with LF, which the last one may lack. After an `Err`, that of a write, nothing is
 /// known of how much was written.

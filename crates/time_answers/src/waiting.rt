@@ -78,7 +78,7 @@ impl Held {
     }
 }
 
-/// Bytes that wait to be written. It takes no memory, and refuses what doesn't fit.
+/// Bytes that wait to be written. It allocates nothing, and refuses what doesn't fit.
 #[derive(Drop)]
 pub struct Waiting {
     bytes: Held,
@@ -103,7 +103,7 @@ impl Waiting {
         Ok(())
     }
 
-    /// Whether an answer may not fit behind what waits.
+    /// Whether an answer may not fit after what waits.
     #[inline(always)]
     pub fn is_nearly_full(&self) -> bool
         ensures { IsTrue result ↔ (MOST < length self.now.bytes.items + LONGEST) }

@@ -29,19 +29,19 @@ pub enum Component {
     WeekNumberSunday(modifier::WeekNumberSunday),
     /// Week of the year, where weeks begin on Monday.
     WeekNumberMonday(modifier::WeekNumberMonday),
-    /// Calendar year of four digits, or of up to six behind a sign.
+    /// Calendar year of four digits, or of up to six after a sign.
     CalendarYearFullExtendedRange(modifier::CalendarYearFullExtendedRange),
     /// Calendar year of four digits.
     CalendarYearFullStandardRange(modifier::CalendarYearFullStandardRange),
-    /// ISO week year of four digits, or of up to six behind a sign.
+    /// ISO week year of four digits, or of up to six after a sign.
     IsoYearFullExtendedRange(modifier::IsoYearFullExtendedRange),
     /// ISO week year of four digits.
     IsoYearFullStandardRange(modifier::IsoYearFullStandardRange),
-    /// Calendar year without its last two digits, of up to four digits behind a sign.
+    /// Calendar year without its last two digits, of up to four digits after a sign.
     CalendarYearCenturyExtendedRange(modifier::CalendarYearCenturyExtendedRange),
     /// Calendar year without its last two digits, of two digits.
     CalendarYearCenturyStandardRange(modifier::CalendarYearCenturyStandardRange),
-    /// ISO week year without its last two digits, of up to four digits behind a sign.
+    /// ISO week year without its last two digits, of up to four digits after a sign.
     IsoYearCenturyExtendedRange(modifier::IsoYearCenturyExtendedRange),
     /// ISO week year without its last two digits, of two digits.
     IsoYearCenturyStandardRange(modifier::IsoYearCenturyStandardRange),
@@ -59,7 +59,7 @@ pub enum Component {
     Period(modifier::Period),
     /// Second of the minute.
     Second(modifier::Second),
-    /// Fraction of the second, behind its separator.
+    /// Fraction of the second, after its separator.
     Subsecond(modifier::Subsecond),
     /// Hours of the UTC offset, with its sign.
     OffsetHour(modifier::OffsetHour),

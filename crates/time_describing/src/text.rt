@@ -4,7 +4,7 @@ ghost use Rattle.time_describing.specs.Puts.{Puts};
 
 use arrayvec::ArrayVec;
 
-/// The text of a description, of at most `N` bytes. It takes no memory: it is an array and a length.
+/// The text of a description, of at most `N` bytes. It allocates nothing: it is an array and a length.
 #[derive(Debug, Drop)]
 pub struct DescriptionText<const N: usize> {
     pub(crate) bytes: ArrayVec<u8, N>,

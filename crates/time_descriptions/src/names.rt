@@ -44,7 +44,7 @@ pub enum ComponentName {
     Year,
 }
 
-/// The modifier_keys of modifiers.
+/// The keys of modifiers.
 #[derive(Clone, Copy, Debug, PartialEq, Eq)]
 pub enum ModifierKey {
     /// `base`

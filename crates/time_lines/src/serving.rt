@@ -10,7 +10,7 @@ use std::io;
 use std::io::{Read, Write};
 use time_answers::Stop;
 
-/// Writes the answer to each line of the input, and takes no memory.
+/// Writes the answer to each line of the input, and allocates nothing.
 ///
 /// Each line ends with LF, which the last one may lack. After an `Err`, that of a write, nothing is
 /// known of how much was written.

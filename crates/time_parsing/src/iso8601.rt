@@ -30,13 +30,13 @@ use time_values::{OffsetDateTime, PlainDateTime};
 /// A text is a date or nothing, a time or nothing, and an offset or nothing, and at least one of them. A date
 /// is of the calendar, as `2021-01-02`, by the day of the year, as `2021-002`, or by the week, as `2020-W53-6`.
 /// A time has an hour, and may have a minute and a second; the last of them may have a fraction of any number
-/// of digits, after `.` or `,`, and what is left out is 0. After a date it needs its `T`. A leap second may
+/// of digits, after `.` or `,`, and omitted parts are 0. After a date it needs its `T`. A leap second may
 /// stand in it. An offset is `Z`, or an hour with a sign, as `-05`, which may have a minute; such an offset
 /// leaves the second of the defaults. After a date an offset needs a time before it.
 ///
 /// A text is basic, without separators, or extended, with them. The first part that shows which of them settles
 /// it for those after it: in a basic text no colon is read, and in an extended one the colon before a minute may
-/// still be left out. A part that can't be read settles nothing, and puts nothing.
+/// still be omitted. A part that can't be parsed settles nothing, and the record is unchanged.
 ///
 /// Where none of the three can be read the refusal is the date's: an invalid component `year`, `month`, `day`,
 /// `ordinal`, `week` or `weekday`, or an invalid literal, where a `-` is missing. A day above 31, an ordinal

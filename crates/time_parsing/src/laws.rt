@@ -41,7 +41,7 @@ pub fn law_two_paths()
 {}
 
 /// A list that is two lists joined reads as the one, and then as the other on what the one left. It is refused where
-/// either of them is, with that fault; and the record is then as it was before both, as after every refusal.
+/// either of them is, with that fault; and the record is then unchanged, as after every refusal.
 pub fn law_joined_lists()
     ensures reads { JoinedReads greatest_year }
     ensures refuses { JoinedRefuses greatest_year }
@@ -70,8 +70,8 @@ pub fn law_equal_described<const N: usize, I: AnyFormatItem>(description: &Descr
     ensures { AnswersAlike greatest_year (shape description.now) (I.shape item.now) }
 {}
 
-/// A version-3 description reads as the same description of another type, where no `Ignore` of those that are begun ends
-/// inside a character. It is the tree that they are but for the marks that a version-3 description puts on its
+/// A version-3 description parses as the same description of another type, where no `Ignore` that is begun ends inside a
+/// character. It is the tree that they are but for the marks that a version-3 description puts on its
 /// components.
 #[tactic(auto, using(crate::proofs::WholeCharacters::whole_characters))]
 pub fn law_whole_characters()
@@ -141,7 +141,7 @@ pub fn law_one_iso_text()
     ensures apart { ExtendedOrBasic }
 {}
 
-/// Where years ran from -9999 to 9999 nothing was read otherwise. Each reading by a description in which nothing is
+/// The wider range of years changed no result of the years -9999 to 9999. Each reading by a description in which nothing is
 /// optional and nothing is chosen stays one, with the same rest and record; so does each text that
 /// [`Rfc3339`](crate::Rfc3339), [`Rfc2822`](crate::Rfc2822) or [`Iso8601`](crate::Iso8601) reads whole, and each
 /// record of that range.

@@ -13,8 +13,8 @@ use time_values::{Date, OffsetDateTime, PlainDateTime, Time, Timestamp, UtcDateT
 
 /// A format that texts can be parsed by.
 ///
-/// The calls that parse a text take defaults for what the text leaves out, as the year of
-/// `03-04`: the text is read over them, and what it says replaces them. `None` means no defaults.
+/// The calls that parse a text take defaults for components that it omits, such as the year of `03-04`. The text is
+/// parsed over them, and each of its components replaces its default. `None` means no defaults.
 pub trait Parsable {
     // A front of the bytes is read over a record: the rest, and the record after it.
     ghost reads: { Self → Reading };
@@ -25,8 +25,8 @@ pub trait Parsable {
     // How a moment is read without defaults: over a record, or directly.
     ghost path: { Self → Path };
 
-    /// Reads a front of the input over the record, and answers the unread rest. What the text says
-    /// replaces what the record had. A refusal leaves the record as it was.
+    /// Parses a front of the input over the record, and gives the unparsed rest. The text's components replace those
+    /// of the record. A refusal leaves the record unchanged.
     fn parse_into<'a>(&self, input: &'a [u8], parsed: &mut Parsed) -> Result<&'a [u8], Parse>
         ensures { ParsesInto (reads self.now) (refuses self.now) input.now parsed.old result parsed.new };
 

@@ -159,7 +159,7 @@ pub fn date(input: &[u8]) -> Result<Part<'_, DateNumbers>, ParseFromDescription>
     }
 }
 
-/// Reads the time of a text of that kind: `T`, which may be left out where it isn't needed, and then an hour,
+/// Reads the time of a text of that kind: `T`, which may be omitted where it isn't needed, and then an hour,
 /// a minute and a second of two digits each, or fewer of them.
 ///
 /// The last of them may have a fraction, `.` or `,` and one or more digits: of an hour or a minute it gives the

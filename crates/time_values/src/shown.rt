@@ -73,7 +73,7 @@ fn append_hour(text: &mut Text, hour: u8)
     }
 }
 
-/// `H:MM:SS.n`. The hour has one digit or two, and the fraction at least one and no zero at its end that can be left out.
+/// `H:MM:SS.n`. The hour has one digit or two, and the fraction at least one, with no zero at its end that can be omitted.
 impl fmt::Display for Time {
     ghost output = { λ t. Some (Shown.time_shown t) };
 

@@ -261,7 +261,7 @@ impl Parsed {
     }
 
     /// Sets the whole hours of the offset from UTC, from -25 to 25. `None` and unchanged outside.
-    /// The flag of a negative offset stays as it was.
+    /// The flag of a negative offset is unchanged.
     #[inline]
     pub fn set_offset_hour(&mut self, value: i8) -> Option<()>
         ensures { Sets (put greatest_year (offset_hour_is value) self.old)

@@ -1,3 +1,4 @@
 mod days;
 mod errors;
+mod system_clock;
 mod values;

@@ -1,10 +1,11 @@
 -- Years that begin in March.
-use Rattle.std.proofs.Common.{◌≡◌, ℕ, suc, ◌+◌, ◌-◌, ◌*◌, ◌/◌, ◌<◌, Bool, nat_lt, eqb, get_or, eqb→eq, inl, inr, refl, arith, eq-zero-or-pos, pos, ◌+ℤ◌}
-use Rattle.std.specs.Prelude.{if◌then◌else◌}
+use Rattle.std.proofs.Common.{◌≡◌, ℕ, suc, ◌+◌, ◌-◌, ◌*◌, ◌/◌, ◌<◌, ◌≤◌, Bool, ◌&&◌, T, get_or, subst, inl, inr, refl, arith, eq-zero-or-pos, ℤ, pos, ◌+ℤ◌, ◌-ℤ◌}
+use Rattle.std.specs.Int.Signed.{le_z}
 use Rattle.std.proofs.lemmas.Bool.Decides.{nat_tests}
 use Rattle.std.proofs.lemmas.Int.{ints}
 use Rattle.time_values.specs.declared.date.Date.{Date}
-use Rattle.time_values.specs.declared.month.TheConstants.{MARCH_DAYS}
+use Rattle.time_values.specs.declared.month.TheConstants.{MARCH}
+use Rattle.time_values.specs.March.{march_days, march_year}
 use Rattle.time_values.specs.Month.{month_number}
 use Rattle.time_values.specs.Calendar.{years_before, days_of_months, leap_day}
 use Rattle.time_values.specs.Range.{greatest_year}
@@ -14,20 +15,41 @@ use Rattle.time_values.proofs.MonthLemmas.{days_of_months_closed}
 use Rattle.time_values.proofs.NumberLemmas.{month_number_in}
 use Rattle.time_values.proofs.TableLemmas.{at_below}
 
--- the days from the first of March to the first of a month
-abbrev march_days : ℕ → ℕ
-march_days m = if nat_lt m 3 then 275 + 31 * m else (153 * m - 457) / 5
+-- the table, at the place of each month from 0
+abbrev is_equal : ℤ → ℤ → Bool
+is_equal x y = le_z x y && le_z y x
+
+is_equal→eq : (x y : ℤ) → T (is_equal x y) → x ≡ y
+is_equal→eq x y h = grind (arith, ints)
 
 abbrev is_march_day : ℕ → Bool
-is_march_day m = eqb (get_or MARCH_DAYS m 0) (march_days m)
+is_march_day p = is_equal (get_or MARCH p (pos 0)) (pos (march_days (suc p)) -ℤ pos 365_998_494)
 
-pub march_days_at : (m : ℕ) → m < 13 → get_or MARCH_DAYS m 0 ≡ (if nat_lt m 3 then 275 + 31 * m else (153 * m - 457) / 5)
-march_days_at m h = eqb→eq _ _ (at_below is_march_day 13 m tt h)
+pub march_days_at : (m : ℕ) → 1 ≤ m → m ≤ 12 → get_or MARCH (m - 1) (pos 0) ≡ pos (march_days m) -ℤ pos 365_998_494
+march_days_at m l h =
+    let e : suc (m - 1) ≡ m = omega arith in
+    let at = is_equal→eq _ _ (at_below is_march_day 12 (m - 1) tt (omega arith)) in
+    subst (λ (k : ℕ). get_or MARCH (m - 1) (pos 0) ≡ pos (march_days k) -ℤ pos 365_998_494) e at
+
+pub march_days_in : (m : ℕ) → m ≤ 12 → march_days m ≤ 337
+march_days_in m h = grind (arith, nat_tests)
+
+abbrev is_march_year : ℕ → Bool
+is_march_year p = is_equal (get_or MARCH (p + 12) (pos 0)) (pos (1_000_099 + march_year (suc p)))
+
+pub march_years_at : (m : ℕ) → 1 ≤ m → m ≤ 12 → get_or MARCH (m - 1 + 12) (pos 0) ≡ pos (1_000_099 + march_year m)
+march_years_at m l h =
+    let e : suc (m - 1) ≡ m = omega arith in
+    let at = is_equal→eq _ _ (at_below is_march_year 12 (m - 1) tt (omega arith)) in
+    subst (λ (k : ℕ). get_or MARCH (m - 1 + 12) (pos 0) ≡ pos (1_000_099 + march_year k)) e at
+
+pub march_year_in : (m : ℕ) → march_year m ≤ 1
+march_year_in m = grind (arith, nat_tests)
 
 -- a day number by the years and days since March
 pub days_by_march : (d : Date) (years before : ℕ)
-    → years ≡ years_before greatest_year d.year + (if nat_lt 2 (month_number d.month) then 1 else 0)
-    → before ≡ (if nat_lt (month_number d.month) 3 then 275 + 31 * month_number d.month else (153 * month_number d.month - 457) / 5)
+    → years ≡ years_before greatest_year d.year + march_year (month_number d.month)
+    → before ≡ march_days (month_number d.month)
     → day_number greatest_year d + 307 ≡ 1461 * years / 4 - years / 100 + years / 100 / 4 + before + d.day
 days_by_march d years before e f =
     let Y = greatest_year in

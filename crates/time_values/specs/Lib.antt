@@ -8,12 +8,14 @@ pub mod Instants
 pub mod Moments
 pub mod MovedClocks
 pub mod Lengths
+pub mod March
 pub mod Month
 pub mod Offsets
 pub mod Range
 pub mod Refusal
 pub mod Shown
 pub mod Sign
+pub mod SystemClock
 pub mod Texts
 pub mod Times
 pub mod Weekday

@@ -1,6 +1,7 @@
-ghost use Rattle.std.specs.Prelude.{◌≡◌, ℤ, pos, neg_ℤ, nat_lt, if◌then◌else◌, ◌+◌, ◌-◌, ◌*◌, ◌<◌, ◌≤◌, ◌-ℤ◌};
+ghost use Rattle.std.specs.Prelude.{◌≡◌, ℤ, pos, neg_ℤ, ◌+◌, ◌-◌, ◌*◌, ◌<◌, ◌≤◌, ◌-ℤ◌};
 ghost use Rattle.std.specs.Int.{IsInRange};
 ghost use Rattle.time_values.specs.Calendar as Calendar;
+ghost use Rattle.time_values.specs.March.{march_year};
 ghost use Rattle.time_values.specs.Month.{month_number};
 ghost use Rattle.time_values.specs.Range.{greatest_year};
 ghost use Rattle.time_values.specs.Weekday.{days_from_monday};
@@ -158,31 +159,27 @@ impl Date {
         days::year_start(self.year) + (self.ordinal() as u32 - 1)
     }
 
-    // How many years there are before this day's, where a year begins in March.
+    // How many years there are before this day's, and a hundred, where a year begins in March.
     #[inline(always)]
-    fn march_year(self) -> u32
-        ensures value { result ≡ Calendar.years_before greatest_year (Dates.year self)
-            + (if nat_lt 2 (month_number (Dates.month self)) then 1 else 0) }
-        ensures bound { result ≤ 2_000_000 }
+    fn march_years(&self) -> u32
+        ensures value { result ≡ Calendar.years_before greatest_year (Dates.year self.now)
+            + march_year (month_number (Dates.month self.now)) + 100 }
+        ensures bound { result ≤ 2_000_100 }
     {
-        let years = (self.year + MAX_YEAR) as u32;
-        if self.month.number() > 2 {
-            years + 1
-        } else {
-            years
-        }
+        (self.year as i64 + self.month.march_years()) as u32
     }
 
-    // The days since 1970-01-01. Years that begin in March end with their leap day, so none is asked for.
+    // The days since 1970-01-01. Years that begin in March end with their leap day, so none is asked for. Of a hundred
+    // years more, three quarters of the centuries are what has no leap day. A reference, since LLVM moves a date as one
+    // word and then takes its parts out of it.
     #[inline(always)]
-    pub(crate) fn days_since_1970(self) -> i64
-        ensures value { result ≡ pos (Dates.day_number greatest_year self) -ℤ pos 365_961_662 }
+    pub(crate) fn days_since_1970(&self) -> i64
+        ensures value { result ≡ pos (Dates.day_number greatest_year self.now) -ℤ pos 365_961_662 }
         ensures bound { Calendar.IsBetween (neg_ℤ (pos 1_000_000_000)) (pos 3_000_000_000) result }
     {
-        let years = self.march_year();
-        let before = self.month.days_from_march() as u32;
-        let days = 1461 * years / 4 - years / 100 + years / 100 / 4 + before + self.day as u32;
-        days as i64 - 365_961_969
+        let years = self.march_years();
+        let days = 1461 * years / 4 - 3 * (years / 100) / 4;
+        days as i64 + self.month.days_from_march() + self.day as i64
     }
 
     /// The day of the week.

@@ -1,5 +1,5 @@
 //! Decimal digits of numbers.
-ghost use Rattle.std.specs.Prelude.{◌≡◌, ◌<◌};
+ghost use Rattle.std.specs.Prelude.{◌≡◌, ◌<◌, ◌/◌};
 ghost use Rattle.time_values.specs.Shown.{fixed};
 
 // The two digits of each number below 100, as one number, of which the low byte is the first digit.
@@ -28,6 +28,15 @@ pub fn pair(n: u8) -> [u8; 2]
     [(digits % 256) as u8, (digits / 256) as u8]
 }
 
+// The hundreds of a number below 10000, by a product. By a quotient LLVM moves to 16 bits and back, as it sees the limit.
+#[inline(always)]
+fn hundreds(n: u32) -> u32
+    requires { n < 10_000 }
+    ensures { result ≡ n / 100 }
+{
+    n * 5243 / 524_288
+}
+
 /// The four digits of a number below 10000.
 #[inline(always)]
 #[tactic(auto, unfolding(crate::specs::Shown::fixed))]
@@ -35,8 +44,9 @@ pub fn four(n: u32) -> [u8; 4]
     requires { n < 10_000 }
     ensures { result ≡ fixed 4 n }
 {
-    let [a, b] = pair((n / 100) as u8);
-    let [c, d] = pair((n % 100) as u8);
+    let hundreds = hundreds(n);
+    let [a, b] = pair(hundreds as u8);
+    let [c, d] = pair((n - 100 * hundreds) as u8);
     [a, b, c, d]
 }
 

@@ -1,8 +1,9 @@
-ghost use Rattle.std.specs.Prelude.{◌≡◌, ◌==◌, ◌≤◌, ◌+◌, ◌-◌, ◌*◌, ◌/◌, nat_lt, if◌then◌else◌};
+ghost use Rattle.std.specs.Prelude.{◌≡◌, ◌==◌, ◌≤◌, ◌+◌, pos, neg_ℤ, ◌-ℤ◌};
 ghost use Rattle.std.proofs.Common.{rules};
 ghost use Rattle.std.specs.Cmp.Rules.{comparing};
 ghost use Rattle.std.specs.Ordering.{on};
 ghost use Rattle.time_values.specs.Calendar as Calendar;
+ghost use Rattle.time_values.specs.March.{march_days, march_year};
 ghost use Rattle.time_values.specs.Month.{month_number, month_refusal};
 ghost use Rattle.time_values.specs.Refusal.{Constructs};
 
@@ -10,8 +11,34 @@ use crate::days::is_leap_year;
 use crate::error::ComponentRange;
 use std::num::NonZero;
 
-// The days from the first of March to the first of the month of each number.
-static MARCH_DAYS: [u16; 13] = [275, 306, 337, 0, 31, 61, 92, 122, 153, 184, 214, 245, 275];
+// For each month the days from the first of March to its own first, less 365998494, and then for each month 1000099, and
+// one more from March on. Both stand in one table, whose address is then taken once.
+static MARCH: [i64; 24] = [
+    -365_998_188,
+    -365_998_157,
+    -365_998_494,
+    -365_998_463,
+    -365_998_433,
+    -365_998_402,
+    -365_998_372,
+    -365_998_341,
+    -365_998_310,
+    -365_998_280,
+    -365_998_249,
+    -365_998_219,
+    1_000_099,
+    1_000_099,
+    1_000_100,
+    1_000_100,
+    1_000_100,
+    1_000_100,
+    1_000_100,
+    1_000_100,
+    1_000_100,
+    1_000_100,
+    1_000_100,
+    1_000_100,
+];
 
 /// A month of the year.
 #[derive(Clone, Copy, Debug)]
@@ -89,15 +116,24 @@ impl Month {
         self as u8
     }
 
-    // The days from the first of March to the first of this month, in a year that begins in March.
+    // The days from the first of March to the first of this month, in a year that begins in March, less 365998494.
     #[inline(always)]
-    #[tactic(auto, using(crate::proofs::MarchLemmas::march_days_at))]
-    pub(crate) fn days_from_march(self) -> u16
-        ensures value { result ≡ (if nat_lt (month_number self) 3 then 275 + 31 * month_number self
-            else (153 * month_number self - 457) / 5) }
-        ensures bound { result ≤ 337 }
+    #[tactic(auto, using(crate::proofs::MarchLemmas::march_days_at, crate::proofs::MarchLemmas::march_days_in))]
+    pub(crate) fn days_from_march(self) -> i64
+        ensures value { result ≡ pos (march_days (month_number self)) -ℤ pos 365_998_494 }
+        ensures bound { Calendar.IsBetween (neg_ℤ (pos 365_998_494)) (pos 0) result }
     {
-        MARCH_DAYS[self.number() as usize]
+        MARCH[(self.number() - 1) as usize]
+    }
+
+    // 1000099, and one more from March on.
+    #[inline(always)]
+    #[tactic(auto, using(crate::proofs::MarchLemmas::march_years_at))]
+    pub(crate) fn march_years(self) -> i64
+        ensures value { result ≡ pos (1_000_099 + march_year (month_number self)) }
+        ensures bound { Calendar.IsBetween (pos 1_000_099) (pos 1_000_100) result }
+    {
+        MARCH[(self.number() - 1) as usize + 12]
     }
 
     /// The number of days that the month has in that year, 28 to 31.

@@ -120,7 +120,7 @@ impl OffsetDateTime {
     pub fn unix_timestamp(self) -> i64
         ensures { Instants.IsWhole 1_000_000_000 (offset_instant greatest_year self) result }
     {
-        self.date.days_since_1970() * 86_400 + self.time.seconds_in_utc(self.offset) as i64
+        self.date.days_since_1970() * 86_400 + self.time.seconds_in_utc(&self.offset)
     }
 
     /// The moment that many seconds after 1970-01-01T00:00:00Z, at offset 0. Refused as `timestamp` outside

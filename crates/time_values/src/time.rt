@@ -144,16 +144,16 @@ impl Time {
     // The seconds since midnight in UTC, where the clock has that offset. Taken part by part, the hours of both are
     // multiplied once.
     #[inline(always)]
-    pub(crate) fn seconds_in_utc(self, offset: UtcOffset) -> i32
-        ensures value { result ≡ pos (Times.hour self * 3600 + Times.minute self * 60 + Times.second self)
-            -ℤ offset_seconds offset }
+    pub(crate) fn seconds_in_utc(&self, offset: &UtcOffset) -> i64
+        ensures value { result ≡ pos (Times.hour self.now * 3600 + Times.minute self.now * 60 + Times.second self.now)
+            -ℤ offset_seconds offset.now }
         ensures bound { IsBetween (neg_ℤ (pos 100_000)) (pos 200_000) result }
     {
-        let (hours, minutes, seconds) = offset.as_hms();
+        let (hours, minutes, seconds) = offset.parts();
         seconds_of(
-            self.hour as i32 - hours as i32,
-            self.minute as i32 - minutes as i32,
-            self.second as i32 - seconds as i32,
+            self.hour as i64 - hours,
+            self.minute as i64 - minutes,
+            self.second as i64 - seconds,
         )
     }
 
@@ -190,7 +190,7 @@ impl fmt::Debug for Time {
 
 // The seconds of hours, minutes and seconds of any signs.
 #[inline(always)]
-fn seconds_of(hours: i32, minutes: i32, seconds: i32) -> i32
+fn seconds_of(hours: i64, minutes: i64, seconds: i64) -> i64
     requires hours { IsBetween (neg_ℤ (pos 25)) (pos 48) hours }
     requires minutes { IsBetween (neg_ℤ (pos 59)) (pos 118) minutes }
     requires seconds { IsBetween (neg_ℤ (pos 59)) (pos 118) seconds }

@@ -71,6 +71,16 @@ impl UtcOffset {
         (self.hours, self.minutes, self.seconds)
     }
 
+    // The hours, minutes and seconds, read where they lie: LLVM moves a copy of them as one word.
+    #[inline(always)]
+    pub(crate) fn parts(&self) -> (i64, i64, i64)
+        ensures hours { result.0 ≡ Offsets.hours self.now }
+        ensures minutes { result.1 ≡ Offsets.minutes self.now }
+        ensures seconds { result.2 ≡ Offsets.seconds self.now }
+    {
+        (self.hours as i64, self.minutes as i64, self.seconds as i64)
+    }
+
     /// The offset of that many seconds, whose parts have one sign. Refused as `seconds` outside -93599 to 93599.
     pub fn from_whole_seconds(seconds: i32) -> Result<UtcOffset, ComponentRange>
         ensures { Constructs (whole_offset_refusal seconds)

@@ -1,11 +1,16 @@
-use Rattle.std.proofs.Common.{arith}
+use Rattle.std.proofs.Common.{◌+◌, refl, arith}
 use Rattle.std.proofs.lemmas.Int.{ints}
-use Rattle.time_values.proofs.MarchLemmas.{days_by_march}
+use Rattle.time_values.specs.Calendar.{years_before}
+use Rattle.time_values.specs.March.{march_days, march_year}
+use Rattle.time_values.specs.Month.{month_number}
+use Rattle.time_values.specs.Range.{greatest_year}
+use Rattle.time_values.proofs.MarchLemmas.{days_by_march, march_days_in}
+use Rattle.time_values.proofs.NumberLemmas.{month_number_in}
 use Rattle.time_values.proofs.date.Date.days_since_1970.Goals as goal
 
 pub returns-clause-value : goal.returns-clause-value
 returns-clause-value c =
-    let years = c.march_year-years in
-    let before = c.days_from_march-before in
-    let counted = days_by_march c.args.self years.result before.result years.ensures.value before.ensures.value in
-    omega (arith, ints, counted)
+    let d = c.args.self.now in
+    let years = years_before greatest_year d.year + march_year (month_number d.month) in
+    let before = march_days (month_number d.month) in
+    omega (arith, ints, days_by_march d years before refl refl, march_days_in (month_number d.month) (omega (arith, month_number_in d.month)))

@@ -1,0 +1,15 @@
+use Rattle.std.proofs.Common.{◌≡◌, ap, subst, arith, w64, ℤ, pos, ◌+ℤ◌, ◌*ℤ◌, to_z, of_z}
+use Rattle.std.proofs.lemmas.Int.{ints}
+use Rattle.time_values.specs.Moments.{utc_instant}
+use Rattle.time_values.specs.Range.{greatest_year}
+use Rattle.time_values.specs.SystemClock.{ConstructsSystemTime}
+use Rattle.time_values.specs.Times.{nanosecond}
+use Rattle.time_values.proofs.InstantLemmas.{clock_nanos_is}
+use Rattle.time_values.proofs.conversion.SystemTimeTryFromUtcDateTime.try_from.Goals as goal
+
+pub returns : goal.returns
+returns c =
+    let u = c.args.utc in
+    let whole : to_z w64 (of_z w64 c.unix_timestamp.result) *ℤ pos 1_000_000_000 +ℤ pos c.nanosecond.result ≡ utc_instant greatest_year u =
+    omega (arith, ints, ap nanosecond c.time.ensures, clock_nanos_is u.date u.time) in
+    subst (λ (n : ℤ). ConstructsSystemTime n c.system_time.result) whole c.system_time.ensures

@@ -11,3 +11,7 @@ pub mod Rfc3339Places
 pub mod PlaceSteps
 pub mod WholeTexts
 pub mod MailParts
+pub mod IsoLengths
+pub mod IsoDates
+pub mod IsoPlaces
+pub mod IsoSteps

@@ -1,8 +1,7 @@
 -- What is left after the places of a mail date.
-use Rattle.std.proofs.Common.{◌≡◌, ◌≢◌, ℕ, zero, suc, ◌+◌, ◌<◌, ◌≤◌, List, [], ◌∷◌, ◌++◌, length, drop, get_or, refl, ap, sym, ◌∙◌, subst, arith, true, false, Bool, Option, Some, None, is_some, option_copied, Bor, drop-cons}
-use Rattle.std.proofs.lemmas.Option.{same_Some, none-some}
+use Rattle.std.proofs.Common.{◌≡◌, ℕ, zero, suc, ◌+◌, ◌<◌, List, [], ◌∷◌, ◌++◌, length, drop, refl, ap, sym, ◌∙◌, subst, arith, true, false, Bool, Option, Some, is_some}
 use Rattle.time_values.specs.declared.weekday.Weekday.{Weekday}
-use Rattle.time_digits.specs.Cuts.{Cut, NoCut}
+use Rattle.time_digits.specs.Cuts.{Cut}
 use Rattle.time_digits.specs.Digits.{IsDigitRun}
 use Rattle.time_digits.proofs.CutLemmas.{IsUnique-cut}
 use Rattle.time_digits.proofs.Runs.{IsDigitRun-one}

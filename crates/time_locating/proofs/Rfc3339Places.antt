@@ -3,7 +3,7 @@ use Rattle.std.proofs.Common.{◌≡◌, ℕ, ◌+◌, ◌≤◌, List, [], ◌�
 use Rattle.time_digits.specs.Cuts.{Cut, NoCut}
 use Rattle.time_digits.specs.Digits.{AllDigits, IsDigitRun, NoDigitFirst}
 use Rattle.time_digits.proofs.Runs.{AllDigits-unique}
-use Rattle.time_readers.specs.Places.{Stand, StopsAt}
+use Rattle.time_readers.specs.Places.{Stand}
 use Rattle.time_readers.specs.Rfc3339.{Asks, FailsAt, IsOffsetColon, IsOffsetMinute, IsSubsecond, places, nothing_read}
 use Rattle.time_readers.specs.declared.rfc3339.Numbers.{Numbers}
 use Rattle.time_readers.specs.declared.rfc3339.Place.{Place}

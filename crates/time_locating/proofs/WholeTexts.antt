@@ -16,7 +16,7 @@ use Rattle.time_readers.specs.declared.rfc3339.Numbers.{Numbers}
 use Rattle.time_readers.proofs.Keeping as Keeping
 use Rattle.time_readers.proofs.MailRanges as MailRanges
 use Rattle.time_readers.proofs.MailRanges.{signed-abs}
-use Rattle.time_record.specs.Record.{Entry, Record, day_is, month_is, offset_second_is, put_all, year_is}
+use Rattle.time_record.specs.Record.{Entry, Record, day_is, month_is, offset_second_is, year_is}
 use Rattle.time_parsing.specs.Rfc2822 as over_mail
 use Rattle.time_parsing.specs.Rfc3339 as over
 use Rattle.time_parsing.specs.exact.Recorded.{AllInRange, in_range-append, put-each, put_each}

@@ -1,4 +1,6 @@
 pub mod ByPlaces
+pub mod Iso8601
+pub mod IsoNumbers
 pub mod Laws
 pub mod Located
 pub mod MailPlaces

@@ -1,7 +1,8 @@
 -- Where a text is refused, over what a format reads and the place of a text that it doesn't read whole.
-use Rattle.std.specs.Prelude.{◌≡◌, ℕ, ◌+◌, ◌-◌, List, [], ◌∷◌, length, Option, Some, None}
+use Rattle.std.specs.Prelude.{◌≡◌, ◌↔◌, ℕ, ◌+◌, ◌-◌, List, [], ◌∷◌, length, Option, Some, None, Result, Ok}
+use Rattle.time_values.specs.Refusal.{Refusal}
 use Rattle.time_record.specs.Record.{Record}
-use Rattle.time_parsing.specs.Outcome.{Reading}
+use Rattle.time_parsing.specs.Outcome.{IsWhole, Reading, Refusing}
 use Rattle.time_locating.specs.Misses.{Wanted, these_bytes, named, the_end, Miss, missed}
 use Rattle.time_locating.specs.declared.located.Expected.{Expected}
 use Rattle.time_locating.specs.declared.located.Expected.TheVariants.{Literal, Component, End}
@@ -55,3 +56,10 @@ OneAnswer reads locates =
     (bytes : List ℕ) (begin : Record) (result other : Option Located)
     → IsLocated reads locates bytes begin result → IsLocated reads locates bytes begin other
     → seen_place result ≡ seen_place other
+
+-- A text has no place exactly where its record is answered, that of the whole text.
+abbrev pub PlacesRefusals : Reading → Refusing → Locating → Type 0
+PlacesRefusals reads refuses locates =
+    (bytes : List ℕ) (begin : Record) (place : Option Located) (outcome : Result Record Refusal)
+    → IsLocated reads locates bytes begin place → IsWhole reads refuses bytes begin outcome
+    → (place ≡ None) ↔ ((r : Record) × (outcome ≡ Ok r))

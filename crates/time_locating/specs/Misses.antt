@@ -102,6 +102,13 @@ furthest (m ∷ ms) = further (Some m) (furthest ms)
 abbrev pub IsFurthest : (List Miss → Type 0) → Option Miss → Type 0
 IsFurthest are_misses miss = (ms : List Miss) × are_misses ms × (miss ≡ furthest ms)
 
+-- the place of a text of which that is left, or nothing is read, and that is the furthest miss: none where no byte is
+-- left, and else the end comes first
+abbrev pub place_after : Option (List ℕ) → Option Miss → Option Miss
+place_after None miss = miss
+place_after (Some []) miss = None
+place_after (Some (b ∷ rest)) miss = further (Some (missed (length (b ∷ rest)) the_end)) miss
+
 -- The place of a text that a tree doesn't read whole.
 abbrev pub LocatesTree : ℕ → Telling → Tree → List ℕ → Record → Miss → Type 0
 LocatesTree Y told t bytes r m = IsFurthest (MissesText Y told t bytes r) (Some m)

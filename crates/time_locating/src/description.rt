@@ -1,70 +1,24 @@
 //! Where a text is refused by a description.
-ghost use Rattle.std.specs.Prelude.{◌≡◌, length, map};
+ghost use Rattle.std.specs.Prelude.{map};
 ghost use Rattle.time_values.specs.Range.{greatest_year};
 ghost use Rattle.time_components.specs.Shape.{borrowed_shape, owned_shape, v3_shape};
-ghost use Rattle.time_components.specs.Tree.{Tree, sequence, trees};
+ghost use Rattle.time_components.specs.Tree.{sequence, trees};
 ghost use Rattle.time_descriptions.specs.Description.{shape};
-ghost use Rattle.time_record.specs.Attempts.{Attempts};
 ghost use Rattle.time_record.specs.Reading.{Reads};
-ghost use Rattle.time_record.specs.Record.{Record};
 ghost use Rattle.time_parsing.specs.Outcome.{begun};
-ghost use Rattle.time_locating.specs.Located.{IsLocated, place_in, seen_miss, seen_place};
-ghost use Rattle.time_locating.specs.Misses.{IsFurthest, LocatesTree, Misses, Telling, all_bytes, first_byte};
+ghost use Rattle.time_locating.specs.Located.{IsLocated};
+ghost use Rattle.time_locating.specs.Misses.{LocatesTree, all_bytes, first_byte};
 ghost use Rattle.time_locating.specs.exact.MissLaws.{tree_exact_place};
 
 use crate::inspect::Inspect;
-use crate::miss::{Miss, further};
+use crate::place::{begin, place};
 use crate::walk::steps::walk_list;
 use crate::walk::{walk, walk_all};
-use crate::{Expected, Locate, Located};
+use crate::{Locate, Located};
 use time_components::{BorrowedFormatItem, FormatDescriptionV3, OwnedFormatItem};
 use time_descriptions::Description;
 use time_parsing::Items;
 use time_record::Parsed;
-
-// The record that a reading begins with.
-fn begin(defaults: Option<Parsed>) -> Parsed
-    ensures { result ≡ begun defaults }
-{
-    match defaults {
-        Some(known) => known,
-        None => Parsed::new(),
-    }
-}
-
-// The place of a text that is tried by a tree: what the tree leaves unread of it, and the furthest of its misses.
-fn place<'d>(unread: Option<&[u8]>, missed: Option<Miss<'d>>, input: &[u8]) -> Option<Located<'d>>
-    ensures { (told : Telling) (t : Tree) (r q : Record) → Attempts greatest_year t input.now r unread.entry q
-        → IsFurthest (Misses greatest_year told t input.now r) (seen_miss missed.entry)
-        → IsLocated (Reads greatest_year t) (LocatesTree greatest_year told t) input.now r result }
-{
-    match unread {
-        Some(rest) => {
-            if rest.is_empty() {
-                return None;
-            }
-            let end = Miss {
-                left: rest.len(),
-                expected: Expected::End,
-            };
-            located(further(Some(end), missed), input)
-        }
-        None => located(missed, input),
-    }
-}
-
-// The place of a miss in the text.
-fn located<'d>(miss: Option<Miss<'d>>, input: &[u8]) -> Option<Located<'d>>
-    ensures { seen_place result ≡ place_in (length input.now) (seen_miss miss.entry) }
-{
-    match miss {
-        Some(miss) => Some(Located {
-            index: input.len().saturating_sub(miss.left),
-            expected: miss.expected,
-        }),
-        None => None,
-    }
-}
 
 // Where a text is refused by an item.
 fn locate_item<'d, I: Inspect>(

@@ -1,6 +1,6 @@
 //! Laws of where texts are refused: each function does nothing, and its contract is the law.
 ghost use Rattle.time_locating.specs.Laws.{FurthestLeavesFewest, OneList, OwnMissFirst};
-ghost use Rattle.time_locating.specs.Located.{OneAnswer};
+ghost use Rattle.time_locating.specs.Located.{OneAnswer, PlacesRefusals};
 
 use crate::Locate;
 
@@ -16,4 +16,10 @@ pub fn law_misses()
 /// A text has one answer over the same defaults, whatever the format: the same index with the same expectation, or none.
 pub fn law_one_place<T: Locate>(format: &T)
     ensures { OneAnswer (T.reads format.now) (T.locates format.now) }
+{}
+
+/// A text has no place exactly where it has a record, over the same defaults: `locate` answers `None` where
+/// `parse_internal` answers `Ok`, and nowhere else.
+pub fn law_place_of_refusal<T: Locate>(format: &T)
+    ensures { PlacesRefusals (T.reads format.now) (T.refuses format.now) (T.locates format.now) }
 {}

@@ -3,10 +3,12 @@
 
 mod description;
 mod inspect;
+mod iso8601;
 pub mod laws;
 mod locate;
 mod located;
 mod miss;
+mod place;
 mod rfc2822;
 mod rfc3339;
 mod walk;

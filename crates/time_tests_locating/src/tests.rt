@@ -3,6 +3,7 @@
 //! of those at one index the one that the refusal of the parse names, or else the first.
 mod cuts;
 mod described;
+mod iso8601;
 mod items;
 mod rfc2822;
 mod rfc3339;

@@ -5,4 +5,4 @@ use Rattle.time_locating.proofs.description.DescriptionLocate.locate.Goals as go
 pub returns : goal.returns
 returns g c =
     rw (sym c.begin-parsed.ensures, sym c.steps.ensures)
-    (c.place.ensures first_byte _ c.begin-parsed.result _ c.walk_list.ensures.reads c.walk_list.ensures.misses)
+    (c.place.ensures.tree first_byte _ c.begin-parsed.result _ c.walk_list.ensures.reads c.walk_list.ensures.misses)

@@ -1,0 +1,196 @@
+-- The date with which a text of ISO 8601 begins: where its number begins, its year, and what a refused one misses.
+use Rattle.std.proofs.Common.{◌≡◌, ◌∙◌, ℕ, ◌+◌, ◌≤◌, ◌<◌, ℤ, List, [], ◌∷◌, ◌++◌, length, Bool, true, false, Option, Some, None, Result, Ok, Err, refl, ap, sym, subst, inl, inr, arith}
+use Rattle.std.specs.Prelude.{option_map, codes, nat_le, unsigned_abs}
+use Rattle.std.proofs.lemmas.Bool.{le-leb}
+use Rattle.std.proofs.lemmas.Option.{none-some, same_Some}
+use Rattle.time_values.specs.Range.{greatest_year}
+use Rattle.time_values.specs.Refusal.{Refusal, component, literal}
+use Rattle.time_digits.specs.Bytes.{is_negative}
+use Rattle.time_digits.specs.Digits.{IsDigitRun}
+use Rattle.time_digits.proofs.Runs.{IsDigitRun-below}
+use Rattle.time_components.specs.Spelling.{IsSigned}
+use Rattle.time_digits.specs.declared.Sign.{Sign}
+use Rattle.time_readers.specs.IsoAnswers.{Found}
+use Rattle.time_readers.specs.IsoDates.{IsoDate, FormOrFault, after_year, calendar, dash, date_text, first_form, first_standing, forms, need, of_kind, ordinal, second_form, third_form, week}
+use Rattle.time_readers.specs.IsoPieces.{byte, month, positive, weekday, year}
+use Rattle.time_readers.specs.declared.iso8601.ExtendedKind.{ExtendedKind}
+use Rattle.time_readers.specs.declared.iso8601.ExtendedKind.TheVariants.{Basic, Extended, Unknown}
+use Rattle.time_readers.proofs.IsoCuts.{year-tells}
+use Rattle.time_readers.proofs.MailRanges.{signed-abs}
+use Rattle.time_locating.specs.Iso8601.{date_rows, left_at_number, missed_or_later, rest_of, row_misses, rows_misses}
+use Rattle.time_locating.specs.IsoNumbers.{IsYearHeld, year_of}
+use Rattle.time_locating.specs.Misses.{Miss}
+use Rattle.time_locating.specs.declared.iso8601.Piece.TheVariants as piece
+use Rattle.time_locating.proofs.IsoLengths.{byte-length, month-within, positive-length, weekday-length, year-within}
+
+pub Ok-Err : {A : Type 0} (a : A) (e : Refusal) → ◌≡◌ {A = Result A Refusal} (Err e) (Ok a) → ⊥
+Ok-Err a e h = cc
+
+pub same_Ok : {A : Type 0} (a b : A) → ◌≡◌ {A = Result A Refusal} (Ok a) (Ok b) → a ≡ b
+same_Ok a b h = cc
+
+pub need-Ok : {A B P : Type 0} (o : Option A) (e : Refusal) (f : A → Result B Refusal) (b : B)
+    → need o e f ≡ Ok b → ((a : A) → o ≡ Some a → f a ≡ Ok b → P) → P
+need-Ok None e f b h k = absurd (Ok-Err b e h)
+need-Ok (Some a) e f b h k = k a refl h
+
+-- ---- the numbers of a date that stands
+
+-- the date says that year, and its number begins among those bytes
+abbrev Within : ExtendedKind → ℤ → List ℕ → FormOrFault → Type 0
+Within kind y b f =
+    (x : List ℕ × IsoDate) → f ≡ Ok x → (left_at_number kind x.1 (length x.0) ≤ length b) × (year_of x.1 ≡ y)
+
+abbrev kind_of : Bool → ExtendedKind
+kind_of true = Extended
+kind_of false = Basic
+
+dash-within : (extended : Bool) (b after : List ℕ) → dash extended b ≡ Some after → length after ≤ length b
+dash-within true b after h = omega (arith, byte-length 45 b after h)
+dash-within false b after h = omega (arith, ap length (same_Some b after h))
+
+first_form-within : (kind : ExtendedKind) (extended : Bool) (y : ℤ) (b : List ℕ) → Within kind y b (first_form extended y b)
+first_form-within kind extended y b x h =
+    need-Ok (month b) (component (codes "month")) _ x h
+    (λ m e h1. need-Ok (dash extended m.0) literal _ x h1
+    (λ after f h2. need-Ok (positive 2 after) (component (codes "day")) _ x h2
+    (λ d g h3.
+    let same = same_Ok (d.0, calendar y m.1 d.1) x h3 in
+    let room : 2 + length d.0 ≤ length b =
+    omega (arith, month-within b m.0 m.1 e, dash-within extended m.0 after f, positive-length 2 after d.0 d.1 g) in
+    subst (λ z. (left_at_number kind z.1 (length z.0) ≤ length b) × (year_of z.1 ≡ y)) same (room, refl))))
+
+second_form-within : (kind : ExtendedKind) (y : ℤ) (b : List ℕ) (o : Option (List ℕ × ℕ)) (x : List ℕ × IsoDate) → positive 3 b ≡ o
+    → option_map (λ d. (d.0, ordinal y d.1)) o ≡ Some x → (left_at_number kind x.1 (length x.0) ≤ length b) × (year_of x.1 ≡ y)
+second_form-within kind y b None x e h = absurd (none-some x h)
+second_form-within kind y b (Some d) x e h =
+    let same = same_Some (d.0, ordinal y d.1) x h in
+    let room : 3 + length d.0 ≤ length b = omega (arith, positive-length 3 b d.0 d.1 e) in
+    subst (λ z. (left_at_number kind z.1 (length z.0) ≤ length b) × (year_of z.1 ≡ y)) same (room, refl)
+
+week-within : (extended : Bool) (y : ℤ) (b w after rest : List ℕ) (n : ℕ) (d : _) → length b ≡ 2 + length w
+    → dash extended w ≡ Some after → length after ≡ 1 + length rest → left_at_number (kind_of extended) (week y n d) (length rest) ≤ length b
+week-within true y b w after rest n d e f g = omega (arith, byte-length 45 w after f)
+week-within false y b w after rest n d e f g = omega (arith, ap length (same_Some w after f))
+
+third_form-within : (extended : Bool) (y : ℤ) (b : List ℕ) → Within (kind_of extended) y b (third_form extended y b)
+third_form-within extended y b x h =
+    need-Ok (positive 2 b) (component (codes "week")) _ x h
+    (λ w e h1. need-Ok (dash extended w.0) literal _ x h1
+    (λ after f h2. need-Ok (weekday after) (component (codes "weekday")) _ x h2
+    (λ d g h3.
+    let same = same_Ok (d.0, week y w.1 d.1) x h3 in
+    let room = week-within extended y b w.0 after d.0 w.1 d.1 (positive-length 2 b w.0 w.1 e) f (weekday-length after d.0 d.1 g) in
+    subst (λ z. (left_at_number (kind_of extended) z.1 (length z.0) ≤ length b) × (year_of z.1 ≡ y)) same (room, refl))))
+
+standing-within : (kind : ExtendedKind) (y : ℤ) (b : List ℕ) (f : FormOrFault) (s : Option (List ℕ × IsoDate)) (t : Option FormOrFault)
+    → Within kind y b f
+    → ((x : List ℕ × IsoDate) → s ≡ Some x → (left_at_number kind x.1 (length x.0) ≤ length b) × (year_of x.1 ≡ y))
+    → ((g : FormOrFault) → t ≡ Some g → Within kind y b g)
+    → Within kind y b (first_standing f s t)
+standing-within kind y b (Ok a) s t first second third x h = first x h
+standing-within kind y b (Err e) (Some a) t first second third x h = second x (ap Some (same_Ok a x h))
+standing-within kind y b (Err e) None (Some g) first second third x h = third g refl x h
+standing-within kind y b (Err e) None None first second third x h = absurd (Ok-Err x e h)
+
+third-within : (extended : Bool) (y : ℤ) (b : List ℕ) (o : Option (List ℕ)) (g : FormOrFault) → byte 87 b ≡ o
+    → option_map (third_form extended y) o ≡ Some g → Within (kind_of extended) y b g
+third-within extended y b None g e h x k = absurd (none-some g h)
+third-within extended y b (Some after) g e h x k =
+    let found = third_form-within extended y after x (same_Some (third_form extended y after) g h ∙ k) in
+    (omega (arith, found.0, byte-length 87 b after e), found.1)
+
+forms-within : (extended : Bool) (y : ℤ) (b : List ℕ) → Within (kind_of extended) y b (forms extended y b)
+unfolding forms
+forms-within extended y b =
+    standing-within (kind_of extended) y b (first_form extended y b) (second_form y b) (option_map (third_form extended y) (byte 87 b))
+    (first_form-within (kind_of extended) extended y b)
+    (λ x h. second_form-within (kind_of extended) y b (positive 3 b) x refl h)
+    (λ g h. third-within extended y b (byte 87 b) g refl h)
+
+abbrev DateWithin : ℤ → List ℕ → Found IsoDate → Type 0
+DateWithin y b d = (left_at_number d.kind d.value (length d.rest) ≤ length b) × (year_of d.value ≡ y)
+
+kind-within : (kind : ExtendedKind) (y : ℤ) (b : List ℕ) (f : FormOrFault) (d : Found IsoDate) → Within kind y b f → of_kind kind f ≡ Ok d
+    → DateWithin y b d
+kind-within kind y b (Err e) d within h = absurd (Ok-Err d e h)
+kind-within kind y b (Ok x) d within h = subst (λ z. DateWithin y b z) (same_Ok _ d h) (within x refl)
+
+after_year-within : (y : ℤ) (b : List ℕ) (o : Option (List ℕ)) (d : Found IsoDate) → byte 45 b ≡ o → after_year y b o ≡ Ok d → DateWithin y b d
+after_year-within y b None d e h = kind-within Basic y b (forms false y b) d (forms-within false y b) h
+after_year-within y b (Some after) d e h =
+    let found = kind-within Extended y after (forms true y after) d (forms-within true y after) h in
+    (omega (arith, found.0, byte-length 45 b after e), found.1)
+
+-- a year of a text has at most six digits
+digits-held : (text rest : List ℕ) (a : Sign × ℕ) → IsSigned false (IsDigitRun 6 6) (IsDigitRun 4 4) text rest a → a.1 ≤ 999999
+digits-held text rest a (inl (tail, cut, run)) = let below : a.1 < 1000000 = IsDigitRun-below 6 6 tail rest a.1 run in omega arith
+digits-held text rest a (inr (free, plus, run)) = let below : a.1 < 10000 = IsDigitRun-below 4 4 text rest a.1 run in omega arith
+
+year-held : (b rest : List ℕ) (y : ℤ) → year b ≡ Some (rest, y) → nat_le (unsigned_abs y) greatest_year ≡ true
+year-held b rest y h =
+    let cut = year-tells b rest y h in
+    let a = cut.2.0 in
+    let same : unsigned_abs y ≡ a.1 = ap unsigned_abs cut.2.1 ∙ signed-abs (is_negative a.0) a.1 in
+    ap (λ n. nat_le n greatest_year) same ∙ le-leb a.1 greatest_year (digits-held cut.0 rest a cut.2.2)
+
+pub date-number : (b : List ℕ) (d : Found IsoDate) → date_text b ≡ Ok d
+    → (left_at_number d.kind d.value (length d.rest) ≤ length b) × IsYearHeld d.value
+unfolding date_text
+date-number b d h =
+    need-Ok (year b) (component (codes "year")) _ d h
+    (λ y e k.
+    let found = after_year-within y.1 y.0 (byte 45 y.0) d refl k in
+    let room : left_at_number d.kind d.value (length d.rest) ≤ length b = omega (arith, found.0, year-within b y.0 y.1 e) in
+    (room, subst (λ v. nat_le (unsigned_abs v) greatest_year ≡ true) (sym found.1) (year-held b y.0 y.1 e)))
+
+-- what is left after a date is no more than where its number begins
+pub rest-below : (kind : ExtendedKind) (v : IsoDate) (rest n : ℕ) → left_at_number kind v rest ≤ n → rest ≤ n
+rest-below kind (calendar y m d) rest n h = omega arith
+rest-below kind (ordinal y d) rest n h = omega arith
+rest-below Basic (week y w d) rest n h = omega arith
+rest-below Extended (week y w d) rest n h = omega arith
+rest-below Unknown (week y w d) rest n h = omega arith
+
+-- ---- a date that doesn't stand
+
+none_missed : (m : Miss) (later : List ℕ → List Miss) (o : Option (List ℕ)) → missed_or_later m later o ≡ []
+    → (rest : List ℕ) × (o ≡ Some rest) × (later rest ≡ [])
+none_missed m later None h = let clash : m ∷ [] ≡ [] = h in absurd cc
+none_missed m later (Some rest) h = (rest, refl, h)
+
+rested : {V : Type 0} (o : Option (List ℕ × V)) (rest : List ℕ) → rest_of o ≡ Some rest → (v : V) × (o ≡ Some (rest, v))
+rested None rest h = absurd (none-some rest h)
+rested (Some (x, v)) rest h = (v, ap (λ y. Some (y, v)) (same_Some x rest h))
+
+-- a date of the calendar with separators
+all_stand-Ok : (b r1 r2 r3 r4 r5 : List ℕ) (y : ℤ) (m : _) (n : ℕ) (e : Refusal) → year b ≡ Some (r1, y) → byte 45 r1 ≡ Some r2
+    → month r2 ≡ Some (r3, m) → byte 45 r3 ≡ Some r4 → positive 2 r4 ≡ Some (r5, n) → date_text b ≡ Err e → ⊥
+unfolding date_text forms
+all_stand-Ok b r1 r2 r3 r4 r5 y m n e year_is dash_is month_is other_dash_is day_is h =
+    Ok-Err (record { rest = r5; value = calendar y m n; kind = Extended }) e
+    (sym h ∙ rw (year_is, dash_is, month_is, other_dash_is, day_is) refl)
+
+calendar-misses : (b : List ℕ) (e : Refusal) → date_text b ≡ Err e
+    → row_misses (piece.Year ∷ piece.Dash ∷ piece.Month ∷ piece.Dash ∷ piece.Day ∷ []) b ≡ [] → ⊥
+calendar-misses b e h none =
+    let y = none_missed _ _ (rest_of (year b)) none in
+    let x = none_missed _ _ (byte 45 y.0) y.2 in
+    let m = none_missed _ _ (rest_of (month x.0)) x.2 in
+    let z = none_missed _ _ (byte 45 m.0) m.2 in
+    let d = none_missed _ _ (rest_of (positive 2 z.0)) z.2 in
+    let year_is = rested (year b) y.0 y.1 in
+    let month_is = rested (month x.0) m.0 m.1 in
+    let day_is = rested (positive 2 z.0) d.0 d.1 in
+    all_stand-Ok b y.0 x.0 m.0 z.0 d.0 year_is.0 month_is.0 day_is.0 e year_is.1 x.1 month_is.1 z.1 day_is.1 h
+
+joined_none : (ms ns : List Miss) → ms ++ ns ≡ [] → (ms ≡ []) × (ns ≡ [])
+joined_none [] ns h = (refl, h)
+joined_none (m ∷ ms) ns h = let clash : m ∷ (ms ++ ns) ≡ [] = h in absurd cc
+
+pub no_date-misses : (b : List ℕ) (e : Refusal) → date_text b ≡ Err e → rows_misses date_rows b ≡ [] → ⊥
+no_date-misses b e h none =
+    let second = (joined_none (row_misses (piece.Year ∷ piece.Month ∷ piece.Day ∷ []) b) _ none).1 in
+    let third = (joined_none (row_misses (piece.Year ∷ piece.Ordinal ∷ []) b) _ second).1 in
+    let fourth = (joined_none (row_misses (piece.Year ∷ piece.WeekLetter ∷ piece.Week ∷ piece.Weekday ∷ []) b) _ third).1 in
+    calendar-misses b e h (joined_none (row_misses (piece.Year ∷ piece.Dash ∷ piece.Month ∷ piece.Dash ∷ piece.Day ∷ []) b) _ fourth).0

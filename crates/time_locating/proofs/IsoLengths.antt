@@ -1,0 +1,213 @@
+-- No piece and no part of a text of ISO 8601 leaves more bytes than there were.
+use Rattle.std.proofs.Common.{◌≡◌, ℕ, ◌+◌, ◌≤◌, List, [], ◌∷◌, length, length-append, Bool, true, false, Option, Some, None, refl, ap, arith}
+use Rattle.std.specs.Prelude.{if◌then◌else◌, option_map, option_and_then, nat_eq}
+use Rattle.std.specs.Option.{option_or}
+use Rattle.std.proofs.lemmas.Option.{none-some, same_Some, cond_some, some_pair_parts, option_and_then_some}
+use Rattle.time_digits.specs.Cuts.{Form, Cut}
+use Rattle.time_digits.specs.Bytes.{IsSign}
+use Rattle.time_readers.specs.IsoAnswers.{Found}
+use Rattle.time_readers.specs.IsoCuts.{IsNumber, IsYear}
+use Rattle.time_readers.specs.IsoOffsets as offsets
+use Rattle.time_readers.specs.IsoOffsets.{OffsetParts, offset_rows, offset_text, nothing_said, numbers_of}
+use Rattle.time_readers.specs.IsoPieces.{Number, at_most, byte, digits_saying, month, months, not_zero, number, numbered, positive, sign, up_to, weekday, weekdays, year}
+use Rattle.time_readers.specs.IsoRows.{Row, Stands, all_stand, first_fitting, fits, when}
+use Rattle.time_readers.specs.IsoTimes as times
+use Rattle.time_readers.specs.IsoTimes.{nothing_given, says, time_after, time_rows, time_text}
+use Rattle.time_readers.specs.declared.iso8601.ExtendedKind.{ExtendedKind}
+use Rattle.time_readers.specs.declared.iso8601.OffsetNumbers.{OffsetNumbers}
+use Rattle.time_readers.specs.declared.iso8601.TimeNumbers.{TimeNumbers}
+use Rattle.time_readers.proofs.IsoCuts.{number-tells, said-tells, sign-tells, year-tells}
+use Rattle.time_locating.specs.Iso8601.{after, rest_of}
+use Rattle.time_locating.specs.declared.iso8601.Piece.{Piece}
+use Rattle.time_locating.specs.declared.iso8601.Piece.TheVariants as piece
+
+-- ---- single pieces
+
+cut-within : {V : Type 0} (S : Form V) (s rest : List ℕ) (v : V) → Cut S s rest v → length rest ≤ length s
+cut-within S s rest v cut = omega (arith, ap length cut.1, length-append cut.0 rest)
+
+pub byte-length : (c : ℕ) (b rest : List ℕ) → byte c b ≡ Some rest → length b ≡ 1 + length rest
+unfolding byte
+byte-length c [] rest h = absurd (none-some rest h)
+byte-length c (x ∷ b) rest h = let is = cond_some (nat_eq x c) b rest h in omega (arith, ap length is.1)
+
+pub said-length : {A : Type 0} (n : ℕ) (says : ℕ → Option A) (b rest : List ℕ) (a : A) → digits_saying n says b ≡ Some (rest, a)
+    → length b ≡ n + length rest
+said-length n says b rest a h =
+    let cut = said-tells n says b rest a h in
+    omega (arith, cut.2.1.enough, cut.2.1.within, ap length cut.1, length-append cut.0 rest)
+
+pub month-within : (b rest : List ℕ) (v : _) → month b ≡ Some (rest, v) → length rest ≤ length b
+unfolding month
+month-within b rest v h = omega (arith, said-length 2 (numbered months) b rest v h)
+
+pub positive-length : (n : ℕ) (b rest : List ℕ) (v : ℕ) → positive n b ≡ Some (rest, v) → length b ≡ n + length rest
+unfolding positive
+positive-length n b rest v h = said-length n not_zero b rest v h
+
+pub weekday-length : (b rest : List ℕ) (v : _) → weekday b ≡ Some (rest, v) → length b ≡ 1 + length rest
+unfolding weekday
+weekday-length b rest v h = said-length 1 (numbered weekdays) b rest v h
+
+up_to-within : (greatest : ℕ) (b rest : List ℕ) (v : ℕ) → up_to greatest 2 b ≡ Some (rest, v) → length rest ≤ length b
+unfolding up_to
+up_to-within greatest b rest v h = omega (arith, said-length 2 (at_most greatest) b rest v h)
+
+pub year-within : (b rest : List ℕ) (v : _) → year b ≡ Some (rest, v) → length rest ≤ length b
+year-within b rest v h = cut-within IsYear b rest v (year-tells b rest v h)
+
+-- what is kept of what is read
+kept : {A V P : Type 0} (g : (List ℕ × A) → V) (o : Option (List ℕ × A)) (rest : List ℕ) (v : V)
+    → option_map {U = List ℕ × V} (λ f. (f.0, g f)) o ≡ Some (rest, v) → ((a : A) → o ≡ Some (rest, a) → P) → P
+kept g None rest v h k = absurd (none-some (rest, v) h)
+kept g (Some (x, a)) rest v h k = k a (ap (λ y. Some (y, a)) (some_pair_parts x rest (g (x, a)) v h).0)
+
+kept_byte : {V : Type 0} (v u : V) (c : ℕ) (b rest : List ℕ) (o : Option (List ℕ)) → byte c b ≡ o
+    → option_map {U = List ℕ × V} (λ x. (x, v)) o ≡ Some (rest, u) → length rest ≤ length b
+kept_byte v u c b rest None e h = absurd (none-some (rest, u) h)
+kept_byte v u c b rest (Some x) e h =
+    let same = some_pair_parts x rest v u h in omega (arith, byte-length c b x e, ap length same.0)
+
+value_kept : {U P : Type 0} (x rest : List ℕ) (o : Option U) (u : U) → option_map {U = List ℕ × U} (λ w. (x, w)) o ≡ Some (rest, u) → (x ≡ rest → P) → P
+value_kept x rest None u h k = absurd (none-some (rest, u) h)
+value_kept x rest (Some w) u h k = k (some_pair_parts x rest w u h).0
+
+number-within : {U : Type 0} (s : Number → Option U) (b rest : List ℕ) (u : U)
+    → option_and_then {U = List ℕ × U} (λ f. option_map {U = List ℕ × U} (λ w. (f.0, w)) (s f.1)) (number b) ≡ Some (rest, u) → length rest ≤ length b
+number-within {U} s b rest u h =
+    option_and_then_some (λ f. option_map {U = List ℕ × U} (λ w. (f.0, w)) (s f.1)) (number b) (rest, u) h
+    (λ x e is. value_kept x.0 rest (s x.1) u is
+    (λ same. omega (arith, cut-within IsNumber b x.0 x.1 (number-tells b x.0 x.1 e), ap length same)))
+
+-- ---- the places of a time and of an offset
+
+abbrev pub Shortens : {P V : Type 0} → Stands P V → Type 0
+Shortens {P} {V} stands =
+    (p : P) (b : List ℕ) (v : V) (rest : List ℕ) (u : V) → stands p b v ≡ Some (rest, u) → length rest ≤ length b
+
+time-within : Shortens times.stands
+time-within times.whole_hour b v rest u h = number-within (λ n. says times.whole_hour n v) b rest u h
+time-within times.hour_and_fraction b v rest u h = number-within (λ n. says times.hour_and_fraction n v) b rest u h
+time-within times.whole_minute b v rest u h = number-within (λ n. says times.whole_minute n v) b rest u h
+time-within times.minute_and_fraction b v rest u h = number-within (λ n. says times.minute_and_fraction n v) b rest u h
+time-within times.any_second b v rest u h = number-within (λ n. says times.any_second n v) b rest u h
+time-within times.colon b v rest u h = kept_byte v u 58 b rest (byte 58 b) refl h
+
+offset-within : Shortens offsets.stands
+offset-within offsets.z b v rest u h = kept_byte v u 90 b rest (byte 90 b) refl h
+offset-within offsets.plus_or_minus b v rest u h =
+    kept (λ f. record v { signed = Some f.1 }) (sign b) rest u h (λ a e. cut-within IsSign b rest a (sign-tells b rest a e))
+offset-within offsets.hour b v rest u h =
+    kept (λ f. record v { hour = f.1 }) (up_to 25 2 b) rest u h (λ a e. up_to-within 25 b rest a e)
+offset-within offsets.colon b v rest u h = kept_byte v u 58 b rest (byte 58 b) refl h
+offset-within offsets.minute b v rest u h =
+    kept (λ f. record v { minute = f.1 }) (up_to 59 2 b) rest u h (λ a e. up_to-within 59 b rest a e)
+
+-- ---- all pieces
+
+rested : {V P : Type 0} (o : Option (List ℕ × V)) (rest : List ℕ) → rest_of o ≡ Some rest → ((v : V) → o ≡ Some (rest, v) → P) → P
+rested None rest h k = absurd (none-some rest h)
+rested (Some (x, v)) rest h k = k v (ap (λ y. Some (y, v)) (same_Some x rest h))
+
+byte-within : (c : ℕ) (b rest : List ℕ) → byte c b ≡ Some rest → length rest ≤ length b
+byte-within c b rest h = omega (arith, byte-length c b rest h)
+
+positive-within : (n : ℕ) (b rest : List ℕ) → rest_of (positive n b) ≡ Some rest → length rest ≤ length b
+positive-within n b rest h = rested (positive n b) rest h (λ v e. omega (arith, positive-length n b rest v e))
+
+time_piece-within : (p : times.Place) (b rest : List ℕ) → rest_of (times.stands p b nothing_given) ≡ Some rest → length rest ≤ length b
+time_piece-within p b rest h = rested (times.stands p b nothing_given) rest h (λ v e. time-within p b nothing_given rest v e)
+
+offset_piece-within : (p : offsets.OffsetPlace) (b rest : List ℕ) → rest_of (offsets.stands p b nothing_said) ≡ Some rest
+    → length rest ≤ length b
+offset_piece-within p b rest h = rested (offsets.stands p b nothing_said) rest h (λ v e. offset-within p b nothing_said rest v e)
+
+pub after-within : (p : Piece) (b rest : List ℕ) → after p b ≡ Some rest → length rest ≤ length b
+after-within piece.Year b rest h = rested (year b) rest h (λ v e. year-within b rest v e)
+after-within piece.Dash b rest h = byte-within 45 b rest h
+after-within piece.Month b rest h = rested (month b) rest h (λ v e. month-within b rest v e)
+after-within piece.Day b rest h = positive-within 2 b rest h
+after-within piece.Ordinal b rest h = positive-within 3 b rest h
+after-within piece.WeekLetter b rest h = byte-within 87 b rest h
+after-within piece.Week b rest h = positive-within 2 b rest h
+after-within piece.Weekday b rest h = rested (weekday b) rest h (λ v e. omega (arith, weekday-length b rest v e))
+after-within piece.WholeHour b rest h = time_piece-within times.whole_hour b rest h
+after-within piece.HourAndFraction b rest h = time_piece-within times.hour_and_fraction b rest h
+after-within piece.WholeMinute b rest h = time_piece-within times.whole_minute b rest h
+after-within piece.MinuteAndFraction b rest h = time_piece-within times.minute_and_fraction b rest h
+after-within piece.Second b rest h = time_piece-within times.any_second b rest h
+after-within piece.Colon b rest h = byte-within 58 b rest h
+after-within piece.Zulu b rest h = byte-within 90 b rest h
+after-within piece.Sign b rest h = offset_piece-within offsets.plus_or_minus b rest h
+after-within piece.OffsetHour b rest h = offset_piece-within offsets.hour b rest h
+after-within piece.OffsetMinute b rest h = offset_piece-within offsets.minute b rest h
+
+-- ---- the texts of a table
+
+if-some : {A : Type 0} (t : Bool) (o : Option A) (a : A) → (if t then o else None) ≡ Some a → o ≡ Some a
+if-some true o a h = h
+if-some false o a h = absurd (none-some a h)
+
+or-some : {A P : Type 0} (o q : Option A) (a : A) → option_or o q ≡ Some a → (o ≡ Some a → P) → (q ≡ Some a → P) → P
+or-some None q a h first second = second h
+or-some (Some x) q a h first second = first h
+
+module _ {P V : Type 0} (stands : Stands P V) (shortens : Shortens stands) where
+  all_stand-within : (ps : List P) (b : List ℕ) (v : V) (rest : List ℕ) (u : V) → all_stand stands ps b v ≡ Some (rest, u)
+      → length rest ≤ length b
+  all_stand-within [] b v rest u h = omega (arith, ap length (some_pair_parts b rest v u h).0)
+  all_stand-within (p ∷ ps) b v rest u h =
+      option_and_then_some (λ f. all_stand stands ps f.0 f.1) (stands p b v) (rest, u) h
+      (λ f e k. omega (arith, shortens p b v f.0 f.1 e, all_stand-within ps f.0 f.1 rest u k))
+
+  module _ (nothing : V) (kind : ExtendedKind) (b : List ℕ) where
+    fits-within : (r : Row P) (t : Found V) → fits stands nothing r kind b ≡ Some t → length t.rest ≤ length b
+    fits-within r t h =
+        let found : (List ℕ × V) → Option (Found V) =
+        λ f. when (r.follows f.0) (record { rest = f.0; value = f.1; kind = r.after kind }) in
+        let stood = if-some (r.before kind) (option_and_then found (all_stand stands r.text b nothing)) t h in
+        option_and_then_some found (all_stand stands r.text b nothing) t stood
+        (λ f e k. omega (
+          arith,
+          all_stand-within r.text b nothing f.0 f.1 e,
+          ap (λ (x : Found V). length x.rest)
+              (cond_some (r.follows f.0) (record { rest = f.0; value = f.1; kind = r.after kind }) t k).1,
+        ))
+
+    first_fitting-within : (rs : List (Row P)) (t : Found V) → first_fitting stands nothing rs kind b ≡ Some t
+        → length t.rest ≤ length b
+    first_fitting-within [] t h = absurd (none-some t h)
+    first_fitting-within (r ∷ rs) t h =
+        or-some (fits stands nothing r kind b) (first_fitting stands nothing rs kind b) t h
+        (λ first. fits-within r t first) (λ later. first_fitting-within rs t later)
+
+time_after-within : (kind : ExtendedKind) (b : List ℕ) (t : Found TimeNumbers) → time_after kind b ≡ Some t → length t.rest ≤ length b
+unfolding time_after
+time_after-within kind b t h = first_fitting-within times.stands time-within nothing_given kind b time_rows t h
+
+after_t-within : (needs_t : Bool) (kind : ExtendedKind) (b : List ℕ) (o : Option (List ℕ)) (t : Found TimeNumbers) → byte 84 b ≡ o
+    → times.after_t needs_t kind b o ≡ Some t → length t.rest ≤ length b
+after_t-within needs_t kind b (Some x) t e h = omega (arith, byte-length 84 b x e, time_after-within kind x t h)
+after_t-within true kind b None t e h = absurd (none-some t h)
+after_t-within false kind b None t e h = time_after-within kind b t h
+
+pub time_text-within : (needs_t : Bool) (kind : ExtendedKind) (b : List ℕ) (t : Found TimeNumbers) → time_text needs_t kind b ≡ Some t
+    → length t.rest ≤ length b
+time_text-within needs_t kind b t h = after_t-within needs_t kind b (byte 84 b) t refl h
+
+mapped : {A B P : Type 0} (f : A → B) (o : Option A) (b : B) → option_map f o ≡ Some b → ((a : A) → o ≡ Some a → f a ≡ b → P) → P
+mapped f None b h k = absurd (none-some b h)
+mapped f (Some a) b h k = k a refl (same_Some (f a) b h)
+
+pub offset_text-within : (kind : ExtendedKind) (b rest : List ℕ) (n : OffsetNumbers) → offset_text kind b ≡ Some (rest, n)
+    → length rest ≤ length b
+unfolding offset_text
+offset_text-within kind b rest n h =
+    let said : Found OffsetParts → (List ℕ × OffsetNumbers) =
+    λ f. (f.rest, numbers_of f.value.signed f.value.hour f.value.minute) in
+    mapped said (first_fitting offsets.stands nothing_said offset_rows kind b) (rest, n) h
+    (λ t e is. omega (
+      arith,
+      first_fitting-within offsets.stands offset-within nothing_said kind b offset_rows t e,
+      ap (λ (x : List ℕ × OffsetNumbers). length x.0) is,
+    ))

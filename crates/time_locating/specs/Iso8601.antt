@@ -1,0 +1,174 @@
+-- The place of a text that ISO 8601 refuses. `Y` is the greatest year.
+--
+-- The text of a date, a time or an offset is one of some rows of pieces. Each row is begun, and misses the first of its
+-- pieces that doesn't stand. Parts that come later stand before those that come earlier.
+use Rattle.std.specs.Prelude.{◌≡◌, ℕ, ◌+◌, List, [], ◌∷◌, ◌++◌, length, map, codes, Bool, true, false, if◌then◌else◌, Option, Some, None, option_map, Result, Ok, Err}
+use Rattle.time_values.specs.Refusal.{Refusal}
+use Rattle.time_readers.specs.IsoAnswers.{Found}
+use Rattle.time_readers.specs.IsoDates.{IsoDate, calendar, ordinal, week, date_text}
+use Rattle.time_readers.specs.IsoOffsets as offsets
+use Rattle.time_readers.specs.IsoOffsets.{offset_rows, nothing_said}
+use Rattle.time_readers.specs.IsoPieces.{year, month, weekday, positive, byte}
+use Rattle.time_readers.specs.IsoRows.{Row}
+use Rattle.time_readers.specs.IsoTimes as times
+use Rattle.time_readers.specs.IsoTimes.{time_rows, time_text, nothing_given}
+use Rattle.time_readers.specs.Readers.{Reader}
+use Rattle.time_readers.specs.declared.iso8601.ExtendedKind.{ExtendedKind}
+use Rattle.time_readers.specs.declared.iso8601.ExtendedKind.TheVariants.{Extended, Unknown}
+use Rattle.time_readers.specs.declared.iso8601.TimeNumbers.{TimeNumbers}
+use Rattle.time_record.specs.Record.{Record}
+use Rattle.time_parsing.specs.Iso8601.{date_entries, put_or_fault, reading}
+use Rattle.time_parsing.specs.Rfc3339.{with_leap_second}
+use Rattle.time_locating.specs.Located.{Locating}
+use Rattle.time_locating.specs.Misses.{Miss, Wanted, missed, these_bytes, named, wanted_of, furthest, place_after}
+use Rattle.time_locating.specs.declared.iso8601.Piece.{Piece}
+use Rattle.time_locating.specs.declared.iso8601.Piece.TheVariants as piece
+
+-- the rest of what is read, without what it says
+abbrev pub rest_of : {V : Type 0} → Option (List ℕ × V) → Option (List ℕ)
+rest_of found = option_map (λ f. f.0) found
+
+-- what is left after a piece, which is read alike whatever those before it say
+abbrev pub after : Piece → Reader
+after piece.Year bytes = rest_of (year bytes)
+after piece.Dash bytes = byte 45 bytes
+after piece.Month bytes = rest_of (month bytes)
+after piece.Day bytes = rest_of (positive 2 bytes)
+after piece.Ordinal bytes = rest_of (positive 3 bytes)
+after piece.WeekLetter bytes = byte 87 bytes
+after piece.Week bytes = rest_of (positive 2 bytes)
+after piece.Weekday bytes = rest_of (weekday bytes)
+after piece.WholeHour bytes = rest_of (times.stands times.whole_hour bytes nothing_given)
+after piece.HourAndFraction bytes = rest_of (times.stands times.hour_and_fraction bytes nothing_given)
+after piece.WholeMinute bytes = rest_of (times.stands times.whole_minute bytes nothing_given)
+after piece.MinuteAndFraction bytes = rest_of (times.stands times.minute_and_fraction bytes nothing_given)
+after piece.Second bytes = rest_of (times.stands times.any_second bytes nothing_given)
+after piece.Colon bytes = byte 58 bytes
+after piece.Zulu bytes = byte 90 bytes
+after piece.Sign bytes = rest_of (offsets.stands offsets.plus_or_minus bytes nothing_said)
+after piece.OffsetHour bytes = rest_of (offsets.stands offsets.hour bytes nothing_said)
+after piece.OffsetMinute bytes = rest_of (offsets.stands offsets.minute bytes nothing_said)
+
+-- what a piece wants: a byte, or the component of that name
+abbrev pub wanted_at : Piece → Wanted
+wanted_at piece.Year = named (codes "year")
+wanted_at piece.Dash = these_bytes (codes "-")
+wanted_at piece.Month = named (codes "month")
+wanted_at piece.Day = named (codes "day")
+wanted_at piece.Ordinal = named (codes "ordinal")
+wanted_at piece.WeekLetter = these_bytes (codes "W")
+wanted_at piece.Week = named (codes "week")
+wanted_at piece.Weekday = named (codes "weekday")
+wanted_at piece.WholeHour = named (codes "hour")
+wanted_at piece.HourAndFraction = named (codes "hour")
+wanted_at piece.WholeMinute = named (codes "minute")
+wanted_at piece.MinuteAndFraction = named (codes "minute")
+wanted_at piece.Second = named (codes "second")
+wanted_at piece.Colon = these_bytes (codes ":")
+wanted_at piece.Zulu = these_bytes (codes "Z")
+wanted_at piece.Sign = named (codes "offset hour")
+wanted_at piece.OffsetHour = named (codes "offset hour")
+wanted_at piece.OffsetMinute = named (codes "offset minute")
+
+-- what is missed where nothing is left, and else what is missed later
+abbrev pub missed_or_later : Miss → (List ℕ → List Miss) → Option (List ℕ) → List Miss
+missed_or_later m later None = m ∷ []
+missed_or_later m later (Some rest) = later rest
+
+-- the miss of a row of pieces, or none where all of them stand
+abbrev pub row_misses : List Piece → List ℕ → List Miss
+row_misses [] bytes = []
+row_misses (p ∷ ps) bytes =
+    missed_or_later (missed (length bytes) (wanted_at p)) (row_misses ps) (after p bytes)
+
+-- the misses of rows, one after another
+abbrev pub rows_misses : List (List Piece) → List ℕ → List Miss
+rows_misses [] bytes = []
+rows_misses (row ∷ rows) bytes = row_misses row bytes ++ rows_misses rows bytes
+
+-- the rows of a date
+abbrev pub date_rows : List (List Piece)
+date_rows =
+    (piece.Year ∷ piece.Month ∷ piece.Day ∷ [])
+    ∷ (piece.Year ∷ piece.Ordinal ∷ [])
+    ∷ (piece.Year ∷ piece.WeekLetter ∷ piece.Week ∷ piece.Weekday ∷ [])
+    ∷ (piece.Year ∷ piece.Dash ∷ piece.Month ∷ piece.Dash ∷ piece.Day ∷ [])
+    ∷ (piece.Year ∷ piece.Dash ∷ piece.Ordinal ∷ [])
+    ∷ (piece.Year ∷ piece.Dash ∷ piece.WeekLetter ∷ piece.Week ∷ piece.Dash ∷ piece.Weekday ∷ [])
+    ∷ []
+
+-- the rows of a table of texts that may stand after that kind
+abbrev pub rows_after : {P : Type 0} → (P → Piece) → List (Row P) → ExtendedKind → List (List Piece)
+rows_after piece_of [] kind = []
+rows_after piece_of (r ∷ rs) kind =
+    if r.before kind then map piece_of r.text ∷ rows_after piece_of rs kind else rows_after piece_of rs kind
+
+abbrev pub time_piece : times.Place → Piece
+time_piece times.whole_hour = piece.WholeHour
+time_piece times.hour_and_fraction = piece.HourAndFraction
+time_piece times.whole_minute = piece.WholeMinute
+time_piece times.minute_and_fraction = piece.MinuteAndFraction
+time_piece times.any_second = piece.Second
+time_piece times.colon = piece.Colon
+
+abbrev pub offset_piece : offsets.OffsetPlace → Piece
+offset_piece offsets.z = piece.Zulu
+offset_piece offsets.plus_or_minus = piece.Sign
+offset_piece offsets.hour = piece.OffsetHour
+offset_piece offsets.colon = piece.Colon
+offset_piece offsets.minute = piece.OffsetMinute
+
+-- the misses of a time of that kind, and of an offset
+abbrev pub time_misses : ExtendedKind → List ℕ → List Miss
+time_misses kind = rows_misses (rows_after time_piece time_rows kind)
+
+abbrev pub offset_misses : ExtendedKind → List ℕ → List Miss
+offset_misses kind = rows_misses (rows_after offset_piece offset_rows kind)
+
+-- of `T`, which may be needed, and a time
+abbrev pub after_t : Bool → ExtendedKind → List ℕ → Option (List ℕ) → List Miss
+after_t needed kind bytes (Some rest) = time_misses kind rest
+after_t true kind bytes None = missed (length bytes) (these_bytes (codes "T")) ∷ []
+after_t false kind bytes None = time_misses kind bytes
+
+-- of an offset after a time
+abbrev pub after_time : Option (Found TimeNumbers) → List Miss
+after_time None = []
+after_time (Some t) = offset_misses t.kind t.rest
+
+-- of a time and what follows it
+unfoldable pub from_time : Bool → ExtendedKind → List ℕ → List Miss
+from_time needs_t kind bytes =
+    after_time (time_text needs_t kind bytes) ++ after_t needs_t kind bytes (byte 84 bytes)
+
+-- of a text without a date, which is a time or an offset
+abbrev pub without_date : List ℕ → List Miss
+without_date bytes = from_time false Unknown bytes ++ offset_misses Unknown bytes
+
+-- How many bytes are left where the number of a date begins that may be greater than a record holds, with so many after
+-- the date: two digits of a day, three of an ordinal, or two of a week with a weekday after it.
+abbrev pub left_at_number : ExtendedKind → IsoDate → ℕ → ℕ
+left_at_number kind (calendar y m d) rest = 2 + rest
+left_at_number kind (ordinal y d) rest = 3 + rest
+left_at_number Extended (week y w d) rest = 4 + rest
+left_at_number kind (week y w d) rest = 3 + rest
+
+-- of a text that begins with a date: of what follows it where a record holds the date, and else the date's number
+abbrev pub after_date : List ℕ → Found IsoDate → Result Record Refusal → List Miss
+after_date bytes d (Ok q) = from_time true d.kind d.rest
+after_date bytes d (Err e) =
+    missed (left_at_number d.kind d.value (length d.rest)) (wanted_of e) ∷ without_date bytes
+
+-- of a text, by the date with which it begins
+abbrev pub by_date : ℕ → List ℕ → Record → Result (Found IsoDate) Refusal → List Miss
+by_date Y bytes r (Err e) = rows_misses date_rows bytes ++ without_date bytes
+by_date Y bytes r (Ok d) = after_date bytes d (put_or_fault Y (date_entries d.value) r)
+
+-- the misses of a text that is read over the record
+unfoldable pub misses : ℕ → List ℕ → Record → List Miss
+misses Y bytes r = by_date Y bytes r (date_text bytes)
+
+-- The place of a text over the record: the furthest of its misses, or of them and the end.
+abbrev pub Locates : ℕ → Locating
+Locates Y bytes r m =
+    place_after (rest_of (reading Y bytes (with_leap_second r))) (furthest (misses Y bytes (with_leap_second r))) ≡ Some m

@@ -1,0 +1,15 @@
+-- A text has one place by ISO 8601, since the place is a function. `Y` is the greatest year.
+use Rattle.std.proofs.Common.{◌∙◌, sym, ap, ℕ, List, Option}
+use Rattle.std.proofs.lemmas.Option.{none-some, same_Some}
+use Rattle.time_record.specs.Record.{Record}
+use Rattle.time_parsing.specs.Iso8601.{Reads}
+use Rattle.time_parsing.specs.Rfc3339.{with_leap_second}
+use Rattle.time_locating.specs.Located.{IsExactPlace}
+use Rattle.time_locating.specs.Misses.{furthest, place_after}
+use Rattle.time_locating.specs.Iso8601.{Locates, misses, rest_of}
+
+pub iso8601_exact_place : (Y : ℕ) → IsExactPlace (Reads Y) (Locates Y)
+iso8601_exact_place Y = record {
+  one_place = λ b r m n h k. same_Some m n (sym h ∙ k);
+  not_read = λ b r q m h k. none-some m (sym (ap (λ (o : Option (List ℕ × Record)). place_after (rest_of o) (furthest (misses Y b (with_leap_second r)))) k) ∙ h);
+}

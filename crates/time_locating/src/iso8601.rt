@@ -1,0 +1,293 @@
+//! Where a text is refused by ISO 8601.
+mod pieces;
+
+ghost use Rattle.std.specs.Prelude.{◌≡◌, map};
+ghost use Rattle.time_record.specs.Record.{Record};
+ghost use Rattle.time_values.specs.Range.{greatest_year};
+ghost use Rattle.time_readers.specs.IsoDates.{iso_date};
+ghost use Rattle.time_readers.specs.IsoPieces.{byte};
+ghost use Rattle.time_locating.specs.Iso8601 as spec;
+ghost use Rattle.time_locating.specs.IsoNumbers.{IsTooGreat, IsYearHeld};
+ghost use Rattle.time_locating.specs.Located.{seen_miss};
+ghost use Rattle.time_locating.specs.Misses.{furthest};
+
+use crate::iso8601::pieces::{expected_at, past, past_byte};
+use crate::miss::{Miss, further};
+use crate::place::{begin, place};
+use crate::{Expected, Locate, Located};
+use time_parsing::{Iso8601, Parsable};
+use time_readers::iso8601::{DateNumbers, ExtendedKind, date, time};
+use time_record::Parsed;
+
+/// What stands in a text of ISO 8601.
+#[derive(Clone, Copy)]
+pub enum Piece {
+    /// Four digits, or a sign and six.
+    Year,
+    /// `-`.
+    Dash,
+    /// Two digits of 01 to 12.
+    Month,
+    /// Two digits, but not `00`.
+    Day,
+    /// Three digits, but not `000`.
+    Ordinal,
+    /// `W`.
+    WeekLetter,
+    /// Two digits, but not `00`.
+    Week,
+    /// One digit of 1 to 7.
+    Weekday,
+    /// Two digits of 0 to 23 without a fraction.
+    WholeHour,
+    /// The same with a fraction.
+    HourAndFraction,
+    /// Two digits of 0 to 59 without a fraction.
+    WholeMinute,
+    /// The same with a fraction.
+    MinuteAndFraction,
+    /// Two digits of 0 to 60, perhaps with a fraction that doesn't round to 1.
+    Second,
+    /// `:`.
+    Colon,
+    /// `Z`.
+    Zulu,
+    /// `-` or `+`.
+    Sign,
+    /// Two digits of 0 to 25.
+    OffsetHour,
+    /// Two digits of 0 to 59.
+    OffsetMinute,
+}
+
+// The rows of a date.
+const DATES: [&[Piece]; 6] = [
+    &[Piece::Year, Piece::Month, Piece::Day],
+    &[Piece::Year, Piece::Ordinal],
+    &[Piece::Year, Piece::WeekLetter, Piece::Week, Piece::Weekday],
+    &[
+        Piece::Year,
+        Piece::Dash,
+        Piece::Month,
+        Piece::Dash,
+        Piece::Day,
+    ],
+    &[Piece::Year, Piece::Dash, Piece::Ordinal],
+    &[
+        Piece::Year,
+        Piece::Dash,
+        Piece::WeekLetter,
+        Piece::Week,
+        Piece::Dash,
+        Piece::Weekday,
+    ],
+];
+
+// The rows of a time.
+const PART_OF_HOUR: &[Piece] = &[Piece::HourAndFraction];
+
+const HOUR: &[Piece] = &[Piece::WholeHour];
+
+const PART_OF_MINUTE: &[Piece] = &[Piece::WholeHour, Piece::MinuteAndFraction];
+
+const COLON_PART_OF_MINUTE: &[Piece] = &[Piece::WholeHour, Piece::Colon, Piece::MinuteAndFraction];
+
+const MINUTE: &[Piece] = &[Piece::WholeHour, Piece::WholeMinute];
+
+const COLON_MINUTE: &[Piece] = &[Piece::WholeHour, Piece::Colon, Piece::WholeMinute];
+
+const SECOND: &[Piece] = &[Piece::WholeHour, Piece::WholeMinute, Piece::Second];
+
+const MINUTE_COLON_SECOND: &[Piece] = &[
+    Piece::WholeHour,
+    Piece::WholeMinute,
+    Piece::Colon,
+    Piece::Second,
+];
+
+const COLON_SECOND: &[Piece] = &[
+    Piece::WholeHour,
+    Piece::Colon,
+    Piece::WholeMinute,
+    Piece::Colon,
+    Piece::Second,
+];
+
+// Those that may stand in a text of each kind.
+const BASIC_TIMES: [&[Piece]; 5] = [PART_OF_HOUR, HOUR, PART_OF_MINUTE, MINUTE, SECOND];
+
+const EXTENDED_TIMES: [&[Piece]; 8] = [
+    PART_OF_HOUR,
+    HOUR,
+    PART_OF_MINUTE,
+    COLON_PART_OF_MINUTE,
+    MINUTE,
+    COLON_MINUTE,
+    MINUTE_COLON_SECOND,
+    COLON_SECOND,
+];
+
+const ANY_TIMES: [&[Piece]; 8] = [
+    PART_OF_HOUR,
+    HOUR,
+    PART_OF_MINUTE,
+    COLON_PART_OF_MINUTE,
+    MINUTE,
+    COLON_MINUTE,
+    SECOND,
+    COLON_SECOND,
+];
+
+// The rows of an offset, in a basic text and in others.
+const UTC: &[Piece] = &[Piece::Zulu];
+
+const OFFSET_HOUR: &[Piece] = &[Piece::Sign, Piece::OffsetHour];
+
+const OFFSET_MINUTE: &[Piece] = &[Piece::Sign, Piece::OffsetHour, Piece::OffsetMinute];
+
+const OFFSET_COLON_MINUTE: &[Piece] = &[
+    Piece::Sign,
+    Piece::OffsetHour,
+    Piece::Colon,
+    Piece::OffsetMinute,
+];
+
+const BASIC_OFFSETS: [&[Piece]; 3] = [UTC, OFFSET_HOUR, OFFSET_MINUTE];
+
+const OFFSETS: [&[Piece]; 4] = [UTC, OFFSET_HOUR, OFFSET_MINUTE, OFFSET_COLON_MINUTE];
+
+// The first piece of a row that doesn't stand.
+fn row_missed(row: &[Piece], input: &[u8]) -> Option<Miss<'static>>
+    ensures { seen_miss result ≡ furthest (spec.row_misses row.now input.now) }
+{
+    let mut rest = input;
+    for piece in row {
+        match past(*piece, rest) {
+            Some(after) => rest = after,
+            None => {
+                return Some(Miss {
+                    left: rest.len(),
+                    expected: expected_at(*piece),
+                });
+            }
+        }
+    }
+    None
+}
+
+// The furthest of what rows miss.
+fn rows_missed(rows: &[&[Piece]], input: &[u8]) -> Option<Miss<'static>>
+    ensures { seen_miss result ≡ furthest (spec.rows_misses (map (λ row. row.now) rows.now) input.now) }
+{
+    let mut missed = None;
+    for row in rows {
+        missed = further(missed, row_missed(row, input));
+    }
+    missed
+}
+
+// The furthest of what a time of that kind misses.
+fn time_missed(kind: ExtendedKind, input: &[u8]) -> Option<Miss<'static>>
+    ensures { seen_miss result ≡ furthest (spec.time_misses kind input.now) }
+{
+    match kind {
+        ExtendedKind::Basic => rows_missed(&BASIC_TIMES, input),
+        ExtendedKind::Extended => rows_missed(&EXTENDED_TIMES, input),
+        ExtendedKind::Unknown => rows_missed(&ANY_TIMES, input),
+    }
+}
+
+// The furthest of what an offset of that kind misses.
+fn offset_missed(kind: ExtendedKind, input: &[u8]) -> Option<Miss<'static>>
+    ensures { seen_miss result ≡ furthest (spec.offset_misses kind input.now) }
+{
+    match kind {
+        ExtendedKind::Basic => rows_missed(&BASIC_OFFSETS, input),
+        ExtendedKind::Extended | ExtendedKind::Unknown => rows_missed(&OFFSETS, input),
+    }
+}
+
+// The furthest of what `T`, which may be needed, and a time of that kind miss.
+fn letter_missed(needs_t: bool, kind: ExtendedKind, input: &[u8]) -> Option<Miss<'static>>
+    ensures { seen_miss result ≡ furthest (spec.after_t needs_t kind input.now (byte 84 input.now)) }
+{
+    match past_byte::<b'T'>(input) {
+        Some(after) => time_missed(kind, after),
+        None if needs_t => Some(Miss {
+            left: input.len(),
+            expected: Expected::Literal(b"T"),
+        }),
+        None => time_missed(kind, input),
+    }
+}
+
+// The furthest of what a time and an offset after it miss.
+fn missed_from_time(needs_t: bool, kind: ExtendedKind, input: &[u8]) -> Option<Miss<'static>>
+    ensures { seen_miss result ≡ furthest (spec.from_time needs_t kind input.now) }
+{
+    let missed = letter_missed(needs_t, kind, input);
+    match time(input, kind, needs_t) {
+        Some(found) => further(offset_missed(found.kind, found.rest), missed),
+        None => missed,
+    }
+}
+
+// The furthest of what a text without a date misses.
+fn missed_without_date(input: &[u8]) -> Option<Miss<'static>>
+    ensures { seen_miss result ≡ furthest (spec.without_date input.now) }
+{
+    further(
+        missed_from_time(false, ExtendedKind::Unknown, input),
+        offset_missed(ExtendedKind::Unknown, input),
+    )
+}
+
+// The number of a date that is greater than a record holds: how many bytes before the date's end it begins, and its
+// component.
+fn too_great(numbers: DateNumbers, kind: ExtendedKind) -> Option<(usize, &'static str)>
+    ensures { (r : Record) → IsYearHeld (iso_date numbers) → IsTooGreat (iso_date numbers) kind r result }
+{
+    match numbers {
+        DateNumbers::Calendar(_, _, day) if day.get() > 31 => Some((2, "day")),
+        DateNumbers::Ordinal(_, ordinal) if ordinal.get() > 366 => Some((3, "ordinal")),
+        DateNumbers::Week(_, week, _) if week.get() > 53 => {
+            Some((if kind.is_extended() { 4 } else { 3 }, "week"))
+        }
+        _ => None,
+    }
+}
+
+// The furthest of what a text misses.
+fn missed(input: &[u8]) -> Option<Miss<'static>>
+    ensures { (r : Record) → seen_miss result ≡ furthest (spec.misses greatest_year input.now r) }
+{
+    let Ok(date) = date(input) else {
+        return further(rows_missed(&DATES, input), missed_without_date(input));
+    };
+    match too_great(date.value, date.kind) {
+        Some((len, name)) => {
+            let number = Miss {
+                left: len + date.rest.len(),
+                expected: Expected::Component(name),
+            };
+            further(Some(number), missed_without_date(input))
+        }
+        None => missed_from_time(true, date.kind, date.rest),
+    }
+}
+
+impl Locate for Iso8601 {
+    ghost use Rattle.time_locating.specs.Iso8601.{Locates};
+
+    ghost locates = { λ _. Locates greatest_year };
+
+    fn locate<'a>(&'a self, input: &[u8], defaults: Option<Parsed>) -> Option<Located<'a>> {
+        let mut parsed = begin(defaults);
+        let unread = self.parse_into(input, &mut parsed).ok();
+        place(unread, missed(input), input)
+    }
+
+    ghost use Rattle.time_locating.specs.exact.Iso8601Laws.{iso8601_exact_place};
+
+    ghost exact_place = { λ _. iso8601_exact_place greatest_year };
+}

@@ -130,7 +130,8 @@ pelzaune_status pelzaune_parse_parts(uint32_t format, const uint8_t *text, size_
 pelzaune_status pelzaune_check_description(uint32_t syntax, const uint8_t *description, size_t description_length, size_t *index);
 
 /* Each parses a text by a description, and else is the call of that name above. A text that describes nothing is answered
- * as pelzaune_check_description answers it. Nothing is kept between calls: each reads the description anew. */
+ * as pelzaune_check_description answers it. Nothing is kept between calls: each reads the description
+ * anew. For many texts by one description see pelzaune_describe. */
 pelzaune_status pelzaune_read_moment(uint32_t syntax, const uint8_t *description, size_t description_length,
     const uint8_t *text, size_t length, pelzaune_moment *out);
 pelzaune_status pelzaune_read_local(uint32_t syntax, const uint8_t *description, size_t description_length,
@@ -150,6 +151,41 @@ pelzaune_status pelzaune_read_nanoseconds(uint32_t syntax, const uint8_t *descri
 pelzaune_status pelzaune_read_parts(uint32_t syntax, const uint8_t *description, size_t description_length,
     const uint8_t *text, size_t length, pelzaune_parts *out);
 
+/* A description that was read, for many texts. It holds all of itself and nothing of yours: so you may copy it as you copy
+ * a struct, and nothing is to be freed. What its numbers say is the library's own matter. Whatever numbers they are, they
+ * describe something, and a call by them is safe. */
+typedef struct pelzaune_description {
+    uint64_t numbers[129];
+} pelzaune_description;
+
+/* Reads a description: PELZAUNE_OK, or as pelzaune_check_description answers. Then *out is unchanged. */
+pelzaune_status pelzaune_describe(uint32_t syntax, const uint8_t *text, size_t length, pelzaune_description *out, size_t *index);
+
+/* Each parses a text by a description that was read, as the call pelzaune_read_.. does by its text. */
+pelzaune_status pelzaune_described_moment(const pelzaune_description *description, const uint8_t *text, size_t length, pelzaune_moment *out);
+pelzaune_status pelzaune_described_local(const pelzaune_description *description, const uint8_t *text, size_t length, pelzaune_local *out);
+pelzaune_status pelzaune_described_utc(const pelzaune_description *description, const uint8_t *text, size_t length, pelzaune_local *out);
+pelzaune_status pelzaune_described_date(const pelzaune_description *description, const uint8_t *text, size_t length, pelzaune_date *out);
+pelzaune_status pelzaune_described_time(const pelzaune_description *description, const uint8_t *text, size_t length, pelzaune_time *out);
+pelzaune_status pelzaune_described_offset(const pelzaune_description *description, const uint8_t *text, size_t length, int32_t *out);
+pelzaune_status pelzaune_described_instant(const pelzaune_description *description, const uint8_t *text, size_t length, pelzaune_instant *out);
+pelzaune_status pelzaune_described_nanoseconds(const pelzaune_description *description, const uint8_t *text, size_t length, int64_t *out);
+pelzaune_status pelzaune_described_parts(const pelzaune_description *description, const uint8_t *text, size_t length, pelzaune_parts *out);
+
+/* Where a text goes wrong. */
+typedef struct pelzaune_place {
+    size_t index; /* of what can't be read; the length where the text is too short */
+    uint8_t byte; /* the first byte of the literal that was expected there, and 0 where it was none */
+} pelzaune_place;
+
+/* Tells where a text that can't be read goes wrong, for a message to who wrote it. PELZAUNE_OK says that the whole text is
+ * read, also where the calendar has no such date, and then *out is unchanged. Any other status says what was expected at
+ * the place, as that of a refusal: PELZAUNE_INVALID_LITERAL, PELZAUNE_INVALID_COMPONENT, or for the end of the text
+ * PELZAUNE_TRAILING. There are places by RFC 3339 and RFC 2822, and by descriptions. */
+pelzaune_status pelzaune_locate(uint32_t format, const uint8_t *text, size_t length, pelzaune_place *out);
+pelzaune_status pelzaune_read_locate(uint32_t syntax, const uint8_t *description, size_t description_length, const uint8_t *text,
+    size_t length, pelzaune_place *out);
+
 /* What an entry of a column has where its line is refused: the least number, which numpy's datetime64 has for NaT. It is
  * also the count of one instant, the first that 64 bits count; so `*refused` says whether a line was refused. */
 #define PELZAUNE_NO_COUNT INT64_MIN
@@ -161,7 +197,11 @@ pelzaune_status pelzaune_read_parts(uint32_t syntax, const uint8_t *description,
  * line ends with LF, which the last may lack. CR is no part of a line end: a line that ends with it is refused. */
 size_t pelzaune_column(uint32_t format, const uint8_t *text, size_t length, int64_t *entries, size_t capacity, size_t *refused);
 
-/* The same by a description, which is read once. By a text that describes nothing each line is refused. */
+/* The same by a description that was read. */
+size_t pelzaune_described_column(const pelzaune_description *description, const uint8_t *text, size_t length, int64_t *entries,
+    size_t capacity, size_t *refused);
+
+/* The same by the text of a description, which is read once. By a text that describes nothing each line is refused. */
 size_t pelzaune_read_column(uint32_t syntax, const uint8_t *description, size_t description_length, const uint8_t *text,
     size_t length, int64_t *entries, size_t capacity, size_t *refused);
 

@@ -1,4 +1,6 @@
 pub mod ColumnLemmas
 pub mod Constructed
+pub mod HeldRows
+pub mod HeldSteps
 pub mod Instants
 pub mod Laid

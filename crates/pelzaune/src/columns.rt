@@ -8,20 +8,22 @@ ghost use Rattle.pelzaune.specs.Described as Described;
 ghost use Rattle.pelzaune.specs.Described.{HandsRead};
 ghost use Rattle.pelzaune.specs.Formats as Formats;
 ghost use Rattle.pelzaune.specs.Handed.{HandsCount, IsCountHanded, of_moment};
+ghost use Rattle.pelzaune.specs.Held.{held_tree};
 
 use crate::cuts::{count_lines, first_line};
 use crate::descriptions::{MOST_STEPS, Syntax, fault_status, read_description, syntax_of};
 use crate::handing::{count, count_by};
+use crate::held::HeldDescription;
 use crate::parts::Nanoseconds;
 use crate::status::UNKNOWN_SYNTAX;
 use time_descriptions::Description;
 
-// What hands over the nanoseconds of a line.
-trait Count {
+/// What hands over the nanoseconds of a line.
+pub trait Count {
     // The status, and the entry before and after it.
     ghost hands: { Self → Counting };
 
-    // Hands them over.
+    /// Hands them over.
     fn count_line(&self, line: &[u8], entry: &mut Nanoseconds) -> u32
         ensures { hands self.now line.now result entry.old entry.new };
 }
@@ -42,6 +44,16 @@ impl Count for ByNumber {
 // By a description.
 impl Count for Description<MOST_STEPS> {
     ghost hands = { λ s. by_tree (shape s) };
+
+    #[inline(always)]
+    fn count_line(&self, line: &[u8], entry: &mut Nanoseconds) -> u32 {
+        count(self, line, entry)
+    }
+}
+
+// By a description that is held.
+impl Count for HeldDescription {
+    ghost hands = { λ s. by_tree (held_tree s) };
 
     #[inline(always)]
     fn count_line(&self, line: &[u8], entry: &mut Nanoseconds) -> u32 {
@@ -71,9 +83,9 @@ fn one_if_refused(status: u32) -> usize
     usize::from(status != 0)
 }
 
-// Hands over the lines of a text, as many as there are entries, and answers how many the text has.
+/// Hands over the lines of a text, as many as there are entries, and answers how many the text has.
 #[inline(always)]
-fn column<C: Count>(
+pub fn column<C: Count>(
     counting: &C,
     text: &[u8],
     entries: &mut [Nanoseconds],

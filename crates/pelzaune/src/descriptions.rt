@@ -5,7 +5,7 @@ ghost use Rattle.time_descriptions.specs.Refusal.{refusal_of};
 ghost use Rattle.pelzaune.specs.Described as Described;
 ghost use Rattle.pelzaune.specs.Described.{Checks, IsDescribed};
 
-use crate::status::UNKNOWN_SYNTAX;
+use crate::status::{TOO_LONG, UNKNOWN_SYNTAX};
 use time_descriptions::{Description, InvalidFormatDescription, parse_borrowed, parse_strftime};
 
 /// The most steps that a description may have. One of so many bytes has room.
@@ -62,12 +62,12 @@ pub fn fault_status(error: InvalidFormatDescription<'_>) -> u32
         InvalidFormatDescription::MissingRequiredModifier { .. } => 13,
         InvalidFormatDescription::Expected { .. } => 14,
         InvalidFormatDescription::NotSupported { .. } => 15,
-        InvalidFormatDescription::TooLong => 16,
+        InvalidFormatDescription::TooLong => TOO_LONG,
     }
 }
 
-// The index of the first fault, where there is one.
-fn fault_index(error: InvalidFormatDescription<'_>) -> Option<usize>
+/// The index of the first fault, where there is one.
+pub fn fault_index(error: InvalidFormatDescription<'_>) -> Option<usize>
     ensures { result ≡ Described.fault_index (refusal_of error.entry) }
 {
     match error {

@@ -18,9 +18,9 @@ use time_record::Parsed;
 use time_values::error::TryFromParsed;
 use time_values::{Date, Time, UtcOffset};
 
-// Hands over the value of a text.
+/// Hands over the value of a text.
 #[inline(always)]
-fn hand<V: Target, P: From<V> + Copy, F: Parsable>(format: &F, text: &[u8], out: &mut P) -> u32
+pub fn hand<V: Target, P: From<V> + Copy, F: Parsable>(format: &F, text: &[u8], out: &mut P) -> u32
     ensures { IsHandedOver (IsHanded P.from_gives)
         (V.outcome (F.path format.now) (F.reads format.now) (F.refuses format.now) text.now) result out.old out.new }
 {
@@ -95,9 +95,9 @@ fn resolve<V: TryFrom<Parsed, Error = TryFromParsed> + Drop, P: From<V> + Copy>(
     }
 }
 
-// Hands over the parts of a text.
+/// Hands over the parts of a text.
 #[inline(always)]
-fn parts<F: Parsable>(format: &F, text: &[u8], out: &mut Parts) -> u32
+pub fn parts<F: Parsable>(format: &F, text: &[u8], out: &mut Parts) -> u32
     ensures { IsHandedOver ArePartsHanded
         (of_record (F.path format.now) (F.reads format.now) (F.refuses format.now) text.now) result out.old out.new }
 {

@@ -14,12 +14,15 @@ ghost use Rattle.pelzaune.specs.Status.{laid_over, status_text};
 
 mod columns;
 mod cuts;
+mod described;
 mod descriptions;
 mod formats;
 mod handing;
+mod held;
 pub mod laws;
 mod parts;
 mod status;
+mod steps;
 mod text;
 mod writing;
 

@@ -11,6 +11,9 @@ pub const TOO_WIDE: u32 = 7;
 /// The status of a number that no format has.
 pub const UNKNOWN_FORMAT: u32 = 8;
 
+/// The status of a description that has too many steps.
+pub const TOO_LONG: u32 = 16;
+
 /// The status of a number that no syntax of descriptions has.
 pub const UNKNOWN_SYNTAX: u32 = 17;
 

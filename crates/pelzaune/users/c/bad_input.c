@@ -15,12 +15,13 @@ typedef struct {
         int32_t offset;
         int64_t nanoseconds, entries[4];
         size_t number;
+        pelzaune_place place;
         uint8_t bytes[64];
     } out;
     uint8_t after[16];
 } room;
 
-enum { CALLS = 12, DESCRIBED = 8 };
+enum { CALLS = 13, DESCRIBED = 9 };
 
 /* What a call by a format answers. */
 static uint64_t by_format(int call, uint32_t format, const uint8_t *text, size_t length, room *r)
@@ -38,6 +39,7 @@ static uint64_t by_format(int call, uint32_t format, const uint8_t *text, size_t
     case 8: return pelzaune_parse_parts(format, text, length, &r->out.parts);
     case 9: return pelzaune_column(format, text, length, r->out.entries, 4, &refused) * 8 + refused;
     case 10: return pelzaune_column(format, text, length, NULL, 0, &refused) * 8 + refused;
+    case 11: return pelzaune_locate(format, text, length, &r->out.place);
     default: return pelzaune_check_description(format, text, length, &r->out.number);
     }
 }
@@ -54,6 +56,7 @@ static uint64_t by_description(int call, uint32_t syntax, const uint8_t *descrip
     case 4: return pelzaune_read_time(syntax, description, size, text, length, &r->out.time);
     case 5: return pelzaune_read_offset(syntax, description, size, text, length, &r->out.offset);
     case 6: return pelzaune_read_nanoseconds(syntax, description, size, text, length, &r->out.nanoseconds);
+    case 7: return pelzaune_read_locate(syntax, description, size, text, length, &r->out.place);
     default: return pelzaune_read_column(syntax, description, size, text, length, r->out.entries, 4, &refused) * 8 + refused;
     }
 }

@@ -46,6 +46,13 @@ static inline const uint8_t *described(const char *text, size_t length)
 }
 #define DESCRIPTION(text) described((text), sizeof(text) - 1), sizeof(text) - 1
 
+/* Reads a description, or answers 0. */
+static inline int describe(uint32_t syntax, const char *text, pelzaune_description *out)
+{
+    size_t index;
+    return pelzaune_describe(syntax, described(text, strlen(text)), strlen(text), out, &index) == PELZAUNE_OK;
+}
+
 /* Takes both pages. */
 static inline int has_pages(void)
 {

@@ -19,10 +19,14 @@ for call in moment instant nanoseconds; do
     row $call 3 20210102T030405Z
 done
 row moment 1 2021-13-02T03:04:05Z
-row described %Y-%m-%dT%H:%M:%S%z 2021-01-02T03:04:05+0000
-row strptime %Y-%m-%dT%H:%M:%S%z 2021-01-02T03:04:05+0000
-row described '%d/%b/%Y:%H:%M:%S %z' '02/Jan/2021:03:04:05 -0030'
-row strptime '%d/%b/%Y:%H:%M:%S %z' '02/Jan/2021:03:04:05 -0030'
+row date %Y-%m-%d 2021-03-04
+row fields %Y-%m-%d 2021-03-04
+row time %H:%M 23:59
+row fields %H:%M 23:59
+for call in described read strptime; do
+    row $call '%d/%b/%Y:%H:%M:%S %z' '02/Jan/2021:03:04:05 -0030'
+    row $call %Y-%m-%dT%H:%M:%S%z 2021-01-02T03:04:05+0000
+done
 row strptime %Y-%m-%dT%H:%M:%S%z 2021-01-02T03:04:05Z
 row strptime '%a, %d %b %Y %H:%M:%S %z' 'Sat, 02 Jan 2021 03:04:05 +0607'
 row strptime %Y%m%dT%H%M%S%z 20210102T030405Z

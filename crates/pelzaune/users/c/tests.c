@@ -184,6 +184,31 @@ static void test_faults(void)
             (void)pelzaune_check_description(syntax, described("[year]-[month]-%Y-%z", length), length, &index);
 }
 
+/* Where texts go wrong: of 2021-13-02 the month begins at the byte 5. */
+static void test_places(void)
+{
+    pelzaune_place p = { 77, 7 };
+    EXPECT(pelzaune_locate(PELZAUNE_RFC3339, TEXT("2021-01-02T03:04:05Z"), &p) == PELZAUNE_OK);
+    EXPECT(pelzaune_locate(PELZAUNE_RFC3339, TEXT("2021-02-30T03:04:05Z"), &p) == PELZAUNE_OK);
+    EXPECT(pelzaune_locate(PELZAUNE_RFC2822, TEXT("Sat, 02 Jan 2021 03:04:05 +0607"), &p) == PELZAUNE_OK);
+    EXPECT(pelzaune_locate(PELZAUNE_ISO8601, TEXT("2021-13-02"), &p) == PELZAUNE_UNKNOWN_FORMAT);
+    EXPECT(pelzaune_locate(4, TEXT("2021-13-02"), &p) == PELZAUNE_UNKNOWN_FORMAT && p.index == 77 && p.byte == 7);
+    EXPECT(pelzaune_locate(PELZAUNE_RFC3339, TEXT("2021-13-02T03:04:05Z"), &p) == PELZAUNE_INVALID_COMPONENT + 256 * 2 && p.index == 5 && p.byte == 0);
+    EXPECT(pelzaune_locate(PELZAUNE_RFC3339, TEXT("2021/13-02T03:04:05Z"), &p) == PELZAUNE_INVALID_LITERAL && p.index == 4 && p.byte == '-');
+    EXPECT(pelzaune_locate(PELZAUNE_RFC3339, TEXT("2021-01-02T03:04:05Zx"), &p) == PELZAUNE_TRAILING && p.index == 20 && p.byte == 0);
+    EXPECT(pelzaune_locate(PELZAUNE_RFC3339, NULL, 0, &p) == PELZAUNE_INVALID_COMPONENT + 256 * 1 && p.index == 0);
+    EXPECT(pelzaune_locate(PELZAUNE_RFC2822, TEXT("02 Jan 2021 03:04:05 +0607 x"), &p) == PELZAUNE_TRAILING && p.byte == 0);
+    EXPECT(pelzaune_read_locate(PELZAUNE_BRACKETS_2, YMD, TEXT("2021-13-02"), &p) == PELZAUNE_INVALID_COMPONENT + 256 * 2 && p.index == 5);
+    EXPECT(pelzaune_read_locate(PELZAUNE_BRACKETS_1, YMD, TEXT("2021-13"), &p) == PELZAUNE_INVALID_COMPONENT + 256 * 2 && p.index == 5);
+    EXPECT(pelzaune_read_locate(PELZAUNE_STRFTIME, LOG, TEXT("02/Jan-2021:03:04:05 -0030"), &p) == PELZAUNE_INVALID_LITERAL && p.index == 6
+        && p.byte == '/');
+    EXPECT(pelzaune_read_locate(PELZAUNE_STRFTIME, LOG, TEXT("02/Jan"), &p) == PELZAUNE_INVALID_LITERAL && p.index == 6 && p.byte == '/');
+    p.index = 77, p.byte = 7;
+    EXPECT(pelzaune_read_locate(PELZAUNE_STRFTIME, LOG, TEXT("02/Jan/2021:03:04:05 -0030"), &p) == PELZAUNE_OK);
+    EXPECT(pelzaune_read_locate(PELZAUNE_BRACKETS_2, DESCRIPTION("[yaer]"), TEXT("2021"), &p) == PELZAUNE_COMPONENT_NAME);
+    EXPECT(pelzaune_read_locate(0, YMD, TEXT("2021"), &p) == PELZAUNE_UNKNOWN_SYNTAX && p.index == 77 && p.byte == 7);
+}
+
 /* The ends of what 64 bits count, 2^63 nanoseconds before and after 1970, and the first and the last moment: year
  * -999999 begins 365961662 days before 1970, and 730484634 days after it the last year ends. */
 static void test_limits(void)
@@ -301,13 +326,14 @@ int main(void)
     if (!has_pages()) return 2;
     EXPECT(pelzaune_version() == PELZAUNE_VERSION);
     EXPECT(sizeof(pelzaune_date) == 8 && sizeof(pelzaune_time) == 8 && sizeof(pelzaune_local) == 16);
-    EXPECT(sizeof(pelzaune_moment) == 20 && sizeof(pelzaune_instant) == 16 && sizeof(pelzaune_parts) == 32);
+    EXPECT(sizeof(pelzaune_moment) == 20 && sizeof(pelzaune_instant) == 16 && sizeof(pelzaune_parts) == 32 && sizeof(pelzaune_place) == 16);
     errno = 77;
     test_rows();
     test_parts();
     test_refusals();
     test_descriptions();
     test_faults();
+    test_places();
     test_limits();
     test_no_bytes();
     test_made_texts();

@@ -36,6 +36,21 @@ class Cluster(unittest.TestCase):
             self.assertEqual(bag.map_partitions(days).compute(), alone)
             self.assertEqual(count_days(bag), Counter(alone))
 
+    def test_tables(self):
+        try:
+            import dask.dataframe
+            import pandas
+            from parse_times import parse, times
+        except ImportError as missing:
+            self.skipTest(str(missing))
+        texts = pandas.Series([line.split(" ")[0] for line in made_lines(20000)] + ["", "\n", "1970-01-01T00:00:01Z\n"], name="at")
+        alone = times(texts)
+        self.assertTrue(2000 < alone.isna().sum() < 8000)
+        self.assertEqual(times(pandas.Series(["1970-01-02T00:00:00Z", "\n", "x"])).astype("int64").tolist(), [86400 * 10**9] + [pelzaune.NO_COUNT] * 2)
+        with cluster() as processes, Client(processes):
+            got = parse(dask.dataframe.from_pandas(texts.to_frame(), npartitions=8)["at"]).compute()
+        pandas.testing.assert_series_equal(got, alone)
+
     def test_days(self):
         self.assertEqual(days(["1970-01-02T00:00:00Z a", "1969-12-31T23:59:59.9Z\n", "x\n"]), [1, -1, None])
         self.assertEqual(pelzaune.NO_COUNT, -(2**63))

@@ -21,7 +21,7 @@ setup(
             extra_objects=[ARCHIVE],
             extra_compile_args=["-std=c99", "-Wall", "-Wextra", "-fvisibility=hidden"],
             extra_link_args=["-Wl,--exclude-libs,ALL"],
-            depends=[ARCHIVE, "pelzaune/asking.h", "pelzaune/columns.h"],
+            depends=[ARCHIVE, "pelzaune/asking.h", "pelzaune/columns.h", "pelzaune/describing.h"],
         )
     ]
 )

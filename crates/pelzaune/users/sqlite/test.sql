@@ -10,6 +10,10 @@ SELECT pelzaune_rfc3339('+012345-06-07T08:09:10Z', 'iso8601'), pelzaune_rfc3339(
 CREATE TABLE log(at TEXT);
 INSERT INTO log VALUES ('1970-01-01T00:00:02Z'), ('1970-01-01T00:00:01+00:00'), ('?'), ('1970-01-01T01:00:00+01:00');
 SELECT count(*), count(pelzaune_unix(at)), group_concat(at) FROM (SELECT at FROM log ORDER BY pelzaune_unix(at));
+INSERT INTO log VALUES ('5'), ('-1');
+SELECT group_concat(coalesce(pelzaune_unix(at, '[unix_timestamp]'), '-')) FROM log;
+SELECT group_concat(coalesce(pelzaune_unix(at, CASE WHEN length(at) < 3 THEN '[unix_timestamp]' ELSE 'iso8601' END), '-')) FROM log;
+DELETE FROM log WHERE length(at) < 3 AND at <> '?';
 CREATE INDEX by_time ON log(pelzaune_unix(at));
 SELECT at FROM log WHERE pelzaune_unix(at) = 1;
 SELECT pelzaune_unix('2021', '[yaer]');

@@ -20,6 +20,17 @@ datetime.datetime(2021, 1, 2, 3, 4, 5, tzinfo=datetime.timezone.utc)
 >>> pelzaune.parse_time("1:05 PM", "[hour repr:12 padding:none]:[minute] [period]")
 datetime.time(13, 5)
 
+A `Description` is read once, for many texts:
+
+>>> day = pelzaune.Description("[day].[month].[year]")
+>>> [pelzaune.parse_date(text, day).isoformat() for text in ("02.01.2021", "31.12.1999")]
+['2021-01-02', '1999-12-31']
+>>> try:
+...     pelzaune.Description("[day].[moth]")
+... except pelzaune.DescriptionError as error:
+...     print(error, "|", error.index)
+no component has that name | 7
+
 The lines of a file are a column of numbers, of which a line that is refused has `NO_COUNT`:
 
 >>> pelzaune.column(b"1970-01-02T00:00:00Z\\n1970-01-01T00:00:00.000000001Z\\n?\\n")
@@ -37,6 +48,7 @@ from pelzaune._pelzaune import (
     NO_COUNT,
     RFC2822,
     RFC3339,
+    Description,
     DescriptionError,
     FormatError,
     ParseError,
@@ -51,7 +63,7 @@ from pelzaune._pelzaune import (
 )
 
 __all__ = [
-    "ISO8601", "NO_COUNT", "RFC2822", "RFC3339", "DescriptionError", "FormatError", "ParseError", "column", "column_into",
+    "ISO8601", "NO_COUNT", "RFC2822", "RFC3339", "Description", "DescriptionError", "FormatError", "ParseError", "column", "column_into",
     "format_datetime", "parse", "parse_date", "parse_parts", "parse_time", "unix_ns",
 ]
 __version__ = "1.1.0"

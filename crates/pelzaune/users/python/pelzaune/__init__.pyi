@@ -10,15 +10,20 @@ __version__: str
 
 class ParseError(ValueError):
     component: Optional[str]
-
-class DescriptionError(ParseError):
     index: Optional[int]
+
+class DescriptionError(ParseError): ...
 
 class FormatError(ValueError):
     component: Optional[str]
 
+class Description:
+    def __init__(self, text: Union[str, bytes]) -> None: ...
+    @property
+    def text(self) -> Union[str, bytes]: ...
+
 _Text = Union[str, bytes]
-_Format = Union[int, str, bytes]
+_Format = Union[int, str, bytes, Description]
 
 def parse(text: _Text, format: _Format = ...) -> datetime.datetime: ...
 def parse_date(text: _Text, format: _Format = ...) -> datetime.date: ...

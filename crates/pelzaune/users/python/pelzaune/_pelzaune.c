@@ -1,6 +1,7 @@
 /* The extension module: texts to Python's dates, times and numbers, and back. */
 #include "asking.h"
 #include "columns.h"
+#include "describing.h"
 
 /* Python has the years 1 to 9999, and raises where there is none. */
 static inline int has_year(int32_t year)
@@ -153,7 +154,7 @@ static PyObject *format_datetime(GIVEN)
     int32_t offset;
     (void)self;
     if (!arguments("format_datetime", names, 1, 2, given, count, named, values) || !format_of(values[1], &asked)) return NULL;
-    if (asked.description) {
+    if (asked.held) {
         PyErr_SetString(PyExc_TypeError, "format must be RFC3339, RFC2822 or ISO8601: no text is written by a description");
         return NULL;
     }
@@ -195,12 +196,12 @@ static PyMethodDef methods[] = {
 
 static struct PyModuleDef module = { PyModuleDef_HEAD_INIT, "pelzaune._pelzaune", NULL, -1, methods, NULL, NULL, NULL, NULL };
 
-/* Adds an exception that has those attributes. */
+/* Adds an exception that has those attributes, or, where they are NULL, those of its base. */
 static PyObject *add_error(PyObject *made, const char *name, PyObject *base, const char *doc, PyObject *attributes)
 {
     char whole[64];
     snprintf(whole, sizeof whole, "pelzaune.%s", name);
-    PyObject *error = attributes ? PyErr_NewExceptionWithDoc(whole, doc, base, attributes) : NULL;
+    PyObject *error = PyErr_Occurred() ? NULL : PyErr_NewExceptionWithDoc(whole, doc, base, attributes);
     Py_XDECREF(attributes);
     if (error && PyModule_AddObjectRef(made, name, error)) Py_CLEAR(error);
     return error;
@@ -209,15 +210,16 @@ static PyObject *add_error(PyObject *made, const char *name, PyObject *base, con
 static int add_names(PyObject *made)
 {
     parse_error = add_error(made, "ParseError", PyExc_ValueError,
-        "Why a text has no value. `component` is the name of the component that is wrong, or None.",
-        Py_BuildValue("{s:O}", "component", Py_None));
+        "Why a text has no value. `component` is the name of the component that is wrong, and `index` that of the byte that\n"
+        "can't be read; or None. A part that the calendar refuses, and a text of ISO 8601, have no index.",
+        Py_BuildValue("{s:O,s:O}", "component", Py_None, "index", Py_None));
     description_error = !parse_error ? NULL : add_error(made, "DescriptionError", parse_error,
         "Why a text is no description. `index` is that of its first fault, or None where it is too long.",
-        Py_BuildValue("{s:O}", "index", Py_None));
+        NULL);
     format_error = add_error(made, "FormatError", PyExc_ValueError,
         "Why a datetime has no text. `component` is the name of the component that the format has no text for, or None.",
         Py_BuildValue("{s:O}", "component", Py_None));
-    if (!parse_error || !description_error || !format_error) return -1;
+    if (!parse_error || !description_error || !format_error || add_description(made)) return -1;
     PyObject *arrays = PyImport_ImportModule("array");
     array_of_q = arrays ? PyObject_CallMethod(arrays, "array", "s[i]", "q", 0) : NULL;
     PyObject *least = PyLong_FromLongLong(PELZAUNE_NO_COUNT);

@@ -25,39 +25,42 @@ static PyObject *name_of(uint32_t component)
     return PyUnicode_FromStringAndSize(name, (Py_ssize_t)(strlen(name) - strlen(" is out of range")));
 }
 
-/* Raises an error of that type, with the text and the name of a component, which the call takes over. */
-static PyObject *raise(PyObject *type, const char *text, PyObject *component)
+/* Raises an error of that type, with the text, the name of a component and an index or None, both of which the call
+ * takes over. */
+static PyObject *raise_at(PyObject *type, const char *text, PyObject *component, PyObject *index)
 {
-    PyObject *error = component ? PyObject_CallFunction(type, "s", text) : NULL;
-    if (!tell(error, "component", component)) PyErr_SetObject(type, error);
+    PyObject *error = component && index ? PyObject_CallFunction(type, "s", text) : NULL;
+    int failed = tell(error, "component", component);
+    if (index == Py_None) Py_DECREF(index);
+    else failed |= tell(error, "index", index);
+    if (!failed) PyErr_SetObject(type, error);
     Py_XDECREF(error);
     return NULL;
 }
+
+/* A description that was read: an object of the class Description. */
+typedef struct {
+    PyObject_HEAD
+    PyObject *text; /* as it was given */
+    pelzaune_description held;
+} description;
+
+static PyTypeObject *description_type;
 
 /* The text of a call, and its format: the number of one, or a description. */
 typedef struct {
-    const uint8_t *bytes, *description;
-    size_t length, description_length;
-    uint32_t number; /* of the format, or of the description's syntax */
+    const uint8_t *bytes;
+    size_t length;
+    uint32_t number;                  /* of the format, where there is no description */
+    const pelzaune_description *held; /* that of an object, or the next one, or NULL */
+    PyObject *form;                   /* its text */
+    pelzaune_description read;        /* of a text */
 } question;
 
-/* Raises why a description is none, with the index of its first fault. */
-static PyObject *refuse_description(pelzaune_status status, const question *asked)
+/* The same without an index. */
+static PyObject *raise(PyObject *type, const char *text, PyObject *component)
 {
-    size_t index = SIZE_MAX;
-    pelzaune_check_description(asked->number, asked->description, asked->description_length, &index);
-    PyObject *error = PyObject_CallFunction(description_error, "s", pelzaune_text(status));
-    PyObject *told = index == SIZE_MAX ? Py_NewRef(Py_None) : PyLong_FromSize_t(index);
-    if (!tell(error, "index", told)) PyErr_SetObject(description_error, error);
-    Py_XDECREF(error);
-    return NULL;
-}
-
-/* Raises why a text is refused. */
-static PyObject *refuse(pelzaune_status status, const question *asked)
-{
-    if (PELZAUNE_KIND(status) >= PELZAUNE_UNCLOSED_BRACKET) return refuse_description(status, asked);
-    return raise(parse_error, pelzaune_text(status), name_of(PELZAUNE_COMPONENT(status)));
+    return raise_at(type, text, component, Py_NewRef(Py_None));
 }
 
 /* The bytes of a `str` or of `bytes`. A `str` is read as UTF-8, which every format refuses where it isn't ASCII. */
@@ -75,6 +78,32 @@ static inline const uint8_t *bytes_of(PyObject *text, const char *name, size_t *
     } else PyErr_Format(PyExc_TypeError, "%s must be str or bytes, not %s", name, Py_TYPE(text)->tp_name);
     *length = (size_t)count;
     return (const uint8_t *)bytes;
+}
+
+/* The syntax of a description: one with a `%` is of strftime, and any other one is in brackets. */
+static inline uint32_t syntax_of(const uint8_t *bytes, size_t length)
+{
+    return memchr(bytes, '%', length) ? PELZAUNE_STRFTIME : PELZAUNE_BRACKETS_2;
+}
+
+/* The index at which a text goes wrong, or None where there is none. */
+static PyObject *index_of(const question *asked)
+{
+    pelzaune_place place;
+    size_t length;
+    pelzaune_status status;
+    const uint8_t *form = asked->held ? bytes_of(asked->form, "format", &length) : NULL;
+    if (form) status = pelzaune_read_locate(syntax_of(form, length), form, length, asked->bytes, asked->length, &place);
+    else if (asked->held) return NULL;
+    else status = pelzaune_locate(asked->number, asked->bytes, asked->length, &place);
+    if (status == PELZAUNE_OK || status == PELZAUNE_UNKNOWN_FORMAT) return Py_NewRef(Py_None);
+    return PyLong_FromSize_t(place.index);
+}
+
+/* Raises why a text is refused. */
+static PyObject *refuse(pelzaune_status status, const question *asked)
+{
+    return raise_at(parse_error, pelzaune_text(status), name_of(PELZAUNE_COMPONENT(status)), index_of(asked));
 }
 
 /* Lays arguments by the names of a call's parameters into `values`, where NULL is one that isn't given. The first
@@ -105,10 +134,22 @@ static int arguments(const char *call, const char *const *names, Py_ssize_t requ
     return 1;
 }
 
-/* Reads a format. A description with a `%` is one of strftime, and any other one is in brackets. */
+/* Reads a description, or raises why a text is none, with the index of its first fault. */
+static inline int describe(PyObject *text, pelzaune_description *out)
+{
+    size_t length, index = SIZE_MAX;
+    const uint8_t *bytes = bytes_of(text, "format", &length);
+    if (!bytes) return 0;
+    pelzaune_status status = pelzaune_describe(syntax_of(bytes, length), bytes, length, out, &index);
+    if (status == PELZAUNE_OK) return 1;
+    raise_at(description_error, pelzaune_text(status), Py_NewRef(Py_None), index == SIZE_MAX ? Py_NewRef(Py_None) : PyLong_FromSize_t(index));
+    return 0;
+}
+
+/* Reads a format: a number, an object of the class Description, or the text of a description. */
 static inline int format_of(PyObject *format, question *asked)
 {
-    asked->description = NULL;
+    asked->held = NULL;
     asked->number = PELZAUNE_RFC3339;
     if (!format) return 1;
     if (PyLong_Check(format)) {
@@ -116,10 +157,14 @@ static inline int format_of(PyObject *format, question *asked)
         asked->number = number > UINT32_MAX ? 0 : (uint32_t)number;
         return !(number == (unsigned long)-1 && PyErr_Occurred());
     }
-    asked->description = bytes_of(format, "format", &asked->description_length);
-    if (!asked->description) return 0;
-    asked->number = memchr(asked->description, '%', asked->description_length) ? PELZAUNE_STRFTIME : PELZAUNE_BRACKETS_2;
-    return 1;
+    if (Py_IS_TYPE(format, description_type)) {
+        asked->held = &((description *)format)->held;
+        asked->form = ((description *)format)->text;
+        return 1;
+    }
+    asked->held = &asked->read;
+    asked->form = format;
+    return describe(format, &asked->read);
 }
 
 /* Reads the text and the format of a call. */
@@ -136,8 +181,8 @@ static inline int ask(const char *call, PyObject *const *given, Py_ssize_t count
 }
 
 /* What a call of the library answers, by a format or by a description. */
-#define ASK(target, asked, out) ((asked).description \
-    ? pelzaune_read_##target((asked).number, (asked).description, (asked).description_length, (asked).bytes, (asked).length, out) \
+#define ASK(target, asked, out) ((asked).held \
+    ? pelzaune_described_##target((asked).held, (asked).bytes, (asked).length, out) \
     : pelzaune_parse_##target((asked).number, (asked).bytes, (asked).length, out))
 
 #define GIVEN PyObject *self, PyObject *const *given, Py_ssize_t count, PyObject *named

@@ -24,7 +24,8 @@ static void release(lines *these)
 /* Takes the lines of a `str` or of a contiguous buffer, and the format. */
 static int take_lines(PyObject *text, PyObject *format, lines *these)
 {
-    memset(these, 0, sizeof *these);
+    these->is_held = 0;
+    these->copy = NULL;
     if (!format_of(format, &these->asked)) return 0;
     if (PyUnicode_Check(text) || PyBytes_Check(text)) {
         these->asked.bytes = bytes_of(text, "text", &these->asked.length);
@@ -51,24 +52,19 @@ static size_t read_lines(const question *asked, int64_t *entries, size_t capacit
 {
     size_t all;
     Py_BEGIN_ALLOW_THREADS
-    all = asked->description
-        ? pelzaune_read_column(asked->number, asked->description, asked->description_length, asked->bytes, asked->length,
-            entries, capacity, refused)
+    all = asked->held
+        ? pelzaune_described_column(asked->held, asked->bytes, asked->length, entries, capacity, refused)
         : pelzaune_column(asked->number, asked->bytes, asked->length, entries, capacity, refused);
     Py_END_ALLOW_THREADS
     return all;
 }
 
-/* A format that there isn't, and a description that is none, are raised before any line is parsed. */
+/* A format that there isn't is raised before any line is parsed. */
 static int is_format(const question *asked)
 {
-    pelzaune_status status = PELZAUNE_OK;
-    size_t index;
-    if (asked->description)
-        status = pelzaune_check_description(asked->number, asked->description, asked->description_length, &index);
-    else if (asked->number < PELZAUNE_RFC3339 || asked->number > PELZAUNE_ISO8601) status = PELZAUNE_UNKNOWN_FORMAT;
-    if (status != PELZAUNE_OK) refuse(status, asked);
-    return status == PELZAUNE_OK;
+    if (asked->held || (asked->number >= PELZAUNE_RFC3339 && asked->number <= PELZAUNE_ISO8601)) return 1;
+    raise(parse_error, pelzaune_text(PELZAUNE_UNKNOWN_FORMAT), Py_NewRef(Py_None));
+    return 0;
 }
 
 static PyObject *column(GIVEN)

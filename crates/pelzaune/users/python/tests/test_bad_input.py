@@ -40,6 +40,30 @@ class Arguments(unittest.TestCase):
         self.assertRaises(TypeError, pelzaune.column_into, out=array.array("q"))
         self.assertRaises(TypeError, pelzaune.format_datetime)
 
+    def test_descriptions(self):
+        for it in (None, 5, 1.5, [], bytearray(b"%Y"), pelzaune.Description("%Y")):
+            self.assertRaises(TypeError, pelzaune.Description, it)
+        self.assertRaises(TypeError, pelzaune.Description)
+        self.assertRaises(TypeError, pelzaune.Description, "%Y", "%Y")
+        self.assertRaises(TypeError, pelzaune.Description, form="%Y")
+        self.assertRaises(UnicodeEncodeError, pelzaune.Description, "%Y\ud800")
+        self.assertRaises(pelzaune.DescriptionError, pelzaune.Description, "%")
+        self.assertRaises(TypeError, type, "More", (pelzaune.Description,), {})
+        form = pelzaune.Description("%Y")
+        with self.assertRaises(AttributeError):
+            form.text = "%m"
+        with self.assertRaises(TypeError):
+            pelzaune.Description.text = 5
+        with self.assertRaises(TypeError):
+            form < form
+        made = pelzaune.Description.__new__(pelzaune.Description, "%Y")
+        self.assertEqual(pelzaune.parse_parts("2021", made), (None, None, None))
+        before = sys.getrefcount(form)
+        for _ in range(1000):
+            pelzaune.column("2021", form)
+            pelzaune.parse_parts("2021", form)
+        self.assertEqual(sys.getrefcount(form), before)
+
     def test_values_to_write(self):
         for it in (None, "2021", datetime.date(2021, 1, 2), datetime.time(1), 5):
             self.assertRaises(TypeError, pelzaune.format_datetime, it)
@@ -100,6 +124,21 @@ class Texts(unittest.TestCase):
             text = bytes(r.choice(letters) for _ in range(r.randrange(40)))
             form = r.choice(FORMATS + (text,))
             self.answered(r.choice(OF_TEXT), text, form)
+
+
+    def test_huge(self):
+        """A text of more than 2**31 bytes, of which the system gives the memory only as it is read."""
+        try:
+            text = bytes(2**31 + 1)
+        except MemoryError:
+            self.skipTest("there is no memory for a text of 2**31 bytes")
+        for call in OF_TEXT:
+            for form in FORMATS:
+                self.assertEqual(self.answered(call, text, form)[0], pelzaune.ParseError)
+        entries = array.array("q", [7, 7])
+        self.assertEqual(pelzaune.column_into(text, entries), (1, 1))
+        self.assertEqual(entries.tolist(), [pelzaune.NO_COUNT, 7])
+        self.assertRaises(pelzaune.DescriptionError, pelzaune.Description, text)
 
 
 class Buffers(unittest.TestCase):

@@ -1,5 +1,6 @@
 """Tests of the Python module, against datetime and email.utils."""
 import array
+import copy
 import datetime
 import doctest
 import email.utils
@@ -15,6 +16,13 @@ import pelzaune
 UTC = datetime.timezone.utc
 EPOCH = datetime.datetime(1970, 1, 1, tzinfo=UTC)
 MICROSECOND = datetime.timedelta(microseconds=1)
+
+
+def answered(call, *given):
+    try:
+        return call(*given)
+    except pelzaune.ParseError as error:
+        return type(error), str(error), error.component
 
 
 def zone(minutes):
@@ -48,6 +56,20 @@ class Values(unittest.TestCase):
             when = datetime.datetime(r.randint(1000, 9999), r.randint(1, 12), r.randint(1, 28), r.randint(0, 23), r.randint(0, 59))
             for form in ("%Y-%m-%d %H:%M", "%d %B %Y, %I:%M %p", "%H:%M on %A, %Y-%j"):
                 self.assertEqual(pelzaune.parse(when.strftime(form), form), datetime.datetime.strptime(when.strftime(form), form))
+
+    def test_read_descriptions(self):
+        for text in ("%d/%b/%Y:%H:%M:%S %z", b"[year]-[month]-[day]", "[year]-[month][optional [-[day]]]", ""):
+            form = pelzaune.Description(text)
+            self.assertEqual((form.text, form), (text, pelzaune.Description(text)))
+            self.assertEqual(repr(form), f"pelzaune.Description({text!r})")
+            self.assertEqual(pickle.loads(pickle.dumps(form)), form)
+            self.assertNotEqual(form, pelzaune.Description("%Y"))
+            self.assertEqual(len({form, copy.copy(form), pelzaune.Description(text=text)}), 1)
+            for given in ("02/Jan/2021:03:04:05 -0030", "2021-01-02", "2021-01", "", "x"):
+                for call in (pelzaune.parse, pelzaune.parse_date, pelzaune.parse_time, pelzaune.parse_parts, pelzaune.unix_ns, pelzaune.column):
+                    self.assertEqual(answered(call, given, form), answered(call, given, text))
+        when = datetime.datetime(2021, 1, 2, 3, 4, 5, 0, zone(-30))
+        self.assertEqual(pelzaune.parse("02/Jan/2021:03:04:05 -0030", pelzaune.Description("%d/%b/%Y:%H:%M:%S %z")), when)
 
     def test_nanoseconds(self):
         self.assertEqual(pelzaune.unix_ns("1969-12-31T23:59:59.999999999Z"), -1)
@@ -163,6 +185,23 @@ class Refusals(unittest.TestCase):
         self.refused("2021-01-02", "the `Parsed` struct did not include enough information to construct the type", None,
                      format=pelzaune.ISO8601, call=pelzaune.unix_ns)
 
+    def test_places(self):
+        def index(text, form=pelzaune.RFC3339, call=pelzaune.parse):
+            with self.assertRaises(pelzaune.ParseError) as caught:
+                call(text, form)
+            return caught.exception.index
+
+        for call in (pelzaune.parse, pelzaune.parse_date, pelzaune.parse_time, pelzaune.parse_parts, pelzaune.unix_ns):
+            self.assertEqual(index("2021-13-02T03:04:05Z", call=call), 5)
+            self.assertEqual(index("2021-01-02T03:04:05Zx", call=call), 20)
+        self.assertEqual(index(""), 0)
+        self.assertEqual(index("02/Jan-2021", "%d/%b/%Y"), 6)
+        self.assertEqual(index(b"02/Jan", pelzaune.Description("%d/%b/%Y")), 6)
+        self.assertEqual(index("2021-02", "[year]-[month]-[day]"), 7)
+        self.assertIsNone(index("2021-02-30T03:04:05Z"))
+        self.assertIsNone(index("2021-13", pelzaune.ISO8601))
+        self.assertIsNone(index("2021-13", 9))
+
     def test_faults_of_descriptions(self):
         self.refused("2021", "no component has that name", None, format="[yaer]")
         self.refused("2021", "that is not supported in a description", None, format="%Z")
@@ -170,6 +209,9 @@ class Refusals(unittest.TestCase):
             with self.assertRaises(pelzaune.DescriptionError) as caught:
                 call("2021", "[year]-[moth]")
             self.assertEqual((caught.exception.index, caught.exception.component), (8, None))
+        with self.assertRaises(pelzaune.DescriptionError) as caught:
+            pelzaune.Description("[year]-[moth]")
+        self.assertEqual((str(caught.exception), caught.exception.index), ("no component has that name", 8))
         with self.assertRaises(pelzaune.DescriptionError) as caught:
             pelzaune.parse("2021", "-" * 65)
         self.assertEqual((str(caught.exception), caught.exception.index), ("the description is too long", None))

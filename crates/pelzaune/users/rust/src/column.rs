@@ -21,12 +21,10 @@ pub fn column(text: impl AsRef<[u8]>, format: Format<'_>, entries: &mut [i64]) -
         Format::Rfc3339 => 1,
         Format::Rfc2822 => 2,
         Format::Iso8601 => 3,
-        Format::Described(Description { syntax, text: described }) => {
+        Format::Described(Description { held, .. }) => {
             // SAFETY: the pointers and the lengths are those of slices, and the entries are borrowed alone.
             let lines = unsafe {
-                ffi::pelzaune_read_column(
-                    syntax, described.as_ptr(), described.len(), text.as_ptr(), text.len(), start, room, &mut refused,
-                )
+                ffi::pelzaune_described_column(held, text.as_ptr(), text.len(), start, room, &mut refused)
             };
             return Column { lines, refused };
         }

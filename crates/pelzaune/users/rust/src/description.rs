@@ -3,10 +3,11 @@ use crate::error::{text_of, Kind};
 use crate::ffi;
 use std::fmt;
 
-/// A description of how a text is written, which was checked. It has at most 64 steps: a component and each byte
-/// between components is one.
-#[derive(Clone, Copy, Debug, PartialEq, Eq, Hash)]
+/// A description of how a text is written, which is read once, for many texts. It has at most 64 steps: a component and
+/// each byte between components is one.
+#[derive(Clone, Copy)]
 pub struct Description<'a> {
+    pub(crate) held: ffi::Description,
     pub(crate) syntax: u32,
     pub(crate) text: &'a [u8],
 }
@@ -14,28 +15,35 @@ pub struct Description<'a> {
 impl<'a> Description<'a> {
     /// A description in brackets, version 2, as `[year]-[month]-[day]`.
     pub fn brackets<T: AsRef<[u8]> + ?Sized>(text: &'a T) -> Result<Description<'a>, InvalidDescription> {
-        Description::checked(2, text.as_ref())
+        Description::read(2, text.as_ref())
     }
 
     /// A description in brackets, version 1, in which `[[` stands for a bracket.
     pub fn brackets_1<T: AsRef<[u8]> + ?Sized>(text: &'a T) -> Result<Description<'a>, InvalidDescription> {
-        Description::checked(1, text.as_ref())
+        Description::read(1, text.as_ref())
     }
 
     /// A description as strftime has it, as `%Y-%m-%d`.
     pub fn strftime<T: AsRef<[u8]> + ?Sized>(text: &'a T) -> Result<Description<'a>, InvalidDescription> {
-        Description::checked(3, text.as_ref())
+        Description::read(3, text.as_ref())
     }
 
-    fn checked(syntax: u32, text: &'a [u8]) -> Result<Description<'a>, InvalidDescription> {
+    fn read(syntax: u32, text: &'a [u8]) -> Result<Description<'a>, InvalidDescription> {
         let mut index = usize::MAX;
-        // SAFETY: the pointer and the length are those of a slice, and the index is borrowed alone.
-        let status = unsafe { ffi::pelzaune_check_description(syntax, text.as_ptr(), text.len(), &mut index) };
+        let mut held = ffi::Description { numbers: [0; 129] };
+        // SAFETY: the pointer and the length are those of a slice, and the description and the index are borrowed alone.
+        let status = unsafe { ffi::pelzaune_describe(syntax, text.as_ptr(), text.len(), &mut held, &mut index) };
         if status == 0 {
-            return Ok(Description { syntax, text });
+            return Ok(Description { held, syntax, text });
         }
         let index = Some(index).filter(|index| *index != usize::MAX);
         Err(InvalidDescription { status, index })
+    }
+}
+
+impl fmt::Debug for Description<'_> {
+    fn fmt(&self, f: &mut fmt::Formatter<'_>) -> fmt::Result {
+        write!(f, "Description({:?})", String::from_utf8_lossy(self.text))
     }
 }
 

@@ -13,9 +13,24 @@ pub struct Parts {
     pub offset_status: u32,
 }
 
+/// Where a text goes wrong.
+#[repr(C)]
+#[derive(Clone, Copy)]
+pub struct Place {
+    pub index: usize,
+    pub byte: u8,
+}
+
+/// A description, in numbers that are the library's own matter.
+#[repr(C)]
+#[derive(Clone, Copy)]
+pub struct Description {
+    pub numbers: [u64; 129],
+}
+
 const _: () = assert!(size_of::<Date>() == 8 && size_of::<Time>() == 8 && size_of::<Local>() == 16);
 const _: () = assert!(size_of::<Moment>() == 20 && size_of::<Instant>() == 16);
-const _: () = assert!(size_of::<Parts>() == 32);
+const _: () = assert!(size_of::<Parts>() == 32 && size_of::<Description>() == 1032 && size_of::<Place>() == 16);
 
 const fn size_of<T>() -> usize {
     std::mem::size_of::<T>()
@@ -32,18 +47,20 @@ extern "C" {
     pub fn pelzaune_parse_offset(format: u32, text: *const u8, length: usize, out: *mut i32) -> u32;
     pub fn pelzaune_parse_instant(format: u32, text: *const u8, length: usize, out: *mut Instant) -> u32;
     pub fn pelzaune_parse_nanoseconds(format: u32, text: *const u8, length: usize, out: *mut i64) -> u32;
-    pub fn pelzaune_check_description(syntax: u32, description: *const u8, size: usize, index: *mut usize) -> u32;
-    pub fn pelzaune_read_moment(syntax: u32, description: *const u8, size: usize, text: *const u8, length: usize, out: *mut Moment) -> u32;
-    pub fn pelzaune_read_local(syntax: u32, description: *const u8, size: usize, text: *const u8, length: usize, out: *mut Local) -> u32;
-    pub fn pelzaune_read_utc(syntax: u32, description: *const u8, size: usize, text: *const u8, length: usize, out: *mut Local) -> u32;
-    pub fn pelzaune_read_date(syntax: u32, description: *const u8, size: usize, text: *const u8, length: usize, out: *mut Date) -> u32;
-    pub fn pelzaune_read_time(syntax: u32, description: *const u8, size: usize, text: *const u8, length: usize, out: *mut Time) -> u32;
-    pub fn pelzaune_read_offset(syntax: u32, description: *const u8, size: usize, text: *const u8, length: usize, out: *mut i32) -> u32;
-    pub fn pelzaune_read_instant(syntax: u32, description: *const u8, size: usize, text: *const u8, length: usize, out: *mut Instant) -> u32;
-    pub fn pelzaune_read_nanoseconds(syntax: u32, description: *const u8, size: usize, text: *const u8, length: usize, out: *mut i64) -> u32;
+    pub fn pelzaune_describe(syntax: u32, text: *const u8, length: usize, out: *mut Description, index: *mut usize) -> u32;
+    pub fn pelzaune_described_moment(description: *const Description, text: *const u8, length: usize, out: *mut Moment) -> u32;
+    pub fn pelzaune_described_local(description: *const Description, text: *const u8, length: usize, out: *mut Local) -> u32;
+    pub fn pelzaune_described_utc(description: *const Description, text: *const u8, length: usize, out: *mut Local) -> u32;
+    pub fn pelzaune_described_date(description: *const Description, text: *const u8, length: usize, out: *mut Date) -> u32;
+    pub fn pelzaune_described_time(description: *const Description, text: *const u8, length: usize, out: *mut Time) -> u32;
+    pub fn pelzaune_described_offset(description: *const Description, text: *const u8, length: usize, out: *mut i32) -> u32;
+    pub fn pelzaune_described_instant(description: *const Description, text: *const u8, length: usize, out: *mut Instant) -> u32;
+    pub fn pelzaune_described_nanoseconds(description: *const Description, text: *const u8, length: usize, out: *mut i64) -> u32;
+    pub fn pelzaune_described_parts(description: *const Description, text: *const u8, length: usize, out: *mut Parts) -> u32;
+    pub fn pelzaune_locate(format: u32, text: *const u8, length: usize, out: *mut Place) -> u32;
+    pub fn pelzaune_read_locate(syntax: u32, description: *const u8, size: usize, text: *const u8, length: usize, out: *mut Place) -> u32;
     pub fn pelzaune_parse_parts(format: u32, text: *const u8, length: usize, out: *mut Parts) -> u32;
-    pub fn pelzaune_read_parts(syntax: u32, description: *const u8, size: usize, text: *const u8, length: usize, out: *mut Parts) -> u32;
     pub fn pelzaune_column(format: u32, text: *const u8, length: usize, entries: *mut i64, capacity: usize, refused: *mut usize) -> usize;
-    pub fn pelzaune_read_column(syntax: u32, description: *const u8, size: usize, text: *const u8, length: usize, entries: *mut i64, capacity: usize, refused: *mut usize) -> usize;
+    pub fn pelzaune_described_column(description: *const Description, text: *const u8, length: usize, entries: *mut i64, capacity: usize, refused: *mut usize) -> usize;
     pub fn pelzaune_format_moment(format: u32, moment: *const Moment, buffer: *mut u8, capacity: usize, length: *mut usize) -> u32;
 }

@@ -15,18 +15,17 @@
 //! # Ok::<(), pelzaune::Error>(())
 //! ```
 //!
-//! A description is a format too. It is checked when it is made, and read anew by each call:
+//! A description is a format too. It is read when it is made, once for many texts:
 //!
 //! ```
 //! use pelzaune::{Date, Description, Format};
 //!
 //! let description = Description::strftime("%d.%m.%Y")?;
-//! let date = Date::parse("02.01.2021", Format::Described(description))?;
+//! let date = Date::parse("02.01.2021", Format::Described(&description))?;
 //! assert_eq!((date.year, date.month, date.day), (2021, 1, 2));
 //! assert_eq!(Description::brackets("[year]-[moth]").unwrap_err().index, Some(8));
 //! # Ok::<(), Box<dyn std::error::Error>>(())
 //! ```
-
 //!
 //! A moment is written into text, and the lines of a file are parsed into a column of numbers:
 //!
@@ -50,17 +49,19 @@ mod column;
 mod description;
 mod error;
 mod ffi;
+mod locate;
 mod parts;
 mod text;
 
 pub use column::{column, Column};
 pub use description::{Description, InvalidDescription};
 pub use error::{Error, Kind};
+pub use locate::{locate, Place};
 pub use parts::Parts;
 pub use text::MomentText;
 
 /// The formats.
-#[derive(Clone, Copy, Debug, PartialEq, Eq, Hash)]
+#[derive(Clone, Copy, Debug)]
 pub enum Format<'a> {
     /// RFC 3339, section 5.6, as `1985-04-12T23:20:50.52Z`.
     Rfc3339,
@@ -69,7 +70,7 @@ pub enum Format<'a> {
     /// ISO 8601, as `20210102T0304Z`, `2020-W53-6` or `2020-366`.
     Iso8601,
     /// A description of your own.
-    Described(Description<'a>),
+    Described(&'a Description<'a>),
 }
 
 /// A date in the proleptic Gregorian calendar.
@@ -163,17 +164,15 @@ pub(crate) fn answer<T>(call: impl FnOnce(*mut T) -> u32) -> Result<T, Error> {
 // The call of the library on a text, given as text or as bytes: the first by a format that has a number, the second by a
 // description.
 macro_rules! parse {
-    ($parse:ident, $read:ident, $text:expr, $format:expr) => {{
+    ($parse:ident, $described:ident, $text:expr, $format:expr) => {{
         let text = $text.as_ref();
         let number = match $format {
             Format::Rfc3339 => 1,
             Format::Rfc2822 => 2,
             Format::Iso8601 => 3,
-            Format::Described(Description { syntax, text: described }) => {
-                // SAFETY: the pointers and the lengths are those of slices, and nothing else sees the value.
-                return answer(|out| unsafe {
-                    ffi::$read(syntax, described.as_ptr(), described.len(), text.as_ptr(), text.len(), out)
-                });
+            Format::Described(Description { held, .. }) => {
+                // SAFETY: the pointer and the length are those of a slice, and nothing else sees the value.
+                return answer(|out| unsafe { ffi::$described(held, text.as_ptr(), text.len(), out) });
             }
         };
         // SAFETY: the pointer and the length are those of a slice, and nothing else sees the value.
@@ -186,40 +185,40 @@ pub(crate) use parse;
 impl Date {
     /// The date of a whole text.
     pub fn parse(text: impl AsRef<[u8]>, format: Format<'_>) -> Result<Date, Error> {
-        parse!(pelzaune_parse_date, pelzaune_read_date, text, format)
+        parse!(pelzaune_parse_date, pelzaune_described_date, text, format)
     }
 }
 
 impl Time {
     /// The time of a whole text.
     pub fn parse(text: impl AsRef<[u8]>, format: Format<'_>) -> Result<Time, Error> {
-        parse!(pelzaune_parse_time, pelzaune_read_time, text, format)
+        parse!(pelzaune_parse_time, pelzaune_described_time, text, format)
     }
 }
 
 impl Local {
     /// The date and time of a whole text, whatever its offset.
     pub fn parse(text: impl AsRef<[u8]>, format: Format<'_>) -> Result<Local, Error> {
-        parse!(pelzaune_parse_local, pelzaune_read_local, text, format)
+        parse!(pelzaune_parse_local, pelzaune_described_local, text, format)
     }
 
     /// The date and time in UTC of a whole text. One without an offset is taken as in UTC.
     pub fn parse_utc(text: impl AsRef<[u8]>, format: Format<'_>) -> Result<Local, Error> {
-        parse!(pelzaune_parse_utc, pelzaune_read_utc, text, format)
+        parse!(pelzaune_parse_utc, pelzaune_described_utc, text, format)
     }
 }
 
 impl Moment {
     /// The date, time and offset of a whole text.
     pub fn parse(text: impl AsRef<[u8]>, format: Format<'_>) -> Result<Moment, Error> {
-        parse!(pelzaune_parse_moment, pelzaune_read_moment, text, format)
+        parse!(pelzaune_parse_moment, pelzaune_described_moment, text, format)
     }
 }
 
 impl Instant {
     /// The instant of a whole text that has a date, a time and an offset.
     pub fn parse(text: impl AsRef<[u8]>, format: Format<'_>) -> Result<Instant, Error> {
-        parse!(pelzaune_parse_instant, pelzaune_read_instant, text, format)
+        parse!(pelzaune_parse_instant, pelzaune_described_instant, text, format)
     }
 
     /// The same instant of the system's clock, or `None` where that clock has no such instant.
@@ -236,13 +235,13 @@ impl Instant {
 
 /// The offset of a whole text, in seconds ahead of UTC.
 pub fn parse_offset(text: impl AsRef<[u8]>, format: Format<'_>) -> Result<i32, Error> {
-    parse!(pelzaune_parse_offset, pelzaune_read_offset, text, format)
+    parse!(pelzaune_parse_offset, pelzaune_described_offset, text, format)
 }
 
 /// The nanoseconds from 1970-01-01T00:00:00Z to the instant of a whole text. [`Kind::TooWide`] says that 64 bits don't
 /// count them.
 pub fn parse_nanoseconds(text: impl AsRef<[u8]>, format: Format<'_>) -> Result<i64, Error> {
-    parse!(pelzaune_parse_nanoseconds, pelzaune_read_nanoseconds, text, format)
+    parse!(pelzaune_parse_nanoseconds, pelzaune_described_nanoseconds, text, format)
 }
 
 /// The version of the library's interface: 256 times its major number, and its minor number.

@@ -1,4 +1,4 @@
-use pelzaune::{column, parse_nanoseconds, parse_offset, Column, Date, Description, Format, Instant, Kind, Local, Moment};
+use pelzaune::{column, locate, parse_nanoseconds, parse_offset, Column, Date, Description, Format, Instant, Kind, Local, Moment};
 use pelzaune::{Parts, Time};
 use std::time::{Duration, UNIX_EPOCH};
 
@@ -36,16 +36,16 @@ fn refusals() {
 
 #[test]
 fn descriptions() {
-    let ymd = Format::Described(Description::brackets("[year]-[month]-[day]").unwrap());
-    let d = Date::parse("2021-03-04", ymd).unwrap();
+    let ymd = Description::brackets("[year]-[month]-[day]").unwrap();
+    let d = Date::parse("2021-03-04", Format::Described(&ymd)).unwrap();
     assert_eq!((d.year, d.month, d.day), (2021, 3, 4));
-    let error = Date::parse("2021-02-29", ymd).unwrap_err();
+    let error = Date::parse("2021-02-29", Format::Described(&ymd)).unwrap_err();
     assert_eq!((error.kind(), error.component().as_deref()), (Kind::RangeOfOthers, Some("day")));
-    let log = Format::Described(Description::strftime("%d/%b/%Y:%H:%M:%S %z").unwrap());
-    let m = Moment::parse("02/Jan/2021:03:04:05 -0030", log).unwrap();
+    let log = Description::strftime("%d/%b/%Y:%H:%M:%S %z").unwrap();
+    let m = Moment::parse("02/Jan/2021:03:04:05 -0030", Format::Described(&log)).unwrap();
     assert_eq!((m.month, m.second, m.offset), (1, 5, -1_800));
-    let bracket = Format::Described(Description::brackets_1("[[[year]").unwrap());
-    assert!(Date::parse("[2021", bracket).is_err());
+    let bracket = Description::brackets_1("[[[year]").unwrap();
+    assert!(Date::parse("[2021", Format::Described(&bracket)).is_err());
     let wrong = Description::brackets("[year]-[month").unwrap_err();
     assert_eq!((wrong.kind(), wrong.index), (Kind::UnclosedBracket, Some(7)));
     assert_eq!(wrong.to_string(), "an opening bracket is not closed at byte index 7");
@@ -72,10 +72,24 @@ fn parts() {
     let parts = Parts::parse("2020-W53-5", Format::Iso8601).unwrap();
     assert_eq!(parts.date, Ok(Date { year: 2021, month: 1, day: 1 }));
     assert_eq!((parts.time.unwrap_err().kind(), parts.offset.unwrap_err().kind()), (Kind::Insufficient, Kind::Insufficient));
-    let clock = Format::Described(Description::strftime("%H:%M %z").unwrap());
-    let parts = Parts::parse("23:59 -0030", clock).unwrap();
+    let clock = Description::strftime("%H:%M %z").unwrap();
+    let parts = Parts::parse("23:59 -0030", Format::Described(&clock)).unwrap();
     assert_eq!((parts.time.map(|t| (t.hour, t.minute)), parts.offset), (Ok((23, 59)), Ok(-1_800)));
     assert_eq!(Parts::parse("2020-W53-5x", Format::Iso8601).unwrap_err().kind(), Kind::Trailing);
+}
+
+#[test]
+fn places() {
+    assert_eq!(locate("2021-01-02T03:04:05Z", Format::Rfc3339), None);
+    let place = locate("2021-13-02T03:04:05Z", Format::Rfc3339).unwrap();
+    assert_eq!((place.index, place.kind(), place.component().as_deref()), (5, Kind::InvalidComponent, Some("month")));
+    assert_eq!(place.to_string(), "the 'month' component could not be parsed at byte index 5");
+    let ymd = Description::brackets("[year]/[month]").unwrap();
+    let place = locate("2021-13", Format::Described(&ymd)).unwrap();
+    assert_eq!((place.index, place.byte, place.kind()), (4, Some(b'/'), Kind::InvalidLiteral));
+    assert_eq!(locate("2021/12", Format::Described(&ymd)), None);
+    let place = locate("2021-01-02T03:04:05Zx", Format::Rfc3339).unwrap();
+    assert_eq!((place.index, place.byte, place.kind()), (20, None, Kind::Trailing));
 }
 
 #[test]
@@ -87,8 +101,8 @@ fn columns() {
     assert_eq!(entries, [1_000_000_000, i64::MIN, i64::MIN, 59_500_000_000, 7]);
     assert_eq!(column(lines, Format::Rfc3339, &mut entries[..1]), Column { lines: 4, refused: 0 });
     assert_eq!(column("", Format::Rfc3339, &mut []), Column { lines: 0, refused: 0 });
-    let days = Format::Described(Description::brackets("[unix_timestamp]").unwrap());
-    assert_eq!(column("1\n-1\n", days, &mut entries), Column { lines: 2, refused: 0 });
+    let days = Description::brackets("[unix_timestamp]").unwrap();
+    assert_eq!(column("1\n-1\n", Format::Described(&days), &mut entries), Column { lines: 2, refused: 0 });
     assert_eq!(entries[..2], [1_000_000_000, -1_000_000_000]);
 }
 
@@ -102,6 +116,6 @@ fn texts() {
     assert_eq!((error.kind(), error.component().as_deref()), (Kind::NoText, Some("year")));
     let error = Moment { month: 4, day: 31, ..m }.text(Format::Rfc3339).unwrap_err();
     assert_eq!(error.to_string(), "day is out of range for the other components");
-    let ymd = Format::Described(Description::brackets("[year]").unwrap());
-    assert_eq!(m.text(ymd).unwrap_err().kind(), Kind::Unknown);
+    let ymd = Description::brackets("[year]").unwrap();
+    assert_eq!(m.text(Format::Described(&ymd)).unwrap_err().kind(), Kind::Unknown);
 }

@@ -1,0 +1,139 @@
+//! Parses by descriptions that C holds.
+ghost use Rattle.std.specs.Prelude.{◌≡◌, length};
+ghost use Rattle.time_values.specs.Range.{greatest_year};
+ghost use Rattle.time_record.specs.Resolution.{IsDated, IsTimed, IsOffset, IsPlain, IsUtcMoment};
+ghost use Rattle.time_answers.specs.Lines.{lines_of};
+ghost use Rattle.pelzaune.specs.Columns.{IsColumn};
+ghost use Rattle.pelzaune.specs.Handed.{IsHanded, IsCountHanded, ArePartsHanded, HasDate, HasTime, HasOffset, HasPlain, HasUtc, HasMoment, HasInstant, over_empty, of_record, of_moment};
+ghost use Rattle.pelzaune.specs.Held.{HandsHeld};
+
+use crate::columns::column;
+use crate::handing::{count, hand, parts};
+use crate::held::HeldDescription;
+use crate::parts::{
+    DateParts, Instant, LocalParts, MomentParts, Nanoseconds, OffsetParts, Parts, TimeParts,
+};
+use time_values::{Date, OffsetDateTime, PlainDateTime, Time, UtcDateTime, UtcOffset};
+
+/// Parses a text by a held description into its date. On any other status than 0 `out` is unchanged.
+#[unsafe(no_mangle)]
+pub extern "C" fn pelzaune_described_date(
+    description: &HeldDescription,
+    text: &[u8],
+    out: &mut DateParts,
+) -> u32
+    ensures { HandsHeld (IsHanded HasDate) (over_empty (IsDated greatest_year)) description.now text.now result out.old out.new }
+{
+    hand::<Date, DateParts, HeldDescription>(description, text, out)
+}
+
+/// Parses a text by a held description into its time. On any other status than 0 `out` is unchanged.
+#[unsafe(no_mangle)]
+pub extern "C" fn pelzaune_described_time(
+    description: &HeldDescription,
+    text: &[u8],
+    out: &mut TimeParts,
+) -> u32
+    ensures { HandsHeld (IsHanded HasTime) (over_empty IsTimed) description.now text.now result out.old out.new }
+{
+    hand::<Time, TimeParts, HeldDescription>(description, text, out)
+}
+
+/// Parses a text by a held description into its offset. On any other status than 0 `out` is unchanged.
+#[unsafe(no_mangle)]
+pub extern "C" fn pelzaune_described_offset(
+    description: &HeldDescription,
+    text: &[u8],
+    out: &mut OffsetParts,
+) -> u32
+    ensures { HandsHeld (IsHanded HasOffset) (over_empty IsOffset) description.now text.now result out.old out.new }
+{
+    hand::<UtcOffset, OffsetParts, HeldDescription>(description, text, out)
+}
+
+/// Parses a text by a held description into its date and time. On any other status than 0 `out` is unchanged.
+#[unsafe(no_mangle)]
+pub extern "C" fn pelzaune_described_local(
+    description: &HeldDescription,
+    text: &[u8],
+    out: &mut LocalParts,
+) -> u32
+    ensures { HandsHeld (IsHanded HasPlain) (over_empty (IsPlain greatest_year)) description.now text.now result out.old out.new }
+{
+    hand::<PlainDateTime, LocalParts, HeldDescription>(description, text, out)
+}
+
+/// Parses a text by a held description into its date and time in UTC. On any other status than 0 `out` is unchanged.
+#[unsafe(no_mangle)]
+pub extern "C" fn pelzaune_described_utc(
+    description: &HeldDescription,
+    text: &[u8],
+    out: &mut LocalParts,
+) -> u32
+    ensures { HandsHeld (IsHanded HasUtc) (over_empty (IsUtcMoment greatest_year)) description.now text.now result out.old out.new }
+{
+    hand::<UtcDateTime, LocalParts, HeldDescription>(description, text, out)
+}
+
+/// Parses a text by a held description into its date, time and offset. On any other status than 0 `out` is unchanged.
+#[unsafe(no_mangle)]
+pub extern "C" fn pelzaune_described_moment(
+    description: &HeldDescription,
+    text: &[u8],
+    out: &mut MomentParts,
+) -> u32
+    ensures { HandsHeld (IsHanded HasMoment) of_moment description.now text.now result out.old out.new }
+{
+    hand::<OffsetDateTime, MomentParts, HeldDescription>(description, text, out)
+}
+
+/// Parses a text by a held description into the instant of its date, time and offset. On any other status than 0 `out` is unchanged.
+#[unsafe(no_mangle)]
+pub extern "C" fn pelzaune_described_instant(
+    description: &HeldDescription,
+    text: &[u8],
+    out: &mut Instant,
+) -> u32
+    ensures { HandsHeld (IsHanded HasInstant) of_moment description.now text.now result out.old out.new }
+{
+    hand::<OffsetDateTime, Instant, HeldDescription>(description, text, out)
+}
+
+/// Parses a text by a held description into the nanoseconds of that instant. On any other status than 0 `out` is unchanged.
+#[unsafe(no_mangle)]
+pub extern "C" fn pelzaune_described_nanoseconds(
+    description: &HeldDescription,
+    text: &[u8],
+    out: &mut Nanoseconds,
+) -> u32
+    ensures { HandsHeld IsCountHanded of_moment description.now text.now result out.old out.new }
+{
+    count(description, text, out)
+}
+
+/// Parses a text by a held description into its date, its time and its offset. On any other status than 0 `out` is unchanged.
+#[unsafe(no_mangle)]
+pub extern "C" fn pelzaune_described_parts(
+    description: &HeldDescription,
+    text: &[u8],
+    out: &mut Parts,
+) -> u32
+    ensures { HandsHeld ArePartsHanded of_record description.now text.now result out.old out.new }
+{
+    parts(description, text, out)
+}
+
+/// Parses each line of a text by a held description, as `pelzaune_column` does by a format.
+#[unsafe(no_mangle)]
+pub extern "C" fn pelzaune_described_column(
+    description: &HeldDescription,
+    text: &[u8],
+    entries: &mut [Nanoseconds],
+    refused: &mut usize,
+) -> usize
+    ensures lines { result ≡ length (lines_of text.now) }
+    ensures entries { IsColumn (HandsHeld IsCountHanded of_moment description.now) (lines_of text.now)
+        entries.old entries.new refused.new }
+{
+    column(description, text, entries, refused)
+}

@@ -1,0 +1,254 @@
+//! Descriptions that C holds by value: they are read once, and then parse many texts.
+ghost use Rattle.std.specs.Prelude.{◌≡◌, ◌≢◌, ◌⊎◌, ◌-◌, ◌<◌, ◌≤◌, [], ◌∷◌, Ok, Err, IfSome, MatchResult, true, false, length, map};
+ghost use Rattle.time_values.specs.Range.{greatest_year};
+ghost use Rattle.time_values.specs.Refusal.{trailing};
+ghost use Rattle.time_components.specs.Steps.{further, steps_after, steps_trees, tree_at};
+ghost use Rattle.time_components.specs.Tree.{literal};
+ghost use Rattle.time_record.specs.Answer.{Answers};
+ghost use Rattle.time_record.specs.Reading.{Reads, Refuses};
+ghost use Rattle.time_record.specs.Record.{Record};
+ghost use Rattle.time_record.specs.Resolution.{IsMoment};
+ghost use Rattle.time_record.specs.WalkFast.{IsLeaf, MayRead};
+ghost use Rattle.time_record.specs.WalkSteps.{Goes};
+ghost use Rattle.time_parsing.specs.Outcome.{begun, over_record, seen};
+ghost use Rattle.time_parsing.specs.exact.DescriptionLaws.{tree_exact};
+ghost use Rattle.pelzaune.specs.Described as Described;
+ghost use Rattle.pelzaune.specs.Held.{Holds, held_tree};
+ghost use Rattle.pelzaune.specs.Held as Held;
+
+use crate::descriptions::{MOST_STEPS, fault_index, fault_status, read_description, syntax_of};
+use crate::status::{TOO_LONG, UNKNOWN_SYNTAX};
+use crate::steps::{HeldStep, held_step, step_of};
+use arrayvec::ArrayVec;
+use std::convert::TryFrom;
+use time_components::Step;
+use time_parsing::Parsable;
+use time_record::Parsed;
+use time_values::OffsetDateTime;
+use time_values::error::{Parse, ParseFromDescription};
+
+/// A description, as C holds it.
+#[repr(C)]
+#[derive(Clone, Copy)]
+pub struct HeldDescription {
+    /// How many steps it has; a greater number than there are says that all are.
+    pub count: usize,
+    /// The steps, in the order of the text.
+    pub steps: [HeldStep; MOST_STEPS],
+}
+
+// Steps, as the walk over a description takes them.
+fn steps_of(held: &[HeldStep]) -> ArrayVec<Step, MOST_STEPS>
+    requires { length held.now ≤ MOST_STEPS }
+    ensures { result.items ≡ map Held.step_of held.now }
+{
+    let mut steps = ArrayVec::new();
+    for step in held {
+        steps.push(step_of(*step));
+    }
+    steps
+}
+
+// Holds steps, if there is room for all of them.
+fn hold(steps: &[Step], held: &mut HeldDescription) -> bool
+    ensures yes { result ≡ true → Held.steps_of held.new ≡ steps.now }
+    ensures no { result ≡ false → (held.new ≡ held.old) × (MOST_STEPS < length steps.now) }
+{
+    if steps.len() > MOST_STEPS {
+        return false;
+    }
+    for (index, step) in steps.iter().enumerate() {
+        held.steps[index] = held_step(*step);
+    }
+    held.count = steps.len();
+    true
+}
+
+// Whether a literal goes on in these steps.
+#[inline(always)]
+fn goes_on(steps: &[HeldStep]) -> bool
+    ensures { result ≡ false → further (map Held.step_of steps.now) ≡ [] }
+{
+    match steps {
+        [first, ..] => matches!(step_of(*first), Step::More(_)),
+        [] => false,
+    }
+}
+
+// Reads a literal of one byte. `None`: it isn't read here.
+#[inline(always)]
+fn only_byte<'a>(byte: u8, behind: &[HeldStep], input: &'a [u8]) -> Option<&'a [u8]>
+    ensures read { (r : Record) → MayRead greatest_year (literal (byte ∷ further (map Held.step_of behind.now)))
+        input.now r result r }
+    ensures alone { IfSome result (λ _. further (map Held.step_of behind.now) ≡ []) }
+{
+    if goes_on(behind) {
+        return None;
+    }
+    match input {
+        [found, rest @ ..] if *found == byte => Some(rest),
+        _ => None,
+    }
+}
+
+// Reads a step that is a literal of one byte or a component. `None`: it isn't read here, and the record is as it was.
+#[inline(always)]
+fn read_step<'a>(
+    held: &HeldStep,
+    behind: &[HeldStep],
+    parsed: &mut Parsed,
+    input: &'a [u8],
+) -> Option<&'a [u8]>
+    ensures read { MayRead greatest_year
+        (tree_at steps_trees (Held.step_of held.now) (map Held.step_of behind.now)) input.now parsed.old result parsed.new }
+    ensures leaf { IfSome result (λ _. IsLeaf (tree_at steps_trees (Held.step_of held.now) (map Held.step_of behind.now))) }
+    ensures alone { IfSome result (λ _. steps_after (Held.step_of held.now) (map Held.step_of behind.now)
+        ≡ map Held.step_of behind.now) }
+{
+    match step_of(*held) {
+        Step::Literal(byte) | Step::More(byte) => only_byte(byte, behind, input),
+        Step::Component(component) => match parsed.parse_component(input, component) {
+            Ok(rest) => Some(rest),
+            Err(_) => None,
+        },
+        Step::Group(_, _) => None,
+    }
+}
+
+// Reads steps one after the other, and answers those from the first on that isn't read here, and the rest.
+#[inline(always)]
+fn read_front<'s, 'a>(
+    steps: &'s [HeldStep],
+    parsed: &mut Parsed,
+    input: &'a [u8],
+) -> (&'s [HeldStep], &'a [u8])
+    ensures fewer { length result.0.now ≤ length steps.now }
+    ensures goes { Goes greatest_year (steps_trees (map Held.step_of steps.now)) input.now parsed.old
+        (length steps.now - length result.0.now) (steps_trees (map Held.step_of result.0.now)) result.1.now parsed.new }
+{
+    let mut left = steps;
+    let mut rest = input;
+    while let [step, behind @ ..] = left {
+        match read_step(step, behind, parsed, rest) {
+            Some(unread) => rest = unread,
+            None => return (left, rest),
+        }
+        left = behind;
+    }
+    (left, rest)
+}
+
+// The steps that are held.
+#[inline(always)]
+fn held_steps(held: &HeldDescription) -> &[HeldStep]
+    ensures steps { map Held.step_of result.now ≡ Held.steps_of held.now }
+    ensures fits { length result.now ≤ MOST_STEPS }
+{
+    &held.steps[..held.count.min(MOST_STEPS)]
+}
+
+// Reads a front of the input over the record, and answers the unread rest. After a refusal the record is as it was.
+fn read_held<'a>(
+    held: &HeldDescription,
+    parsed: &mut Parsed,
+    input: &'a [u8],
+) -> Result<&'a [u8], ParseFromDescription>
+    ensures { Answers greatest_year (held_tree held.now) input.now parsed.old result parsed.new }
+{
+    let before = *parsed;
+    let (left, unread) = read_front(held_steps(held), parsed, input);
+    let [_, ..] = left else {
+        return Ok(unread);
+    };
+    match parsed.parse_steps(unread, steps_of(left).as_slice()) {
+        Ok(rest) => Ok(rest),
+        Err(fault) => {
+            *parsed = before;
+            Err(fault)
+        }
+    }
+}
+
+// The record that a parse begins with.
+#[inline(always)]
+fn begin(defaults: Option<Parsed>) -> Parsed
+    ensures { result ≡ begun defaults }
+{
+    let mut record = Parsed::new();
+    if let Some(defaults) = defaults {
+        record = defaults;
+    }
+    record
+}
+
+// The moment of a record that was read up to this rest.
+#[inline(always)]
+fn moment_before(rest: &[u8], parsed: &Parsed) -> Result<OffsetDateTime, Parse>
+    ensures { MatchResult (seen result)
+        (λ v. (rest.now ≡ []) × IsMoment greatest_year parsed.now (Ok v))
+        (λ e. ((rest.now ≢ []) × (e ≡ trailing)) ⊎ ((rest.now ≡ []) × IsMoment greatest_year parsed.now (Err e))) }
+{
+    if !rest.is_empty() {
+        return Err(ParseFromDescription::UnexpectedTrailingCharacters.into());
+    }
+    Ok(OffsetDateTime::try_from(*parsed)?)
+}
+
+impl Parsable for HeldDescription {
+    ghost reads = { λ s. Reads greatest_year (held_tree s) };
+
+    ghost refuses = { λ s. Refuses greatest_year (held_tree s) };
+
+    ghost path = { λ _. over_record };
+
+    fn parse_into<'a>(&self, input: &'a [u8], parsed: &mut Parsed) -> Result<&'a [u8], Parse> {
+        match read_held(self, parsed, input) {
+            Ok(rest) => Ok(rest),
+            Err(e) => Err(e.into()),
+        }
+    }
+
+    #[inline(always)]
+    fn parse_offset_date_time(
+        &self,
+        input: &[u8],
+        defaults: Option<Parsed>,
+    ) -> Result<OffsetDateTime, Parse> {
+        let mut parsed = begin(defaults);
+        let rest = self.parse_into(input, &mut parsed)?;
+        moment_before(rest, &parsed)
+    }
+
+    ghost exact = { λ s. tree_exact greatest_year (held_tree s) };
+
+    ghost exact_path = { λ _. tt };
+}
+
+/// Holds the description of a text in the syntax of that number: the status is 0, or says why the text describes nothing,
+/// and then `index` is that of its first fault, if the fault has a place.
+#[unsafe(no_mangle)]
+pub extern "C" fn pelzaune_describe(
+    syntax: u32,
+    text: &[u8],
+    out: &mut HeldDescription,
+    index: &mut usize,
+) -> u32
+    ensures { Holds (Described.syntax_of syntax) text.now result out.old out.new index.old index.new }
+{
+    match syntax_of(syntax) {
+        Some(syntax) => match read_description(syntax, text) {
+            Ok(description) => {
+                if hold(description.steps(), out) {
+                    0
+                } else {
+                    TOO_LONG
+                }
+            }
+            Err(error) => {
+                *index = fault_index(error).unwrap_or(*index);
+                fault_status(error)
+            }
+        },
+        None => UNKNOWN_SYNTAX,
+    }
+}

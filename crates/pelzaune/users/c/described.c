@@ -1,0 +1,214 @@
+/* Tests of descriptions that C holds. Prints 'N passed, M failed'. */
+#include "check.h"
+
+typedef struct {
+    uint32_t syntax;
+    const char *description, *text;
+} pair;
+
+/* Each kind of step, with what it may choose. */
+static const pair pairs[] = {
+    { PELZAUNE_BRACKETS_2, "[year]-[month]-[day]", "2021-03-04" },
+    { PELZAUNE_BRACKETS_1, "[[[year]", "[2021" },
+    { PELZAUNE_BRACKETS_2, "[year padding:space sign:mandatory]/[month padding:none]/[day padding:space]", "+2021/3/ 4" },
+    { PELZAUNE_BRACKETS_2, "[year repr:full range:standard][month repr:long][day padding:none]", "2021March4" },
+    { PELZAUNE_BRACKETS_2, "[year repr:century][year repr:last_two]-[ordinal]", "2021-063" },
+    { PELZAUNE_BRACKETS_2, "[year repr:century range:standard][year repr:last_two]-[ordinal padding:none]", "2021-63" },
+    { PELZAUNE_BRACKETS_2, "[year base:iso_week]-W[week_number]-[weekday repr:monday]", "2020-W53-6" },
+    { PELZAUNE_BRACKETS_2, "[year base:iso_week repr:century][year base:iso_week repr:last_two]-W[week_number]-[weekday repr:sunday]", "2020-W53-7" },
+    { PELZAUNE_BRACKETS_2, "[year] [week_number repr:sunday] [weekday]", "2021 09 Thursday" },
+    { PELZAUNE_BRACKETS_2, "[year] [week_number repr:monday] [weekday repr:short case_sensitive:false]", "2021 09 thu" },
+    { PELZAUNE_BRACKETS_2, "[hour repr:12 padding:none]:[minute][optional [:[second][optional [.[subsecond]]]]] [period case:lower]", "1:05:09.25 pm" },
+    { PELZAUNE_BRACKETS_2, "[hour]:[minute]:[second].[subsecond digits:3]", "13:05:09.250" },
+    { PELZAUNE_BRACKETS_2, "[hour] [period case_sensitive:false][ignore count:3][minute]", "13 Pm???05" },
+    { PELZAUNE_BRACKETS_2, "[unix_timestamp precision:nanosecond sign:mandatory]", "+1609556645000000001" },
+    { PELZAUNE_BRACKETS_2, "[unix_timestamp precision:microsecond]", "1609556645000001" },
+    { PELZAUNE_BRACKETS_2, "[unix_timestamp precision:millisecond]", "-1609556645001" },
+    { PELZAUNE_BRACKETS_2, "[year]-[month]-[day]T[hour]:[minute]:[second][first [Z] [[offset_hour sign:mandatory]:[offset_minute]:[offset_second]]]",
+        "2021-01-02T03:04:05-08:30:15" },
+    { PELZAUNE_BRACKETS_2, "[year]-[month]-[day][end trailing_input:discard]", "2021-01-02 and more" },
+    { PELZAUNE_STRFTIME, "%a, %d %b %Y %H:%M:%S %z", "Sat, 02 Jan 2021 03:04:05 -0030" },
+    { PELZAUNE_STRFTIME, "%d/%b/%Y:%H:%M:%S %z", "02/Jan/2021:03:04:05 -0030" },
+    { PELZAUNE_STRFTIME, "%H:%M", "23:59" },
+    { PELZAUNE_STRFTIME, "%s", "1609556645" },
+};
+enum { PAIRS = sizeof pairs / sizeof *pairs, CALLS = 9 };
+
+typedef union {
+    pelzaune_moment moment;
+    pelzaune_local local;
+    pelzaune_date date;
+    pelzaune_time time;
+    pelzaune_instant instant;
+    pelzaune_parts parts;
+    int32_t offset;
+    int64_t nanoseconds;
+    uint8_t bytes[64];
+} value;
+
+/* What a call answers by a description that was read. */
+static pelzaune_status by_description(int call, const pelzaune_description *d, const uint8_t *text, size_t length, value *out)
+{
+    switch (call) {
+    case 0: return pelzaune_described_moment(d, text, length, &out->moment);
+    case 1: return pelzaune_described_local(d, text, length, &out->local);
+    case 2: return pelzaune_described_utc(d, text, length, &out->local);
+    case 3: return pelzaune_described_date(d, text, length, &out->date);
+    case 4: return pelzaune_described_time(d, text, length, &out->time);
+    case 5: return pelzaune_described_offset(d, text, length, &out->offset);
+    case 6: return pelzaune_described_instant(d, text, length, &out->instant);
+    case 7: return pelzaune_described_nanoseconds(d, text, length, &out->nanoseconds);
+    default: return pelzaune_described_parts(d, text, length, &out->parts);
+    }
+}
+
+/* And by its text. */
+static pelzaune_status by_text(int call, const pair *it, const uint8_t *text, size_t length, value *out)
+{
+    const uint8_t *d = (const uint8_t *)it->description;
+    size_t size = strlen(it->description);
+    switch (call) {
+    case 0: return pelzaune_read_moment(it->syntax, d, size, text, length, &out->moment);
+    case 1: return pelzaune_read_local(it->syntax, d, size, text, length, &out->local);
+    case 2: return pelzaune_read_utc(it->syntax, d, size, text, length, &out->local);
+    case 3: return pelzaune_read_date(it->syntax, d, size, text, length, &out->date);
+    case 4: return pelzaune_read_time(it->syntax, d, size, text, length, &out->time);
+    case 5: return pelzaune_read_offset(it->syntax, d, size, text, length, &out->offset);
+    case 6: return pelzaune_read_instant(it->syntax, d, size, text, length, &out->instant);
+    case 7: return pelzaune_read_nanoseconds(it->syntax, d, size, text, length, &out->nanoseconds);
+    default: return pelzaune_read_parts(it->syntax, d, size, text, length, &out->parts);
+    }
+}
+
+/* Both answer alike for a text and write the same, wherever the text lies. */
+static int alike(int call, const pair *it, const pelzaune_description *d, const char *text, size_t length)
+{
+    value one, other;
+    memset(&one, 0xa5, sizeof one);
+    memset(&other, 0xa5, sizeof other);
+    pelzaune_status status = by_description(call, d, at_end(text, length), length, &one);
+    return by_text(call, it, at_front(text, length), length, &other) == status && memcmp(&one, &other, sizeof one) == 0;
+}
+
+/* Every beginning of the text, and the text with each of its bytes changed. */
+static void test_same_as_by_text(void)
+{
+    for (const pair *it = pairs; it < pairs + PAIRS; it++) {
+        pelzaune_description d, copy;
+        expect(describe(it->syntax, it->description, &d), it->description, __LINE__);
+        copy = d;
+        memset(&d, 0x5a, sizeof d);
+        int right = 1;
+        for (int call = 0; call < CALLS; call++)
+            for (size_t length = 0; length <= strlen(it->text); length++) {
+                char changed[64];
+                right &= alike(call, it, &copy, it->text, length);
+                strcpy(changed, it->text);
+                if (changed[length]) changed[length] = "0Z+ x"[length % 5];
+                right &= alike(call, it, &copy, changed, strlen(changed));
+            }
+        expect(right, it->description, __LINE__);
+    }
+}
+
+/* Each text has a part of its description. */
+static void test_read(void)
+{
+    for (const pair *it = pairs; it < pairs + PAIRS; it++) {
+        pelzaune_description d;
+        pelzaune_parts p;
+        int right = describe(it->syntax, it->description, &d);
+        right &= pelzaune_described_parts(&d, TEXT(""), &p) != PELZAUNE_OK;
+        right &= pelzaune_described_parts(&d, at_end(it->text, strlen(it->text)), strlen(it->text), &p) == PELZAUNE_OK;
+        expect(right, it->description, __LINE__);
+    }
+}
+
+static void test_values(void)
+{
+    pelzaune_description d;
+    pelzaune_date date;
+    pelzaune_time time;
+    pelzaune_moment m;
+    int64_t n, entries[3] = { 7, 7, 7 };
+    size_t refused;
+    EXPECT(describe(PELZAUNE_STRFTIME, "%Y-%m-%d", &d));
+    EXPECT(pelzaune_described_date(&d, TEXT("2020-02-29"), &date) == PELZAUNE_OK && date.year == 2020 && date.month == 2 && date.day == 29);
+    EXPECT(pelzaune_described_date(&d, TEXT("-2020-02-29"), &date) == PELZAUNE_OK && date.year == -2020);
+    EXPECT(pelzaune_described_date(&d, TEXT("2021-02-29"), &date) == PELZAUNE_RANGE_OF_OTHERS + 256 * 3);
+    EXPECT(pelzaune_described_date(&d, TEXT("2021-13-29"), &date) == PELZAUNE_INVALID_COMPONENT + 256 * 2);
+    EXPECT(pelzaune_described_date(&d, TEXT("2021/12-29"), &date) == PELZAUNE_INVALID_LITERAL);
+    EXPECT(pelzaune_described_date(&d, TEXT("2021-12-29Z"), &date) == PELZAUNE_TRAILING && date.year == -2020);
+    EXPECT(pelzaune_described_moment(&d, TEXT("2021-12-29"), &m) == PELZAUNE_INSUFFICIENT);
+    EXPECT(describe(PELZAUNE_BRACKETS_2, "at [hour repr:12 padding:none]:[minute][optional [:[second]]] [period]", &d));
+    EXPECT(pelzaune_described_time(&d, TEXT("at 1:05 PM"), &time) == PELZAUNE_OK && time.hour == 13 && time.minute == 5 && time.second == 0);
+    EXPECT(pelzaune_described_time(&d, TEXT("at 1:05:59 AM"), &time) == PELZAUNE_OK && time.hour == 1 && time.second == 59);
+    EXPECT(pelzaune_described_time(&d, TEXT("al 1:05 PM"), &time) == PELZAUNE_INVALID_LITERAL && time.second == 59);
+    /* 2021-01-02T03:34:05Z: 18629 days after 1970-01-01, of 86400 seconds, and 12845 seconds */
+    int64_t log = (18629 * INT64_C(86400) + 12845) * 1000000000;
+    EXPECT(describe(PELZAUNE_STRFTIME, "%d/%b/%Y:%H:%M:%S %z", &d));
+    EXPECT(pelzaune_described_nanoseconds(&d, TEXT("02/Jan/2021:03:04:05 -0030"), &n) == PELZAUNE_OK && n == log);
+    EXPECT(pelzaune_described_column(&d, TEXT("02/Jan/2021:03:04:05 -0030\n02/Jam/2021:03:04:05 -0030\n"), entries, 3, &refused) == 2
+        && refused == 1);
+    EXPECT(entries[0] == log && entries[1] == PELZAUNE_NO_COUNT && entries[2] == 7);
+    EXPECT(pelzaune_described_column(&d, NULL, 0, NULL, 0, &refused) == 0 && refused == 0);
+}
+
+/* Why there is no description, as the call that checks one says it. Then nothing is written. */
+static void test_faults(void)
+{
+    static const char *const texts[] = { "[yaer]", "[year", "[year]-[month repr:shrot]", "[]", "a\\b", "%Z", "%", "[ignore]", "[optional year]",
+        "-----------------------------------------------------------------" };
+    for (size_t k = 0; k < sizeof texts / sizeof *texts; k++)
+        for (uint32_t syntax = 0; syntax <= 4; syntax++) {
+            pelzaune_description d;
+            memset(&d, 0xa5, sizeof d);
+            size_t index = 77, other = 77, size = strlen(texts[k]);
+            pelzaune_status status = pelzaune_describe(syntax, described(texts[k], size), size, &d, &index);
+            int right = pelzaune_check_description(syntax, described(texts[k], size), size, &other) == status && index == other;
+            for (size_t at = 0; at < sizeof d && status; at++) right &= ((const uint8_t *)&d)[at] == 0xa5;
+            expect(right, texts[k], __LINE__);
+        }
+    pelzaune_description d;
+    size_t index = 77;
+    EXPECT(pelzaune_describe(PELZAUNE_BRACKETS_2, NULL, 0, &d, &index) == PELZAUNE_OK && index == 77);
+    EXPECT(pelzaune_describe(PELZAUNE_BRACKETS_2, TEXT("[year]-[yaer]"), &d, &index) == PELZAUNE_COMPONENT_NAME && index == 8);
+}
+
+/* Numbers that no description has are one all the same: each call returns, and reads no byte beside the text and them. */
+static void test_any_numbers(void)
+{
+    static const char text[] = "2021-01-02T03:04:05.123456789+05:30";
+    uint64_t seed = 8601;
+    int right = 1;
+    pelzaune_description *at = (pelzaune_description *)(void *)(other_page + PAGE - sizeof *at);
+    for (int round = 0; round < 20000; round++) {
+        for (size_t k = 0; k < 129; k++) {
+            seed = seed * UINT64_C(6364136223846793005) + 1442695040888963407;
+            at->numbers[k] = round % 3 ? seed >> 22 : seed & UINT64_C(0x01072f0003000f);
+        }
+        if (round % 2) at->numbers[0] = seed >> 58;
+        for (int call = 0; call < CALLS; call++) {
+            value one, other;
+            size_t length = (seed >> 40) % sizeof text;
+            memset(&one, 0xa5, sizeof one);
+            memset(&other, 0xa5, sizeof other);
+            pelzaune_status status = by_description(call, at, at_end(text, length), length, &one);
+            right &= by_description(call, at, at_front(text, length), length, &other) == status && memcmp(&one, &other, sizeof one) == 0;
+        }
+    }
+    EXPECT(right);
+}
+
+int main(void)
+{
+    if (!has_pages()) return 2;
+    EXPECT(sizeof(pelzaune_description) == 1032);
+    test_same_as_by_text();
+    test_read();
+    test_values();
+    test_faults();
+    test_any_numbers();
+    printf("%d passed, %d failed\n", passed, failed);
+    return failed != 0;
+}

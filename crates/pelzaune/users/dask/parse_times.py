@@ -1,0 +1,35 @@
+"""Parses a column of a table of texts on two processes of this machine, and prints how many have no time.
+
+    parse_times.py COLUMN FILE.csv..
+
+The times are those of RFC 3339, in UTC: a text that is refused has none (NaT).
+"""
+import sys
+
+import dask.dataframe
+import numpy
+import pandas
+import pelzaune
+from count_days import cluster
+from distributed import Client
+
+
+def times(texts):
+    """The times of a partition of texts. A line end in one is no end of a line of the column."""
+    entries = pelzaune.column("".join(text.replace("\n", " ") + "\n" for text in texts))
+    return pandas.Series(numpy.frombuffer(entries, "datetime64[ns]"), texts.index, name=texts.name)
+
+
+def parse(column):
+    """The times of a column of a table. A process parses a partition at a time."""
+    return column.map_partitions(times, meta=(column.name, "datetime64[ns]"))
+
+
+def main(name, paths):
+    with cluster() as processes, Client(processes):
+        found = parse(dask.dataframe.read_csv(paths, dtype=str, keep_default_na=False)[name]).compute()
+    print(found.min(), found.max(), int(found.isna().sum()), "have no time")
+
+
+if __name__ == "__main__":
+    main(sys.argv[1], sys.argv[2:])

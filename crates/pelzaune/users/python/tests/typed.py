@@ -1,0 +1,28 @@
+"""Each call with what it takes and gives, for a checker of types."""
+import array
+import datetime
+from typing import Optional, Tuple
+
+import pelzaune
+
+day = pelzaune.Description("[day].[month].[year]")
+text: str = "1985-04-12T23:20:50.52Z"
+
+moment: datetime.datetime = pelzaune.parse(text)
+date: datetime.date = pelzaune.parse_date(b"12.04.1985", day)
+time: datetime.time = pelzaune.parse_time("23:20", "%H:%M")
+parts: Tuple[Optional[datetime.date], Optional[datetime.time], Optional[datetime.timezone]] = pelzaune.parse_parts(text, pelzaune.ISO8601)
+nanoseconds: int = pelzaune.unix_ns(text, format=pelzaune.RFC3339)
+entries: "array.array[int]" = pelzaune.column(text + "\n", pelzaune.RFC3339)
+counts: Tuple[int, int] = pelzaune.column_into(b"", entries)
+written: str = pelzaune.format_datetime(moment, pelzaune.RFC2822)
+version: str = pelzaune.__version__
+
+try:
+    pelzaune.parse("", day)
+except pelzaune.DescriptionError as fault:
+    index: Optional[int] = fault.index
+except pelzaune.ParseError as refusal:
+    component: Optional[str] = refusal.component
+except pelzaune.FormatError as unwritten:
+    component = unwritten.component

@@ -4,5 +4,6 @@ pub mod Formats
 pub mod Handed
 pub mod Held
 pub mod Laws
+pub mod Places
 pub mod Status
 pub mod Written

@@ -2,7 +2,7 @@
 ghost use Rattle.std.specs.Prelude.{◌≡◌, ◌≢◌, ◌⊎◌, ◌-◌, ◌<◌, ◌≤◌, [], ◌∷◌, Ok, Err, IfSome, MatchResult, true, false, length, map};
 ghost use Rattle.time_values.specs.Range.{greatest_year};
 ghost use Rattle.time_values.specs.Refusal.{trailing};
-ghost use Rattle.time_components.specs.Steps.{further, steps_after, steps_trees, tree_at};
+ghost use Rattle.time_components.specs.Steps.{further, steps_after, steps_shape, steps_trees, tree_at};
 ghost use Rattle.time_components.specs.Tree.{literal};
 ghost use Rattle.time_record.specs.Answer.{Answers};
 ghost use Rattle.time_record.specs.Reading.{Reads, Refuses};
@@ -147,6 +147,19 @@ fn held_steps(held: &HeldDescription) -> &[HeldStep]
     &held.steps[..held.count.min(MOST_STEPS)]
 }
 
+// Reads what is left by the walk over the steps of a description. The room for them is taken here alone.
+#[inline(never)]
+fn read_left<'a>(
+    left: &[HeldStep],
+    parsed: &mut Parsed,
+    input: &'a [u8],
+) -> Result<&'a [u8], ParseFromDescription>
+    requires { length left.now ≤ MOST_STEPS }
+    ensures { Answers greatest_year (steps_shape (map Held.step_of left.now)) input.now parsed.old result parsed.new }
+{
+    parsed.parse_steps(input, steps_of(left).as_slice())
+}
+
 // Reads a front of the input over the record, and answers the unread rest. After a refusal the record is as it was.
 fn read_held<'a>(
     held: &HeldDescription,
@@ -160,7 +173,7 @@ fn read_held<'a>(
     let [_, ..] = left else {
         return Ok(unread);
     };
-    match parsed.parse_steps(unread, steps_of(left).as_slice()) {
+    match read_left(left, parsed, unread) {
         Ok(rest) => Ok(rest),
         Err(fault) => {
             *parsed = before;

@@ -20,6 +20,7 @@ mod formats;
 mod handing;
 mod held;
 pub mod laws;
+mod locating;
 mod parts;
 mod status;
 mod steps;

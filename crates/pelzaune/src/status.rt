@@ -49,7 +49,8 @@ fn component_number(name: &str) -> u32
     }
 }
 
-fn status_of_description(error: ParseFromDescription) -> u32
+/// The status of what a text can't be read for.
+pub fn status_of_description(error: ParseFromDescription) -> u32
     ensures { result ≡ Status.status_of (refusal_of_description error) }
 {
     match error {

@@ -29,53 +29,53 @@ static int by_strptime(const char *text, const char *description, struct tm *tm)
     return end && !*end;
 }
 
-static int64_t by_format(const char *call, const how *it, const uint8_t *bytes, size_t length)
+/* The Unix seconds of these fields. */
+static int64_t seconds_of(struct tm tm)
 {
-    pelzaune_moment moment;
-    pelzaune_instant instant;
-    int64_t count;
-    switch (call[0]) {
-    case 'm': return pelzaune_parse_moment(it->format, bytes, length, &moment) ? -1 : moment.second + moment.offset;
-    case 'i': return pelzaune_parse_instant(it->format, bytes, length, &instant) ? -1 : instant.seconds;
-    default: return pelzaune_parse_nanoseconds(it->format, bytes, length, &count) ? -1 : count;
-    }
+    long offset = tm.tm_gmtoff;
+    return (int64_t)timegm(&tm) - offset;
 }
 
-static int64_t by_description(const char *call, const how *it, const uint8_t *bytes, size_t length)
+static const char *const calls[] = { "moment", "instant", "nanoseconds", "read", "described", "date", "time", "strptime", "fields" };
+enum { MOMENT, INSTANT, NANOSECONDS, READ, DESCRIBED, DATE, TIME, STRPTIME, FIELDS, CALLS };
+
+/* A number of what a call answers. */
+static int64_t answer(int call, const how *it, const char *text, size_t length)
 {
+    const uint8_t *bytes = (const uint8_t *)text;
+    pelzaune_moment moment;
     pelzaune_instant instant;
     pelzaune_date date;
     pelzaune_time time;
-    switch (call[0]) {
-    case 'r': return pelzaune_read_instant(PELZAUNE_STRFTIME, (const uint8_t *)it->text, strlen(it->text), bytes, length, &instant)
-        ? -1 : instant.seconds;
-    case 't': return pelzaune_described_time(&it->held, bytes, length, &time) ? -1 : time.minute;
-    default: return call[1] == 'a' ? (pelzaune_described_date(&it->held, bytes, length, &date) ? -1 : date.day)
-        : (pelzaune_described_instant(&it->held, bytes, length, &instant) ? -1 : instant.seconds);
-    }
-}
-
-static int64_t answer(const char *call, const how *it, const char *text, size_t length)
-{
+    int64_t count;
     struct tm tm;
-    if (strchr("min", call[0])) return by_format(call, it, (const uint8_t *)text, length);
-    if (strchr("rdt", call[0])) return by_description(call, it, (const uint8_t *)text, length);
-    if (!by_strptime(text, it->text, &tm)) return -1;
-    if (call[0] == 'f') return tm.tm_mday + tm.tm_min;
-    long offset = tm.tm_gmtoff;
-    return (int64_t)timegm(&tm) - offset;
+    switch (call) {
+    case MOMENT: return pelzaune_parse_moment(it->format, bytes, length, &moment) ? -1 : moment.second + moment.offset;
+    case INSTANT: return pelzaune_parse_instant(it->format, bytes, length, &instant) ? -1 : instant.seconds;
+    case NANOSECONDS: return pelzaune_parse_nanoseconds(it->format, bytes, length, &count) ? -1 : count;
+    case READ: return pelzaune_read_instant(PELZAUNE_STRFTIME, (const uint8_t *)it->text, strlen(it->text), bytes, length, &instant)
+        ? -1 : instant.seconds;
+    case DESCRIBED: return pelzaune_described_instant(&it->held, bytes, length, &instant) ? -1 : instant.seconds;
+    case DATE: return pelzaune_described_date(&it->held, bytes, length, &date) ? -1 : date.day;
+    case TIME: return pelzaune_described_time(&it->held, bytes, length, &time) ? -1 : time.minute;
+    case STRPTIME: return by_strptime(text, it->text, &tm) ? seconds_of(tm) : -1;
+    default: return by_strptime(text, it->text, &tm) ? tm.tm_mday + tm.tm_min : -1;
+    }
 }
 
 int main(int argc, char **argv)
 {
     if (argc != 5) return 2;
+    int call = 0;
+    while (call < CALLS && strcmp(argv[1], calls[call])) call++;
     how it = { (uint32_t)strtoul(argv[2], NULL, 10), argv[2], { { 0 } } };
     size_t index, length = strlen(argv[4]);
-    if (strchr("dt", argv[1][0]) && pelzaune_describe(PELZAUNE_STRFTIME, (const uint8_t *)argv[2], strlen(argv[2]), &it.held, &index)) return 2;
+    if (call == CALLS || (call >= DESCRIBED && call <= TIME
+        && pelzaune_describe(PELZAUNE_STRFTIME, (const uint8_t *)argv[2], strlen(argv[2]), &it.held, &index))) return 2;
     long times = strtol(argv[3], NULL, 10);
     char *texts[2] = { argv[4], strdup(argv[4]) };
     uint64_t sum = 0;
-    for (long k = 0; k < times; k++) sum += (uint64_t)answer(argv[1], &it, texts[k % 2], length);
+    for (long k = 0; k < times; k++) sum += (uint64_t)answer(call, &it, texts[k % 2], length);
     printf("%llu\n", (unsigned long long)sum);
     free(texts[1]);
     return 0;

@@ -1,9 +1,6 @@
-use Rattle.std.proofs.Common.{ap, subst, sym, ◌∙◌, map, length, refl, arith}
+use Rattle.std.proofs.Common.{map, length, refl, arith}
 use Rattle.std.proofs.lemmas.List.{length-map}
-use Rattle.time_values.specs.Range.{greatest_year}
 use Rattle.time_values.specs.Refusal.{refusal_of_description}
-use Rattle.time_components.specs.Steps.{steps_trees}
-use Rattle.time_record.specs.WalkSteps.{Goes}
 use Rattle.time_record.proofs.StepRows.{steps_trees-end}
 use Rattle.time_record.proofs.WalkSteps.{Goes-end}
 use Rattle.pelzaune.specs.Held.{step_of}
@@ -19,13 +16,9 @@ returns-in_default c =
 pub returns-in-Ok : goal.returns-in-Ok
 returns-in-Ok c =
     let goes = rw c.held_steps.ensures.steps at c.read_front.ensures.goes in
-    let same = ap steps_trees (c.as_slice.ensures.value ∙ c.steps_of.ensures) in
-    let here = rw (sym same) at goes in
-    rest_reads here c.in-Ok.rest.now c.parse_steps.new.self c.in-Ok.ensures
+    rest_reads goes c.in-Ok.rest.now c.read_left.new.parsed c.in-Ok.ensures
 
 pub returns-in-Err : goal.returns-in-Err
 returns-in-Err c =
     let goes = rw c.held_steps.ensures.steps at c.read_front.ensures.goes in
-    let same = ap steps_trees (c.as_slice.ensures.value ∙ c.steps_of.ensures) in
-    let here = rw (sym same) at goes in
-    (rest_refuses here (refusal_of_description c.in-Err.fault) c.in-Err.ensures.0, refl)
+    (rest_refuses goes (refusal_of_description c.in-Err.fault) c.in-Err.ensures.0, refl)

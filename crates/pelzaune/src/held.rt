@@ -3,6 +3,7 @@ ghost use Rattle.std.specs.Prelude.{◌≡◌, ◌≢◌, ◌⊎◌, ◌-◌, �
 ghost use Rattle.time_values.specs.Range.{greatest_year};
 ghost use Rattle.time_values.specs.Refusal.{trailing};
 ghost use Rattle.time_components.specs.Steps.{further, steps_after, steps_shape, steps_trees, tree_at};
+ghost use Rattle.time_components.specs.Tree as tree;
 ghost use Rattle.time_components.specs.Tree.{literal};
 ghost use Rattle.time_record.specs.Answer.{Answers};
 ghost use Rattle.time_record.specs.Reading.{Reads, Refuses};
@@ -21,7 +22,10 @@ use crate::status::{TOO_LONG, UNKNOWN_SYNTAX};
 use crate::steps::{HeldStep, held_step, step_of};
 use arrayvec::ArrayVec;
 use std::convert::TryFrom;
-use time_components::Step;
+use time_components::component::{
+    parse_day, parse_hour_24, parse_minute, parse_month_numerical, parse_second,
+};
+use time_components::{Component, Step};
 use time_parsing::Parsable;
 use time_record::Parsed;
 use time_values::OffsetDateTime;
@@ -91,6 +95,63 @@ fn only_byte<'a>(byte: u8, behind: &[HeldStep], input: &'a [u8]) -> Option<&'a [
     }
 }
 
+// Reads one of the commonest components, with no call. `None`: it isn't read here, and the record is as it was.
+#[inline(always)]
+fn read_common<'a>(
+    component: Component,
+    parsed: &mut Parsed,
+    input: &'a [u8],
+) -> Option<&'a [u8]>
+    ensures { MayRead greatest_year (tree.component false component) input.now parsed.old result parsed.new }
+{
+    match component {
+        Component::Hour24(modifiers) => {
+            let hour = parse_hour_24(input, modifiers)?;
+            parsed.set_hour_24(hour.1)?;
+            Some(hour.0)
+        }
+        Component::Minute(modifiers) => {
+            let minute = parse_minute(input, modifiers)?;
+            parsed.set_minute(minute.1)?;
+            Some(minute.0)
+        }
+        Component::Second(modifiers) => {
+            let second = parse_second(input, modifiers)?;
+            parsed.set_second(second.1)?;
+            Some(second.0)
+        }
+        Component::MonthNumerical(modifiers) => {
+            let month = parse_month_numerical(input, modifiers)?;
+            parsed.set_month(month.1)?;
+            Some(month.0)
+        }
+        Component::Day(modifiers) => {
+            let day = parse_day(input, modifiers)?;
+            parsed.set_day(day.1)?;
+            Some(day.0)
+        }
+        _ => None,
+    }
+}
+
+// Reads a component. `None`: it is refused, and the record is as it was.
+#[inline(always)]
+fn read_component<'a>(
+    component: Component,
+    parsed: &mut Parsed,
+    input: &'a [u8],
+) -> Option<&'a [u8]>
+    ensures { MayRead greatest_year (tree.component false component) input.now parsed.old result parsed.new }
+{
+    if let Some(rest) = read_common(component, parsed, input) {
+        return Some(rest);
+    }
+    match parsed.parse_component(input, component) {
+        Ok(rest) => Some(rest),
+        Err(_) => None,
+    }
+}
+
 // Reads a step that is a literal of one byte or a component. `None`: it isn't read here, and the record is as it was.
 #[inline(always)]
 fn read_step<'a>(
@@ -107,10 +168,7 @@ fn read_step<'a>(
 {
     match step_of(*held) {
         Step::Literal(byte) | Step::More(byte) => only_byte(byte, behind, input),
-        Step::Component(component) => match parsed.parse_component(input, component) {
-            Ok(rest) => Some(rest),
-            Err(_) => None,
-        },
+        Step::Component(component) => read_component(component, parsed, input),
         Step::Group(_, _) => None,
     }
 }

@@ -1,6 +1,6 @@
 import array
 import datetime
-from typing import Any, Final, Optional, Tuple, Union
+from typing import Any, Final, Optional, Tuple, Union, final
 
 RFC3339: Final[int]
 RFC2822: Final[int]
@@ -17,6 +17,7 @@ class DescriptionError(ParseError): ...
 class FormatError(ValueError):
     component: Optional[str]
 
+@final
 class Description:
     def __init__(self, text: Union[str, bytes]) -> None: ...
     @property

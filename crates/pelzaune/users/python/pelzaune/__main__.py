@@ -29,4 +29,5 @@ def main():
     return 1 if refused else 0
 
 
-sys.exit(main())
+if __name__ == "__main__":
+    sys.exit(main())

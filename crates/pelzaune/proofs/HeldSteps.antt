@@ -1,5 +1,5 @@
 -- What is chosen of a step is held by its number.
-use Rattle.std.proofs.Common.{◌≡◌, ℕ, Bool, true, false, refl, ap, if◌then◌else◌}
+use Rattle.std.proofs.Common.{◌≡◌, Bool, true, false, refl, ap, if◌then◌else◌}
 use Rattle.time_components.specs.declared.format_description.Component.TheVariants as component
 use Rattle.time_components.specs.declared.modifier.Ignore.{Ignore}
 use Rattle.time_components.specs.declared.modifier.SubsecondDigits.{SubsecondDigits}

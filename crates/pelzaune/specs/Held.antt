@@ -2,7 +2,6 @@
 use Rattle.std.specs.Prelude.{◌≡◌, ◌⊎◌, ◌<◌, length, ℕ, ◌+◌, nat_eq, List, [], ◌∷◌, map, take, Bool, true, false, Option, Some, None, Result, Ok, Err, unwrap_or, if◌then◌else◌}
 use Rattle.time_components.specs.Steps.{steps_shape}
 use Rattle.time_components.specs.Tree.{Tree}
-use Rattle.time_components.specs.declared.format_description.Component.{Component}
 use Rattle.time_components.specs.declared.format_description.Component.TheVariants as component
 use Rattle.time_components.specs.declared.modifier.Ignore.{Ignore}
 use Rattle.time_components.specs.declared.modifier.SubsecondDigits.{SubsecondDigits}

@@ -97,11 +97,7 @@ fn only_byte<'a>(byte: u8, behind: &[HeldStep], input: &'a [u8]) -> Option<&'a [
 
 // Reads one of the commonest components, with no call. `None`: it isn't read here, and the record is as it was.
 #[inline(always)]
-fn read_common<'a>(
-    component: Component,
-    parsed: &mut Parsed,
-    input: &'a [u8],
-) -> Option<&'a [u8]>
+fn read_common<'a>(component: Component, parsed: &mut Parsed, input: &'a [u8]) -> Option<&'a [u8]>
     ensures { MayRead greatest_year (tree.component false component) input.now parsed.old result parsed.new }
 {
     match component {

@@ -134,42 +134,92 @@ pub fn step_of(held: HeldStep) -> Step
         3 => Step::Group(Group::First, held.len),
         4 => Step::Group(Group::List, held.len),
         5 => component!(Day { padding: padding }),
-        6 => component!(MonthShort { case_sensitive: flag }),
-        7 => component!(MonthLong { case_sensitive: flag }),
+        6 => component!(MonthShort {
+            case_sensitive: flag
+        }),
+        7 => component!(MonthLong {
+            case_sensitive: flag
+        }),
         8 => component!(MonthNumerical { padding: padding }),
         9 => component!(Ordinal { padding: padding }),
-        10 => component!(WeekdayShort { case_sensitive: flag }),
-        11 => component!(WeekdayLong { case_sensitive: flag }),
+        10 => component!(WeekdayShort {
+            case_sensitive: flag
+        }),
+        11 => component!(WeekdayLong {
+            case_sensitive: flag
+        }),
         12 => component!(WeekdaySunday { one_indexed: flag }),
         13 => component!(WeekdayMonday { one_indexed: flag }),
         14 => component!(WeekNumberIso { padding: padding }),
         15 => component!(WeekNumberSunday { padding: padding }),
         16 => component!(WeekNumberMonday { padding: padding }),
-        17 => component!(CalendarYearFullExtendedRange { padding: padding, sign_is_mandatory: flag }),
-        18 => component!(CalendarYearFullStandardRange { padding: padding, sign_is_mandatory: flag }),
-        19 => component!(IsoYearFullExtendedRange { padding: padding, sign_is_mandatory: flag }),
-        20 => component!(IsoYearFullStandardRange { padding: padding, sign_is_mandatory: flag }),
-        21 => component!(CalendarYearCenturyExtendedRange { padding: padding, sign_is_mandatory: flag }),
-        22 => component!(CalendarYearCenturyStandardRange { padding: padding, sign_is_mandatory: flag }),
-        23 => component!(IsoYearCenturyExtendedRange { padding: padding, sign_is_mandatory: flag }),
-        24 => component!(IsoYearCenturyStandardRange { padding: padding, sign_is_mandatory: flag }),
+        17 => component!(CalendarYearFullExtendedRange {
+            padding: padding,
+            sign_is_mandatory: flag
+        }),
+        18 => component!(CalendarYearFullStandardRange {
+            padding: padding,
+            sign_is_mandatory: flag
+        }),
+        19 => component!(IsoYearFullExtendedRange {
+            padding: padding,
+            sign_is_mandatory: flag
+        }),
+        20 => component!(IsoYearFullStandardRange {
+            padding: padding,
+            sign_is_mandatory: flag
+        }),
+        21 => component!(CalendarYearCenturyExtendedRange {
+            padding: padding,
+            sign_is_mandatory: flag
+        }),
+        22 => component!(CalendarYearCenturyStandardRange {
+            padding: padding,
+            sign_is_mandatory: flag
+        }),
+        23 => component!(IsoYearCenturyExtendedRange {
+            padding: padding,
+            sign_is_mandatory: flag
+        }),
+        24 => component!(IsoYearCenturyStandardRange {
+            padding: padding,
+            sign_is_mandatory: flag
+        }),
         25 => component!(CalendarYearLastTwo { padding: padding }),
         26 => component!(IsoYearLastTwo { padding: padding }),
         27 => component!(Hour12 { padding: padding }),
         28 => component!(Hour24 { padding: padding }),
         29 => component!(Minute { padding: padding }),
-        30 => component!(Period { is_uppercase: held.choice != 0, case_sensitive: flag }),
+        30 => component!(Period {
+            is_uppercase: held.choice != 0,
+            case_sensitive: flag
+        }),
         31 => component!(Second { padding: padding }),
-        32 => component!(Subsecond { digits: digits_of(held.choice) }),
-        33 => component!(OffsetHour { padding: padding, sign_is_mandatory: flag }),
+        32 => component!(Subsecond {
+            digits: digits_of(held.choice)
+        }),
+        33 => component!(OffsetHour {
+            padding: padding,
+            sign_is_mandatory: flag
+        }),
         34 => component!(OffsetMinute { padding: padding }),
         35 => component!(OffsetSecond { padding: padding }),
         36 => skipping(held.count),
-        37 => component!(UnixTimestampSecond { sign_is_mandatory: flag }),
-        38 => component!(UnixTimestampMillisecond { sign_is_mandatory: flag }),
-        39 => component!(UnixTimestampMicrosecond { sign_is_mandatory: flag }),
-        40 => component!(UnixTimestampNanosecond { sign_is_mandatory: flag }),
-        41 => component!(End { trailing_input: trailing_of(held.choice) }),
+        37 => component!(UnixTimestampSecond {
+            sign_is_mandatory: flag
+        }),
+        38 => component!(UnixTimestampMillisecond {
+            sign_is_mandatory: flag
+        }),
+        39 => component!(UnixTimestampMicrosecond {
+            sign_is_mandatory: flag
+        }),
+        40 => component!(UnixTimestampNanosecond {
+            sign_is_mandatory: flag
+        }),
+        41 => component!(End {
+            trailing_input: trailing_of(held.choice)
+        }),
         _ => Step::Literal(0),
     }
 }
@@ -205,14 +255,46 @@ fn held_component(component: Component) -> HeldStep
         Component::WeekNumberIso(m) => chosen(14, padding_number(m.padding), false),
         Component::WeekNumberSunday(m) => chosen(15, padding_number(m.padding), false),
         Component::WeekNumberMonday(m) => chosen(16, padding_number(m.padding), false),
-        Component::CalendarYearFullExtendedRange(m) => chosen(17, padding_number(m.padding), m.sign_is_mandatory),
-        Component::CalendarYearFullStandardRange(m) => chosen(18, padding_number(m.padding), m.sign_is_mandatory),
-        Component::IsoYearFullExtendedRange(m) => chosen(19, padding_number(m.padding), m.sign_is_mandatory),
-        Component::IsoYearFullStandardRange(m) => chosen(20, padding_number(m.padding), m.sign_is_mandatory),
-        Component::CalendarYearCenturyExtendedRange(m) => chosen(21, padding_number(m.padding), m.sign_is_mandatory),
-        Component::CalendarYearCenturyStandardRange(m) => chosen(22, padding_number(m.padding), m.sign_is_mandatory),
-        Component::IsoYearCenturyExtendedRange(m) => chosen(23, padding_number(m.padding), m.sign_is_mandatory),
-        Component::IsoYearCenturyStandardRange(m) => chosen(24, padding_number(m.padding), m.sign_is_mandatory),
+        Component::CalendarYearFullExtendedRange(m) => chosen(
+            17,
+            padding_number(m.padding),
+            m.sign_is_mandatory,
+        ),
+        Component::CalendarYearFullStandardRange(m) => chosen(
+            18,
+            padding_number(m.padding),
+            m.sign_is_mandatory,
+        ),
+        Component::IsoYearFullExtendedRange(m) => chosen(
+            19,
+            padding_number(m.padding),
+            m.sign_is_mandatory,
+        ),
+        Component::IsoYearFullStandardRange(m) => chosen(
+            20,
+            padding_number(m.padding),
+            m.sign_is_mandatory,
+        ),
+        Component::CalendarYearCenturyExtendedRange(m) => chosen(
+            21,
+            padding_number(m.padding),
+            m.sign_is_mandatory,
+        ),
+        Component::CalendarYearCenturyStandardRange(m) => chosen(
+            22,
+            padding_number(m.padding),
+            m.sign_is_mandatory,
+        ),
+        Component::IsoYearCenturyExtendedRange(m) => chosen(
+            23,
+            padding_number(m.padding),
+            m.sign_is_mandatory,
+        ),
+        Component::IsoYearCenturyStandardRange(m) => chosen(
+            24,
+            padding_number(m.padding),
+            m.sign_is_mandatory,
+        ),
         Component::CalendarYearLastTwo(m) => chosen(25, padding_number(m.padding), false),
         Component::IsoYearLastTwo(m) => chosen(26, padding_number(m.padding), false),
         Component::Hour12(m) => chosen(27, padding_number(m.padding), false),

@@ -1,4 +1,4 @@
-use Rattle.std.proofs.Common.{◌≡◌, length, take, map}
+use Rattle.std.proofs.Common.{◌≡◌, take, map}
 use Rattle.pelzaune.specs.Held.{step_of}
 use Rattle.pelzaune.proofs.held.hold.Given as goal
 

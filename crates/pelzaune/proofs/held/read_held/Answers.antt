@@ -1,4 +1,4 @@
-use Rattle.std.proofs.Common.{map, length, refl, arith}
+use Rattle.std.proofs.Common.{map, refl, arith}
 use Rattle.std.proofs.lemmas.List.{length-map}
 use Rattle.time_values.specs.Refusal.{refusal_of_description}
 use Rattle.time_record.proofs.StepRows.{steps_trees-end}

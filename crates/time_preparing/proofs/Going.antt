@@ -10,7 +10,7 @@ use Rattle.time_record.proofs.Steps.{RefusesAll-here, RefusesAll-more}
 use Rattle.time_preparing.specs.Walk.{followed_by, Goes, Tells}
 
 module _ (Y : ℕ) (us : Trees) where
-  reads_later : (ts : Trees) (b : List ℕ) (r : Record) (mid : List ℕ) (m : Record) (rest : List ℕ) (q : Record) →
+  pub reads_later : (ts : Trees) (b : List ℕ) (r : Record) (mid : List ℕ) (m : Record) (rest : List ℕ) (q : Record) →
       ReadsAll Y ts b r mid m → ReadsAll Y us mid m rest q → ReadsAll Y (followed_by ts us) b r rest q
   unfolding ReadsAll
   reads_later none b r mid m rest q h k = rw (sym h.0, sym h.1) k
@@ -70,6 +70,21 @@ module _ {Y : ℕ} {all : Trees} {b0 : List ℕ} {r0 : Record} {left : Trees} {b
       let refused = g.refuses _ (record { unread = h.0.unread; fault = h.0.fault }) in
       record { unread = refused.unread; fault = refused.fault }
 
+-- the walk over what is left answers for all
+pub Goes-tells : {Y : ℕ} {all : Trees} {b0 : List ℕ} {r0 : Record} {left : Trees} {b : List ℕ} {r : Record} → Goes Y all b0 r0 left b r →
+    (result : Result (Bor (List ℕ)) ParseFromDescription) (q : Record) → Tells Y (sequence left) b r result q → Tells Y (sequence all) b0 r0 result q
+unfolding Reads IsFault
+Goes-tells g (Ok rest) q h = g.reads rest.now q h
+Goes-tells g (Err e) q h =
+    let refused = g.refuses _ (record { unread = h.unread; fault = h.fault }) in
+    record { unread = refused.unread; fault = refused.fault }
+
+-- what is answered is told
+pub answered : (Y : ℕ) (t : Tree) (b : List ℕ) (r : Record) (result : Result (Bor (List ℕ)) ParseFromDescription) (q : Record) →
+    Answers Y t b r result q → Tells Y t b r result q
+answered Y t b r (Ok rest) q h = h
+answered Y t b r (Err e) q h = h.0
+
 -- what a list of one tree answers
 one_tree : (Y : ℕ) (t : Tree) (b : List ℕ) (r : Record) (rest : List ℕ) (q : Record) →
     Reads Y (sequence (more t none)) b r rest q → Reads Y t b r rest q
@@ -86,7 +101,7 @@ unfolding IsFault IsFaultAll
 one_fault Y t b r e (inl h) = h.1
 one_fault Y t b r e (inr (mid, m, h, k)) = absurd k
 
-one_as_list : (Y : ℕ) (t : Tree) (b : List ℕ) (r : Record) (rest : List ℕ) (q : Record) →
+pub one_as_list : (Y : ℕ) (t : Tree) (b : List ℕ) (r : Record) (rest : List ℕ) (q : Record) →
     Reads Y t b r rest q → Reads Y (sequence (more t none)) b r rest q
 unfolding Reads ReadsAll
 one_as_list Y t b r rest q h = (rest, q, h, (refl, refl))
@@ -99,3 +114,17 @@ one_refused Y t ts b r e is h =
       unread = λ rest q reads. k.unread rest q (one_as_list Y t b r rest q reads);
       fault = one_fault Y t b r e k.fault;
     }
+
+one_list_fault : (Y : ℕ) (t : Tree) (b : List ℕ) (r : Record) (e : Refusal) → Refuses Y t b r e → IsFault Y (sequence (more t none)) b r e
+unfolding IsFault IsFaultAll
+one_list_fault Y t b r e h = inl (h.unread, h.fault)
+
+-- a tree that is told, as a list of it alone
+pub one_told : (Y : ℕ) (t : Tree) (ts : Trees) (b : List ℕ) (r : Record) (result : Result (Bor (List ℕ)) ParseFromDescription) (q : Record) →
+    ts ≡ more t none → Tells Y t b r result q → Tells Y (sequence ts) b r result q
+one_told Y t ts b r (Ok rest) q is h = rw is (one_as_list Y t b r rest.now q h)
+one_told Y t ts b r (Err e) q is h =
+    rw is (record {
+      unread = λ rest p reads. h.unread rest p (one_tree Y t b r rest p reads);
+      fault = one_list_fault Y t b r _ h;
+    })

@@ -1,5 +1,7 @@
 pub mod Rows
 pub mod Going
 pub mod Choosing
-pub mod Three
+pub mod Parts
 pub mod Preparing
+pub mod Wholes
+pub mod Outcomes

@@ -1,16 +1,19 @@
 -- Rows of steps, and what is read at once in them.
 use Rattle.std.proofs.Common.{◌≡◌, ℕ, zero, suc, ◌+◌, ◌-◌, ◌≤◌, ◌<◌, List, [], ◌∷◌, ◌++◌, length, take, drop, get_or, inl, inr, refl, ap, sym, ◌∙◌, arith, false, length-take, length-drop}
 use Rattle.std.specs.Prelude.{min}
-use Rattle.std.proofs.lemmas.List.{take_all, drop_all}
+use Rattle.std.proofs.lemmas.List.{take_all, take-append-drop, drop_all}
 use Rattle.std.proofs.lemmas.Bool.{cases_lt}
 use Rattle.time_components.specs.Steps.{further, group_tree, steps_after, steps_trees, tree_at}
-use Rattle.time_components.specs.Tree.{literal, component, none, more}
+use Rattle.time_components.specs.Tree.{Trees, literal, component, sequence, optional, none, more}
+use Rattle.time_components.specs.declared.format_description.Component.TheVariants.{Second, Subsecond}
 use Rattle.time_components.specs.declared.step.Group.{Group}
+use Rattle.time_components.specs.declared.step.Group.TheVariants.{Optional}
 use Rattle.time_components.specs.declared.step.Step.{Step}
 use Rattle.time_components.specs.declared.step.Step.TheVariants as step
 use Rattle.time_record.proofs.StepRows.{behind_first, behind_is, first_item, steps_trees-end}
-use Rattle.time_preparing.specs.Joined.{BeginsWith, Fits, parts, Says}
-use Rattle.time_preparing.specs.Walk.{followed_by, item_length, leaves}
+use Rattle.time_preparing.specs.Joined.{BeginsWith, Fits, fraction_parts, parts, Says, second_parts}
+use Rattle.time_preparing.specs.Walk.{followed_by, fraction_tree, item_length, leaves, trees_of}
+use Rattle.time_preparing.specs.declared.forms.TheConstants.{SECOND, SUBSECOND}
 use Rattle.time_preparing.specs.declared.joined.Joined.{Joined}
 use Rattle.time_preparing.specs.declared.joined.Joined.TheVariants as joined
 
@@ -88,18 +91,20 @@ Fits-push (k ∷ js) [] j within h says = tt
 Fits-push (k ∷ js) (s ∷ steps) j within h says = (h.0, Fits-push js steps j (omega arith) h.1 says)
 
 -- the steps are bytes and components, each on its own
-abbrev AllPlain : List Step → Type 0
+abbrev pub AllPlain : List Step → Type 0
 AllPlain [] = Unit {0}
 AllPlain (step.Literal b ∷ steps) = AllPlain steps
 AllPlain (step.More b ∷ steps) = ⊥
 AllPlain (step.Component c ∷ steps) = AllPlain steps
 AllPlain (step.Group g len ∷ steps) = ⊥
 
-plain_parts : (j : Joined) → AllPlain (parts j)
-plain_parts joined.Nothing = tt
-plain_parts (joined.Byte b) = tt
-plain_parts (joined.Date b) = tt
-plain_parts (joined.Time b) = tt
+append_nil : (xs : List Step) → xs ++ [] ≡ xs
+append_nil [] = refl
+append_nil (x ∷ xs) = ap (λ ys. x ∷ ys) (append_nil xs)
+
+followed_by_none : (ts : Trees) → followed_by ts none ≡ ts
+followed_by_none none = refl
+followed_by_none (more t ts) = ap (more t) (followed_by_none ts)
 
 pub first_step : (s : Step) (steps : List Step) →
     steps_trees (s ∷ steps) ≡ more (tree_at steps_trees s steps) (steps_trees (steps_after s steps))
@@ -126,14 +131,48 @@ plain_row (step.Component c ∷ front) after p e =
     first_step (step.Component c) (front ++ after) ∙ ap (more (component false c)) (plain_row front after p e)
 plain_row (step.Group g len ∷ front) after p e = absurd p
 
+-- steps that are bytes and components, and nothing after them
+pub plain_alone : (steps : List Step) → AllPlain steps → steps_trees steps ≡ leaves steps
+plain_alone steps p =
+    ap steps_trees (sym (append_nil steps)) ∙ plain_row steps [] p refl
+    ∙ ap (followed_by (leaves steps)) (steps_trees-end [] (omega arith)) ∙ followed_by_none (leaves steps)
+
+fraction_row : (p : ℕ) (after : List Step) → steps_trees (fraction_parts p ++ after) ≡ more (fraction_tree p) (steps_trees after)
+fraction_row p after =
+    let inside = step.Literal p ∷ step.Component (Subsecond SUBSECOND) ∷ [] in
+    first_step (step.Group Optional 2) (inside ++ after)
+    ∙ ap (λ ts. more (optional (sequence ts)) (steps_trees after)) (plain_alone inside tt)
+
+second_row : (b p : ℕ) (after : List Step) →
+    steps_trees (second_parts b p ++ after) ≡ followed_by (trees_of (joined.Seconds b p)) (steps_trees after)
+second_row b p after =
+    let second = step.Literal b ∷ step.Component (Second SECOND) ∷ [] in
+    let fraction : steps_trees (fraction_parts p) ≡ more (fraction_tree p) none =
+    fraction_row p [] ∙ ap (more (fraction_tree p)) (steps_trees-end [] (omega arith)) in
+    first_step (step.Group Optional 5) ((second ++ fraction_parts p) ++ after)
+    ∙ ap (λ ts. more (optional (sequence ts)) (steps_trees after))
+    (plain_row second (fraction_parts p) tt refl ∙ ap (followed_by (leaves second)) fraction)
+
+parts_row : (j : Joined) (after : List Step) → further after ≡ [] →
+    steps_trees (parts j ++ after) ≡ followed_by (trees_of j) (steps_trees after)
+parts_row joined.Nothing after e = refl
+parts_row (joined.Byte b) after e = plain_row (parts (joined.Byte b)) after tt e
+parts_row (joined.Component c) after e = plain_row (parts (joined.Component c)) after tt e
+parts_row (joined.Date b) after e = plain_row (parts (joined.Date b)) after tt e
+parts_row (joined.DayFirst b) after e = plain_row (parts (joined.DayFirst b)) after tt e
+parts_row (joined.MonthDay b) after e = plain_row (parts (joined.MonthDay b)) after tt e
+parts_row (joined.Time b) after e = plain_row (parts (joined.Time b)) after tt e
+parts_row (joined.Fraction p) after e = fraction_row p after
+parts_row (joined.Seconds b p) after e = second_row b p after
+
 -- the trees of steps, of which the first ones are read at once
 pub joined_row : (j : Joined) (steps : List Step) → Says j steps → 0 < length (parts j) → length (parts j) ≤ length steps →
-    steps_trees steps ≡ followed_by (leaves (parts j)) (steps_trees (drop (length (parts j)) steps))
+    steps_trees steps ≡ followed_by (trees_of j) (steps_trees (drop (length (parts j)) steps))
 joined_row j steps says some enough =
     let begins = says some enough in
     let after : drop (length (parts j)) steps ≡ begins.0 = ap (drop (length (parts j))) begins.1 ∙ drop_joined (parts j) begins.0 in
-    ap steps_trees begins.1 ∙ plain_row (parts j) begins.0 (plain_parts j) begins.2
-    ∙ ap (λ ys. followed_by (leaves (parts j)) (steps_trees ys)) (sym after)
+    ap steps_trees begins.1 ∙ parts_row j begins.0 begins.2
+    ∙ ap (λ ys. followed_by (trees_of j) (steps_trees ys)) (sym after)
 
 -- A literal's further bytes are as many as stand there.
 further_within : (steps : List Step) → length (further steps) ≤ length steps
@@ -212,19 +251,19 @@ first_and_behind [] x within is = absurd (omega arith)
 first_and_behind (s ∷ left) x within is =
     ap (λ y. y ∷ left) (sym is) ∙ ap (λ ys. x ∷ ys) (sym (behind_is (s ∷ left) (omega arith)))
 
-pub begins_nothing : (front steps : List Step) → length front ≤ 0 → further steps ≡ [] → BeginsWith front steps
-begins_nothing [] steps h e = (steps, refl, e)
-begins_nothing (s ∷ front) steps h e = absurd (omega arith)
+-- steps that are cut after as many as stand in front
+pub begins_so : (front steps first behind : List Step) → first ≡ take (length front) steps → behind ≡ drop (length front) steps →
+    first ≡ front → further behind ≡ [] → BeginsWith front steps
+begins_so front steps first behind is is' same e = (
+  behind,
+  sym (take-append-drop (length front) steps) ∙ ap (λ xs. xs ++ drop (length front) steps) (sym is ∙ same)
+      ∙ ap (λ ys. front ++ ys) (sym is'),
+  e,
+)
 
-pub begins_more : (front steps : List Step) (part s : Step) → 1 ≤ length front → 1 ≤ length steps → part ≡ get_or front 0 part →
-    s ≡ get_or steps 0 s → s ≡ part → BeginsWith (behind_first front) (behind_first steps) → BeginsWith front steps
-begins_more front steps part s some some' is is' same begins =
-    let front_is = first_and_behind front part some is in
-    let steps_is = first_and_behind steps s some' is' in (
-      begins.0,
-      steps_is ∙ ap (λ y. y ∷ behind_first steps) same ∙ ap (λ ys. part ∷ ys) begins.1 ∙ ap (λ xs. xs ++ begins.0) (sym front_is),
-      begins.2,
-    )
+pub begins_one : (s : Step) (steps : List Step) → 1 ≤ length steps → s ≡ get_or steps 0 s → further (behind_first steps) ≡ [] →
+    BeginsWith (s ∷ []) steps
+begins_one s steps some is e = (behind_first steps, first_and_behind steps s some is, e)
 
 module _ (left : List Step) (x : Step) (some : 1 ≤ length left) (is : x ≡ get_or left 0 x) where
   cut_one : (k : ℕ) → (take (1 + k) left ≡ x ∷ take k (behind_first left)) × (drop (1 + k) left ≡ drop k (behind_first left))

@@ -1,2 +1,4 @@
+pub mod Forms
 pub mod Joined
 pub mod Walk
+pub mod Whole

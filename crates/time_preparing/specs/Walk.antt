@@ -6,11 +6,16 @@ use Rattle.std.specs.Borrow.{Bor}
 use Rattle.time_values.specs.Refusal.{Refusal, refusal_of_description}
 use Rattle.time_values.specs.declared.error.ParseFromDescription.{ParseFromDescription}
 use Rattle.time_components.specs.Steps.{further}
-use Rattle.time_components.specs.Tree.{Tree, Trees, literal, component, none, more}
+use Rattle.time_components.specs.Tree.{Tree, Trees, literal, component, sequence, optional, none, more}
+use Rattle.time_components.specs.declared.format_description.Component.TheVariants.{Second, Subsecond}
 use Rattle.time_components.specs.declared.step.Step.{Step}
 use Rattle.time_components.specs.declared.step.Step.TheVariants as step
 use Rattle.time_record.specs.Reading.{Reads, Refuses, ReadsAll, RefusesAll}
 use Rattle.time_record.specs.Record.{Record}
+use Rattle.time_preparing.specs.Joined.{parts}
+use Rattle.time_preparing.specs.declared.joined.Joined.{Joined}
+use Rattle.time_preparing.specs.declared.joined.Joined.TheVariants as joined
+use Rattle.time_preparing.specs.declared.forms.TheConstants.{SECOND, SUBSECOND}
 
 -- trees, and then further trees
 abbrev pub followed_by : Trees → Trees → Trees
@@ -24,6 +29,25 @@ leaves (step.Literal b ∷ steps) = more (literal (b ∷ [])) (leaves steps)
 leaves (step.More b ∷ steps) = more (literal (b ∷ [])) (leaves steps)
 leaves (step.Component c ∷ steps) = more (component false c) (leaves steps)
 leaves (step.Group g len ∷ steps) = leaves steps
+
+-- a fraction of a second after this byte, which may be missing
+abbrev pub fraction_tree : ℕ → Tree
+fraction_tree p =
+    optional (sequence (more (literal (p ∷ [])) (more (component false (Subsecond SUBSECOND)) none)))
+
+-- the trees of steps that are read at once
+abbrev pub trees_of : Joined → Trees
+trees_of joined.Nothing = none
+trees_of (joined.Byte b) = leaves (parts (joined.Byte b))
+trees_of (joined.Component c) = leaves (parts (joined.Component c))
+trees_of (joined.Date b) = leaves (parts (joined.Date b))
+trees_of (joined.DayFirst b) = leaves (parts (joined.DayFirst b))
+trees_of (joined.MonthDay b) = leaves (parts (joined.MonthDay b))
+trees_of (joined.Time b) = leaves (parts (joined.Time b))
+trees_of (joined.Fraction p) = more (fraction_tree p) none
+trees_of (joined.Seconds b p) =
+    more (optional (sequence (more (literal (b ∷ []))
+    (more (component false (Second SECOND)) (more (fraction_tree p) none))))) none
 
 -- the rest and the record of a reading; or nothing is said, and the record is as it was
 abbrev pub MayReadAll : ℕ → Trees → List ℕ → Record → Option (Bor (List ℕ)) → Record → Type 0

@@ -1,12 +1,12 @@
 //! Steps of a description that are read at once.
 ghost use Rattle.std.specs.Prelude.{◌≡◌, [], IsTrue, length, false};
 ghost use Rattle.time_components.specs.Steps.{further};
-ghost use Rattle.time_preparing.specs.Joined.{BeginsWith, parts, Says};
-ghost use Rattle.time_preparing.specs.declared.joined.Joined.TheVariants as joined;
+ghost use Rattle.time_preparing.specs.Joined.{BeginsWith, fraction_parts, month_day_parts, parts, Says, second_parts};
 
-pub(crate) mod fast;
-
-use time_components::{Component, Padding, Step, modifier};
+use crate::forms::{
+    MONTH_NAME, SECOND, SPACED_DAY, SUBSECOND, are_same, date_steps, day_first_steps, time_steps,
+};
+use time_components::{Component, Group, Step};
 
 /// The steps from one on that are read at once, with no walk over them.
 #[derive(Clone, Copy, Debug, PartialEq, Eq)]
@@ -15,10 +15,20 @@ pub(crate) enum Joined {
     Nothing,
     /// A literal of this one byte.
     Byte(u8),
+    /// A component.
+    Component(Component),
     /// A year of four digits, a month and a day, with this byte between them.
     Date(u8),
+    /// A day, the short name of a month and a year of four digits, with this byte between them.
+    DayFirst(u8),
+    /// The short name of a month and a day, where a space may stand for its first digit, with this byte between them.
+    MonthDay(u8),
     /// An hour up to 23, a minute and a second, with this byte between them.
     Time(u8),
+    /// A fraction after this byte, or nothing.
+    Fraction(u8),
+    /// A second after the first byte, and then a fraction after the other or nothing; or nothing at all.
+    Seconds(u8, u8),
 }
 
 impl Default for Joined {
@@ -30,31 +40,6 @@ impl Default for Joined {
     }
 }
 
-const YEAR: modifier::CalendarYearFullExtendedRange = modifier::CalendarYearFullExtendedRange {
-    padding: Padding::Zero,
-    sign_is_mandatory: false,
-};
-
-const MONTH: modifier::MonthNumerical = modifier::MonthNumerical {
-    padding: Padding::Zero,
-};
-
-const DAY: modifier::Day = modifier::Day {
-    padding: Padding::Zero,
-};
-
-const HOUR: modifier::Hour24 = modifier::Hour24 {
-    padding: Padding::Zero,
-};
-
-const MINUTE: modifier::Minute = modifier::Minute {
-    padding: Padding::Zero,
-};
-
-const SECOND: modifier::Second = modifier::Second {
-    padding: Padding::Zero,
-};
-
 impl Joined {
     /// How many steps it is.
     #[inline(always)]
@@ -63,95 +48,59 @@ impl Joined {
     {
         match self {
             Joined::Nothing => 0,
-            Joined::Byte(_) => 1,
-            Joined::Date(_) | Joined::Time(_) => 5,
+            Joined::Byte(_) | Joined::Component(_) => 1,
+            Joined::MonthDay(_) | Joined::Fraction(_) => 3,
+            Joined::Date(_) | Joined::DayFirst(_) | Joined::Time(_) => 5,
+            Joined::Seconds(_, _) => 6,
         }
     }
 }
 
-// The steps of a date with this byte between its parts.
-fn date_steps(between: u8) -> [Step; 5]
-    ensures { result ≡ parts (joined.Date between) }
+// The steps of a month's name and a day.
+fn month_day_steps(between: u8) -> [Step; 3]
+    ensures { result ≡ month_day_parts between }
 {
     [
-        Step::Component(Component::CalendarYearFullExtendedRange(YEAR)),
+        Step::Component(Component::MonthShort(MONTH_NAME)),
         Step::Literal(between),
-        Step::Component(Component::MonthNumerical(MONTH)),
-        Step::Literal(between),
-        Step::Component(Component::Day(DAY)),
+        Step::Component(Component::Day(SPACED_DAY)),
     ]
 }
 
-// The steps of a time with this byte between its parts.
-fn time_steps(between: u8) -> [Step; 5]
-    ensures { result ≡ parts (joined.Time between) }
+// The steps of a fraction that may be missing.
+fn fraction_steps(point: u8) -> [Step; 3]
+    ensures { result ≡ fraction_parts point }
 {
     [
-        Step::Component(Component::Hour24(HOUR)),
-        Step::Literal(between),
-        Step::Component(Component::Minute(MINUTE)),
+        Step::Group(Group::Optional, 2),
+        Step::Literal(point),
+        Step::Component(Component::Subsecond(SUBSECOND)),
+    ]
+}
+
+// The steps of a second and its fraction that may be missing.
+fn second_steps(between: u8, point: u8) -> [Step; 6]
+    ensures { result ≡ second_parts between point }
+{
+    [
+        Step::Group(Group::Optional, 5),
         Step::Literal(between),
         Step::Component(Component::Second(SECOND)),
+        Step::Group(Group::Optional, 2),
+        Step::Literal(point),
+        Step::Component(Component::Subsecond(SUBSECOND)),
     ]
 }
 
 // Whether these steps stand in front of the others, and no literal goes on after them.
-#[tactic(auto, using(crate::proofs::Rows::begins_nothing))]
 fn begins(steps: &[Step], front: &[Step]) -> bool
-    ensures { IsTrue result
-        → BeginsWith front.now steps.now }
+    ensures { IsTrue result → BeginsWith front.now steps.now }
 {
-    let [part, parts @ ..] = front else {
-        return !goes_on(steps);
-    };
-    match steps {
-        [step, behind @ ..] if is_same(step, part) => begins(behind, parts),
-        _ => false,
+    if steps.len() < front.len() {
+        return false;
     }
-}
-
-// Whether a step is this part of what is joined.
-fn is_same(step: &Step, part: &Step) -> bool
-    ensures { IsTrue result → step.now ≡ part.now }
-{
-    match step {
-        Step::Literal(byte) => match part {
-            Step::Literal(other) => *byte == *other,
-            _ => false,
-        },
-        Step::Component(component) => match part {
-            Step::Component(other) => is_same_component(component, other),
-            _ => false,
-        },
-        _ => false,
-    }
-}
-
-// Whether the component is of that variant, with those modifiers.
-macro_rules! is_variant {
-    ($component:expr, $variant:ident, $modifiers:expr) => {
-        match $component {
-            Component::$variant(own) => *own == *$modifiers,
-            _ => false,
-        }
-    };
-}
-
-// Whether a component is this one of those that are joined.
-fn is_same_component(component: &Component, other: &Component) -> bool
-    ensures { IsTrue result → component.now ≡ other.now }
-{
-    match other {
-        Component::CalendarYearFullExtendedRange(year) => {
-            is_variant!(component, CalendarYearFullExtendedRange, year)
-        }
-        Component::MonthNumerical(month) => is_variant!(component, MonthNumerical, month),
-        Component::Day(day) => is_variant!(component, Day, day),
-        Component::Hour24(hour) => is_variant!(component, Hour24, hour),
-        Component::Minute(minute) => is_variant!(component, Minute, minute),
-        Component::Second(second) => is_variant!(component, Second, second),
-        _ => false,
-    }
+    let (first, behind) = steps.split_at(front.len());
+    are_same(first, front) && !goes_on(behind)
 }
 
 // Whether a literal before these steps goes on in them.
@@ -169,12 +118,28 @@ pub(crate) fn joined_at(steps: &[Step]) -> Joined
     ensures { Says result steps.now }
 {
     match steps {
-        [Step::Literal(byte), ..] if begins(steps, &[Step::Literal(*byte)]) => Joined::Byte(*byte),
         [_, Step::Literal(between), ..] if begins(steps, &date_steps(*between)) => {
             Joined::Date(*between)
         }
+        [_, Step::Literal(between), ..] if begins(steps, &day_first_steps(*between)) => {
+            Joined::DayFirst(*between)
+        }
+        [_, Step::Literal(between), ..] if begins(steps, &month_day_steps(*between)) => {
+            Joined::MonthDay(*between)
+        }
         [_, Step::Literal(between), ..] if begins(steps, &time_steps(*between)) => {
             Joined::Time(*between)
+        }
+        [_, Step::Literal(point), ..] if begins(steps, &fraction_steps(*point)) => {
+            Joined::Fraction(*point)
+        }
+        [_, Step::Literal(between), _, _, Step::Literal(point), ..]
+            if begins(steps, &second_steps(*between, *point)) => {
+            Joined::Seconds(*between, *point)
+        }
+        [Step::Literal(byte), behind @ ..] if !goes_on(behind) => Joined::Byte(*byte),
+        [Step::Component(component), behind @ ..] if !goes_on(behind) => {
+            Joined::Component(*component)
         }
         _ => Joined::Nothing,
     }

@@ -1,19 +1,24 @@
 //! Prepared descriptions as formats.
+//!
+//! `fast` makes a value of the numbers of a whole text, with no record, and is asked first where there are no defaults:
+//! what it doesn't answer is read over the record.
 ghost use Rattle.std.specs.Prelude.{◌≡◌, ◌≢◌, ◌⊎◌, [], Ok, Err, MatchResult};
 ghost use Rattle.time_values.specs.Range.{greatest_year};
-ghost use Rattle.time_values.specs.Refusal.{trailing};
+ghost use Rattle.time_values.specs.Refusal.{refusal_of_parsed, trailing};
+ghost use Rattle.time_values.specs.declared.error.TryFromParsed.{TryFromParsed as TryFromParsed_};
 ghost use Rattle.time_components.specs.Steps.{steps_shape};
 ghost use Rattle.time_record.specs.Reading.{Reads, Refuses};
-ghost use Rattle.time_record.specs.Resolution.{IsMoment};
 ghost use Rattle.time_parsing.specs.Outcome.{begun, over_record, seen};
 ghost use Rattle.time_parsing.specs.exact.DescriptionLaws.{tree_exact};
+
+mod fast;
 
 use crate::Prepared;
 use std::convert::TryFrom;
 use time_parsing::Parsable;
 use time_record::Parsed;
-use time_values::OffsetDateTime;
-use time_values::error::{Parse, ParseFromDescription};
+use time_values::error::{Parse, ParseFromDescription, TryFromParsed};
+use time_values::{Date, OffsetDateTime, PlainDateTime, Time};
 
 // The record that a parse begins with: the defaults, or an empty one.
 #[inline(always)]
@@ -27,18 +32,21 @@ fn begin(defaults: Option<Parsed>) -> Parsed
     record
 }
 
-// The date, time and offset of a record that was read up to this rest. Where bytes remain it refuses as
-// `UnexpectedTrailingCharacters`.
+// The value of a record that was read up to this rest. Where bytes remain it refuses as `UnexpectedTrailingCharacters`.
 #[inline(always)]
-fn moment_before(rest: &[u8], parsed: &Parsed) -> Result<OffsetDateTime, Parse>
+fn value_before<V: TryFrom<Parsed, Error = TryFromParsed> + Drop>(
+    rest: &[u8],
+    parsed: &Parsed,
+) -> Result<V, Parse>
     ensures { MatchResult (seen result)
-        (λ v. (rest.now ≡ []) × IsMoment greatest_year parsed.now (Ok v))
-        (λ e. ((rest.now ≢ []) × (e ≡ trailing)) ⊎ ((rest.now ≡ []) × IsMoment greatest_year parsed.now (Err e))) }
+        (λ v. (rest.now ≡ []) × V.try_from_gives parsed.now (Ok v))
+        (λ e. ((rest.now ≢ []) × (e ≡ trailing))
+        ⊎ ((rest.now ≡ []) × ((f : TryFromParsed_) × V.try_from_gives parsed.now (Err f) × (e ≡ refusal_of_parsed f)))) }
 {
     if !rest.is_empty() {
         return Err(ParseFromDescription::UnexpectedTrailingCharacters.into());
     }
-    Ok(OffsetDateTime::try_from(*parsed)?)
+    Ok(V::try_from(*parsed)?)
 }
 
 impl<const N: usize> Parsable for Prepared<N> {
@@ -56,6 +64,46 @@ impl<const N: usize> Parsable for Prepared<N> {
     }
 
     #[inline(always)]
+    fn parse_date(&self, input: &[u8], defaults: Option<Parsed>) -> Result<Date, Parse> {
+        if defaults.is_none() {
+            if let Some(value) = fast::date(self, input) {
+                return Ok(value);
+            }
+        }
+        let mut parsed = begin(defaults);
+        let rest = self.parse_into(input, &mut parsed)?;
+        value_before::<Date>(rest, &parsed)
+    }
+
+    #[inline(always)]
+    fn parse_time(&self, input: &[u8], defaults: Option<Parsed>) -> Result<Time, Parse> {
+        if defaults.is_none() {
+            if let Some(value) = fast::time(self, input) {
+                return Ok(value);
+            }
+        }
+        let mut parsed = begin(defaults);
+        let rest = self.parse_into(input, &mut parsed)?;
+        value_before::<Time>(rest, &parsed)
+    }
+
+    #[inline(always)]
+    fn parse_plain_date_time(
+        &self,
+        input: &[u8],
+        defaults: Option<Parsed>,
+    ) -> Result<PlainDateTime, Parse> {
+        if defaults.is_none() {
+            if let Some(value) = fast::date_time(self, input) {
+                return Ok(value);
+            }
+        }
+        let mut parsed = begin(defaults);
+        let rest = self.parse_into(input, &mut parsed)?;
+        value_before::<PlainDateTime>(rest, &parsed)
+    }
+
+    #[inline(always)]
     fn parse_offset_date_time(
         &self,
         input: &[u8],
@@ -63,7 +111,7 @@ impl<const N: usize> Parsable for Prepared<N> {
     ) -> Result<OffsetDateTime, Parse> {
         let mut parsed = begin(defaults);
         let rest = self.parse_into(input, &mut parsed)?;
-        moment_before(rest, &parsed)
+        value_before::<OffsetDateTime>(rest, &parsed)
     }
 
     ghost exact = { λ s. tree_exact greatest_year (steps_shape s) };

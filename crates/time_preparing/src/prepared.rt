@@ -4,9 +4,11 @@ ghost use Rattle.time_values.specs.Range.{greatest_year};
 ghost use Rattle.time_components.specs.Steps.{steps_shape};
 ghost use Rattle.time_record.specs.Answer.{Answers};
 ghost use Rattle.time_preparing.specs.Joined.{Fits};
+ghost use Rattle.time_preparing.specs.Whole.{Leads};
 
 use crate::joined::{Joined, joined_at};
-use crate::walk::walk_list;
+use crate::walk::walk;
+use crate::whole::{Whole, whole_of};
 use arrayvec::ArrayVec;
 use std::marker::Model;
 use time_components::Step;
@@ -15,23 +17,27 @@ use time_values::error::ParseFromDescription;
 
 /// A description of at most `N` steps that is prepared for many texts.
 ///
-/// It is the steps of the description, in their order. Beside each it knows which steps from there on are read at once.
+/// It is the steps of the description, in their order. Beside each it knows which steps from there on are read at once,
+/// and of all of them whether their texts have one form.
 #[derive(Drop)]
 pub struct Prepared<const N: usize> {
     steps: ArrayVec<Step, N>,
     joined: ArrayVec<Joined, N>,
+    whole: Whole,
 }
 
 impl<const N: usize> Model for Prepared<N> {
     ghost use Rattle.std.specs.Prelude.{◌≡◌, List, length};
     ghost use Rattle.time_preparing.specs.Joined.{Fits};
+    ghost use Rattle.time_preparing.specs.Whole.{Leads};
     ghost use Rattle.time_components.specs.declared.step.Step.{Step};
 
     ghost Value = { List Step };
 
     ghost view = { λ p. p.steps.items };
 
-    ghost invariant = { λ p. Fits p.joined.items p.steps.items × (length p.joined.items ≡ length p.steps.items) };
+    ghost invariant = { λ p. Fits p.joined.items p.steps.items × (length p.joined.items ≡ length p.steps.items)
+        × Leads p.whole p.steps.items };
 }
 
 impl<const N: usize> Prepared<N> {
@@ -53,6 +59,14 @@ impl<const N: usize> Prepared<N> {
         self.steps.as_slice()
     }
 
+    // The form of the whole texts.
+    #[inline(always)]
+    pub(crate) fn whole(&self) -> &Whole
+        ensures { Leads result.now self.now }
+    {
+        &self.whole
+    }
+
     /// Parses a front of the input into the record, and answers the unread rest. A refusal names what does not stand
     /// there, and leaves the record as it was.
     pub fn parse_front_into<'a>(
@@ -63,7 +77,7 @@ impl<const N: usize> Prepared<N> {
         ensures { Answers greatest_year (steps_shape self.now) input.now parsed.old result parsed.new }
     {
         let before = *parsed;
-        match walk_list(self.steps.as_slice(), self.joined.as_slice(), parsed, input) {
+        match walk(self.steps.as_slice(), self.joined.as_slice(), parsed, input) {
             Ok(rest) => Ok(rest),
             Err(fault) => {
                 *parsed = before;
@@ -90,5 +104,6 @@ fn prepare<const N: usize>(steps: &[Step]) -> Prepared<N>
     Prepared {
         steps: kept,
         joined,
+        whole: whole_of(steps),
     }
 }

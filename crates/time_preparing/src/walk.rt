@@ -1,7 +1,9 @@
 //! The walk over the steps of a prepared description.
 //!
-//! It reads what is read at once, and the groups. The first step in a list that is neither, and all after it in that
-//! list, are read by the walk over a description's steps.
+//! It reads what is read at once, as far as that goes. An item that isn't is read by the walk over a description's steps,
+//! and then what follows it is read at once again.
+mod fast;
+
 ghost use Rattle.std.specs.Prelude.{◌≡◌, ◌≤◌, length, drop};
 ghost use Rattle.time_values.specs.Range.{greatest_year};
 ghost use Rattle.time_components.specs.Steps as steps_;
@@ -10,7 +12,7 @@ ghost use Rattle.time_components.specs.Tree.{first_of, optional};
 ghost use Rattle.time_preparing.specs.Joined.{Fits};
 ghost use Rattle.time_preparing.specs.Walk.{Goes, Tells, item_length};
 
-use crate::joined::{Joined, fast};
+use crate::joined::Joined;
 use time_components::{Group, Step};
 use time_record::Parsed;
 use time_values::error::ParseFromDescription;
@@ -48,7 +50,46 @@ fn read_joined<'a>(
 
 /// Reads the steps in front of the input as a list. After a refusal the record may have changed.
 #[cycle(walk)]
-pub(crate) fn walk_list<'a>(
+#[inline(always)]
+pub(crate) fn walk<'a>(
+    steps: &[Step],
+    joined: &[Joined],
+    parsed: &mut Parsed,
+    input: &'a [u8],
+) -> Result<&'a [u8], ParseFromDescription>
+    requires fits { Fits joined.now steps.now }
+    requires each { length joined.now ≡ length steps.now }
+    ensures { Tells greatest_year (steps_shape steps.now) input.now parsed.old result parsed.new }
+{
+    let (count, rest) = read_joined(steps, joined, parsed, input);
+    if count >= steps.len() {
+        return Ok(rest);
+    }
+    let (_, later) = steps.split_at(count);
+    let (_, later_joined) = joined.split_at(count);
+    walk_later(later, later_joined, parsed, rest)
+}
+
+// The same, with no frame of its own where it is called.
+#[cycle(walk)]
+#[inline(never)]
+fn walk_list<'a>(
+    steps: &[Step],
+    joined: &[Joined],
+    parsed: &mut Parsed,
+    input: &'a [u8],
+) -> Result<&'a [u8], ParseFromDescription>
+    requires fits { Fits joined.now steps.now }
+    requires each { length joined.now ≡ length steps.now }
+    ensures { Tells greatest_year (steps_shape steps.now) input.now parsed.old result parsed.new }
+{
+    walk(steps, joined, parsed, input)
+}
+
+// The same, where the first item is not read at once.
+#[cycle(walk)]
+#[inline(never)]
+fn walk_later<'a>(
     steps: &[Step],
     joined: &[Joined],
     parsed: &mut Parsed,
@@ -61,26 +102,46 @@ pub(crate) fn walk_list<'a>(
     let mut left = steps;
     let mut left_joined = joined;
     let mut rest = input;
-    loop {
-        let (count, unread) = read_joined(left, left_joined, parsed, rest);
-        let (_, later) = left.split_at(count);
-        let (_, later_joined) = left_joined.split_at(count);
-        let [step, behind @ ..] = later else {
-            return Ok(unread);
-        };
-        let Step::Group(group, len) = step else {
-            return parsed.parse_steps(unread, later);
-        };
-        let (_, behind_joined) = later_joined.split_at(1);
-        let len = (*len).min(behind.len());
-        let (inside, after) = behind.split_at(len);
-        let (inside_joined, after_joined) = behind_joined.split_at(len);
-        match walk_group(*group, inside, inside_joined, parsed, unread) {
-            Ok(more) => rest = more,
+    while let [step, behind @ ..] = left {
+        let count = 1 + item_len(step, behind);
+        let (item, after) = left.split_at(count);
+        let (item_joined, after_joined) = left_joined.split_at(count);
+        match walk_item(item, item_joined, parsed, rest) {
+            Ok(unread) => rest = unread,
             Err(fault) => return Err(fault),
         }
-        left = after;
-        left_joined = after_joined;
+        let (read, unread) = read_joined(after, after_joined, parsed, rest);
+        let (_, later) = after.split_at(read);
+        let (_, later_joined) = after_joined.split_at(read);
+        left = later;
+        left_joined = later_joined;
+        rest = unread;
+    }
+    Ok(rest)
+}
+
+// Reads the steps of one item. After a refusal the record may have changed.
+#[cycle(walk)]
+#[inline(always)]
+fn walk_item<'a>(
+    steps: &[Step],
+    joined: &[Joined],
+    parsed: &mut Parsed,
+    input: &'a [u8],
+) -> Result<&'a [u8], ParseFromDescription>
+    requires fits { Fits joined.now steps.now }
+    requires each { length joined.now ≡ length steps.now }
+    ensures { Tells greatest_year (steps_shape steps.now) input.now parsed.old result parsed.new }
+{
+    let [step, inside @ ..] = steps else {
+        return parsed.parse_steps(input, steps);
+    };
+    match step {
+        Step::Group(group, len) if *len == inside.len() => {
+            let (_, inside_joined) = joined.split_at(1);
+            walk_group(*group, inside, inside_joined, parsed, input)
+        }
+        _ => parsed.parse_steps(input, steps),
     }
 }
 
@@ -149,7 +210,7 @@ fn walk_first<'a>(
         let count = 1 + item_len(step, behind);
         let (item, after) = left.split_at(count);
         let (item_joined, after_joined) = left_joined.split_at(count);
-        match walk_list(item, item_joined, parsed, input) {
+        match walk_item(item, item_joined, parsed, input) {
             Ok(rest) => return Ok(rest),
             Err(fault) => first_fault = first_fault.or(Some(fault)),
         }

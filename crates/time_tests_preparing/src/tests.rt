@@ -3,7 +3,7 @@ mod alike;
 mod worked;
 
 use std::test::Fail;
-use time_descriptions::{Description, parse_borrowed};
+use time_descriptions::{Description, parse_borrowed, parse_strftime};
 use time_preparing::Prepared;
 
 /// A description with its prepared one.
@@ -15,9 +15,14 @@ pub struct Both {
     pub prepared: Prepared<64>,
 }
 
-/// The description of that text, as it was read and prepared.
+/// The description of that text, as it was read and prepared. With a `%` it is one of strftime.
 pub fn read(text: &[u8]) -> Result<Both, Fail> {
-    let Ok(description) = parse_borrowed::<2, 64>(text) else {
+    let description = if text.contains(&b'%') {
+        parse_strftime::<64>(text).ok()
+    } else {
+        parse_borrowed::<2, 64>(text).ok()
+    };
+    let Some(description) = description else {
         return Err("no description".into());
     };
     match Prepared::from_steps(description.steps()) {

@@ -104,6 +104,38 @@ fn defaults(rt: HostRuntime) -> Result<(), Fail> {
 }
 
 #[test]
+fn logs(rt: HostRuntime) -> Result<(), Fail> {
+    let format = read(
+        b"[day]/[month repr:short]/[year]:[hour]:[minute]:[second] [offset_hour sign:mandatory][offset_minute]",
+    )?.prepared;
+    let moment = OffsetDateTime::parse("04/Mar/2021:05:06:07 -0530", &format)?;
+    assert_eq!(rt; moment.date().to_calendar_date(), (2021, Month::March, 4));
+    assert_eq!(rt; moment.time().as_hms(), (5, 6, 7));
+    assert_eq!(rt; moment.offset().as_hms(), (-5, -30, 0));
+    for text in [
+        "31/Apr/2021:05:06:07 -0530",
+        "04/mar/2021:05:06:07 -0530",
+        "04/Mar/2021:05:06:60 -0530",
+        "04/Mar/2021:05:06:07 -0560",
+        "04/Mar/2021:05:06:07 0530",
+        "04/Mar/2021:05:06:07 -0530 ",
+    ] {
+        assert!(rt; OffsetDateTime::parse(text, &format).is_err());
+    }
+    let format = read(b"%b %e %H:%M:%S")?.prepared;
+    let mut known = time_record::Parsed::new();
+    assert!(rt; known.set_year(2020).is_some());
+    let moment = format.parse_plain_date_time(b"Feb 29 05:06:07", Some(known))?;
+    assert_eq!(rt;
+        moment.date().to_calendar_date(),
+        (2020, Month::February, 29)
+    );
+    let moment = format.parse_plain_date_time(b"Mar  4 05:06:07", Some(known))?;
+    assert_eq!(rt; moment.date().to_calendar_date(), (2020, Month::March, 4));
+    Ok(())
+}
+
+#[test]
 fn room(rt: HostRuntime) -> Result<(), Fail> {
     let both = read(b"[year]-[month]-[day]")?;
     let steps = both.description.steps();

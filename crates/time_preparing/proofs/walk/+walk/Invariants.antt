@@ -7,24 +7,33 @@ use Rattle.time_preparing.proofs.Choosing.{Chooses}
 use Rattle.time_preparing.proofs.walk.+walk.Given as goal
 
 abbrev pub decreases-walk_list : goal.decreases-walk_list
-decreases-walk_list l = 4 * length l.steps.now
+decreases-walk_list l = 8 * length l.steps.now + 3
 
-abbrev pub decreases-walk_first : goal.decreases-walk_first
-decreases-walk_first l = 4 * length l.steps.now + 1
+abbrev pub decreases-walk : goal.decreases-walk
+decreases-walk l = 8 * length l.steps.now + 2
 
-abbrev pub decreases-walk_optional : goal.decreases-walk_optional
-decreases-walk_optional l = 4 * length l.inside.now + 1
+abbrev pub decreases-walk_later : goal.decreases-walk_later
+decreases-walk_later l = 8 * length l.steps.now + 1
+
+abbrev pub decreases-walk_item : goal.decreases-walk_item
+decreases-walk_item l = 8 * length l.steps.now
 
 abbrev pub decreases-walk_group : goal.decreases-walk_group
-decreases-walk_group l = 4 * length l.inside.now + 2
+decreases-walk_group l = 8 * length l.inside.now + 6
 
-abbrev pub invariant-walk_list-loop-later : goal.invariant-walk_list-loop-later
-invariant-walk_list-loop-later l =
+abbrev pub decreases-walk_optional : goal.decreases-walk_optional
+decreases-walk_optional l = 8 * length l.inside.now + 5
+
+abbrev pub decreases-walk_first : goal.decreases-walk_first
+decreases-walk_first l = 8 * length l.steps.now + 5
+
+abbrev pub invariant-walk_later-loop-left : goal.invariant-walk_later-loop-left
+invariant-walk_later-loop-left l =
     Goes greatest_year (steps_trees l.steps) l.fn.input l.fn.parsed (steps_trees l.left) l.rest l.parsed
     × Fits l.left_joined l.left × (length l.left_joined ≡ length l.left) × (length l.left ≤ length l.steps)
 
-abbrev pub decreases-walk_list-loop-later : goal.decreases-walk_list-loop-later
-decreases-walk_list-loop-later l = length l.left
+abbrev pub decreases-walk_later-loop-left : goal.decreases-walk_later-loop-left
+decreases-walk_later-loop-left l = length l.left
 
 abbrev pub invariant-walk_first-loop-left : goal.invariant-walk_first-loop-left
 invariant-walk_first-loop-left l =

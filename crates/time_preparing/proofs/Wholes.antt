@@ -1,0 +1,181 @@
+-- Whole texts of one form: their steps, and the values of their records.
+use Rattle.std.proofs.Common.{◌≡◌, ◌≢◌, ℕ, zero, suc, ◌-◌, ◌≤◌, List, [], ◌∷◌, ◌++◌, length, take, drop, get_or, Bool, true, false, Option, Some, None, Ok, ℤ, pos, negsuc, neg_ℤ, unsigned_abs, inl, inr, refl, ap, sym, ◌∙◌, subst, arith}
+use Rattle.std.specs.Prelude.{◌==◌, nat_le, min}
+use Rattle.std.proofs.lemmas.Bool.{le-leb, eqb-true}
+use Rattle.std.proofs.lemmas.List.{take_all, take-append-drop, drop_all}
+use Rattle.time_values.specs.Dates as Dates
+use Rattle.time_values.specs.Moments.{plain_date, plain_time}
+use Rattle.time_values.specs.Range.{greatest_year}
+use Rattle.time_values.specs.Refusal.{Refusal, Constructs}
+use Rattle.time_values.specs.Times as Times
+use Rattle.time_values.specs.declared.date.Date.{Date}
+use Rattle.time_values.specs.declared.plain_date_time.PlainDateTime.{PlainDateTime}
+use Rattle.time_values.specs.declared.time.Time.{Time}
+use Rattle.time_components.specs.Steps.{group_tree, steps_shape, steps_trees}
+use Rattle.time_components.specs.Tree.{Tree, Trees, component, first_of, sequence, literal, none, more}
+use Rattle.time_components.specs.declared.step.Group.TheVariants.{First, List as List'}
+use Rattle.time_components.specs.declared.step.Step.{Step}
+use Rattle.time_components.specs.declared.step.Step.TheVariants as step
+use Rattle.time_record.specs.Reading.{Reads, ReadsAll}
+use Rattle.time_record.specs.Record.{Record, empty}
+use Rattle.time_record.specs.Resolution.{IsDated, IsTimed, IsPlain}
+use Rattle.time_record.proofs.StepRows.{behind_first, steps_trees-end}
+use Rattle.time_record.proofs.Steps.{first_of-some, ReadsSome-here}
+use Rattle.time_preparing.specs.Forms.{dated_parts, time_parts}
+use Rattle.time_preparing.specs.Walk.{followed_by, leaves}
+use Rattle.time_preparing.specs.Whole.{dated, IsLed, IsWholeSecond, Leads, ReadsWhole, timed, whole_parts}
+use Rattle.time_preparing.specs.declared.forms.Dated.{Dated}
+use Rattle.time_preparing.specs.declared.forms.Dated.TheVariants.{YearFirst, DayFirst}
+use Rattle.time_preparing.specs.declared.whole.Whole.{Whole}
+use Rattle.time_preparing.specs.declared.whole.Whole.TheVariants as whole
+use Rattle.time_preparing.proofs.Parts.{byte_read}
+use Rattle.time_preparing.proofs.Going.{one_as_list, reads_later}
+use Rattle.time_preparing.proofs.Rows.{AllPlain, first_and_behind, group_row, plain_alone}
+
+-- what was constructed
+pub made : {V : Type 0} (o : Option Refusal) (P : V → Type 0) (v : V) → Constructs o P (Ok v) → P v
+made None P v h = h
+made (Some e) P v h = absurd h
+
+-- the values of the records
+
+pub is_dated : (d : Date) → IsDated greatest_year (dated d empty) (Ok d)
+unfolding IsDated
+is_dated d = (refl, refl, refl)
+
+module _ (t : Time) (exact : IsWholeSecond t) where
+  timed_by : (r : Record) → r.subsecond ≡ None → IsTimed (timed t r) (Ok t)
+  unfolding IsTimed
+  timed_by r missing =
+      rw (
+        missing,
+        le-leb (Times.hour t) 23 (omega (arith, t.hour_in)),
+        le-leb (Times.minute t) 59 (omega (arith, t.minute_in)),
+        le-leb (Times.second t) 59 (omega (arith, t.second_in)),
+      ) (refl, refl, refl, exact)
+
+  pub is_timed : IsTimed (timed t empty) (Ok t)
+  is_timed = timed_by empty refl
+
+  -- a date and a time
+  pub is_plain : (d : Date) (p : PlainDateTime) → plain_date p ≡ d → plain_time p ≡ t →
+      IsPlain greatest_year (timed t (dated d empty)) (Ok p)
+  unfolding IsPlain IsDated
+  is_plain d p same_date same_time =
+      inr (d, (refl, refl, refl), inr (t, timed_by (dated d empty) refl, (same_date, same_time)))
+
+-- rows of leaves
+
+leaves_joined : (xs ys : List Step) → leaves (xs ++ ys) ≡ followed_by (leaves xs) (leaves ys)
+leaves_joined [] ys = refl
+leaves_joined (step.Literal b ∷ xs) ys = ap (more (literal (b ∷ []))) (leaves_joined xs ys)
+leaves_joined (step.More b ∷ xs) ys = ap (more (literal (b ∷ []))) (leaves_joined xs ys)
+leaves_joined (step.Component c ∷ xs) ys = ap (more (component false c)) (leaves_joined xs ys)
+leaves_joined (step.Group g len ∷ xs) ys = leaves_joined xs ys
+
+-- rows with a byte between them
+pub rows_read : (xs ys : List Step) (gap : ℕ) (b mid behind rest : List ℕ) (r q s : Record) →
+    ReadsAll greatest_year (leaves xs) b r mid q → mid ≡ gap ∷ behind → ReadsAll greatest_year (leaves ys) behind q rest s →
+    ReadsAll greatest_year (leaves (xs ++ step.Literal gap ∷ ys)) b r rest s
+rows_read xs ys gap b mid behind rest r q s first is second =
+    rw leaves_joined (reads_later greatest_year (more (literal (gap ∷ [])) (leaves ys)) (leaves xs) b r mid q rest s first
+    (byte_read greatest_year (leaves ys) mid behind rest gap q s is second))
+
+pub no_bytes : (b : List ℕ) → (length b == 0) ≡ true → b ≡ []
+no_bytes [] e = refl
+no_bytes (x ∷ b) e = absurd (omega (arith, eqb-true (length (x ∷ b)) 0 e))
+
+-- Which steps lead.
+
+plain_joined : (xs ys : List Step) → AllPlain xs → AllPlain ys → AllPlain (xs ++ ys)
+plain_joined [] ys p q = q
+plain_joined (step.Literal b ∷ xs) ys p q = plain_joined xs ys p q
+plain_joined (step.More b ∷ xs) ys p q = absurd p
+plain_joined (step.Component c ∷ xs) ys p q = plain_joined xs ys p q
+plain_joined (step.Group g len ∷ xs) ys p q = absurd p
+
+plain_date_form : (form : Dated) → AllPlain (dated_parts form)
+plain_date_form (YearFirst b) = tt
+plain_date_form (DayFirst b) = tt
+
+plain_whole : (w : Whole) → AllPlain (whole_parts w)
+plain_whole whole.Nothing = tt
+plain_whole (whole.Date form) = plain_date_form form
+plain_whole (whole.Time b) = tt
+plain_whole (whole.Plain form between b) = plain_joined (dated_parts form) (step.Literal between ∷ time_parts b) (plain_date_form form) tt
+
+-- what the leaves of the form read, these steps read
+reads_form : (w : Whole) (steps : List Step) → steps ≡ whole_parts w → (b : List ℕ) (r : Record) (rest : List ℕ) (new : Record) →
+    ReadsAll greatest_year (leaves (whole_parts w)) b r rest new → Reads greatest_year (steps_shape steps) b r rest new
+unfolding Reads
+reads_form w steps is b r rest new h = rw (is, plain_alone (whole_parts w) (plain_whole w)) h
+
+pub leads : (w : Whole) (list steps : List Step) → list ≡ whole_parts w → IsLed list steps → Leads w steps
+leads whole.Nothing list steps is led = tt
+leads (whole.Date form) list steps is led = λ b r rest new h. led b r rest new (reads_form (whole.Date form) list is b r rest new h)
+leads (whole.Time t) list steps is led = λ b r rest new h. led b r rest new (reads_form (whole.Time t) list is b r rest new h)
+leads (whole.Plain form between t) list steps is led =
+    λ b r rest new h. led b r rest new (reads_form (whole.Plain form between t) list is b r rest new h)
+
+-- the use of it
+pub led : (w : Whole) (steps : List Step) → Leads w steps → w ≢ whole.Nothing → (b : List ℕ) (r : Record) (rest : List ℕ) (new : Record) →
+    ReadsAll greatest_year (leaves (whole_parts w)) b r rest new → Reads greatest_year (steps_shape steps) b r rest new
+led whole.Nothing steps leads some = absurd (some refl)
+led (whole.Date form) steps leads some = leads
+led (whole.Time t) steps leads some = leads
+led (whole.Plain form between t) steps leads some = leads
+
+-- a choice that begins with a list, and is all of the steps
+module _ (steps : List Step) (choice list : Step) (all len : ℕ) (some : 1 ≤ length steps) (is : choice ≡ get_or steps 0 choice)
+    (more_some : 1 ≤ length (behind_first steps)) (is' : list ≡ get_or (behind_first steps) 0 list)
+    (chooses : choice ≡ step.Group First all) (lists : list ≡ step.Group List' len) where
+  pub first_leads : (first : List Step) → all ≡ length (behind_first steps) → len ≤ length (behind_first (behind_first steps)) →
+      first ≡ take len (behind_first (behind_first steps)) → IsLed first steps
+  unfolding Reads
+  first_leads first whole within cut = λ b r rest new h.
+      let items = behind_first steps in
+      let inside = behind_first items in
+      let nothing : [] ≡ drop all items = sym (drop_all all items (omega arith)) in
+      let outer = group_row steps choice some is First all all items [] chooses (omega arith) (sym (take_all all items (omega arith))) nothing in
+      let inner = group_row items list more_some is' List' len len first (drop len inside) lists (omega arith) cut refl in
+      let chosen : Reads greatest_year (first_of (steps_trees items)) b r rest new =
+      rw inner (first_of-some greatest_year b r (more (sequence (steps_trees first)) (steps_trees (drop len inside))) rest new
+      (ReadsSome-here greatest_year (sequence (steps_trees first)) (steps_trees (drop len inside)) b r rest new h)) in
+      rw (outer, steps_trees-end [] (omega arith)) (one_as_list greatest_year (first_of (steps_trees items)) b r rest new chosen)
+
+-- whole texts
+
+whole_end : (w : Whole) (b rest : List ℕ) (q : Record) (P : Record → Type 0) → w ≢ whole.Nothing →
+    ReadsAll greatest_year (leaves (whole_parts w)) b empty rest q → rest ≡ [] → P q → ReadsWhole w b P
+whole_end w b rest q P some reads end p = (some, q, subst (λ x. ReadsAll greatest_year (leaves (whole_parts w)) b empty x q) end reads, p)
+
+date_some : (form : Dated) → whole.Date form ≢ whole.Nothing
+date_some form e = cc
+
+time_some : (t : ℕ) → whole.Time t ≢ whole.Nothing
+time_some t e = cc
+
+plain_some : (form : Dated) (between t : ℕ) → whole.Plain form between t ≢ whole.Nothing
+plain_some form between t e = cc
+
+pub whole_date : (form : Dated) (b rest : List ℕ) (d : Date) →
+    ((r : Record) → ReadsAll greatest_year (leaves (dated_parts form)) b r rest (dated d r)) → rest ≡ [] →
+    ReadsWhole (whole.Date form) b (λ r. IsDated greatest_year r (Ok d))
+whole_date form b rest d reads end =
+    whole_end (whole.Date form) b rest (dated d empty) (λ r. IsDated greatest_year r (Ok d)) (date_some form) (reads empty) end (is_dated d)
+
+pub whole_time : (between : ℕ) (b rest : List ℕ) (t : Time) → IsWholeSecond t →
+    ((r : Record) → ReadsAll greatest_year (leaves (time_parts between)) b r rest (timed t r)) → rest ≡ [] →
+    ReadsWhole (whole.Time between) b (λ r. IsTimed r (Ok t))
+whole_time between b rest t exact reads end =
+    whole_end (whole.Time between) b rest (timed t empty) (λ r. IsTimed r (Ok t)) (time_some between) (reads empty) end (is_timed t exact)
+
+pub whole_plain : (form : Dated) (gap between : ℕ) (b mid behind rest : List ℕ) (d : Date) (t : Time) (p : PlainDateTime) → IsWholeSecond t →
+    ((r : Record) → ReadsAll greatest_year (leaves (dated_parts form)) b r mid (dated d r)) → mid ≡ gap ∷ behind →
+    ((r : Record) → ReadsAll greatest_year (leaves (time_parts between)) behind r rest (timed t r)) → rest ≡ [] →
+    plain_date p ≡ d → plain_time p ≡ t →
+    ReadsWhole (whole.Plain form gap between) b (λ r. IsPlain greatest_year r (Ok p))
+whole_plain form gap between b mid behind rest d t p exact reads is read_time end same_date same_time =
+    whole_end (whole.Plain form gap between) b rest (timed t (dated d empty)) (λ r. IsPlain greatest_year r (Ok p)) (plain_some form gap between)
+    (rows_read (dated_parts form) (time_parts between) gap b mid behind rest empty (dated d empty) (timed t (dated d empty))
+    (reads empty) is (read_time (dated d empty))) end (is_plain t exact d p same_date same_time)

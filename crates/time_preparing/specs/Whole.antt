@@ -1,0 +1,52 @@
+-- Descriptions whose texts have one form each, from their first byte to their last.
+use Rattle.std.specs.Prelude.{◌≡◌, ◌≢◌, ℕ, List, [], ◌∷◌, ◌++◌, Some}
+use Rattle.time_components.specs.Steps.{steps_shape}
+use Rattle.time_components.specs.declared.step.Step.{Step}
+use Rattle.time_components.specs.declared.step.Step.TheVariants as step
+use Rattle.time_record.specs.Reading.{Reads, ReadsAll}
+use Rattle.time_record.specs.Record.{Record, empty}
+use Rattle.time_values.specs.Dates as Dates
+use Rattle.time_values.specs.Range.{greatest_year}
+use Rattle.time_values.specs.Times as Times
+use Rattle.time_values.specs.declared.date.Date.{Date}
+use Rattle.time_values.specs.declared.time.Time.{Time}
+use Rattle.time_preparing.specs.Forms.{dated_parts, time_parts}
+use Rattle.time_preparing.specs.Walk.{leaves}
+use Rattle.time_preparing.specs.declared.whole.Whole.{Whole}
+use Rattle.time_preparing.specs.declared.whole.Whole.TheVariants as whole
+
+-- the steps of the form
+abbrev pub whole_parts : Whole → List Step
+whole_parts whole.Nothing = []
+whole_parts (whole.Date form) = dated_parts form
+whole_parts (whole.Time b) = time_parts b
+whole_parts (whole.Plain form between b) = dated_parts form ++ step.Literal between ∷ time_parts b
+
+-- What the list of these steps reads, the list of the others reads.
+abbrev pub IsLed : List Step → List Step → Type 0
+IsLed list steps = (bytes : List ℕ) (r : Record) (rest : List ℕ) (new : Record)
+    → Reads greatest_year (steps_shape list) bytes r rest new → Reads greatest_year (steps_shape steps) bytes r rest new
+
+-- What the steps of the form read in turn, the tree of the steps reads.
+abbrev pub Leads : Whole → List Step → Type 0
+Leads whole.Nothing steps = Unit {0}
+Leads w steps = (bytes : List ℕ) (r : Record) (rest : List ℕ) (new : Record)
+    → ReadsAll greatest_year (leaves (whole_parts w)) bytes r rest new
+    → Reads greatest_year (steps_shape steps) bytes r rest new
+
+-- The form reads the whole of the bytes over an empty record, which has that property then.
+abbrev pub ReadsWhole : Whole → List ℕ → (Record → Type 0) → Type 0
+ReadsWhole w bytes P =
+    (w ≢ whole.Nothing) × (r : Record) × ReadsAll greatest_year (leaves (whole_parts w)) bytes empty [] r × P r
+
+-- the record with a date
+abbrev pub dated : Date → Record → Record
+dated d r = record r { year = Some (Dates.year d); month = Some (Dates.month d); day = Some (Dates.day d) }
+
+-- with a time up to its second
+abbrev pub timed : Time → Record → Record
+timed t r = record r { hour_24 = Some (Times.hour t); minute = Some (Times.minute t); second = Some (Times.second t) }
+
+-- no nanosecond
+abbrev pub IsWholeSecond : Time → Type 0
+IsWholeSecond t = Times.nanosecond t ≡ 0

@@ -1,0 +1,174 @@
+//! Forms of dates, times and offsets whose parts stand at fixed places, and the steps that each is written by.
+ghost use Rattle.std.specs.Prelude.{◌≡◌, IsTrue};
+ghost use Rattle.time_preparing.specs.Forms.{date_parts, day_first_parts, time_parts};
+
+pub(crate) mod fast;
+
+use std::num::NonZero;
+use time_components::{Component, Padding, Step, SubsecondDigits, modifier};
+use time_values::Month;
+
+/// A date, with one byte between its parts.
+#[derive(Clone, Copy, Debug, PartialEq, Eq)]
+pub(crate) enum Dated {
+    /// A year of four digits, a month and a day, as `2021-03-04`.
+    YearFirst(u8),
+    /// A day, the short name of a month and a year of four digits, as `04/Mar/2021`.
+    DayFirst(u8),
+}
+
+/// The numbers of a date.
+#[derive(Clone, Copy)]
+pub(crate) struct DateNumbers {
+    pub year: i32,
+    pub month: Month,
+    pub day: NonZero<u8>,
+}
+
+/// The numbers of a time.
+#[derive(Clone, Copy)]
+pub(crate) struct ClockNumbers {
+    pub hour: u8,
+    pub minute: u8,
+    pub second: u8,
+}
+
+pub(crate) const YEAR: modifier::CalendarYearFullExtendedRange =
+    modifier::CalendarYearFullExtendedRange {
+        padding: Padding::Zero,
+        sign_is_mandatory: false,
+    };
+
+pub(crate) const MONTH: modifier::MonthNumerical = modifier::MonthNumerical {
+    padding: Padding::Zero,
+};
+
+pub(crate) const MONTH_NAME: modifier::MonthShort = modifier::MonthShort {
+    case_sensitive: true,
+};
+
+pub(crate) const DAY: modifier::Day = modifier::Day {
+    padding: Padding::Zero,
+};
+
+pub(crate) const SPACED_DAY: modifier::Day = modifier::Day {
+    padding: Padding::Space,
+};
+
+pub(crate) const HOUR: modifier::Hour24 = modifier::Hour24 {
+    padding: Padding::Zero,
+};
+
+pub(crate) const MINUTE: modifier::Minute = modifier::Minute {
+    padding: Padding::Zero,
+};
+
+pub(crate) const SECOND: modifier::Second = modifier::Second {
+    padding: Padding::Zero,
+};
+
+pub(crate) const SUBSECOND: modifier::Subsecond = modifier::Subsecond {
+    digits: SubsecondDigits::OneOrMore,
+};
+
+/// The steps of a date whose year stands first.
+pub(crate) fn date_steps(between: u8) -> [Step; 5]
+    ensures { result ≡ date_parts between }
+{
+    [
+        Step::Component(Component::CalendarYearFullExtendedRange(YEAR)),
+        Step::Literal(between),
+        Step::Component(Component::MonthNumerical(MONTH)),
+        Step::Literal(between),
+        Step::Component(Component::Day(DAY)),
+    ]
+}
+
+/// The steps of a date whose day stands first.
+pub(crate) fn day_first_steps(between: u8) -> [Step; 5]
+    ensures { result ≡ day_first_parts between }
+{
+    [
+        Step::Component(Component::Day(DAY)),
+        Step::Literal(between),
+        Step::Component(Component::MonthShort(MONTH_NAME)),
+        Step::Literal(between),
+        Step::Component(Component::CalendarYearFullExtendedRange(YEAR)),
+    ]
+}
+
+/// The steps of a time.
+pub(crate) fn time_steps(between: u8) -> [Step; 5]
+    ensures { result ≡ time_parts between }
+{
+    [
+        Step::Component(Component::Hour24(HOUR)),
+        Step::Literal(between),
+        Step::Component(Component::Minute(MINUTE)),
+        Step::Literal(between),
+        Step::Component(Component::Second(SECOND)),
+    ]
+}
+
+/// Whether these are the same steps.
+pub(crate) fn are_same(steps: &[Step], others: &[Step]) -> bool
+    ensures { IsTrue result → steps.now ≡ others.now }
+{
+    let [other, others_behind @ ..] = others else {
+        return steps.is_empty();
+    };
+    match steps {
+        [step, behind @ ..] if is_same(step, other) => are_same(behind, others_behind),
+        _ => false,
+    }
+}
+
+/// Whether a step is this one of those that are joined.
+pub(crate) fn is_same(step: &Step, part: &Step) -> bool
+    ensures { IsTrue result → step.now ≡ part.now }
+{
+    match step {
+        Step::Literal(byte) => match part {
+            Step::Literal(other) => *byte == *other,
+            _ => false,
+        },
+        Step::Component(component) => match part {
+            Step::Component(other) => is_same_component(component, other),
+            _ => false,
+        },
+        Step::Group(group, len) => match part {
+            Step::Group(other, other_len) => *group == *other && *len == *other_len,
+            _ => false,
+        },
+        _ => false,
+    }
+}
+
+// Whether the component is of that variant, with those modifiers.
+macro_rules! is_variant {
+    ($component:expr, $variant:ident, $modifiers:expr) => {
+        match $component {
+            Component::$variant(own) => *own == *$modifiers,
+            _ => false,
+        }
+    };
+}
+
+// Whether a component is this one of those that are joined.
+fn is_same_component(component: &Component, other: &Component) -> bool
+    ensures { IsTrue result → component.now ≡ other.now }
+{
+    match other {
+        Component::CalendarYearFullExtendedRange(year) => {
+            is_variant!(component, CalendarYearFullExtendedRange, year)
+        }
+        Component::MonthNumerical(month) => is_variant!(component, MonthNumerical, month),
+        Component::MonthShort(month) => is_variant!(component, MonthShort, month),
+        Component::Day(day) => is_variant!(component, Day, day),
+        Component::Hour24(hour) => is_variant!(component, Hour24, hour),
+        Component::Minute(minute) => is_variant!(component, Minute, minute),
+        Component::Second(second) => is_variant!(component, Second, second),
+        Component::Subsecond(fraction) => is_variant!(component, Subsecond, fraction),
+        _ => false,
+    }
+}

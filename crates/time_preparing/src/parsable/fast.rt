@@ -1,0 +1,41 @@
+//! Whole texts of one form, as values with no record.
+//!
+//! Each function answers what the text says by the record, or `None`: not this form.
+ghost use Rattle.std.specs.Prelude.{IfSome, Ok};
+ghost use Rattle.time_components.specs.Steps.{steps_shape};
+ghost use Rattle.time_record.specs.Reading.{Reads, Refuses};
+ghost use Rattle.time_record.specs.Record.{empty};
+ghost use Rattle.time_record.specs.Resolution.{IsDated, IsPlain, IsTimed};
+ghost use Rattle.time_values.specs.Range.{greatest_year};
+ghost use Rattle.time_parsing.specs.Outcome.{IsOutcome};
+
+use crate::Prepared;
+use crate::whole::fast;
+use time_values::{Date, PlainDateTime, Time};
+
+/// The date of a whole text. `None`: not this form.
+#[inline(always)]
+pub(super) fn date<const N: usize>(format: &Prepared<N>, input: &[u8]) -> Option<Date>
+    ensures { IfSome result (λ v. IsOutcome (IsDated greatest_year) (Reads greatest_year (steps_shape format.now))
+        (Refuses greatest_year (steps_shape format.now)) input.now empty (Ok v)) }
+{
+    fast::date(format.whole(), input)
+}
+
+/// The time of a whole text. `None`: not this form.
+#[inline(always)]
+pub(super) fn time<const N: usize>(format: &Prepared<N>, input: &[u8]) -> Option<Time>
+    ensures { IfSome result (λ v. IsOutcome IsTimed (Reads greatest_year (steps_shape format.now))
+        (Refuses greatest_year (steps_shape format.now)) input.now empty (Ok v)) }
+{
+    fast::time(format.whole(), input)
+}
+
+/// The date and time of a whole text. `None`: not this form.
+#[inline(always)]
+pub(super) fn date_time<const N: usize>(format: &Prepared<N>, input: &[u8]) -> Option<PlainDateTime>
+    ensures { IfSome result (λ v. IsOutcome (IsPlain greatest_year) (Reads greatest_year (steps_shape format.now))
+        (Refuses greatest_year (steps_shape format.now)) input.now empty (Ok v)) }
+{
+    fast::date_time(format.whole(), input)
+}

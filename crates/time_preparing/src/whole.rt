@@ -1,0 +1,30 @@
+//! Descriptions whose texts have one form each, from their first byte to their last.
+ghost use Rattle.time_preparing.specs.Whole.{Leads};
+
+pub(crate) mod fast;
+
+use crate::forms::Dated;
+use time_components::Step;
+
+/// The form of a whole text.
+#[derive(Clone, Copy, Debug, PartialEq, Eq)]
+pub(crate) enum Whole {
+    /// None of these.
+    Nothing,
+    /// A date.
+    Date(Dated),
+    /// A time with this byte between its parts.
+    Time(u8),
+    /// A date, this byte, and a time.
+    Plain(Dated, u8, u8),
+}
+
+/// The form of the texts that these steps read.
+pub(crate) fn whole_of(steps: &[Step]) -> Whole
+    ensures { Leads result steps.now }
+{
+    match fast::whole(steps) {
+        Some(whole) => whole,
+        None => Whole::Nothing,
+    }
+}

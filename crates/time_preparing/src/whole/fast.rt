@@ -1,0 +1,187 @@
+//! Whole texts of one form, read with no record.
+//!
+//! `form` answers a form of steps, and each reader the value that the record of the whole text resolves to, or `None`.
+ghost use Rattle.std.specs.Prelude.{◌≡◌, IfSome, Ok};
+ghost use Rattle.time_values.specs.Range.{greatest_year};
+ghost use Rattle.time_record.specs.Record.{Record};
+ghost use Rattle.time_record.specs.Reading.{ReadsAll};
+ghost use Rattle.time_record.specs.Resolution.{IsDated, IsPlain, IsTimed};
+ghost use Rattle.time_preparing.specs.Forms.{dated_parts, time_parts};
+ghost use Rattle.time_preparing.specs.Walk.{leaves};
+ghost use Rattle.time_preparing.specs.Whole.{dated, IsLed, IsWholeSecond, Leads, ReadsWhole, timed, whole_parts};
+ghost use Rattle.time_components.specs.declared.step.Step.TheVariants as step_;
+
+use super::Whole;
+use crate::forms::fast::{self, after, clock};
+use crate::forms::{Dated, are_same, date_steps, day_first_steps, time_steps};
+use time_components::{Group, Step};
+use time_values::{Date, PlainDateTime, Time};
+
+/// The form of the texts that these steps read; where they are a choice that begins with a list, of those that this reads.
+/// `None`: none of the known forms.
+pub(super) fn whole(steps: &[Step]) -> Option<Whole>
+    ensures { IfSome result (λ whole. Leads whole steps.now) }
+{
+    match first_list(steps) {
+        Some(list) => {
+            let found = form(list)?;
+            Some(found)
+        }
+        None => {
+            let own = form(steps)?;
+            Some(own)
+        }
+    }
+}
+
+// The steps of the first list, where all of the steps are a choice that begins with it.
+fn first_list(steps: &[Step]) -> Option<&[Step]>
+    ensures { IfSome result (λ list. IsLed list.now steps.now) }
+{
+    let [choice, items @ ..] = steps else {
+        return None;
+    };
+    let [list, inside @ ..] = items else {
+        return None;
+    };
+    let all = len_of(choice, Group::First)?;
+    let len = len_of(list, Group::List)?;
+    if all != items.len() || len > inside.len() {
+        return None;
+    }
+    let (first, _) = inside.split_at(len);
+    Some(first)
+}
+
+// How many steps such a group has.
+fn len_of(step: &Step, wanted: Group) -> Option<usize>
+    ensures { IfSome result (λ len. step.now ≡ step_.Group wanted len) }
+{
+    match step {
+        Step::Group(group, len) if *group == wanted => Some(*len),
+        _ => None,
+    }
+}
+
+// The form of these steps.
+fn form(steps: &[Step]) -> Option<Whole>
+    ensures { IfSome result (λ whole. steps.now ≡ whole_parts whole) }
+{
+    if let Some(between) = time_form(steps) {
+        return Some(Whole::Time(between));
+    }
+    if steps.len() < 5 {
+        return None;
+    }
+    let (first, behind) = steps.split_at(5);
+    let date = dated_form(first)?;
+    let [step, others @ ..] = behind else {
+        return Some(Whole::Date(date));
+    };
+    let Step::Literal(between) = step else {
+        return None;
+    };
+    let in_time = time_form(others)?;
+    Some(Whole::Plain(date, *between, in_time))
+}
+
+// The form of a date.
+fn dated_form(steps: &[Step]) -> Option<Dated>
+    ensures { IfSome result (λ form. steps.now ≡ dated_parts form) }
+{
+    let [_, Step::Literal(between), ..] = steps else {
+        return None;
+    };
+    if are_same(steps, &date_steps(*between)) {
+        return Some(Dated::YearFirst(*between));
+    }
+    if are_same(steps, &day_first_steps(*between)) {
+        return Some(Dated::DayFirst(*between));
+    }
+    None
+}
+
+// The byte in a time.
+fn time_form(steps: &[Step]) -> Option<u8>
+    ensures { IfSome result (λ between. steps.now ≡ time_parts between) }
+{
+    match steps {
+        [_, Step::Literal(between), ..] if are_same(steps, &time_steps(*between)) => {
+            Some(*between)
+        }
+        _ => None,
+    }
+}
+
+// A date of the calendar in front of the input, and the rest.
+#[inline(always)]
+fn date_of<'a>(form: &Dated, input: &'a [u8]) -> Option<(Date, &'a [u8])>
+    ensures { IfSome result (λ f. (r : Record) → ReadsAll greatest_year (leaves (dated_parts form.now))
+        input.now r f.1.now (dated f.0 r)) }
+{
+    let (numbers, rest) = fast::date(form, input)?;
+    match Date::from_calendar_date(numbers.year, numbers.month, numbers.day.get()) {
+        Ok(date) => Some((date, rest)),
+        Err(_) => None,
+    }
+}
+
+// A time of the clock in front of the input, and the rest. A leap second is none.
+#[inline(always)]
+fn time_of(between: u8, input: &[u8]) -> Option<(Time, &[u8])>
+    ensures reads { IfSome result (λ f. (r : Record) → ReadsAll greatest_year (leaves (time_parts between))
+        input.now r f.1.now (timed f.0 r)) }
+    ensures whole { IfSome result (λ f. IsWholeSecond f.0) }
+{
+    let (numbers, rest) = clock(between, input)?;
+    match Time::from_hms_nano(numbers.hour, numbers.minute, numbers.second, 0) {
+        Ok(time) => Some((time, rest)),
+        Err(_) => None,
+    }
+}
+
+/// The date of a whole text. `None`: not this form.
+#[inline(always)]
+pub(crate) fn date(whole: &Whole, input: &[u8]) -> Option<Date>
+    ensures { IfSome result (λ v. ReadsWhole whole.now input.now (λ r. IsDated greatest_year r (Ok v))) }
+{
+    let Whole::Date(form) = whole else {
+        return None;
+    };
+    let (date, rest) = date_of(form, input)?;
+    if !rest.is_empty() {
+        return None;
+    }
+    Some(date)
+}
+
+/// The time of a whole text. `None`: not this form.
+#[inline(always)]
+pub(crate) fn time(whole: &Whole, input: &[u8]) -> Option<Time>
+    ensures { IfSome result (λ v. ReadsWhole whole.now input.now (λ r. IsTimed r (Ok v))) }
+{
+    let Whole::Time(between) = whole else {
+        return None;
+    };
+    let (time, rest) = time_of(*between, input)?;
+    if !rest.is_empty() {
+        return None;
+    }
+    Some(time)
+}
+
+/// The date and time of a whole text. `None`: not this form.
+#[inline(always)]
+pub(crate) fn date_time(whole: &Whole, input: &[u8]) -> Option<PlainDateTime>
+    ensures { IfSome result (λ v. ReadsWhole whole.now input.now (λ r. IsPlain greatest_year r (Ok v))) }
+{
+    let Whole::Plain(form, between, in_time) = whole else {
+        return None;
+    };
+    let (date, behind) = date_of(form, input)?;
+    let (time, rest) = time_of(*in_time, after(behind, *between)?)?;
+    if !rest.is_empty() {
+        return None;
+    }
+    Some(PlainDateTime::new(date, time))
+}

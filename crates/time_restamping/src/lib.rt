@@ -11,5 +11,5 @@ mod reason;
 pub use form::{Form, Unit, Writing, write_moment};
 pub use job::{Job, Verdict};
 pub use naming::{FormatFault, find_reading, find_writing};
-pub use reading::{MOST_STEPS, Reading, Said, read};
+pub use reading::{MOST_STEPS, Reading, Said, read, read_in_turn};
 pub use reason::Reason;

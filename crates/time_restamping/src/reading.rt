@@ -143,7 +143,7 @@ fn read_others(
 }
 
 /// What the text says by the first of the formats by which it says something; the reason is that of the first.
-pub(crate) fn read_in_turn(
+pub fn read_in_turn(
     first: &Reading,
     others: &[Reading],
     is_open: bool,

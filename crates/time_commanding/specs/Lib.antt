@@ -1,0 +1,5 @@
+pub mod Values
+pub mod Fault
+pub mod Options
+pub mod Request
+pub mod Rewriting

@@ -1,0 +1,99 @@
+-- What the values of options mean. `Y` is the greatest year.
+use Rattle.std.specs.Prelude.{◌≡◌, ℕ, ◌-◌, ℤ, Bool, false, true, MatchBool, List, [], ◌∷◌, codes, if◌then◌else◌, Option, None, Some, Result, Ok, Err, MatchResult, IsSomeAnd}
+use Rattle.std.specs.Char.{is_ascii_digit}
+use Rattle.std.specs.Option.{option_and_then, option_map}
+use Rattle.std.specs.Result.{result_ok}
+use Rattle.std.specs.Str.{bytes_eq}
+use Rattle.time_digits.specs.declared.Padding.TheVariants as padding
+use Rattle.time_components.specs.Tree.{Tree, literal, component, sequence, trees}
+use Rattle.time_components.specs.declared.format_description.Component.TheVariants as kind
+use Rattle.time_parsing.specs.Outcome.{IsOutcome}
+use Rattle.time_record.specs.Reading.{Reads, Refuses}
+use Rattle.time_record.specs.Record.{Record, Entry, empty, put, put_all, year_is, offset_hour_is, offset_minute_is, offset_second_is}
+use Rattle.time_record.specs.Resolution.{IsOffset}
+use Rattle.time_restamping.specs.Reading.{Says, IsReadInTurn}
+use Rattle.time_restamping.specs.Reason.{Reason, seen}
+use Rattle.time_restamping.specs.declared.reason.Reason as declared
+use Rattle.time_restamping.specs.declared.reading.Reading.{Reading}
+use Rattle.time_restamping.specs.declared.reading.Reading.TheVariants.{Rfc3339}
+use Rattle.time_restamping.specs.declared.reading.Said.{Said}
+use Rattle.time_values.specs.Offsets as Offsets
+use Rattle.time_values.specs.Refusal.{Refusal}
+use Rattle.time_values.specs.declared.offset_date_time.OffsetDateTime.{OffsetDateTime}
+use Rattle.time_values.specs.declared.utc_offset.UtcOffset.{UtcOffset}
+use Rattle.time_writing.specs.declared.fraction.FractionDigits.{FractionDigits}
+use Rattle.time_writing.specs.declared.fraction.FractionDigits.TheVariants.{Auto, Exactly}
+
+-- the only byte of a text
+abbrev pub only_byte : List ℕ → Option ℕ
+only_byte (byte ∷ []) = Some byte
+only_byte bytes = None
+
+-- the byte that ends a field: `\t` is TAB
+abbrev pub delimiter_of : List ℕ → Option ℕ
+delimiter_of text = if bytes_eq text (codes "\\t") then Some 9 else only_byte text
+
+-- how many digits of a fraction are written
+abbrev pub digits_of : List ℕ → Option FractionDigits
+digits_of text =
+    if bytes_eq text (codes "auto") then Some Auto else
+    option_and_then (λ b. if is_ascii_digit b then Some (Exactly (b - 48)) else None) (only_byte text)
+
+-- an offset such as `+05:30`
+abbrev pub offset_parts : List Tree
+offset_parts =
+    component false (kind.OffsetHour (record { padding = padding.Zero; sign_is_mandatory = true }))
+    ∷ literal (codes ":")
+    ∷ component false (kind.OffsetMinute (record { padding = padding.Zero }))
+    ∷ []
+
+abbrev pub offset_tree : Tree
+offset_tree = sequence (trees offset_parts)
+
+-- The offset that a text says, or none.
+abbrev pub IsOffsetText : ℕ → List ℕ → Option UtcOffset → Type 0
+IsOffsetText Y text result =
+    (outcome : Result UtcOffset Refusal)
+    × IsOutcome IsOffset (Reads Y offset_tree) (Refuses Y offset_tree) text empty outcome
+    × (result ≡ result_ok outcome)
+
+-- The offset at which times are shown, or that they keep theirs, or that the text says neither.
+abbrev pub IsZone : ℕ → List ℕ → Option (Option UtcOffset) → Type 0
+IsZone Y text result =
+    MatchBool (bytes_eq text (codes "keep")) (result ≡ Some None)
+    (MatchBool (bytes_eq text (codes "utc")) (IsSomeAnd result (λ offset. IsSomeAnd offset Offsets.IsUtc))
+    ((offset : Option UtcOffset) × IsOffsetText Y text offset × (result ≡ option_map Some offset)))
+
+-- a record of an offset alone
+abbrev pub offset_record : ℕ → UtcOffset → Option Record
+offset_record Y offset =
+    put_all Y
+    (offset_hour_is (Offsets.hours offset)
+    ∷ offset_minute_is (Offsets.minutes offset)
+    ∷ offset_second_is (Offsets.seconds offset)
+    ∷ [])
+    empty
+
+-- The record of the offset that a text says, or none.
+abbrev pub IsOffsetRecord : ℕ → List ℕ → Option Record → Type 0
+IsOffsetRecord Y text result =
+    (offset : Option UtcOffset) × IsOffsetText Y text offset × (result ≡ option_and_then (offset_record Y) offset)
+
+-- the record with that year, if one is given
+abbrev pub with_year : ℕ → Option ℤ → Record → Option Record
+with_year Y None r = Some r
+with_year Y (Some year) r = put Y (year_is year) r
+
+-- The moment that a text says by RFC 3339, or else by the first of the formats by which it says one; the reason why
+-- it says none is that of RFC 3339.
+abbrev pub IsMomentText : ℕ → Reading → List Reading → List ℕ → Option Record → Result OffsetDateTime Reason → Type 0
+IsMomentText Y first others text defaults result =
+    (plain : Result Said Reason) × Says Y Rfc3339 false text defaults plain
+    × MatchResult plain (λ said. result ≡ Ok said.moment)
+    (λ reason. (said : Result Said Reason) × IsReadInTurn Y first others false text defaults said
+    × MatchResult said (λ s. result ≡ Ok s.moment) (λ _. result ≡ Err reason))
+
+-- a result, its reason without where its texts lie in memory
+abbrev pub seen_moment : Result OffsetDateTime declared.Reason → Result OffsetDateTime Reason
+seen_moment (Ok moment) = Ok moment
+seen_moment (Err reason) = Err (seen reason)

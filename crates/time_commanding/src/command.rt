@@ -1,0 +1,209 @@
+//! The options that there are.
+use clap::{Arg, ArgAction, ArgGroup, Command, value_parser};
+use std::alloc::{AllocError, Global};
+
+const EXAMPLES: &str = "Examples:
+  tail -f access.log | restamp -b [ ] -f common -u
+  restamp -a 'Date: ' -f rfc2822 mbox
+  restamp -k 3 --csv -f '[day]/[month]/[year] [hour]:[minute]' orders.csv
+  restamp -l -f syslog --year 2026 -s 2026-11-25T12:00:00Z syslog
+
+FORMAT of --from is rfc3339, rfc2822, iso8601, unix, unix-ms, unix-us, unix-ns,
+common (access logs), syslog; or a description, as `[year]-[month]-[day]` or
+as strftime has it, `%Y-%m-%d`. FORMAT of --to is one of the first seven.
+The status is 0 where a time was rewritten, 1 where none was, and 2 after a
+wrong option, a file that was not read, a failed write, or a line that is
+refused under --strict.";
+
+// An option without a value.
+fn flag<'a>(alloc: Global, name: &'a str, help: &'a str) -> Arg<'a> {
+    Arg::new(alloc, name)
+        .long(name)
+        .action(ArgAction::SetTrue)
+        .help(help)
+}
+
+// An option with a value, which may begin with a hyphen.
+fn option<'a>(alloc: Global, name: &'a str, value: &'a str, help: &'a str) -> Arg<'a> {
+    Arg::new(alloc, name)
+        .long(name)
+        .value_name(value)
+        .allow_hyphen_values(true)
+        .help(help)
+}
+
+// Where a line's time stands.
+fn add_places(alloc: Global, command: Command<'_>) -> Result<Command<'_>, AllocError> {
+    let front = flag(alloc, "front", "The line begins with it").short('l');
+    let field = option(alloc, "field", "N", "Field N, from 1")
+        .short('k')
+        .value_parser(value_parser!(usize).range(1..));
+    let between = option(
+        alloc,
+        "between",
+        "TEXT",
+        "From after the first TEXT up to the second",
+    )
+    .short('b')
+    .num_args(2..=2);
+    let after = option(alloc, "after", "KEY", "After KEY, to where its format ends").short('a');
+    let places = ArgGroup::new(alloc, "place")
+        .arg("front")?
+        .arg("field")?
+        .arg("between")?
+        .arg("after")?;
+    command
+        .next_help_heading("Where the time stands (else the whole line is the time)")
+        .arg(front)?
+        .arg(field)?
+        .arg(between)?
+        .arg(after)?
+        .group(places)
+}
+
+// Which fields there are.
+fn add_fields(alloc: Global, command: Command<'_>) -> Result<Command<'_>, AllocError> {
+    let delimiter = option(
+        alloc,
+        "delimiter",
+        "BYTE",
+        "Ends a field: a byte, or \\t for TAB",
+    )
+    .short('d')
+    .default_value(",");
+    let blanks = flag(alloc, "blanks", "Fields are words between blanks, as awk's")
+        .requires_arg("field")?
+        .conflicts_with("delimiter")?
+        .conflicts_with("csv")?;
+    let csv = flag(alloc, "csv", "A field may stand in quotes").requires_arg("field")?;
+    command.arg(delimiter)?.arg(blanks)?.arg(csv)
+}
+
+// How it is read.
+fn add_reading(alloc: Global, command: Command<'_>) -> Result<Command<'_>, AllocError> {
+    let from = option(alloc, "from", "FORMAT", "The format, or several in turn")
+        .short('f')
+        .action(ArgAction::Append)
+        .default_value("rfc3339");
+    let year = option(alloc, "year", "YEAR", "The year of times that have none").value_parser(
+        value_parser!(i32).range(-999_999..=999_999),
+    );
+    let offset = option(
+        alloc,
+        "offset",
+        "OFFSET",
+        "The offset of times that have none",
+    )
+    .default_value("+00:00");
+    command
+        .next_help_heading("How it is read")
+        .arg(from)?
+        .arg(year)?
+        .arg(offset)
+}
+
+// How it is written.
+fn add_writing(alloc: Global, command: Command<'_>) -> Result<Command<'_>, AllocError> {
+    let to = option(alloc, "to", "FORMAT", "The format")
+        .short('t')
+        .default_value("rfc3339");
+    let zone = option(alloc, "zone", "ZONE", "keep, utc or an offset as +05:30")
+        .short('z')
+        .default_value("keep");
+    let utc = flag(alloc, "utc", "The same as --zone utc")
+        .short('u')
+        .conflicts_with("zone")?;
+    let digits = option(
+        alloc,
+        "digits",
+        "N",
+        "Digits of a fraction: 0 to 9, or auto",
+    )
+    .default_value("auto");
+    let only = flag(alloc, "only", "Writes the times alone, one a line").short('o');
+    command
+        .next_help_heading("How it is written")
+        .arg(to)?
+        .arg(zone)?
+        .arg(utc)?
+        .arg(digits)?
+        .arg(only)
+}
+
+// Which lines go out.
+fn add_lines(alloc: Global, command: Command<'_>) -> Result<Command<'_>, AllocError> {
+    let since = option(alloc, "since", "TIME", "Drops lines whose time is before").short('s');
+    let until = option(
+        alloc,
+        "until",
+        "TIME",
+        "Drops lines whose time is that or after it",
+    )
+    .short('e');
+    let drop = flag(
+        alloc,
+        "drop-refused",
+        "Drops lines with no time, or a refused one",
+    );
+    command
+        .next_help_heading("Which lines go out")
+        .arg(since)?
+        .arg(until)?
+        .arg(drop)
+}
+
+// What becomes of refused lines.
+fn add_reports(alloc: Global, command: Command<'_>) -> Result<Command<'_>, AllocError> {
+    let quiet = flag(alloc, "quiet", "Names no refused line").short('q');
+    let errors = option(alloc, "errors", "N", "Names the first N of a file")
+        .value_parser(value_parser!(u64))
+        .default_value("10");
+    let strict = flag(
+        alloc,
+        "strict",
+        "Stops at the first, also of lines with no time",
+    )
+    .short('x');
+    let keep_going = flag(
+        alloc,
+        "keep-going",
+        "Goes on under --strict, with its status",
+    )
+    .requires_arg("strict")?;
+    command
+        .next_help_heading("What becomes of refused lines")
+        .arg(quiet)?
+        .arg(errors)?
+        .arg(strict)?
+        .arg(keep_going)
+}
+
+// The words that are no options, and the option that prints completions.
+fn add_words(alloc: Global, command: Command<'_>) -> Result<Command<'_>, AllocError> {
+    let files = Arg::new(alloc, "FILE")
+        .num_args(0..)
+        .action(ArgAction::Append)
+        .help("Files, in turn; none, or -, is standard input");
+    let completions = option(
+        alloc,
+        "completions",
+        "SHELL",
+        "Prints the completions of bash, zsh or fish",
+    );
+    command.arg(files)?.arg(completions)
+}
+
+/// The command line of `restamp`.
+pub fn make_command<'a>(alloc: Global) -> Result<Command<'a>, AllocError> {
+    let command = Command::new(alloc, "restamp")
+        .bin_name("restamp")?
+        .version("0.1.0")
+        .about(
+            "Rewrites the time in each line of files, or of standard input, and leaves every\nother byte as it is.",
+        )
+        .after_help(EXAMPLES);
+    let command = add_places(alloc, add_words(alloc, command)?)?;
+    let command = add_reading(alloc, add_fields(alloc, command)?)?;
+    let command = add_lines(alloc, add_writing(alloc, command)?)?;
+    add_reports(alloc, command)
+}

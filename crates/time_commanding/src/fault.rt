@@ -1,0 +1,80 @@
+//! What is wrong with an option.
+ghost use Rattle.std.specs.Prelude.{◌≡◌};
+ghost use Rattle.std.specs.Option.{option_map};
+ghost use Rattle.time_commanding.specs.Fault as spec;
+
+use std::fmt;
+use time_descriptions::InvalidFormatDescription;
+use time_restamping::Reason;
+
+/// Why the options ask for nothing: an option that doesn't take its value.
+#[derive(Clone, Copy)]
+pub enum Fault<'a> {
+    /// There is no memory for what they ask for.
+    Memory,
+    /// `--delimiter` takes one byte.
+    Delimiter(&'a str),
+    /// `--from` takes a format's name, or a description.
+    UnknownFormat(&'a str),
+    /// The description that `--from` has is faulty.
+    Description(&'a str, InvalidFormatDescription<'a>),
+    /// `--to` takes a format's name.
+    To(&'a str),
+    /// `--year` takes a year from -999999 to 999999.
+    Year(i32),
+    /// `--offset` takes an offset.
+    Offset(&'a str),
+    /// `--zone` takes `keep`, `utc` or an offset.
+    Zone(&'a str),
+    /// `--digits` takes 0 to 9, or `auto`.
+    Digits(&'a str),
+    /// `--since` takes a time.
+    Since(&'a str, Reason),
+    /// `--until` takes a time.
+    Until(&'a str, Reason),
+}
+
+impl<'a> Fault<'a> {
+    /// The option, as help shows it, and the value that it doesn't take, where the fault has one.
+    pub fn place(&self) -> Option<(&'static str, &'a str)>
+        ensures { option_map (λ place. (place.0.now, place.1.now)) result ≡ spec.place_of (spec.told self.now) }
+    {
+        match *self {
+            Fault::Memory | Fault::Year(_) => None,
+            Fault::Delimiter(value) => Some(("--delimiter <BYTE>", value)),
+            Fault::UnknownFormat(value) => Some(("--from <FORMAT>", value)),
+            Fault::Description(value, _) => Some(("--from <FORMAT>", value)),
+            Fault::To(value) => Some(("--to <FORMAT>", value)),
+            Fault::Offset(value) => Some(("--offset <OFFSET>", value)),
+            Fault::Zone(value) => Some(("--zone <ZONE>", value)),
+            Fault::Digits(value) => Some(("--digits <N>", value)),
+            Fault::Since(value, _) => Some(("--since <TIME>", value)),
+            Fault::Until(value, _) => Some(("--until <TIME>", value)),
+        }
+    }
+}
+
+impl fmt::Display for Fault<'_> {
+    ghost output = { λ fault. spec.why_text (spec.told fault) };
+
+    fn fmt<W: fmt::Write>(&self, f: &mut fmt::Formatter<W>) -> fmt::Result {
+        match self {
+            Fault::Memory => write!(f, "out of memory"),
+            Fault::Delimiter(_) => write!(f, "it is not one byte"),
+            Fault::UnknownFormat(_) => {
+                write!(
+                    f,
+                    "no format has this name, and a description has a `[` or a `%`"
+                )
+            }
+            Fault::Description(_, error) => write!(f, "{error}"),
+            Fault::To(_) => write!(f, "no format has this name"),
+            Fault::Year(year) => write!(f, "the year {year} is not from -999999 to 999999"),
+            Fault::Offset(_) => write!(f, "it is no offset such as +05:30"),
+            Fault::Zone(_) => write!(f, "it is not keep, utc or an offset such as +05:30"),
+            Fault::Digits(_) => write!(f, "it is not 0 to 9 or auto"),
+            Fault::Since(_, reason) => write!(f, "{reason}"),
+            Fault::Until(_, reason) => write!(f, "{reason}"),
+        }
+    }
+}

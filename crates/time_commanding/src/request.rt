@@ -1,0 +1,270 @@
+//! What the options ask for.
+ghost use Rattle.std.specs.Prelude.{◌≡◌, IfErr, MatchResult, OnOk, Some, map};
+ghost use Rattle.time_values.specs.Range.{greatest_year};
+ghost use Rattle.time_restamping.specs.Naming.{fault_of};
+ghost use Rattle.time_commanding.specs.Fault as fault;
+ghost use Rattle.time_commanding.specs.Fault.{told};
+ghost use Rattle.time_commanding.specs.Options.{other_names, text_behind};
+ghost use Rattle.time_commanding.specs.Request as spec;
+
+use crate::bounds::find_moment;
+use crate::fault::Fault;
+use crate::options::Options;
+use crate::values::{find_delimiter, find_digits, find_offset_record, find_zone};
+use std::alloc::Global;
+use time_cutting::{Fields, Place};
+use time_record::Parsed;
+use time_restamping::{Form, FormatFault, Job, Reading, Reason, find_reading, find_writing};
+use time_rewriting::{Output, Reports, Settings};
+use time_values::OffsetDateTime;
+
+/// What the options ask for.
+#[derive(Drop)]
+pub struct Request<'a> {
+    /// Where a line's time stands.
+    pub place: Place<'a>,
+    /// The format that reads it.
+    pub first: Reading,
+    /// The formats that are tried in turn where that one doesn't.
+    pub others: Vec<Reading>,
+    /// What stands for what a time leaves out.
+    pub defaults: Parsed,
+    /// How it is written.
+    pub form: Form,
+    /// Drops lines whose time is before.
+    pub since: Option<OffsetDateTime>,
+    /// Drops lines whose time isn't before.
+    pub until: Option<OffsetDateTime>,
+    /// How the lines of files are answered.
+    pub settings: Settings,
+    /// Whether a refused line is a failure, and a line with no place for a time is refused.
+    pub strict: bool,
+}
+
+// How a line has fields.
+fn find_fields<'a>(options: &Options<'_, 'a>) -> Result<Fields, Fault<'a>>
+    ensures { MatchResult result (λ fields. spec.fields_of options.now ≡ Some fields)
+        (λ fault. spec.IsFault greatest_year options.now (told fault)) }
+{
+    if options.blanks {
+        return Ok(Fields::Blank);
+    }
+    let Some(byte) = find_delimiter(options.delimiter) else {
+        return Err(Fault::Delimiter(options.delimiter));
+    };
+    if options.csv {
+        Ok(Fields::Quoted(byte))
+    } else {
+        Ok(Fields::Delimited(byte))
+    }
+}
+
+// Where a line's time stands.
+fn find_place<'a>(options: &Options<'_, 'a>) -> Result<Place<'a>, Fault<'a>>
+    ensures { MatchResult result (λ place. spec.place_of options.now ≡ Some (spec.seen_place place))
+        (λ fault. spec.IsFault greatest_year options.now (told fault)) }
+{
+    if options.front {
+        return Ok(Place::Front);
+    }
+    if let Some(key) = options.after {
+        return Ok(Place::After(key.as_bytes()));
+    }
+    if let Some((open, close)) = options.between {
+        return Ok(Place::Between(open.as_bytes(), close.as_bytes()));
+    }
+    let Some(number) = options.field else {
+        return Ok(Place::Whole);
+    };
+    match find_fields(options) {
+        Ok(fields) => Ok(Place::Field(fields, number)),
+        Err(fault) => Err(fault),
+    }
+}
+
+// The fault of a format.
+fn format_fault<'a>(name: &'a str, why: FormatFault<'a>) -> Fault<'a>
+    ensures { told result ≡ fault.from name.now (fault_of why.entry) }
+{
+    match why {
+        FormatFault::Unknown => Fault::UnknownFormat(name),
+        FormatFault::Description(error) => Fault::Description(name, error),
+    }
+}
+
+// Adds the formats of those names. One that is none is handed back, with its fault; nothing is where memory is short.
+fn add_formats<'a>(
+    names: &[&'a str],
+    readings: &mut Vec<Reading>,
+) -> Result<(), Option<(&'a str, FormatFault<'a>)>>
+    ensures ok { OnOk result (spec.AddsMeant (map (λ name. name.now) names.now) readings.old.items readings.new.items) }
+    ensures err { IfErr result (λ unread. spec.IsUnread (map (λ name. name.now) names.now) (spec.seen_unread unread)) }
+{
+    let [name, others @ ..] = names else {
+        return Ok(());
+    };
+    match find_reading(name.as_bytes()) {
+        Ok(reading) => {
+            if readings.push(reading).is_err() {
+                return Err(None);
+            }
+            add_formats(others, readings)
+        }
+        Err(why) => Err(Some((*name, why))),
+    }
+}
+
+// Adds the formats of `--from` but the first.
+fn add_others<'a>(
+    options: &Options<'_, 'a>,
+    readings: &mut Vec<Reading>,
+) -> Result<(), Option<(&'a str, FormatFault<'a>)>>
+    ensures ok { OnOk result (spec.AddsMeant (other_names options.now) readings.old.items readings.new.items) }
+    ensures err { IfErr result (λ unread. spec.IsUnread (other_names options.now) (spec.seen_unread unread)) }
+{
+    match options.formats {
+        Some([_, names @ ..]) => add_formats(names, readings),
+        _ => Ok(()),
+    }
+}
+
+// What stands for what a time leaves out.
+fn find_defaults<'a>(options: &Options<'_, 'a>) -> Result<Parsed, Fault<'a>>
+    ensures { MatchResult result (λ defaults. spec.AreDefaults greatest_year options.now defaults)
+        (λ fault. spec.IsFault greatest_year options.now (told fault)) }
+{
+    let Some(parsed) = find_offset_record(options.offset) else {
+        return Err(Fault::Offset(options.offset));
+    };
+    let Some(year) = options.year else {
+        return Ok(parsed);
+    };
+    match parsed.with_year(year) {
+        Some(defaults) => Ok(defaults),
+        None => Err(Fault::Year(year)),
+    }
+}
+
+// How a time is written.
+fn find_form<'a>(options: &Options<'_, 'a>) -> Result<Form, Fault<'a>>
+    ensures { MatchResult result (λ form. spec.IsForm greatest_year options.now form)
+        (λ fault. spec.IsFault greatest_year options.now (told fault)) }
+{
+    let Some(writing) = find_writing(options.to.as_bytes()) else {
+        return Err(Fault::To(options.to));
+    };
+    let Some(offset) = find_zone(options.zone) else {
+        return Err(Fault::Zone(options.zone));
+    };
+    let Some(digits) = find_digits(options.digits) else {
+        return Err(Fault::Digits(options.digits));
+    };
+    Ok(Form {
+        writing,
+        digits,
+        offset,
+    })
+}
+
+// The moment that a text says, if there is one.
+fn find_bound<'a>(
+    first: &Reading,
+    others: &[Reading],
+    defaults: Parsed,
+    text: Option<&'a str>,
+) -> Result<Option<OffsetDateTime>, (&'a str, Reason)>
+    ensures { spec.IsBound greatest_year first.now others.now defaults (text_behind text.entry) (spec.seen_bound result) }
+{
+    let Some(text) = text else {
+        return Ok(None);
+    };
+    match find_moment(first, others, text, &Some(defaults)) {
+        Ok(moment) => Ok(Some(moment)),
+        Err(reason) => Err((text, reason)),
+    }
+}
+
+// How the lines of files are answered.
+fn make_settings(options: &Options<'_, '_>) -> Settings
+    ensures { result ≡ spec.settings_of options.now }
+{
+    Settings {
+        output: if options.only {
+            Output::Times
+        } else if options.drop_refused {
+            Output::RewrittenLines
+        } else {
+            Output::AllLines
+        },
+        reports: if options.quiet {
+            Reports::Quiet
+        } else {
+            Reports::First(options.errors)
+        },
+        strict: options.strict && !options.keep_going,
+    }
+}
+
+impl<'a> Request<'a> {
+    /// What the options ask for.
+    ///
+    /// # Errors
+    ///
+    /// An option that doesn't take its value, or that memory is short.
+    pub fn new(alloc: Global, options: &Options<'_, 'a>) -> Result<Request<'a>, Fault<'a>>
+        ensures { MatchResult result (spec.Asks greatest_year options.now)
+            (λ fault. spec.IsFault greatest_year options.now (told fault)) }
+    {
+        let place = find_place(options)?;
+        let first = match find_reading(options.from.as_bytes()) {
+            Ok(first) => first,
+            Err(why) => return Err(format_fault(options.from, why)),
+        };
+        let mut others = Vec::new(alloc);
+        match add_others(options, &mut others) {
+            Ok(()) => {}
+            Err(Some((name, why))) => return Err(format_fault(name, why)),
+            Err(None) => return Err(Fault::Memory),
+        }
+        let defaults = match find_defaults(options) {
+            Ok(defaults) => defaults,
+            Err(fault) => return Err(fault),
+        };
+        let form = find_form(options)?;
+        let since = match find_bound(&first, others.as_slice(), defaults, options.since) {
+            Ok(since) => since,
+            Err((text, reason)) => return Err(Fault::Since(text, reason)),
+        };
+        let until = match find_bound(&first, others.as_slice(), defaults, options.until) {
+            Ok(until) => until,
+            Err((text, reason)) => return Err(Fault::Until(text, reason)),
+        };
+        Ok(Request {
+            place,
+            first,
+            others,
+            defaults,
+            form,
+            since,
+            until,
+            settings: make_settings(options),
+            strict: options.strict,
+        })
+    }
+
+    /// What is done with each line.
+    pub fn job(&self) -> Job<'_>
+        ensures { spec.IsJobOf self.now result }
+    {
+        Job {
+            place: self.place,
+            first: &self.first,
+            others: self.others.as_slice(),
+            defaults: Some(self.defaults),
+            form: self.form,
+            since: self.since,
+            until: self.until,
+            asks_for_times: self.strict,
+        }
+    }
+}

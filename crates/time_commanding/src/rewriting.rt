@@ -1,0 +1,78 @@
+//! The answer to files.
+ghost use Rattle.std.specs.Prelude.{OnOk, map};
+ghost use Rattle.time_values.specs.Range.{greatest_year};
+ghost use Rattle.time_rewriting.specs.Files.{DidFiles};
+ghost use Rattle.time_rewriting.specs.Streams.{state_of};
+ghost use Rattle.time_restamping.specs.declared.job.Job.{Job as Job_};
+ghost use Rattle.time_commanding.specs.Request.{IsJobOf};
+ghost use Rattle.time_commanding.specs.Rewriting.{IsFate, IsReason};
+
+use crate::request::Request;
+use std::io;
+use std::io::Write;
+use time_restamping::{Job, Verdict};
+use time_rewriting::{Block, Fate, Opening, Rewriting, Stop, Stream};
+
+/// A job, which says which fate a line has.
+#[derive(Clone, Copy)]
+pub struct Restamping<'a>(pub Job<'a>);
+
+impl Rewriting for Restamping<'_> {
+    ghost use Rattle.time_values.specs.Range.{greatest_year};
+    ghost use Rattle.time_commanding.specs.Rewriting as spec;
+
+    ghost is_fate = { λ restamping front fate. spec.IsFate greatest_year restamping.0 front fate };
+
+    ghost is_reason = { λ restamping front column reason. spec.IsReason greatest_year restamping.0 front column reason };
+
+    ghost one_fate = { λ restamping front a b p q. spec.one_fate restamping.0 front a b p q };
+
+    ghost one_reason = { λ restamping front column other reason why p q.
+        spec.one_reason restamping.0 front column other reason why p q };
+
+    fn fate(&self, front: &[u8]) -> Fate {
+        match self.0.judge(front) {
+            Verdict::Without => Fate::Without,
+            Verdict::Rewritten {
+                start,
+                length,
+                text,
+            } => Fate::Rewritten {
+                begin: start,
+                end: start + length,
+                text,
+            },
+            Verdict::Dropped => Fate::Dropped,
+            Verdict::Refused { .. } => Fate::Refused,
+        }
+    }
+
+    fn write_reason<L: Write>(&self, front: &[u8], log: &mut L) -> io::Result<()> {
+        match self.0.judge(front) {
+            Verdict::Refused { column, reason } => write!(log, "{column}: {reason}"),
+            Verdict::Without => Ok(()),
+            Verdict::Rewritten { .. } => Ok(()),
+            Verdict::Dropped => Ok(()),
+        }
+    }
+}
+
+/// Answers all lines of the files as it is asked for, one after the other.
+///
+/// A file that can't be opened or read to its end is told to the log, and the others are answered. The work stops at a
+/// failed write, and under `--strict` at the first refused line, unless it is to go on.
+pub fn serve<W: Write, L: Write, O: Opening>(
+    request: &Request<'_>,
+    names: &[&[u8]],
+    opening: &O,
+    stream: &mut Stream<W, L>,
+    block: &mut Block,
+) -> Result<(), Stop>
+    ensures { (job : Job_) × IsJobOf request.now job
+        × OnOk result (DidFiles (IsFate greatest_year job) (IsReason greatest_year job) request.now.settings
+        (O.bytes_of opening.now) (state_of W.contents L.contents stream.old) (state_of W.contents L.contents stream.new)
+        (map (λ name. name.now) names.now)) }
+{
+    let rewriting = Restamping(request.job());
+    stream.serve_files(&rewriting, request.settings, names, opening, block)
+}

@@ -1,0 +1,110 @@
+//! What the values of options mean.
+ghost use Rattle.std.specs.Prelude.{◌≡◌, map};
+ghost use Rattle.time_values.specs.Range.{greatest_year};
+ghost use Rattle.time_components.specs.Shape.{borrowed_shape};
+ghost use Rattle.time_components.specs.Tree.{sequence, trees};
+ghost use Rattle.time_commanding.specs.Values as spec;
+
+use time_components::{BorrowedFormatItem, Component, Padding, modifier};
+use time_parsing::Parsable;
+use time_record::Parsed;
+use time_values::UtcOffset;
+use time_writing::FractionDigits;
+
+/// The byte that ends a field; `\t` is TAB.
+pub fn find_delimiter(text: &str) -> Option<u8>
+    ensures { result ≡ spec.delimiter_of text.now }
+{
+    if text == "\\t" {
+        return Some(b'\t');
+    }
+    match text.as_bytes() {
+        [byte] => Some(*byte),
+        _ => None,
+    }
+}
+
+/// How many digits of a fraction are written.
+pub fn find_digits(text: &str) -> Option<FractionDigits>
+    ensures { result ≡ spec.digits_of text.now }
+{
+    if text == "auto" {
+        return Some(FractionDigits::Auto);
+    }
+    match text.as_bytes() {
+        [digit] if digit.is_ascii_digit() => Some(FractionDigits::Exactly(*digit - b'0')),
+        _ => None,
+    }
+}
+
+// The items of an offset such as `+05:30`.
+fn offset_items() -> [BorrowedFormatItem<'static>; 3]
+    ensures { map borrowed_shape result ≡ spec.offset_parts }
+{
+    [
+        BorrowedFormatItem::Component(Component::OffsetHour(modifier::OffsetHour {
+            padding: Padding::Zero,
+            sign_is_mandatory: true,
+        })),
+        BorrowedFormatItem::StringLiteral(":"),
+        BorrowedFormatItem::Component(Component::OffsetMinute(modifier::OffsetMinute {
+            padding: Padding::Zero,
+        })),
+    ]
+}
+
+// The items in turn.
+fn compound<'a>(items: &'a [BorrowedFormatItem<'a>]) -> BorrowedFormatItem<'a>
+    ensures { borrowed_shape result ≡ sequence (trees (map borrowed_shape items.now)) }
+{
+    BorrowedFormatItem::Compound(items)
+}
+
+/// An offset such as `+05:30`.
+pub fn find_offset(text: &str) -> Option<UtcOffset>
+    ensures { spec.IsOffsetText greatest_year text.now result }
+{
+    let items = offset_items();
+    let description = compound(&items);
+    match description.parse_offset(text.as_bytes(), None) {
+        Ok(offset) => Some(offset),
+        Err(_) => None,
+    }
+}
+
+/// The offset at which times are shown, or `None` for each its own.
+pub fn find_zone(text: &str) -> Option<Option<UtcOffset>>
+    ensures { spec.IsZone greatest_year text.now result }
+{
+    if text == "keep" {
+        return Some(None);
+    }
+    if text == "utc" {
+        return Some(Some(UtcOffset::UTC));
+    }
+    match find_offset(text) {
+        Some(offset) => Some(Some(offset)),
+        None => None,
+    }
+}
+
+// A record of the offset alone.
+fn record_of(offset: UtcOffset) -> Option<Parsed>
+    ensures { result ≡ spec.offset_record greatest_year offset }
+{
+    let (hours, minutes, seconds) = offset.as_hms();
+    Parsed::new()
+        .with_offset_hour(hours)?
+        .with_offset_minute_signed(minutes)?
+        .with_offset_second_signed(seconds)
+}
+
+/// A record of an offset such as `+05:30`.
+pub fn find_offset_record(text: &str) -> Option<Parsed>
+    ensures { spec.IsOffsetRecord greatest_year text.now result }
+{
+    match find_offset(text) {
+        Some(offset) => record_of(offset),
+        None => None,
+    }
+}

@@ -1,22 +1,23 @@
 -- What the words of the command line say.
-use Rattle.std.specs.Prelude.{ℕ, List, [], ◌∷◌, codes, if◌then◌else◌}
+use Rattle.std.specs.Prelude.{ℕ, List, [], ◌∷◌, codes, Bool, true, false, if◌then◌else◌}
 use Rattle.std.specs.Str.{bytes_eq}
 use Rattle.time_parse.specs.declared.arguments.Command.{Command}
 use Rattle.time_parse.specs.declared.arguments.Command.TheVariants as command
 use Rattle.time_parse.specs.declared.request.Version.{Version}
 use Rattle.time_parse.specs.declared.request.Version.TheVariants as version
 
--- what the words ask for: a page, or answers by a format, for a target
+-- what the words ask for: a page, or answers, which may tell places, by a format, for a target
 pub data Asked : Type 0 where
   help : Asked
   program_version : Asked
-  answers : Version → List ℕ → List ℕ → Asked
+  answers : Bool → Version → List ℕ → List ℕ → Asked
   unknown : Asked
 
 abbrev pub seen : Command → Asked
 seen command.Help = help
 seen command.Version = program_version
-seen (command.Parse question) = answers question.version question.format.now question.target.now
+seen (command.Parse question) =
+    answers question.tells_places question.version question.format.now question.target.now
 seen command.Unknown = unknown
 
 -- what one word asks for
@@ -25,11 +26,17 @@ page word =
     if bytes_eq word (codes "--help") then help else
     if bytes_eq word (codes "--version") then program_version else unknown
 
+-- what the words after `--place` ask for, or all words without it
+abbrev pub question_of : Bool → List (List ℕ) → Asked
+question_of tells_places (format ∷ target ∷ []) =
+    if bytes_eq format (codes "--v1") then unknown else answers tells_places version.Two format target
+question_of tells_places (option ∷ format ∷ target ∷ []) =
+    if bytes_eq option (codes "--v1") then answers tells_places version.One format target else unknown
+question_of tells_places words = unknown
+
 -- what the words after the program's name ask for
 abbrev pub command_of : List (List ℕ) → Asked
+command_of [] = unknown
 command_of (word ∷ []) = page word
-command_of (format ∷ target ∷ []) =
-    if bytes_eq format (codes "--v1") then unknown else answers version.Two format target
-command_of (option ∷ format ∷ target ∷ []) =
-    if bytes_eq option (codes "--v1") then answers version.One format target else unknown
-command_of words = unknown
+command_of (option ∷ words) =
+    if bytes_eq option (codes "--place") then question_of true words else question_of false (option ∷ words)

@@ -1,4 +1,5 @@
 pub mod Fault
 pub mod Arguments
 pub mod Request
+pub mod Place
 pub mod Laws

@@ -1,4 +1,4 @@
--- What the arguments ask for. `Y` is the greatest year.
+-- What the format and target of the arguments ask for. `Y` is the greatest year.
 use Rattle.std.specs.Prelude.{◌≡◌, ◌⊎◌, ◌==◌, ℕ, List, Option, None, Some, Bool, if◌then◌else◌}
 use Rattle.std.specs.List.{list_any}
 use Rattle.time_components.specs.Tree.{Tree}
@@ -7,7 +7,6 @@ use Rattle.time_descriptions.specs.Grammar.{Describes, by_option}
 use Rattle.time_descriptions.specs.Refusal.{Refusal}
 use Rattle.time_descriptions.specs.Strftime.{DescribesStrftime, IsRefusedStrftime}
 use Rattle.time_answers.specs.Formats.{format_named, target_named}
-use Rattle.time_answers.specs.Output as output
 use Rattle.time_answers.specs.Output.{IsDescribed, IsParsed}
 use Rattle.time_answers.specs.declared.formats.Format.{Format}
 use Rattle.time_answers.specs.declared.formats.Target.{Target}
@@ -82,11 +81,3 @@ IsFault version format target reason =
 abbrev pub IsAnswer : ℕ → Meaning → Target → List ℕ → List ℕ → Type 0
 IsAnswer Y (named format) target = IsParsed Y format target
 IsAnswer Y (described tree) target = IsDescribed Y tree target
-
--- A writer holds what it held, and then the answers to the lines of the input, by what the format means and for the
--- target of that name.
-abbrev pub WritesAnswers : ℕ → Version → List ℕ → List ℕ → Option (List ℕ) → Option (List ℕ) → List ℕ → Type 0
-WritesAnswers Y version format target old new input =
-    (meaning : Meaning) × (value : Target)
-    × Means version format meaning × (target_named target ≡ Some value)
-    × output.WritesAnswers (IsAnswer Y meaning value) old new input

@@ -80,8 +80,8 @@ impl<'a> Fault<'a> {
     }
 }
 
-// What is shown of a byte: itself where it is a printable character of ASCII, and else `?`.
-fn shown(byte: u8) -> u8
+/// What is shown of a byte: itself where it is a printable character of ASCII, and else `?`.
+pub fn shown(byte: u8) -> u8
     ensures { result ≡ spec.shown byte }
 {
     if b' ' <= byte && byte <= b'~' {

@@ -6,6 +6,7 @@
 mod arguments;
 mod fault;
 mod laws;
+mod place;
 mod request;
 mod serving;
 #[cfg(test)]
@@ -18,7 +19,7 @@ use std::io::Write;
 use std::process::ExitCode;
 use std::{env, io};
 
-const USAGE: &str = "usage: time_parse [--v1] FORMAT TARGET";
+const USAGE: &str = "usage: time_parse [--place] [--v1] FORMAT TARGET";
 
 const HELP: &str = "Reads texts from standard input, one a line, and answers each by a line: its
 value, or `error: ` and why it has none.
@@ -28,6 +29,7 @@ Else it is a description, where it has a `[`, as `[year]-[month]-[day]`. With
 --v1 it is one of version 1.
 Else it is a description as strftime has it, where it has a `%`, as `%d/%b/%Y`.
 TARGET is date, time, offset, plain, utc, datetime, staged or timestamp.
+With --place an error says where its text goes wrong, as ` at 5: expected month`.
 
 The status is 0; or 1 after a failed write; or 2 after a fault of the arguments,
 or a failed read.";

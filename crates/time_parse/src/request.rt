@@ -52,8 +52,10 @@ pub enum Chosen {
 /// A format, and the target of its texts.
 #[derive(Drop)]
 pub struct Request {
-    chosen: Chosen,
-    target: Target,
+    /// The format.
+    pub chosen: Chosen,
+    /// The target.
+    pub target: Target,
 }
 
 // How the format is written: by a name, else as a description where it has a `[`, else as one of strftime where it has

@@ -40,6 +40,90 @@ const ANSWERS: [(&str, &str, &str, &str); 8] = [
 fn answers(rt: HostRuntime) -> Result<(), Fail> {
     for (format, target, input, wanted) in &ANSWERS {
         let question = Question {
+            tells_places: false,
+            version: Version::Two,
+            format,
+            target,
+        };
+        let mut out = Vec::new(rt.alloc());
+        assert!(rt; serve(question, rt.alloc(), &mut input.as_bytes(), &mut out).is_ok());
+        assert_eq!(rt; out.as_slice(), wanted.as_bytes());
+    }
+    Ok(())
+}
+
+// The same, where each answer tells its place. The text goes wrong where the literal or the component begins that no
+// reading gets past.
+const PLACED: [(&str, &str, &str, &str); 10] = [
+    (
+        "[year]-[month]-[day]",
+        "date",
+        "2021-13-02\n2021-03-04\n2021-03-04x\n2021/\n",
+        "error: the 'month' component could not be parsed at 5: expected month\n2021-03-04\nerror: unexpected trailing characters; the end of input was expected at 10: expected the end\nerror: a character literal was not valid at 4: expected '-'\n",
+    ),
+    (
+        "rfc3339",
+        "staged",
+        "2021-01-02T03:04:05+0607",
+        "error: a character literal was not valid at 22: expected ':'\n",
+    ),
+    (
+        "rfc2822",
+        "staged",
+        "Sat 02 Jan 2021",
+        "error: a character literal was not valid at 0: expected ','\n",
+    ),
+    (
+        "iso8601",
+        "datetime",
+        "20210102T250405Z",
+        "error: unexpected trailing characters; the end of input was expected at 9: expected hour\n",
+    ),
+    (
+        "ymd",
+        "date",
+        "2021-03",
+        "error: a character literal was not valid at 7: expected '-'\n",
+    ),
+    (
+        "clock",
+        "time",
+        "1:05:09.",
+        "error: a character literal was not valid at 8: expected subsecond\n",
+    ),
+    (
+        "unix",
+        "timestamp",
+        "x",
+        "error: the 'unix_timestamp' component could not be parsed at 0: expected unix_timestamp\n",
+    ),
+    (
+        "local",
+        "date",
+        "2020-36",
+        "error: the 'month' component could not be parsed at 5: expected month\n",
+    ),
+    // A TAB and a byte beyond ASCII are shown as an argument's are.
+    (
+        "\t\u{e9}[day]",
+        "date",
+        "x",
+        "error: a character literal was not valid at 0: expected '?'\n",
+    ),
+    // All of it is read, and its date is refused.
+    (
+        "ymd",
+        "date",
+        "2021-02-29",
+        "error: day is out of range for the other components\n",
+    ),
+];
+
+#[test]
+fn placed(rt: HostRuntime) -> Result<(), Fail> {
+    for (format, target, input, wanted) in &PLACED {
+        let question = Question {
+            tells_places: true,
             version: Version::Two,
             format,
             target,
@@ -107,6 +191,7 @@ const FAULTS: [(Version, &str, &str, &str); 8] = [
 fn faults(rt: HostRuntime) -> Result<(), Fail> {
     for (version, format, target, wanted) in &FAULTS {
         let question = Question {
+            tells_places: false,
             version: *version,
             format,
             target,
@@ -137,5 +222,21 @@ fn commands(rt: HostRuntime) -> Result<(), Fail> {
     assert!(rt; matches!(command_of(words.as_slice()), Command::Parse(_)));
     words.push("date".to_string(rt.alloc())?)?;
     assert!(rt; matches!(command_of(words.as_slice()), Command::Unknown));
+    Ok(())
+}
+
+// The same after `--place`.
+#[test]
+fn commands_with_places(rt: HostRuntime) -> Result<(), Fail> {
+    let mut words = Vec::new(rt.alloc());
+    words.push("--place".to_string(rt.alloc())?)?;
+    assert!(rt; matches!(command_of(words.as_slice()), Command::Unknown));
+    words.push("ymd".to_string(rt.alloc())?)?;
+    assert!(rt; matches!(command_of(words.as_slice()), Command::Unknown));
+    words.push("date".to_string(rt.alloc())?)?;
+    let Command::Parse(question) = command_of(words.as_slice()) else {
+        return Err("no question".into());
+    };
+    assert!(rt; question.tells_places && question.version == Version::Two);
     Ok(())
 }

@@ -1,25 +1,36 @@
 use Rattle.std.specs.Prelude.{◌≡◌, Option, None, Some, IfSome}
-use Rattle.std.proofs.Common.{ℕ, List}
+use Rattle.std.proofs.Common.{Bool, true, false, ℕ, List, subst, sym}
 use Rattle.time_values.specs.Range.{greatest_year}
 use Rattle.time_answers.specs.Formats.{target_named}
 use Rattle.time_answers.specs.Output as output
 use Rattle.time_answers.specs.declared.formats.Target.{Target}
-use Rattle.time_parse.specs.Request.{IsAnswer, Means, Meaning, WritesAnswers, meaning_of}
+use Rattle.time_parse.specs.Place.{IsAnswerAsked, WritesAnswers}
+use Rattle.time_parse.specs.Request.{Means, Meaning, meaning_of}
 use Rattle.time_parse.specs.declared.request.Version.{Version}
 use Rattle.time_parse.proofs.serving.serve.Goals as goal
 
 -- what answers by a meaning answers by the format that means it
-served : (version : Version) (format target : List ℕ) (m : Meaning) (t : Target) (left old new : Option (List ℕ))
+served : (asked_places tells_places : Bool) → asked_places ≡ tells_places
+    → (version : Version) (format target : List ℕ) (m : Meaning) (t : Target) (left old new : Option (List ℕ))
     → Means version format m × (target_named target ≡ Some t)
-    → IfSome left (λ bytes. output.WritesAnswers (IsAnswer greatest_year m t) old new bytes)
-    → IfSome left (λ bytes. WritesAnswers greatest_year version format target old new bytes)
-served version format target m t None old new asked h = tt
-served version format target m t (Some bytes) old new asked h = (m, t, asked.0, asked.1, h)
+    → IfSome left (λ bytes. output.WritesAnswers (IsAnswerAsked tells_places greatest_year m t) old new bytes)
+    → IfSome left (λ bytes. WritesAnswers greatest_year asked_places version format target old new bytes)
+served asked_places tells_places same version format target m t None old new asked h = tt
+served asked_places tells_places same version format target m t (Some bytes) old new asked h =
+    subst (λ (p : Bool). WritesAnswers greatest_year p version format target old new bytes) (sym same) (m, t, asked.0, asked.1, h)
 
 pub returns-in-Ok-serve-clause-ok : goal.returns-in-Ok-serve-clause-ok
 returns-in-Ok-serve-clause-ok g c =
     let asked = rw (c.as_bytes-format.ensures.value, c.as_bytes.ensures.value) at c.in-Ok.ensures in
-    served c.args.question.version c.args.question.format.now c.args.question.target.now
-    (meaning_of c.in-Ok.request.chosen) c.in-Ok.request.target
+    served c.args.question.tells_places true c.if-question.true c.args.question.version c.args.question.format.now
+    c.args.question.target.now (meaning_of c.in-Ok.request.chosen) c.in-Ok.request.target
     (g.R.Read.remaining c.args.input.now) (g.W.Write.contents c.args.out.now) (g.W.Write.contents c.serve.new.out)
     asked c.in-Ok-serve.ensures.ok
+
+pub returns-in-Ok-serve-2-clause-ok : goal.returns-in-Ok-serve-2-clause-ok
+returns-in-Ok-serve-2-clause-ok g c =
+    let asked = rw (c.as_bytes-format.ensures.value, c.as_bytes.ensures.value) at c.in-Ok.ensures in
+    served c.args.question.tells_places false c.if-question.false c.args.question.version c.args.question.format.now
+    c.args.question.target.now (meaning_of c.in-Ok.request.chosen) c.in-Ok.request.target
+    (g.R.Read.remaining c.args.input.now) (g.W.Write.contents c.args.out.now) (g.W.Write.contents c.serve-2.new.out)
+    asked c.in-Ok-serve-2.ensures.ok

@@ -1,0 +1,58 @@
+-- What is written of a place, part by part.
+use Rattle.std.proofs.Common.{◌≡◌, ◌∙◌, ℕ, suc, ◌+◌, ◌<◌, List, [], ◌∷◌, ◌++◌, length, map, take, get_or, append-nil, add-one, Option, Some, None, Result, Ok, Err, OnOk, refl, sym, ap, subst}
+use Rattle.std.specs.Io.KnownBytes.{Appends}
+use Rattle.std.proofs.Math.Seq.{take-suc}
+use Rattle.time_values.specs.Range.{greatest_year}
+use Rattle.time_components.specs.Tree.{Tree}
+use Rattle.time_record.specs.Record.{empty}
+use Rattle.time_parsing.specs.Outcome.{Reading}
+use Rattle.time_locating.specs.Located.{IsLocated, Locating, seen_place, wants}
+use Rattle.time_locating.specs.Misses.{all_bytes}
+use Rattle.time_locating.specs.declared.located.Located.{Located}
+use Rattle.time_answers.specs.Output.{Writes}
+use Rattle.time_answers.proofs.LinesLemmas.{Appends-more}
+use Rattle.time_parse.specs.Place.{IsPlace, IsTreePlace, expected_text, place_text}
+use Rattle.time_parse.specs.Fault.{shown}
+
+pub Appends-none : (a : Option (List ℕ)) → Appends a a []
+Appends-none None = tt
+Appends-none (Some s) = sym (append-nil s)
+
+map-append : (f : ℕ → ℕ) (x y : List ℕ) → map f (x ++ y) ≡ map f x ++ map f y
+map-append f [] y = refl
+map-append f (c ∷ x) y = ap (λ s. f c ∷ s) (map-append f x y)
+
+-- a byte more is shown
+pub shown_more : (a b c : Option (List ℕ)) (bytes : List ℕ) (i d : ℕ) → i < length bytes → Appends a b (map shown (take i bytes))
+    → Appends b c (shown (get_or bytes i d) ∷ []) → Appends a c (map shown (take (i + 1) bytes))
+shown_more a b c bytes i d h before more =
+    let all = ap (λ s. map shown s) (take-suc bytes i d h) ∙ map-append shown (take i bytes) (get_or bytes i d ∷ []) in
+    rw add-one (subst (Appends a c) (sym all) (Appends-more a b c (map shown (take i bytes)) (shown (get_or bytes i d) ∷ []) before more))
+
+-- the place of a text by a tree is the one by an equal tree
+pub Writes-tree : {E : Type 0} (r : Result (Unit {0}) E) (tree same : Tree) (bytes : List ℕ) (a b : Option (List ℕ)) → tree ≡ same
+    → OnOk r (Writes (IsTreePlace greatest_year all_bytes tree bytes) a b)
+    → OnOk r (Writes (IsTreePlace greatest_year all_bytes same bytes) a b)
+Writes-tree r tree same bytes a b e h =
+    subst (λ (t : Tree). OnOk r (Writes (IsTreePlace greatest_year all_bytes t bytes) a b)) e h
+
+-- an index and what was expected there
+pub place_written : {E : Type 0} (r : Result (Unit {0}) E) (reads : Reading) (locates : Locating) (text : List ℕ) (at : Located)
+    (a b c : Option (List ℕ)) (front : List ℕ) → IsLocated reads locates text empty (Some at) → Appends a b front
+    → OnOk r (Appends b c (expected_text (wants at.expected)))
+    → front ++ expected_text (wants at.expected) ≡ place_text (seen_place (Some at))
+    → OnOk r (Writes (IsPlace reads locates text) a c)
+place_written (Ok u) reads locates text at a b c front h before after is = (
+  front ++ expected_text (wants at.expected),
+  (Some at, h, is),
+  Appends-more a b c front (expected_text (wants at.expected)) before after,
+)
+place_written (Err e) reads locates text at a b c front h before after is = tt
+
+-- an answer and a place after it
+pub both_written : {E : Type 0} (r : Result (Unit {0}) E) (P Q : List ℕ → Type 0) (a b c : Option (List ℕ)) → Writes P a b
+    → OnOk r (Writes Q b c)
+    → OnOk r (Writes (λ t. (o : List ℕ) × (p : List ℕ) × P o × Q p × (t ≡ o ++ p)) a c)
+both_written (Ok u) P Q a b c before after =
+    (before.0 ++ after.0, (before.0, after.0, before.1, after.1, refl), Appends-more a b c before.0 after.0 before.2 after.2)
+both_written (Err e) P Q a b c before after = tt

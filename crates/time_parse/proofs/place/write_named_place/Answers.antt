@@ -1,0 +1,9 @@
+use Rattle.time_components.specs.Shape.{v3_shape}
+use Rattle.time_answers.specs.Formats.{unix}
+use Rattle.time_parse.proofs.PlaceLemmas.{Writes-tree}
+use Rattle.time_parse.proofs.place.write_named_place.Goals as goal
+
+pub returns-in-Unix : goal.returns-in-Unix
+returns-in-Unix g c =
+    rw c.in-Unix.is
+    (Writes-tree c.write_place-in-Unix.result (v3_shape c.unix.result.inner) unix c.args.text.now _ _ c.unix.ensures c.write_place-in-Unix.ensures)

@@ -1,0 +1,10 @@
+use Rattle.time_parse.proofs.PlaceLemmas.{Appends-none, shown_more}
+use Rattle.time_parse.proofs.place.write_shown.Goals as goal
+
+pub loop-byte-init : goal.loop-byte-init
+loop-byte-init g c = Appends-none _
+
+pub loop-byte-preserved : goal.loop-byte-preserved
+loop-byte-preserved g c =
+    shown_more _ _ _ c.args.bytes.now c.loop-byte.byte-index _ c.loop-byte-test.true c.loop-byte.invariant
+    (rw c.shown.ensures at c.in-Ok.ensures.bytes)

@@ -42,19 +42,36 @@ static PyObject *datetime_of(const pelzaune_moment *m, PyObject *zone)
     return value;
 }
 
+/* A date and time without an offset has a datetime without a zone. */
+static PyObject *naive_of(const pelzaune_local *l)
+{
+    pelzaune_moment shown = { l->year, l->nanosecond, 0, l->month, l->day, l->hour, l->minute, l->second };
+    return datetime_of(&shown, Py_NewRef(Py_None));
+}
+
+/* Whether a text of ISO 8601 has a T, and after it nothing that an offset begins with. */
+static inline int has_no_offset(const question *asked)
+{
+    if (asked->held || asked->number != PELZAUNE_ISO8601) return 0;
+    for (size_t k = asked->length; k-- > 0;) {
+        uint8_t byte = asked->bytes[k];
+        if (byte == 'T') return 1;
+        if (byte == 'Z' || byte == '+' || byte == '-') return 0;
+    }
+    return 0;
+}
+
 static PyObject *parse(GIVEN)
 {
     question asked;
     pelzaune_moment m;
+    pelzaune_local l;
     (void)self;
     if (!ask("parse", given, count, named, &asked)) return NULL;
+    if (has_no_offset(&asked) && ASK(local, asked, &l) == PELZAUNE_OK) return naive_of(&l);
     pelzaune_status status = ASK(moment, asked, &m);
     if (status == PELZAUNE_OK) return datetime_of(&m, zone_of(m.offset));
-    pelzaune_local l;
-    if (status != PELZAUNE_INSUFFICIENT || ASK(local, asked, &l) != PELZAUNE_OK) return refuse(status, &asked);
-    /* a text without an offset has a datetime without a zone */
-    pelzaune_moment shown = { l.year, l.nanosecond, 0, l.month, l.day, l.hour, l.minute, l.second };
-    return datetime_of(&shown, Py_NewRef(Py_None));
+    return status == PELZAUNE_INSUFFICIENT && ASK(local, asked, &l) == PELZAUNE_OK ? naive_of(&l) : refuse(status, &asked);
 }
 
 static PyObject *date_of(const pelzaune_date *d)

@@ -43,6 +43,20 @@ class Values(unittest.TestCase):
         self.assertEqual(pelzaune.parse_date("2020-366", pelzaune.ISO8601), datetime.date(2020, 12, 31))
         self.assertEqual(pelzaune.parse_time("T03:04,5", pelzaune.ISO8601), datetime.time(3, 4, 30))
 
+    def test_iso8601_with_and_without_an_offset(self):
+        r = random.Random(8601)
+        for _ in range(20000):
+            text = r.choice(("2021-01-02", "20210102", "2020-W53-6", "2020W536", "2020-366", "+012021-01-02"))
+            text += r.choice(("T", "t", " ", "")) + r.choice(("03", "03:04", "0304", "03:04:05", "030405", "03,5", "03:04.5", "23:59:60"))
+            text += r.choice(("", "", "Z", "z", "+05", "-0530", "+05:30", "-08:00", "T", "+"))
+            try:
+                date, time, tz = pelzaune.parse_parts(text, pelzaune.ISO8601)
+                whole = date and time and datetime.datetime.combine(date, time, tz)
+            except pelzaune.ParseError:
+                continue
+            got = pelzaune.parse(text, pelzaune.ISO8601) if whole and 1 <= date.year else None
+            self.assertEqual((got, got and got.tzinfo), (whole, whole and tz))
+
     def test_descriptions(self):
         when = datetime.datetime(2021, 1, 2, 3, 4, 5, 0, zone(-30))
         for form in ("%d/%b/%Y:%H:%M:%S %z", b"%d/%b/%Y:%H:%M:%S %z",

@@ -98,14 +98,22 @@ kinds h =
     ∷ step.Component (component.WeekNumberIso (record { padding = padding_of h.choice }))
     ∷ step.Component (component.WeekNumberSunday (record { padding = padding_of h.choice }))
     ∷ step.Component (component.WeekNumberMonday (record { padding = padding_of h.choice }))
-    ∷ step.Component (component.CalendarYearFullExtendedRange (record { padding = padding_of h.choice; sign_is_mandatory = is_set h.flag }))
-    ∷ step.Component (component.CalendarYearFullStandardRange (record { padding = padding_of h.choice; sign_is_mandatory = is_set h.flag }))
-    ∷ step.Component (component.IsoYearFullExtendedRange (record { padding = padding_of h.choice; sign_is_mandatory = is_set h.flag }))
-    ∷ step.Component (component.IsoYearFullStandardRange (record { padding = padding_of h.choice; sign_is_mandatory = is_set h.flag }))
-    ∷ step.Component (component.CalendarYearCenturyExtendedRange (record { padding = padding_of h.choice; sign_is_mandatory = is_set h.flag }))
-    ∷ step.Component (component.CalendarYearCenturyStandardRange (record { padding = padding_of h.choice; sign_is_mandatory = is_set h.flag }))
-    ∷ step.Component (component.IsoYearCenturyExtendedRange (record { padding = padding_of h.choice; sign_is_mandatory = is_set h.flag }))
-    ∷ step.Component (component.IsoYearCenturyStandardRange (record { padding = padding_of h.choice; sign_is_mandatory = is_set h.flag }))
+    ∷ step.Component (component.CalendarYearFullExtendedRange
+    (record { padding = padding_of h.choice; sign_is_mandatory = is_set h.flag }))
+    ∷ step.Component (component.CalendarYearFullStandardRange
+    (record { padding = padding_of h.choice; sign_is_mandatory = is_set h.flag }))
+    ∷ step.Component (component.IsoYearFullExtendedRange
+    (record { padding = padding_of h.choice; sign_is_mandatory = is_set h.flag }))
+    ∷ step.Component (component.IsoYearFullStandardRange
+    (record { padding = padding_of h.choice; sign_is_mandatory = is_set h.flag }))
+    ∷ step.Component (component.CalendarYearCenturyExtendedRange
+    (record { padding = padding_of h.choice; sign_is_mandatory = is_set h.flag }))
+    ∷ step.Component (component.CalendarYearCenturyStandardRange
+    (record { padding = padding_of h.choice; sign_is_mandatory = is_set h.flag }))
+    ∷ step.Component (component.IsoYearCenturyExtendedRange
+    (record { padding = padding_of h.choice; sign_is_mandatory = is_set h.flag }))
+    ∷ step.Component (component.IsoYearCenturyStandardRange
+    (record { padding = padding_of h.choice; sign_is_mandatory = is_set h.flag }))
     ∷ step.Component (component.CalendarYearLastTwo (record { padding = padding_of h.choice }))
     ∷ step.Component (component.IsoYearLastTwo (record { padding = padding_of h.choice }))
     ∷ step.Component (component.Hour12 (record { padding = padding_of h.choice }))
@@ -114,7 +122,8 @@ kinds h =
     ∷ step.Component (component.Period (record { is_uppercase = is_set h.choice; case_sensitive = is_set h.flag }))
     ∷ step.Component (component.Second (record { padding = padding_of h.choice }))
     ∷ step.Component (component.Subsecond (record { digits = digits_of h.choice }))
-    ∷ step.Component (component.OffsetHour (record { padding = padding_of h.choice; sign_is_mandatory = is_set h.flag }))
+    ∷ step.Component (component.OffsetHour
+    (record { padding = padding_of h.choice; sign_is_mandatory = is_set h.flag }))
     ∷ step.Component (component.OffsetMinute (record { padding = padding_of h.choice }))
     ∷ step.Component (component.OffsetSecond (record { padding = padding_of h.choice }))
     ∷ skipping (ignored h.count)

@@ -50,10 +50,12 @@ abbrev pub LocatesBy : Reading → Locating → List ℕ → ℕ → Place → P
 LocatesBy reads locates text status old new =
     (answer : Option Located) × IsLocated reads locates text empty answer × IsPlaceHanded answer status old new
 
--- The same by the format. That of ISO 8601 has no places here, and a number that no format has has none.
+-- The same by the format. ISO 8601 has no places, and a number that no format has has none.
 abbrev pub HandsPlace : Option Format → List ℕ → ℕ → Place → Place → Type 0
-HandsPlace (Some Rfc3339) text status old new = LocatesBy (rfc3339.Reads greatest_year) places_3339.Locates text status old new
-HandsPlace (Some Rfc2822) text status old new = LocatesBy (rfc2822.Reads greatest_year) places_2822.Locates text status old new
+HandsPlace (Some Rfc3339) text status old new =
+    LocatesBy (rfc3339.Reads greatest_year) places_3339.Locates text status old new
+HandsPlace (Some Rfc2822) text status old new =
+    LocatesBy (rfc2822.Reads greatest_year) places_2822.Locates text status old new
 HandsPlace (Some Iso8601) text status old new = (status ≡ unknown_format) × (new ≡ old)
 HandsPlace None text status old new = (status ≡ unknown_format) × (new ≡ old)
 

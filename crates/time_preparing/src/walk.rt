@@ -1,7 +1,7 @@
 //! The walk over the steps of a prepared description.
 //!
-//! It reads what is read at once, as far as that goes. An item that isn't is read by the walk over a description's steps,
-//! and then what follows it is read at once again.
+//! It reads what is read at once, and the groups. The first item in a list that is neither, and all after it in that
+//! list, are read by the walk over a description's steps.
 mod fast;
 
 ghost use Rattle.std.specs.Prelude.{◌≡◌, ◌≤◌, length, drop};
@@ -103,6 +103,9 @@ fn walk_later<'a>(
     let mut left_joined = joined;
     let mut rest = input;
     while let [step, behind @ ..] = left {
+        if !is_group(step) {
+            return parsed.parse_steps(rest, left);
+        }
         let count = 1 + item_len(step, behind);
         let (item, after) = left.split_at(count);
         let (item_joined, after_joined) = left_joined.split_at(count);
@@ -118,6 +121,15 @@ fn walk_later<'a>(
         rest = unread;
     }
     Ok(rest)
+}
+
+// Whether the step is a group.
+#[inline(always)]
+fn is_group(step: &Step) -> bool {
+    match step {
+        Step::Group(_, _) => true,
+        _ => false,
+    }
 }
 
 // Reads the steps of one item. After a refusal the record may have changed.

@@ -6,7 +6,9 @@ ghost use Rattle.std.specs.Prelude.{◌≡◌, ◌∷◌, IfSome, ℕ, false, tr
 ghost use Rattle.std.specs.Int.{w32};
 ghost use Rattle.time_values.specs.Range.{greatest_year};
 ghost use Rattle.time_digits.specs.Cuts.{Cut};
-ghost use Rattle.time_components.specs.Spelling.{Spells, signed, month as month_};
+ghost use Rattle.time_digits.specs.Digits.{IsPaddedRun};
+ghost use Rattle.time_digits.specs.declared.Padding.TheVariants.{Zero};
+ghost use Rattle.time_components.specs.Spelling.{Says, Spells, month as month_, number, signed};
 ghost use Rattle.time_components.specs.declared.format_description.Component.TheVariants as component;
 ghost use Rattle.time_record.specs.Record.{Record};
 ghost use Rattle.time_record.specs.Reading.{ReadsAll};
@@ -14,12 +16,10 @@ ghost use Rattle.time_preparing.specs.Forms.{date_parts, day_first_parts, dated_
 ghost use Rattle.time_preparing.specs.Walk.{leaves};
 ghost use Rattle.time_preparing.specs.declared.forms.TheConstants.{MONTH_NAME as MONTH_NAME_, YEAR as YEAR_};
 
-use super::{ClockNumbers, DAY, DateNumbers, Dated, HOUR, MINUTE, MONTH, SECOND};
+use super::{ClockNumbers, DAY, DateNumbers, Dated, MONTH};
 use time_components::ParsedItem;
-use time_components::combinator::exactly_n_digits;
-use time_components::component::{
-    fast, parse_day, parse_hour_24, parse_minute, parse_month_numerical, parse_second,
-};
+use time_components::combinator::{exactly_n_digits, two_digits};
+use time_components::component::{fast, parse_day, parse_month_numerical};
 use time_values::Month;
 
 /// What stands after this byte. `None`: another byte stands there.
@@ -31,6 +31,15 @@ pub(crate) fn after(input: &[u8], byte: u8) -> Option<&[u8]>
         [first, rest @ ..] if *first == byte => Some(rest),
         _ => None,
     }
+}
+
+// Reads a number of two digits.
+#[inline(always)]
+fn pair(input: &[u8]) -> Option<ParsedItem<'_, u8>>
+    ensures { IfSome result (λ found. Cut (Says number (IsPaddedRun Zero 2 2)) input.now found.0.now (number found.1)) }
+{
+    let pair = two_digits(input)?;
+    Some(pair)
 }
 
 // Reads a year of four digits.
@@ -116,9 +125,9 @@ pub(crate) fn clock(between: u8, input: &[u8]) -> Option<(ClockNumbers, &[u8])>
     ensures { IfSome result (λ f. (r : Record) → ReadsAll greatest_year (leaves (time_parts between))
         input.now r f.1.now (with_clock f.0 r)) }
 {
-    let hour = parse_hour_24(input, HOUR)?;
-    let minute = parse_minute(after(hour.0, between)?, MINUTE)?;
-    let second = parse_second(after(minute.0, between)?, SECOND)?;
+    let hour = pair(input)?;
+    let minute = pair(after(hour.0, between)?)?;
+    let second = pair(after(minute.0, between)?)?;
     if hour.1 > 23 || minute.1 > 59 || second.1 > 60 {
         return None;
     }

@@ -8,7 +8,7 @@ use Rattle.time_record.specs.Reading.{Reads, Refuses}
 use Rattle.time_preparing.specs.Joined.{Fits}
 use Rattle.time_record.proofs.StepRows.{behind_first, steps_trees-end}
 use Rattle.time_preparing.proofs.Choosing.{Chooses-fault, Chooses-nothing, Chooses-reads, Chooses-refused}
-use Rattle.time_preparing.proofs.Going.{answered, Goes-as, Goes-end, Goes-further, Goes-item, Goes-refused, Goes-tells, one_reads, one_refused, one_told}
+use Rattle.time_preparing.proofs.Going.{Goes-answered, Goes-as, Goes-end, Goes-further, Goes-item, Goes-refused, Goes-tells, one_reads, one_refused, one_told}
 use Rattle.time_preparing.proofs.Rows.{Fits-drop, Fits-take, group_row, item_row, item_trees}
 use Rattle.time_preparing.proofs.walk.+walk.Goals as goal
 
@@ -140,3 +140,6 @@ walk_later-loop-left-preserved t c =
 
 pub walk_later-returns : goal.walk_later-returns
 walk_later-returns t c = Goes-end c.loop-left.invariant.0 (steps_trees-end c.loop-left.left.now (omega arith))
+
+pub walk_later-returns-then-not-is_group : goal.walk_later-returns-then-not-is_group
+walk_later-returns-then-not-is_group t c = Goes-answered c.loop-left.invariant.0 _ _ c.parse_steps.ensures

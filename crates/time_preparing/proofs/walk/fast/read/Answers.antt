@@ -10,7 +10,8 @@ returns-in-Byte-clause-read c =
 
 pub returns-in-Component-clause-read : goal.returns-in-Component-clause-read
 returns-in-Component-clause-read c =
-    rw c.in-Component.is (tree_may_read greatest_year (component false c.in-Component.wanted) c.args.input.now c.args.parsed.now _ c.component.result c.component.ensures)
+    rw c.in-Component.is (tree_may_read greatest_year (component false c.in-Component.wanted)
+    c.args.input.now c.args.parsed.now _ c.component.result c.component.ensures)
 
 pub returns-in-Seconds-clause-read : goal.returns-in-Seconds-clause-read
 returns-in-Seconds-clause-read c = rw c.in-Seconds.is c.seconds.ensures

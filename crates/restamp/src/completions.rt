@@ -1,0 +1,105 @@
+//! The completions of three shells.
+
+const BASH: &str = r#"# Completions of restamp for bash.
+_restamp() {
+    local word=${COMP_WORDS[COMP_CWORD]} before=${COMP_WORDS[COMP_CWORD - 1]} words=
+    case $before in
+        -f | --from) words='rfc3339 rfc2822 iso8601 unix unix-ms unix-us unix-ns common syslog' ;;
+        -t | --to) words='rfc3339 rfc2822 iso8601 unix unix-ms unix-us unix-ns' ;;
+        -z | --zone) words='keep utc' ;;
+        --digits) words='auto 0 1 2 3 4 5 6 7 8 9' ;;
+        --completions) words='bash zsh fish' ;;
+        -k | --field | -b | --between | -a | --after | -d | --delimiter) return ;;
+        --year | --offset | -s | --since | -e | --until | --errors) return ;;
+        *)
+            if [[ $word == -* ]]; then
+                words='-l --front -k --field -b --between -a --after -d --delimiter --blanks --csv
+                    -f --from --year --offset -t --to -z --zone -u --utc --digits -o --only
+                    -s --since -e --until --drop-refused -q --quiet --errors -x --strict
+                    --keep-going --completions -h --help -V --version'
+            else
+                COMPREPLY=($(compgen -f -- "$word"))
+                return
+            fi
+            ;;
+    esac
+    COMPREPLY=($(compgen -W "$words" -- "$word"))
+}
+complete -o filenames -F _restamp restamp
+"#;
+
+const ZSH: &str = r#"#compdef restamp
+# Completions of restamp for zsh.
+_restamp() {
+    local -a reads writes
+    writes=(rfc3339 rfc2822 iso8601 unix unix-ms unix-us unix-ns)
+    reads=($writes common syslog)
+    _arguments -s \
+        '(-l --front)'{-l,--front}'[the line begins with the time]' \
+        '(-k --field)'{-k,--field}'[field N, from 1]:number:' \
+        '(-b --between)'{-b,--between}'[from after a text up to another]:text:' \
+        '(-a --after)'{-a,--after}'[after a text]:text:' \
+        '(-d --delimiter)'{-d,--delimiter}'[ends a field]:byte:' \
+        '--blanks[fields are words between blanks]' \
+        '--csv[a field may stand in quotes]' \
+        '*'{-f,--from}'[the format that is read]:format:($reads)' \
+        '--year[the year of times that have none]:year:' \
+        '--offset[the offset of times that have none]:offset:' \
+        '(-t --to)'{-t,--to}'[the format that is written]:format:($writes)' \
+        '(-z --zone -u --utc)'{-z,--zone}'[the offset that is written]:zone:(keep utc)' \
+        '(-z --zone -u --utc)'{-u,--utc}'[the same as --zone utc]' \
+        '--digits[digits of a fraction]:digits:(auto 0 1 2 3 4 5 6 7 8 9)' \
+        '(-o --only)'{-o,--only}'[writes the times alone]' \
+        '(-s --since)'{-s,--since}'[drops lines whose time is before]:time:' \
+        '(-e --until)'{-e,--until}'[drops lines whose time is not before]:time:' \
+        '--drop-refused[drops lines with no time or a refused one]' \
+        '(-q --quiet)'{-q,--quiet}'[names no refused line]' \
+        '--errors[names the first refused lines of a file]:number:' \
+        '(-x --strict)'{-x,--strict}'[stops at the first refused line]' \
+        '--keep-going[goes on under --strict]' \
+        '--completions[prints completions]:shell:(bash zsh fish)' \
+        '(-h --help)'{-h,--help}'[prints help]' \
+        '(-V --version)'{-V,--version}'[prints the version]' \
+        '*:file:_files'
+}
+_restamp "$@"
+"#;
+
+const FISH: &str = r#"# Completions of restamp for fish.
+set -l writes rfc3339 rfc2822 iso8601 unix unix-ms unix-us unix-ns
+complete -c restamp -s l -l front -d 'The line begins with the time'
+complete -c restamp -s k -l field -x -d 'Field N, from 1'
+complete -c restamp -s b -l between -x -d 'From after a text up to another'
+complete -c restamp -s a -l after -x -d 'After a text'
+complete -c restamp -s d -l delimiter -x -d 'Ends a field'
+complete -c restamp -l blanks -d 'Fields are words between blanks'
+complete -c restamp -l csv -d 'A field may stand in quotes'
+complete -c restamp -s f -l from -x -a "$writes common syslog" -d 'The format that is read'
+complete -c restamp -l year -x -d 'The year of times that have none'
+complete -c restamp -l offset -x -d 'The offset of times that have none'
+complete -c restamp -s t -l to -x -a "$writes" -d 'The format that is written'
+complete -c restamp -s z -l zone -x -a 'keep utc' -d 'The offset that is written'
+complete -c restamp -s u -l utc -d 'The same as --zone utc'
+complete -c restamp -l digits -x -a 'auto 0 1 2 3 4 5 6 7 8 9' -d 'Digits of a fraction'
+complete -c restamp -s o -l only -d 'Writes the times alone'
+complete -c restamp -s s -l since -x -d 'Drops lines whose time is before'
+complete -c restamp -s e -l until -x -d 'Drops lines whose time is not before'
+complete -c restamp -l drop-refused -d 'Drops lines with no time or a refused one'
+complete -c restamp -s q -l quiet -d 'Names no refused line'
+complete -c restamp -l errors -x -d 'Names the first refused lines of a file'
+complete -c restamp -s x -l strict -d 'Stops at the first refused line'
+complete -c restamp -l keep-going -d 'Goes on under --strict'
+complete -c restamp -l completions -x -a 'bash zsh fish' -d 'Prints completions'
+complete -c restamp -s h -l help -d 'Prints help'
+complete -c restamp -s V -l version -d 'Prints the version'
+"#;
+
+/// The completions of the shell of that name.
+pub(crate) fn completions_of(shell: &str) -> Option<&'static str> {
+    match shell {
+        "bash" => Some(BASH),
+        "zsh" => Some(ZSH),
+        "fish" => Some(FISH),
+        _ => None,
+    }
+}

@@ -1,0 +1,118 @@
+//! `restamp` rewrites the time in each line of files, or of standard input, and leaves every other byte as it is.
+#![tactic(auto)]
+
+mod completions;
+mod opening;
+mod output;
+
+use clap::ArgMatches;
+use completions::completions_of;
+use opening::Disk;
+use output::Watched;
+use std::alloc::AllocError;
+use std::io::{BufWriter, ErrorKind, Write};
+use std::process::ExitCode;
+use std::{env, io};
+use time_commanding::{Fault, Options, Request, make_command, serve};
+use time_rewriting::{Block, Stop, Stream, status};
+
+// The names of the files, or that of standard input where none is given.
+fn names_of<'m>(
+    rt: &HostRuntime,
+    matches: &'m ArgMatches<'_>,
+) -> Result<Vec<&'m [u8]>, AllocError> {
+    let mut names = Vec::new(rt.alloc());
+    if let Some(given) = matches.get_strs("FILE") {
+        for name in given {
+            names.push(name.as_bytes())?;
+        }
+    }
+    if names.is_empty() {
+        names.push(b"-".as_slice())?;
+    }
+    Ok(names)
+}
+
+// Tells what is wrong with an option.
+fn tell(rt: &HostRuntime, fault: Fault<'_>) -> io::Result<u8> {
+    match fault.place() {
+        Some((option, value)) => {
+            eprint!(rt; "error: invalid value '{value}' for '{option}': {fault}")?;
+        }
+        None => eprint!(rt; "error: {fault}")?,
+    }
+    eprintln!(rt; "\n\nFor more information, try '--help'.")?;
+    Ok(2)
+}
+
+// Tells why the output wasn't written, unless its reader has gone.
+fn tell_unwritten(rt: &HostRuntime, failure: Option<ErrorKind>) -> io::Result<()> {
+    match failure {
+        Some(ErrorKind::BrokenPipe) => Ok(()),
+        Some(kind) => eprintln!(rt; "restamp: the output was not written: {kind}"),
+        None => Ok(()),
+    }
+}
+
+// Answers the files, and gives the exit status.
+fn answer(rt: &HostRuntime, request: &Request<'_>, names: &[&[u8]]) -> io::Result<u8> {
+    let out = Watched::new(io::writer(rt));
+    let log = BufWriter::new(rt.alloc(), rt.stderr())?;
+    let mut stream = Stream::new(out, log);
+    let stop = match serve(
+        request,
+        names,
+        &Disk::new(rt),
+        &mut stream,
+        &mut Block::new(),
+    ) {
+        Ok(()) => None,
+        Err(stop) => Some(stop),
+    };
+    let (out, log, tally) = stream.into_parts();
+    drop(log);
+    if let Some(Stop::Unwritten) = stop {
+        tell_unwritten(rt, out.failure())?;
+    }
+    Ok(status(&tally, stop, request.strict))
+}
+
+// Prints the completions of a shell.
+fn complete(rt: &HostRuntime, shell: &str) -> io::Result<u8> {
+    match completions_of(shell) {
+        Some(text) => {
+            print!(rt; "{text}")?;
+            Ok(0)
+        }
+        None => {
+            eprintln!(rt;
+                "error: invalid value '{shell}' for '--completions <SHELL>': it is not bash, zsh or fish"
+            )?;
+            Ok(2)
+        }
+    }
+}
+
+// Does what the options ask for.
+fn follow(rt: &HostRuntime, matches: &ArgMatches<'_>) -> io::Result<u8> {
+    if let Some(shell) = matches.get_str("completions") {
+        return complete(rt, shell);
+    }
+    let names = names_of(rt, matches)?;
+    match Request::new(rt.alloc(), &Options::of(matches)) {
+        Ok(request) => answer(rt, &request, names.as_slice()),
+        Err(fault) => tell(rt, fault),
+    }
+}
+
+fn main(rt: HostRuntime) -> io::Result<ExitCode> {
+    let words: Vec<String> = env::args(&rt)?.collect(rt.alloc())?;
+    let command = make_command(rt.alloc())?;
+    match command.try_get_matches_from(words.as_slice()) {
+        Ok(matches) => Ok(ExitCode::from(follow(&rt, &matches)?)),
+        Err(error) => {
+            error.print(&rt)?;
+            Ok(ExitCode::from(if error.use_stderr() { 2 } else { 0 }))
+        }
+    }
+}

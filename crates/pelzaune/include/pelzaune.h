@@ -181,7 +181,7 @@ typedef struct pelzaune_place {
 /* Tells where a text that can't be read goes wrong, for a message to who wrote it. PELZAUNE_OK says that the whole text is
  * read, also where the calendar has no such date, and then *out is unchanged. Any other status says what was expected at
  * the place, as that of a refusal: PELZAUNE_INVALID_LITERAL, PELZAUNE_INVALID_COMPONENT, or for the end of the text
- * PELZAUNE_TRAILING. There are places by RFC 3339 and RFC 2822, and by descriptions. */
+ * PELZAUNE_TRAILING. */
 pelzaune_status pelzaune_locate(uint32_t format, const uint8_t *text, size_t length, pelzaune_place *out);
 pelzaune_status pelzaune_read_locate(uint32_t syntax, const uint8_t *description, size_t description_length, const uint8_t *text,
     size_t length, pelzaune_place *out);

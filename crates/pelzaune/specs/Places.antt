@@ -9,10 +9,12 @@ use Rattle.time_record.specs.Record.{empty}
 use Rattle.time_parsing.specs.Outcome.{Reading}
 use Rattle.time_parsing.specs.Rfc3339 as rfc3339
 use Rattle.time_parsing.specs.Rfc2822 as rfc2822
+use Rattle.time_parsing.specs.Iso8601 as iso8601
 use Rattle.time_locating.specs.Located.{IsLocated, Locating, wants}
 use Rattle.time_locating.specs.Misses.{LocatesTree, Wanted, first_byte, named, the_end, these_bytes}
 use Rattle.time_locating.specs.Rfc3339 as places_3339
 use Rattle.time_locating.specs.Rfc2822 as places_2822
+use Rattle.time_locating.specs.Iso8601 as places_8601
 use Rattle.time_locating.specs.declared.located.Located.{Located}
 use Rattle.pelzaune.specs.Described.{IsDescribed, fault_status}
 use Rattle.pelzaune.specs.Status.{status_of, unknown_format, unknown_syntax}
@@ -50,13 +52,14 @@ abbrev pub LocatesBy : Reading → Locating → List ℕ → ℕ → Place → P
 LocatesBy reads locates text status old new =
     (answer : Option Located) × IsLocated reads locates text empty answer × IsPlaceHanded answer status old new
 
--- The same by the format. ISO 8601 has no places, and a number that no format has has none.
+-- The same by the format. A number that no format has has none.
 abbrev pub HandsPlace : Option Format → List ℕ → ℕ → Place → Place → Type 0
 HandsPlace (Some Rfc3339) text status old new =
     LocatesBy (rfc3339.Reads greatest_year) places_3339.Locates text status old new
 HandsPlace (Some Rfc2822) text status old new =
     LocatesBy (rfc2822.Reads greatest_year) places_2822.Locates text status old new
-HandsPlace (Some Iso8601) text status old new = (status ≡ unknown_format) × (new ≡ old)
+HandsPlace (Some Iso8601) text status old new =
+    LocatesBy (iso8601.Reads greatest_year) (places_8601.Locates greatest_year) text status old new
 HandsPlace None text status old new = (status ≡ unknown_format) × (new ≡ old)
 
 -- The same by what is described; or the status of why nothing is.

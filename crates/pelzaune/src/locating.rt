@@ -8,7 +8,7 @@ use crate::descriptions::{fault_status, read_description, syntax_of};
 use crate::formats::{Format, format_of};
 use crate::status::{UNKNOWN_FORMAT, UNKNOWN_SYNTAX, status_of_description};
 use time_locating::{Expected, Locate, Located};
-use time_parsing::{Rfc2822, Rfc3339};
+use time_parsing::{Iso8601, Rfc2822, Rfc3339};
 use time_values::error::ParseFromDescription;
 
 /// Where a text goes wrong.
@@ -66,7 +66,8 @@ pub extern "C" fn pelzaune_locate(format: u32, text: &[u8], out: &mut Place) -> 
     match format_of(format) {
         Some(Format::Rfc3339) => locate(&Rfc3339, text, out),
         Some(Format::Rfc2822) => locate(&Rfc2822, text, out),
-        Some(Format::Iso8601) | None => UNKNOWN_FORMAT,
+        Some(Format::Iso8601) => locate(&Iso8601, text, out),
+        None => UNKNOWN_FORMAT,
     }
 }
 

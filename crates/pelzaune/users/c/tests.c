@@ -191,8 +191,10 @@ static void test_places(void)
     EXPECT(pelzaune_locate(PELZAUNE_RFC3339, TEXT("2021-01-02T03:04:05Z"), &p) == PELZAUNE_OK);
     EXPECT(pelzaune_locate(PELZAUNE_RFC3339, TEXT("2021-02-30T03:04:05Z"), &p) == PELZAUNE_OK);
     EXPECT(pelzaune_locate(PELZAUNE_RFC2822, TEXT("Sat, 02 Jan 2021 03:04:05 +0607"), &p) == PELZAUNE_OK);
-    EXPECT(pelzaune_locate(PELZAUNE_ISO8601, TEXT("2021-13-02"), &p) == PELZAUNE_UNKNOWN_FORMAT);
+    EXPECT(pelzaune_locate(PELZAUNE_ISO8601, TEXT("2021-01-02"), &p) == PELZAUNE_OK);
     EXPECT(pelzaune_locate(4, TEXT("2021-13-02"), &p) == PELZAUNE_UNKNOWN_FORMAT && p.index == 77 && p.byte == 7);
+    /* 20:21 at the offset -13, after which "-02" remains. */
+    EXPECT(pelzaune_locate(PELZAUNE_ISO8601, TEXT("2021-13-02"), &p) == PELZAUNE_TRAILING && p.index == 7 && p.byte == 0);
     EXPECT(pelzaune_locate(PELZAUNE_RFC3339, TEXT("2021-13-02T03:04:05Z"), &p) == PELZAUNE_INVALID_COMPONENT + 256 * 2 && p.index == 5 && p.byte == 0);
     EXPECT(pelzaune_locate(PELZAUNE_RFC3339, TEXT("2021/13-02T03:04:05Z"), &p) == PELZAUNE_INVALID_LITERAL && p.index == 4 && p.byte == '-');
     EXPECT(pelzaune_locate(PELZAUNE_RFC3339, TEXT("2021-01-02T03:04:05Zx"), &p) == PELZAUNE_TRAILING && p.index == 20 && p.byte == 0);

@@ -214,6 +214,7 @@ class Refusals(unittest.TestCase):
         self.assertEqual(index("2021-02", "[year]-[month]-[day]"), 7)
         self.assertIsNone(index("2021-02-30T03:04:05Z"))
         self.assertIsNone(index("2021-13", pelzaune.ISO8601))
+        self.assertEqual(index("2021-13-02", pelzaune.ISO8601), 7)
         self.assertIsNone(index("2021-13", 9))
 
     def test_faults_of_descriptions(self):

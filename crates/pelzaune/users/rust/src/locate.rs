@@ -31,15 +31,14 @@ impl fmt::Display for Place {
     }
 }
 
-/// Where a text goes wrong, or `None` where it is read whole, also where the calendar has no such date. ISO 8601 has no
-/// places.
+/// Where a text goes wrong, or `None` where it is read whole, also where the calendar has no such date.
 pub fn locate(text: impl AsRef<[u8]>, format: Format<'_>) -> Option<Place> {
     let text = text.as_ref();
     let mut found = ffi::Place { index: 0, byte: 0 };
     let number = match format {
         Format::Rfc3339 => 1,
         Format::Rfc2822 => 2,
-        Format::Iso8601 => return None,
+        Format::Iso8601 => 3,
         Format::Described(Description { syntax, text: described, .. }) => {
             // SAFETY: the pointers and the lengths are those of slices, and the place is borrowed alone.
             let status = unsafe {

@@ -16,7 +16,7 @@ use Rattle.time_locating.specs.exact.MissLaws.{tree_exact_place}
 use Rattle.time_locating.specs.exact.Rfc2822Laws.{rfc2822_exact_place}
 use Rattle.time_locating.specs.exact.Rfc3339Laws.{rfc3339_exact_place}
 use Rattle.time_locating.proofs.PlaceLemmas.{one_answer}
-use Rattle.time_answers.specs.Formats.{clock, local, target_named, unix, ymd}
+use Rattle.time_answers.specs.Formats.{clock, local, unix, ymd}
 use Rattle.time_answers.specs.declared.formats.Format.{Format}
 use Rattle.time_answers.specs.declared.formats.Format.TheVariants as format
 use Rattle.time_answers.specs.Output as output

@@ -1,5 +1,5 @@
 -- What the format and target of the arguments ask for. `Y` is the greatest year.
-use Rattle.std.specs.Prelude.{◌≡◌, ◌⊎◌, ◌==◌, ℕ, List, Option, None, Some, Bool, if◌then◌else◌}
+use Rattle.std.specs.Prelude.{◌≡◌, ◌⊎◌, ◌==◌, ℕ, List, None, Bool, if◌then◌else◌}
 use Rattle.std.specs.List.{list_any}
 use Rattle.time_components.specs.Tree.{Tree}
 use Rattle.time_descriptions.specs.Description.{IsRefused, shape, version_of}

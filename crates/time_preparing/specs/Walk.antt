@@ -1,5 +1,3 @@
--- No public contract rests on this file.
---
 -- What a walk over trees in turn does. `Y` is the greatest year.
 use Rattle.std.specs.Prelude.{◌≡◌, ℕ, List, [], ◌∷◌, length, min, Option, Some, None, Result, Ok, Err, false}
 use Rattle.std.specs.Borrow.{Bor}

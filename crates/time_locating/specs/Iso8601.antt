@@ -171,4 +171,5 @@ misses Y bytes r = by_date Y bytes r (date_text bytes)
 -- The place of a text over the record: the furthest of its misses, or of them and the end.
 abbrev pub Locates : ℕ → Locating
 Locates Y bytes r m =
-    place_after (rest_of (reading Y bytes (with_leap_second r))) (furthest (misses Y bytes (with_leap_second r))) ≡ Some m
+    place_after (rest_of (reading Y bytes (with_leap_second r)))
+    (furthest (misses Y bytes (with_leap_second r))) ≡ Some m

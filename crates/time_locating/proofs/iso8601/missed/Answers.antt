@@ -12,8 +12,8 @@ use Rattle.time_locating.proofs.iso8601.missed.Goals as goal
 pub returns-in_default : goal.returns-in_default
 returns-in_default c r =
     c.further.ensures
-    ∙ no_date greatest_year c.args.input.now r _ (seen_miss c.rows_missed.result) (seen_miss c.missed_without_date.result) c.in_default.ensures c.rows_missed.ensures
-    c.missed_without_date.ensures
+    ∙ no_date greatest_year c.args.input.now r _ (seen_miss c.rows_missed.result) (seen_miss c.missed_without_date.result)
+    c.in_default.ensures c.rows_missed.ensures c.missed_without_date.ensures
 
 pub overflow_add-number : goal.overflow_add-number
 overflow_add-number c =
@@ -30,8 +30,10 @@ returns-in-Some c r =
     let number = date-number c.args.input.now d c.in-Ok.ensures in
     let great = c.in-Some.ensures r number.1 in
     c.further-in-Some.ensures
-    ∙ ap (λ k. further (Some (missed k (named c.in-Some.name.now))) (seen_miss c.missed_without_date-in-Some.result)) (sym (great.1 (length date.rest.now)))
-    ∙ great_date greatest_year c.args.input.now r d c.in-Some.name.now (seen_miss c.missed_without_date-in-Some.result) c.in-Ok.ensures great.0 c.missed_without_date-in-Some.ensures
+    ∙ ap (λ k. further (Some (missed k (named c.in-Some.name.now))) (seen_miss c.missed_without_date-in-Some.result))
+    (sym (great.1 (length date.rest.now)))
+    ∙ great_date greatest_year c.args.input.now r d c.in-Some.name.now
+    (seen_miss c.missed_without_date-in-Some.result) c.in-Ok.ensures great.0 c.missed_without_date-in-Some.ensures
 
 pub returns-in-None : goal.returns-in-None
 returns-in-None c r =

@@ -143,7 +143,7 @@ fn literal<'a, 'd>(
     }
 }
 
-// The steps of the first item, and those after it.
+// The steps of the first item, and those after it. This is no second way of reading.
 fn split_item(steps: &[Step]) -> Option<(&[Step], &[Step])>
     ensures { MatchOption result (length steps.now ≡ 0) (λ p. IsSplit steps.now p.0.now p.1.now) }
 {

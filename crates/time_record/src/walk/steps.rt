@@ -1,4 +1,4 @@
-//! The walk over the steps of a description that was read from a text.
+//! The walk over the steps of a description that was read from a text, a second root over the short cuts of leaves.
 ghost use Rattle.std.specs.Prelude.{◌≡◌, ◌≢◌, ◌-◌, ◌≤◌, ◌++◌, ◌∷◌, [], ℕ, List, length, drop, MatchOption};
 ghost use Rattle.time_values.specs.Range.{greatest_year};
 ghost use Rattle.time_components.specs.Steps as steps_;
@@ -188,7 +188,8 @@ fn steps_after<'s>(step: &Step, behind: &'s [Step]) -> &'s [Step]
     }
 }
 
-// The further byte of a literal in front of the steps, if there is one, and the steps behind it.
+// The further byte of a literal in front of the steps, if there is one, and the steps after it. This is no second way of
+// reading.
 #[inline(always)]
 pub(super) fn further_byte(steps: &[Step]) -> Option<(u8, &[Step])>
     ensures { MatchOption result (steps_.further steps.now ≡ []) (λ x. IsFurther x.0 x.1.now steps.now) }

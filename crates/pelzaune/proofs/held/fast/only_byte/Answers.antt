@@ -2,7 +2,7 @@ use Rattle.std.proofs.Common.{◌≡◌, [], ◌∷◌, map, refl, arith, rules}
 use Rattle.time_components.specs.Steps.{further}
 use Rattle.time_record.proofs.ComponentLemmas.{reads_byte}
 use Rattle.pelzaune.specs.Held.{step_of}
-use Rattle.pelzaune.proofs.held.only_byte.Goals as goal
+use Rattle.pelzaune.proofs.held.fast.only_byte.Goals as goal
 
 pub returns-in-len1-up-clause-read : goal.returns-in-len1-up-clause-read
 returns-in-len1-up-clause-read c = λ r.

@@ -3,7 +3,7 @@ use Rattle.time_values.specs.Range.{greatest_year}
 use Rattle.time_components.specs.Spelling.{number}
 use Rattle.time_components.specs.declared.format_description.Component.TheVariants.{Day, Hour24, Minute, MonthNumerical, Second}
 use Rattle.time_record.proofs.ComponentLemmas.{spelled}
-use Rattle.pelzaune.proofs.held.read_common.Goals as goal
+use Rattle.pelzaune.proofs.held.fast.read_common.Goals as goal
 
 pub returns-in_ok-set_hour_24-in-Hour24 : goal.returns-in_ok-set_hour_24-in-Hour24
 returns-in_ok-set_hour_24-in-Hour24 c =

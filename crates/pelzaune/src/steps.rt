@@ -119,6 +119,41 @@ macro_rules! component {
     };
 }
 
+// A component with a padding.
+macro_rules! padded {
+    ($name:ident, $padding:expr) => {
+        component!($name { padding: $padding })
+    };
+}
+
+// A component with a padding and a sign.
+macro_rules! signed {
+    ($name:ident, $padding:expr, $flag:expr) => {
+        component!($name { padding: $padding, sign_is_mandatory: $flag })
+    };
+}
+
+// A number of units since 1970, with a sign.
+macro_rules! stamped {
+    ($name:ident, $flag:expr) => {
+        component!($name { sign_is_mandatory: $flag })
+    };
+}
+
+// A name, in which letters may have any case or not.
+macro_rules! cased {
+    ($name:ident, $flag:expr) => {
+        component!($name { case_sensitive: $flag })
+    };
+}
+
+// A day of the week by its number.
+macro_rules! counted {
+    ($name:ident, $flag:expr) => {
+        component!($name { one_indexed: $flag })
+    };
+}
+
 /// The step that is held.
 #[inline]
 #[tactic(auto, unfolding(crate::specs::Held::step_of))]
@@ -133,90 +168,47 @@ pub fn step_of(held: HeldStep) -> Step
         2 => Step::Group(Group::Optional, held.len),
         3 => Step::Group(Group::First, held.len),
         4 => Step::Group(Group::List, held.len),
-        5 => component!(Day { padding: padding }),
-        6 => component!(MonthShort {
-            case_sensitive: flag
-        }),
-        7 => component!(MonthLong {
-            case_sensitive: flag
-        }),
-        8 => component!(MonthNumerical { padding: padding }),
-        9 => component!(Ordinal { padding: padding }),
-        10 => component!(WeekdayShort {
-            case_sensitive: flag
-        }),
-        11 => component!(WeekdayLong {
-            case_sensitive: flag
-        }),
-        12 => component!(WeekdaySunday { one_indexed: flag }),
-        13 => component!(WeekdayMonday { one_indexed: flag }),
-        14 => component!(WeekNumberIso { padding: padding }),
-        15 => component!(WeekNumberSunday { padding: padding }),
-        16 => component!(WeekNumberMonday { padding: padding }),
-        17 => component!(CalendarYearFullExtendedRange {
-            padding: padding,
-            sign_is_mandatory: flag
-        }),
-        18 => component!(CalendarYearFullStandardRange {
-            padding: padding,
-            sign_is_mandatory: flag
-        }),
-        19 => component!(IsoYearFullExtendedRange {
-            padding: padding,
-            sign_is_mandatory: flag
-        }),
-        20 => component!(IsoYearFullStandardRange {
-            padding: padding,
-            sign_is_mandatory: flag
-        }),
-        21 => component!(CalendarYearCenturyExtendedRange {
-            padding: padding,
-            sign_is_mandatory: flag
-        }),
-        22 => component!(CalendarYearCenturyStandardRange {
-            padding: padding,
-            sign_is_mandatory: flag
-        }),
-        23 => component!(IsoYearCenturyExtendedRange {
-            padding: padding,
-            sign_is_mandatory: flag
-        }),
-        24 => component!(IsoYearCenturyStandardRange {
-            padding: padding,
-            sign_is_mandatory: flag
-        }),
-        25 => component!(CalendarYearLastTwo { padding: padding }),
-        26 => component!(IsoYearLastTwo { padding: padding }),
-        27 => component!(Hour12 { padding: padding }),
-        28 => component!(Hour24 { padding: padding }),
-        29 => component!(Minute { padding: padding }),
+        5 => padded!(Day, padding),
+        6 => cased!(MonthShort, flag),
+        7 => cased!(MonthLong, flag),
+        8 => padded!(MonthNumerical, padding),
+        9 => padded!(Ordinal, padding),
+        10 => cased!(WeekdayShort, flag),
+        11 => cased!(WeekdayLong, flag),
+        12 => counted!(WeekdaySunday, flag),
+        13 => counted!(WeekdayMonday, flag),
+        14 => padded!(WeekNumberIso, padding),
+        15 => padded!(WeekNumberSunday, padding),
+        16 => padded!(WeekNumberMonday, padding),
+        17 => signed!(CalendarYearFullExtendedRange, padding, flag),
+        18 => signed!(CalendarYearFullStandardRange, padding, flag),
+        19 => signed!(IsoYearFullExtendedRange, padding, flag),
+        20 => signed!(IsoYearFullStandardRange, padding, flag),
+        21 => signed!(CalendarYearCenturyExtendedRange, padding, flag),
+        22 => signed!(CalendarYearCenturyStandardRange, padding, flag),
+        23 => signed!(IsoYearCenturyExtendedRange, padding, flag),
+        24 => signed!(IsoYearCenturyStandardRange, padding, flag),
+        25 => padded!(CalendarYearLastTwo, padding),
+        26 => padded!(IsoYearLastTwo, padding),
+        27 => padded!(Hour12, padding),
+        28 => padded!(Hour24, padding),
+        29 => padded!(Minute, padding),
         30 => component!(Period {
             is_uppercase: held.choice != 0,
             case_sensitive: flag
         }),
-        31 => component!(Second { padding: padding }),
+        31 => padded!(Second, padding),
         32 => component!(Subsecond {
             digits: digits_of(held.choice)
         }),
-        33 => component!(OffsetHour {
-            padding: padding,
-            sign_is_mandatory: flag
-        }),
-        34 => component!(OffsetMinute { padding: padding }),
-        35 => component!(OffsetSecond { padding: padding }),
+        33 => signed!(OffsetHour, padding, flag),
+        34 => padded!(OffsetMinute, padding),
+        35 => padded!(OffsetSecond, padding),
         36 => skipping(held.count),
-        37 => component!(UnixTimestampSecond {
-            sign_is_mandatory: flag
-        }),
-        38 => component!(UnixTimestampMillisecond {
-            sign_is_mandatory: flag
-        }),
-        39 => component!(UnixTimestampMicrosecond {
-            sign_is_mandatory: flag
-        }),
-        40 => component!(UnixTimestampNanosecond {
-            sign_is_mandatory: flag
-        }),
+        37 => stamped!(UnixTimestampSecond, flag),
+        38 => stamped!(UnixTimestampMillisecond, flag),
+        39 => stamped!(UnixTimestampMicrosecond, flag),
+        40 => stamped!(UnixTimestampNanosecond, flag),
         41 => component!(End {
             trailing_input: trailing_of(held.choice)
         }),
@@ -237,6 +229,17 @@ fn chosen(kind: u8, choice: u8, flag: bool) -> HeldStep
     }
 }
 
+// A component of that kind with its padding and its sign.
+macro_rules! chosen_signed {
+    ($kind:expr, $modifiers:ident) => {
+        chosen(
+            $kind,
+            padding_number($modifiers.padding),
+            $modifiers.sign_is_mandatory,
+        )
+    };
+}
+
 // The component, held.
 #[tactic(auto, using(crate::proofs::HeldSteps::padding_back, crate::proofs::HeldSteps::digits_back, crate::proofs::HeldSteps::trailing_back, crate::proofs::HeldSteps::flag_back, crate::proofs::HeldSteps::skips), unfolding(crate::specs::Held::step_of))]
 fn held_component(component: Component) -> HeldStep
@@ -255,46 +258,14 @@ fn held_component(component: Component) -> HeldStep
         Component::WeekNumberIso(m) => chosen(14, padding_number(m.padding), false),
         Component::WeekNumberSunday(m) => chosen(15, padding_number(m.padding), false),
         Component::WeekNumberMonday(m) => chosen(16, padding_number(m.padding), false),
-        Component::CalendarYearFullExtendedRange(m) => chosen(
-            17,
-            padding_number(m.padding),
-            m.sign_is_mandatory,
-        ),
-        Component::CalendarYearFullStandardRange(m) => chosen(
-            18,
-            padding_number(m.padding),
-            m.sign_is_mandatory,
-        ),
-        Component::IsoYearFullExtendedRange(m) => chosen(
-            19,
-            padding_number(m.padding),
-            m.sign_is_mandatory,
-        ),
-        Component::IsoYearFullStandardRange(m) => chosen(
-            20,
-            padding_number(m.padding),
-            m.sign_is_mandatory,
-        ),
-        Component::CalendarYearCenturyExtendedRange(m) => chosen(
-            21,
-            padding_number(m.padding),
-            m.sign_is_mandatory,
-        ),
-        Component::CalendarYearCenturyStandardRange(m) => chosen(
-            22,
-            padding_number(m.padding),
-            m.sign_is_mandatory,
-        ),
-        Component::IsoYearCenturyExtendedRange(m) => chosen(
-            23,
-            padding_number(m.padding),
-            m.sign_is_mandatory,
-        ),
-        Component::IsoYearCenturyStandardRange(m) => chosen(
-            24,
-            padding_number(m.padding),
-            m.sign_is_mandatory,
-        ),
+        Component::CalendarYearFullExtendedRange(m) => chosen_signed!(17, m),
+        Component::CalendarYearFullStandardRange(m) => chosen_signed!(18, m),
+        Component::IsoYearFullExtendedRange(m) => chosen_signed!(19, m),
+        Component::IsoYearFullStandardRange(m) => chosen_signed!(20, m),
+        Component::CalendarYearCenturyExtendedRange(m) => chosen_signed!(21, m),
+        Component::CalendarYearCenturyStandardRange(m) => chosen_signed!(22, m),
+        Component::IsoYearCenturyExtendedRange(m) => chosen_signed!(23, m),
+        Component::IsoYearCenturyStandardRange(m) => chosen_signed!(24, m),
         Component::CalendarYearLastTwo(m) => chosen(25, padding_number(m.padding), false),
         Component::IsoYearLastTwo(m) => chosen(26, padding_number(m.padding), false),
         Component::Hour12(m) => chosen(27, padding_number(m.padding), false),
@@ -303,7 +274,7 @@ fn held_component(component: Component) -> HeldStep
         Component::Period(m) => chosen(30, u8::from(m.is_uppercase), m.case_sensitive),
         Component::Second(m) => chosen(31, padding_number(m.padding), false),
         Component::Subsecond(m) => chosen(32, digits_number(m.digits), false),
-        Component::OffsetHour(m) => chosen(33, padding_number(m.padding), m.sign_is_mandatory),
+        Component::OffsetHour(m) => chosen_signed!(33, m),
         Component::OffsetMinute(m) => chosen(34, padding_number(m.padding), false),
         Component::OffsetSecond(m) => chosen(35, padding_number(m.padding), false),
         Component::Ignore(m) => HeldStep {

@@ -1,26 +1,20 @@
 -- What is written of items in turn, of lists and of groups that are described reads back as them.
-use Rattle.std.proofs.Common.{◌≡◌, ℕ, suc, ◌-◌, ◌≤◌, List, [], ◌∷◌, ◌++◌, length, Bool, true, false, not, Option, Some, None, Result, Ok, refl, ap, sym, ◌∙◌, append_assoc, append-nil, length-append, arith}
-use Rattle.std.proofs.lemmas.Bool.{and_right}
-use Rattle.std.specs.Prelude.{◌==◌, ◌&&◌, codes}
-use Rattle.time_components.specs.declared.step.Group.{Group}
+use Rattle.std.proofs.Common.{◌≡◌, ℕ, suc, ◌-◌, ◌≤◌, List, [], ◌∷◌, ◌++◌, length, Bool, true, false, Ok, refl, ap, ◌∙◌, append_assoc, length-append, arith}
+use Rattle.std.specs.Prelude.{codes}
 use Rattle.time_components.specs.declared.step.Group.TheVariants as groups
-use Rattle.time_descriptions.specs.declared.fault.Fault.{Fault}
 use Rattle.time_descriptions.specs.declared.fault.Fault.TheVariants as fault
 use Rattle.time_descriptions.specs.declared.version.Version.TheVariants as versions
 use Rattle.time_descriptions.specs.Components.{Read, ◌>>=◌}
-use Rattle.time_descriptions.specs.Grammar.{after_byte, before, by_option, closed, ends, group_by, group_word, item, items_by, list_by, lists_by, next_list, opened}
+use Rattle.time_descriptions.specs.Grammar.{after_byte, before, by_option, item, items_by, list_by, lists_by}
 use Rattle.time_descriptions.specs.Items.{Item, group, items_of, tree_of, trees_of}
 use Rattle.time_descriptions.proofs.Adding.{ended, went_on}
-use Rattle.time_descriptions.proofs.WrittenLeaves.{item_text, stops}
-use Rattle.time_descriptions.proofs.WrittenLists.{ChoiceBack, ListBack, lists_of, text_of}
+use Rattle.time_descriptions.proofs.WrittenLeaves.{and_false, item_text, stops}
+use Rattle.time_descriptions.proofs.WrittenLists.{ChoiceBack, GroupsBack, ListBack, ends_stops, list_item, lists_of, lists_read, opens_list, text_of}
 use Rattle.time_describing.specs.Described.{begins_run, is_run}
-use Rattle.time_describing.proofs.DescribedText.{AllBack, Back, and_false}
+use Rattle.time_describing.proofs.DescribedText.{AllBack, Back}
+use Rattle.time_descriptions.proofs.Written.{first_opens, group_read, no_next, optional_opens}
 
 -- Items in turn.
-
-ends_stops : (nested : Bool) (after : List ℕ) → ends nested after ≡ true → stops nested after ≡ true
-ends_stops nested [] e = refl
-ends_stops nested (b ∷ after) e = ap not (and_right (not (b == 91) && not (b == 92)) (not (nested && b == 93)) (ap not e))
 
 pub none_back : (depth : ℕ) (nested : Bool) → AllBack depth nested []
 none_back depth nested = record {
@@ -54,39 +48,6 @@ list_is_back depth is p opening after =
     let on : Read (List Item) → Read (List Item) = λ r. r >>= λ y. after_byte 93 (fault.UnclosedOpeningBracket opening) y.1 >>= λ rest. Ok (y.0, rest) in
     ap on (p.reads (length t) (93 ∷ after) (omega (arith, length-append (text_of is) (93 ∷ after))) refl)
 
-abbrev pub list_item : List Item → Item
-list_item is = group groups.List (items_of is)
-
--- what is written of further lists reads back as them
-abbrev pub GroupsBack : (List ℕ → Read Item) → List Item → Type 0
-GroupsBack read ls =
-    (opening m : ℕ) (after : List ℕ) → length (lists_of ls) ≤ m → next_list after ≡ None
-    → by_option (Ok ([], lists_of ls ++ after)) (lists_by (list_by read opening) m) (next_list (lists_of ls ++ after)) ≡ Ok (ls, after)
-
-pub no_groups : (read : List ℕ → Read Item) → GroupsBack read []
-no_groups read opening m after h e = ap (by_option (Ok ([], after)) (lists_by (list_by read opening) m)) e
-
-option_before : (front : List Item) (rest : List ℕ) (f : List ℕ → Read (List Item)) (o : Option (List ℕ))
-    → by_option (Ok (front, rest)) (λ inside. before front (f inside)) o ≡ before front (by_option (Ok ([], rest)) f o)
-option_before front rest f (Some inside) = refl
-option_before front rest f None = ap (λ (is : List Item). Ok (is, rest)) (sym (append-nil front))
-
--- one list and then others
-lists_read : (read : List ℕ → Read Item) (is ls : List Item) → ListBack read is → GroupsBack read ls → (opening k : ℕ) (after : List ℕ)
-    → length (lists_of ls) ≤ k → next_list after ≡ None
-    → lists_by (list_by read opening) (suc k) (text_of is ++ 93 ∷ (lists_of ls ++ after)) ≡ Ok (list_item is ∷ ls, after)
-unfolding lists_by
-lists_read read is ls p q opening k after h e =
-    let rest : List ℕ = lists_of ls ++ after in
-    let more : List ℕ → Read (List Item) = lists_by (list_by read opening) k in
-    let on : Read (List Item) → Read (List Item) =
-    λ r. r >>= λ x. by_option (Ok (list_item x.0 ∷ [], x.1)) (λ inside. before (list_item x.0 ∷ []) (more inside)) (next_list x.1) in
-    ap on (p opening rest) ∙ option_before (list_item is ∷ []) rest more (next_list rest) ∙ ap (before (list_item is ∷ [])) (q opening k after h e)
-
-opens_list : (t : List ℕ) → next_list (32 ∷ 91 ∷ t) ≡ Some t
-unfolding next_list
-opens_list t = refl
-
 module _ (read : List ℕ → Read Item) (is ls : List Item) (p : ListBack read is) (q : GroupsBack read ls) where
   body : List ℕ → List ℕ
   body after = (text_of is ++ 93 ∷ lists_of ls) ++ after
@@ -118,36 +79,6 @@ module _ (read : List ℕ → Read Item) (is ls : List Item) (p : ListBack read 
       )
 
 -- Groups.
-
-optional_opens : (depth : ℕ) (nested : Bool) (t : List ℕ) → item versions.Two (suc depth) nested (codes "[optional [" ++ t)
-    ≡ (list_by (item versions.Two depth true) (length (codes "[optional [" ++ t)) t
-    >>= λ x. closed (length (codes "[optional [" ++ t)) x.1 >>= λ rest. Ok (group groups.Optional (items_of x.0), rest))
-unfolding item group_word group_by opened
-optional_opens depth nested t = refl
-
-first_opens : (depth : ℕ) (nested : Bool) (t : List ℕ) → item versions.Two (suc depth) nested (codes "[first [" ++ t)
-    ≡ (lists_by (list_by (item versions.Two depth true) (length (codes "[first [" ++ t))) (suc (length t)) t
-    >>= λ x. closed (length (codes "[first [" ++ t)) x.1 >>= λ rest. Ok (group groups.First (items_of x.0), rest))
-unfolding item group_word group_by opened
-first_opens depth nested t = refl
-
-closes : (opening : ℕ) (after : List ℕ) → closed opening (93 ∷ after) ≡ Ok after
-unfolding closed
-closes opening after = refl
-
-no_next : (after : List ℕ) → next_list (93 ∷ after) ≡ None
-unfolding next_list
-no_next after = refl
-
-abbrev grouped : Group → ℕ → List Item × List ℕ → Read Item
-grouped g opening x = closed opening x.1 >>= λ rest. Ok (group g (items_of x.0), rest)
-
-group_read : (g : Group) (opening : ℕ) (is : List Item) (after : List ℕ) (r : Read (List Item)) → r ≡ Ok (is, 93 ∷ after)
-    → (r >>= grouped g opening) ≡ Ok (group g (items_of is), after)
-group_read g opening is after r e =
-    let on : Read (List Item) → Read Item = λ s. s >>= grouped g opening in
-    let put : Result (List ℕ) Fault → Read Item = λ c. c >>= λ rest. Ok (group g (items_of is), rest) in
-    ap on e ∙ ap put (closes opening after)
 
 pub optional_is_back : (depth : ℕ) (nested : Bool) (is : List Item) → ListBack (item versions.Two depth true) is
     → Back (suc depth) nested (group groups.Optional (items_of is))

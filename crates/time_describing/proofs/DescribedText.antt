@@ -1,21 +1,19 @@
 -- What is written of a tree that is described reads back as it.
-use Rattle.std.proofs.Common.{◌≡◌, ℕ, ◌≤◌, List, [], ◌∷◌, ◌++◌, length, Bool, true, false, not, None, Ok, refl, ap, sym, subst, ◌∙◌, append_assoc, arith}
-use Rattle.std.proofs.Math.Seq.{take-append_seam, drop-append_seam}
+use Rattle.std.proofs.Common.{◌≡◌, ℕ, ◌≤◌, List, [], ◌∷◌, ◌++◌, length, Bool, true, false, not, Ok, refl, ap, sym, subst, ◌∙◌, append_assoc, arith}
 use Rattle.std.proofs.lemmas.Bool.{and_parts, false≢true, ltb-false, not-true}
 use Rattle.std.specs.List.{prefix_len}
-use Rattle.std.specs.Prelude.{◌==◌, ◌&&◌, ◌||◌, if◌then◌else◌}
+use Rattle.std.specs.Prelude.{◌==◌, ◌&&◌, ◌||◌}
 use Rattle.time_components.specs.declared.format_description.Component.{Component}
 use Rattle.time_components.specs.declared.format_description.Component.TheVariants as component_of
 use Rattle.time_components.specs.Tree.{literal as literal_tree}
 use Rattle.time_descriptions.specs.declared.version.Version.TheVariants as versions
-use Rattle.time_descriptions.specs.Components.{Read, ◌>>=◌, bracketed}
-use Rattle.time_descriptions.specs.Grammar.{ends, group_word, is_plain, item, items_by, leaf}
+use Rattle.time_descriptions.specs.Grammar.{ends, is_plain, item, items_by}
 use Rattle.time_descriptions.specs.Items.{Item, component, items_of, literal, tree_of, trees_of}
 use Rattle.time_descriptions.specs.Writing.{is_escaped, words_of}
 use Rattle.time_descriptions.proofs.Adding.{plain_item}
 use Rattle.time_descriptions.proofs.WrittenComponents.{component_back}
 use Rattle.time_descriptions.proofs.WrittenCounts.{Fits}
-use Rattle.time_descriptions.proofs.WrittenLeaves.{item_text, stops}
+use Rattle.time_descriptions.proofs.WrittenLeaves.{and_false, bracket_leaf, escaped_leaf, item_text, no_group, plain_leaf, stops, written_byte}
 use Rattle.time_descriptions.proofs.WrittenLists.{text_of}
 use Rattle.time_describing.specs.Described.{are_plain, begins_run, has_words, is_literal, is_run}
 
@@ -34,16 +32,7 @@ pub record AllBack (depth : ℕ) (nested : Bool) (is : List Item) : Type 0 where
   pub stopping : begins_run (trees_of (items_of is)) ≡ false → (after : List ℕ) → ends nested after ≡ true
       → stops nested (text_of is ++ after) ≡ true
 
-pub and_false : (b : Bool) → (b && false) ≡ false
-and_false true = refl
-and_false false = refl
-
 -- A component.
-
-bracket_leaf : (nested : Bool) (t after : List ℕ) (c : Component) → bracketed (91 ∷ t) ≡ Ok (c, after)
-    → leaf versions.Two nested (91 ∷ t) ≡ Ok (component c, after)
-unfolding leaf
-bracket_leaf nested t after c e = ap (λ (r : Read Component). r >>= λ x. Ok (component x.0, x.1)) e
 
 fits : (c : Component) → has_words c ≡ true → Fits c
 fits (component_of.Ignore m) e = ltb-false 65535 m.count.value (not-true _ e)
@@ -62,14 +51,6 @@ component_is_back depth nested c e = record {
 }
 
 -- A byte after a backslash.
-
-abbrev written_byte : ℕ → Bool → List ℕ
-written_byte b e = if e then 92 ∷ b ∷ [] else b ∷ []
-
-escaped_leaf : (depth : ℕ) (nested : Bool) (b : ℕ) (after : List ℕ) → is_escaped b ≡ true
-    → item versions.Two depth nested (92 ∷ b ∷ after) ≡ Ok (literal b [], after)
-unfolding leaf group_word
-escaped_leaf depth nested b after e = plain_item versions.Two depth nested (92 ∷ b ∷ after) refl ∙ rw e refl
 
 escaped_is_back : (depth : ℕ) (nested : Bool) (b : ℕ) → is_escaped b ≡ true → Back depth nested (literal b [])
 escaped_is_back depth nested b e =
@@ -114,16 +95,6 @@ module _ (nested : Bool) where
       → prefix_len (is_plain versions.Two nested) (bytes ++ after) ≡ length bytes
   unfolding plain all_plain
   plain_front bytes after p s = front bytes after p s
-
-plain_leaf : (nested : Bool) (b : ℕ) (bytes after : List ℕ) → (b == 91) ≡ false → (b == 92) ≡ false
-    → prefix_len (is_plain versions.Two nested) (bytes ++ after) ≡ length bytes
-    → leaf versions.Two nested (b ∷ (bytes ++ after)) ≡ Ok (literal b bytes, after)
-unfolding leaf
-plain_leaf nested b bytes after x y n = rw (x, y, n, take-append_seam bytes after, drop-append_seam bytes after) refl
-
-no_group : (b : ℕ) (rest : List ℕ) → (b == 91) ≡ false → group_word (b ∷ rest) ≡ None
-unfolding group_word
-no_group b rest x = rw x refl
 
 abbrev IsPlain : Bool → ℕ → Type 0
 IsPlain nested b = ((b == 91) ≡ false) × ((b == 92) ≡ false) × ((nested && b == 93) ≡ false)

@@ -9,10 +9,10 @@ use Rattle.time_descriptions.specs.declared.version.Version.TheVariants as versi
 use Rattle.time_descriptions.specs.Grammar.{Describes, description, item, items_by}
 use Rattle.time_descriptions.specs.Items.{Item, component, group, items_of, literal, tree_of, trees_of}
 use Rattle.time_descriptions.specs.Writing.{tree_text}
-use Rattle.time_descriptions.proofs.WrittenLists.{ChoiceBack, ListBack, text_of}
+use Rattle.time_descriptions.proofs.WrittenLists.{ChoiceBack, GroupsBack, ListBack, list_item, no_groups, text_of}
 use Rattle.time_describing.specs.Described.{are_items, are_lists, begins_run, has_words, is_described, is_item, is_list, is_run, is_some}
 use Rattle.time_describing.proofs.DescribedText.{AllBack, Back, component_is_back, literal_is_back}
-use Rattle.time_describing.proofs.DescribedLists.{GroupsBack, choice_is_back, first_is_back, groups_are_back, list_is_back, list_item, more_back, no_groups, none_back, optional_is_back}
+use Rattle.time_describing.proofs.DescribedLists.{choice_is_back, first_is_back, groups_are_back, list_is_back, more_back, none_back, optional_is_back}
 
 abbrev IsBacked : ℕ → Bool → Tree → Type 0
 IsBacked depth nested t = (i : Item) × (tree_of i ≡ t) × Back depth nested i

@@ -5,7 +5,6 @@ use Rattle.std.specs.List.{prefix_len}
 use Rattle.std.specs.Prelude.{◌==◌, ◌&&◌, IfOk, if◌then◌else◌}
 use Rattle.time_components.specs.declared.format_description.Component.{Component}
 use Rattle.time_components.specs.declared.format_description.Component.TheVariants as component_of
-use Rattle.time_components.specs.declared.step.Group.TheVariants as groups
 use Rattle.time_components.specs.Tree.{Tree, Trees}
 use Rattle.time_descriptions.specs.declared.fault.Expectation.TheVariants as expected
 use Rattle.time_descriptions.specs.declared.fault.Fault.{Fault}
@@ -13,12 +12,13 @@ use Rattle.time_descriptions.specs.declared.fault.Fault.TheVariants as fault
 use Rattle.time_descriptions.specs.declared.version.Version.TheVariants as versions
 use Rattle.time_descriptions.specs.Components.{Read, ◌>>=◌, bracketed}
 use Rattle.time_descriptions.specs.Grammar.{after_byte, before, by_option, ends, escaped, is_plain, item, items_by, leaf, list_by, lists_by, next_list}
-use Rattle.time_descriptions.specs.Items.{Item, component, group, items_of, literal, tree_of, trees_of}
+use Rattle.time_descriptions.specs.Items.{Item, component, items_of, literal, tree_of, trees_of}
 use Rattle.time_descriptions.specs.Writing.{is_escaped}
-use Rattle.time_descriptions.proofs.ReadComponents.{Named, bracketed_fits}
+use Rattle.time_descriptions.proofs.ReadComponents.{bracketed_fits}
 use Rattle.time_descriptions.proofs.WrittenCounts.{Fits}
-use Rattle.time_descriptions.proofs.WrittenLeaves.{stops}
+use Rattle.time_descriptions.proofs.WrittenLeaves.{bracket_pick, escape_pick, leaf_pick, stops}
 use Rattle.time_describing.specs.Described.{are_items, are_lists, are_plain, begins_run, has_words, is_item, is_list, is_run, is_some}
+use Rattle.time_descriptions.proofs.WrittenLists.{list_item}
 
 -- The item in front of the text is one that is described. A run ends where no plain byte follows, and begins with one.
 pub record IsFine (depth : ℕ) (nested : Bool) (text : List ℕ) (x : Item × List ℕ) : Type 0 where
@@ -119,21 +119,6 @@ run_fine depth nested b rest x y z =
       begun = λ s. absurd (false≢true (sym (ap not here) ∙ s));
     }
 
-leaf_pick : (R : Item × List ℕ → Type 0) (x z : Bool) (b d c : Read Item) → IfOk b R → IfOk d R → (x ≡ false → z ≡ false → IfOk c R)
-    → IfOk (if x then b else (if z then d else c)) R
-leaf_pick R true z b d c p q h = p
-leaf_pick R false true b d c p q h = q
-leaf_pick R false false b d c p q h = h refl refl
-
-escape_pick : (R : Item × List ℕ → Type 0) (c : Bool) (x : Item × List ℕ) (e : Fault) → (c ≡ true → R x) → IfOk (if c then Ok x else Err e) R
-escape_pick R true x e h = h refl
-escape_pick R false x e h = tt
-
-bracket_pick : (R : Item × List ℕ → Type 0) (r : Read Component) → ((c : Component) (rest : List ℕ) → Fits c → R (component c, rest)) → IfOk r Named
-    → IfOk (r >>= λ x. Ok (component x.0, x.1)) R
-bracket_pick R (Ok x) h p = h x.0 x.1 p
-bracket_pick R (Err e) h p = tt
-
 escaped_fine : (depth : ℕ) (nested : Bool) (text rest : List ℕ) → IfOk (escaped rest) (IsFine depth nested text)
 escaped_fine depth nested text [] = tt
 escaped_fine depth nested text (b ∷ rest) =
@@ -205,9 +190,6 @@ ListsFine depth x = are_lists depth (trees_of (items_of x.0)) ≡ true
 
 abbrev pub ChoiceFine : ℕ → List Item × List ℕ → Type 0
 ChoiceFine depth x = (is_some (trees_of (items_of x.0)) && are_lists depth (trees_of (items_of x.0))) ≡ true
-
-abbrev list_item : List Item → Item
-list_item is = group groups.List (items_of is)
 
 module _ (depth : ℕ) (back : (text : List ℕ) → ends true text ≡ false → IfOk (item versions.Two depth true text) (IsFine depth true text)) where
   read : List ℕ → Read Item

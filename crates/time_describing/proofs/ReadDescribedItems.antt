@@ -1,10 +1,7 @@
 -- What a text describes is a tree that is described: its groups, and the whole of it.
-use Rattle.std.proofs.Common.{◌≡◌, ℕ, zero, suc, List, [], ◌∷◌, take, drop, length, Bool, true, false, Option, Some, None, Result, Ok, Err, refl, sym, subst}
+use Rattle.std.proofs.Common.{◌≡◌, ℕ, zero, suc, List, [], length, Bool, true, false, Result, Ok, Err, refl, sym, subst}
 use Rattle.std.proofs.lemmas.Bool.{false≢true}
-use Rattle.std.specs.List.{prefix_len}
-use Rattle.std.specs.Option.{option_map}
-use Rattle.std.specs.Str.{bytes_eq}
-use Rattle.std.specs.Prelude.{◌==◌, ◌&&◌, codes, IfOk, IfSome, if◌then◌else◌}
+use Rattle.std.specs.Prelude.{◌&&◌, IfOk}
 use Rattle.time_components.specs.declared.step.Group.{Group}
 use Rattle.time_components.specs.declared.step.Group.TheVariants as groups
 use Rattle.time_components.specs.Tree.{Tree}
@@ -13,40 +10,11 @@ use Rattle.time_descriptions.specs.declared.fault.Fault.TheVariants as fault
 use Rattle.time_descriptions.specs.declared.fault.Unsupported.TheVariants as unsupported
 use Rattle.time_descriptions.specs.declared.version.Version.TheVariants as versions
 use Rattle.time_descriptions.specs.Components.{Read, ◌>>=◌}
-use Rattle.time_descriptions.specs.Grammar.{by_option, closed, Describes, ends, group_by, group_named, group_word, inside_by, item, leaf, list_by, lists_by, opened}
+use Rattle.time_descriptions.specs.Grammar.{closed, Describes, ends, group_by, group_word, inside_by, item, leaf, list_by, lists_by, opened}
 use Rattle.time_descriptions.specs.Items.{Item, group, items_of, trees_of}
-use Rattle.time_descriptions.specs.Words.{is_of_word, is_space}
 use Rattle.time_describing.specs.Described.{are_items, are_lists, is_described, is_item, is_list, is_some}
 use Rattle.time_describing.proofs.ReadDescribed.{AreFine, ChoiceFine, IsFine, ListFine, choice_fine, items_fine, leaf_fine, list_fine}
-
-abbrev IsNamed : Group → Type 0
-IsNamed groups.Optional = Unit {0}
-IsNamed groups.First = Unit {0}
-IsNamed groups.List = ⊥
-
-abbrev IsNamedWord : Group × List ℕ → Type 0
-IsNamedWord x = IsNamed x.0
-
-named_pick : (c d : Bool) → IfSome (if c then Some groups.Optional else (if d then Some groups.First else None)) IsNamed
-named_pick true d = tt
-named_pick false true = tt
-named_pick false false = tt
-
-word_pick : (b : Bool) (o : Option Group) (rest : List ℕ) → IfSome o IsNamed
-    → IfSome (if b then option_map (λ g. (g, rest)) o else None) IsNamedWord
-word_pick true (Some g) rest p = p
-word_pick true None rest p = tt
-word_pick false o rest p = tt
-
-word_named : (text : List ℕ) → IfSome (group_word text) IsNamedWord
-unfolding group_word
-word_named [] = tt
-word_named (b ∷ rest) =
-    let named = drop (prefix_len is_space rest) rest in
-    let len = prefix_len is_of_word named in
-    let word = take len named in
-    word_pick (b == 91) (group_named word) (drop len named)
-    (named_pick (bytes_eq word (codes "optional")) (bytes_eq word (codes "first")))
+use Rattle.time_descriptions.proofs.Written.{IsNamed, item_pick, word_named}
 
 optional_fine : (depth : ℕ) (nested : Bool) (text rest : List ℕ) (is : List Item) → are_items depth true (trees_of (items_of is)) ≡ true
     → IsFine (suc depth) nested text (group groups.Optional (items_of is), rest)
@@ -96,11 +64,6 @@ module _ (depth : ℕ) (back : (text : List ℕ) → ends true text ≡ false �
       → IfOk (group_by (item versions.Two depth true) opening found) (IsFine (suc depth) nested text)
   unfolding group_by
   group_fine nested text opening found named = opened_on nested text opening found.0 named (opened found.0 found.1)
-
-item_pick : (R : Item × List ℕ → Type 0) (l : Read Item) (f : Group × List ℕ → Read Item) (o : Option (Group × List ℕ)) → IfOk l R
-    → IfSome o IsNamedWord → ((x : Group × List ℕ) → IsNamed x.0 → IfOk (f x) R) → IfOk (by_option l f o) R
-item_pick R l f None p q h = p
-item_pick R l f (Some x) p q h = h x q
 
 item_fine : (depth : ℕ) (nested : Bool) (text : List ℕ) → ends nested text ≡ false
     → IfOk (item versions.Two depth nested text) (IsFine depth nested text)

@@ -18,13 +18,13 @@ use Rattle.time_descriptions.specs.Words.{is_of_word, is_space}
 use Rattle.time_descriptions.proofs.WrittenLeaves.{IsBack, and_false, leaf_back}
 use Rattle.time_descriptions.proofs.WrittenLists.{AreBack, ChoiceBack, ListBack, choice_back, items_back, list_back, lists_of, text_of}
 
-optional_opens : (depth : ℕ) (nested : Bool) (t : List ℕ) → item versions.Two (suc depth) nested (codes "[optional [" ++ t)
+pub optional_opens : (depth : ℕ) (nested : Bool) (t : List ℕ) → item versions.Two (suc depth) nested (codes "[optional [" ++ t)
     ≡ (list_by (item versions.Two depth true) (length (codes "[optional [" ++ t)) t
     >>= λ x. closed (length (codes "[optional [" ++ t)) x.1 >>= λ rest. Ok (group groups.Optional (items_of x.0), rest))
 unfolding item group_word group_by opened
 optional_opens depth nested t = refl
 
-first_opens : (depth : ℕ) (nested : Bool) (t : List ℕ) → item versions.Two (suc depth) nested (codes "[first [" ++ t)
+pub first_opens : (depth : ℕ) (nested : Bool) (t : List ℕ) → item versions.Two (suc depth) nested (codes "[first [" ++ t)
     ≡ (lists_by (list_by (item versions.Two depth true) (length (codes "[first [" ++ t))) (suc (length t)) t
     >>= λ x. closed (length (codes "[first [" ++ t)) x.1 >>= λ rest. Ok (group groups.First (items_of x.0), rest))
 unfolding item group_word group_by opened
@@ -34,14 +34,14 @@ closes : (opening : ℕ) (after : List ℕ) → closed opening (93 ∷ after) �
 unfolding closed
 closes opening after = refl
 
-no_next : (after : List ℕ) → next_list (93 ∷ after) ≡ None
+pub no_next : (after : List ℕ) → next_list (93 ∷ after) ≡ None
 unfolding next_list
 no_next after = refl
 
 abbrev grouped : Group → ℕ → List Item × List ℕ → Read Item
 grouped g opening x = closed opening x.1 >>= λ rest. Ok (group g (items_of x.0), rest)
 
-group_read : (g : Group) (opening : ℕ) (is : List Item) (after : List ℕ) (r : Read (List Item)) → r ≡ Ok (is, 93 ∷ after)
+pub group_read : (g : Group) (opening : ℕ) (is : List Item) (after : List ℕ) (r : Read (List Item)) → r ≡ Ok (is, 93 ∷ after)
     → (r >>= grouped g opening) ≡ Ok (group g (items_of is), after)
 group_read g opening is after r e =
     let on : Read (List Item) → Read Item = λ s. s >>= grouped g opening in
@@ -82,7 +82,7 @@ first_is_back depth nested text rest is p =
       some = omega arith;
     }
 
-abbrev IsNamed : Group → Type 0
+abbrev pub IsNamed : Group → Type 0
 IsNamed groups.Optional = Unit {0}
 IsNamed groups.First = Unit {0}
 IsNamed groups.List = ⊥
@@ -101,7 +101,7 @@ word_pick true (Some g) rest p = p
 word_pick true None rest p = tt
 word_pick false o rest p = tt
 
-word_named : (text : List ℕ) → IfSome (group_word text) IsNamedWord
+pub word_named : (text : List ℕ) → IfSome (group_word text) IsNamedWord
 unfolding group_word
 word_named [] = tt
 word_named (b ∷ rest) =
@@ -150,7 +150,7 @@ module _ (depth : ℕ) (back : (text : List ℕ) → ends true text ≡ false
   unfolding group_by
   group_back nested text opening found named = opened_on nested text opening found.0 named (opened found.0 found.1)
 
-item_pick : (R : Item × List ℕ → Type 0) (l : Read Item) (f : Group × List ℕ → Read Item) (o : Option (Group × List ℕ)) → IfOk l R
+pub item_pick : (R : Item × List ℕ → Type 0) (l : Read Item) (f : Group × List ℕ → Read Item) (o : Option (Group × List ℕ)) → IfOk l R
     → IfSome o IsNamedWord → ((x : Group × List ℕ) → IsNamed x.0 → IfOk (f x) R) → IfOk (by_option l f o) R
 item_pick R l f None p q h = p
 item_pick R l f (Some x) p q h = h x q

@@ -59,7 +59,7 @@ no_run b P e h = absurd (false≢true (sym e ∙ h))
 
 -- A leaf.
 
-bracket_leaf : (nested : Bool) (t after : List ℕ) (c : Component) → bracketed (91 ∷ t) ≡ Ok (c, after)
+pub bracket_leaf : (nested : Bool) (t after : List ℕ) (c : Component) → bracketed (91 ∷ t) ≡ Ok (c, after)
     → leaf versions.Two nested (91 ∷ t) ≡ Ok (component c, after)
 unfolding leaf
 bracket_leaf nested t after c e = ap (λ (r : Read Component). r >>= λ x. Ok (component x.0, x.1)) e
@@ -79,10 +79,10 @@ component_is_back depth nested text rest c f =
       some = omega arith;
     }
 
-abbrev written_byte : ℕ → Bool → List ℕ
+abbrev pub written_byte : ℕ → Bool → List ℕ
 written_byte b e = if e then 92 ∷ b ∷ [] else b ∷ []
 
-escaped_leaf : (depth : ℕ) (nested : Bool) (b : ℕ) (after : List ℕ) → is_escaped b ≡ true
+pub escaped_leaf : (depth : ℕ) (nested : Bool) (b : ℕ) (after : List ℕ) → is_escaped b ≡ true
     → item versions.Two depth nested (92 ∷ b ∷ after) ≡ Ok (literal b [], after)
 unfolding leaf group_word
 escaped_leaf depth nested b after e = plain_item versions.Two depth nested (92 ∷ b ∷ after) refl ∙ rw e refl
@@ -149,13 +149,13 @@ module _ (nested : Bool) where
 abbrev written_literal : ℕ → List ℕ → List ℕ
 written_literal b bytes = tree_text (tree_of (literal b bytes))
 
-plain_leaf : (nested : Bool) (b : ℕ) (bytes after : List ℕ) → (b == 91) ≡ false → (b == 92) ≡ false
+pub plain_leaf : (nested : Bool) (b : ℕ) (bytes after : List ℕ) → (b == 91) ≡ false → (b == 92) ≡ false
     → prefix_len (is_plain versions.Two nested) (bytes ++ after) ≡ length bytes
     → leaf versions.Two nested (b ∷ (bytes ++ after)) ≡ Ok (literal b bytes, after)
 unfolding leaf
 plain_leaf nested b bytes after x y n = rw (x, y, n, take-append_seam bytes after, drop-append_seam bytes after) refl
 
-no_group : (b : ℕ) (rest : List ℕ) → (b == 91) ≡ false → group_word (b ∷ rest) ≡ None
+pub no_group : (b : ℕ) (rest : List ℕ) → (b == 91) ≡ false → group_word (b ∷ rest) ≡ None
 unfolding group_word
 no_group b rest x = rw x refl
 
@@ -205,17 +205,17 @@ literal_run : (depth : ℕ) (nested : Bool) (b : ℕ) (rest : List ℕ) → (b =
 unfolding front behind plain
 literal_run depth nested b rest x y z = literal_is_back depth nested b rest (front nested rest) (is_escaped b) x y z refl refl
 
-leaf_pick : (R : Item × List ℕ → Type 0) (x z : Bool) (b d c : Read Item) → IfOk b R → IfOk d R → (x ≡ false → z ≡ false → IfOk c R)
+pub leaf_pick : (R : Item × List ℕ → Type 0) (x z : Bool) (b d c : Read Item) → IfOk b R → IfOk d R → (x ≡ false → z ≡ false → IfOk c R)
     → IfOk (if x then b else (if z then d else c)) R
 leaf_pick R true z b d c p q h = p
 leaf_pick R false true b d c p q h = q
 leaf_pick R false false b d c p q h = h refl refl
 
-escape_pick : (R : Item × List ℕ → Type 0) (c : Bool) (x : Item × List ℕ) (e : Fault) → (c ≡ true → R x) → IfOk (if c then Ok x else Err e) R
+pub escape_pick : (R : Item × List ℕ → Type 0) (c : Bool) (x : Item × List ℕ) (e : Fault) → (c ≡ true → R x) → IfOk (if c then Ok x else Err e) R
 escape_pick R true x e h = h refl
 escape_pick R false x e h = tt
 
-bracket_pick : (R : Item × List ℕ → Type 0) (r : Read Component) → ((c : Component) (rest : List ℕ) → Fits c → R (component c, rest)) → IfOk r Named
+pub bracket_pick : (R : Item × List ℕ → Type 0) (r : Read Component) → ((c : Component) (rest : List ℕ) → Fits c → R (component c, rest)) → IfOk r Named
     → IfOk (r >>= λ x. Ok (component x.0, x.1)) R
 bracket_pick R (Ok x) h p = h x.0 x.1 p
 bracket_pick R (Err e) h p = tt

@@ -21,7 +21,7 @@ lists_of is = lists_text (trees_of (items_of is))
 
 -- Items in turn.
 
-ends_stops : (nested : Bool) (after : List ℕ) → ends nested after ≡ true → stops nested after ≡ true
+pub ends_stops : (nested : Bool) (after : List ℕ) → ends nested after ≡ true → stops nested after ≡ true
 ends_stops nested [] e = refl
 ends_stops nested (b ∷ after) e = ap not (and_right (not (b == 91) && not (b == 92)) (not (nested && b == 93)) (ap not e))
 
@@ -86,11 +86,11 @@ listed read text x p opening after =
     let on : Read (List Item) → Read (List Item) = λ r. r >>= λ y. after_byte 93 (fault.UnclosedOpeningBracket opening) y.1 >>= λ rest. Ok (y.0, rest) in
     ap on (p.reads (length t) (93 ∷ after) (omega (arith, length-append (text_of x.0) (93 ∷ after))) refl)
 
-abbrev list_item : List Item → Item
+abbrev pub list_item : List Item → Item
 list_item is = group groups.List (items_of is)
 
 -- what is written of further lists reads back as them
-abbrev GroupsBack : (List ℕ → Read Item) → List Item → Type 0
+abbrev pub GroupsBack : (List ℕ → Read Item) → List Item → Type 0
 GroupsBack read ls =
     (opening m : ℕ) (after : List ℕ) → length (lists_of ls) ≤ m → next_list after ≡ None
     → by_option (Ok ([], lists_of ls ++ after)) (lists_by (list_by read opening) m) (next_list (lists_of ls ++ after)) ≡ Ok (ls, after)
@@ -105,7 +105,7 @@ ChoiceBack read ls =
 abbrev BothBack : (List ℕ → Read Item) → List Item → Type 0
 BothBack read ls = GroupsBack read ls × ChoiceBack read ls
 
-no_groups : (read : List ℕ → Read Item) → GroupsBack read []
+pub no_groups : (read : List ℕ → Read Item) → GroupsBack read []
 no_groups read opening m after h e = ap (by_option (Ok ([], after)) (lists_by (list_by read opening) m)) e
 
 option_before : (front : List Item) (rest : List ℕ) (f : List ℕ → Read (List Item)) (o : Option (List ℕ))
@@ -114,7 +114,7 @@ option_before front rest f (Some inside) = refl
 option_before front rest f None = ap (λ (is : List Item). Ok (is, rest)) (sym (append-nil front))
 
 -- one list and then others
-lists_read : (read : List ℕ → Read Item) (is ls : List Item) → ListBack read is → GroupsBack read ls → (opening k : ℕ) (after : List ℕ)
+pub lists_read : (read : List ℕ → Read Item) (is ls : List Item) → ListBack read is → GroupsBack read ls → (opening k : ℕ) (after : List ℕ)
     → length (lists_of ls) ≤ k → next_list after ≡ None
     → lists_by (list_by read opening) (suc k) (text_of is ++ 93 ∷ (lists_of ls ++ after)) ≡ Ok (list_item is ∷ ls, after)
 unfolding lists_by
@@ -125,7 +125,7 @@ lists_read read is ls p q opening k after h e =
     λ r. r >>= λ x. by_option (Ok (list_item x.0 ∷ [], x.1)) (λ inside. before (list_item x.0 ∷ []) (more inside)) (next_list x.1) in
     ap on (p opening rest) ∙ option_before (list_item is ∷ []) rest more (next_list rest) ∙ ap (before (list_item is ∷ [])) (q opening k after h e)
 
-opens_list : (t : List ℕ) → next_list (32 ∷ 91 ∷ t) ≡ Some t
+pub opens_list : (t : List ℕ) → next_list (32 ∷ 91 ∷ t) ≡ Some t
 unfolding next_list
 opens_list t = refl
 

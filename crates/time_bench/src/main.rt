@@ -1,6 +1,6 @@
 //! Parses a text many times, so that the instructions of a parse can be counted.
 //!
-//! `time_bench FORMAT TARGET TIMES TEXT` prints a sum that depends on each answer.
+//! `time_bench FORMAT TARGET TIMES TEXT` prints a sum that depends on each answer. FORMAT is a name, or a description.
 #![tactic(auto)]
 
 mod answers;

@@ -4,6 +4,7 @@ use crate::answers::{Answer, Staged};
 use crate::descriptions::{
     DATE_ITEMS, DATE_TIME_ITEMS, FRACTION_ITEMS, ORDINAL_ITEMS, UNIX, clock_items, second_items,
 };
+use time_descriptions::parse_borrowed;
 use time_parsing::{Iso8601, Parsable, Rfc2822, Rfc3339};
 use time_readers::BorrowedFormatItem;
 use time_values::{Date, OffsetDateTime, PlainDateTime, Time, Timestamp, UtcDateTime, UtcOffset};
@@ -68,7 +69,14 @@ fn sum_of_local(target: &[u8], times: u64, texts: Texts<'_>) -> Option<i64> {
     sum_for(&BorrowedFormatItem::First(&lists), target, times, texts)
 }
 
-/// The sum over so many parses of the text and its copy in turn, if there are a format and a target of those names.
+// The same by the description that the text has, in version 2, if it is one.
+fn sum_of_text(description: &[u8], target: &[u8], times: u64, texts: Texts<'_>) -> Option<i64> {
+    let description = parse_borrowed::<2, 64>(description).ok()?;
+    sum_for(&description, target, times, texts)
+}
+
+/// The sum over so many parses of the text and its copy in turn, if there are a format and a target of those names. A
+/// format of no such name is a description.
 ///
 /// A value adds its parts, a timestamp what its nanoseconds leave of 1,000,000,007, and a refusal 1. The sum wraps.
 pub fn sum_by_name(format: &[u8], target: &[u8], times: u64, texts: Texts<'_>) -> Option<i64> {
@@ -85,6 +93,6 @@ pub fn sum_by_name(format: &[u8], target: &[u8], times: u64, texts: Texts<'_>) -
         b"clock" => sum_of_clocks(target, times, texts),
         b"unix" => sum_for(&UNIX, target, times, texts),
         b"local" => sum_of_local(target, times, texts),
-        _ => None,
+        _ => sum_of_text(format, target, times, texts),
     }
 }

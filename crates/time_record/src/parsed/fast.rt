@@ -44,6 +44,10 @@ pub(crate) fn component<'a>(
             parsed.put_found(input, modifiers, hour)
         }
         Component::OffsetMinute(modifiers) => parsed.read(input, modifiers),
+        Component::CalendarYearFullExtendedRange(modifiers) => {
+            let year = fast::year::<6>(input, modifiers.padding, modifiers.sign_is_mandatory);
+            parsed.put_found(input, modifiers, year)
+        }
         _ => None,
     }
 }

@@ -35,6 +35,7 @@ pub fn walk_list<'a>(
         let [step, behind @ ..] = later else {
             return Ok(unread);
         };
+        let after = steps_after(step, behind);
         match walk_item(step, behind, parsed, unread, tries) {
             Ok(more) => rest = more,
             Err(fault) => {
@@ -42,7 +43,7 @@ pub fn walk_list<'a>(
                 return Err(fault);
             }
         }
-        left = steps_after(step, behind);
+        left = after;
     }
 }
 
@@ -160,11 +161,12 @@ fn walk_first<'a>(
     let mut first_fault = None;
     let mut left = steps;
     while let [step, behind @ ..] = left {
+        let after = steps_after(step, behind);
         match walk_item(step, behind, parsed, input, tries) {
             Ok(rest) => return Ok(rest),
             Err(fault) => first_fault = first_fault.or(Some(fault)),
         }
-        left = steps_after(step, behind);
+        left = after;
     }
     match first_fault {
         Some(fault) => Err(fault),

@@ -28,8 +28,8 @@ walk_first-loop-left-preserved t c =
     let left = c.loop-left.left.now in
     let x = c.step-item.result in
     let item = tree_at steps_trees x (behind_first left) in
-    let is = first_item left x (omega arith) c.step-item.is ∙ ap (λ ys. more item (steps_trees ys)) (sym c.steps_after-left.ensures.after) in (
-      Chooses-refused c.loop-left.invariant.0 item (steps_trees c.steps_after-left.result.now) is
+    let is = first_item left x (omega arith) c.step-item.is ∙ ap (λ ys. more item (steps_trees ys)) (sym c.steps_after-after.ensures.after) in (
+      Chooses-refused c.loop-left.invariant.0 item (steps_trees c.steps_after-after.result.now) is
           _ c.in-Err.ensures.counts _ c.in-Err.ensures.answers c.or-first_fault.ensures,
       omega (arith, length-take (length left - 1) (drop 1 left), length-drop 1 left),
     )
@@ -87,7 +87,7 @@ walk_list-loop-later-preserved t c =
     let x = c.step-item.result in
     let item = tree_at steps_trees x (behind_first left) in
     let w = Walked-further c.loop-later.invariant.0 _ _ c.read_steps.ensures.goes c.add.ensures in
-    let is = first_item left x (omega arith) c.step-item.is ∙ ap (λ ys. more item (steps_trees ys)) (sym c.steps_after-left.ensures.after) in (
-      Walked-reads w item (steps_trees c.steps_after-left.result.now) is _ c.in-Ok.ensures.counts c.in-Ok.ensures.answers,
+    let is = first_item left x (omega arith) c.step-item.is ∙ ap (λ ys. more item (steps_trees ys)) (sym c.steps_after-after.ensures.after) in (
+      Walked-reads w item (steps_trees c.steps_after-after.result.now) is _ c.in-Ok.ensures.counts c.in-Ok.ensures.answers,
       omega (arith, length-take (length left - 1) (drop 1 left), length-drop 1 left),
     )

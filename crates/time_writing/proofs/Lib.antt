@@ -2,4 +2,5 @@ pub mod KeptDigits
 pub mod OneShown
 pub mod SameParts
 pub mod SameTexts
+pub mod SignLemmas
 pub mod WritableLemmas

@@ -1,5 +1,5 @@
 -- Texts of moments by RFC 3339, section 5.6, by RFC 2822, section 3.3, and by ISO 8601.
-use Rattle.std.specs.Prelude.{◌≡◌, ℕ, min, pos, neg_ℤ, int_lt, unsigned_abs, List, ◌∷◌, ◌++◌, codes, Bool, ◌||◌, ◌&&◌, ◌==◌, if◌then◌else◌, Option, None, Some, Result, Err, IsOkAnd, MatchOption}
+use Rattle.std.specs.Prelude.{◌≡◌, ℕ, min, pos, neg_ℤ, int_lt, unsigned_abs, List, ◌∷◌, ◌++◌, codes, Bool, ◌||◌, ◌&&◌, if◌then◌else◌, Option, None, Some, Result, Err, IsOkAnd, MatchOption}
 use Rattle.std.specs.Ordering.{int_eq}
 use Rattle.time_values.specs.Dates as Dates
 use Rattle.time_values.specs.Moments.{offset_date, offset_time, offset_of}

@@ -1,7 +1,8 @@
 //! Dates, times and offsets as texts have them.
-ghost use Rattle.std.specs.Prelude.{◌≡◌, ◌+◌, ◌≤◌, ◌++◌, length, pos};
+ghost use Rattle.std.specs.Prelude.{◌≡◌, ◌<◌, [], ◌∷◌, ◌++◌, codes, pos, neg_ℤ, unsigned_abs};
 ghost use Rattle.time_values.specs.Calendar.{IsBetween};
 ghost use Rattle.time_values.specs.Dates as Dates;
+ghost use Rattle.time_values.specs.Shown.{fixed};
 ghost use Rattle.time_writing.specs.Texts as Texts;
 
 use time_values::digits::{four, pair};
@@ -9,9 +10,9 @@ use time_values::{Date, Month, Time, UtcOffset, Weekday};
 
 // `YYYY-MM-DD`.
 #[inline(always)]
-pub(crate) fn date(date: Date) -> [u8; 10]
-    requires { IsBetween (pos 0) (pos 9999) (Dates.year date) }
-    ensures { result ≡ Texts.date_text date }
+pub(crate) fn date(date: &Date) -> [u8; 10]
+    requires { IsBetween (pos 0) (pos 9999) (Dates.year date.now) }
+    ensures { result ≡ Texts.date_text date.now }
 {
     let [y1, y2, y3, y4] = four(date.year().unsigned_abs());
     let [m1, m2] = pair(date.month().number());
@@ -19,15 +20,15 @@ pub(crate) fn date(date: Date) -> [u8; 10]
     [y1, y2, y3, y4, b'-', m1, m2, b'-', d1, d2]
 }
 
-// `HH:MM:SS`.
+// A mark and `HH:MM:SS`. LLVM would make one number of the eight bytes alone before it stores them.
 #[inline(always)]
-pub(crate) fn clock(time: Time) -> [u8; 8]
-    ensures { result ≡ Texts.clock_text time }
+pub(crate) fn clock(mark: u8, time: &Time) -> [u8; 9]
+    ensures { result ≡ (mark ∷ []) ++ Texts.clock_text time.now }
 {
     let [h1, h2] = pair(time.hour());
     let [m1, m2] = pair(time.minute());
     let [s1, s2] = pair(time.second());
-    [h1, h2, b':', m1, m2, b':', s1, s2]
+    [mark, h1, h2, b':', m1, m2, b':', s1, s2]
 }
 
 // `-` for an offset behind UTC, and else `+`.
@@ -48,15 +49,25 @@ pub(crate) fn is_none(offset: UtcOffset) -> bool
     hours == 0 && minutes == 0
 }
 
-// `+HH:MM` or `-HH:MM`.
+// The magnitude of hours or minutes that aren't above 0. `unsigned_abs` would ask for the sign of each.
 #[inline(always)]
-pub(crate) fn offset_with_colon(offset: UtcOffset) -> [u8; 6]
-    ensures { result ≡ Texts.numeric_text offset }
+pub(crate) fn magnitude(part: i8) -> u8
+    requires { IsBetween (neg_ℤ (pos 59)) (pos 0) part }
+    ensures { result ≡ unsigned_abs part }
 {
-    let (hours, minutes, _) = offset.as_hms();
-    let [h1, h2] = pair(hours.unsigned_abs());
-    let [m1, m2] = pair(minutes.unsigned_abs());
-    [sign_of(offset), h1, h2, b':', m1, m2]
+    (-part) as u8
+}
+
+// A sign and `HH:MM`.
+#[inline(always)]
+pub(crate) fn hours_and_minutes(sign: u8, hours: u8, minutes: u8) -> [u8; 6]
+    requires hours { hours < 100 }
+    requires minutes { minutes < 100 }
+    ensures { result ≡ sign ∷ fixed 2 hours ++ codes ":" ++ fixed 2 minutes }
+{
+    let [h1, h2] = pair(hours);
+    let [m1, m2] = pair(minutes);
+    [sign, h1, h2, b':', m1, m2]
 }
 
 // `+HHMM` or `-HHMM`.

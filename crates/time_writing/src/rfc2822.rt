@@ -26,8 +26,7 @@ fn write(value: OffsetDateTime) -> Text
     text.append(&month_letters(date.month()));
     text.append(b" ");
     text.append(&four(date.year().unsigned_abs()));
-    text.append(b" ");
-    text.append(&clock(value.time()));
+    text.append(&clock(b' ', &value.time()));
     text.append(b" ");
     text.append(&offset_without_colon(value.offset()));
     text

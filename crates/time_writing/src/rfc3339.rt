@@ -1,11 +1,13 @@
 //! Texts of RFC 3339, section 5.6.
-ghost use Rattle.std.specs.Prelude.{◌≡◌, ◌≤◌, ◌++◌, length};
+ghost use Rattle.std.specs.Prelude.{◌≡◌, ◌↔◌, ◌≤◌, ◌++◌, IsTrue, length, pos, neg_ℤ, int_lt, ◌||◌, if◌then◌else◌};
+ghost use Rattle.time_values.specs.Calendar.{IsBetween};
 ghost use Rattle.time_values.specs.Moments.{offset_time};
 ghost use Rattle.time_values.specs.Times as Times;
+ghost use Rattle.time_writing.specs.declared.unwritable.Unwritable.TheVariants.{Year, OffsetHour, OffsetSecond};
 ghost use Rattle.time_writing.specs.Texts.{count_of, offset_text, moment_text, unwritable_3339, Writes};
 
 use crate::fraction::FractionDigits;
-use crate::parts::{clock, date, is_none, offset_with_colon};
+use crate::parts::{clock, date, hours_and_minutes, magnitude};
 use crate::unwritable::Unwritable;
 use time_values::fraction::append_fraction;
 use time_values::text::Text;
@@ -13,15 +15,46 @@ use time_values::{OffsetDateTime, UtcOffset};
 
 // Puts `Z` for no hours and minutes, and else `+HH:MM` or `-HH:MM`.
 #[inline(always)]
-fn append_offset(text: &mut Text, offset: UtcOffset)
+#[tactic(auto, using(crate::proofs::SignLemmas::hours_below, crate::proofs::SignLemmas::minutes_below, crate::proofs::SignLemmas::minus_below))]
+fn append_offset(text: &mut Text, offset: &UtcOffset)
     requires { length text.old.items ≤ 29 }
-    ensures { text.new.items ≡ text.old.items ++ offset_text offset }
+    ensures { text.new.items ≡ text.old.items ++ offset_text offset.now }
 {
-    if is_none(offset) {
+    let (hours, minutes, _) = offset.as_hms();
+    // Hours and minutes have one sign, so it is that of their sum.
+    let sum = hours + minutes;
+    if sum == 0 {
         text.append(b"Z");
+    } else if sum < 0 {
+        text.append(&hours_and_minutes(b'-', magnitude(hours), magnitude(minutes)));
     } else {
-        text.append(&offset_with_colon(offset));
+        text.append(&hours_and_minutes(b'+', hours as u8, minutes as u8));
     }
+}
+
+// Whether a moment of that year has a text, where its offset has those hours and seconds.
+#[inline(always)]
+fn has_text(year: i32, hours: i8, seconds: i8) -> bool
+    ensures { IsTrue result ↔ (IsBetween (pos 0) (pos 9999) year × IsBetween (neg_ℤ (pos 23)) (pos 23) hours
+        × (seconds ≡ pos 0)) }
+{
+    year >= 0 && year <= 9999 && hours >= -23 && hours <= 23 && seconds == 0
+}
+
+// The first reason of a moment that has no text, by its year and the hours of its offset. It isn't inlined, so that only
+// `has_text` stands before a text.
+#[inline(never)]
+fn first_reason(year: i32, hours: i8) -> Unwritable
+    ensures { result ≡ if int_lt year (pos 0) || int_lt (pos 9999) year then Year else
+        if int_lt hours (neg_ℤ (pos 23)) || int_lt (pos 23) hours then OffsetHour else OffsetSecond }
+{
+    if year < 0 || year > 9999 {
+        return Unwritable::Year;
+    }
+    if hours < -23 || hours > 23 {
+        return Unwritable::OffsetHour;
+    }
+    Unwritable::OffsetSecond
 }
 
 // The first reason why there is no text.
@@ -29,18 +62,12 @@ fn append_offset(text: &mut Text, offset: UtcOffset)
 pub(crate) fn reason(value: OffsetDateTime) -> Option<Unwritable>
     ensures { result ≡ unwritable_3339 value }
 {
-    let (date, offset) = (value.date(), value.offset());
-    let (hours, _, seconds) = offset.as_hms();
-    if date.year() < 0 || date.year() > 9999 {
-        return Some(Unwritable::Year);
+    let year = value.date().year();
+    let (hours, _, seconds) = value.offset().as_hms();
+    if has_text(year, hours, seconds) {
+        return None;
     }
-    if hours < -23 || hours > 23 {
-        return Some(Unwritable::OffsetHour);
-    }
-    if seconds != 0 {
-        return Some(Unwritable::OffsetSecond);
-    }
-    None
+    Some(first_reason(year, hours))
 }
 
 /// The text of a moment by RFC 3339, section 5.6: `2021-01-02T03:04:05.52+06:07`, with `Z` for an offset of 0.
@@ -56,14 +83,13 @@ pub fn text_3339(value: OffsetDateTime, digits: FractionDigits) -> Result<Text, 
     }
     let (time, offset) = (value.time(), value.offset());
     let mut text = Text::new();
-    text.append(&date(value.date()));
-    text.append(b"T");
-    text.append(&clock(time));
+    text.append(&date(&value.date()));
+    text.append(&clock(b'T', &time));
     append_fraction(
         &mut text,
         digits.count(time.nanosecond()),
         time.nanosecond(),
     );
-    append_offset(&mut text, offset);
+    append_offset(&mut text, &offset);
     Ok(text)
 }

@@ -107,6 +107,11 @@ fn sum_by_name(name: &[u8], times: u64, day: u8) -> Option<i64> {
             &moments(day, 123_456_789, 59)?,
             FractionDigits::Exactly(6),
         )),
+        b"behind" => Some(sum(
+            times,
+            &moments(day, 123_456_789, -59)?,
+            FractionDigits::Exactly(0),
+        )),
         b"unix" => Some(second_sum(times, &moments(day, 123_456_789, 59)?)),
         b"exact0" => Some(sum(
             times,

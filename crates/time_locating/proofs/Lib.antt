@@ -3,6 +3,8 @@ pub mod Leaves
 pub mod MissLemmas
 pub mod PlaceLemmas
 pub mod TurnSteps
+pub mod MarkSteps
+pub mod PlaceMarks
 pub mod ChoiceSteps
 pub mod Places
 pub mod StepRows
@@ -15,3 +17,5 @@ pub mod IsoLengths
 pub mod IsoDates
 pub mod IsoPlaces
 pub mod IsoSteps
+pub mod IsoMarks
+pub mod IsoOwn

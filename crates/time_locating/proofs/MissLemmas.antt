@@ -63,7 +63,7 @@ own_miss_first Y told t b r e ms refused h = own Y told t b r e ms refused.unrea
 abbrev FoundIn : List Miss → Miss → Type 0
 FoundIn xs m = (before after : List Miss) × (xs ≡ before ++ m ∷ after) × All (λ n. m.left < n.left) before × All (λ n. m.left ≤ n.left) after
 
-all_none : (P : Miss → Type 0) → All P []
+pub all_none : (P : Miss → Type 0) → All P []
 all_none P k d within = absurd (omega arith)
 
 all_weaker : (P Q : Miss → Type 0) → ((x : Miss) → P x → Q x) → (xs : List Miss) → All P xs → All Q xs

@@ -18,12 +18,14 @@ grows : (n k : ℕ) (m : Option Miss) → n ≤ k → LeavesUpTo n m → LeavesU
 grows n k None h l = tt
 grows n k (Some m) h l = omega arith
 
-module _ (Y : ℕ) (told : Telling) where
-  rest_within : (t : Tree) (b : List ℕ) (r : Record) (rest : List ℕ) (q : Record) → Reads Y t b r rest q → length rest ≤ length b
+module _ (Y : ℕ) where
+  -- what is left is no more than there was
+  pub rest_within : (t : Tree) (b : List ℕ) (r : Record) (rest : List ℕ) (q : Record) → Reads Y t b r rest q → length rest ≤ length b
   rest_within t b r rest q h =
       let suffix = leaves_suffix Y t b r rest q h in
       let sum = ap length suffix.1 ∙ length-append suffix.0 rest in omega arith
 
+module _ (Y : ℕ) (told : Telling) where
   mutual
     unfolding Misses MissesAll MissesFirst Reads ReadsAll ReadsSome
 
@@ -65,7 +67,7 @@ module _ (Y : ℕ) (told : Telling) where
     MissesAll-within none b r ms h = rw h tt
     MissesAll-within (more t ts) b r ms (i, h, inl hs) = rw hs.1 (Misses-within t b r i h)
     MissesAll-within (more t ts) b r ms (i, h, inr (mid, q, s, later, ks, e)) =
-        let ahead = grows (length mid) (length b) (furthest later) (rest_within t b r mid q s) (MissesAll-within ts mid q later ks) in
+        let ahead = grows (length mid) (length b) (furthest later) (rest_within Y t b r mid q s) (MissesAll-within ts mid q later ks) in
         rw (e, furthest-append later i) (further-leaves (length b) (furthest later) (furthest i) ahead (Misses-within t b r i h))
 
     MissesFirst-within : (ts : Trees) (b : List ℕ) (r : Record) (ms : List Miss) → MissesFirst Y told ts b r ms →
@@ -84,7 +86,7 @@ module _ (Y : ℕ) (told : Telling) where
     MissesText-within : (ms : List Miss) → MissesText Y told t b r ms → LeavesUpTo (length b) (furthest ms)
     MissesText-within ms (inl h) = Misses-within t b r ms h.1
     MissesText-within ms (inr (x, q, s, some, i, h, e)) =
-        rw e (further-leaves (length b) (Some (missed (length x) the_end)) (furthest i) (rest_within t b r x q s) (Misses-within t b r i h))
+        rw e (further-leaves (length b) (Some (missed (length x) the_end)) (furthest i) (rest_within Y t b r x q s) (Misses-within t b r i h))
 
 some_further : (m : Miss) (n : Option Miss) → further (Some m) n ≡ None → ⊥
 some_further m None is = cc

@@ -1,5 +1,6 @@
 -- How many bytes the places of RFC 3339 take.
 use Rattle.std.proofs.Common.{◌≡◌, ℕ, ◌+◌, ◌≤◌, List, [], ◌∷◌, ◌++◌, length, take, drop, refl, ap, sym, ◌∙◌, subst, inl, inr, arith, true, false, Bool, Option, Some, None, length-append}
+use Rattle.time_digits.specs.Bytes.{IsByteIgnoringCase}
 use Rattle.time_digits.specs.Cuts.{Cut, NoCut}
 use Rattle.time_digits.specs.Digits.{AllDigits, IsDigitRun, NoDigitFirst}
 use Rattle.time_digits.proofs.Runs.{AllDigits-unique}
@@ -54,7 +55,7 @@ abbrev pub TakeAll : List Place → ℕ → Type 0
 TakeAll [] n = n ≡ 0
 TakeAll (p ∷ ps) n = (k m : ℕ) × Takes p k × TakeAll ps m × (n ≡ k + m)
 
-run_length : (n : ℕ) (text after : List ℕ) (v : ℕ) → IsDigitRun n n text after v → length text ≡ n
+pub run_length : (n : ℕ) (text after : List ℕ) (v : ℕ) → IsDigitRun n n text after v → length text ≡ n
 run_length n text after v run = omega (arith, run.enough, run.within)
 
 asks-take : (p : Place) (k : ℕ) (n m : Numbers) (text after : List ℕ) → Takes p k → Asks true p n text after m → length text ≡ k
@@ -290,3 +291,18 @@ pub at_offset_minute : (bytes : List ℕ) (fraction : ℕ) → AfterFraction byt
     → 19 + fraction + 4 + length s.mid ≡ length bytes
 at_offset_minute bytes fraction len p is =
     subst (λ x. (s : FailsAt true bytes x) → 19 + fraction + 4 + length s.mid ≡ length bytes) (sym is) (offset_minute_at bytes fraction len)
+
+-- a sign and an hour, where no `Z` stands
+pub signed_hour : (n m : Numbers) (b rest : List ℕ) → NoCut (IsByteIgnoringCase 90) b → Cut (Asks true OffsetHour n) b rest m
+    → (text : List ℕ) × (b ≡ text ++ rest) × (length text ≡ 3) × (m.is_utc ≡ n.is_utc)
+signed_hour n m b rest none (text, is, inl zulu) = absurd (none text rest tt is zulu.0)
+signed_hour n m b rest none (text, is, inr hour) = (
+  text,
+  is,
+  omega (arith, ap length hour.cut, run_length 2 hour.digits rest hour.hour hour.run.0),
+  ap (λ (x : Numbers). x.is_utc) hour.says,
+)
+
+-- it is known whether the text is in UTC
+abbrev pub InUtc : Numbers → Bool → Type 0
+InUtc n is_utc = n.is_utc ≡ is_utc

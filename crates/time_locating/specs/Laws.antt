@@ -1,9 +1,11 @@
 -- Laws of misses. `Y` is the greatest year.
-use Rattle.std.specs.Prelude.{◌≡◌, ◌<◌, ◌≤◌, ℕ, List, ◌∷◌, ◌++◌, Some, All}
+use Rattle.std.specs.Prelude.{◌≡◌, ◌<◌, ◌≤◌, ℕ, List, ◌∷◌, ◌++◌, Some, Err, All}
 use Rattle.time_values.specs.Refusal.{Refusal, literal, component, trailing}
 use Rattle.time_components.specs.Tree.{Tree}
 use Rattle.time_record.specs.Reading.{Refuses}
 use Rattle.time_record.specs.Record.{Record}
+use Rattle.time_parsing.specs.Iso8601.{date_over}
+use Rattle.time_locating.specs.Iso8601.{misses}
 use Rattle.time_locating.specs.Misses.{Wanted, these_bytes, named, the_end, Miss, Misses, Telling, furthest}
 
 -- A tree has one list of misses of the same bytes over the same record.
@@ -31,3 +33,15 @@ FurthestLeavesFewest =
     (ms : List Miss) (m : Miss) → furthest ms ≡ Some m
     → (before after : List Miss) × (ms ≡ before ++ m ∷ after)
     × All (λ n. m.left < n.left) before × All (λ n. m.left ≤ n.left) after
+
+-- The miss stands in the list, and those before it leave more bytes.
+abbrev pub LeavesLeastSoFar : Miss → List Miss → Type 0
+LeavesLeastSoFar m ms =
+    (before after : List Miss) × (ms ≡ before ++ m ∷ after) × All (λ n. m.left < n.left) before
+
+-- Where a date of ISO 8601 is refused, a miss of the text tells that refusal, and those before it leave more bytes. So
+-- it is the furthest, where none after it leaves fewer.
+abbrev pub IsoOwnMiss : Type 0
+IsoOwnMiss =
+    (Y : ℕ) (bytes : List ℕ) (r : Record) (e : Refusal) → date_over Y bytes r ≡ Err e
+    → (m : Miss) × LeavesLeastSoFar m (misses Y bytes r) × (refusal_by m.wanted ≡ e)

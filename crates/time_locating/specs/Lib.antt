@@ -1,9 +1,11 @@
 pub mod ByPlaces
 pub mod Iso8601
+pub mod IsoMarks
 pub mod IsoNumbers
 pub mod Laws
 pub mod Located
 pub mod MailPlaces
+pub mod Marks
 pub mod Misses
 pub mod Nodes
 pub mod Rfc2822

@@ -1,8 +1,9 @@
 -- Where a text is refused, over what a format reads and the place of a text that it doesn't read whole.
-use Rattle.std.specs.Prelude.{◌≡◌, ◌↔◌, ℕ, ◌+◌, ◌-◌, List, [], ◌∷◌, length, Option, Some, None, Result, Ok}
-use Rattle.time_values.specs.Refusal.{Refusal}
+use Rattle.std.specs.Prelude.{◌≡◌, ◌↔◌, ℕ, ◌+◌, ◌-◌, List, [], ◌∷◌, length, codes, MatchBool, Option, Some, None, Result, Ok}
+use Rattle.std.specs.Str.{bytes_eq}
+use Rattle.time_values.specs.Refusal.{Refusal, range}
 use Rattle.time_record.specs.Record.{Record}
-use Rattle.time_parsing.specs.Outcome.{IsWhole, Reading, Refusing}
+use Rattle.time_parsing.specs.Outcome.{IsOutcome, IsWhole, Reading, Refusing, Resolving}
 use Rattle.time_locating.specs.Misses.{Wanted, these_bytes, named, the_end, Miss, missed}
 use Rattle.time_locating.specs.declared.located.Expected.{Expected}
 use Rattle.time_locating.specs.declared.located.Expected.TheVariants.{Literal, Component, End}
@@ -29,6 +30,51 @@ abbrev pub IsLocated : Reading → Locating → List ℕ → Record → Option L
 IsLocated reads locates bytes begin None = (r : Record) × reads bytes begin [] r
 IsLocated reads locates bytes begin (Some at) =
     (m : Miss) × locates bytes begin m × (at.index + m.left ≡ length bytes) × (wants at.expected ≡ m.wanted)
+
+-- for the name of a component, bytes and a record: how many bytes are left where the last component of that name begins
+-- that is read, or nothing where none is
+abbrev pub Marking : Type 1
+Marking = List ℕ → List ℕ → Record → Option ℕ → Type 0
+
+-- None where no component of that name is read. Else the index at which the last of them begins.
+abbrev pub IsMarked : Marking → List ℕ → List ℕ → Record → Option ℕ → Type 0
+IsMarked marks name bytes begin None = marks name bytes begin None
+IsMarked marks name bytes begin (Some index) =
+    (left : ℕ) × marks name bytes begin (Some left) × (index + left ≡ length bytes)
+
+-- A text has one mark of each name.
+abbrev pub IsExactMark : Marking → Type 0
+IsExactMark marks =
+    (name bytes : List ℕ) (r : Record) (mark other : Option ℕ)
+    → marks name bytes r mark → marks name bytes r other → mark ≡ other
+
+-- The index of a component of which a range is refused. The date of a week that is counted from Sundays or Mondays is
+-- refused by its ordinal; where the text says none, that of the week number.
+abbrev pub IsRangeAt : Marking → List ℕ → Record → List ℕ → Option ℕ → Option ℕ → Type 0
+IsRangeAt marks bytes begin name (Some own) index = index ≡ Some own
+IsRangeAt marks bytes begin name None index =
+    MatchBool (bytes_eq name (codes "ordinal")) (IsMarked marks (codes "week number") bytes begin index) (index ≡ None)
+
+-- the component whose range a refusal names
+abbrev pub range_name : Refusal → Option (List ℕ)
+range_name (range name conditional) = Some name
+range_name e = None
+
+-- The index at which a text goes wrong that is read whole: of the component whose range is refused.
+abbrev pub IsValueAt : Marking → List ℕ → Record → Option (List ℕ) → Option ℕ → Type 0
+IsValueAt marks bytes begin None index = index ≡ None
+IsValueAt marks bytes begin (Some name) index =
+    (own : Option ℕ) × IsMarked marks name bytes begin own × IsRangeAt marks bytes begin name own index
+
+-- the index at which a text goes wrong by its place, or else by the refusal of its value
+abbrev pub IsRefusedAt : Marking → List ℕ → Record → Refusal → Option Located → Option ℕ → Type 0
+IsRefusedAt marks bytes begin e (Some at) index = index ≡ Some at.index
+IsRefusedAt marks bytes begin e None index = IsValueAt marks bytes begin (range_name e) index
+
+-- The index at which a text goes wrong that is refused as this.
+abbrev pub IsErrorAt : Reading → Locating → Marking → List ℕ → Record → Refusal → Option ℕ → Type 0
+IsErrorAt reads locates marks bytes begin e index =
+    (place : Option Located) × IsLocated reads locates bytes begin place × IsRefusedAt marks bytes begin e place index
 
 -- A text has one place, and none where it is read whole.
 pub record IsExactPlace (reads : Reading) (locates : Locating) : Type 0 where
@@ -63,3 +109,18 @@ PlacesRefusals reads refuses locates =
     (bytes : List ℕ) (begin : Record) (place : Option Located) (outcome : Result Record Refusal)
     → IsLocated reads locates bytes begin place → IsWhole reads refuses bytes begin outcome
     → (place ≡ None) ↔ ((r : Record) × (outcome ≡ Ok r))
+
+-- A text has no place exactly where it is read whole and its outcome, a value or a refusal, is what the record resolves
+-- to.
+abbrev pub PlacesOutcomes : {V : Type 0} → Resolving V → Reading → Refusing → Locating → Type 0
+PlacesOutcomes {V} resolves reads refuses locates =
+    (bytes : List ℕ) (begin : Record) (place : Option Located) (outcome : Result V Refusal)
+    → IsLocated reads locates bytes begin place → IsOutcome resolves reads refuses bytes begin outcome
+    → (place ≡ None) ↔ ((r : Record) × reads bytes begin [] r × resolves r outcome)
+
+-- a text that is refused goes wrong at one index
+abbrev pub OneIndex : Reading → Locating → Marking → Type 0
+OneIndex reads locates marks =
+    (bytes : List ℕ) (begin : Record) (e : Refusal) (index other : Option ℕ)
+    → IsErrorAt reads locates marks bytes begin e index → IsErrorAt reads locates marks bytes begin e other
+    → index ≡ other

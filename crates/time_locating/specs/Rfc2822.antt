@@ -3,8 +3,8 @@ use Rattle.std.specs.Prelude.{true, codes}
 use Rattle.time_readers.specs.Rfc2822.{Asks, places, nothing_read, fault}
 use Rattle.time_readers.specs.declared.rfc2822.Place.{Place}
 use Rattle.time_readers.specs.declared.rfc2822.Place.TheVariants.{WeekdayName, DayBlanks, MonthBlanks, YearBlanks, HourColon, TimeBlanks}
-use Rattle.time_locating.specs.ByPlaces.{LocatesPlace}
-use Rattle.time_locating.specs.Located.{Locating}
+use Rattle.time_locating.specs.ByPlaces.{LocatesPlace, MarksText}
+use Rattle.time_locating.specs.Located.{Locating, Marking}
 use Rattle.time_locating.specs.Misses.{Wanted, these_bytes, wanted_of}
 
 -- what is wanted at a place: a comma for a weekday without one, a space for blanks, the colon of the hour, or else the
@@ -22,3 +22,8 @@ wanted_at p = wanted_of (fault p)
 -- or else the end.
 abbrev pub Locates : Locating
 Locates bytes r m = LocatesPlace (Asks true) places nothing_read wanted_at bytes m
+
+-- The text of the place of that name, whatever the record: after a zone name an offset has no minute, and a text may
+-- have no second.
+abbrev pub Marks : Marking
+Marks name bytes r mark = MarksText (Asks true) fault places nothing_read name bytes mark

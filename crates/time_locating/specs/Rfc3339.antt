@@ -3,8 +3,8 @@ use Rattle.std.specs.Prelude.{true, codes}
 use Rattle.time_readers.specs.Rfc3339.{Asks, places, nothing_read, fault}
 use Rattle.time_readers.specs.declared.rfc3339.Place.{Place}
 use Rattle.time_readers.specs.declared.rfc3339.Place.TheVariants.{YearDash, MonthDash, HourColon, MinuteColon, OffsetColon}
-use Rattle.time_locating.specs.ByPlaces.{LocatesPlace}
-use Rattle.time_locating.specs.Located.{Locating}
+use Rattle.time_locating.specs.ByPlaces.{LocatesPlace, MarksText}
+use Rattle.time_locating.specs.Located.{Locating, Marking}
 use Rattle.time_locating.specs.Misses.{Wanted, these_bytes, wanted_of}
 
 -- what is wanted at a place: the byte that is fixed there, or else the component that its refusal names
@@ -20,3 +20,8 @@ wanted_at p = wanted_of (fault p)
 -- or else the end.
 abbrev pub Locates : Locating
 Locates bytes r m = LocatesPlace (Asks true) places nothing_read wanted_at bytes m
+
+-- The text of the place of that name, whatever the record: after `Z` an offset has no minute, and a second may have no
+-- fraction.
+abbrev pub Marks : Marking
+Marks name bytes r mark = MarksText (Asks true) fault places nothing_read name bytes mark

@@ -6,11 +6,14 @@ ghost use Rattle.time_components.specs.Tree.{sequence, trees};
 ghost use Rattle.time_descriptions.specs.Description.{shape};
 ghost use Rattle.time_record.specs.Reading.{Reads};
 ghost use Rattle.time_parsing.specs.Outcome.{begun};
-ghost use Rattle.time_locating.specs.Located.{IsLocated};
+ghost use Rattle.time_locating.specs.Located.{IsLocated, IsMarked};
+ghost use Rattle.time_locating.specs.Marks.{MarksTree};
 ghost use Rattle.time_locating.specs.Misses.{LocatesTree, all_bytes, first_byte};
+ghost use Rattle.time_locating.specs.exact.MarkLaws.{tree_exact_mark};
 ghost use Rattle.time_locating.specs.exact.MissLaws.{tree_exact_place};
 
 use crate::inspect::Inspect;
+use crate::mark::index_of;
 use crate::place::{begin, place};
 use crate::walk::steps::walk_list;
 use crate::walk::{walk, walk_all};
@@ -30,7 +33,7 @@ fn locate_item<'d, I: Inspect>(
         input.now (begun defaults) result }
 {
     let mut parsed = begin(defaults);
-    let (unread, missed) = walk(item, &mut parsed, input);
+    let (unread, missed, _) = walk(item, &mut parsed, input, "");
     place(unread, missed, input)
 }
 
@@ -44,8 +47,37 @@ fn locate_items<'d, I: Inspect>(
         (LocatesTree greatest_year all_bytes (sequence (trees (map I.shape items.now)))) input.now (begun defaults) result }
 {
     let mut parsed = begin(defaults);
-    let (unread, missed) = walk_all(items, &mut parsed, input);
+    let (unread, missed, _) = walk_all(items, &mut parsed, input, "");
     place(unread, missed, input)
+}
+
+// Where the last component of this name begins that an item reads.
+fn locate_in_item<I: Inspect>(
+    item: &I,
+    input: &[u8],
+    defaults: Option<Parsed>,
+    name: &str,
+) -> Option<usize>
+    ensures { IsMarked (MarksTree greatest_year (I.shape item.now)) name.now input.now (begun defaults) result }
+{
+    let mut parsed = begin(defaults);
+    let (_, _, mark) = walk(item, &mut parsed, input, name);
+    index_of(mark, input)
+}
+
+// Where the last component of this name begins that items one after the other read.
+fn locate_in_items<I: Inspect>(
+    items: &[I],
+    input: &[u8],
+    defaults: Option<Parsed>,
+    name: &str,
+) -> Option<usize>
+    ensures { IsMarked (MarksTree greatest_year (sequence (trees (map I.shape items.now)))) name.now input.now
+        (begun defaults) result }
+{
+    let mut parsed = begin(defaults);
+    let (_, _, mark) = walk_all(items, &mut parsed, input, name);
+    index_of(mark, input)
 }
 
 impl Locate for BorrowedFormatItem<'_> {
@@ -56,6 +88,19 @@ impl Locate for BorrowedFormatItem<'_> {
     }
 
     ghost exact_place = { λ s. tree_exact_place greatest_year all_bytes (borrowed_shape s) };
+
+    ghost marks = { λ s. MarksTree greatest_year (borrowed_shape s) };
+
+    fn locate_component(
+        &self,
+        input: &[u8],
+        defaults: Option<Parsed>,
+        name: &str,
+    ) -> Option<usize> {
+        locate_in_item(self, input, defaults, name)
+    }
+
+    ghost exact_mark = { λ s. tree_exact_mark greatest_year (borrowed_shape s) };
 }
 
 impl Locate for OwnedFormatItem {
@@ -66,6 +111,19 @@ impl Locate for OwnedFormatItem {
     }
 
     ghost exact_place = { λ s. tree_exact_place greatest_year all_bytes (owned_shape s) };
+
+    ghost marks = { λ s. MarksTree greatest_year (owned_shape s) };
+
+    fn locate_component(
+        &self,
+        input: &[u8],
+        defaults: Option<Parsed>,
+        name: &str,
+    ) -> Option<usize> {
+        locate_in_item(self, input, defaults, name)
+    }
+
+    ghost exact_mark = { λ s. tree_exact_mark greatest_year (owned_shape s) };
 }
 
 impl Locate for FormatDescriptionV3<'_> {
@@ -76,6 +134,19 @@ impl Locate for FormatDescriptionV3<'_> {
     }
 
     ghost exact_place = { λ s. tree_exact_place greatest_year all_bytes (v3_shape s.inner) };
+
+    ghost marks = { λ s. MarksTree greatest_year (v3_shape s.inner) };
+
+    fn locate_component(
+        &self,
+        input: &[u8],
+        defaults: Option<Parsed>,
+        name: &str,
+    ) -> Option<usize> {
+        locate_in_item(&self.inner, input, defaults, name)
+    }
+
+    ghost exact_mark = { λ s. tree_exact_mark greatest_year (v3_shape s.inner) };
 }
 
 impl<const N: usize> Locate for Description<N> {
@@ -83,11 +154,26 @@ impl<const N: usize> Locate for Description<N> {
 
     fn locate<'a>(&'a self, input: &[u8], defaults: Option<Parsed>) -> Option<Located<'a>> {
         let mut parsed = begin(defaults);
-        let (unread, missed) = walk_list(self.steps(), &mut parsed, input);
+        let (unread, missed, _) = walk_list(self.steps(), &mut parsed, input, "");
         place(unread, missed, input)
     }
 
     ghost exact_place = { λ s. tree_exact_place greatest_year first_byte (shape s) };
+
+    ghost marks = { λ s. MarksTree greatest_year (shape s) };
+
+    fn locate_component(
+        &self,
+        input: &[u8],
+        defaults: Option<Parsed>,
+        name: &str,
+    ) -> Option<usize> {
+        let mut parsed = begin(defaults);
+        let (_, _, mark) = walk_list(self.steps(), &mut parsed, input, name);
+        index_of(mark, input)
+    }
+
+    ghost exact_mark = { λ s. tree_exact_mark greatest_year (shape s) };
 }
 
 impl<'i, 'b> Locate for Items<'i, BorrowedFormatItem<'b>> {
@@ -98,6 +184,19 @@ impl<'i, 'b> Locate for Items<'i, BorrowedFormatItem<'b>> {
     }
 
     ghost exact_place = { λ s. tree_exact_place greatest_year all_bytes (sequence (trees (map borrowed_shape s.0.now))) };
+
+    ghost marks = { λ s. MarksTree greatest_year (sequence (trees (map borrowed_shape s.0.now))) };
+
+    fn locate_component(
+        &self,
+        input: &[u8],
+        defaults: Option<Parsed>,
+        name: &str,
+    ) -> Option<usize> {
+        locate_in_items(self.0, input, defaults, name)
+    }
+
+    ghost exact_mark = { λ s. tree_exact_mark greatest_year (sequence (trees (map borrowed_shape s.0.now))) };
 }
 
 impl<'i> Locate for Items<'i, OwnedFormatItem> {
@@ -108,4 +207,17 @@ impl<'i> Locate for Items<'i, OwnedFormatItem> {
     }
 
     ghost exact_place = { λ s. tree_exact_place greatest_year all_bytes (sequence (trees (map owned_shape s.0.now))) };
+
+    ghost marks = { λ s. MarksTree greatest_year (sequence (trees (map owned_shape s.0.now))) };
+
+    fn locate_component(
+        &self,
+        input: &[u8],
+        defaults: Option<Parsed>,
+        name: &str,
+    ) -> Option<usize> {
+        locate_in_items(self.0, input, defaults, name)
+    }
+
+    ghost exact_mark = { λ s. tree_exact_mark greatest_year (sequence (trees (map owned_shape s.0.now))) };
 }

@@ -1,17 +1,22 @@
 //! Where a text is refused by ISO 8601.
+mod marks;
 mod pieces;
 
 ghost use Rattle.std.specs.Prelude.{◌≡◌, map};
 ghost use Rattle.time_record.specs.Record.{Record};
 ghost use Rattle.time_values.specs.Range.{greatest_year};
 ghost use Rattle.time_readers.specs.IsoDates.{iso_date};
+ghost use Rattle.time_readers.specs.IsoOffsets.{offset_rows};
 ghost use Rattle.time_readers.specs.IsoPieces.{byte};
+ghost use Rattle.time_readers.specs.IsoTimes.{time_rows};
 ghost use Rattle.time_locating.specs.Iso8601 as spec;
 ghost use Rattle.time_locating.specs.IsoNumbers.{IsTooGreat, IsYearHeld};
 ghost use Rattle.time_locating.specs.Located.{seen_miss};
 ghost use Rattle.time_locating.specs.Misses.{furthest};
 
+use crate::iso8601::marks::text_mark;
 use crate::iso8601::pieces::{expected_at, past, past_byte};
+use crate::mark::index_of;
 use crate::miss::{Miss, further};
 use crate::place::{begin, place};
 use crate::{Expected, Locate, Located};
@@ -186,25 +191,39 @@ fn rows_missed(rows: &[&[Piece]], input: &[u8]) -> Option<Miss<'static>>
     missed
 }
 
+// The rows of a time of that kind.
+fn times_of(kind: ExtendedKind) -> &'static [&'static [Piece]]
+    ensures { map (λ row. row.now) result.now ≡ spec.rows_after spec.time_piece time_rows kind }
+{
+    match kind {
+        ExtendedKind::Basic => &BASIC_TIMES,
+        ExtendedKind::Extended => &EXTENDED_TIMES,
+        ExtendedKind::Unknown => &ANY_TIMES,
+    }
+}
+
+// The rows of an offset of that kind.
+fn offsets_of(kind: ExtendedKind) -> &'static [&'static [Piece]]
+    ensures { map (λ row. row.now) result.now ≡ spec.rows_after spec.offset_piece offset_rows kind }
+{
+    match kind {
+        ExtendedKind::Basic => &BASIC_OFFSETS,
+        ExtendedKind::Extended | ExtendedKind::Unknown => &OFFSETS,
+    }
+}
+
 // The furthest of what a time of that kind misses.
 fn time_missed(kind: ExtendedKind, input: &[u8]) -> Option<Miss<'static>>
     ensures { seen_miss result ≡ furthest (spec.time_misses kind input.now) }
 {
-    match kind {
-        ExtendedKind::Basic => rows_missed(&BASIC_TIMES, input),
-        ExtendedKind::Extended => rows_missed(&EXTENDED_TIMES, input),
-        ExtendedKind::Unknown => rows_missed(&ANY_TIMES, input),
-    }
+    rows_missed(times_of(kind), input)
 }
 
 // The furthest of what an offset of that kind misses.
 fn offset_missed(kind: ExtendedKind, input: &[u8]) -> Option<Miss<'static>>
     ensures { seen_miss result ≡ furthest (spec.offset_misses kind input.now) }
 {
-    match kind {
-        ExtendedKind::Basic => rows_missed(&BASIC_OFFSETS, input),
-        ExtendedKind::Extended | ExtendedKind::Unknown => rows_missed(&OFFSETS, input),
-    }
+    rows_missed(offsets_of(kind), input)
 }
 
 // The furthest of what `T`, which may be needed, and a time of that kind miss.
@@ -290,4 +309,25 @@ impl Locate for Iso8601 {
     ghost use Rattle.time_locating.specs.exact.Iso8601Laws.{iso8601_exact_place};
 
     ghost exact_place = { λ _. iso8601_exact_place greatest_year };
+
+    ghost use Rattle.time_locating.specs.IsoMarks.{Marks};
+
+    ghost marks = { λ _. Marks greatest_year };
+
+    fn locate_component(
+        &self,
+        input: &[u8],
+        defaults: Option<Parsed>,
+        name: &str,
+    ) -> Option<usize> {
+        let mut parsed = begin(defaults);
+        let Ok(rest) = self.parse_into(input, &mut parsed) else {
+            return None;
+        };
+        index_of(text_mark(rest.len(), input, name), input)
+    }
+
+    ghost use Rattle.time_locating.specs.exact.Iso8601Laws.{iso8601_exact_mark};
+
+    ghost exact_mark = { λ _. iso8601_exact_mark greatest_year };
 }

@@ -7,11 +7,12 @@ mod iso8601;
 pub mod laws;
 mod locate;
 mod located;
+mod mark;
 mod miss;
 mod place;
 mod rfc2822;
 mod rfc3339;
 mod walk;
 
-pub use locate::Locate;
+pub use locate::{Locate, locate_error};
 pub use located::{Expected, Located};

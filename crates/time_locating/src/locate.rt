@@ -1,10 +1,15 @@
 //! Formats that tell where a text is refused.
-ghost use Rattle.time_locating.specs.Located.{IsExactPlace, IsLocated, Locating};
+ghost use Rattle.std.specs.Prelude.{◌≡◌};
+ghost use Rattle.std.specs.Option.{option_map};
+ghost use Rattle.time_values.specs.Refusal.{refusal_of};
+ghost use Rattle.time_locating.specs.Located as spec;
+ghost use Rattle.time_locating.specs.Located.{IsErrorAt, IsExactMark, IsExactPlace, IsLocated, IsMarked, Locating, Marking};
 ghost use Rattle.time_parsing.specs.Outcome.{begun};
 
 use crate::Located;
 use time_parsing::Parsable;
 use time_record::Parsed;
+use time_values::error::{Parse, TryFromParsed};
 
 /// A format that tells where a text that it refuses goes wrong.
 pub trait Locate: Parsable {
@@ -20,8 +25,23 @@ pub trait Locate: Parsable {
     fn locate<'a>(&'a self, input: &[u8], defaults: Option<Parsed>) -> Option<Located<'a>>
         ensures { IsLocated (Self.reads self.now) (locates self.now) input.now (begun defaults) result };
 
+    // For the name of a component: how many bytes are left where the last one of that name begins that is read, or
+    // nothing where none is.
+    ghost marks: { Self → Marking };
+
+    /// Where the component of this name begins in a text of which a front is read over the defaults: its index. `None`
+    /// where no component of that name is read, as where the defaults give it, or where nothing is read.
+    ///
+    /// The name is one that an error tells, as `day` of `2021-02-30`. A component that the text says twice is told where
+    /// it begins last, since that value counts.
+    fn locate_component(&self, input: &[u8], defaults: Option<Parsed>, name: &str) -> Option<usize>
+        ensures { IsMarked (marks self.now) name.now input.now (begun defaults) result };
+
     // A text has one place, and none where it is read whole.
     ghost exact_place: { (s : Self) → IsExactPlace (Self.reads s) (locates s) };
+
+    // A text has one mark of each name.
+    ghost exact_mark: { (s : Self) → IsExactMark (marks s) };
 }
 
 /// A reference to a format locates as the format does.
@@ -33,4 +53,60 @@ impl<T: Locate> Locate for &T {
     }
 
     ghost exact_place = { λ x. T.exact_place x.now };
+
+    ghost marks = { λ x. T.marks x.now };
+
+    fn locate_component(
+        &self,
+        input: &[u8],
+        defaults: Option<Parsed>,
+        name: &str,
+    ) -> Option<usize> {
+        (**self).locate_component(input, defaults, name)
+    }
+
+    ghost exact_mark = { λ x. T.exact_mark x.now };
+}
+
+// The same defaults for one more call.
+fn copy_of(defaults: &Option<Parsed>) -> Option<Parsed>
+    ensures { result ≡ defaults.now }
+{
+    *defaults
+}
+
+// The component whose range the error names.
+fn range_name(error: Parse) -> Option<&'static str>
+    ensures { option_map (λ name. name.now) result ≡ spec.range_name (refusal_of error) }
+{
+    match error {
+        Parse::TryFromParsed(TryFromParsed::ComponentRange(range)) => Some(range.name),
+        Parse::TryFromParsed(TryFromParsed::InsufficientInformation)
+        | Parse::ParseFromDescription(_) => None,
+    }
+}
+
+/// The index at which a text goes wrong that a parse refused with this error. It is that of the text's place, and of a
+/// text that is read whole where the component begins whose range the error names: of an `ordinal` that the text
+/// doesn't say the week number. `None` where information is missing, or where the defaults give the component.
+pub fn locate_error<T: Locate>(
+    format: &T,
+    input: &[u8],
+    defaults: Option<Parsed>,
+    error: Parse,
+) -> Option<usize>
+    ensures { IsErrorAt (T.reads format.now) (T.locates format.now) (T.marks format.now) input.now (begun defaults)
+        (refusal_of error) result }
+{
+    if let Some(place) = format.locate(input, copy_of(&defaults)) {
+        return Some(place.index);
+    }
+    let name = range_name(error)?;
+    match format.locate_component(input, copy_of(&defaults), name) {
+        Some(index) => Some(index),
+        None if name == "ordinal" => {
+            format.locate_component(input, copy_of(&defaults), "week number")
+        }
+        None => None,
+    }
 }

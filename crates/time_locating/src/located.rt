@@ -1,5 +1,6 @@
 //! Where a text is refused.
-ghost use Rattle.std.specs.Prelude.{◌≡◌, ◌≤◌, length};
+ghost use Rattle.std.specs.Prelude.{◌≡◌, ◌≤◌, ◌++◌, ℕ, List, Some, length};
+ghost use Rattle.std.specs.Option.{option_copied};
 ghost use Rattle.time_locating.specs.Located.{end_of, seen_place};
 ghost use Rattle.time_locating.specs.Shown.{expected_text};
 
@@ -51,4 +52,11 @@ pub(crate) fn after_all<'a>(rest: &[u8], input: &[u8]) -> Option<Located<'a>>
         index: input.len() - rest.len(),
         expected: Expected::End,
     })
+}
+
+/// What is left after so many bytes.
+pub(crate) fn past_bytes(input: &[u8], count: usize) -> Option<&[u8]>
+    ensures { (text rest : List ℕ) → input.now ≡ text ++ rest → length text ≡ count → option_copied result ≡ Some rest }
+{
+    input.get(count..)
 }

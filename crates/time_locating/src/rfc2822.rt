@@ -5,14 +5,16 @@ ghost use Rattle.time_values.specs.Range.{greatest_year};
 ghost use Rattle.time_values.specs.declared.weekday.Weekday.{Weekday};
 ghost use Rattle.time_digits.specs.Cuts.{Cut};
 ghost use Rattle.time_digits.specs.Digits.{IsDigitRun};
-ghost use Rattle.time_readers.specs.Rfc2822.{Asks, FailsAt, IsSecond, IsWeekdayPart, IsYear};
+ghost use Rattle.time_readers.specs.Rfc2822.{Asks, FailsAt, HasForm, IsSecond, IsWeekdayPart, IsYear, fault, nothing_read, places};
 ghost use Rattle.time_readers.specs.declared.rfc2822.Numbers.{Numbers};
 ghost use Rattle.time_readers.specs.declared.rfc2822.Place.TheVariants as place;
+ghost use Rattle.time_locating.specs.ByPlaces.{MarksPlaces};
 ghost use Rattle.time_locating.specs.MailPlaces.{Agrees, rank};
 ghost use Rattle.time_locating.specs.Located.{wants};
 ghost use Rattle.time_locating.specs.Rfc2822.{wanted_at};
 
-use crate::located::after_all;
+use crate::located::{after_all, past_bytes};
+use crate::mark::{index_of, is_place_of};
 use crate::miss::wanted_of;
 use crate::{Expected, Locate, Located};
 use time_parsing::Rfc2822;
@@ -71,13 +73,6 @@ fn past_blanks(found: Option<ParsedItem<'_, ()>>) -> Option<&[u8]>
     ensures { option_copied result ≡ option_map (λ p. p.0.now) found.entry }
 {
     Some(found?.0)
-}
-
-// What is left after so many bytes.
-fn past_bytes(input: &[u8], count: usize) -> Option<&[u8]>
-    ensures { (text rest : List ℕ) → input.now ≡ text ++ rest → length text ≡ count → option_copied result ≡ Some rest }
-{
-    input.get(count..)
 }
 
 // What is left after the weekday's part.
@@ -194,6 +189,26 @@ fn rest_before<'a>(place: Place, input: &'a [u8]) -> Option<&'a [u8]>
     Some(rest)
 }
 
+// How many bytes are left where the place of this name begins, if it has a text, where all places stand.
+fn mark_of_place(input: &[u8], name: &str) -> Option<usize>
+    ensures { (rest : List ℕ) (n : Numbers) → HasForm true input.now rest n
+        → MarksPlaces (Asks true) fault name.now places nothing_read input.now result }
+{
+    let mut rest = input;
+    let mut passed = Passed {
+        year_is_full: false,
+        offset_has_sign: false,
+    };
+    for place in &PLACES {
+        let after = past(*place, rest, &mut passed)?;
+        if is_place_of(place_fault(*place), name, rest, after) {
+            return Some(rest.len());
+        }
+        rest = after;
+    }
+    None
+}
+
 impl Locate for Rfc2822 {
     ghost use Rattle.time_locating.specs.Rfc2822.{Locates};
 
@@ -215,4 +230,24 @@ impl Locate for Rfc2822 {
     ghost use Rattle.time_locating.specs.exact.Rfc2822Laws.{rfc2822_exact_place};
 
     ghost exact_place = { λ _. rfc2822_exact_place greatest_year };
+
+    ghost use Rattle.time_locating.specs.Rfc2822.{Marks};
+
+    ghost marks = { λ _. Marks };
+
+    fn locate_component(
+        &self,
+        input: &[u8],
+        _defaults: Option<Parsed>,
+        name: &str,
+    ) -> Option<usize> {
+        match read::<true>(input) {
+            Ok(_) => index_of(mark_of_place(input, name), input),
+            Err(_) => None,
+        }
+    }
+
+    ghost use Rattle.time_locating.specs.exact.Rfc2822Laws.{rfc2822_exact_mark};
+
+    ghost exact_mark = { λ _. rfc2822_exact_mark };
 }

@@ -1,20 +1,45 @@
 //! Where a text is refused by RFC 3339.
-ghost use Rattle.std.specs.Prelude.{◌≡◌, ◌≤◌, ℕ, ◌+◌, ◌++◌, true, length, List, Option};
-ghost use Rattle.time_readers.specs.Rfc3339.{FailsAt, IsSubsecond};
+ghost use Rattle.std.specs.Prelude.{◌≡◌, ◌≤◌, ℕ, ◌+◌, ◌++◌, true, length, List, Option, Some};
+ghost use Rattle.std.specs.Option.{option_copied};
+ghost use Rattle.time_digits.specs.Cuts.{Cut};
+ghost use Rattle.time_readers.specs.Rfc3339.{Asks, FailsAt, HasForm, IsSubsecond, fault, nothing_read, places};
+ghost use Rattle.time_readers.specs.declared.rfc3339.Numbers.{Numbers};
+ghost use Rattle.time_readers.specs.declared.rfc3339.Place.TheVariants as place;
 ghost use Rattle.time_values.specs.Range.{greatest_year};
+ghost use Rattle.time_locating.specs.ByPlaces.{MarksPlaces};
 ghost use Rattle.time_locating.specs.Located.{wants};
 ghost use Rattle.time_locating.specs.Rfc3339.{wanted_at};
 
-use crate::located::after_all;
+use crate::located::{after_all, past_bytes};
+use crate::mark::{index_of as index_of_mark, is_place_of};
 use crate::miss::wanted_of;
 use crate::{Expected, Locate, Located};
 use time_parsing::Rfc3339;
-use time_readers::combinator::leading_digits;
+use time_readers::combinator::{ascii_char_ignore_case, leading_digits};
 use time_readers::rfc3339::{Place, place_fault, read};
 use time_record::Parsed;
 
 // How many bytes the places up to the second take.
 const TO_SECOND: usize = 19;
+
+// The places in order.
+const PLACES: [Place; 15] = [
+    Place::Year,
+    Place::YearDash,
+    Place::Month,
+    Place::MonthDash,
+    Place::Day,
+    Place::Separator,
+    Place::Hour,
+    Place::HourColon,
+    Place::Minute,
+    Place::MinuteColon,
+    Place::Second,
+    Place::Subsecond,
+    Place::OffsetHour,
+    Place::OffsetColon,
+    Place::OffsetMinute,
+];
 
 // What is expected at a place.
 fn expected_at(place: Place) -> Expected<'static>
@@ -68,6 +93,60 @@ fn index_of(place: Place, input: &[u8]) -> usize
     (TO_SECOND + fraction).saturating_add(past_fraction)
 }
 
+// What is left after an offset's `Z`, or its sign and hour, and whether the text is then in UTC.
+fn past_offset_hour(input: &[u8], is_utc: bool) -> (Option<&[u8]>, bool)
+    ensures { (n m : Numbers) (rest : List ℕ) → n.is_utc ≡ is_utc → Cut (Asks true place.OffsetHour n) input.now rest m
+        → (option_copied result.0 ≡ Some rest) × (m.is_utc ≡ result.1) }
+{
+    match ascii_char_ignore_case::<b'Z'>(input) {
+        Some(zulu) => (Some(zulu.0), true),
+        None => (past_bytes(input, 3), is_utc),
+    }
+}
+
+// What is left after a place that stands there. After `Z` the places of the offset are empty.
+fn past<'a>(place: Place, input: &'a [u8], is_utc: &mut bool) -> Option<&'a [u8]>
+    ensures { (n m : Numbers) (rest : List ℕ) → n.is_utc ≡ is_utc.old → Cut (Asks true place n) input.now rest m
+        → (option_copied result ≡ Some rest) × (m.is_utc ≡ is_utc.new) }
+{
+    match place {
+        Place::Year => past_bytes(input, 4),
+        Place::YearDash
+        | Place::MonthDash
+        | Place::Separator
+        | Place::HourColon
+        | Place::MinuteColon => past_bytes(input, 1),
+        Place::Month | Place::Day | Place::Hour | Place::Minute | Place::Second => past_bytes(
+            input, 2,
+        ),
+        Place::Subsecond => past_bytes(input, fraction_len(input)),
+        Place::OffsetHour => {
+            let (rest, is_zulu) = past_offset_hour(input, *is_utc);
+            *is_utc = is_zulu;
+            rest
+        }
+        Place::OffsetColon => past_bytes(input, if *is_utc { 0 } else { 1 }),
+        Place::OffsetMinute => past_bytes(input, if *is_utc { 0 } else { 2 }),
+    }
+}
+
+// How many bytes are left where the place of this name begins, if it has a text, where all places stand.
+fn mark_of_place(input: &[u8], name: &str) -> Option<usize>
+    ensures { (rest : List ℕ) (n : Numbers) → HasForm true input.now rest n
+        → MarksPlaces (Asks true) fault name.now places nothing_read input.now result }
+{
+    let mut rest = input;
+    let mut is_utc = false;
+    for place in &PLACES {
+        let after = past(*place, rest, &mut is_utc)?;
+        if is_place_of(place_fault(*place), name, rest, after) {
+            return Some(rest.len());
+        }
+        rest = after;
+    }
+    None
+}
+
 impl Locate for Rfc3339 {
     ghost use Rattle.time_locating.specs.Rfc3339.{Locates};
 
@@ -86,4 +165,24 @@ impl Locate for Rfc3339 {
     ghost use Rattle.time_locating.specs.exact.Rfc3339Laws.{rfc3339_exact_place};
 
     ghost exact_place = { λ _. rfc3339_exact_place greatest_year };
+
+    ghost use Rattle.time_locating.specs.Rfc3339.{Marks};
+
+    ghost marks = { λ _. Marks };
+
+    fn locate_component(
+        &self,
+        input: &[u8],
+        _defaults: Option<Parsed>,
+        name: &str,
+    ) -> Option<usize> {
+        match read::<true>(input) {
+            Ok(_) => index_of_mark(mark_of_place(input, name), input),
+            Err(_) => None,
+        }
+    }
+
+    ghost use Rattle.time_locating.specs.exact.Rfc3339Laws.{rfc3339_exact_mark};
+
+    ghost exact_mark = { λ _. rfc3339_exact_mark };
 }

@@ -1,17 +1,19 @@
 -- What is written of a place, part by part.
-use Rattle.std.proofs.Common.{◌≡◌, ◌∙◌, ℕ, ◌+◌, ◌<◌, List, [], ◌∷◌, ◌++◌, length, map, take, get_or, append-nil, add-one, Option, Some, None, Result, Ok, Err, OnOk, refl, sym, ap, subst}
+use Rattle.std.proofs.Common.{◌≡◌, ◌∙◌, ℕ, ◌+◌, ◌<◌, List, [], ◌∷◌, ◌++◌, length, map, take, get_or, append-nil, add-one, Option, Some, None, Result, Ok, Err, OnOk, refl, sym, ap, subst, inl, inr}
 use Rattle.std.specs.Io.KnownBytes.{Appends}
 use Rattle.std.proofs.Math.Seq.{take-suc}
 use Rattle.time_values.specs.Range.{greatest_year}
 use Rattle.time_components.specs.Tree.{Tree}
 use Rattle.time_record.specs.Record.{empty}
-use Rattle.time_parsing.specs.Outcome.{Reading}
-use Rattle.time_locating.specs.Located.{IsLocated, Locating, seen_place, wants}
+use Rattle.time_values.specs.Refusal.{Refusal}
+use Rattle.time_parsing.specs.Outcome.{Path, Reading, Refusing}
+use Rattle.time_locating.specs.Located.{IsErrorAt, IsLocated, Locating, Marking, seen_place, wants}
 use Rattle.time_locating.specs.Misses.{all_bytes}
 use Rattle.time_locating.specs.declared.located.Located.{Located}
 use Rattle.time_answers.specs.Output.{Writes}
+use Rattle.time_answers.specs.declared.formats.Target.{Target}
 use Rattle.time_answers.proofs.LinesLemmas.{Appends-more}
-use Rattle.time_parse.specs.Place.{IsPlace, IsTreePlace, expected_text, place_text}
+use Rattle.time_parse.specs.Place.{IsErrorPlace, IsPlace, IsRefusalFor, IsTreePlace, expected_text, index_text, place_text}
 use Rattle.time_parse.specs.Fault.{shown}
 
 pub Appends-none : (a : Option (List ℕ)) → Appends a a []
@@ -30,24 +32,40 @@ shown_more a b c bytes i d h before more =
     rw add-one (subst (Appends a c) (sym all) (Appends-more a b c (map shown (take i bytes)) (shown (get_or bytes i d) ∷ []) before more))
 
 -- the place of a text by a tree is the one by an equal tree
-pub Writes-tree : {E : Type 0} (r : Result (Unit {0}) E) (tree same : Tree) (bytes : List ℕ) (a b : Option (List ℕ)) → tree ≡ same
-    → OnOk r (Writes (IsTreePlace greatest_year all_bytes tree bytes) a b)
-    → OnOk r (Writes (IsTreePlace greatest_year all_bytes same bytes) a b)
-Writes-tree r tree same bytes a b e h =
-    subst (λ (t : Tree). OnOk r (Writes (IsTreePlace greatest_year all_bytes t bytes) a b)) e h
+pub Writes-tree : {E : Type 0} (r : Result (Unit {0}) E) (tree same : Tree) (target : Target) (bytes : List ℕ) (a b : Option (List ℕ))
+    → tree ≡ same → OnOk r (Writes (IsTreePlace greatest_year all_bytes tree target bytes) a b)
+    → OnOk r (Writes (IsTreePlace greatest_year all_bytes same target bytes) a b)
+Writes-tree r tree same target bytes a b e h =
+    subst (λ (t : Tree). OnOk r (Writes (IsTreePlace greatest_year all_bytes t target bytes) a b)) e h
 
--- an index and what was expected there
-pub place_written : {E : Type 0} (r : Result (Unit {0}) E) (reads : Reading) (locates : Locating) (text : List ℕ) (at : Located)
-    (a b c : Option (List ℕ)) (front : List ℕ) → IsLocated reads locates text empty (Some at) → Appends a b front
-    → OnOk r (Appends b c (expected_text (wants at.expected)))
-    → front ++ expected_text (wants at.expected) ≡ place_text (seen_place (Some at))
-    → OnOk r (Writes (IsPlace reads locates text) a c)
-place_written (Ok u) reads locates text at a b c front h before after is = (
-  front ++ expected_text (wants at.expected),
-  (Some at, h, is),
-  Appends-more a b c front (expected_text (wants at.expected)) before after,
-)
-place_written (Err e) reads locates text at a b c front h before after is = tt
+module _ {E : Type 0} (target : Target) (path : Path) (reads : Reading) (refuses : Refusing) (locates : Locating) (marks : Marking)
+    (text : List ℕ) where
+  -- an index and what was expected there
+  pub place_written : (r : Result (Unit {0}) E) (at : Located) (a b c : Option (List ℕ)) (front : List ℕ)
+      → IsLocated reads locates text empty (Some at) → Appends a b front → OnOk r (Appends b c (expected_text (wants at.expected)))
+      → front ++ expected_text (wants at.expected) ≡ place_text (seen_place (Some at))
+      → OnOk r (Writes (IsPlace greatest_year target path reads refuses locates marks text) a c)
+  place_written (Ok u) at a b c front h before after is = (
+    front ++ expected_text (wants at.expected),
+    inl (at, h, is),
+    Appends-more a b c front (expected_text (wants at.expected)) before after,
+  )
+  place_written (Err e) at a b c front h before after is = tt
+
+  -- nothing, or the index of a component
+  pub unplaced_written : (r : Result (Unit {0}) E) (a c : Option (List ℕ)) (refusal : Option Refusal)
+      → IsLocated reads locates text empty None → IsRefusalFor greatest_year target path reads refuses text refusal
+      → OnOk r (Writes (IsErrorPlace reads locates marks text refusal) a c)
+      → OnOk r (Writes (IsPlace greatest_year target path reads refuses locates marks text) a c)
+  unplaced_written (Ok u) a c refusal h k after = (after.0, inr (h, refusal, k, after.1), after.2)
+  unplaced_written (Err e) a c refusal h k after = tt
+
+-- the index of an error
+pub error_written : {E : Type 0} (r : Result (Unit {0}) E) (reads : Reading) (locates : Locating) (marks : Marking) (text : List ℕ)
+    (e : Refusal) (index : Option ℕ) (a c : Option (List ℕ)) → IsErrorAt reads locates marks text empty e index
+    → OnOk r (Appends a c (index_text index)) → OnOk r (Writes (IsErrorPlace reads locates marks text (Some e)) a c)
+error_written (Ok u) reads locates marks text e index a c h after = (index_text index, (index, h, refl), after)
+error_written (Err f) reads locates marks text e index a c h after = tt
 
 -- an answer and a place after it
 pub both_written : {E : Type 0} (r : Result (Unit {0}) E) (P Q : List ℕ → Type 0) (a b c : Option (List ℕ)) → Writes P a b

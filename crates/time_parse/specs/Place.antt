@@ -1,15 +1,21 @@
 -- Where a text is refused, and how it is told. `Y` is the greatest year.
-use Rattle.std.specs.Prelude.{◌≡◌, ℕ, List, [], ◌++◌, codes, map, Bool, true, false, Option, Some, None}
+use Rattle.std.specs.Prelude.{◌≡◌, ℕ, ◌⊎◌, List, [], ◌++◌, codes, map, Bool, true, false, Option, Some, None, Result, Ok, Err}
 use Rattle.std.specs.Fmt.{decimal}
+use Rattle.time_values.specs.Refusal.{Refusal}
+use Rattle.time_values.specs.declared.offset_date_time.OffsetDateTime.{OffsetDateTime}
 use Rattle.time_components.specs.Tree.{Tree}
+use Rattle.time_readers.specs.Direct.{RefusesRfc3339, RefusesRfc2822}
 use Rattle.time_record.specs.Reading as Description
 use Rattle.time_record.specs.Record.{empty}
+use Rattle.time_record.specs.Resolution.{IsDated, IsTimed, IsOffset, IsPlain, IsUtcMoment, IsMoment, IsTimestamp}
 use Rattle.time_parsing.specs.Iso8601 as Iso8601
-use Rattle.time_parsing.specs.Outcome.{Reading}
+use Rattle.time_parsing.specs.Outcome.{IsMomentOutcome, IsOutcome, Path, Reading, Refusing, Resolving, direct, over_record}
 use Rattle.time_parsing.specs.Rfc2822 as Rfc2822
 use Rattle.time_parsing.specs.Rfc3339 as Rfc3339
 use Rattle.time_locating.specs.Iso8601 as located_iso
-use Rattle.time_locating.specs.Located.{IsLocated, Locating, seen_place}
+use Rattle.time_locating.specs.IsoMarks as iso_marks
+use Rattle.time_locating.specs.Located.{IsErrorAt, IsLocated, Locating, Marking, seen_place}
+use Rattle.time_locating.specs.Marks.{MarksTree}
 use Rattle.time_locating.specs.Misses.{LocatesTree, Miss, Telling, Wanted, all_bytes, first_byte, named, the_end, these_bytes}
 use Rattle.time_locating.specs.Rfc2822 as located_mail
 use Rattle.time_locating.specs.Rfc3339 as located_rfc3339
@@ -19,6 +25,7 @@ use Rattle.time_answers.specs.Output as output
 use Rattle.time_answers.specs.declared.formats.Format.{Format}
 use Rattle.time_answers.specs.declared.formats.Format.TheVariants as format
 use Rattle.time_answers.specs.declared.formats.Target.{Target}
+use Rattle.time_answers.specs.declared.formats.Target.TheVariants as target
 use Rattle.time_parse.specs.Fault.{shown}
 use Rattle.time_parse.specs.Request as request
 use Rattle.time_parse.specs.Request.{IsAnswer, Meaning, Means}
@@ -35,34 +42,84 @@ abbrev pub place_text : Option Miss → List ℕ
 place_text None = []
 place_text (Some at) = codes " at " ++ decimal at.left ++ codes ": expected " ++ expected_text at.wanted
 
--- It is told where the text goes wrong that is read over an empty record, or nothing where the whole text is read.
-abbrev pub IsPlace : Reading → Locating → List ℕ → List ℕ → Type 0
-IsPlace reads locates text told =
-    (at : Option Located) × IsLocated reads locates text empty at × (told ≡ place_text (seen_place at))
+-- an index alone, or nothing
+abbrev pub index_text : Option ℕ → List ℕ
+index_text None = []
+index_text (Some index) = codes " at " ++ decimal index
 
-abbrev pub IsTreePlace : ℕ → Telling → Tree → List ℕ → List ℕ → Type 0
-IsTreePlace Y bytes_told tree = IsPlace (Description.Reads Y tree) (LocatesTree Y bytes_told tree)
+-- what an outcome refuses
+abbrev pub refusal_in : {V : Type 0} → Result V Refusal → Option Refusal
+refusal_in (Ok v) = None
+refusal_in (Err e) = Some e
+
+-- It is the refusal of the text, or none where the text has a value. The format of these three relations reads it over
+-- an empty record.
+abbrev pub IsRefusal : {V : Type 0} → Resolving V → Reading → Refusing → List ℕ → Option Refusal → Type 0
+IsRefusal {V} resolves reads refuses text refusal =
+    (outcome : Result V Refusal) × IsOutcome resolves reads refuses text empty outcome × (refusal ≡ refusal_in outcome)
+
+-- the same of a moment, which a format may read on a direct path
+abbrev pub IsMomentRefusal : ℕ → Path → Reading → Refusing → List ℕ → Option Refusal → Type 0
+IsMomentRefusal Y path reads refuses text refusal =
+    (outcome : Result OffsetDateTime Refusal) × IsMomentOutcome Y path reads refuses text None outcome
+    × (refusal ≡ refusal_in outcome)
+
+-- the same for the target
+abbrev pub IsRefusalFor : ℕ → Target → Path → Reading → Refusing → List ℕ → Option Refusal → Type 0
+IsRefusalFor Y target.Date path = IsRefusal (IsDated Y)
+IsRefusalFor Y target.Time path = IsRefusal IsTimed
+IsRefusalFor Y target.Offset path = IsRefusal IsOffset
+IsRefusalFor Y target.Plain path = IsRefusal (IsPlain Y)
+IsRefusalFor Y target.Utc path = IsRefusal (IsUtcMoment Y)
+IsRefusalFor Y target.DateTime path = IsMomentRefusal Y path
+IsRefusalFor Y target.Staged path = IsRefusal (IsMoment Y)
+IsRefusalFor Y target.Timestamp path = IsRefusal (IsTimestamp Y)
+
+-- what is told of a refusal: the index at which the text goes wrong, if there is one
+abbrev pub IsErrorPlace : Reading → Locating → Marking → List ℕ → Option Refusal → List ℕ → Type 0
+IsErrorPlace reads locates marks text None told = told ≡ []
+IsErrorPlace reads locates marks text (Some e) told =
+    (index : Option ℕ) × IsErrorAt reads locates marks text empty e index × (told ≡ index_text index)
+
+-- It is told where the text goes wrong that is read over an empty record: its place and what was expected there. Of a
+-- text that is read whole it is told where the component begins whose range is refused for the target, or nothing.
+abbrev pub IsPlace : ℕ → Target → Path → Reading → Refusing → Locating → Marking → List ℕ → List ℕ → Type 0
+IsPlace Y target path reads refuses locates marks text told =
+    ((at : Located) × IsLocated reads locates text empty (Some at) × (told ≡ place_text (seen_place (Some at))))
+    ⊎ (IsLocated reads locates text empty None
+    × (refusal : Option Refusal) × IsRefusalFor Y target path reads refuses text refusal
+    × IsErrorPlace reads locates marks text refusal told)
+
+abbrev pub IsTreePlace : ℕ → Telling → Tree → Target → List ℕ → List ℕ → Type 0
+IsTreePlace Y bytes_told tree target =
+    IsPlace Y target over_record (Description.Reads Y tree) (Description.Refuses Y tree) (LocatesTree Y bytes_told tree)
+    (MarksTree Y tree)
 
 -- the same, where the format has a name
-abbrev pub IsNamedPlace : ℕ → Format → List ℕ → List ℕ → Type 0
-IsNamedPlace Y format.Rfc3339 = IsPlace (Rfc3339.Reads Y) located_rfc3339.Locates
-IsNamedPlace Y format.Rfc2822 = IsPlace (Rfc2822.Reads Y) located_mail.Locates
-IsNamedPlace Y format.Iso8601 = IsPlace (Iso8601.Reads Y) (located_iso.Locates Y)
-IsNamedPlace Y format.Ymd = IsTreePlace Y all_bytes ymd
-IsNamedPlace Y format.Clock = IsTreePlace Y all_bytes clock
-IsNamedPlace Y format.Unix = IsTreePlace Y all_bytes unix
-IsNamedPlace Y format.Local = IsTreePlace Y all_bytes local
+abbrev pub IsNamedPlace : ℕ → Format → Target → List ℕ → List ℕ → Type 0
+IsNamedPlace Y format.Rfc3339 target =
+    IsPlace Y target (direct (RefusesRfc3339 Y)) (Rfc3339.Reads Y) (Rfc3339.Refuses Y) located_rfc3339.Locates
+    located_rfc3339.Marks
+IsNamedPlace Y format.Rfc2822 target =
+    IsPlace Y target (direct (RefusesRfc2822 Y)) (Rfc2822.Reads Y) (Rfc2822.Refuses Y) located_mail.Locates
+    located_mail.Marks
+IsNamedPlace Y format.Iso8601 target =
+    IsPlace Y target over_record (Iso8601.Reads Y) (Iso8601.Refuses Y) (located_iso.Locates Y) (iso_marks.Marks Y)
+IsNamedPlace Y format.Ymd target = IsTreePlace Y all_bytes ymd target
+IsNamedPlace Y format.Clock target = IsTreePlace Y all_bytes clock target
+IsNamedPlace Y format.Unix target = IsTreePlace Y all_bytes unix target
+IsNamedPlace Y format.Local target = IsTreePlace Y all_bytes local target
 
 -- the same, where it means that
-abbrev pub IsPlaceBy : ℕ → Meaning → List ℕ → List ℕ → Type 0
-IsPlaceBy Y (request.named format) = IsNamedPlace Y format
-IsPlaceBy Y (request.described tree) = IsTreePlace Y first_byte tree
+abbrev pub IsPlaceBy : ℕ → Meaning → Target → List ℕ → List ℕ → Type 0
+IsPlaceBy Y (request.named format) target = IsNamedPlace Y format target
+IsPlaceBy Y (request.described tree) target = IsTreePlace Y first_byte tree target
 
 -- the answer to a text, and after it where the text goes wrong
 abbrev pub IsPlacedAnswer : ℕ → Meaning → Target → List ℕ → List ℕ → Type 0
 IsPlacedAnswer Y meaning target text answer =
     (outcome : List ℕ) × (place : List ℕ)
-    × IsAnswer Y meaning target text outcome × IsPlaceBy Y meaning text place × (answer ≡ outcome ++ place)
+    × IsAnswer Y meaning target text outcome × IsPlaceBy Y meaning target text place × (answer ≡ outcome ++ place)
 
 -- the answer to a text, with its place where that is asked for
 abbrev pub IsAnswerAsked : Bool → ℕ → Meaning → Target → List ℕ → List ℕ → Type 0

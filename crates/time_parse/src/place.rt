@@ -1,25 +1,30 @@
 //! Where a text is refused, after its answer.
-ghost use Rattle.std.specs.Prelude.{OnOk, codes, map, ◌++◌};
+ghost use Rattle.std.specs.Prelude.{OnOk, codes, map, ◌++◌, ◌≡◌};
 ghost use Rattle.std.specs.Io.KnownBytes.{Appends};
+ghost use Rattle.std.specs.Option.{option_map};
 ghost use Rattle.time_values.specs.Range.{greatest_year};
+ghost use Rattle.time_values.specs.Refusal.{refusal_of};
+ghost use Rattle.time_parsing.specs.Outcome.{seen};
 ghost use Rattle.time_answers.specs.Output.{Writes};
 ghost use Rattle.time_locating.specs.Located.{wants};
 ghost use Rattle.time_locating.specs.Misses.{all_bytes};
 ghost use Rattle.time_answers.specs.Formats as formats;
 ghost use Rattle.time_parse.specs.Fault as fault;
-ghost use Rattle.time_parse.specs.Place.{IsNamedPlace, IsPlace, IsPlaceBy, IsPlacedAnswer, IsTreePlace, expected_text};
+ghost use Rattle.time_parse.specs.Place.{IsErrorPlace, IsNamedPlace, IsPlace, IsPlaceBy, IsPlacedAnswer, IsRefusalFor, IsTreePlace, expected_text, index_text, refusal_in};
 ghost use Rattle.time_parse.specs.Request.{meaning_of};
 
 use crate::fault::shown;
 use crate::request::{Chosen, Request};
 use std::io::Write;
 use time_answers::formats::{
-    Format, clock_items, compound, date_items, first, fraction_items, local_items, second_items,
-    unix,
+    Format, Target, clock_items, compound, date_items, first, fraction_items, local_items,
+    second_items, unix,
 };
 use time_answers::{Answering, Unwritten};
-use time_locating::{Expected, Locate};
-use time_parsing::{Iso8601, Rfc2822, Rfc3339};
+use time_locating::{Expected, Locate, locate_error};
+use time_parsing::{Iso8601, Parsable, Rfc2822, Rfc3339};
+use time_record::Parsed;
+use time_values::error::Parse;
 
 /// What answers lines, and tells after the answer to a line where its text goes wrong.
 #[derive(Drop)]
@@ -61,13 +66,75 @@ fn write_expected<W: Write>(expected: Expected<'_>, out: &mut W) -> Result<(), U
     }
 }
 
-// Writes where the text goes wrong by the format, or nothing.
-fn write_place<F: Locate, W: Write>(format: &F, text: &[u8], out: &mut W) -> Result<(), Unwritten>
-    ensures { OnOk result (Writes (IsPlace (F.reads format.now) (F.locates format.now) text.now)
-        (W.contents out.old) (W.contents out.new)) }
+// The error of a parse.
+fn error_of<V: Drop>(outcome: Result<V, Parse>) -> Option<Parse>
+    ensures { option_map refusal_of result ≡ refusal_in (seen outcome) }
+{
+    match outcome {
+        Ok(_) => None,
+        Err(error) => Some(error),
+    }
+}
+
+// Why the text has no value for the target by the format, or `None` where it has one.
+fn refusal<F: Parsable>(format: &F, target: Target, text: &[u8]) -> Option<Parse>
+    ensures { IsRefusalFor greatest_year target (F.path format.now) (F.reads format.now) (F.refuses format.now) text.now
+        (option_map refusal_of result) }
+{
+    match target {
+        Target::Date => error_of(format.parse_date(text, None)),
+        Target::Time => error_of(format.parse_time(text, None)),
+        Target::Offset => error_of(format.parse_offset(text, None)),
+        Target::Plain => error_of(format.parse_plain_date_time(text, None)),
+        Target::Utc => error_of(format.parse_utc_date_time(text, None)),
+        Target::DateTime => error_of(format.parse_offset_date_time(text, None)),
+        Target::Staged => error_of(format.parse_offset_date_time(text, Some(Parsed::new()))),
+        Target::Timestamp => error_of(format.parse_timestamp(text, None)),
+    }
+}
+
+// Writes an index, or nothing.
+fn write_index<W: Write>(index: Option<usize>, out: &mut W) -> Result<(), Unwritten>
+    ensures { OnOk result (Appends (W.contents out.old) (W.contents out.new) (index_text index)) }
+{
+    let Some(index) = index else {
+        return Ok(());
+    };
+    match write!(out, " at {index}") {
+        Ok(()) => Ok(()),
+        Err(_) => Err(Unwritten),
+    }
+}
+
+// Writes where the text goes wrong of which this is the error, or nothing.
+fn write_error_place<F: Locate, W: Write>(
+    format: &F,
+    error: Option<Parse>,
+    text: &[u8],
+    out: &mut W,
+) -> Result<(), Unwritten>
+    ensures { OnOk result (Writes (IsErrorPlace (F.reads format.now) (F.locates format.now) (F.marks format.now) text.now
+        (option_map refusal_of error)) (W.contents out.old) (W.contents out.new)) }
+{
+    match error {
+        Some(error) => write_index(locate_error(format, text, None, error), out),
+        None => Ok(()),
+    }
+}
+
+// Writes where the text goes wrong by the format for the target, or nothing.
+fn write_place<F: Locate, W: Write>(
+    format: &F,
+    target: Target,
+    text: &[u8],
+    out: &mut W,
+) -> Result<(), Unwritten>
+    ensures { OnOk result (Writes
+        (IsPlace greatest_year target (F.path format.now) (F.reads format.now) (F.refuses format.now) (F.locates format.now)
+        (F.marks format.now) text.now) (W.contents out.old) (W.contents out.new)) }
 {
     let Some(place) = format.locate(text, None) else {
-        return Ok(());
+        return write_error_place(format, refusal(format, target, text), text, out);
     };
     let index = place.index;
     match write!(out, " at {index}: expected ") {
@@ -77,17 +144,17 @@ fn write_place<F: Locate, W: Write>(format: &F, text: &[u8], out: &mut W) -> Res
 }
 
 // Writes where the text goes wrong by a description of a date.
-fn write_ymd_place<W: Write>(text: &[u8], out: &mut W) -> Result<(), Unwritten>
-    ensures { OnOk result (Writes (IsTreePlace greatest_year all_bytes formats.ymd text.now)
+fn write_ymd_place<W: Write>(target: Target, text: &[u8], out: &mut W) -> Result<(), Unwritten>
+    ensures { OnOk result (Writes (IsTreePlace greatest_year all_bytes formats.ymd target text.now)
         (W.contents out.old) (W.contents out.new)) }
 {
     let items = date_items();
-    write_place(&compound(&items), text, out)
+    write_place(&compound(&items), target, text, out)
 }
 
 // The same by a description of a time on a clock of 12 hours.
-fn write_clock_place<W: Write>(text: &[u8], out: &mut W) -> Result<(), Unwritten>
-    ensures { OnOk result (Writes (IsTreePlace greatest_year all_bytes formats.clock text.now)
+fn write_clock_place<W: Write>(target: Target, text: &[u8], out: &mut W) -> Result<(), Unwritten>
+    ensures { OnOk result (Writes (IsTreePlace greatest_year all_bytes formats.clock target text.now)
         (W.contents out.old) (W.contents out.new)) }
 {
     let fraction = fraction_items();
@@ -95,43 +162,53 @@ fn write_clock_place<W: Write>(text: &[u8], out: &mut W) -> Result<(), Unwritten
     let seconds = second_items(&fraction);
     let seconds = compound(&seconds);
     let items = clock_items(&seconds);
-    write_place(&compound(&items), text, out)
+    write_place(&compound(&items), target, text, out)
 }
 
 // The same by a description of a date, time and offset, or of a year and its day.
-fn write_local_place<W: Write>(text: &[u8], out: &mut W) -> Result<(), Unwritten>
-    ensures { OnOk result (Writes (IsTreePlace greatest_year all_bytes formats.local text.now)
+fn write_local_place<W: Write>(target: Target, text: &[u8], out: &mut W) -> Result<(), Unwritten>
+    ensures { OnOk result (Writes (IsTreePlace greatest_year all_bytes formats.local target text.now)
         (W.contents out.old) (W.contents out.new)) }
 {
     let items = local_items();
     let (date_time, ordinal) = items.split_at(15);
     let lists = [compound(date_time), compound(ordinal)];
-    write_place(&first(&lists), text, out)
+    write_place(&first(&lists), target, text, out)
 }
 
 // The same by a format that has a name.
-fn write_named_place<W: Write>(format: Format, text: &[u8], out: &mut W) -> Result<(), Unwritten>
-    ensures { OnOk result (Writes (IsNamedPlace greatest_year format text.now) (W.contents out.old) (W.contents out.new)) }
+fn write_named_place<W: Write>(
+    format: Format,
+    target: Target,
+    text: &[u8],
+    out: &mut W,
+) -> Result<(), Unwritten>
+    ensures { OnOk result (Writes (IsNamedPlace greatest_year format target text.now) (W.contents out.old) (W.contents out.new)) }
 {
     match format {
-        Format::Rfc3339 => write_place(&Rfc3339, text, out),
-        Format::Rfc2822 => write_place(&Rfc2822, text, out),
-        Format::Iso8601 => write_place(&Iso8601, text, out),
-        Format::Ymd => write_ymd_place(text, out),
-        Format::Clock => write_clock_place(text, out),
-        Format::Unix => write_place(&unix(), text, out),
-        Format::Local => write_local_place(text, out),
+        Format::Rfc3339 => write_place(&Rfc3339, target, text, out),
+        Format::Rfc2822 => write_place(&Rfc2822, target, text, out),
+        Format::Iso8601 => write_place(&Iso8601, target, text, out),
+        Format::Ymd => write_ymd_place(target, text, out),
+        Format::Clock => write_clock_place(target, text, out),
+        Format::Unix => write_place(&unix(), target, text, out),
+        Format::Local => write_local_place(target, text, out),
     }
 }
 
 // The same by what is chosen.
-fn write_chosen_place<W: Write>(chosen: &Chosen, text: &[u8], out: &mut W) -> Result<(), Unwritten>
-    ensures { OnOk result (Writes (IsPlaceBy greatest_year (meaning_of chosen.now) text.now)
+fn write_chosen_place<W: Write>(
+    chosen: &Chosen,
+    target: Target,
+    text: &[u8],
+    out: &mut W,
+) -> Result<(), Unwritten>
+    ensures { OnOk result (Writes (IsPlaceBy greatest_year (meaning_of chosen.now) target text.now)
         (W.contents out.old) (W.contents out.new)) }
 {
     match chosen {
-        Chosen::Named(format) => write_named_place(*format, text, out),
-        Chosen::Described(description) => write_place(description, text, out),
+        Chosen::Named(format) => write_named_place(*format, target, text, out),
+        Chosen::Described(description) => write_place(description, target, text, out),
     }
 }
 
@@ -140,6 +217,6 @@ impl Answering for Placing {
 
     fn write_answer<W: Write>(&self, line: &[u8], out: &mut W) -> Result<(), Unwritten> {
         self.request.write_answer(line, out)?;
-        write_chosen_place(&self.request.chosen, line, out)
+        write_chosen_place(&self.request.chosen, self.request.target, line, out)
     }
 }

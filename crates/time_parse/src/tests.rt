@@ -54,7 +54,7 @@ fn answers(rt: HostRuntime) -> Result<(), Fail> {
 
 // The same, where each answer tells its place. The text goes wrong where the literal or the component begins that no
 // reading gets past.
-const PLACED: [(&str, &str, &str, &str); 10] = [
+const PLACED: [(&str, &str, &str, &str); 13] = [
     (
         "[year]-[month]-[day]",
         "date",
@@ -110,12 +110,31 @@ const PLACED: [(&str, &str, &str, &str); 10] = [
         "x",
         "error: a character literal was not valid at 0: expected '?'\n",
     ),
-    // All of it is read, and its date is refused.
+    // All of it is read, and its date is refused: by its day, by the week, of which 2021 has 52, or, from Sundays, by
+    // the ordinal, of which the week number at 5 is told. A leap second stands at noon; and a time has no date.
     (
         "ymd",
         "date",
         "2021-02-29",
-        "error: day is out of range for the other components\n",
+        "error: day is out of range for the other components at 8\n",
+    ),
+    (
+        "iso8601",
+        "date",
+        "2021-W53-1\n2021-W52-1\n03:04\n",
+        "error: week is out of range for the other components at 6\n2021-12-27\nerror: the `Parsed` struct did not include enough information to construct the type\n",
+    ),
+    (
+        "%Y-%U-%w",
+        "date",
+        "2022-00-5",
+        "error: ordinal is out of range for the other components at 5\n",
+    ),
+    (
+        "rfc3339",
+        "datetime",
+        "2021-01-02T12:00:60Z",
+        "error: second is out of range for the other components at 17\n",
     ),
 ];
 

@@ -1,12 +1,13 @@
 -- A text has one place by the places of a format.
-use Rattle.std.proofs.Common.{◌≡◌, ℕ, ◌⊎◌, List, [], ◌∷◌, ◌++◌, length, ap, sym, ◌∙◌, subst, inl, inr}
+use Rattle.std.proofs.Common.{◌≡◌, ℕ, ◌⊎◌, List, [], ◌∷◌, ◌++◌, length, ap, sym, ◌∙◌, subst, inl, inr, true, false, Option}
+use Rattle.time_values.specs.Refusal.{Refusal}
 use Rattle.time_digits.specs.Cuts.{Cut, NoCut}
 use Rattle.time_readers.specs.Places.{Format, Stand, StopsAt}
 use Rattle.time_readers.proofs.OneReading.{AtMostOneEach, one_form}
 use Rattle.time_record.specs.Record.{Record}
 use Rattle.time_parsing.specs.Outcome.{Reading}
-use Rattle.time_locating.specs.ByPlaces.{LocatesPlace}
-use Rattle.time_locating.specs.Located.{IsExactPlace}
+use Rattle.time_locating.specs.ByPlaces.{LocatesPlace, MarksPlaces, MarksText, is_place_of}
+use Rattle.time_locating.specs.Located.{IsExactMark, IsExactPlace}
 use Rattle.time_locating.specs.Misses.{Miss, Wanted, missed, the_end}
 
 -- the bytes before which a place doesn't stand
@@ -69,3 +70,34 @@ module _ {P N : Type 0} (A : Format P N) (one : AtMostOneEach A) (ps : List P) (
     one_place = λ b r m n h k. LocatesPlace-one wanted_at b m n h k;
     not_read = λ b r q m h k. let f = form b r q k in LocatesPlace-unread wanted_at b m f.0 h f.1;
   }
+
+-- a format by places has one mark of each name
+module _ {P N : Type 0} (A : Format P N) (one : AtMostOneEach A) (fault : P → Refusal) (name : List ℕ) where
+  MarksPlaces-one : (ps : List P) (n : N) (b : List ℕ) (x y : Option ℕ) → MarksPlaces A fault name ps n b x
+      → MarksPlaces A fault name ps n b y → x ≡ y
+  unfolding MarksPlaces
+  MarksPlaces-one [] n b x y h k = h ∙ sym k
+  MarksPlaces-one (p ∷ ps) n b x y (mid, m, s, inl h) (end, j, t, inl k) = h.1 ∙ sym k.1
+  MarksPlaces-one (p ∷ ps) n b x y (mid, m, s, inl h) (end, j, t, inr k) =
+      let rests = (one p n b mid end m j s t).0 in
+      let clash : true ≡ false = sym h.0 ∙ ap (λ z. is_place_of name (fault p) b z) rests ∙ k.0 in cc
+  MarksPlaces-one (p ∷ ps) n b x y (mid, m, s, inr h) (end, j, t, inl k) =
+      let rests = (one p n b mid end m j s t).0 in
+      let clash : false ≡ true = sym h.0 ∙ ap (λ z. is_place_of name (fault p) b z) rests ∙ k.0 in cc
+  MarksPlaces-one (p ∷ ps) n b x y (mid, m, s, inr h) (end, j, t, inr k) =
+      let first = one p n b mid end m j s t in
+      let over_m = subst (λ z. MarksPlaces A fault name ps m z x) first.0 h.1 in
+      MarksPlaces-one ps j end x y (subst (λ o. MarksPlaces A fault name ps o end x) first.1 over_m) k.1
+
+module _ {P N : Type 0} (A : Format P N) (one : AtMostOneEach A) (fault : P → Refusal) (ps : List P) (start : N) where
+  MarksText-one : (name b : List ℕ) (x y : Option ℕ) → MarksText A fault ps start name b x → MarksText A fault ps start name b y
+      → x ≡ y
+  MarksText-one name b x y (inl h) (inl k) = h.1 ∙ sym k.1
+  MarksText-one name b x y (inl h) (inr k) =
+      absurd ((one_form A one ps start b).never_both k.0.0 k.0.1 h.0.0 k.0.2 h.0.1)
+  MarksText-one name b x y (inr h) (inl k) =
+      absurd ((one_form A one ps start b).never_both h.0.0 h.0.1 k.0.0 h.0.2 k.0.1)
+  MarksText-one name b x y (inr h) (inr k) = MarksPlaces-one A one fault name ps start b x y h.1 k.1
+
+  pub place_exact_mark : IsExactMark (λ name b r mark. MarksText A fault ps start name b mark)
+  place_exact_mark name b r x y h k = MarksText-one name b x y h k

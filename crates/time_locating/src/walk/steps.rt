@@ -7,6 +7,7 @@ ghost use Rattle.time_components.specs.Tree as tree;
 ghost use Rattle.time_components.specs.Tree.{Tree, first_of, more, none};
 ghost use Rattle.time_record.specs.Attempts.{Attempts};
 ghost use Rattle.time_locating.specs.Located.{seen_miss};
+ghost use Rattle.time_locating.specs.Marks.{MarksTree};
 ghost use Rattle.time_locating.specs.Misses.{IsFurthest, Misses, MissesFirst, first_byte};
 ghost use Rattle.time_locating.specs.StepRows as spec;
 ghost use Rattle.time_locating.specs.StepRows.{IsSplit};
@@ -24,28 +25,32 @@ pub(crate) fn walk_list<'a, 'd>(
     steps: &'d [Step],
     parsed: &mut Parsed,
     input: &'a [u8],
-) -> (Option<&'a [u8]>, Option<Miss<'d>>)
+    name: &str,
+) -> (Option<&'a [u8]>, Option<Miss<'d>>, Option<usize>)
     ensures reads { Attempts greatest_year (steps_shape steps.now) input.now parsed.old result.0 parsed.new }
     ensures misses { IsFurthest (Misses greatest_year first_byte (steps_shape steps.now) input.now parsed.old)
         (seen_miss result.1) }
+    ensures marks { MarksTree greatest_year (steps_shape steps.now) name.now input.now parsed.old result.2 }
 {
     let before = *parsed;
     let mut left = steps;
     let mut rest = input;
     let mut furthest = None;
+    let mut last = None;
     while let Some((item, after)) = split_item(left) {
-        let (unread, missed) = walk_item(item, parsed, rest);
+        let (unread, missed, mark) = walk_item(item, parsed, rest, name);
         furthest = further(missed, furthest);
+        last = mark.or(last);
         match unread {
             Some(unread) => rest = unread,
             None => {
                 *parsed = before;
-                return (None, furthest);
+                return (None, furthest, None);
             }
         }
         left = after;
     }
-    (Some(rest), furthest)
+    (Some(rest), furthest, last)
 }
 
 // Reads the first item that reads, and nothing where there are none.
@@ -54,25 +59,27 @@ fn walk_first<'a, 'd>(
     steps: &'d [Step],
     parsed: &mut Parsed,
     input: &'a [u8],
-) -> (Option<&'a [u8]>, Option<Miss<'d>>)
+    name: &str,
+) -> (Option<&'a [u8]>, Option<Miss<'d>>, Option<usize>)
     ensures reads { Attempts greatest_year (first_of (steps_trees steps.now)) input.now parsed.old result.0 parsed.new }
     ensures misses { IsFurthest (MissesFirst greatest_year first_byte (steps_trees steps.now) input.now parsed.old)
         (seen_miss result.1) }
+    ensures marks { MarksTree greatest_year (first_of (steps_trees steps.now)) name.now input.now parsed.old result.2 }
 {
     let mut left = steps;
     let mut furthest = None;
     while let Some((item, after)) = split_item(left) {
-        let (unread, missed) = walk_item(item, parsed, input);
+        let (unread, missed, mark) = walk_item(item, parsed, input, name);
         furthest = further(furthest, missed);
         if let Some(rest) = unread {
-            return (Some(rest), furthest);
+            return (Some(rest), furthest, mark);
         }
         left = after;
     }
     if steps.is_empty() {
-        return (Some(input), furthest);
+        return (Some(input), furthest, None);
     }
-    (None, furthest)
+    (None, furthest, None)
 }
 
 // Reads the steps of one item.
@@ -81,19 +88,22 @@ fn walk_item<'a, 'd>(
     item: &'d [Step],
     parsed: &mut Parsed,
     input: &'a [u8],
-) -> (Option<&'a [u8]>, Option<Miss<'d>>)
+    name: &str,
+) -> (Option<&'a [u8]>, Option<Miss<'d>>, Option<usize>)
     ensures reads { (t : Tree) → steps_trees item.now ≡ more t none
         → Attempts greatest_year t input.now parsed.old result.0 parsed.new }
     ensures misses { (t : Tree) → steps_trees item.now ≡ more t none
         → IsFurthest (Misses greatest_year first_byte t input.now parsed.old) (seen_miss result.1) }
+    ensures marks { (t : Tree) → steps_trees item.now ≡ more t none
+        → MarksTree greatest_year t name.now input.now parsed.old result.2 }
 {
     let [step, inside @ ..] = item else {
-        return (Some(input), None);
+        return (Some(input), None, None);
     };
     match step {
         Step::Literal(byte) | Step::More(byte) => literal(byte, item, parsed, input),
-        Step::Component(component) => read_component(*component, parsed, input),
-        Step::Group(group, _) => walk_group(*group, inside, parsed, input),
+        Step::Component(component) => read_component(*component, parsed, input, name),
+        Step::Group(group, _) => walk_group(*group, inside, parsed, input, name),
     }
 }
 
@@ -104,18 +114,20 @@ fn walk_group<'a, 'd>(
     inside: &'d [Step],
     parsed: &mut Parsed,
     input: &'a [u8],
-) -> (Option<&'a [u8]>, Option<Miss<'d>>)
+    name: &str,
+) -> (Option<&'a [u8]>, Option<Miss<'d>>, Option<usize>)
     ensures reads { Attempts greatest_year (group_tree group (steps_trees inside.now)) input.now parsed.old result.0 parsed.new }
     ensures misses { IsFurthest (Misses greatest_year first_byte (group_tree group (steps_trees inside.now)) input.now parsed.old)
         (seen_miss result.1) }
+    ensures marks { MarksTree greatest_year (group_tree group (steps_trees inside.now)) name.now input.now parsed.old result.2 }
 {
     match group {
-        Group::List => walk_list(inside, parsed, input),
+        Group::List => walk_list(inside, parsed, input, name),
         Group::Optional => {
-            let (rest, missed) = walk_list(inside, parsed, input);
-            (Some(rest.unwrap_or(input)), missed)
+            let (rest, missed, mark) = walk_list(inside, parsed, input, name);
+            (Some(rest.unwrap_or(input)), missed, mark)
         }
-        Group::First => walk_first(inside, parsed, input),
+        Group::First => walk_first(inside, parsed, input, name),
     }
 }
 
@@ -125,20 +137,23 @@ fn literal<'a, 'd>(
     item: &[Step],
     parsed: &mut Parsed,
     input: &'a [u8],
-) -> (Option<&'a [u8]>, Option<Miss<'d>>)
+) -> (Option<&'a [u8]>, Option<Miss<'d>>, Option<usize>)
     ensures reads { (text : List ℕ) → steps_trees item.now ≡ more (tree.literal (byte.now ∷ text)) none
         → Attempts greatest_year (tree.literal (byte.now ∷ text)) input.now parsed.old result.0 parsed.new }
     ensures misses { (text : List ℕ) → steps_trees item.now ≡ more (tree.literal (byte.now ∷ text)) none
         → IsFurthest (Misses greatest_year first_byte (tree.literal (byte.now ∷ text)) input.now parsed.old) (seen_miss result.1) }
+    ensures marks { (name text : List ℕ) → steps_trees item.now ≡ more (tree.literal (byte.now ∷ text)) none
+        → MarksTree greatest_year (tree.literal (byte.now ∷ text)) name input.now parsed.old result.2 }
 {
     match parsed.parse_steps(input, item) {
-        Ok(rest) => (Some(rest), None),
+        Ok(rest) => (Some(rest), None, None),
         Err(_) => (
             None,
             Some(Miss {
                 left: input.len(),
                 expected: Expected::Literal(slice::from_ref(byte)),
             }),
+            None,
         ),
     }
 }

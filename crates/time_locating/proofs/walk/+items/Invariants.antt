@@ -6,6 +6,7 @@ use Rattle.time_record.proofs.Steps.{trees_from}
 use Rattle.time_locating.specs.Located.{seen_miss}
 use Rattle.time_locating.specs.Misses.{all_bytes}
 use Rattle.time_locating.proofs.ChoiceSteps.{Passes}
+use Rattle.time_locating.proofs.MarkSteps.{CarriesAll, CarriesFirst}
 use Rattle.time_locating.proofs.TurnSteps.{Follows}
 use Rattle.time_locating.proofs.walk.+items.Given as goal
 
@@ -22,8 +23,12 @@ abbrev pub invariant-walk_all-loop-item : goal.invariant-walk_all-loop-item
 invariant-walk_all-loop-item g l =
     Follows greatest_year all_bytes (trees (map g.I.Inspect.shape l.items)) l.fn.input l.fn.parsed
     (trees_from g.I.Inspect.shape l.item-index l.items) l.rest l.parsed (seen_miss l.furthest)
+    × CarriesAll greatest_year l.name (trees (map g.I.Inspect.shape l.items)) l.fn.input l.fn.parsed
+    (trees_from g.I.Inspect.shape l.item-index l.items) l.rest l.parsed l.last
 
 abbrev pub invariant-walk_first-loop-item : goal.invariant-walk_first-loop-item
 invariant-walk_first-loop-item g l =
     Passes greatest_year all_bytes (trees (map g.I.Inspect.shape l.items))
     (trees_from g.I.Inspect.shape l.item-index l.items) l.input l.fn.parsed l.parsed (seen_miss l.furthest)
+    × CarriesFirst greatest_year l.name (trees (map g.I.Inspect.shape l.items))
+    (trees_from g.I.Inspect.shape l.item-index l.items) l.input l.fn.parsed

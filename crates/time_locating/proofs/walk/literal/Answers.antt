@@ -1,5 +1,6 @@
 use Rattle.std.proofs.Common.{refl}
 use Rattle.time_locating.proofs.Leaves.{literal_misses, literal_reads}
+use Rattle.time_locating.proofs.MarkSteps.{literal_marks, marks_unread}
 use Rattle.time_locating.proofs.walk.literal.Goals as goal
 
 pub returns-in-Ok-clause-misses : goal.returns-in-Ok-clause-misses
@@ -10,3 +11,9 @@ returns-in-Err-clause-reads c = λ r. record { unread = (c.in-Err.ensures r).0.u
 
 pub returns-in-Err-clause-misses : goal.returns-in-Err-clause-misses
 returns-in-Err-clause-misses c = λ r. literal_misses _ _ _ r _ (c.in-Err.ensures r).0.unread
+
+pub returns-in-Ok-clause-marks : goal.returns-in-Ok-clause-marks
+returns-in-Ok-clause-marks c = λ r name. literal_marks _ name _ r _ _ _ (c.in-Ok.ensures r)
+
+pub returns-in-Err-clause-marks : goal.returns-in-Err-clause-marks
+returns-in-Err-clause-marks c = λ r name. marks_unread _ _ _ _ _ (c.in-Err.ensures r).0.unread

@@ -20,4 +20,4 @@ returns g c =
     c.first.ensures
     ∙ ap (λ t. first_of (trees (t ∷ borrowed_shape c.compound-2.result ∷ []))) date_time
     ∙ ap (λ t. first_of (trees (sequence (trees date_time_parts) ∷ t ∷ []))) ordinal in
-    Writes-tree c.write_place.result (borrowed_shape c.first.result) local c.args.text.now _ _ whole c.write_place.ensures
+    Writes-tree c.write_place.result (borrowed_shape c.first.result) local c.args.target c.args.text.now _ _ whole c.write_place.ensures

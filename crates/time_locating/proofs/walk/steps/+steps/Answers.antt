@@ -5,6 +5,7 @@ use Rattle.time_record.proofs.StepRows.{behind_first}
 use Rattle.time_locating.specs.Misses.{Misses}
 use Rattle.time_locating.proofs.ChoiceSteps.{Passes-kept, Passes-misses, Passes-none, Passes-nothing, Passes-reads, Passes-unread}
 use Rattle.time_locating.proofs.Leaves.{optional_reads}
+use Rattle.time_locating.proofs.MarkSteps.{CarriesAll-end, CarriesAll-reads, CarriesFirst-reads, CarriesFirst-unread, marks_read, marks_unread, no_marks}
 use Rattle.time_locating.proofs.Places.{empty_length, some_length}
 use Rattle.time_locating.proofs.StepRows.{first_tree, group_inside, literal_tree, no_item, no_steps, some_steps}
 use Rattle.time_locating.proofs.TurnSteps.{Follows-end, Follows-kept, Follows-misses, Follows-reads, Follows-unread}
@@ -13,22 +14,30 @@ use Rattle.time_locating.proofs.walk.steps.+steps.Goals as goal
 pub walk_first-returns-in-Some-unread-clause-reads : goal.walk_first-returns-in-Some-unread-clause-reads
 walk_first-returns-in-Some-unread-clause-reads t c =
     let s = c.in-Some.ensures in
-    Passes-reads c.loop-item.invariant.0 s.tree _ s.all _ _ (rw c.in-Some-unread.is at (c.walk_item.ensures.reads s.tree s.alone))
+    Passes-reads c.loop-item.invariant.0 s.tree _ s.all _ _ (rw c.in-Some-unread.is at (c.walk_item-mark.ensures.reads s.tree s.alone))
 
 pub walk_first-returns-in-Some-unread-clause-misses : goal.walk_first-returns-in-Some-unread-clause-misses
 walk_first-returns-in-Some-unread-clause-misses t c =
     let s = c.in-Some.ensures in
-    let read = rw c.in-Some-unread.is at (c.walk_item.ensures.reads s.tree s.alone) in
+    let read = rw c.in-Some-unread.is at (c.walk_item-mark.ensures.reads s.tree s.alone) in
     rw c.further-furthest.ensures
-    (Passes-misses c.loop-item.invariant.0 s.tree _ s.all (c.walk_item.ensures.misses s.tree s.alone) _ _ read)
+    (Passes-misses c.loop-item.invariant.0 s.tree _ s.all (c.walk_item-mark.ensures.misses s.tree s.alone) _ _ read)
+
+pub walk_first-returns-in-Some-unread-clause-marks : goal.walk_first-returns-in-Some-unread-clause-marks
+walk_first-returns-in-Some-unread-clause-marks t c =
+    let s = c.in-Some.ensures in
+    let read = rw c.in-Some-unread.is at (c.walk_item-mark.ensures.reads s.tree s.alone) in
+    CarriesFirst-reads c.loop-item.invariant.2 s.tree _ s.all c.loop-item.invariant.0.same _ _ _ read (c.walk_item-mark.ensures.marks s.tree s.alone)
+    (Passes-reads c.loop-item.invariant.0 s.tree _ s.all _ _ read)
 
 pub walk_first-loop-item-preserved : goal.walk_first-loop-item-preserved
 walk_first-loop-item-preserved t c =
     let s = c.in-Some.ensures in
-    let read = rw c.in_default-unread.is at (c.walk_item.ensures.reads s.tree s.alone) in
-    let missed = c.walk_item.ensures.misses s.tree s.alone in (
+    let read = rw c.in_default-unread.is at (c.walk_item-mark.ensures.reads s.tree s.alone) in
+    let missed = c.walk_item-mark.ensures.misses s.tree s.alone in (
       rw c.further-furthest.ensures (Passes-unread c.loop-item.invariant.0 s.tree _ s.all missed read.unread read.same),
       omega (arith, s.fewer, c.loop-item.invariant.1),
+      CarriesFirst-unread c.loop-item.invariant.2 s.tree _ s.all c.loop-item.invariant.0.same read.unread,
     )
 
 pub walk_first-returns-then-is_empty-clause-reads : goal.walk_first-returns-then-is_empty-clause-reads
@@ -38,6 +47,17 @@ walk_first-returns-then-is_empty-clause-reads t c =
 pub walk_first-returns-then-is_empty-clause-misses : goal.walk_first-returns-then-is_empty-clause-misses
 walk_first-returns-then-is_empty-clause-misses t c =
     Passes-kept c.loop-item.invariant.0 (no_steps c.loop-item.left.now c.in_default.ensures)
+
+pub walk_first-returns-then-is_empty-clause-marks : goal.walk_first-returns-then-is_empty-clause-marks
+walk_first-returns-then-is_empty-clause-marks t c =
+    let is = no_steps c.args.steps.now (empty_length _ (sym c.is_empty.ensures ∙ c.if-is_empty.true)) in
+    no_marks _ _ _ _ _ _ is (Passes-none c.loop-item.invariant.0 is)
+
+pub walk_first-returns-clause-marks : goal.walk_first-returns-clause-marks
+walk_first-returns-clause-marks t c =
+    let some = some_length _ (sym c.is_empty.ensures ∙ c.if-is_empty.false) in
+    marks_unread _ _ _ _ _ (Passes-nothing c.loop-item.invariant.0 (no_steps c.loop-item.left.now c.in_default.ensures)
+    (λ is. let short = some_steps c.args.steps.now is in omega arith))
 
 pub walk_first-returns-clause-reads : goal.walk_first-returns-clause-reads
 walk_first-returns-clause-reads t c =
@@ -54,11 +74,16 @@ walk_first-returns-clause-misses t c = Passes-kept c.loop-item.invariant.0 (no_s
 pub walk_group-returns-in-Optional-clause-reads : goal.walk_group-returns-in-Optional-clause-reads
 walk_group-returns-in-Optional-clause-reads t c =
     rw (c.in-Optional.is, c.unwrap_or.ensures)
-    (optional_reads _ _ c.args.input.now _ c.walk_list-in-Optional.result.0 c.args.input _ refl c.walk_list-in-Optional.ensures.reads)
+    (optional_reads _ _ c.args.input.now _ c.walk_list-mark.result.0 c.args.input _ refl c.walk_list-mark.ensures.reads)
 
 pub walk_group-returns-in-Optional-clause-misses : goal.walk_group-returns-in-Optional-clause-misses
 unfolding Misses
-walk_group-returns-in-Optional-clause-misses t c = rw c.in-Optional.is c.walk_list-in-Optional.ensures.misses
+walk_group-returns-in-Optional-clause-misses t c = rw c.in-Optional.is c.walk_list-mark.ensures.misses
+
+pub walk_group-returns-in-Optional-clause-marks : goal.walk_group-returns-in-Optional-clause-marks
+walk_group-returns-in-Optional-clause-marks t c =
+    let read = optional_reads _ _ c.args.input.now _ c.walk_list-mark.result.0 c.args.input _ refl c.walk_list-mark.ensures.reads in
+    rw c.in-Optional.is (marks_read _ _ _ _ _ _ _ _ read c.walk_list-mark.ensures.marks)
 
 pub walk_group-returns-in-First-clause-misses : goal.walk_group-returns-in-First-clause-misses
 unfolding Misses
@@ -69,6 +94,9 @@ walk_item-returns-in_default-clause-reads t c tree is = absurd (no_item c.args.i
 
 pub walk_item-returns-in_default-clause-misses : goal.walk_item-returns-in_default-clause-misses
 walk_item-returns-in_default-clause-misses t c tree is = absurd (no_item c.args.item.now tree (omega (arith, c.in_default.len_below)) is)
+
+pub walk_item-returns-in_default-clause-marks : goal.walk_item-returns-in_default-clause-marks
+walk_item-returns-in_default-clause-marks t c tree is = absurd (no_item c.args.item.now tree (omega (arith, c.in_default.len_below)) is)
 
 pub walk_item-returns-in-Component-clause-reads : goal.walk_item-returns-in-Component-clause-reads
 walk_item-returns-in-Component-clause-reads t c tree is =
@@ -85,6 +113,13 @@ walk_item-returns-in-Component-clause-misses t c tree is =
     first_tree c.args.item.now _ tree c.in-len1-up.len_at_least c.step-item.is is ∙ ap (λ y. tree_at steps_trees y behind) c.in-Component.is in
     rw one c.read_component.ensures.misses
 
+pub walk_item-returns-in-Component-clause-marks : goal.walk_item-returns-in-Component-clause-marks
+walk_item-returns-in-Component-clause-marks t c tree is =
+    let behind = behind_first c.args.item.now in
+    let one : tree ≡ component false c.in-Component.component =
+    first_tree c.args.item.now _ tree c.in-len1-up.len_at_least c.step-item.is is ∙ ap (λ y. tree_at steps_trees y behind) c.in-Component.is in
+    rw one c.read_component.ensures.marks
+
 pub walk_item-returns-in-Group-clause-reads : goal.walk_item-returns-in-Group-clause-reads
 walk_item-returns-in-Group-clause-reads t c tree is =
     let first = subst (λ y. y ≡ get_or c.args.item.now 0 y) c.in-Group.is c.step-item.is in
@@ -97,6 +132,12 @@ walk_item-returns-in-Group-clause-misses t c tree is =
     let one = group_inside c.args.item.now _ _ tree c.in-len1-up.len_at_least first is in
     rw one c.walk_group.ensures.misses
 
+pub walk_item-returns-in-Group-clause-marks : goal.walk_item-returns-in-Group-clause-marks
+walk_item-returns-in-Group-clause-marks t c tree is =
+    let first = subst (λ y. y ≡ get_or c.args.item.now 0 y) c.in-Group.is c.step-item.is in
+    let one = group_inside c.args.item.now _ _ tree c.in-len1-up.len_at_least first is in
+    rw one c.walk_group.ensures.marks
+
 pub walk_item-returns-in-Literal-clause-reads : goal.walk_item-returns-in-Literal-clause-reads
 walk_item-returns-in-Literal-clause-reads t c tree is =
     let one = literal_tree c.args.item.now _ c.in-Literal.byte tree c.in-len1-up.len_at_least c.step-item.is is c.in-Literal.is in
@@ -107,27 +148,39 @@ walk_item-returns-in-Literal-clause-misses t c tree is =
     let one = literal_tree c.args.item.now _ c.in-Literal.byte tree c.in-len1-up.len_at_least c.step-item.is is c.in-Literal.is in
     rw one (c.literal.ensures.misses (further (behind_first c.args.item.now)) (is ∙ ap (λ u. more u none) one))
 
+pub walk_item-returns-in-Literal-clause-marks : goal.walk_item-returns-in-Literal-clause-marks
+walk_item-returns-in-Literal-clause-marks t c tree is =
+    let one = literal_tree c.args.item.now _ c.in-Literal.byte tree c.in-len1-up.len_at_least c.step-item.is is c.in-Literal.is in
+    rw one (c.literal.ensures.marks c.args.name.now (further (behind_first c.args.item.now)) (is ∙ ap (λ u. more u none) one))
+
 pub walk_list-returns-in-None-clause-reads : goal.walk_list-returns-in-None-clause-reads
 walk_list-returns-in-None-clause-reads t c =
     let s = c.in-Some.ensures in
-    let read = rw c.in-None.is at (c.walk_item.ensures.reads s.tree s.alone) in
-    record { unread = Follows-unread c.loop-item.invariant.0 s.tree _ s.all (c.walk_item.ensures.misses s.tree s.alone) read.unread; same = refl }
+    let read = rw c.in-None.is at (c.walk_item-mark.ensures.reads s.tree s.alone) in
+    record { unread = Follows-unread c.loop-item.invariant.0 s.tree _ s.all (c.walk_item-mark.ensures.misses s.tree s.alone) read.unread; same = refl }
 
 pub walk_list-returns-in-None-clause-misses : goal.walk_list-returns-in-None-clause-misses
 unfolding Misses
 walk_list-returns-in-None-clause-misses t c =
     let s = c.in-Some.ensures in
-    let read = rw c.in-None.is at (c.walk_item.ensures.reads s.tree s.alone) in
+    let read = rw c.in-None.is at (c.walk_item-mark.ensures.reads s.tree s.alone) in
     rw c.further-furthest.ensures
-    (Follows-misses c.loop-item.invariant.0 s.tree _ s.all (c.walk_item.ensures.misses s.tree s.alone) read.unread)
+    (Follows-misses c.loop-item.invariant.0 s.tree _ s.all (c.walk_item-mark.ensures.misses s.tree s.alone) read.unread)
+
+pub walk_list-returns-in-None-clause-marks : goal.walk_list-returns-in-None-clause-marks
+walk_list-returns-in-None-clause-marks t c =
+    let s = c.in-Some.ensures in
+    let read = rw c.in-None.is at (c.walk_item-mark.ensures.reads s.tree s.alone) in
+    marks_unread _ _ _ _ _ (Follows-unread c.loop-item.invariant.0 s.tree _ s.all (c.walk_item-mark.ensures.misses s.tree s.alone) read.unread)
 
 pub walk_list-loop-item-preserved : goal.walk_list-loop-item-preserved
 walk_list-loop-item-preserved t c =
     let s = c.in-Some.ensures in
-    let read = rw c.in-Some-unread.is at (c.walk_item.ensures.reads s.tree s.alone) in (
+    let read = rw c.in-Some-unread.is at (c.walk_item-mark.ensures.reads s.tree s.alone) in (
       rw c.further-furthest.ensures
-          (Follows-reads c.loop-item.invariant.0 s.tree _ s.all (c.walk_item.ensures.misses s.tree s.alone) read),
+          (Follows-reads c.loop-item.invariant.0 s.tree _ s.all (c.walk_item-mark.ensures.misses s.tree s.alone) read),
       omega (arith, s.fewer, c.loop-item.invariant.1),
+      rw c.or-last.ensures (CarriesAll-reads c.loop-item.invariant.2 s.tree _ s.all _ _ _ read (c.walk_item-mark.ensures.marks s.tree s.alone)),
     )
 
 pub walk_list-returns-clause-reads : goal.walk_list-returns-clause-reads
@@ -136,3 +189,8 @@ walk_list-returns-clause-reads t c = Follows-end c.loop-item.invariant.0 (no_ste
 pub walk_list-returns-clause-misses : goal.walk_list-returns-clause-misses
 unfolding Misses
 walk_list-returns-clause-misses t c = Follows-kept c.loop-item.invariant.0 (no_steps c.loop-item.left.now c.in_default.ensures)
+
+pub walk_list-returns-clause-marks : goal.walk_list-returns-clause-marks
+walk_list-returns-clause-marks t c =
+    let end = no_steps c.loop-item.left.now c.in_default.ensures in
+    CarriesAll-end c.loop-item.invariant.2 end (Follows-end c.loop-item.invariant.0 end)

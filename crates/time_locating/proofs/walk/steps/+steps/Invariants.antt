@@ -4,6 +4,7 @@ use Rattle.time_components.specs.Steps.{steps_trees}
 use Rattle.time_locating.specs.Located.{seen_miss}
 use Rattle.time_locating.specs.Misses.{first_byte}
 use Rattle.time_locating.proofs.ChoiceSteps.{Passes}
+use Rattle.time_locating.proofs.MarkSteps.{CarriesAll, CarriesFirst}
 use Rattle.time_locating.proofs.TurnSteps.{Follows}
 use Rattle.time_locating.proofs.walk.steps.+steps.Given as goal
 
@@ -24,6 +25,7 @@ invariant-walk_list-loop-item l =
     Follows greatest_year first_byte (steps_trees l.steps) l.fn.input l.fn.parsed (steps_trees l.left) l.rest l.parsed
     (seen_miss l.furthest)
     × (length l.left ≤ length l.steps)
+    × CarriesAll greatest_year l.name (steps_trees l.steps) l.fn.input l.fn.parsed (steps_trees l.left) l.rest l.parsed l.last
 
 abbrev pub decreases-walk_list-loop-item : goal.decreases-walk_list-loop-item
 decreases-walk_list-loop-item l = length l.left
@@ -33,6 +35,7 @@ invariant-walk_first-loop-item l =
     Passes greatest_year first_byte (steps_trees l.steps) (steps_trees l.left) l.input l.fn.parsed l.parsed
     (seen_miss l.furthest)
     × (length l.left ≤ length l.steps)
+    × CarriesFirst greatest_year l.name (steps_trees l.steps) (steps_trees l.left) l.input l.fn.parsed
 
 abbrev pub decreases-walk_first-loop-item : goal.decreases-walk_first-loop-item
 decreases-walk_first-loop-item l = length l.left

@@ -1,0 +1,56 @@
+-- Where the components begin that a tree reads. `Y` is the greatest year.
+--
+-- A mark is how many bytes are left where the last component of a name begins, or nothing where none of it is read.
+use Rattle.std.specs.Prelude.{◌≡◌, ℕ, ◌⊎◌, List, length, codes, Bool, false, ◌||◌, Option, None}
+use Rattle.std.specs.Option.{option_or}
+use Rattle.std.specs.Str.{bytes_eq}
+use Rattle.time_values.specs.Refusal.{Refusal, component as of_component}
+use Rattle.time_components.specs.declared.format_description.Component.{Component}
+use Rattle.time_components.specs.declared.format_description.Component.TheVariants as named
+use Rattle.time_components.specs.Tree.{Tree, Trees, literal, component, sequence, optional, first_of, none, more}
+use Rattle.time_readers.specs.IsoRows.{when}
+use Rattle.time_record.specs.Components.{component_fault}
+use Rattle.time_record.specs.Reading.{Reads, NoReading}
+use Rattle.time_record.specs.Record.{Record}
+use Rattle.time_locating.specs.Located.{Marking}
+
+-- the refusal says that name
+abbrev pub says_name : List ℕ → Refusal → Bool
+says_name name (of_component other) = bytes_eq name other
+says_name name e = false
+
+-- The component has that name: the refusal of its text says it. Of a week as ISO 8601 counts them, the refusal of its
+-- date says another.
+abbrev pub is_named : List ℕ → Component → Bool
+is_named name (named.WeekNumberIso m) = bytes_eq name (codes "week number") || bytes_eq name (codes "week")
+is_named name c = says_name name (component_fault c)
+
+unfoldable mutual
+  -- This is the mark, where the tree is read from the bytes over the record.
+  pub Marks : ℕ → List ℕ → Tree → List ℕ → Record → Option ℕ → Type 0
+  Marks Y name (literal t) bytes r mark = mark ≡ None
+  Marks Y name (component whole c) bytes r mark = mark ≡ when (is_named name c) (length bytes)
+  Marks Y name (sequence ts) bytes r mark = MarksAll Y name ts bytes r mark
+  Marks Y name (optional t) bytes r mark =
+      ((rest : List ℕ) × (q : Record) × Reads Y t bytes r rest q × Marks Y name t bytes r mark)
+      ⊎ (NoReading Y t bytes r × (mark ≡ None))
+  Marks Y name (first_of ts) bytes r mark = MarksFirst Y name ts bytes r mark
+
+  -- of trees in turn, the last one's first
+  pub MarksAll : ℕ → List ℕ → Trees → List ℕ → Record → Option ℕ → Type 0
+  MarksAll Y name none bytes r mark = mark ≡ None
+  MarksAll Y name (more t ts) bytes r mark =
+      (here : Option ℕ) × Marks Y name t bytes r here
+      × (mid : List ℕ) × (q : Record) × Reads Y t bytes r mid q
+      × (later : Option ℕ) × MarksAll Y name ts mid q later × (mark ≡ option_or later here)
+
+  -- of alternatives, that of the first that reads
+  pub MarksFirst : ℕ → List ℕ → Trees → List ℕ → Record → Option ℕ → Type 0
+  MarksFirst Y name none bytes r mark = mark ≡ None
+  MarksFirst Y name (more t ts) bytes r mark =
+      ((mid : List ℕ) × (q : Record) × Reads Y t bytes r mid q × Marks Y name t bytes r mark)
+      ⊎ (NoReading Y t bytes r × MarksFirst Y name ts bytes r mark)
+
+-- The mark of a text, of which the tree reads a front or nothing.
+abbrev pub MarksTree : ℕ → Tree → Marking
+MarksTree Y t name bytes r mark = Marks Y name (optional t) bytes r mark

@@ -1,0 +1,143 @@
+//! Where the components begin that a text of ISO 8601 says.
+ghost use Rattle.std.specs.Prelude.{◌≡◌, map};
+ghost use Rattle.std.specs.Option.{option_copied};
+ghost use Rattle.time_values.specs.Range.{greatest_year};
+ghost use Rattle.time_readers.specs.IsoTimes.{time_text};
+ghost use Rattle.time_record.specs.Record.{Record};
+ghost use Rattle.time_locating.specs.IsoMarks as spec;
+ghost use Rattle.time_locating.specs.Located.{wants};
+
+use crate::Expected;
+use crate::iso8601::pieces::{expected_at, past, past_byte};
+use crate::iso8601::{DATES, Piece, offsets_of, times_of, too_great};
+use time_readers::iso8601::{ExtendedKind, date, time};
+
+// Whether a component of this name is expected.
+fn expects(expected: Expected<'_>, name: &str) -> bool
+    ensures { result ≡ spec.wants_name name.now (wants expected.entry) }
+{
+    match expected {
+        Expected::Component(own) => name == own,
+        Expected::Literal(_) | Expected::End => false,
+    }
+}
+
+// Whether the piece says the component of this name.
+fn is_piece_of(piece: Piece, name: &str) -> bool
+    ensures { result ≡ spec.is_piece_of name.now piece }
+{
+    match piece {
+        Piece::Zulu => name == "offset hour",
+        _ => expects(expected_at(piece), name),
+    }
+}
+
+// What is left after the pieces of a row.
+fn past_row<'a>(row: &[Piece], input: &'a [u8]) -> Option<&'a [u8]>
+    ensures { option_copied result ≡ spec.after_row row.now input.now }
+{
+    let mut rest = input;
+    for piece in row {
+        rest = past(*piece, rest)?;
+    }
+    Some(rest)
+}
+
+// How many bytes are left where the first piece of this name begins.
+fn row_mark(row: &[Piece], input: &[u8], name: &str) -> Option<usize>
+    ensures { result ≡ spec.row_mark name.now row.now input.now }
+{
+    let mut rest = input;
+    for piece in row {
+        if is_piece_of(*piece, name) {
+            return Some(rest.len());
+        }
+        rest = past(*piece, rest)?;
+    }
+    None
+}
+
+// Whether the row leaves so many bytes.
+fn leaves(left: usize, row: &[Piece], input: &[u8]) -> bool
+    ensures { result ≡ spec.leaves left (spec.after_row row.now input.now) }
+{
+    match past_row(row, input) {
+        Some(rest) => rest.len() == left,
+        None => false,
+    }
+}
+
+// The same of the first row that leaves so many bytes.
+fn rows_mark(rows: &[&[Piece]], left: usize, input: &[u8], name: &str) -> Option<usize>
+    ensures { result ≡ spec.rows_mark name.now left (map (λ row. row.now) rows.now) input.now }
+{
+    for row in rows {
+        if leaves(left, row, input) {
+            return row_mark(row, input, name);
+        }
+    }
+    None
+}
+
+// Of an offset of that kind.
+fn offset_mark(kind: ExtendedKind, left: usize, input: &[u8], name: &str) -> Option<usize>
+    ensures { result ≡ spec.offset_mark name.now left kind input.now }
+{
+    rows_mark(offsets_of(kind), left, input, name)
+}
+
+// Of a time of that kind, which may begin with `T`.
+fn time_mark(kind: ExtendedKind, left: usize, input: &[u8], name: &str) -> Option<usize>
+    ensures { result ≡ spec.time_mark name.now left kind input.now }
+{
+    let after = past_byte::<b'T'>(input).unwrap_or(input);
+    rows_mark(times_of(kind), left, after, name)
+}
+
+// Of a time and an offset after it, or `otherwise` where there is no time.
+fn mark_from_time(
+    needs_t: bool,
+    kind: ExtendedKind,
+    left: usize,
+    input: &[u8],
+    name: &str,
+    otherwise: Option<usize>,
+) -> Option<usize>
+    ensures { result ≡ spec.from_time name.now left kind input.now (time_text needs_t kind input.now) otherwise }
+{
+    match time(input, kind, needs_t) {
+        Some(found) => offset_mark(found.kind, left, found.rest, name).or(time_mark(
+            kind,
+            found.rest.len(),
+            input,
+            name,
+        )),
+        None => otherwise,
+    }
+}
+
+// Of a text without a date.
+fn mark_without_date(left: usize, input: &[u8], name: &str) -> Option<usize>
+    ensures { result ≡ spec.without_date name.now left input.now }
+{
+    let offset = offset_mark(ExtendedKind::Unknown, left, input, name);
+    mark_from_time(false, ExtendedKind::Unknown, left, input, name, offset)
+}
+
+/// How many bytes are left where the component of this name begins in a text of which so many bytes are left unread.
+pub(crate) fn text_mark(left: usize, input: &[u8], name: &str) -> Option<usize>
+    ensures { (r : Record) → result ≡ spec.text_mark greatest_year name.now left input.now r }
+{
+    let Ok(date) = date(input) else {
+        return mark_without_date(left, input, name);
+    };
+    match too_great(date.value, date.kind) {
+        Some(_) => mark_without_date(left, input, name),
+        None => mark_from_time(true, date.kind, left, date.rest, name, None).or(rows_mark(
+            &DATES,
+            date.rest.len(),
+            input,
+            name,
+        )),
+    }
+}

@@ -1,0 +1,5 @@
+use Rattle.time_parse.proofs.PlaceLemmas.{Appends-none}
+use Rattle.time_parse.proofs.place.write_index.Goals as goal
+
+pub returns-in_default : goal.returns-in_default
+returns-in_default g c = rw c.in_default.is (Appends-none _)

@@ -61,24 +61,6 @@ module _ {Y : ℕ} {all : Trees} {b0 : List ℕ} {r0 : Record} {left : Trees} {b
   unfolding Reads ReadsAll
   Goes-end is = g.reads b r (subst (λ ts. ReadsAll Y ts b r b r) (sym is) (refl, refl))
 
-  -- the walk over the steps answers for what is left
-  pub Goes-answered : (result : Result (Bor (List ℕ)) ParseFromDescription) (q : Record) → Answers Y (sequence left) b r result q →
-      Tells Y (sequence all) b0 r0 result q
-  unfolding Reads IsFault
-  Goes-answered (Ok rest) q h = g.reads rest.now q h
-  Goes-answered (Err e) q h =
-      let refused = g.refuses _ (record { unread = h.0.unread; fault = h.0.fault }) in
-      record { unread = refused.unread; fault = refused.fault }
-
--- the walk over what is left answers for all
-pub Goes-tells : {Y : ℕ} {all : Trees} {b0 : List ℕ} {r0 : Record} {left : Trees} {b : List ℕ} {r : Record} → Goes Y all b0 r0 left b r →
-    (result : Result (Bor (List ℕ)) ParseFromDescription) (q : Record) → Tells Y (sequence left) b r result q → Tells Y (sequence all) b0 r0 result q
-unfolding Reads IsFault
-Goes-tells g (Ok rest) q h = g.reads rest.now q h
-Goes-tells g (Err e) q h =
-    let refused = g.refuses _ (record { unread = h.unread; fault = h.fault }) in
-    record { unread = refused.unread; fault = refused.fault }
-
 -- what is answered is told
 pub answered : (Y : ℕ) (t : Tree) (b : List ℕ) (r : Record) (result : Result (Bor (List ℕ)) ParseFromDescription) (q : Record) →
     Answers Y t b r result q → Tells Y t b r result q

@@ -1,5 +1,6 @@
 pub mod Rows
 pub mod Going
+mod Fronts
 pub mod Choosing
 pub mod Parts
 pub mod Preparing

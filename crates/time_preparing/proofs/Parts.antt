@@ -1,21 +1,21 @@
 -- Forms of parts that are read one after the other. `Y` is the greatest year.
-use Rattle.std.proofs.Common.{◌≡◌, ℕ, ◌≤◌, List, [], ◌∷◌, Option, Some, None, Bor, IfSome, Bool, true, false, ℤ, inl, inr, refl, ap, sym, arith}
+use Rattle.std.proofs.Common.{◌≡◌, ℕ, ◌≤◌, List, [], ◌∷◌, ◌++◌, Option, Some, None, Bor, IfSome, Bool, true, false, ℤ, inl, inr, refl, ap, sym, subst, arith}
 use Rattle.std.specs.Prelude.{nat_le, unsigned_abs}
 use Rattle.std.proofs.lemmas.Bool.{le-leb}
 use Rattle.time_digits.specs.Cuts.{Cut}
-use Rattle.time_components.specs.Spelling.{Spells, Value, number, signed}
+use Rattle.time_components.specs.Spelling.{Spells, Value, flagged, number, signed}
 use Rattle.time_components.specs.Tree.{Tree, Trees, component, literal, optional, sequence, more, none}
 use Rattle.time_components.specs.declared.format_description.Component.{Component}
-use Rattle.time_components.specs.declared.format_description.Component.TheVariants.{CalendarYearFullExtendedRange, Day, Hour24, Minute, Second, Subsecond}
+use Rattle.time_components.specs.declared.format_description.Component.TheVariants.{CalendarYearFullExtendedRange, Day, Hour24, Minute, Second, Subsecond, OffsetHour, OffsetMinute}
 use Rattle.time_components.specs.declared.modifier.Day.{Day as Day'}
 use Rattle.time_record.specs.Components.{put_value}
 use Rattle.time_record.specs.Reading.{Reads, ReadsAll}
 use Rattle.time_record.specs.Record.{Record, Sets}
 use Rattle.time_record.specs.WalkFast.{MayRead}
 use Rattle.time_record.proofs.ComponentLemmas.{reads_literal}
-use Rattle.time_preparing.specs.Walk.{fraction_tree, MayReadAll, trees_of}
-use Rattle.time_preparing.specs.declared.forms.TheConstants.{YEAR, HOUR, MINUTE, SECOND, SUBSECOND}
-use Rattle.time_preparing.specs.declared.joined.Joined.TheVariants.{Seconds}
+use Rattle.time_preparing.specs.Walk.{fraction_tree, leaves, MayReadAll, seconds_tree}
+use Rattle.time_preparing.specs.Forms.{bytes_of, offset_parts}
+use Rattle.time_preparing.specs.declared.forms.TheConstants.{YEAR, HOUR, MINUTE, SECOND, SUBSECOND, OFFSET_HOUR, OFFSET_MINUTE}
 
 module _ (Y : ℕ) where
   -- nothing is left to read
@@ -80,7 +80,29 @@ module _ (Y : ℕ) where
       (byte_read _ c_rest d_in rest between p q first
       (component_read none d_in rest rest d w p q q d_cut puts_d (read_all rest q)))
 
+  -- An offset's hour and its minute, with that byte between them if there is one.
+  pub offset_read : (between : Option ℕ) (b h_rest m_in rest : List ℕ) (h m : ℤ) (minus : Bool) (r p q : Record) →
+      Cut (Spells false (OffsetHour OFFSET_HOUR)) b h_rest (flagged h minus) → h_rest ≡ bytes_of between ++ m_in →
+      Cut (Spells false (OffsetMinute OFFSET_MINUTE)) m_in rest (signed m) →
+      put_value Y (OffsetHour OFFSET_HOUR) (flagged h minus) r ≡ Some p → put_value Y (OffsetMinute OFFSET_MINUTE) (signed m) p ≡ Some q →
+      ReadsAll Y (leaves (offset_parts between)) b r rest q
+  offset_read None b h_rest m_in rest h m minus r p q h_cut is m_cut puts_h puts_m =
+      component_read _ b h_rest rest (OffsetHour OFFSET_HOUR) (flagged h minus) r p q h_cut puts_h
+      (component_read none h_rest rest rest (OffsetMinute OFFSET_MINUTE) (signed m) p q q
+      (subst (λ s. Cut (Spells false (OffsetMinute OFFSET_MINUTE)) s rest (signed m)) (sym is) m_cut) puts_m (read_all rest q))
+  offset_read (Some byte) b h_rest m_in rest h m minus r p q h_cut is m_cut puts_h puts_m =
+      two_read byte (OffsetHour OFFSET_HOUR) (OffsetMinute OFFSET_MINUTE) b h_rest m_in rest (flagged h minus) (signed m) r p q
+      h_cut is m_cut puts_h puts_m
+
   -- numbers that are put
+
+  pub put_offset_hour : (h : ℤ) (minus : Bool) (r : Record) → nat_le (unsigned_abs h) 25 ≡ true →
+      put_value Y (OffsetHour OFFSET_HOUR) (flagged h minus) r ≡ Some (record r { offset_hour = Some h; offset_is_negative = minus })
+  put_offset_hour h minus r within = rw within refl
+
+  pub put_offset_minute : (m : ℤ) (r : Record) → nat_le (unsigned_abs m) 59 ≡ true →
+      put_value Y (OffsetMinute OFFSET_MINUTE) (signed m) r ≡ Some (record r { offset_minute = Some m })
+  put_offset_minute m r within = rw within refl
 
   pub put_year : (y : ℤ) (r : Record) → nat_le (unsigned_abs y) Y ≡ true →
       put_value Y (CalendarYearFullExtendedRange YEAR) (signed y) r ≡ Some (record r { year = Some y })
@@ -134,14 +156,14 @@ module _ (Y : ℕ) where
       (component_read none mid rest rest (Subsecond SUBSECOND) (number n) r q q cut (put_subsecond n r within) (read_all rest q)))
 
   pub no_seconds : (between p : ℕ) (b : List ℕ) (r : Record) → ((rest : List ℕ) → b ≡ between ∷ rest → ⊥) →
-      ReadsAll Y (trees_of (Seconds between p)) b r b r
+      ReadsAll Y (more (seconds_tree between p) none) b r b r
   no_seconds between p b r other =
       let t = more (component false (Second SECOND)) (more (fraction_tree p) none) in
       tree_read none b b b (optional (sequence (more (literal (between ∷ [])) t))) r r r (missing t between b r other) (read_all b r)
 
   pub seconds_read : (between p n : ℕ) (b mid behind rest : List ℕ) (r s q : Record) → b ≡ between ∷ mid →
       Cut (Spells false (Second SECOND)) mid behind (number n) → put_value Y (Second SECOND) (number n) r ≡ Some s →
-      Reads Y (fraction_tree p) behind s rest q → ReadsAll Y (trees_of (Seconds between p)) b r rest q
+      Reads Y (fraction_tree p) behind s rest q → ReadsAll Y (more (seconds_tree between p) none) b r rest q
   seconds_read between p n b mid behind rest r s q is cut puts fraction =
       let ts = more (fraction_tree p) none in
       let t = more (component false (Second SECOND)) ts in

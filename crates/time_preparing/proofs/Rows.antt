@@ -1,8 +1,8 @@
 -- Rows of steps, and what is read at once in them.
-use Rattle.std.proofs.Common.{◌≡◌, ℕ, zero, suc, ◌+◌, ◌-◌, ◌≤◌, ◌<◌, List, [], ◌∷◌, ◌++◌, length, take, drop, get_or, inl, inr, refl, ap, sym, ◌∙◌, arith, false, length-take, length-drop}
-use Rattle.std.specs.Prelude.{min}
+use Rattle.std.proofs.Common.{◌≡◌, ℕ, zero, suc, ◌+◌, ◌-◌, ◌≤◌, ◌<◌, List, [], ◌∷◌, ◌++◌, length, take, drop, get_or, inl, inr, refl, ap, sym, ◌∙◌, arith, false, true, length-take, length-drop}
+use Rattle.std.specs.Prelude.{◌==◌, min}
 use Rattle.std.proofs.lemmas.List.{take_all, take-append-drop, drop_all}
-use Rattle.std.proofs.lemmas.Bool.{cases_lt}
+use Rattle.std.proofs.lemmas.Bool.{cases_lt, eqb-true}
 use Rattle.time_components.specs.Steps.{further, group_tree, steps_after, steps_trees, tree_at}
 use Rattle.time_components.specs.Tree.{Trees, literal, component, sequence, optional, none, more}
 use Rattle.time_components.specs.declared.format_description.Component.TheVariants.{Second, Subsecond}
@@ -12,10 +12,9 @@ use Rattle.time_components.specs.declared.step.Step.{Step}
 use Rattle.time_components.specs.declared.step.Step.TheVariants as step
 use Rattle.time_record.proofs.StepRows.{behind_first, behind_is, first_item, steps_trees-end}
 use Rattle.time_preparing.specs.Joined.{BeginsWith, Fits, fraction_parts, parts, Says, second_parts}
-use Rattle.time_preparing.specs.Walk.{followed_by, fraction_tree, item_length, leaves, trees_of}
+use Rattle.time_preparing.specs.Walk.{followed_by, fraction_tree, item_length, leaves, seconds_tree}
 use Rattle.time_preparing.specs.declared.forms.TheConstants.{SECOND, SUBSECOND}
 use Rattle.time_preparing.specs.declared.joined.Joined.{Joined}
-use Rattle.time_preparing.specs.declared.joined.Joined.TheVariants as joined
 
 take_joined : (xs ys : List Step) (n : ℕ) → length xs ≤ n → take n (xs ++ ys) ≡ xs ++ take (n - length xs) ys
 take_joined [] ys n h = ap (λ k. take k ys) (omega arith)
@@ -112,14 +111,14 @@ first_step s steps =
     first_item (s ∷ steps) s (omega arith) refl
     ∙ ap (λ ys. more (tree_at steps_trees s ys) (steps_trees (steps_after s ys))) (behind_is (s ∷ steps) (omega arith))
 
-further_plain : (front after : List Step) → AllPlain front → further after ≡ [] → further (front ++ after) ≡ []
+pub further_plain : (front after : List Step) → AllPlain front → further after ≡ [] → further (front ++ after) ≡ []
 further_plain [] after p e = e
 further_plain (step.Literal b ∷ front) after p e = refl
 further_plain (step.More b ∷ front) after p e = absurd p
 further_plain (step.Component c ∷ front) after p e = refl
 further_plain (step.Group g len ∷ front) after p e = absurd p
 
-plain_row : (front after : List Step) → AllPlain front → further after ≡ [] →
+pub plain_row : (front after : List Step) → AllPlain front → further after ≡ [] →
     steps_trees (front ++ after) ≡ followed_by (leaves front) (steps_trees after)
 plain_row [] after p e = refl
 plain_row (step.Literal b ∷ front) after p e =
@@ -137,14 +136,13 @@ plain_alone steps p =
     ap steps_trees (sym (append_nil steps)) ∙ plain_row steps [] p refl
     ∙ ap (followed_by (leaves steps)) (steps_trees-end [] (omega arith)) ∙ followed_by_none (leaves steps)
 
-fraction_row : (p : ℕ) (after : List Step) → steps_trees (fraction_parts p ++ after) ≡ more (fraction_tree p) (steps_trees after)
+pub fraction_row : (p : ℕ) (after : List Step) → steps_trees (fraction_parts p ++ after) ≡ more (fraction_tree p) (steps_trees after)
 fraction_row p after =
     let inside = step.Literal p ∷ step.Component (Subsecond SUBSECOND) ∷ [] in
     first_step (step.Group Optional 2) (inside ++ after)
     ∙ ap (λ ts. more (optional (sequence ts)) (steps_trees after)) (plain_alone inside tt)
 
-second_row : (b p : ℕ) (after : List Step) →
-    steps_trees (second_parts b p ++ after) ≡ followed_by (trees_of (joined.Seconds b p)) (steps_trees after)
+pub second_row : (b p : ℕ) (after : List Step) → steps_trees (second_parts b p ++ after) ≡ more (seconds_tree b p) (steps_trees after)
 second_row b p after =
     let second = step.Literal b ∷ step.Component (Second SECOND) ∷ [] in
     let fraction : steps_trees (fraction_parts p) ≡ more (fraction_tree p) none =
@@ -152,27 +150,6 @@ second_row b p after =
     first_step (step.Group Optional 5) ((second ++ fraction_parts p) ++ after)
     ∙ ap (λ ts. more (optional (sequence ts)) (steps_trees after))
     (plain_row second (fraction_parts p) tt refl ∙ ap (followed_by (leaves second)) fraction)
-
-parts_row : (j : Joined) (after : List Step) → further after ≡ [] →
-    steps_trees (parts j ++ after) ≡ followed_by (trees_of j) (steps_trees after)
-parts_row joined.Nothing after e = refl
-parts_row (joined.Byte b) after e = plain_row (parts (joined.Byte b)) after tt e
-parts_row (joined.Component c) after e = plain_row (parts (joined.Component c)) after tt e
-parts_row (joined.Date b) after e = plain_row (parts (joined.Date b)) after tt e
-parts_row (joined.DayFirst b) after e = plain_row (parts (joined.DayFirst b)) after tt e
-parts_row (joined.MonthDay b) after e = plain_row (parts (joined.MonthDay b)) after tt e
-parts_row (joined.Time b) after e = plain_row (parts (joined.Time b)) after tt e
-parts_row (joined.Fraction p) after e = fraction_row p after
-parts_row (joined.Seconds b p) after e = second_row b p after
-
--- the trees of steps, of which the first ones are read at once
-pub joined_row : (j : Joined) (steps : List Step) → Says j steps → 0 < length (parts j) → length (parts j) ≤ length steps →
-    steps_trees steps ≡ followed_by (trees_of j) (steps_trees (drop (length (parts j)) steps))
-joined_row j steps says some enough =
-    let begins = says some enough in
-    let after : drop (length (parts j)) steps ≡ begins.0 = ap (drop (length (parts j))) begins.1 ∙ drop_joined (parts j) begins.0 in
-    ap steps_trees begins.1 ∙ parts_row j begins.0 begins.2
-    ∙ ap (λ ys. followed_by (trees_of j) (steps_trees ys)) (sym after)
 
 -- A literal's further bytes are as many as stand there.
 further_within : (steps : List Step) → length (further steps) ≤ length steps
@@ -299,9 +276,13 @@ module _ (left : List Step) (x : Step) (some : 1 ≤ length left) (is : x ≡ ge
       ∙ ap (λ ys. more (group_tree g (steps_trees ys)) (steps_trees (drop len behind))) front'
       ∙ ap (λ ys. more (group_tree g (steps_trees inside)) (steps_trees ys)) back'
 
--- what is read at once in the steps behind a first one
-pub Fits-behind : (js : List Joined) (steps later : List Step) (later_js behind_js : List Joined) (n : ℕ) → Fits js steps →
-    later_js ≡ drop n js → later ≡ drop n steps → behind_js ≡ drop 1 later_js → 1 ≤ length later → Fits behind_js (behind_first later)
-Fits-behind js steps later later_js behind_js n fits is is' behind some =
-    let later_fits : Fits later_js later = rw (is, is') (Fits-drop n js steps fits) in
-    rw (behind, behind_is later some) (Fits-drop 1 later_js later later_fits)
+-- a byte or a component, and no step behind it
+pub lone_row : (steps : List Step) (x y : Step) → 1 ≤ length steps → x ≡ get_or steps 0 x → x ≡ y → AllPlain (y ∷ []) →
+    (length (behind_first steps) == 0) ≡ true → steps_trees steps ≡ leaves (y ∷ [])
+lone_row steps x y some is of plain alone =
+    ap steps_trees (first_and_behind steps x some is ∙ ap (λ z. z ∷ behind_first steps) of ∙ ap (λ ys. y ∷ ys) (nothing (behind_first steps) alone))
+    ∙ plain_alone (y ∷ []) plain
+  where
+    nothing : (ys : List Step) → (length ys == 0) ≡ true → ys ≡ []
+    nothing [] e = refl
+    nothing (z ∷ ys) e = absurd (omega (arith, eqb-true (length (z ∷ ys)) 0 e))

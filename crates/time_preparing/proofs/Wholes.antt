@@ -1,41 +1,51 @@
 -- Whole texts of one form: their steps, and the values of their records.
-use Rattle.std.proofs.Common.{◌≡◌, ◌≢◌, ℕ, zero, suc, ◌-◌, ◌≤◌, List, [], ◌∷◌, ◌++◌, length, take, drop, get_or, Bool, true, false, Option, Some, None, Ok, ℤ, pos, negsuc, neg_ℤ, unsigned_abs, inl, inr, refl, ap, sym, ◌∙◌, subst, arith}
-use Rattle.std.specs.Prelude.{◌==◌, nat_le, min}
+use Rattle.std.proofs.Common.{◌≡◌, ◌≢◌, ℕ, ◌≤◌, List, [], ◌∷◌, ◌++◌, length, take, drop, get_or, true, false, Option, Some, None, Ok, pos, inr, refl, ap, sym, subst, arith}
+use Rattle.std.specs.Prelude.{◌==◌}
 use Rattle.std.proofs.lemmas.Bool.{le-leb, eqb-true}
-use Rattle.std.proofs.lemmas.List.{take_all, take-append-drop, drop_all}
-use Rattle.time_values.specs.Dates as Dates
-use Rattle.time_values.specs.Moments.{plain_date, plain_time}
+use Rattle.std.proofs.lemmas.List.{take_all, drop_all}
+use Rattle.time_values.specs.Moments.{offset_date, offset_of, offset_time, plain_date, plain_time}
+use Rattle.time_values.specs.Offsets.{offset_refusal}
 use Rattle.time_values.specs.Range.{greatest_year}
 use Rattle.time_values.specs.Refusal.{Refusal, Constructs}
+use Rattle.time_values.specs.Sign.{signed_by}
 use Rattle.time_values.specs.Times as Times
 use Rattle.time_values.specs.declared.date.Date.{Date}
+use Rattle.time_values.specs.declared.offset_date_time.OffsetDateTime.{OffsetDateTime}
 use Rattle.time_values.specs.declared.plain_date_time.PlainDateTime.{PlainDateTime}
+use Rattle.time_values.specs.declared.utc_offset.UtcOffset.{UtcOffset}
 use Rattle.time_values.specs.declared.time.Time.{Time}
-use Rattle.time_components.specs.Steps.{group_tree, steps_shape, steps_trees}
-use Rattle.time_components.specs.Tree.{Tree, Trees, component, first_of, sequence, literal, none, more}
+use Rattle.time_components.specs.Steps.{steps_shape, steps_trees}
+use Rattle.time_components.specs.Tree.{component, first_of, sequence, literal, more}
 use Rattle.time_components.specs.declared.step.Group.TheVariants.{First, List as List'}
 use Rattle.time_components.specs.declared.step.Step.{Step}
 use Rattle.time_components.specs.declared.step.Step.TheVariants as step
 use Rattle.time_record.specs.Reading.{Reads, ReadsAll}
 use Rattle.time_record.specs.Record.{Record, empty}
-use Rattle.time_record.specs.Resolution.{IsDated, IsTimed, IsPlain}
+use Rattle.time_record.specs.Resolution.{IsConstructed, IsDated, IsMoment, IsMomentOfParts, IsOffset, IsTimed, IsPlain}
 use Rattle.time_record.proofs.StepRows.{behind_first, steps_trees-end}
 use Rattle.time_record.proofs.Steps.{first_of-some, ReadsSome-here}
-use Rattle.time_preparing.specs.Forms.{dated_parts, time_parts}
+use Rattle.time_preparing.specs.Forms.{byte_parts, bytes_of, dated_parts, offset_parts, time_parts, with_offset}
 use Rattle.time_preparing.specs.Walk.{followed_by, leaves}
-use Rattle.time_preparing.specs.Whole.{dated, IsLed, IsWholeSecond, Leads, ReadsWhole, timed, whole_parts}
+use Rattle.time_preparing.specs.Whole.{dated, IsLed, IsOf, IsWholeSecond, Leads, ReadsWhole, timed, whole_parts}
+use Rattle.time_preparing.specs.declared.forms.InMoment.{InMoment}
+use Rattle.time_preparing.specs.declared.forms.OffsetNumbers.{OffsetNumbers}
 use Rattle.time_preparing.specs.declared.forms.Dated.{Dated}
 use Rattle.time_preparing.specs.declared.forms.Dated.TheVariants.{YearFirst, DayFirst}
 use Rattle.time_preparing.specs.declared.whole.Whole.{Whole}
 use Rattle.time_preparing.specs.declared.whole.Whole.TheVariants as whole
 use Rattle.time_preparing.proofs.Parts.{byte_read}
 use Rattle.time_preparing.proofs.Going.{one_as_list, reads_later}
-use Rattle.time_preparing.proofs.Rows.{AllPlain, first_and_behind, group_row, plain_alone}
+use Rattle.time_preparing.proofs.Rows.{AllPlain, group_row, plain_alone}
 
 -- what was constructed
 pub made : {V : Type 0} (o : Option Refusal) (P : V → Type 0) (v : V) → Constructs o P (Ok v) → P v
 made None P v h = h
 made (Some e) P v h = absurd h
+
+-- the same as a record's conversion has it
+constructed : {V : Type 0} (o : Option Refusal) (P : V → Type 0) (v : V) → Constructs o P (Ok v) → IsConstructed o P (Ok v)
+constructed None P v h = h
+constructed (Some e) P v h = absurd h
 
 -- the values of the records
 
@@ -64,6 +74,30 @@ module _ (t : Time) (exact : IsWholeSecond t) where
   is_plain d p same_date same_time =
       inr (d, (refl, refl, refl), inr (t, timed_by (dated d empty) refl, (same_date, same_time)))
 
+  -- and an offset
+  module _ (d : Date) (n : OffsetNumbers) (o : UtcOffset) (of : IsOf n o) where
+    is_offset : IsOffset (with_offset n (timed t (dated d empty))) (Ok o)
+    unfolding IsOffset
+    is_offset = constructed (offset_refusal n.hour (signed_by n.is_negative n.minute) (pos 0)) _ o of
+
+    pub is_moment : (v : OffsetDateTime) → offset_date v ≡ d → offset_time v ≡ t → offset_of v ≡ o →
+        IsMoment greatest_year (with_offset n (timed t (dated d empty))) (Ok v)
+    unfolding IsMoment IsMomentOfParts IsDated
+    is_moment v same_date same_time same_offset =
+        inr (
+          d,
+          (refl, refl, refl),
+          inr (
+            t,
+            timed_by (with_offset n (dated d empty)) refl,
+            inr (
+              o,
+              is_offset,
+              ((same_date, same_time, same_offset), λ leap. absurd (cc)),
+            ),
+          ),
+        )
+
 -- rows of leaves
 
 leaves_joined : (xs ys : List Step) → leaves (xs ++ ys) ≡ followed_by (leaves xs) (leaves ys)
@@ -80,6 +114,15 @@ pub rows_read : (xs ys : List Step) (gap : ℕ) (b mid behind rest : List ℕ) (
 rows_read xs ys gap b mid behind rest r q s first is second =
     rw leaves_joined (reads_later greatest_year (more (literal (gap ∷ [])) (leaves ys)) (leaves xs) b r mid q rest s first
     (byte_read greatest_year (leaves ys) mid behind rest gap q s is second))
+
+-- rows with a byte between them if there is one
+rows_joined : (xs ys : List Step) (gap : Option ℕ) (b mid behind rest : List ℕ) (r q s : Record) →
+    ReadsAll greatest_year (leaves xs) b r mid q → mid ≡ bytes_of gap ++ behind → ReadsAll greatest_year (leaves ys) behind q rest s →
+    ReadsAll greatest_year (leaves (xs ++ (byte_parts gap ++ ys))) b r rest s
+rows_joined xs ys None b mid behind rest r q s first is second =
+    rw leaves_joined (reads_later greatest_year (leaves ys) (leaves xs) b r mid q rest s first
+    (subst (λ x. ReadsAll greatest_year (leaves ys) x q rest s) (sym is) second))
+rows_joined xs ys (Some x) b mid behind rest r q s first is second = rows_read xs ys x b mid behind rest r q s first is second
 
 pub no_bytes : (b : List ℕ) → (length b == 0) ≡ true → b ≡ []
 no_bytes [] e = refl
@@ -98,11 +141,22 @@ plain_date_form : (form : Dated) → AllPlain (dated_parts form)
 plain_date_form (YearFirst b) = tt
 plain_date_form (DayFirst b) = tt
 
+plain_offset : (b : Option ℕ) → AllPlain (offset_parts b)
+plain_offset None = tt
+plain_offset (Some b) = tt
+
+plain_end : (before b : Option ℕ) → AllPlain (byte_parts before ++ offset_parts b)
+plain_end None b = plain_offset b
+plain_end (Some x) b = plain_offset b
+
 plain_whole : (w : Whole) → AllPlain (whole_parts w)
 plain_whole whole.Nothing = tt
 plain_whole (whole.Date form) = plain_date_form form
 plain_whole (whole.Time b) = tt
 plain_whole (whole.Plain form between b) = plain_joined (dated_parts form) (step.Literal between ∷ time_parts b) (plain_date_form form) tt
+plain_whole (whole.Moment m) =
+    plain_joined (dated_parts m.date) (step.Literal m.between ∷ (time_parts m.in_time ++ (byte_parts m.before_offset ++ offset_parts m.in_offset)))
+    (plain_date_form m.date) (plain_end m.before_offset m.in_offset)
 
 -- what the leaves of the form read, these steps read
 reads_form : (w : Whole) (steps : List Step) → steps ≡ whole_parts w → (b : List ℕ) (r : Record) (rest : List ℕ) (new : Record) →
@@ -116,6 +170,7 @@ leads (whole.Date form) list steps is led = λ b r rest new h. led b r rest new 
 leads (whole.Time t) list steps is led = λ b r rest new h. led b r rest new (reads_form (whole.Time t) list is b r rest new h)
 leads (whole.Plain form between t) list steps is led =
     λ b r rest new h. led b r rest new (reads_form (whole.Plain form between t) list is b r rest new h)
+leads (whole.Moment m) list steps is led = λ b r rest new h. led b r rest new (reads_form (whole.Moment m) list is b r rest new h)
 
 -- the use of it
 pub led : (w : Whole) (steps : List Step) → Leads w steps → w ≢ whole.Nothing → (b : List ℕ) (r : Record) (rest : List ℕ) (new : Record) →
@@ -124,6 +179,7 @@ led whole.Nothing steps leads some = absurd (some refl)
 led (whole.Date form) steps leads some = leads
 led (whole.Time t) steps leads some = leads
 led (whole.Plain form between t) steps leads some = leads
+led (whole.Moment m) steps leads some = leads
 
 -- a choice that begins with a list, and is all of the steps
 module _ (steps : List Step) (choice list : Step) (all len : ℕ) (some : 1 ≤ length steps) (is : choice ≡ get_or steps 0 choice)
@@ -179,3 +235,23 @@ whole_plain form gap between b mid behind rest d t p exact reads is read_time en
     whole_end (whole.Plain form gap between) b rest (timed t (dated d empty)) (λ r. IsPlain greatest_year r (Ok p)) (plain_some form gap between)
     (rows_read (dated_parts form) (time_parts between) gap b mid behind rest empty (dated d empty) (timed t (dated d empty))
     (reads empty) is (read_time (dated d empty))) end (is_plain t exact d p same_date same_time)
+
+moment_some : (m : InMoment) → whole.Moment m ≢ whole.Nothing
+moment_some m e = cc
+
+pub whole_moment : (m : InMoment) (b mid behind later at rest : List ℕ) (d : Date) (t : Time) (n : OffsetNumbers) (o : UtcOffset)
+    (v : OffsetDateTime) → IsWholeSecond t → IsOf n o →
+    ((r : Record) → ReadsAll greatest_year (leaves (dated_parts m.date)) b r mid (dated d r)) → mid ≡ m.between ∷ behind →
+    ((r : Record) → ReadsAll greatest_year (leaves (time_parts m.in_time)) behind r later (timed t r)) →
+    later ≡ bytes_of m.before_offset ++ at →
+    ((r : Record) → ReadsAll greatest_year (leaves (offset_parts m.in_offset)) at r rest (with_offset n r)) → rest ≡ [] →
+    offset_date v ≡ d → offset_time v ≡ t → offset_of v ≡ o →
+    ReadsWhole (whole.Moment m) b (λ r. IsMoment greatest_year r (Ok v))
+whole_moment m b mid behind later at rest d t n o v exact of reads is read_time is' read_offset end same_date same_time same_offset =
+    let q = dated d empty in
+    let s = timed t q in
+    let behind_read = rows_joined (time_parts m.in_time) (offset_parts m.in_offset) m.before_offset behind later at rest q s (with_offset n s)
+    (read_time q) is' (read_offset s) in
+    whole_end (whole.Moment m) b rest (with_offset n s) (λ r. IsMoment greatest_year r (Ok v)) (moment_some m)
+    (rows_read (dated_parts m.date) (time_parts m.in_time ++ (byte_parts m.before_offset ++ offset_parts m.in_offset)) m.between
+    b mid behind rest empty q (with_offset n s) (reads empty) is behind_read) end (is_moment t exact d n o of v same_date same_time same_offset)

@@ -1,7 +1,8 @@
 -- The steps of forms whose parts stand at fixed places, and the records that their numbers make.
-use Rattle.std.specs.Prelude.{ℕ, List, [], ◌∷◌, Option, None, Some}
+use Rattle.std.specs.Prelude.{ℕ, List, [], ◌∷◌, ◌++◌, Option, None, Some}
 use Rattle.std.specs.Int.NonZero.{non_zero_u8_get}
-use Rattle.time_components.specs.declared.format_description.Component.TheVariants.{CalendarYearFullExtendedRange, MonthNumerical, MonthShort, Day, Hour24, Minute, Second}
+use Rattle.time_components.specs.declared.format_description.Component.{Component}
+use Rattle.time_components.specs.declared.format_description.Component.TheVariants.{CalendarYearFullExtendedRange, MonthNumerical, MonthShort, Day, Hour24, Minute, Second, OffsetHour, OffsetMinute}
 use Rattle.time_components.specs.declared.step.Step.{Step}
 use Rattle.time_components.specs.declared.step.Step.TheVariants as step
 use Rattle.time_record.specs.Record.{Record}
@@ -9,7 +10,8 @@ use Rattle.time_preparing.specs.declared.forms.Dated.{Dated}
 use Rattle.time_preparing.specs.declared.forms.Dated.TheVariants.{YearFirst, DayFirst}
 use Rattle.time_preparing.specs.declared.forms.DateNumbers.{DateNumbers}
 use Rattle.time_preparing.specs.declared.forms.ClockNumbers.{ClockNumbers}
-use Rattle.time_preparing.specs.declared.forms.TheConstants.{YEAR, MONTH, MONTH_NAME, DAY, HOUR, MINUTE, SECOND}
+use Rattle.time_preparing.specs.declared.forms.OffsetNumbers.{OffsetNumbers}
+use Rattle.time_preparing.specs.declared.forms.TheConstants.{YEAR, MONTH, MONTH_NAME, DAY, HOUR, MINUTE, SECOND, OFFSET_HOUR, OFFSET_MINUTE}
 
 -- a year, a month and a day, with this byte between them
 abbrev pub date_parts : ℕ → List Step
@@ -36,6 +38,24 @@ time_parts b =
     ∷ step.Component (Minute MINUTE) ∷ step.Literal b
     ∷ step.Component (Second SECOND) ∷ []
 
+-- three components with this byte between them
+abbrev pub three_parts : Component → Component → Component → ℕ → List Step
+three_parts c d e b =
+    step.Component c ∷ step.Literal b ∷ step.Component d ∷ step.Literal b ∷ step.Component e ∷ []
+
+-- a byte that may be there
+abbrev pub bytes_of : Option ℕ → List ℕ
+bytes_of None = []
+bytes_of (Some b) = b ∷ []
+
+abbrev pub byte_parts : Option ℕ → List Step
+byte_parts None = []
+byte_parts (Some b) = step.Literal b ∷ []
+
+-- an offset with a sign, its hour and its minute
+abbrev pub offset_parts : Option ℕ → List Step
+offset_parts b = step.Component (OffsetHour OFFSET_HOUR) ∷ byte_parts b ++ step.Component (OffsetMinute OFFSET_MINUTE) ∷ []
+
 -- the record with a year, a month and a day
 abbrev pub with_date : DateNumbers → Record → Record
 with_date n r = record r { year = Some n.year; month = Some n.month; day = Some (non_zero_u8_get n.day) }
@@ -43,6 +63,10 @@ with_date n r = record r { year = Some n.year; month = Some n.month; day = Some 
 -- with an hour, a minute and a second
 abbrev pub with_clock : ClockNumbers → Record → Record
 with_clock n r = record r { hour_24 = Some n.hour; minute = Some n.minute; second = Some n.second }
+
+-- with an offset's hour and its sign, and its minute
+abbrev pub with_offset : OffsetNumbers → Record → Record
+with_offset n r = record r { offset_hour = Some n.hour; offset_is_negative = n.is_negative; offset_minute = Some n.minute }
 
 -- with nanoseconds of the second, where there are any
 abbrev pub with_subsecond : Option ℕ → Record → Record

@@ -1,9 +1,10 @@
 -- What a walk over trees in turn does. `Y` is the greatest year.
-use Rattle.std.specs.Prelude.{◌≡◌, ℕ, List, [], ◌∷◌, length, min, Option, Some, None, Result, Ok, Err, false}
+use Rattle.std.specs.Prelude.{◌≡◌, ◌<◌, ◌≤◌, ◌⊎◌, ℕ, List, [], ◌∷◌, ◌++◌, drop, length, min, Option, Some, None, Result, Ok, Err, false}
 use Rattle.std.specs.Borrow.{Bor}
 use Rattle.time_values.specs.Refusal.{Refusal, refusal_of_description}
 use Rattle.time_values.specs.declared.error.ParseFromDescription.{ParseFromDescription}
-use Rattle.time_components.specs.Steps.{further}
+use Rattle.time_components.specs.Steps.{further, steps_trees}
+use Rattle.time_values.specs.Range.{greatest_year}
 use Rattle.time_components.specs.Tree.{Tree, Trees, literal, component, sequence, optional, none, more}
 use Rattle.time_components.specs.declared.format_description.Component.TheVariants.{Second, Subsecond}
 use Rattle.time_components.specs.declared.step.Step.{Step}
@@ -12,7 +13,6 @@ use Rattle.time_record.specs.Reading.{Reads, Refuses, ReadsAll, RefusesAll}
 use Rattle.time_record.specs.Record.{Record}
 use Rattle.time_preparing.specs.Joined.{parts}
 use Rattle.time_preparing.specs.declared.joined.Joined.{Joined}
-use Rattle.time_preparing.specs.declared.joined.Joined.TheVariants as joined
 use Rattle.time_preparing.specs.declared.forms.TheConstants.{SECOND, SUBSECOND}
 
 -- trees, and then further trees
@@ -33,19 +33,10 @@ abbrev pub fraction_tree : ℕ → Tree
 fraction_tree p =
     optional (sequence (more (literal (p ∷ [])) (more (component false (Subsecond SUBSECOND)) none)))
 
--- the trees of steps that are read at once
-abbrev pub trees_of : Joined → Trees
-trees_of joined.Nothing = none
-trees_of (joined.Byte b) = leaves (parts (joined.Byte b))
-trees_of (joined.Component c) = leaves (parts (joined.Component c))
-trees_of (joined.Date b) = leaves (parts (joined.Date b))
-trees_of (joined.DayFirst b) = leaves (parts (joined.DayFirst b))
-trees_of (joined.MonthDay b) = leaves (parts (joined.MonthDay b))
-trees_of (joined.Time b) = leaves (parts (joined.Time b))
-trees_of (joined.Fraction p) = more (fraction_tree p) none
-trees_of (joined.Seconds b p) =
-    more (optional (sequence (more (literal (b ∷ []))
-    (more (component false (Second SECOND)) (more (fraction_tree p) none))))) none
+-- a second after the first byte, which may be missing, and then such a fraction
+abbrev pub seconds_tree : ℕ → ℕ → Tree
+seconds_tree b p =
+    optional (sequence (more (literal (b ∷ [])) (more (component false (Second SECOND)) (more (fraction_tree p) none))))
 
 -- the rest and the record of a reading; or nothing is said, and the record is as it was
 abbrev pub MayReadAll : ℕ → Trees → List ℕ → Record → Option (Bor (List ℕ)) → Record → Type 0
@@ -62,6 +53,18 @@ pub record Goes (Y : ℕ) (all : Trees) (b0 : List ℕ) (r0 : Record) (left : Tr
     (r : Record) : Type 0 where
   pub reads : (rest : List ℕ) (q : Record) → ReadsAll Y left b r rest q → ReadsAll Y all b0 r0 rest q
   pub refuses : (e : Refusal) → RefusesAll Y left b r e → RefusesAll Y all b0 r0 e
+
+-- In front of any steps that don't go on a literal, so many of those that are read at once are read.
+abbrev pub ReadsFront : Joined → ℕ → List ℕ → Record → List ℕ → Record → Type 0
+ReadsFront j n bytes r rest r' =
+    (after : List Step) → further after ≡ []
+    → Goes greatest_year (steps_trees (parts j ++ after)) bytes r (steps_trees (drop n (parts j ++ after))) rest r'
+
+-- So many are read, where that many steps are left; or none.
+abbrev pub MayReadFront : Joined → ℕ → ℕ → List ℕ → Record → List ℕ → Record → Type 0
+MayReadFront j left n bytes r rest r' =
+    ((n ≡ 0) × (rest ≡ bytes) × (r' ≡ r))
+    ⊎ ((0 < length (parts j)) × (length (parts j) ≤ left) × ReadsFront j n bytes r rest r')
 
 -- how many of the steps behind this one belong to its item
 abbrev pub item_length : Step → List Step → ℕ

@@ -1,16 +1,21 @@
 -- Descriptions whose texts have one form each, from their first byte to their last.
-use Rattle.std.specs.Prelude.{◌≡◌, ◌≢◌, ℕ, List, [], ◌∷◌, ◌++◌, Some}
+use Rattle.std.specs.Prelude.{◌≡◌, ◌≢◌, ℕ, List, [], ◌∷◌, ◌++◌, pos, Ok, Some}
 use Rattle.time_components.specs.Steps.{steps_shape}
 use Rattle.time_components.specs.declared.step.Step.{Step}
 use Rattle.time_components.specs.declared.step.Step.TheVariants as step
 use Rattle.time_record.specs.Reading.{Reads, ReadsAll}
 use Rattle.time_record.specs.Record.{Record, empty}
 use Rattle.time_values.specs.Dates as Dates
+use Rattle.time_values.specs.Offsets.{HasOffset, offset_refusal}
 use Rattle.time_values.specs.Range.{greatest_year}
+use Rattle.time_values.specs.Refusal.{Constructs}
+use Rattle.time_values.specs.Sign.{signed_by}
 use Rattle.time_values.specs.Times as Times
 use Rattle.time_values.specs.declared.date.Date.{Date}
 use Rattle.time_values.specs.declared.time.Time.{Time}
-use Rattle.time_preparing.specs.Forms.{dated_parts, time_parts}
+use Rattle.time_values.specs.declared.utc_offset.UtcOffset.{UtcOffset}
+use Rattle.time_preparing.specs.declared.forms.OffsetNumbers.{OffsetNumbers}
+use Rattle.time_preparing.specs.Forms.{byte_parts, dated_parts, offset_parts, time_parts}
 use Rattle.time_preparing.specs.Walk.{leaves}
 use Rattle.time_preparing.specs.declared.whole.Whole.{Whole}
 use Rattle.time_preparing.specs.declared.whole.Whole.TheVariants as whole
@@ -21,6 +26,8 @@ whole_parts whole.Nothing = []
 whole_parts (whole.Date form) = dated_parts form
 whole_parts (whole.Time b) = time_parts b
 whole_parts (whole.Plain form between b) = dated_parts form ++ step.Literal between ∷ time_parts b
+whole_parts (whole.Moment m) =
+    dated_parts m.date ++ step.Literal m.between ∷ (time_parts m.in_time ++ (byte_parts m.before_offset ++ offset_parts m.in_offset))
 
 -- What the list of these steps reads, the list of the others reads.
 abbrev pub IsLed : List Step → List Step → Type 0
@@ -50,3 +57,9 @@ timed t r = record r { hour_24 = Some (Times.hour t); minute = Some (Times.minut
 -- no nanosecond
 abbrev pub IsWholeSecond : Time → Type 0
 IsWholeSecond t = Times.nanosecond t ≡ 0
+
+-- The offset is made of these numbers, where its minute takes the sign that was read.
+abbrev pub IsOf : OffsetNumbers → UtcOffset → Type 0
+IsOf n o =
+    let m = signed_by n.is_negative n.minute in
+    Constructs (offset_refusal n.hour m (pos 0)) (HasOffset n.hour m (pos 0)) (Ok o)

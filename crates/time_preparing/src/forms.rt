@@ -1,6 +1,6 @@
 //! Forms of dates, times and offsets whose parts stand at fixed places, and the steps that each is written by.
-ghost use Rattle.std.specs.Prelude.{◌≡◌, IsTrue};
-ghost use Rattle.time_preparing.specs.Forms.{date_parts, day_first_parts, time_parts};
+ghost use Rattle.std.specs.Prelude.{◌≡◌, IsTrue, Some, None};
+ghost use Rattle.time_preparing.specs.Forms.{date_parts, day_first_parts, offset_parts, time_parts};
 
 pub(crate) mod fast;
 
@@ -17,6 +17,21 @@ pub(crate) enum Dated {
     DayFirst(u8),
 }
 
+/// A date, a time and an offset.
+#[derive(Clone, Copy, Debug, PartialEq, Eq)]
+pub(crate) struct InMoment {
+    /// The date.
+    pub date: Dated,
+    /// The byte before the time.
+    pub between: u8,
+    /// The byte between the parts of the time.
+    pub in_time: u8,
+    /// The byte before the offset, if there is one.
+    pub before_offset: Option<u8>,
+    /// The byte between the hour and the minute of the offset, if there is one.
+    pub in_offset: Option<u8>,
+}
+
 /// The numbers of a date.
 #[derive(Clone, Copy)]
 pub(crate) struct DateNumbers {
@@ -31,6 +46,14 @@ pub(crate) struct ClockNumbers {
     pub hour: u8,
     pub minute: u8,
     pub second: u8,
+}
+
+/// The numbers of an offset: its hour with its sign, whether that is a minus, and its minute without one.
+#[derive(Clone, Copy)]
+pub(crate) struct OffsetNumbers {
+    pub hour: i8,
+    pub is_negative: bool,
+    pub minute: i8,
 }
 
 pub(crate) const YEAR: modifier::CalendarYearFullExtendedRange =
@@ -71,6 +94,15 @@ pub(crate) const SUBSECOND: modifier::Subsecond = modifier::Subsecond {
     digits: SubsecondDigits::OneOrMore,
 };
 
+pub(crate) const OFFSET_HOUR: modifier::OffsetHour = modifier::OffsetHour {
+    padding: Padding::Zero,
+    sign_is_mandatory: true,
+};
+
+pub(crate) const OFFSET_MINUTE: modifier::OffsetMinute = modifier::OffsetMinute {
+    padding: Padding::Zero,
+};
+
 /// The steps of a date whose year stands first.
 pub(crate) fn date_steps(between: u8) -> [Step; 5]
     ensures { result ≡ date_parts between }
@@ -107,6 +139,27 @@ pub(crate) fn time_steps(between: u8) -> [Step; 5]
         Step::Component(Component::Minute(MINUTE)),
         Step::Literal(between),
         Step::Component(Component::Second(SECOND)),
+    ]
+}
+
+/// The steps of an offset with a sign.
+pub(crate) fn offset_steps() -> [Step; 2]
+    ensures { result ≡ offset_parts None }
+{
+    [
+        Step::Component(Component::OffsetHour(OFFSET_HOUR)),
+        Step::Component(Component::OffsetMinute(OFFSET_MINUTE)),
+    ]
+}
+
+/// The same with a byte between them.
+pub(crate) fn parted_steps(between: u8) -> [Step; 3]
+    ensures { result ≡ offset_parts (Some between) }
+{
+    [
+        Step::Component(Component::OffsetHour(OFFSET_HOUR)),
+        Step::Literal(between),
+        Step::Component(Component::OffsetMinute(OFFSET_MINUTE)),
     ]
 }
 
@@ -169,6 +222,8 @@ fn is_same_component(component: &Component, other: &Component) -> bool
         Component::Minute(minute) => is_variant!(component, Minute, minute),
         Component::Second(second) => is_variant!(component, Second, second),
         Component::Subsecond(fraction) => is_variant!(component, Subsecond, fraction),
+        Component::OffsetHour(hour) => is_variant!(component, OffsetHour, hour),
+        Component::OffsetMinute(minute) => is_variant!(component, OffsetMinute, minute),
         _ => false,
     }
 }

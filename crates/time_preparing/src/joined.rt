@@ -1,7 +1,7 @@
 //! Steps of a description that are read at once.
-ghost use Rattle.std.specs.Prelude.{◌≡◌, [], IsTrue, length, false};
+ghost use Rattle.std.specs.Prelude.{◌≡◌, [], IsTrue, false};
 ghost use Rattle.time_components.specs.Steps.{further};
-ghost use Rattle.time_preparing.specs.Joined.{BeginsWith, fraction_parts, month_day_parts, parts, Says, second_parts};
+ghost use Rattle.time_preparing.specs.Joined.{BeginsWith, fraction_parts, month_day_parts, Says, second_parts};
 
 use crate::forms::{
     MONTH_NAME, SECOND, SPACED_DAY, SUBSECOND, are_same, date_steps, day_first_steps, time_steps,
@@ -37,22 +37,6 @@ impl Default for Joined {
     #[inline(always)]
     fn default() -> Joined {
         Joined::Nothing
-    }
-}
-
-impl Joined {
-    /// How many steps it is.
-    #[inline(always)]
-    pub(crate) fn count(&self) -> usize
-        ensures { result ≡ length (parts self.now) }
-    {
-        match self {
-            Joined::Nothing => 0,
-            Joined::Byte(_) | Joined::Component(_) => 1,
-            Joined::MonthDay(_) | Joined::Fraction(_) => 3,
-            Joined::Date(_) | Joined::DayFirst(_) | Joined::Time(_) => 5,
-            Joined::Seconds(_, _) => 6,
-        }
     }
 }
 

@@ -8,7 +8,8 @@ ghost use Rattle.time_values.specs.Refusal.{refusal_of_parsed, trailing};
 ghost use Rattle.time_values.specs.declared.error.TryFromParsed.{TryFromParsed as TryFromParsed_};
 ghost use Rattle.time_components.specs.Steps.{steps_shape};
 ghost use Rattle.time_record.specs.Reading.{Reads, Refuses};
-ghost use Rattle.time_parsing.specs.Outcome.{begun, over_record, seen};
+ghost use Rattle.time_record.specs.Record.{Record};
+ghost use Rattle.time_parsing.specs.Outcome.{begun, IsWhole, over_record, seen};
 ghost use Rattle.time_parsing.specs.exact.DescriptionLaws.{tree_exact};
 
 mod fast;
@@ -49,6 +50,31 @@ fn value_before<V: TryFrom<Parsed, Error = TryFromParsed> + Drop>(
     Ok(V::try_from(*parsed)?)
 }
 
+// The value of the whole input, read over a record that begins with the defaults.
+#[inline(never)]
+fn over_record<const N: usize, V: TryFrom<Parsed, Error = TryFromParsed> + Drop>(
+    format: &Prepared<N>,
+    input: &[u8],
+    defaults: &Option<Parsed>,
+) -> Result<V, Parse>
+    ensures { MatchResult (seen result)
+        (λ v. (r : Record) × Reads greatest_year (steps_shape format.now) input.now (begun defaults.now) [] r
+        × V.try_from_gives r (Ok v))
+        (λ e. IsWhole (Reads greatest_year (steps_shape format.now)) (Refuses greatest_year (steps_shape format.now))
+        input.now (begun defaults.now) (Err e)
+        ⊎ ((r : Record) × Reads greatest_year (steps_shape format.now) input.now (begun defaults.now) [] r
+        × ((f : TryFromParsed_) × V.try_from_gives r (Err f) × (e ≡ refusal_of_parsed f)))) }
+{
+    let mut parsed = Parsed::new();
+    if let Some(known) = defaults {
+        parsed = *known;
+    }
+    match format.walk_into(input, &mut parsed) {
+        Ok(rest) => value_before::<V>(rest, &parsed),
+        Err(fault) => Err(fault.into()),
+    }
+}
+
 impl<const N: usize> Parsable for Prepared<N> {
     ghost reads = { λ s. Reads greatest_year (steps_shape s) };
 
@@ -70,9 +96,7 @@ impl<const N: usize> Parsable for Prepared<N> {
                 return Ok(value);
             }
         }
-        let mut parsed = begin(defaults);
-        let rest = self.parse_into(input, &mut parsed)?;
-        value_before::<Date>(rest, &parsed)
+        over_record::<N, Date>(self, input, &defaults)
     }
 
     #[inline(always)]
@@ -82,9 +106,7 @@ impl<const N: usize> Parsable for Prepared<N> {
                 return Ok(value);
             }
         }
-        let mut parsed = begin(defaults);
-        let rest = self.parse_into(input, &mut parsed)?;
-        value_before::<Time>(rest, &parsed)
+        over_record::<N, Time>(self, input, &defaults)
     }
 
     #[inline(always)]
@@ -98,9 +120,7 @@ impl<const N: usize> Parsable for Prepared<N> {
                 return Ok(value);
             }
         }
-        let mut parsed = begin(defaults);
-        let rest = self.parse_into(input, &mut parsed)?;
-        value_before::<PlainDateTime>(rest, &parsed)
+        over_record::<N, PlainDateTime>(self, input, &defaults)
     }
 
     #[inline(always)]
@@ -109,9 +129,12 @@ impl<const N: usize> Parsable for Prepared<N> {
         input: &[u8],
         defaults: Option<Parsed>,
     ) -> Result<OffsetDateTime, Parse> {
-        let mut parsed = begin(defaults);
-        let rest = self.parse_into(input, &mut parsed)?;
-        value_before::<OffsetDateTime>(rest, &parsed)
+        if defaults.is_none() {
+            if let Some(value) = fast::moment(self, input) {
+                return Ok(value);
+            }
+        }
+        over_record::<N, OffsetDateTime>(self, input, &defaults)
     }
 
     ghost exact = { λ s. tree_exact greatest_year (steps_shape s) };

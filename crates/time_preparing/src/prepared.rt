@@ -4,6 +4,7 @@ ghost use Rattle.time_values.specs.Range.{greatest_year};
 ghost use Rattle.time_components.specs.Steps.{steps_shape};
 ghost use Rattle.time_record.specs.Answer.{Answers};
 ghost use Rattle.time_preparing.specs.Joined.{Fits};
+ghost use Rattle.time_preparing.specs.Walk.{Tells};
 ghost use Rattle.time_preparing.specs.Whole.{Leads};
 
 use crate::joined::{Joined, joined_at};
@@ -67,6 +68,18 @@ impl<const N: usize> Prepared<N> {
         &self.whole
     }
 
+    // Reads a front of the input into the record. After a refusal the record may have changed.
+    #[inline(always)]
+    pub(crate) fn walk_into<'a>(
+        &self,
+        input: &'a [u8],
+        parsed: &mut Parsed,
+    ) -> Result<&'a [u8], ParseFromDescription>
+        ensures { Tells greatest_year (steps_shape self.now) input.now parsed.old result parsed.new }
+    {
+        walk(self.steps.as_slice(), self.joined.as_slice(), parsed, input)
+    }
+
     /// Parses a front of the input into the record, and answers the unread rest. A refusal names what does not stand
     /// there, and leaves the record as it was.
     pub fn parse_front_into<'a>(
@@ -77,7 +90,7 @@ impl<const N: usize> Prepared<N> {
         ensures { Answers greatest_year (steps_shape self.now) input.now parsed.old result parsed.new }
     {
         let before = *parsed;
-        match walk(self.steps.as_slice(), self.joined.as_slice(), parsed, input) {
+        match self.walk_into(input, parsed) {
             Ok(rest) => Ok(rest),
             Err(fault) => {
                 *parsed = before;

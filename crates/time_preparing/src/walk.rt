@@ -1,7 +1,7 @@
 //! The walk over the steps of a prepared description.
 //!
-//! It reads what is read at once, and the groups. The first item in a list that is neither, and all after it in that
-//! list, are read by the walk over a description's steps.
+//! It reads what is read at once, as far as that goes. The item at which it stops is read on its own, over the record at
+//! hand, and after it what is read at once again. So no step is read again that was read before.
 mod fast;
 
 ghost use Rattle.std.specs.Prelude.{◌≡◌, ◌≤◌, length, drop};
@@ -34,16 +34,12 @@ fn read_joined<'a>(
     let mut next = 0;
     let mut rest = input;
     while next < joined.len() {
-        let first = &joined[next];
-        let count = first.count();
-        if joined.len() - next < count {
+        let front = fast::read(&joined[next], joined.len() - next, parsed, rest);
+        rest = front.rest;
+        next += front.count;
+        if !front.is_all {
             return (next, rest);
         }
-        match fast::read(first, parsed, rest) {
-            Some(unread) => rest = unread,
-            None => return (next, rest),
-        }
-        next += count;
     }
     (next, rest)
 }
@@ -61,13 +57,26 @@ pub(crate) fn walk<'a>(
     requires each { length joined.now ≡ length steps.now }
     ensures { Tells greatest_year (steps_shape steps.now) input.now parsed.old result parsed.new }
 {
-    let (count, rest) = read_joined(steps, joined, parsed, input);
-    if count >= steps.len() {
-        return Ok(rest);
+    let mut left = steps;
+    let mut left_joined = joined;
+    let mut rest = input;
+    loop {
+        let (read, unread) = read_joined(left, left_joined, parsed, rest);
+        let (_, later) = left.split_at(read);
+        let (_, later_joined) = left_joined.split_at(read);
+        let [step, behind @ ..] = later else {
+            return Ok(unread);
+        };
+        let count = 1 + item_len(step, behind);
+        let (item, after) = later.split_at(count);
+        let (item_joined, after_joined) = later_joined.split_at(count);
+        match walk_item(item, item_joined, parsed, unread) {
+            Ok(unread) => rest = unread,
+            Err(fault) => return Err(fault),
+        }
+        left = after;
+        left_joined = after_joined;
     }
-    let (_, later) = steps.split_at(count);
-    let (_, later_joined) = joined.split_at(count);
-    walk_later(later, later_joined, parsed, rest)
 }
 
 // The same, with no frame of its own where it is called.
@@ -84,52 +93,6 @@ fn walk_list<'a>(
     ensures { Tells greatest_year (steps_shape steps.now) input.now parsed.old result parsed.new }
 {
     walk(steps, joined, parsed, input)
-}
-
-// The same, where the first item is not read at once.
-#[cycle(walk)]
-#[inline(never)]
-fn walk_later<'a>(
-    steps: &[Step],
-    joined: &[Joined],
-    parsed: &mut Parsed,
-    input: &'a [u8],
-) -> Result<&'a [u8], ParseFromDescription>
-    requires fits { Fits joined.now steps.now }
-    requires each { length joined.now ≡ length steps.now }
-    ensures { Tells greatest_year (steps_shape steps.now) input.now parsed.old result parsed.new }
-{
-    let mut left = steps;
-    let mut left_joined = joined;
-    let mut rest = input;
-    while let [step, behind @ ..] = left {
-        if !is_group(step) {
-            return parsed.parse_steps(rest, left);
-        }
-        let count = 1 + item_len(step, behind);
-        let (item, after) = left.split_at(count);
-        let (item_joined, after_joined) = left_joined.split_at(count);
-        match walk_item(item, item_joined, parsed, rest) {
-            Ok(unread) => rest = unread,
-            Err(fault) => return Err(fault),
-        }
-        let (read, unread) = read_joined(after, after_joined, parsed, rest);
-        let (_, later) = after.split_at(read);
-        let (_, later_joined) = after_joined.split_at(read);
-        left = later;
-        left_joined = later_joined;
-        rest = unread;
-    }
-    Ok(rest)
-}
-
-// Whether the step is a group.
-#[inline(always)]
-fn is_group(step: &Step) -> bool {
-    match step {
-        Step::Group(_, _) => true,
-        _ => false,
-    }
 }
 
 // Reads the steps of one item. After a refusal the record may have changed.
@@ -153,6 +116,10 @@ fn walk_item<'a>(
             let (_, inside_joined) = joined.split_at(1);
             walk_group(*group, inside, inside_joined, parsed, input)
         }
+        Step::Component(component) if inside.is_empty() => {
+            parsed.parse_component(input, *component)
+        }
+        Step::Literal(byte) if inside.is_empty() => Parsed::parse_literal(input, &[*byte]),
         _ => parsed.parse_steps(input, steps),
     }
 }

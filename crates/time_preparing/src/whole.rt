@@ -3,7 +3,7 @@ ghost use Rattle.time_preparing.specs.Whole.{Leads};
 
 pub(crate) mod fast;
 
-use crate::forms::Dated;
+use crate::forms::{Dated, InMoment};
 use time_components::Step;
 
 /// The form of a whole text.
@@ -17,6 +17,8 @@ pub(crate) enum Whole {
     Time(u8),
     /// A date, this byte, and a time.
     Plain(Dated, u8, u8),
+    /// A date, a time and an offset.
+    Moment(InMoment),
 }
 
 /// The form of the texts that these steps read.

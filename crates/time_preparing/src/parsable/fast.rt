@@ -5,13 +5,13 @@ ghost use Rattle.std.specs.Prelude.{IfSome, Ok};
 ghost use Rattle.time_components.specs.Steps.{steps_shape};
 ghost use Rattle.time_record.specs.Reading.{Reads, Refuses};
 ghost use Rattle.time_record.specs.Record.{empty};
-ghost use Rattle.time_record.specs.Resolution.{IsDated, IsPlain, IsTimed};
+ghost use Rattle.time_record.specs.Resolution.{IsDated, IsMoment, IsPlain, IsTimed};
 ghost use Rattle.time_values.specs.Range.{greatest_year};
 ghost use Rattle.time_parsing.specs.Outcome.{IsOutcome};
 
 use crate::Prepared;
 use crate::whole::fast;
-use time_values::{Date, PlainDateTime, Time};
+use time_values::{Date, OffsetDateTime, PlainDateTime, Time};
 
 /// The date of a whole text. `None`: not this form.
 #[inline(always)]
@@ -38,4 +38,13 @@ pub(super) fn date_time<const N: usize>(format: &Prepared<N>, input: &[u8]) -> O
         (Refuses greatest_year (steps_shape format.now)) input.now empty (Ok v)) }
 {
     fast::date_time(format.whole(), input)
+}
+
+/// The moment of a whole text. `None`: not this form.
+#[inline(always)]
+pub(super) fn moment<const N: usize>(format: &Prepared<N>, input: &[u8]) -> Option<OffsetDateTime>
+    ensures { IfSome result (λ v. IsOutcome (IsMoment greatest_year) (Reads greatest_year (steps_shape format.now))
+        (Refuses greatest_year (steps_shape format.now)) input.now empty (Ok v)) }
+{
+    fast::moment(format.whole(), input)
 }

@@ -1,21 +1,25 @@
 //! Whole texts of one form, read with no record.
 //!
 //! `form` answers a form of steps, and each reader the value that the record of the whole text resolves to, or `None`.
-ghost use Rattle.std.specs.Prelude.{◌≡◌, IfSome, Ok};
+ghost use Rattle.std.specs.Prelude.{◌≡◌, ◌≤◌, ◌∷◌, ◌++◌, ℕ, pos, IfSome, Ok};
+ghost use Rattle.time_values.specs.Sign.{signed_by};
 ghost use Rattle.time_values.specs.Range.{greatest_year};
 ghost use Rattle.time_record.specs.Record.{Record};
 ghost use Rattle.time_record.specs.Reading.{ReadsAll};
-ghost use Rattle.time_record.specs.Resolution.{IsDated, IsPlain, IsTimed};
-ghost use Rattle.time_preparing.specs.Forms.{dated_parts, time_parts};
+ghost use Rattle.time_record.specs.Resolution.{IsDated, IsMoment, IsPlain, IsTimed};
+ghost use Rattle.time_preparing.specs.Forms.{byte_parts, dated_parts, offset_parts, time_parts, with_offset};
+ghost use Rattle.time_preparing.specs.declared.forms.OffsetNumbers.{OffsetNumbers};
 ghost use Rattle.time_preparing.specs.Walk.{leaves};
-ghost use Rattle.time_preparing.specs.Whole.{dated, IsLed, IsWholeSecond, Leads, ReadsWhole, timed, whole_parts};
+ghost use Rattle.time_preparing.specs.Whole.{dated, IsLed, IsOf, IsWholeSecond, Leads, ReadsWhole, timed, whole_parts};
 ghost use Rattle.time_components.specs.declared.step.Step.TheVariants as step_;
 
 use super::Whole;
-use crate::forms::fast::{self, after, clock};
-use crate::forms::{Dated, are_same, date_steps, day_first_steps, time_steps};
+use crate::forms::fast::{self, after, after_byte, clock, offset};
+use crate::forms::{
+    Dated, InMoment, are_same, date_steps, day_first_steps, offset_steps, parted_steps, time_steps,
+};
 use time_components::{Group, Step};
-use time_values::{Date, PlainDateTime, Time};
+use time_values::{Date, OffsetDateTime, PlainDateTime, Time, UtcOffset};
 
 /// The form of the texts that these steps read; where they are a choice that begins with a list, of those that this reads.
 /// `None`: none of the known forms.
@@ -81,8 +85,54 @@ fn form(steps: &[Step]) -> Option<Whole>
     let Step::Literal(between) = step else {
         return None;
     };
-    let in_time = time_form(others)?;
-    Some(Whole::Plain(date, *between, in_time))
+    plain_form(date, *between, others)
+}
+
+// The form of a date, this byte, and these steps after it.
+fn plain_form(date: Dated, between: u8, steps: &[Step]) -> Option<Whole>
+    ensures { IfSome result (λ whole. dated_parts date ++ step_.Literal between ∷ steps.now ≡ whole_parts whole) }
+{
+    if steps.len() < 5 {
+        return None;
+    }
+    let (first, behind) = steps.split_at(5);
+    let in_time = time_form(first)?;
+    if behind.is_empty() {
+        return Some(Whole::Plain(date, between, in_time));
+    }
+    let (before_offset, in_offset) = offset_form(behind)?;
+    Some(Whole::Moment(InMoment {
+        date,
+        between,
+        in_time,
+        before_offset,
+        in_offset,
+    }))
+}
+
+// The bytes before an offset and in it.
+fn offset_form(steps: &[Step]) -> Option<(Option<u8>, Option<u8>)>
+    ensures { IfSome result (λ form. steps.now ≡ byte_parts form.0 ++ offset_parts form.1) }
+{
+    if let [Step::Literal(before), behind @ ..] = steps {
+        let in_offset = parts_form(behind)?;
+        return Some((Some(*before), in_offset));
+    }
+    let within = parts_form(steps)?;
+    Some((None, within))
+}
+
+// The byte between the parts of an offset.
+fn parts_form(steps: &[Step]) -> Option<Option<u8>>
+    ensures { IfSome result (λ between. steps.now ≡ offset_parts between) }
+{
+    match steps {
+        [_, Step::Literal(between), _] if are_same(steps, &parted_steps(*between)) => {
+            Some(Some(*between))
+        }
+        _ if are_same(steps, &offset_steps()) => Some(None),
+        _ => None,
+    }
 }
 
 // The form of a date.
@@ -140,6 +190,29 @@ fn time_of(between: u8, input: &[u8]) -> Option<(Time, &[u8])>
     }
 }
 
+// The minute of an offset, negative where a minus stands before it.
+#[inline(always)]
+fn signed(is_negative: bool, minute: i8) -> i8
+    requires { (n : ℕ) × (n ≤ 59) × (minute ≡ pos n) }
+    ensures { result ≡ signed_by is_negative minute }
+{
+    if is_negative { -minute } else { minute }
+}
+
+// An offset in front of the input, and the rest.
+#[inline(always)]
+fn offset_of(between: Option<u8>, input: &[u8]) -> Option<(UtcOffset, &[u8])>
+    ensures { IfSome result (λ f. (numbers : OffsetNumbers) × IsOf numbers f.0
+        × ((r : Record) → ReadsAll greatest_year (leaves (offset_parts between)) input.now r f.1.now (with_offset numbers r))) }
+{
+    let (numbers, rest) = offset(between, input)?;
+    let minute = signed(numbers.is_negative, numbers.minute);
+    match UtcOffset::from_hms(numbers.hour, minute, 0) {
+        Ok(offset) => Some((offset, rest)),
+        Err(_) => None,
+    }
+}
+
 /// The date of a whole text. `None`: not this form.
 #[inline(always)]
 pub(crate) fn date(whole: &Whole, input: &[u8]) -> Option<Date>
@@ -184,4 +257,21 @@ pub(crate) fn date_time(whole: &Whole, input: &[u8]) -> Option<PlainDateTime>
         return None;
     }
     Some(PlainDateTime::new(date, time))
+}
+
+/// The moment of a whole text. `None`: not this form.
+#[inline(always)]
+pub(crate) fn moment(whole: &Whole, input: &[u8]) -> Option<OffsetDateTime>
+    ensures { IfSome result (λ v. ReadsWhole whole.now input.now (λ r. IsMoment greatest_year r (Ok v))) }
+{
+    let Whole::Moment(form) = whole else {
+        return None;
+    };
+    let (date, behind) = date_of(&form.date, input)?;
+    let (time, later) = time_of(form.in_time, after(behind, form.between)?)?;
+    let (offset, rest) = offset_of(form.in_offset, after_byte(later, form.before_offset)?)?;
+    if !rest.is_empty() {
+        return None;
+    }
+    Some(OffsetDateTime::new_in_offset(date, time, offset))
 }

@@ -12,9 +12,6 @@ decreases-walk_list l = 8 * length l.steps.now + 3
 abbrev pub decreases-walk : goal.decreases-walk
 decreases-walk l = 8 * length l.steps.now + 2
 
-abbrev pub decreases-walk_later : goal.decreases-walk_later
-decreases-walk_later l = 8 * length l.steps.now + 1
-
 abbrev pub decreases-walk_item : goal.decreases-walk_item
 decreases-walk_item l = 8 * length l.steps.now
 
@@ -27,13 +24,13 @@ decreases-walk_optional l = 8 * length l.inside.now + 5
 abbrev pub decreases-walk_first : goal.decreases-walk_first
 decreases-walk_first l = 8 * length l.steps.now + 5
 
-abbrev pub invariant-walk_later-loop-left : goal.invariant-walk_later-loop-left
-invariant-walk_later-loop-left l =
+abbrev pub invariant-walk-loop-later : goal.invariant-walk-loop-later
+invariant-walk-loop-later l =
     Goes greatest_year (steps_trees l.steps) l.fn.input l.fn.parsed (steps_trees l.left) l.rest l.parsed
     × Fits l.left_joined l.left × (length l.left_joined ≡ length l.left) × (length l.left ≤ length l.steps)
 
-abbrev pub decreases-walk_later-loop-left : goal.decreases-walk_later-loop-left
-decreases-walk_later-loop-left l = length l.left
+abbrev pub decreases-walk-loop-later : goal.decreases-walk-loop-later
+decreases-walk-loop-later l = length l.left
 
 abbrev pub invariant-walk_first-loop-left : goal.invariant-walk_first-loop-left
 invariant-walk_first-loop-left l =

@@ -1,14 +1,28 @@
+use Rattle.std.proofs.Common.{false}
 use Rattle.time_values.specs.Range.{greatest_year}
-use Rattle.time_components.specs.Spelling.{month, number}
+use Rattle.time_components.specs.Tree.{component, none}
 use Rattle.time_components.specs.declared.format_description.Component.TheVariants.{MonthShort, Day}
 use Rattle.time_preparing.specs.declared.forms.TheConstants.{MONTH_NAME, SPACED_DAY}
-use Rattle.time_preparing.proofs.Parts.{set_some, two_read}
+use Rattle.time_preparing.proofs.Parts.{read_all, byte_read, tree_read}
 use Rattle.time_preparing.proofs.walk.fast.month_day.Goals as goal
 
-pub returns : goal.returns
-returns c =
-    two_read greatest_year c.args.between (MonthShort MONTH_NAME) (Day SPACED_DAY) c.args.input.now _ _ _
-    (month c.in_ok-month.month.1) (number c.in_ok-day.day.1.value) c.args.parsed.now c.set_month.new.self c.set_day.new.self
-    c.in_ok-month.ensures c.in_ok-after.ensures c.in_ok-day.ensures
-    (set_some greatest_year _ c.args.parsed.now c.set_month.new.self _ c.in_ok-set_month.ensures)
-    (set_some greatest_year _ c.set_month.new.self c.set_day.new.self _ c.in_ok-set_day.ensures)
+pub returns-in_default-clause-read : goal.returns-in_default-clause-read
+returns-in_default-clause-read c =
+    rw (c.none.ensures.count, c.none.ensures.rest, c.in_default.ensures) (read_all greatest_year c.args.input.now c.args.parsed.now)
+
+pub returns-in_default-after-clause-read : goal.returns-in_default-after-clause-read
+returns-in_default-after-clause-read c =
+    rw (c.part.ensures.count, c.part.ensures.rest) (tree_read greatest_year none _ _ _ (component false (MonthShort MONTH_NAME)) _ _ _
+    c.in-Some.ensures (read_all greatest_year _ _))
+
+pub returns-in_default-day-clause-read : goal.returns-in_default-day-clause-read
+returns-in_default-day-clause-read c =
+    rw (c.part-in_default-day.ensures.count, c.part-in_default-day.ensures.rest, c.in_default-day.ensures)
+    (tree_read greatest_year _ _ _ _ (component false (MonthShort MONTH_NAME)) _ _ _ c.in-Some.ensures
+    (byte_read greatest_year none _ _ _ c.args.between _ _ c.in-Some-after.ensures (read_all greatest_year _ _)))
+
+pub returns-clause-read : goal.returns-clause-read
+returns-clause-read c =
+    tree_read greatest_year _ _ _ _ (component false (MonthShort MONTH_NAME)) _ _ _ c.in-Some.ensures
+    (byte_read greatest_year _ _ _ _ c.args.between _ _ c.in-Some-after.ensures
+    (tree_read greatest_year none _ _ _ (component false (Day SPACED_DAY)) _ _ _ c.in-Some-day.ensures (read_all greatest_year _ _)))

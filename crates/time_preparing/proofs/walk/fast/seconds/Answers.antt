@@ -1,5 +1,4 @@
 use Rattle.time_values.specs.Range.{greatest_year}
-use Rattle.time_components.specs.Spelling.{number}
 use Rattle.time_preparing.proofs.Parts.{no_seconds, seconds_read, set_some}
 use Rattle.time_preparing.proofs.walk.fast.seconds.Goals as goal
 

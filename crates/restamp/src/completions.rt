@@ -8,15 +8,16 @@ _restamp() {
         -t | --to) words='rfc3339 rfc2822 iso8601 unix unix-ms unix-us unix-ns' ;;
         -z | --zone) words='keep utc' ;;
         --digits) words='auto 0 1 2 3 4 5 6 7 8 9' ;;
+        --color) words='auto always never' ;;
         --completions) words='bash zsh fish' ;;
         -k | --field | -b | --between | -a | --after | -d | --delimiter) return ;;
-        --year | --offset | -s | --since | -e | --until | --errors) return ;;
+        --year | --latest | --offset | -s | --since | -e | --until | --errors) return ;;
         *)
             if [[ $word == -* ]]; then
-                words='-l --front -k --field -b --between -a --after -d --delimiter --blanks --csv
-                    -f --from --year --offset -t --to -z --zone -u --utc --digits -o --only
+                words='-l --front --anywhere -k --field -b --between -a --after -d --delimiter --blanks --csv
+                    -f --from --year --latest --offset -t --to -z --zone -u --utc --digits -o --only
                     -s --since -e --until --drop-refused -q --quiet --errors -x --strict
-                    --keep-going --completions -h --help -V --version'
+                    --keep-going --color --completions -h --help -V --version'
             else
                 COMPREPLY=($(compgen -f -- "$word"))
                 return
@@ -36,6 +37,7 @@ _restamp() {
     reads=($writes common syslog)
     _arguments -s \
         '(-l --front)'{-l,--front}'[the line begins with the time]' \
+        '--anywhere[the first place where a format reads]' \
         '(-k --field)'{-k,--field}'[field N, from 1]:number:' \
         '(-b --between)'{-b,--between}'[from after a text up to another]:text:' \
         '(-a --after)'{-a,--after}'[after a text]:text:' \
@@ -44,6 +46,7 @@ _restamp() {
         '--csv[a field may stand in quotes]' \
         '*'{-f,--from}'[the format that is read]:format:($reads)' \
         '--year[the year of times that have none]:year:' \
+        '(--year)--latest[times that have none are the latest not after it]:time:' \
         '--offset[the offset of times that have none]:offset:' \
         '(-t --to)'{-t,--to}'[the format that is written]:format:($writes)' \
         '(-z --zone -u --utc)'{-z,--zone}'[the offset that is written]:zone:(keep utc)' \
@@ -57,6 +60,7 @@ _restamp() {
         '--errors[names the first refused lines of a file]:number:' \
         '(-x --strict)'{-x,--strict}'[stops at the first refused line]' \
         '--keep-going[goes on under --strict]' \
+        '--color[shows refused lines in colours]:when:(auto always never)' \
         '--completions[prints completions]:shell:(bash zsh fish)' \
         '(-h --help)'{-h,--help}'[prints help]' \
         '(-V --version)'{-V,--version}'[prints the version]' \
@@ -68,6 +72,7 @@ _restamp "$@"
 const FISH: &str = r#"# Completions of restamp for fish.
 set -l writes rfc3339 rfc2822 iso8601 unix unix-ms unix-us unix-ns
 complete -c restamp -s l -l front -d 'The line begins with the time'
+complete -c restamp -l anywhere -d 'The first place where a format reads'
 complete -c restamp -s k -l field -x -d 'Field N, from 1'
 complete -c restamp -s b -l between -x -d 'From after a text up to another'
 complete -c restamp -s a -l after -x -d 'After a text'
@@ -76,6 +81,7 @@ complete -c restamp -l blanks -d 'Fields are words between blanks'
 complete -c restamp -l csv -d 'A field may stand in quotes'
 complete -c restamp -s f -l from -x -a "$writes common syslog" -d 'The format that is read'
 complete -c restamp -l year -x -d 'The year of times that have none'
+complete -c restamp -l latest -x -d 'Times that have none are the latest not after it'
 complete -c restamp -l offset -x -d 'The offset of times that have none'
 complete -c restamp -s t -l to -x -a "$writes" -d 'The format that is written'
 complete -c restamp -s z -l zone -x -a 'keep utc' -d 'The offset that is written'
@@ -89,6 +95,7 @@ complete -c restamp -s q -l quiet -d 'Names no refused line'
 complete -c restamp -l errors -x -d 'Names the first refused lines of a file'
 complete -c restamp -s x -l strict -d 'Stops at the first refused line'
 complete -c restamp -l keep-going -d 'Goes on under --strict'
+complete -c restamp -l color -x -a 'auto always never' -d 'Shows refused lines in colours'
 complete -c restamp -l completions -x -a 'bash zsh fish' -d 'Prints completions'
 complete -c restamp -s h -l help -d 'Prints help'
 complete -c restamp -s V -l version -d 'Prints the version'

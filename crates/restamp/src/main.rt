@@ -10,10 +10,11 @@ use completions::completions_of;
 use opening::Disk;
 use output::Watched;
 use std::alloc::AllocError;
-use std::io::{BufWriter, ErrorKind, Write};
+use std::io::{BufWriter, ErrorKind, IsTerminal, Write};
 use std::process::ExitCode;
 use std::{env, io};
-use time_commanding::{Fault, Options, Request, make_command, serve};
+use time_commanding::{Fault, Request, serve};
+use time_options::{Options, make_command};
 use time_rewriting::{Block, Stop, Stream, status};
 
 // The names of the files, or that of standard input where none is given.
@@ -93,13 +94,22 @@ fn complete(rt: &HostRuntime, shell: &str) -> io::Result<u8> {
     }
 }
 
+// Whether reports go to a terminal that shows colours.
+fn shows_colors(rt: &HostRuntime) -> bool {
+    let is_dumb = match env::var(rt, "TERM") {
+        Ok(name) => name.as_str() == "dumb",
+        Err(_) => false,
+    };
+    rt.stderr().is_terminal() && env::var(rt, "NO_COLOR").is_err() && !is_dumb
+}
+
 // Does what the options ask for.
 fn follow(rt: &HostRuntime, matches: &ArgMatches<'_>) -> io::Result<u8> {
     if let Some(shell) = matches.get_str("completions") {
         return complete(rt, shell);
     }
     let names = names_of(rt, matches)?;
-    match Request::new(rt.alloc(), &Options::of(matches)) {
+    match Request::new(rt.alloc(), &Options::of(matches), shows_colors(rt)) {
         Ok(request) => answer(rt, &request, names.as_slice()),
         Err(fault) => tell(rt, fault),
     }

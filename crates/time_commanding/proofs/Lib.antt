@@ -1,1 +1,2 @@
 mod FateLemmas
+mod PointingLemmas

@@ -1,5 +1,5 @@
 pub mod Values
 pub mod Fault
-pub mod Options
 pub mod Request
+pub mod Pointing
 pub mod Rewriting

@@ -1,5 +1,5 @@
 -- What becomes of a line, as a job judges it. `Y` is the greatest year.
-use Rattle.std.specs.Prelude.{◌≡◌, ℕ, ◌+◌, List}
+use Rattle.std.specs.Prelude.{◌≡◌, ℕ, ◌+◌, Bool, List}
 use Rattle.std.proofs.Common.{ap, sym, ◌∙◌}
 use Rattle.time_values.specs.Range.{greatest_year}
 use Rattle.time_rewriting.specs.declared.fate.Fate.{Fate}
@@ -8,6 +8,7 @@ use Rattle.time_restamping.proofs.OneVerdict.{one_verdict}
 use Rattle.time_restamping.specs.Job.{Verdict, without, rewritten, dropped, refused, IsJudged}
 use Rattle.time_restamping.specs.Reason.{Reason, reason_text}
 use Rattle.time_restamping.specs.declared.job.Job.{Job}
+use Rattle.time_commanding.specs.Pointing.{told_reason}
 
 -- the fate of a line with that verdict
 abbrev pub fate_of : Verdict → Fate
@@ -20,10 +21,11 @@ fate_of (refused column reason) = Refused
 abbrev pub IsFate : ℕ → Job → List ℕ → Fate → Type 0
 IsFate Y job front fate = (verdict : Verdict) × IsJudged Y job front verdict × (fate ≡ fate_of verdict)
 
--- A front is refused at that column, and the reason prints that text.
-abbrev pub IsReason : ℕ → Job → List ℕ → ℕ → List ℕ → Type 0
-IsReason Y job front column text =
-    (reason : Reason) × IsJudged Y job front (refused column reason) × (text ≡ reason_text reason)
+-- A front is refused at that column, and that text tells the reason, with the line below it where it is to be shown.
+abbrev pub IsReason : ℕ → Job → Bool → List ℕ → ℕ → List ℕ → Type 0
+IsReason Y job shows_lines front column text =
+    (reason : Reason) × IsJudged Y job front (refused column reason)
+    × (text ≡ told_reason shows_lines front column (reason_text reason))
 
 -- A front has one fate.
 pub one_fate : (job : Job) (front : List ℕ) (a b : Fate)
@@ -36,17 +38,17 @@ column_of n (rewritten start length text) = n
 column_of n dropped = n
 column_of n (refused column reason) = column
 
-text_of : List ℕ → Verdict → List ℕ
-text_of t without = t
-text_of t (rewritten start length text) = t
-text_of t dropped = t
-text_of t (refused column reason) = reason_text reason
+told_of : Bool → List ℕ → List ℕ → Verdict → List ℕ
+told_of shows_lines front t without = t
+told_of shows_lines front t (rewritten start length text) = t
+told_of shows_lines front t dropped = t
+told_of shows_lines front t (refused column reason) = told_reason shows_lines front column (reason_text reason)
 
 -- A front is refused at one column and for one reason.
-pub one_reason : (job : Job) (front : List ℕ) (column other : ℕ) (reason why : List ℕ)
-    → IsReason greatest_year job front column reason → IsReason greatest_year job front other why
+pub one_reason : (job : Job) (shows_lines : Bool) (front : List ℕ) (column other : ℕ) (reason why : List ℕ)
+    → IsReason greatest_year job shows_lines front column reason → IsReason greatest_year job shows_lines front other why
     → (column ≡ other) × (reason ≡ why)
-unfolding column_of text_of
-one_reason job front column other reason why p q =
+unfolding column_of told_of
+one_reason job shows_lines front column other reason why p q =
     let same = one_verdict job front (refused column p.0) (refused other q.0) p.1 q.1 in
-    (ap (column_of 0) same, p.2 ∙ ap (text_of reason) same ∙ sym q.2)
+    (ap (column_of 0) same, p.2 ∙ ap (told_of shows_lines front reason) same ∙ sym q.2)

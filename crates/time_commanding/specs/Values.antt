@@ -1,9 +1,11 @@
 -- What the values of options mean. `Y` is the greatest year.
-use Rattle.std.specs.Prelude.{◌≡◌, ℕ, ◌-◌, ℤ, Bool, false, true, MatchBool, List, [], ◌∷◌, codes, if◌then◌else◌, Option, None, Some, Result, Ok, Err, MatchResult, IsSomeAnd}
+use Rattle.std.specs.Prelude.{◌≡◌, ℕ, ◌-◌, ◌^◌, ◌<◌, ℤ, Bool, false, true, MatchBool, List, [], ◌∷◌, codes, if◌then◌else◌, Option, None, Some, SomeIff, Result, Ok, Err, MatchResult, IsSomeAnd, FitsSigned}
 use Rattle.std.specs.Char.{is_ascii_digit}
 use Rattle.std.specs.Option.{option_and_then, option_map}
 use Rattle.std.specs.Result.{result_ok}
+use Rattle.std.specs.Int.{w32}
 use Rattle.std.specs.Str.{bytes_eq}
+use Rattle.std.specs.Str.Parse.{IsNumeral, digits_value, signed_digits_value, without_leading_plus, without_leading_sign}
 use Rattle.time_digits.specs.declared.Padding.TheVariants as padding
 use Rattle.time_components.specs.Tree.{Tree, literal, component, sequence, trees}
 use Rattle.time_components.specs.declared.format_description.Component.TheVariants as kind
@@ -17,12 +19,32 @@ use Rattle.time_restamping.specs.declared.reason.Reason as declared
 use Rattle.time_restamping.specs.declared.reading.Reading.{Reading}
 use Rattle.time_restamping.specs.declared.reading.Reading.TheVariants.{Rfc3339}
 use Rattle.time_restamping.specs.declared.reading.Said.{Said}
+use Rattle.time_restamping.specs.declared.reading.Defaults.{Defaults}
 use Rattle.time_values.specs.Offsets as Offsets
 use Rattle.time_values.specs.Refusal.{Refusal}
 use Rattle.time_values.specs.declared.offset_date_time.OffsetDateTime.{OffsetDateTime}
 use Rattle.time_values.specs.declared.utc_offset.UtcOffset.{UtcOffset}
 use Rattle.time_writing.specs.declared.fraction.FractionDigits.{FractionDigits}
 use Rattle.time_writing.specs.declared.fraction.FractionDigits.TheVariants.{Auto, Exactly}
+
+-- The number of 64 bits that a text says in decimal digits, with or without a plus, or none.
+abbrev pub IsNumber : List ℕ → Option ℕ → Type 0
+IsNumber text result =
+    let digits = without_leading_plus text in
+    SomeIff result (IsNumeral 10 digits × (digits_value 10 digits < 2 ^ 64)) (digits_value 10 digits)
+
+-- The same, but 0 is none.
+abbrev pub IsPositive : List ℕ → Option ℕ → Type 0
+IsPositive text result =
+    let digits = without_leading_plus text in
+    SomeIff result (IsNumeral 10 digits × (0 < digits_value 10 digits) × (digits_value 10 digits < 2 ^ 64))
+    (digits_value 10 digits)
+
+-- The number of 32 bits that a text says in decimal digits, with or without a sign, or none.
+abbrev pub IsSigned : List ℕ → Option ℤ → Type 0
+IsSigned text result =
+    SomeIff result (IsNumeral 10 (without_leading_sign text) × FitsSigned w32 (signed_digits_value 10 text))
+    (signed_digits_value 10 text)
 
 -- the only byte of a text
 abbrev pub only_byte : List ℕ → Option ℕ
@@ -38,6 +60,13 @@ abbrev pub digits_of : List ℕ → Option FractionDigits
 digits_of text =
     if bytes_eq text (codes "auto") then Some Auto else
     option_and_then (λ b. if is_ascii_digit b then Some (Exactly (b - 48)) else None) (only_byte text)
+
+-- whether colours are shown, where `auto` is the answer that a terminal is written to
+abbrev pub shows_of : List ℕ → Bool → Option Bool
+shows_of text is_terminal =
+    if bytes_eq text (codes "auto") then Some is_terminal else
+    if bytes_eq text (codes "always") then Some true else
+    if bytes_eq text (codes "never") then Some false else None
 
 -- an offset such as `+05:30`
 abbrev pub offset_parts : List Tree
@@ -79,16 +108,16 @@ abbrev pub IsOffsetRecord : ℕ → List ℕ → Option Record → Type 0
 IsOffsetRecord Y text result =
     (offset : Option UtcOffset) × IsOffsetText Y text offset × (result ≡ option_and_then (offset_record Y) offset)
 
--- the record with that year, if one is given
-abbrev pub with_year : ℕ → Option ℤ → Record → Option Record
-with_year Y None r = Some r
-with_year Y (Some year) r = put Y (year_is year) r
+-- The record with the year that a text says, or none.
+abbrev pub IsYeared : ℕ → List ℕ → Record → Option Record → Type 0
+IsYeared Y text r result =
+    (year : Option ℤ) × IsSigned text year × (result ≡ option_and_then (λ y. put Y (year_is y) r) year)
 
 -- The moment that a text says by RFC 3339, or else by the first of the formats by which it says one; the reason why
 -- it says none is that of RFC 3339.
-abbrev pub IsMomentText : ℕ → Reading → List Reading → List ℕ → Option Record → Result OffsetDateTime Reason → Type 0
+abbrev pub IsMomentText : ℕ → Reading → List Reading → List ℕ → Defaults → Result OffsetDateTime Reason → Type 0
 IsMomentText Y first others text defaults result =
-    (plain : Result Said Reason) × Says Y Rfc3339 false text defaults plain
+    (plain : Result Said Reason) × Says Y Rfc3339 false text defaults.parts plain
     × MatchResult plain (λ said. result ≡ Ok said.moment)
     (λ reason. (said : Result Said Reason) × IsReadInTurn Y first others false text defaults said
     × MatchResult said (λ s. result ≡ Ok s.moment) (λ _. result ≡ Err reason))

@@ -2,8 +2,7 @@
 ghost use Rattle.time_values.specs.Range.{greatest_year};
 ghost use Rattle.time_commanding.specs.Values as spec;
 
-use time_record::Parsed;
-use time_restamping::{Reading, Reason, read, read_in_turn};
+use time_restamping::{Defaults, Reading, Reason, read, read_in_turn};
 use time_values::OffsetDateTime;
 
 /// The moment that the text says by RFC 3339, or else by one of the formats. The reason is that of RFC 3339.
@@ -11,11 +10,11 @@ pub fn find_moment(
     first: &Reading,
     others: &[Reading],
     text: &str,
-    defaults: &Option<Parsed>,
+    defaults: &Defaults,
 ) -> Result<OffsetDateTime, Reason>
     ensures { spec.IsMomentText greatest_year first.now others.now text.now defaults.now (spec.seen_moment result) }
 {
-    let reason = match read(&Reading::Rfc3339, false, text.as_bytes(), defaults) {
+    let reason = match read(&Reading::Rfc3339, false, text.as_bytes(), &defaults.parts) {
         Ok(said) => return Ok(said.moment),
         Err(reason) => reason,
     };

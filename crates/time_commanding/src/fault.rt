@@ -12,6 +12,8 @@ use time_restamping::Reason;
 pub enum Fault<'a> {
     /// There is no memory for what they ask for.
     Memory,
+    /// `--field` takes a number from 1 to 18446744073709551615.
+    Field(&'a str),
     /// `--delimiter` takes one byte.
     Delimiter(&'a str),
     /// `--from` takes a format's name, or a description.
@@ -21,13 +23,19 @@ pub enum Fault<'a> {
     /// `--to` takes a format's name.
     To(&'a str),
     /// `--year` takes a year from -999999 to 999999.
-    Year(i32),
+    Year(&'a str),
     /// `--offset` takes an offset.
     Offset(&'a str),
     /// `--zone` takes `keep`, `utc` or an offset.
     Zone(&'a str),
     /// `--digits` takes 0 to 9, or `auto`.
     Digits(&'a str),
+    /// `--errors` takes a number from 0 to 18446744073709551615.
+    Errors(&'a str),
+    /// `--latest` takes a time.
+    Latest(&'a str, Reason),
+    /// `--color` takes `auto`, `always` or `never`.
+    Color(&'a str),
     /// `--since` takes a time.
     Since(&'a str, Reason),
     /// `--until` takes a time.
@@ -40,14 +48,19 @@ impl<'a> Fault<'a> {
         ensures { option_map (λ place. (place.0.now, place.1.now)) result ≡ spec.place_of (spec.told self.now) }
     {
         match *self {
-            Fault::Memory | Fault::Year(_) => None,
+            Fault::Memory => None,
+            Fault::Field(value) => Some(("--field <N>", value)),
             Fault::Delimiter(value) => Some(("--delimiter <BYTE>", value)),
             Fault::UnknownFormat(value) => Some(("--from <FORMAT>", value)),
             Fault::Description(value, _) => Some(("--from <FORMAT>", value)),
             Fault::To(value) => Some(("--to <FORMAT>", value)),
+            Fault::Year(value) => Some(("--year <YEAR>", value)),
             Fault::Offset(value) => Some(("--offset <OFFSET>", value)),
             Fault::Zone(value) => Some(("--zone <ZONE>", value)),
             Fault::Digits(value) => Some(("--digits <N>", value)),
+            Fault::Errors(value) => Some(("--errors <N>", value)),
+            Fault::Latest(value, _) => Some(("--latest <TIME>", value)),
+            Fault::Color(value) => Some(("--color <WHEN>", value)),
             Fault::Since(value, _) => Some(("--since <TIME>", value)),
             Fault::Until(value, _) => Some(("--until <TIME>", value)),
         }
@@ -60,6 +73,7 @@ impl fmt::Display for Fault<'_> {
     fn fmt<W: fmt::Write>(&self, f: &mut fmt::Formatter<W>) -> fmt::Result {
         match self {
             Fault::Memory => write!(f, "out of memory"),
+            Fault::Field(_) => write!(f, "it is not a number from 1 to 18446744073709551615"),
             Fault::Delimiter(_) => write!(f, "it is not one byte"),
             Fault::UnknownFormat(_) => {
                 write!(
@@ -69,10 +83,13 @@ impl fmt::Display for Fault<'_> {
             }
             Fault::Description(_, error) => write!(f, "{error}"),
             Fault::To(_) => write!(f, "no format has this name"),
-            Fault::Year(year) => write!(f, "the year {year} is not from -999999 to 999999"),
+            Fault::Year(_) => write!(f, "it is not a year from -999999 to 999999"),
             Fault::Offset(_) => write!(f, "it is no offset such as +05:30"),
             Fault::Zone(_) => write!(f, "it is not keep, utc or an offset such as +05:30"),
             Fault::Digits(_) => write!(f, "it is not 0 to 9 or auto"),
+            Fault::Errors(_) => write!(f, "it is not a number from 0 to 18446744073709551615"),
+            Fault::Latest(_, reason) => write!(f, "{reason}"),
+            Fault::Color(_) => write!(f, "it is not auto, always or never"),
             Fault::Since(_, reason) => write!(f, "{reason}"),
             Fault::Until(_, reason) => write!(f, "{reason}"),
         }

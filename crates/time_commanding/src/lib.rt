@@ -1,16 +1,13 @@
-//! The command line of `restamp`: its options, what they ask for, and the answer to files.
+//! What the options of `restamp` ask for, and the answer to files.
 #![tactic(auto)]
 
 mod bounds;
-mod command;
 mod fault;
-mod options;
+mod pointing;
 mod request;
 mod rewriting;
 mod values;
 
-pub use command::make_command;
 pub use fault::Fault;
-pub use options::Options;
 pub use request::Request;
 pub use rewriting::{Restamping, serve};

@@ -2,33 +2,38 @@
 ghost use Rattle.std.specs.Prelude.{◌≡◌, IfErr, MatchResult, OnOk, Some, map};
 ghost use Rattle.time_values.specs.Range.{greatest_year};
 ghost use Rattle.time_restamping.specs.Naming.{fault_of};
+ghost use Rattle.time_options.specs.Options.{other_names, text_behind};
 ghost use Rattle.time_commanding.specs.Fault as fault;
 ghost use Rattle.time_commanding.specs.Fault.{told};
-ghost use Rattle.time_commanding.specs.Options.{other_names, text_behind};
 ghost use Rattle.time_commanding.specs.Request as spec;
 
 use crate::bounds::find_moment;
 use crate::fault::Fault;
-use crate::options::Options;
-use crate::values::{find_delimiter, find_digits, find_offset_record, find_zone};
+use crate::values::{
+    find_delimiter, find_digits, find_number, find_offset_record, find_positive, find_shows,
+    find_yeared, find_zone,
+};
 use std::alloc::Global;
 use time_cutting::{Fields, Place};
+use time_options::Options;
 use time_record::Parsed;
-use time_restamping::{Form, FormatFault, Job, Reading, Reason, find_reading, find_writing};
+use time_restamping::{
+    Defaults, Form, FormatFault, Job, Reading, Reason, find_reading, find_writing,
+};
 use time_rewriting::{Output, Reports, Settings};
 use time_values::OffsetDateTime;
 
 /// What the options ask for.
 #[derive(Drop)]
 pub struct Request<'a> {
-    /// Where a line's time stands.
-    pub place: Place<'a>,
+    /// Where a line's time stands, or `None` for the first place from which on a format reads one.
+    pub place: Option<Place<'a>>,
     /// The format that reads it.
     pub first: Reading,
     /// The formats that are tried in turn where that one doesn't.
     pub others: Vec<Reading>,
     /// What stands for what a time leaves out.
-    pub defaults: Parsed,
+    pub defaults: Defaults,
     /// How it is written.
     pub form: Form,
     /// Drops lines whose time is before.
@@ -37,6 +42,8 @@ pub struct Request<'a> {
     pub until: Option<OffsetDateTime>,
     /// How the lines of files are answered.
     pub settings: Settings,
+    /// Shows refused lines below their reasons, in colours.
+    pub shows_lines: bool,
     /// Whether a refused line is a failure, and a line with no place for a time is refused.
     pub strict: bool,
 }
@@ -59,25 +66,43 @@ fn find_fields<'a>(options: &Options<'_, 'a>) -> Result<Fields, Fault<'a>>
     }
 }
 
+// The place of the field of that number.
+fn find_field<'a>(options: &Options<'_, 'a>, number: &'a str) -> Result<Place<'a>, Fault<'a>>
+    ensures { MatchResult result (λ place. spec.IsFieldPlace options.now (Some number.now) (spec.seen_place (Some place)))
+        (λ fault. text_behind options.now.field ≡ Some number.now → spec.IsFault greatest_year options.now (told fault)) }
+{
+    let fields = match find_fields(options) {
+        Ok(fields) => fields,
+        Err(fault) => return Err(fault),
+    };
+    match find_positive(number) {
+        Some(number) => Ok(Place::Field(fields, number)),
+        None => Err(Fault::Field(number)),
+    }
+}
+
 // Where a line's time stands.
-fn find_place<'a>(options: &Options<'_, 'a>) -> Result<Place<'a>, Fault<'a>>
-    ensures { MatchResult result (λ place. spec.place_of options.now ≡ Some (spec.seen_place place))
+fn find_place<'a>(options: &Options<'_, 'a>) -> Result<Option<Place<'a>>, Fault<'a>>
+    ensures { MatchResult result (λ place. spec.IsPlace options.now (spec.seen_place place))
         (λ fault. spec.IsFault greatest_year options.now (told fault)) }
 {
     if options.front {
-        return Ok(Place::Front);
+        return Ok(Some(Place::Front));
+    }
+    if options.anywhere {
+        return Ok(None);
     }
     if let Some(key) = options.after {
-        return Ok(Place::After(key.as_bytes()));
+        return Ok(Some(Place::After(key.as_bytes())));
     }
     if let Some((open, close)) = options.between {
-        return Ok(Place::Between(open.as_bytes(), close.as_bytes()));
+        return Ok(Some(Place::Between(open.as_bytes(), close.as_bytes())));
     }
     let Some(number) = options.field else {
-        return Ok(Place::Whole);
+        return Ok(Some(Place::Whole));
     };
-    match find_fields(options) {
-        Ok(fields) => Ok(Place::Field(fields, number)),
+    match find_field(options, number) {
+        Ok(place) => Ok(Some(place)),
         Err(fault) => Err(fault),
     }
 }
@@ -128,9 +153,9 @@ fn add_others<'a>(
     }
 }
 
-// What stands for what a time leaves out.
-fn find_defaults<'a>(options: &Options<'_, 'a>) -> Result<Parsed, Fault<'a>>
-    ensures { MatchResult result (λ defaults. spec.AreDefaults greatest_year options.now defaults)
+// The parts that stand for those that a time leaves out.
+fn find_parts<'a>(options: &Options<'_, 'a>) -> Result<Parsed, Fault<'a>>
+    ensures { MatchResult result (λ parts. spec.AreParts greatest_year options.now parts)
         (λ fault. spec.IsFault greatest_year options.now (told fault)) }
 {
     let Some(parsed) = find_offset_record(options.offset) else {
@@ -139,10 +164,17 @@ fn find_defaults<'a>(options: &Options<'_, 'a>) -> Result<Parsed, Fault<'a>>
     let Some(year) = options.year else {
         return Ok(parsed);
     };
-    match parsed.with_year(year) {
-        Some(defaults) => Ok(defaults),
+    match find_yeared(year, parsed) {
+        Some(parts) => Ok(parts),
         None => Err(Fault::Year(year)),
     }
+}
+
+// The zone that is given.
+fn zone_of<'a>(options: &Options<'_, 'a>) -> &'a str
+    ensures { result.now ≡ spec.zone_of options.now }
+{
+    if options.utc { "utc" } else { options.zone }
 }
 
 // How a time is written.
@@ -153,8 +185,9 @@ fn find_form<'a>(options: &Options<'_, 'a>) -> Result<Form, Fault<'a>>
     let Some(writing) = find_writing(options.to.as_bytes()) else {
         return Err(Fault::To(options.to));
     };
-    let Some(offset) = find_zone(options.zone) else {
-        return Err(Fault::Zone(options.zone));
+    let zone = zone_of(options);
+    let Some(offset) = find_zone(zone) else {
+        return Err(Fault::Zone(zone));
     };
     let Some(digits) = find_digits(options.digits) else {
         return Err(Fault::Digits(options.digits));
@@ -166,29 +199,43 @@ fn find_form<'a>(options: &Options<'_, 'a>) -> Result<Form, Fault<'a>>
     })
 }
 
+// The parts alone.
+fn only_parts(parts: Parsed) -> Defaults
+    ensures { result ≡ spec.only_parts parts }
+{
+    Defaults {
+        parts: Some(parts),
+        latest: None,
+    }
+}
+
 // The moment that a text says, if there is one.
 fn find_bound<'a>(
     first: &Reading,
     others: &[Reading],
-    defaults: Parsed,
+    defaults: &Defaults,
     text: Option<&'a str>,
 ) -> Result<Option<OffsetDateTime>, (&'a str, Reason)>
-    ensures { spec.IsBound greatest_year first.now others.now defaults (text_behind text.entry) (spec.seen_bound result) }
+    ensures { spec.IsBound greatest_year first.now others.now defaults.now (text_behind text.entry) (spec.seen_bound result) }
 {
     let Some(text) = text else {
         return Ok(None);
     };
-    match find_moment(first, others, text, &Some(defaults)) {
+    match find_moment(first, others, text, defaults) {
         Ok(moment) => Ok(Some(moment)),
         Err(reason) => Err((text, reason)),
     }
 }
 
 // How the lines of files are answered.
-fn make_settings(options: &Options<'_, '_>) -> Settings
-    ensures { result ≡ spec.settings_of options.now }
+fn find_settings<'a>(options: &Options<'_, 'a>) -> Result<Settings, Fault<'a>>
+    ensures { MatchResult result (λ settings. spec.AreSettings options.now settings)
+        (λ fault. spec.IsFault greatest_year options.now (told fault)) }
 {
-    Settings {
+    let Some(errors) = find_number(options.errors) else {
+        return Err(Fault::Errors(options.errors));
+    };
+    Ok(Settings {
         output: if options.only {
             Output::Times
         } else if options.drop_refused {
@@ -199,20 +246,24 @@ fn make_settings(options: &Options<'_, '_>) -> Settings
         reports: if options.quiet {
             Reports::Quiet
         } else {
-            Reports::First(options.errors)
+            Reports::First(errors)
         },
         strict: options.strict && !options.keep_going,
-    }
+    })
 }
 
 impl<'a> Request<'a> {
-    /// What the options ask for.
+    /// What the options ask for. Where `--color` is `auto`, colours are shown if reports go to a terminal.
     ///
     /// # Errors
     ///
     /// An option that doesn't take its value, or that memory is short.
-    pub fn new(alloc: Global, options: &Options<'_, 'a>) -> Result<Request<'a>, Fault<'a>>
-        ensures { MatchResult result (spec.Asks greatest_year options.now)
+    pub fn new(
+        alloc: Global,
+        options: &Options<'_, 'a>,
+        is_terminal: bool,
+    ) -> Result<Request<'a>, Fault<'a>>
+        ensures { MatchResult result (spec.Asks greatest_year options.now is_terminal)
             (λ fault. spec.IsFault greatest_year options.now (told fault)) }
     {
         let place = find_place(options)?;
@@ -226,16 +277,33 @@ impl<'a> Request<'a> {
             Err(Some((name, why))) => return Err(format_fault(name, why)),
             Err(None) => return Err(Fault::Memory),
         }
-        let defaults = match find_defaults(options) {
-            Ok(defaults) => defaults,
+        let parts = match find_parts(options) {
+            Ok(parts) => parts,
             Err(fault) => return Err(fault),
         };
+        let latest = match find_bound(
+            &first,
+            others.as_slice(),
+            &only_parts(parts),
+            options.latest,
+        ) {
+            Ok(latest) => latest,
+            Err((text, reason)) => return Err(Fault::Latest(text, reason)),
+        };
+        let defaults = Defaults {
+            parts: Some(parts),
+            latest,
+        };
         let form = find_form(options)?;
-        let since = match find_bound(&first, others.as_slice(), defaults, options.since) {
+        let settings = find_settings(options)?;
+        let Some(shows_lines) = find_shows(options.color, is_terminal) else {
+            return Err(Fault::Color(options.color));
+        };
+        let since = match find_bound(&first, others.as_slice(), &defaults, options.since) {
             Ok(since) => since,
             Err((text, reason)) => return Err(Fault::Since(text, reason)),
         };
-        let until = match find_bound(&first, others.as_slice(), defaults, options.until) {
+        let until = match find_bound(&first, others.as_slice(), &defaults, options.until) {
             Ok(until) => until,
             Err((text, reason)) => return Err(Fault::Until(text, reason)),
         };
@@ -247,7 +315,8 @@ impl<'a> Request<'a> {
             form,
             since,
             until,
-            settings: make_settings(options),
+            settings,
+            shows_lines,
             strict: options.strict,
         })
     }
@@ -260,7 +329,7 @@ impl<'a> Request<'a> {
             place: self.place,
             first: &self.first,
             others: self.others.as_slice(),
-            defaults: Some(self.defaults),
+            defaults: self.defaults,
             form: self.form,
             since: self.since,
             until: self.until,

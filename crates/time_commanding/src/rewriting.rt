@@ -7,31 +7,39 @@ ghost use Rattle.time_restamping.specs.declared.job.Job.{Job as Job_};
 ghost use Rattle.time_commanding.specs.Request.{IsJobOf};
 ghost use Rattle.time_commanding.specs.Rewriting.{IsFate, IsReason};
 
+use crate::pointing::write_pointer;
 use crate::request::Request;
 use std::io;
 use std::io::Write;
 use time_restamping::{Job, Verdict};
 use time_rewriting::{Block, Fate, Opening, Rewriting, Stop, Stream};
 
-/// A job, which says which fate a line has.
+/// A job, which says which fate a line has, and how a refused line is told.
 #[derive(Clone, Copy)]
-pub struct Restamping<'a>(pub Job<'a>);
+pub struct Restamping<'a> {
+    /// What is done with each line.
+    pub job: Job<'a>,
+    /// Shows a refused line below its reason, with a caret under the column that is told, in colours.
+    pub shows_lines: bool,
+}
 
 impl Rewriting for Restamping<'_> {
     ghost use Rattle.time_values.specs.Range.{greatest_year};
     ghost use Rattle.time_commanding.specs.Rewriting as spec;
 
-    ghost is_fate = { λ restamping front fate. spec.IsFate greatest_year restamping.0 front fate };
+    ghost is_fate = { λ restamping front fate. spec.IsFate greatest_year restamping.job front fate };
 
-    ghost is_reason = { λ restamping front column reason. spec.IsReason greatest_year restamping.0 front column reason };
+    ghost is_reason = { λ restamping front column reason.
+        spec.IsReason greatest_year restamping.job restamping.shows_lines front column reason };
 
-    ghost one_fate = { λ restamping front a b p q. spec.one_fate restamping.0 front a b p q };
+    ghost one_fate = { λ restamping front a b p q. spec.one_fate restamping.job front a b p q };
 
     ghost one_reason = { λ restamping front column other reason why p q.
-        spec.one_reason restamping.0 front column other reason why p q };
+        spec.one_reason restamping.job restamping.shows_lines front column other reason why p q };
 
+    #[inline(always)]
     fn fate(&self, front: &[u8]) -> Fate {
-        match self.0.judge(front) {
+        match self.job.judge(front) {
             Verdict::Without => Fate::Without,
             Verdict::Rewritten {
                 start,
@@ -48,8 +56,14 @@ impl Rewriting for Restamping<'_> {
     }
 
     fn write_reason<L: Write>(&self, front: &[u8], log: &mut L) -> io::Result<()> {
-        match self.0.judge(front) {
-            Verdict::Refused { column, reason } => write!(log, "{column}: {reason}"),
+        match self.job.judge(front) {
+            Verdict::Refused { column, reason } => {
+                if self.shows_lines {
+                    write!(log, "{column}: \x1b[31m{reason}\x1b[0m")?;
+                    return write_pointer(front, column, log);
+                }
+                write!(log, "{column}: {reason}")
+            }
             Verdict::Without => Ok(()),
             Verdict::Rewritten { .. } => Ok(()),
             Verdict::Dropped => Ok(()),
@@ -69,10 +83,14 @@ pub fn serve<W: Write, L: Write, O: Opening>(
     block: &mut Block,
 ) -> Result<(), Stop>
     ensures { (job : Job_) × IsJobOf request.now job
-        × OnOk result (DidFiles (IsFate greatest_year job) (IsReason greatest_year job) request.now.settings
+        × OnOk result (DidFiles (IsFate greatest_year job) (IsReason greatest_year job request.now.shows_lines)
+        request.now.settings
         (O.bytes_of opening.now) (state_of W.contents L.contents stream.old) (state_of W.contents L.contents stream.new)
         (map (λ name. name.now) names.now)) }
 {
-    let rewriting = Restamping(request.job());
+    let rewriting = Restamping {
+        job: request.job(),
+        shows_lines: request.shows_lines,
+    };
     stream.serve_files(&rewriting, request.settings, names, opening, block)
 }

@@ -11,6 +11,47 @@ use time_record::Parsed;
 use time_values::UtcOffset;
 use time_writing::FractionDigits;
 
+/// A number.
+pub fn find_number(text: &str) -> Option<u64>
+    ensures { spec.IsNumber text.now result }
+{
+    match text.parse::<u64>() {
+        Ok(number) => Some(number),
+        Err(_) => None,
+    }
+}
+
+/// A number from 1.
+pub fn find_positive(text: &str) -> Option<usize>
+    ensures { spec.IsPositive text.now result }
+{
+    match text.parse::<usize>() {
+        Ok(0) => None,
+        Ok(number) => Some(number),
+        Err(_) => None,
+    }
+}
+
+// A number with or without a sign.
+fn find_signed(text: &str) -> Option<i32>
+    ensures { spec.IsSigned text.now result }
+{
+    match text.parse::<i32>() {
+        Ok(number) => Some(number),
+        Err(_) => None,
+    }
+}
+
+/// The parts with a year.
+pub fn find_yeared(text: &str, parts: Parsed) -> Option<Parsed>
+    ensures { spec.IsYeared greatest_year text.now parts result }
+{
+    match find_signed(text) {
+        Some(year) => parts.with_year(year),
+        None => None,
+    }
+}
+
 /// The byte that ends a field; `\t` is TAB.
 pub fn find_delimiter(text: &str) -> Option<u8>
     ensures { result ≡ spec.delimiter_of text.now }
@@ -35,6 +76,22 @@ pub fn find_digits(text: &str) -> Option<FractionDigits>
         [digit] if digit.is_ascii_digit() => Some(FractionDigits::Exactly(*digit - b'0')),
         _ => None,
     }
+}
+
+/// Whether colours are shown: always, never, or where a terminal is written to.
+pub fn find_shows(text: &str, is_terminal: bool) -> Option<bool>
+    ensures { result ≡ spec.shows_of text.now is_terminal }
+{
+    if text == "auto" {
+        return Some(is_terminal);
+    }
+    if text == "always" {
+        return Some(true);
+    }
+    if text == "never" {
+        return Some(false);
+    }
+    None
 }
 
 // The items of an offset such as `+05:30`.

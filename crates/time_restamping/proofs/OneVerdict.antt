@@ -1,14 +1,16 @@
 -- A line has one verdict.
-use Rattle.std.proofs.Common.{◌≡◌, ℕ, Bool, true, false, List, [], ◌∷◌, ◌+◌, sym, ap, subst, refl, ◌∙◌, None, Some, Ok, Err}
-use Rattle.std.specs.Prelude.{Option, Result, MatchOption, MatchResult, MatchBool, slice_range}
+use Rattle.std.proofs.Common.{◌≡◌, ℕ, zero, suc, ℤ, pos, Bool, true, false, List, [], ◌∷◌, ◌+◌, ◌<◌, length, take, drop, sym, ap, subst, refl, arith, ◌∙◌, None, Some, Ok, Err}
+use Rattle.std.specs.Prelude.{Option, Result, ◌-ℤ◌, MatchOption, MatchResult, MatchBool, slice_range}
 use Rattle.time_values.specs.Range.{greatest_year}
 use Rattle.time_values.specs.Refusal.{Refusal}
 use Rattle.time_values.specs.Shown.{Items}
+use Rattle.time_values.specs.declared.offset_date_time.OffsetDateTime.{OffsetDateTime}
 use Rattle.time_cutting.specs.Cuts.{span_of, is_open}
+use Rattle.time_cutting.specs.declared.cuts.Place.{Place}
 use Rattle.time_cutting.specs.declared.fields.Span.{Span}
 use Rattle.time_descriptions.specs.Description.{shape}
 use Rattle.time_record.specs.Reading as Description
-use Rattle.time_record.specs.Record.{Record}
+use Rattle.time_record.specs.Record.{Record, put, year_is}
 use Rattle.time_record.specs.Resolution.{IsMoment}
 use Rattle.time_record.proofs.ResolutionLemmas.{IsMoment-one}
 use Rattle.time_readers.specs.Direct.{RefusesRfc3339, RefusesRfc2822}
@@ -23,11 +25,13 @@ use Rattle.time_parsing.specs.exact.Iso8601Laws.{iso8601_exact}
 use Rattle.time_parsing.specs.exact.Rfc2822Laws.{rfc2822_exact}
 use Rattle.time_parsing.specs.exact.Rfc3339Laws.{rfc3339_exact}
 use Rattle.time_parsing.proofs.OneOutcome.{one_moment_outcome, one_front}
-use Rattle.time_restamping.specs.Job.{Verdict, IsPut, IsJudged, is_kept, verdict_of, refused, dropped}
+use Rattle.time_restamping.specs.Job.{Verdict, IsPut, IsJudgedAt, IsJudgedAnywhere, IsJudged, SaysNear, SaysNoneBefore, IsFirst, is_kept, missed, verdict_of, refused, dropped}
 use Rattle.time_restamping.specs.Laws.{OneVerdict}
-use Rattle.time_restamping.specs.Reading.{IsReadBy, IsRead, Says, AreTried, IsReadInTurn, all_of, front_of, guarded}
+use Rattle.time_restamping.specs.Reading.{IsReadBy, IsRead, Says, Undated, undated, is_after, year_after, IsReadInYear, AreYearsTried, IsDated, AreTried, IsReadInTurn, all_of, front_of, guarded}
 use Rattle.time_restamping.specs.Reason.{Reason}
 use Rattle.time_restamping.specs.declared.job.Job.{Job}
+use Rattle.time_restamping.specs.declared.job.TheConstants.{REACH}
+use Rattle.time_restamping.specs.declared.reading.Defaults.{Defaults}
 use Rattle.time_restamping.specs.declared.reading.Reading.{Reading}
 use Rattle.time_restamping.specs.declared.reading.Reading.TheVariants as reading
 use Rattle.time_restamping.specs.declared.reading.Said.{Said}
@@ -80,23 +84,88 @@ one_after (Err f) (Ok v) P Q x y e one other p q = absurd cc
 one_after (Err f) (Err g) P Q x y e one other p q =
     let same : f ≡ g = cc in other g (subst (λ (u : Reason). Q u x) same p) q
 
-one_tried : (formats : List Reading) (is_open : Bool) (text : List ℕ) (defaults : Option Record) (reason : Reason)
+-- what is read in a year is one
+one_by_year : (dated : Option Record) (u : Undated) (a b : Option (Result Said Reason))
+    → MatchOption dated (a ≡ None) (λ d. (read : Result Said Reason) × Says greatest_year u.format u.is_open u.text (Some d) read × (a ≡ Some read))
+    → MatchOption dated (b ≡ None) (λ d. (read : Result Said Reason) × Says greatest_year u.format u.is_open u.text (Some d) read × (b ≡ Some read))
+    → a ≡ b
+one_by_year None u a b p q = p ∙ sym q
+one_by_year (Some d) u a b p q = p.2 ∙ ap Some (one_says u.format u.is_open u.text (Some d) p.0 q.0 p.1 q.1) ∙ sym q.2
+
+one_in_year : (u : Undated) (year : ℤ) (a b : Option (Result Said Reason))
+    → IsReadInYear greatest_year u year a → IsReadInYear greatest_year u year b → a ≡ b
+one_in_year u year a b p q = one_by_year (put greatest_year (year_is year) u.defaults) u a b p q
+
+-- what follows from what was read in a year
+abbrev Follows : ℕ → Undated → ℤ → Reason → Option (Result Said Reason) → Result Said Reason → Type 0
+Follows n u year reason read result =
+    MatchOption read (AreYearsTried greatest_year u n (year -ℤ pos 1) reason result)
+    (λ r. MatchResult r
+    (λ s. MatchBool (is_after greatest_year s.moment u.latest)
+    (AreYearsTried greatest_year u n (year -ℤ pos 1) reason result) (result ≡ Ok s))
+    (λ why. AreYearsTried greatest_year u n (year -ℤ pos 1) why result))
+
+-- the years before are tried with one result
+abbrev OneBefore : ℕ → Undated → ℤ → Type 0
+OneBefore n u year = (why : Reason) (a b : Result Said Reason)
+    → AreYearsTried greatest_year u n (year -ℤ pos 1) why a → AreYearsTried greatest_year u n (year -ℤ pos 1) why b → a ≡ b
+
+one_late : (late : Bool) (n : ℕ) (u : Undated) (year : ℤ) (reason : Reason) (s : Said) (a b : Result Said Reason) → OneBefore n u year
+    → MatchBool late (AreYearsTried greatest_year u n (year -ℤ pos 1) reason a) (a ≡ Ok s)
+    → MatchBool late (AreYearsTried greatest_year u n (year -ℤ pos 1) reason b) (b ≡ Ok s) → a ≡ b
+one_late true n u year reason s a b before p q = before reason a b p q
+one_late false n u year reason s a b before p q = p ∙ sym q
+
+one_following : (n : ℕ) (u : Undated) (year : ℤ) (reason : Reason) (read : Option (Result Said Reason)) (a b : Result Said Reason)
+    → OneBefore n u year → Follows n u year reason read a → Follows n u year reason read b → a ≡ b
+one_following n u year reason None a b before p q = before reason a b p q
+one_following n u year reason (Some (Ok s)) a b before p q =
+    one_late (is_after greatest_year s.moment u.latest) n u year reason s a b before p q
+one_following n u year reason (Some (Err why)) a b before p q = before why a b p q
+
+one_years : (n : ℕ) (u : Undated) (year : ℤ) (reason : Reason) (a b : Result Said Reason)
+    → AreYearsTried greatest_year u n year reason a → AreYearsTried greatest_year u n year reason b → a ≡ b
+unfolding AreYearsTried
+one_years zero u year reason a b p q = p ∙ sym q
+one_years (suc n) u year reason a b p q =
+    one_following n u year reason q.0 a b (λ why x y. one_years n u (year -ℤ pos 1) why x y)
+    (subst (λ (read : Option (Result Said Reason)). Follows n u year reason read a) (one_in_year u year p.0 q.0 p.1 q.1) p.2) q.2
+
+-- what is read with no year given is one
+one_latest : (latest : Option OffsetDateTime) (format : Reading) (is_open : Bool) (text : List ℕ) (r : Record) (e : Reason)
+    (a b : Result Said Reason)
+    → MatchOption latest (a ≡ Err e) (λ v. AreYearsTried greatest_year (undated format is_open text r v) 10 (year_after v) e a)
+    → MatchOption latest (b ≡ Err e) (λ v. AreYearsTried greatest_year (undated format is_open text r v) 10 (year_after v) e b)
+    → a ≡ b
+one_latest None format is_open text r e a b p q = p ∙ sym q
+one_latest (Some v) format is_open text r e a b p q = one_years 10 (undated format is_open text r v) (year_after v) e a b p q
+
+one_dated : (format : Reading) (is_open : Bool) (text : List ℕ) (defaults : Defaults) (a b : Result Said Reason)
+    → IsDated greatest_year format is_open text defaults a → IsDated greatest_year format is_open text defaults b → a ≡ b
+one_dated format is_open text defaults a b p q =
+    one_after p.0 q.0 (λ s x. x ≡ Ok s)
+    (λ e x. MatchOption defaults.latest (x ≡ Err e)
+    (λ v. AreYearsTried greatest_year (undated format is_open text (begun defaults.parts) v) 10 (year_after v) e x)) a b
+    (one_says format is_open text defaults.parts p.0 q.0 p.1 q.1) (λ s u v. u ∙ sym v)
+    (λ e u v. one_latest defaults.latest format is_open text (begun defaults.parts) e a b u v) p.2 q.2
+
+one_tried : (formats : List Reading) (is_open : Bool) (text : List ℕ) (defaults : Defaults) (reason : Reason)
     (a b : Result Said Reason)
     → AreTried greatest_year formats is_open text defaults reason a
     → AreTried greatest_year formats is_open text defaults reason b → a ≡ b
 one_tried [] is_open text defaults reason a b p q = p ∙ sym q
 one_tried (format ∷ formats) is_open text defaults reason a b p q =
     one_after p.0 q.0 (λ s x. x ≡ Ok s) (λ _ x. AreTried greatest_year formats is_open text defaults reason x) a b
-    (one_says format is_open text defaults p.0 q.0 p.1 q.1) (λ s u v. u ∙ sym v)
+    (one_dated format is_open text defaults p.0 q.0 p.1 q.1) (λ s u v. u ∙ sym v)
     (λ e u v. one_tried formats is_open text defaults reason a b u v) p.2 q.2
 
-one_in_turn : (format : Reading) (formats : List Reading) (is_open : Bool) (text : List ℕ) (defaults : Option Record)
+one_in_turn : (format : Reading) (formats : List Reading) (is_open : Bool) (text : List ℕ) (defaults : Defaults)
     (a b : Result Said Reason)
     → IsReadInTurn greatest_year format formats is_open text defaults a
     → IsReadInTurn greatest_year format formats is_open text defaults b → a ≡ b
 one_in_turn format formats is_open text defaults a b p q =
     one_after p.0 q.0 (λ s x. x ≡ Ok s) (λ e x. AreTried greatest_year formats is_open text defaults e x) a b
-    (one_says format is_open text defaults p.0 q.0 p.1 q.1) (λ s u v. u ∙ sym v)
+    (one_dated format is_open text defaults p.0 q.0 p.1 q.1) (λ s u v. u ∙ sym v)
     (λ e u v. one_tried formats is_open text defaults e a b u v) p.2 q.2
 
 one_put_by : (kept : Bool) (job : Job) (start : ℕ) (said : Said) (a b : Verdict)
@@ -113,21 +182,74 @@ one_put : (job : Job) (start : ℕ) (said : Said) (a b : Verdict)
     → IsPut greatest_year job start said a → IsPut greatest_year job start said b → a ≡ b
 one_put job start said a b p q = one_put_by (is_kept greatest_year job said.moment) job start said a b p q
 
-one_found : (job : Job) (line : List ℕ) (span : Option Span) (missed : Verdict) (a b : Verdict)
-    → MatchOption span (a ≡ missed)
+-- what follows from the part of a line that is its time is one
+one_found : (job : Job) (place : Place) (line : List ℕ) (span : Option Span) (a b : Verdict)
+    → MatchOption span (a ≡ missed job)
     (λ s. (read : Result Said Reason)
-    × IsReadInTurn greatest_year job.first.now job.others.now (is_open job.place) (slice_range line s.start s.stop) job.defaults read
+    × IsReadInTurn greatest_year job.first.now job.others.now (is_open place) (slice_range line s.start s.stop) job.defaults read
     × MatchResult read (λ said. IsPut greatest_year job s.start said a) (λ e. a ≡ refused (s.start + 1) e))
-    → MatchOption span (b ≡ missed)
+    → MatchOption span (b ≡ missed job)
     (λ s. (read : Result Said Reason)
-    × IsReadInTurn greatest_year job.first.now job.others.now (is_open job.place) (slice_range line s.start s.stop) job.defaults read
+    × IsReadInTurn greatest_year job.first.now job.others.now (is_open place) (slice_range line s.start s.stop) job.defaults read
     × MatchResult read (λ said. IsPut greatest_year job s.start said b) (λ e. b ≡ refused (s.start + 1) e))
     → a ≡ b
-one_found job line None missed a b p q = p ∙ sym q
-one_found job line (Some s) missed a b p q =
+one_found job place line None a b p q = p ∙ sym q
+one_found job place line (Some s) a b p q =
     one_after p.0 q.0 (λ said x. IsPut greatest_year job s.start said x) (λ e x. x ≡ refused (s.start + 1) e) a b
-    (one_in_turn job.first.now job.others.now (is_open job.place) (slice_range line s.start s.stop) job.defaults p.0 q.0 p.1 q.1)
+    (one_in_turn job.first.now job.others.now (is_open place) (slice_range line s.start s.stop) job.defaults p.0 q.0 p.1 q.1)
     (λ said u v. one_put job s.start said a b u v) (λ e u v. u ∙ sym v) p.2 q.2
 
+one_near : (job : Job) (text : List ℕ) (a b : Result Said Reason)
+    → SaysNear greatest_year job text a → SaysNear greatest_year job text b → a ≡ b
+one_near job text a b p q = one_in_turn job.first.now job.others.now true (take REACH text) job.defaults a b p q
+
+-- no byte from which on a moment is said is passed over
+not_before : (job : Job) (line : List ℕ) (n k : ℕ) (said : Said)
+    → SaysNoneBefore greatest_year job line n → k < n → SaysNear greatest_year job (drop k line) (Ok said) → ⊥
+not_before job line n k said none below says =
+    let other = none k below in
+    let e : Ok said ≡ Err other.0 = one_near job (drop k line) (Ok said) (Err other.0) says other.1 in absurd cc
+
+-- what is said from one byte on is one
+same_said : (job : Job) (line : List ℕ) (i k : ℕ) (said other : Said) → i ≡ k
+    → SaysNear greatest_year job (drop i line) (Ok said) → SaysNear greatest_year job (drop k line) (Ok other) → said ≡ other
+same_said job line i k said other same p q =
+    let e : Ok said ≡ Ok other = one_near job (drop k line) (Ok said) (Ok other)
+    (subst (λ (n : ℕ). SaysNear greatest_year job (drop n line) (Ok said)) same p) q in cc
+
+same_pair : {A B : Type 0} (f g : A × B) → f.0 ≡ g.0 → f.1 ≡ g.1 → f ≡ g
+same_pair {A} {B} f g p q = ap (λ (i : A). (i, f.1)) p ∙ ap (λ (s : B). (g.0, s)) q
+
+one_first : (job : Job) (line : List ℕ) (a b : Option (ℕ × Said))
+    → IsFirst greatest_year job line a → IsFirst greatest_year job line b → a ≡ b
+one_first job line None None p q = refl
+one_first job line None (Some g) p q = absurd (not_before job line (length line) g.0 g.1 p q.0 q.1)
+one_first job line (Some f) None p q = absurd (not_before job line (length line) f.0 f.1 q p.0 p.1)
+one_first job line (Some f) (Some g) p q =
+    let low : f.0 < g.0 → ⊥ = λ below. not_before job line g.0 f.0 f.1 q.2 below p.1 in
+    let high : g.0 < f.0 → ⊥ = λ below. not_before job line f.0 g.0 g.1 p.2 below q.1 in
+    let same : f.0 ≡ g.0 = omega (arith, low, high) in
+    ap Some (same_pair f g same (same_said job line f.0 g.0 f.1 g.1 same p.1 q.1))
+
+-- what follows from the first such byte is one
+one_from : (job : Job) (found : Option (ℕ × Said)) (a b : Verdict)
+    → MatchOption found (a ≡ missed job) (λ f. IsPut greatest_year job f.0 f.1 a)
+    → MatchOption found (b ≡ missed job) (λ f. IsPut greatest_year job f.0 f.1 b) → a ≡ b
+one_from job None a b p q = p ∙ sym q
+one_from job (Some f) a b p q = one_put job f.0 f.1 a b p q
+
+one_anywhere : (job : Job) (line : List ℕ) (a b : Verdict)
+    → IsJudgedAnywhere greatest_year job line a → IsJudgedAnywhere greatest_year job line b → a ≡ b
+one_anywhere job line a b p q =
+    one_from job q.0 a b
+    (subst (λ (found : Option (ℕ × Said)). MatchOption found (a ≡ missed job) (λ f. IsPut greatest_year job f.0 f.1 a))
+    (one_first job line p.0 q.0 p.1 q.1) p.2) q.2
+
+one_judged : (job : Job) (place : Option Place) (line : List ℕ) (a b : Verdict)
+    → MatchOption place (IsJudgedAnywhere greatest_year job line a) (λ at. IsJudgedAt greatest_year job at line a)
+    → MatchOption place (IsJudgedAnywhere greatest_year job line b) (λ at. IsJudgedAt greatest_year job at line b) → a ≡ b
+one_judged job None line a b p q = one_anywhere job line a b p q
+one_judged job (Some place) line a b p q = one_found job place line (span_of place line) a b p q
+
 pub one_verdict : OneVerdict greatest_year
-one_verdict job line a b p q = one_found job line (span_of job.place line) _ a b p q
+one_verdict job line a b p q = one_judged job job.place line a b p q

@@ -1,13 +1,15 @@
 -- What becomes of a line. `Y` is the greatest year.
-use Rattle.std.specs.Prelude.{◌≡◌, ℕ, ◌+◌, ◌≤◌, Bool, true, false, MatchBool, ◌&&◌, not, int_lt, List, slice_range, if◌then◌else◌, Option, None, Some, Result, Ok, Err, MatchOption, MatchResult}
+use Rattle.std.specs.Prelude.{◌≡◌, ℕ, ◌+◌, ◌<◌, ◌≤◌, Bool, true, false, MatchBool, ◌&&◌, not, int_lt, List, length, take, drop, slice_range, if◌then◌else◌, Option, None, Some, Result, Ok, Err, MatchOption, MatchResult}
 use Rattle.time_values.specs.Moments.{offset_instant}
 use Rattle.time_values.specs.Shown.{Items}
 use Rattle.time_values.specs.declared.offset_date_time.OffsetDateTime.{OffsetDateTime}
 use Rattle.time_cutting.specs.Cuts.{span_of, is_open}
+use Rattle.time_cutting.specs.declared.cuts.Place.{Place}
 use Rattle.time_restamping.specs.Form.{IsWritten}
 use Rattle.time_restamping.specs.Reading.{IsReadInTurn}
 use Rattle.time_restamping.specs.Reason.{Reason, seen, missing}
 use Rattle.time_restamping.specs.declared.job.Job.{Job}
+use Rattle.time_restamping.specs.declared.job.TheConstants.{REACH}
 use Rattle.time_restamping.specs.declared.job.Verdict as declared
 use Rattle.time_restamping.specs.declared.job.Verdict.TheVariants as variant
 use Rattle.time_restamping.specs.declared.reading.Said.{Said}
@@ -46,15 +48,44 @@ IsPut Y job start said verdict = MatchBool (is_kept Y job said.moment)
     ((text : Result Items Reason) × IsWritten Y job.form said.moment text × (verdict ≡ verdict_of start said text))
     (verdict ≡ dropped)
 
--- The verdict on a line: its time is read by the first of the formats that reads it, and written anew where it lies
--- within the bounds.
-abbrev pub IsJudged : ℕ → Job → List ℕ → Verdict → Type 0
-IsJudged Y job line verdict =
-    MatchOption (span_of job.place line) (verdict ≡ (if job.asks_for_times then refused 1 missing else without))
+-- the verdict on a line that has no place for a time
+abbrev pub missed : Job → Verdict
+missed job = if job.asks_for_times then refused 1 missing else without
+
+-- The verdict on a line whose time stands at that place: it is read by the first of the formats that reads it, and
+-- written anew where it lies within the bounds.
+abbrev pub IsJudgedAt : ℕ → Job → Place → List ℕ → Verdict → Type 0
+IsJudgedAt Y job place line verdict =
+    MatchOption (span_of place line) (verdict ≡ missed job)
     (λ span. (read : Result Said Reason)
-    × IsReadInTurn Y job.first.now job.others.now (is_open job.place)
+    × IsReadInTurn Y job.first.now job.others.now (is_open place)
     (slice_range line span.start span.stop) job.defaults read
     × MatchResult read (λ said. IsPut Y job span.start said verdict) (λ e. verdict ≡ refused (span.start + 1) e))
+
+-- what a front of a text says, of which so many bytes count
+abbrev pub SaysNear : ℕ → Job → List ℕ → Result Said Reason → Type 0
+SaysNear Y job text read = IsReadInTurn Y job.first.now job.others.now true (take REACH text) job.defaults read
+
+-- From none of its first n bytes on a front of the line says a moment.
+abbrev pub SaysNoneBefore : ℕ → Job → List ℕ → ℕ → Type 0
+SaysNoneBefore Y job line n = (k : ℕ) → k < n → (e : Reason) × SaysNear Y job (drop k line) (Err e)
+
+-- The first byte from which on a front of the line says a moment, with what it says; or there is none.
+abbrev pub IsFirst : ℕ → Job → List ℕ → Option (ℕ × Said) → Type 0
+IsFirst Y job line None = SaysNoneBefore Y job line (length line)
+IsFirst Y job line (Some found) =
+    (found.0 < length line) × SaysNear Y job (drop found.0 line) (Ok found.1) × SaysNoneBefore Y job line found.0
+
+-- The verdict on a line whose time may stand anywhere.
+abbrev pub IsJudgedAnywhere : ℕ → Job → List ℕ → Verdict → Type 0
+IsJudgedAnywhere Y job line verdict =
+    (found : Option (ℕ × Said)) × IsFirst Y job line found
+    × MatchOption found (verdict ≡ missed job) (λ f. IsPut Y job f.0 f.1 verdict)
+
+-- the verdict on a line
+abbrev pub IsJudged : ℕ → Job → List ℕ → Verdict → Type 0
+IsJudged Y job line verdict =
+    MatchOption job.place (IsJudgedAnywhere Y job line verdict) (λ place. IsJudgedAt Y job place line verdict)
 
 -- what gives way stands within so many bytes
 abbrev pub IsWithin : ℕ → Verdict → Type 0

@@ -1,13 +1,15 @@
 -- How a time is read. `Y` is the greatest year.
-use Rattle.std.specs.Prelude.{◌≡◌, ℕ, ◌-◌, Bool, true, false, ◌&&◌, ◌==◌, List, [], ◌∷◌, length, take, slice_index, if◌then◌else◌, Option, None, Result, Ok, Err, MatchResult}
+use Rattle.std.specs.Prelude.{◌≡◌, ℕ, zero, suc, ◌-◌, ℤ, pos, ◌+ℤ◌, ◌-ℤ◌, int_lt, Bool, true, false, MatchBool, ◌&&◌, ◌==◌, List, [], ◌∷◌, length, take, slice_index, if◌then◌else◌, Option, None, Some, MatchOption, Result, Ok, Err, MatchResult}
 use Rattle.std.specs.List.{list_any}
+use Rattle.time_values.specs.Dates as Dates
+use Rattle.time_values.specs.Moments.{offset_date, offset_instant}
 use Rattle.time_values.specs.Refusal.{Refusal, refusal_of}
 use Rattle.time_values.specs.declared.error.Parse.{Parse}
 use Rattle.time_values.specs.declared.offset_date_time.OffsetDateTime.{OffsetDateTime}
 use Rattle.time_descriptions.specs.Description.{shape}
 use Rattle.time_readers.specs.Direct.{RefusesRfc3339, RefusesRfc2822}
 use Rattle.time_record.specs.Reading as Description
-use Rattle.time_record.specs.Record.{Record}
+use Rattle.time_record.specs.Record.{Record, put, year_is}
 use Rattle.time_record.specs.Resolution.{IsMoment}
 use Rattle.time_parsing.specs.Outcome.{Refusing, Path, over_record, direct, begun, IsFront, IsMomentOutcome}
 use Rattle.time_parsing.specs.Outcome as Outcome
@@ -18,6 +20,8 @@ use Rattle.time_restamping.specs.Reason.{Reason, unread, negative_fraction}
 use Rattle.time_restamping.specs.declared.reading.Reading.{Reading}
 use Rattle.time_restamping.specs.declared.reading.Reading.TheVariants as reading
 use Rattle.time_restamping.specs.declared.reading.Said.{Said}
+use Rattle.time_restamping.specs.declared.reading.Defaults.{Defaults}
+use Rattle.time_restamping.specs.declared.reading.Undated as declared
 
 -- a moment that so many bytes say
 abbrev pub said : OffsetDateTime → ℕ → Said
@@ -85,15 +89,65 @@ Says Y format is_open text defaults result =
     (outcome : Result Said Refusal) × IsRead Y format is_open text defaults outcome
     × (result ≡ guarded format text outcome)
 
+-- the one moment lies after the other
+abbrev pub is_after : ℕ → OffsetDateTime → OffsetDateTime → Bool
+is_after Y v w = int_lt (offset_instant Y w) (offset_instant Y v)
+
+-- a text that is read by a format, a record of what it leaves out but for its year, and the moment that it isn't after
+pub record Undated : Type 0 where
+  pub format : Reading
+  pub is_open : Bool
+  pub text : List ℕ
+  pub defaults : Record
+  pub latest : OffsetDateTime
+
+abbrev pub undated : Reading → Bool → List ℕ → Record → OffsetDateTime → Undated
+undated format is_open text defaults latest =
+    record { format = format; is_open = is_open; text = text; defaults = defaults; latest = latest }
+
+-- the same of a value
+abbrev pub seen_undated : declared.Undated → Undated
+seen_undated u = undated u.reading.now u.is_open u.text.now u.parts u.latest
+
+-- the year after that of a moment on its clock
+abbrev pub year_after : OffsetDateTime → ℤ
+year_after v = Dates.year (offset_date v) +ℤ pos 1
+
+-- What a text says in a year, where that is one.
+abbrev pub IsReadInYear : ℕ → Undated → ℤ → Option (Result Said Reason) → Type 0
+IsReadInYear Y u year result =
+    MatchOption (put Y (year_is year) u.defaults) (result ≡ None)
+    (λ dated. (read : Result Said Reason) × Says Y u.format u.is_open u.text (Some dated) read × (result ≡ Some read))
+
+-- What it says in the first of so many years, from that one down, in which it says a moment that isn't too late; or else
+-- the last reason.
+unfoldable pub AreYearsTried : ℕ → Undated → ℕ → ℤ → Reason → Result Said Reason → Type 0
+AreYearsTried Y u zero year reason result = result ≡ Err reason
+AreYearsTried Y u (suc n) year reason result =
+    (read : Option (Result Said Reason)) × IsReadInYear Y u year read
+    × MatchOption read (AreYearsTried Y u n (year -ℤ pos 1) reason result)
+    (λ r. MatchResult r
+    (λ s. MatchBool (is_after Y s.moment u.latest) (AreYearsTried Y u n (year -ℤ pos 1) reason result) (result ≡ Ok s))
+    (λ why. AreYearsTried Y u n (year -ℤ pos 1) why result))
+
+-- What a text says by a format; where it says nothing so, it may leave its year out, and says the latest moment that isn't
+-- after a given one.
+abbrev pub IsDated : ℕ → Reading → Bool → List ℕ → Defaults → Result Said Reason → Type 0
+IsDated Y format is_open text defaults result =
+    (plain : Result Said Reason) × Says Y format is_open text defaults.parts plain
+    × MatchResult plain (λ s. result ≡ Ok s)
+    (λ reason. MatchOption defaults.latest (result ≡ Err reason)
+    (λ latest. AreYearsTried Y (undated format is_open text (begun defaults.parts) latest) 10 (year_after latest) reason result))
+
 -- what it says by the first of these formats by which it says something, or else that reason
-abbrev pub AreTried : ℕ → List Reading → Bool → List ℕ → Option Record → Reason → Result Said Reason → Type 0
+abbrev pub AreTried : ℕ → List Reading → Bool → List ℕ → Defaults → Reason → Result Said Reason → Type 0
 AreTried Y [] is_open text defaults reason result = result ≡ Err reason
 AreTried Y (format ∷ formats) is_open text defaults reason result =
-    (first : Result Said Reason) × Says Y format is_open text defaults first
+    (first : Result Said Reason) × IsDated Y format is_open text defaults first
     × MatchResult first (λ s. result ≡ Ok s) (λ _. AreTried Y formats is_open text defaults reason result)
 
 -- the same, where the reason is that of the first format
-abbrev pub IsReadInTurn : ℕ → Reading → List Reading → Bool → List ℕ → Option Record → Result Said Reason → Type 0
+abbrev pub IsReadInTurn : ℕ → Reading → List Reading → Bool → List ℕ → Defaults → Result Said Reason → Type 0
 IsReadInTurn Y format formats is_open text defaults result =
-    (first : Result Said Reason) × Says Y format is_open text defaults first
+    (first : Result Said Reason) × IsDated Y format is_open text defaults first
     × MatchResult first (λ s. result ≡ Ok s) (λ reason. AreTried Y formats is_open text defaults reason result)

@@ -47,6 +47,7 @@ pub struct Form {
 }
 
 // A text, or that there is none.
+#[inline(always)]
 fn written(text: Result<Text, Unwritable>) -> Result<Text, Reason>
     ensures { seen_written result ≡ spec.written text }
 {
@@ -57,6 +58,7 @@ fn written(text: Result<Text, Unwritable>) -> Result<Text, Reason>
 }
 
 // The moment on a clock with the offset, if one is given.
+#[inline(always)]
 fn shown(moment: OffsetDateTime, offset: Option<UtcOffset>) -> Option<OffsetDateTime>
     ensures { spec.IsShown greatest_year offset moment result }
 {
@@ -67,6 +69,7 @@ fn shown(moment: OffsetDateTime, offset: Option<UtcOffset>) -> Option<OffsetDate
 }
 
 // A number that has at most 64 bits.
+#[inline(always)]
 fn number(count: i64) -> Text
     ensures { result.items ≡ signed_decimal count }
 {
@@ -104,6 +107,7 @@ fn write_count(moment: OffsetDateTime, unit: Unit) -> Result<Text, Reason>
 }
 
 /// The text of the moment, or why it has none.
+#[inline(always)]
 pub fn write_moment(moment: OffsetDateTime, form: Form) -> Result<Text, Reason>
     ensures { spec.IsWritten greatest_year form moment (seen_written result) }
 {

@@ -1,28 +1,31 @@
 //! What becomes of a line.
-ghost use Rattle.std.specs.Prelude.{◌≡◌, ◌≤◌, ◌<◌, ◌+◌, ◌^◌, length};
+ghost use Rattle.std.specs.Prelude.{◌≡◌, ◌≤◌, ◌<◌, ◌+◌, ◌^◌, length, IfOk, IfSome};
 ghost use Rattle.time_values.specs.Range.{greatest_year};
 ghost use Rattle.time_restamping.specs.Job as spec;
+ghost use Rattle.time_restamping.specs.Reason.{seen_read};
 
 use crate::form::{Form, write_moment};
-use crate::reading::{Reading, Said, read_in_turn};
+use crate::reading::{Defaults, Reading, Said, read_in_turn};
 use crate::reason::Reason;
 use std::cmp::Ordering;
 use time_cutting::{Place, find_span};
-use time_record::Parsed;
 use time_values::OffsetDateTime;
 use time_values::text::Text;
+
+/// How many bytes a time may have of which it isn't known where it stands.
+pub const REACH: usize = 256;
 
 /// What is done with each line.
 #[derive(Clone, Copy)]
 pub struct Job<'a> {
-    /// Where its time stands.
-    pub place: Place<'a>,
+    /// Where its time stands; `None` is the first place from which on a format reads one.
+    pub place: Option<Place<'a>>,
     /// The format that reads it.
     pub first: &'a Reading,
     /// The formats that are tried in turn where that one doesn't.
     pub others: &'a [Reading],
     /// What stands for what a time leaves out.
-    pub defaults: Option<Parsed>,
+    pub defaults: Defaults,
     /// How it is written.
     pub form: Form,
     /// Drops lines whose time is before.
@@ -59,6 +62,7 @@ pub enum Verdict {
 }
 
 // Whether the moment lies before the bound; `otherwise` where there is none.
+#[inline(always)]
 fn is_before(moment: OffsetDateTime, bound: Option<OffsetDateTime>, otherwise: bool) -> bool
     ensures { result ≡ spec.is_before greatest_year moment bound otherwise }
 {
@@ -70,6 +74,7 @@ fn is_before(moment: OffsetDateTime, bound: Option<OffsetDateTime>, otherwise: b
 
 impl Job<'_> {
     // Whether the moment lies within the bounds.
+    #[inline(always)]
     fn keeps(&self, moment: OffsetDateTime) -> bool
         ensures { result ≡ spec.is_kept greatest_year self.now moment }
     {
@@ -77,6 +82,7 @@ impl Job<'_> {
     }
 
     // The verdict on a line of which some bytes say a moment.
+    #[inline(always)]
     fn put(&self, start: usize, said: Said) -> Verdict
         requires { start + 1 < 2 ^ 64 }
         ensures put { spec.IsPut greatest_year self.now start said (spec.seen_verdict result) }
@@ -98,24 +104,32 @@ impl Job<'_> {
         }
     }
 
-    /// The verdict on a line, which has no LF. A time that is refused leaves the line as it is.
-    pub fn judge(&self, line: &[u8]) -> Verdict
-        ensures verdict { spec.IsJudged greatest_year self.now line.now (spec.seen_verdict result) }
+    // The verdict on a line that has no place for a time.
+    fn miss(&self) -> Verdict
+        ensures { spec.seen_verdict result ≡ spec.missed self.now }
+    {
+        if self.asks_for_times {
+            return Verdict::Refused {
+                column: 1,
+                reason: Reason::Missing,
+            };
+        }
+        Verdict::Without
+    }
+
+    // The verdict on a line whose time stands at that place.
+    #[inline(always)]
+    fn judge_at(&self, place: Place<'_>, line: &[u8]) -> Verdict
+        ensures verdict { spec.IsJudgedAt greatest_year self.now place.entry line.now (spec.seen_verdict result) }
         ensures within { spec.IsWithin (length line.now) (spec.seen_verdict result) }
     {
-        let Some(span) = find_span(self.place, line) else {
-            if self.asks_for_times {
-                return Verdict::Refused {
-                    column: 1,
-                    reason: Reason::Missing,
-                };
-            }
-            return Verdict::Without;
+        let Some(span) = find_span(place, line) else {
+            return self.miss();
         };
         match read_in_turn(
             self.first,
             self.others,
-            self.place.is_open(),
+            place.is_open(),
             &line[span.start..span.stop],
             &self.defaults,
         ) {
@@ -124,6 +138,54 @@ impl Job<'_> {
                 column: span.start + 1,
                 reason,
             },
+        }
+    }
+
+    // What a front of the text says, of which so many bytes count.
+    fn read_near(&self, text: &[u8]) -> Result<Said, Reason>
+        ensures said { spec.SaysNear greatest_year self.now text.now (seen_read result) }
+        ensures within { IfOk result (λ said. said.length ≤ length text.now) }
+    {
+        let near = &text[..REACH.min(text.len())];
+        read_in_turn(self.first, self.others, true, near, &self.defaults)
+    }
+
+    // The first place of the line from which on a front says a moment, and what it says.
+    fn find_first(&self, line: &[u8]) -> Option<(usize, Said)>
+        ensures first { spec.IsFirst greatest_year self.now line.now result }
+        ensures within { IfSome result (λ found. found.0 + found.1.length ≤ length line.now) }
+    {
+        for start in 0..line.len() {
+            if let Ok(said) = self.read_near(&line[start..]) {
+                return Some((start, said));
+            }
+        }
+        None
+    }
+
+    // The verdict on a line whose time may stand anywhere.
+    fn judge_anywhere(&self, line: &[u8]) -> Verdict
+        ensures verdict { spec.IsJudgedAnywhere greatest_year self.now line.now (spec.seen_verdict result) }
+        ensures within { spec.IsWithin (length line.now) (spec.seen_verdict result) }
+    {
+        match self.find_first(line) {
+            Some((start, said)) => self.put(start, said),
+            None => self.miss(),
+        }
+    }
+
+    /// The verdict on a line, which has no LF. A time that is refused leaves the line as it is.
+    ///
+    /// Where no place is given the time begins at the first byte from which on a format reads one, of which at most
+    /// [`REACH`] bytes count. A line with no such byte has no place for a time.
+    #[inline(always)]
+    pub fn judge(&self, line: &[u8]) -> Verdict
+        ensures verdict { spec.IsJudged greatest_year self.now line.now (spec.seen_verdict result) }
+        ensures within { spec.IsWithin (length line.now) (spec.seen_verdict result) }
+    {
+        match self.place {
+            Some(place) => self.judge_at(place, line),
+            None => self.judge_anywhere(line),
         }
     }
 }

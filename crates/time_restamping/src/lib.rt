@@ -9,7 +9,7 @@ mod reading;
 mod reason;
 
 pub use form::{Form, Unit, Writing, write_moment};
-pub use job::{Job, Verdict};
+pub use job::{Job, REACH, Verdict};
 pub use naming::{FormatFault, find_reading, find_writing};
-pub use reading::{MOST_STEPS, Reading, Said, read, read_in_turn};
+pub use reading::{Defaults, MOST_STEPS, Reading, Said, read, read_dated, read_in_turn};
 pub use reason::Reason;

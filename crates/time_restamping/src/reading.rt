@@ -1,10 +1,13 @@
 //! How a time is read.
-ghost use Rattle.std.specs.Prelude.{◌≡◌, ◌≤◌, length, take, IfOk};
+ghost use Rattle.std.specs.Option.{option_map};
+ghost use Rattle.std.specs.Prelude.{◌≡◌, ◌≤◌, ◌≤ℤ◌, ◌-ℤ◌, neg_ℤ, pos, length, take, IfOk, IfSome};
 ghost use Rattle.time_values.specs.Range.{greatest_year};
+ghost use Rattle.time_parsing.specs.Outcome as outcome;
 ghost use Rattle.time_restamping.specs.Reading as spec;
 ghost use Rattle.time_restamping.specs.Reason.{seen, seen_read};
 
 use crate::reason::Reason;
+use std::cmp::Ordering;
 use time_descriptions::Description;
 use time_parsing::{Iso8601, Parsable, Rfc2822, Rfc3339};
 use time_record::Parsed;
@@ -29,6 +32,15 @@ pub enum Reading {
     Counted(Description<MOST_STEPS>),
 }
 
+/// What stands for what a time leaves out.
+#[derive(Clone, Copy)]
+pub struct Defaults {
+    /// Parts of a moment.
+    pub parts: Option<Parsed>,
+    /// A time that has no year either is the latest that isn't after this moment.
+    pub latest: Option<OffsetDateTime>,
+}
+
 /// What a text says, or a front of it.
 #[derive(Clone, Copy, Debug)]
 pub struct Said {
@@ -40,6 +52,7 @@ pub struct Said {
 
 impl Reading {
     // Whether a fraction after a minus is refused.
+    #[inline(always)]
     fn is_counted(&self) -> bool
         ensures { result ≡ spec.is_counted self.now }
     {
@@ -77,6 +90,7 @@ fn read_by<F: Parsable>(
 }
 
 // The same by any of the formats. Those that say all of a moment need no defaults.
+#[inline(always)]
 fn read_plain(
     reading: &Reading,
     is_open: bool,
@@ -123,19 +137,110 @@ pub fn read(
     Ok(said)
 }
 
+// Whether the moment lies after another.
+fn is_after(moment: OffsetDateTime, other: OffsetDateTime) -> bool
+    ensures { result ≡ spec.is_after greatest_year moment other }
+{
+    moment.cmp_instant(other) == Ordering::Greater
+}
+
+// A text with no year, and the moment that it isn't after.
+#[derive(Clone, Copy)]
+struct Undated<'a> {
+    reading: &'a Reading,
+    is_open: bool,
+    text: &'a [u8],
+    parts: Parsed,
+    latest: OffsetDateTime,
+}
+
+impl Undated<'_> {
+    // What the text says in that year.
+    fn read_in_year(&self, year: i32) -> Option<Result<Said, Reason>>
+        ensures said { spec.IsReadInYear greatest_year (spec.seen_undated self.now) year (option_map seen_read result) }
+        ensures within { IfSome result (λ read. IfOk read (λ said. said.length ≤ length self.now.text.now)) }
+    {
+        let dated = self.parts.with_year(year)?;
+        Some(read(self.reading, self.is_open, self.text, &Some(dated)))
+    }
+
+    // What it says in the first of so many years, from that one down, in which it says a moment that isn't too late.
+    #[inline(never)]
+    fn read_years(&self, year: i32, count: u8, reason: Reason) -> Result<Said, Reason>
+        requires { neg_ℤ (pos 2_000_000) ≤ℤ (year -ℤ pos count) }
+        ensures said { spec.AreYearsTried greatest_year (spec.seen_undated self.now) count year (seen reason) (seen_read result) }
+        ensures within { IfOk result (λ said. said.length ≤ length self.now.text.now) }
+    {
+        if count == 0 {
+            return Err(reason);
+        }
+        let before = year - 1;
+        match self.read_in_year(year) {
+            Some(Ok(said)) => {
+                if is_after(said.moment, self.latest) {
+                    return self.read_years(before, count - 1, reason);
+                }
+                Ok(said)
+            }
+            Some(Err(why)) => self.read_years(before, count - 1, why),
+            None => self.read_years(before, count - 1, reason),
+        }
+    }
+}
+
+// The parts that defaults have, or none.
+fn begun(parts: Option<Parsed>) -> Parsed
+    ensures { result ≡ outcome.begun parts }
+{
+    match parts {
+        Some(parts) => parts,
+        None => Parsed::new(),
+    }
+}
+
+/// What the text says by the format; where it leaves the year out, the latest moment that isn't after the one that is
+/// given. Of the years from the one after that moment's down, ten are tried, since 29 February may be missing in seven in a
+/// row.
+#[inline(always)]
+pub fn read_dated(
+    reading: &Reading,
+    is_open: bool,
+    text: &[u8],
+    defaults: &Defaults,
+) -> Result<Said, Reason>
+    ensures said { spec.IsDated greatest_year reading.now is_open text.now defaults.now (seen_read result) }
+    ensures within { IfOk result (λ said. said.length ≤ length text.now) }
+{
+    let reason = match read(reading, is_open, text, &defaults.parts) {
+        Ok(said) => return Ok(said),
+        Err(reason) => reason,
+    };
+    let Some(latest) = defaults.latest else {
+        return Err(reason);
+    };
+    let undated = Undated {
+        reading,
+        is_open,
+        text,
+        parts: begun(defaults.parts),
+        latest,
+    };
+    undated.read_years(latest.year() + 1, 10, reason)
+}
+
 // What the first says of the formats that says something; or else the reason that is given.
 fn read_others(
     readings: &[Reading],
     is_open: bool,
     text: &[u8],
-    defaults: &Option<Parsed>,
+    defaults: &Defaults,
     reason: Reason,
 ) -> Result<Said, Reason>
     ensures said { spec.AreTried greatest_year readings.now is_open text.now defaults.now (seen reason) (seen_read result) }
     ensures within { IfOk result (λ said. said.length ≤ length text.now) }
 {
     for reading in readings {
-        if let Ok(said) = read(reading, is_open, text, defaults) {
+        if let Ok(said) = read_dated(reading, is_open, text, defaults) {
             return Ok(said);
         }
     }
@@ -143,17 +248,18 @@ fn read_others(
 }
 
 /// What the text says by the first of the formats by which it says something; the reason is that of the first.
+#[inline(always)]
 pub fn read_in_turn(
     first: &Reading,
     others: &[Reading],
     is_open: bool,
     text: &[u8],
-    defaults: &Option<Parsed>,
+    defaults: &Defaults,
 ) -> Result<Said, Reason>
     ensures said { spec.IsReadInTurn greatest_year first.now others.now is_open text.now defaults.now (seen_read result) }
     ensures within { IfOk result (λ said. said.length ≤ length text.now) }
 {
-    match read(first, is_open, text, defaults) {
+    match read_dated(first, is_open, text, defaults) {
         Ok(said) => Ok(said),
         Err(reason) => read_others(others, is_open, text, defaults, reason),
     }

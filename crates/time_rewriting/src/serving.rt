@@ -14,13 +14,18 @@ use crate::rewriting::Rewriting;
 use crate::settings::{File, Settings};
 use crate::stop::Stop;
 use crate::stream::Stream;
+use crate::waiting::Unwritten;
 use std::io;
 use std::io::{ErrorKind, Read, Write};
 
 impl<W: Write, L: Write> Stream<W, L> {
     // Passes or drops what comes of a line whose front was answered, if there is one. What comes after it is returned, if it
     // ends.
-    fn end_line<'a>(&mut self, bytes: &'a [u8], rest: &mut Rest) -> io::Result<Option<&'a [u8]>>
+    fn end_line<'a>(
+        &mut self,
+        bytes: &'a [u8],
+        rest: &mut Rest,
+    ) -> Result<Option<&'a [u8]>, Unwritten>
         ensures line { IfOk result (λ left. MatchOption left
             ((rest.new ≡ rest.old) × HasFront rest.old
             × GoesOn (held_out W.contents self.old) (held_out W.contents self.new) rest.old bytes.now)

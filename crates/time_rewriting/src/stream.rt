@@ -1,7 +1,7 @@
 //! Where answers go.
 ghost use Rattle.std.specs.Io.KnownBytes.{Appends};
 ghost use Rattle.std.specs.Prelude.{◌≡◌, ◌≤◌, ℕ, List, IfOk, IfErr, [], ◌∷◌, OnOk, length, IsTrue, false};
-ghost use Rattle.time_rewriting.specs.Answers.{Did, IsReport, Closes, job_of};
+ghost use Rattle.time_rewriting.specs.Answers.{Did, IsNaming, IsReport, Closes, job_of};
 ghost use Rattle.time_rewriting.specs.Fates.{IsWithin, front_text, passed, rest_of, nothing_counted};
 ghost use Rattle.time_rewriting.specs.Held.{held_out, held_state, Settles, StoppedBy, FailedBy};
 ghost use Rattle.time_rewriting.specs.Lines.{unended};
@@ -15,7 +15,7 @@ use crate::rewriting::Rewriting;
 use crate::settings::{File, Output};
 use crate::stop::Stop;
 use crate::tally::Tally;
-use crate::waiting::Waiting;
+use crate::waiting::{Unwritten, Waiting};
 use std::io;
 use std::io::Write;
 
@@ -65,7 +65,7 @@ impl<W: Write, L: Write> Stream<W, L> {
 
     // Puts bytes after what waits.
     #[inline(always)]
-    fn put(&mut self, bytes: &[u8]) -> io::Result<()>
+    fn put(&mut self, bytes: &[u8]) -> Result<(), Unwritten>
         ensures put { OnOk result (Appends (held_out W.contents self.old) (held_out W.contents self.new) bytes.now) }
         ensures log { self.new.log ≡ self.old.log }
         ensures tally { self.new.tally ≡ self.old.tally }
@@ -74,7 +74,8 @@ impl<W: Write, L: Write> Stream<W, L> {
     }
 
     // Puts bytes that come after the front of a line, unless it is dropped.
-    pub(crate) fn pass(&mut self, bytes: &[u8], rest: Rest) -> io::Result<()>
+    #[inline(always)]
+    pub(crate) fn pass(&mut self, bytes: &[u8], rest: Rest) -> Result<(), Unwritten>
         ensures passed { OnOk result
             (Appends (held_out W.contents self.old) (held_out W.contents self.new) (passed rest bytes.now)) }
         ensures log { self.new.log ≡ self.old.log }
@@ -137,16 +138,20 @@ impl<W: Write, L: Write> Stream<W, L> {
     }
 
     // Writes what waits, and what the log holds back.
-    pub(crate) fn settle(&mut self) -> io::Result<()>
+    pub(crate) fn settle(&mut self) -> Result<(), Unwritten>
         ensures written { OnOk result (Settles (held_state W.contents L.contents self.old) (state_of W.contents L.contents self.new)) }
         ensures none { OnOk result (self.new.waiting.items ≡ []) }
     {
         self.waiting.write_all_to(&mut self.out)?;
-        self.log.flush()
+        match self.log.flush() {
+            Ok(()) => Ok(()),
+            Err(_) => Err(Unwritten),
+        }
     }
 
     // Puts what goes out for the front of a line.
-    fn put_front(&mut self, output: Output, front: &[u8], fate: &Fate) -> io::Result<()>
+    #[inline(always)]
+    fn put_front(&mut self, output: Output, front: &[u8], fate: &Fate) -> Result<(), Unwritten>
         requires { IsWithin fate.now front.now }
         ensures put { OnOk result
             (Appends (held_out W.contents self.old) (held_out W.contents self.new) (front_text output front.now fate.now)) }
@@ -168,14 +173,37 @@ impl<W: Write, L: Write> Stream<W, L> {
         }
     }
 
+    // Writes the report of a refused line that was counted.
+    #[inline(never)]
+    fn write_report<T: Rewriting>(
+        &mut self,
+        rewriting: &T,
+        file: &File<'_>,
+        front: &[u8],
+    ) -> io::Result<()>
+        requires { T.is_fate rewriting.now front.now Fate.Refused }
+        ensures reported { OnOk result ((report : List ℕ)
+            × IsNaming (job_of (T.is_fate rewriting.now) (T.is_reason rewriting.now) file.now.name.now file.now.settings) self.old.tally front.now report
+            × Appends (L.contents self.old.log) (L.contents self.new.log) report) }
+        ensures out { self.new.out ≡ self.old.out }
+        ensures waiting { self.new.waiting ≡ self.old.waiting }
+        ensures tally { self.new.tally ≡ self.old.tally }
+    {
+        self.log.write_all(file.name)?;
+        write!(self.log, ":{}:", self.tally.line)?;
+        rewriting.write_reason(front, &mut self.log)?;
+        self.log.write_all(b"\n")
+    }
+
     // Writes the report of a line that was counted, where it is refused and the log names it.
+    #[inline(always)]
     fn report<T: Rewriting>(
         &mut self,
         rewriting: &T,
         file: &File<'_>,
         front: &[u8],
         fate: &Fate,
-    ) -> io::Result<()>
+    ) -> Result<(), Unwritten>
         requires { T.is_fate rewriting.now front.now fate.now }
         ensures reported { OnOk result ((report : List ℕ)
             × IsReport (job_of (T.is_fate rewriting.now) (T.is_reason rewriting.now) file.now.name.now file.now.settings) self.old.tally front.now fate.now report
@@ -187,13 +215,14 @@ impl<W: Write, L: Write> Stream<W, L> {
         if !file.settings.reports.names(&self.tally, fate) {
             return Ok(());
         }
-        self.log.write_all(file.name)?;
-        write!(self.log, ":{}:", self.tally.line)?;
-        rewriting.write_reason(front, &mut self.log)?;
-        self.log.write_all(b"\n")
+        match self.write_report(rewriting, file, front) {
+            Ok(()) => Ok(()),
+            Err(_) => Err(Unwritten),
+        }
     }
 
     // Answers, reports and counts a line by its front. What becomes of what comes after it is returned.
+    #[inline(always)]
     pub(crate) fn begin<T: Rewriting>(
         &mut self,
         rewriting: &T,

@@ -4,9 +4,12 @@ ghost use Rattle.std.specs.Prelude.{◌≡◌, ◌≤◌, [], ◌++◌, take, On
 ghost use Rattle.time_rewriting.specs.Lines.{Items};
 ghost use Rattle.time_rewriting.specs.declared.waiting.TheConstants.{MOST};
 
-use std::io;
 use std::io::Write;
 use std::marker::Model;
+
+/// A write failed. The reason is left out, since an error of 96 bytes would be handed on for each line.
+#[derive(Clone, Copy)]
+pub struct Unwritten;
 
 // How many bytes may wait.
 const MOST: usize = 65536;
@@ -38,21 +41,23 @@ impl Waiting {
     }
 
     /// Writes what waits.
-    pub fn write_all_to<W: Write>(&mut self, out: &mut W) -> io::Result<()>
+    pub fn write_all_to<W: Write>(&mut self, out: &mut W) -> Result<(), Unwritten>
         ensures written { OnOk result (Appends (W.contents out.old) (W.contents out.new) self.old.items) }
         ensures none { OnOk result (self.new.items ≡ []) }
     {
         if self.len == 0 {
             return Ok(());
         }
-        out.write_all(&self.array[..self.len])?;
+        let Ok(()) = out.write_all(&self.array[..self.len]) else {
+            return Err(Unwritten);
+        };
         self.len = 0;
         Ok(())
     }
 
     /// Puts bytes after what waits, which is written first where they don't fit.
     #[inline(always)]
-    pub fn put<W: Write>(&mut self, bytes: &[u8], out: &mut W) -> io::Result<()>
+    pub fn put<W: Write>(&mut self, bytes: &[u8], out: &mut W) -> Result<(), Unwritten>
         ensures { OnOk result (Appends (append_known (W.contents out.old) self.old.items)
             (append_known (W.contents out.new) self.new.items) bytes.now) }
     {
@@ -67,12 +72,15 @@ impl Waiting {
 
     // The same where they don't fit.
     #[inline(never)]
-    fn put_many<W: Write>(&mut self, bytes: &[u8], out: &mut W) -> io::Result<()>
+    fn put_many<W: Write>(&mut self, bytes: &[u8], out: &mut W) -> Result<(), Unwritten>
         ensures { OnOk result (Appends (append_known (W.contents out.old) self.old.items)
             (append_known (W.contents out.new) self.new.items) bytes.now) }
     {
         self.write_all_to(out)?;
-        out.write_all(bytes)
+        match out.write_all(bytes) {
+            Ok(()) => Ok(()),
+            Err(_) => Err(Unwritten),
+        }
     }
 
     /// Forgets them.

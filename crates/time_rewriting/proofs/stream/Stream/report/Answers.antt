@@ -1,17 +1,10 @@
 use Rattle.std.proofs.Common.{[], refl}
 use Rattle.std.proofs.KnownBytes.{Appends-nil}
-use Rattle.time_rewriting.proofs.ReportLemmas.{Appends-report, OnOk-map}
 use Rattle.time_rewriting.proofs.stream.Stream.report.Goals as goal
 
 pub returns-then-not-names-clause-reported : goal.returns-then-not-names-clause-reported
 returns-then-not-names-clause-reported g c = ([], rw (← c.if-not-names.ensures.names) refl, Appends-nil _)
 
-pub returns-clause-reported : goal.returns-clause-reported
-returns-clause-reported g c =
-    let why = c.in_ok-write_reason.ensures in
-    OnOk-map c.write_all-2.result _ _ c.write_all-2.ensures.bytes
-    (λ end. (
-      _,
-      rw (← c.if-not-names.ensures.names) (why.0, why.1, why.2, refl),
-      Appends-report _ _ _ _ _ c.args.file.now.name.now _ why.0 why.1 c.in_ok-write_all.ensures.bytes c.in_ok-write.ensures.bytes why.3 end,
-    ))
+pub returns-in-Ok-clause-reported : goal.returns-in-Ok-clause-reported
+returns-in-Ok-clause-reported g c =
+    let told = c.in-Ok.ensures.reported in (told.0, rw (← c.if-not-names.ensures.names) told.1, told.2)

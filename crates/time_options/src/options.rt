@@ -2,17 +2,19 @@
 ghost use Rattle.std.specs.Prelude.{◌≡◌, unwrap_or, [], codes};
 ghost use Rattle.std.specs.Option.{option_map};
 ghost use Rattle.clap.specs.Matches.{found_of, first_value};
-ghost use Rattle.time_commanding.specs.Options as spec;
+ghost use Rattle.time_options.specs.Options as spec;
 
 use clap::ArgMatches;
 
-/// What the words of the command line give, before it is known what they mean.
+/// What the words of the command line give, before it is known what they mean: flags, and the texts of the others.
 #[derive(Clone, Copy)]
 pub struct Options<'m, 'a> {
     /// `--front`.
     pub front: bool,
+    /// `--anywhere`.
+    pub anywhere: bool,
     /// `--field`.
-    pub field: Option<usize>,
+    pub field: Option<&'a str>,
     /// `--delimiter`.
     pub delimiter: &'a str,
     /// `--blanks`.
@@ -28,13 +30,17 @@ pub struct Options<'m, 'a> {
     /// Each `--from`.
     pub formats: Option<&'m [&'a str]>,
     /// `--year`.
-    pub year: Option<i32>,
+    pub year: Option<&'a str>,
+    /// `--latest`.
+    pub latest: Option<&'a str>,
     /// `--offset`.
     pub offset: &'a str,
     /// `--to`.
     pub to: &'a str,
-    /// `--zone`, or `utc` by `--utc`.
+    /// `--zone`.
     pub zone: &'a str,
+    /// `--utc`.
+    pub utc: bool,
     /// `--digits`.
     pub digits: &'a str,
     /// `--only`.
@@ -48,7 +54,9 @@ pub struct Options<'m, 'a> {
     /// `--quiet`.
     pub quiet: bool,
     /// `--errors`.
-    pub errors: u64,
+    pub errors: &'a str,
+    /// `--color`.
+    pub color: &'a str,
     /// `--strict`.
     pub strict: bool,
     /// `--keep-going`.
@@ -90,7 +98,8 @@ impl<'m, 'a> Options<'m, 'a> {
     {
         Options {
             front: matches.get_flag("front"),
-            field: matches.get_one::<usize>("field"),
+            anywhere: matches.get_flag("anywhere"),
+            field: matches.get_str("field"),
             delimiter: text_of(matches, "delimiter"),
             blanks: matches.get_flag("blanks"),
             csv: matches.get_flag("csv"),
@@ -98,21 +107,20 @@ impl<'m, 'a> Options<'m, 'a> {
             after: matches.get_str("after"),
             from: first_format(matches),
             formats: matches.get_strs("from"),
-            year: matches.get_one::<i32>("year"),
+            year: matches.get_str("year"),
+            latest: matches.get_str("latest"),
             offset: text_of(matches, "offset"),
             to: text_of(matches, "to"),
-            zone: if matches.get_flag("utc") {
-                "utc"
-            } else {
-                text_of(matches, "zone")
-            },
+            zone: text_of(matches, "zone"),
+            utc: matches.get_flag("utc"),
             digits: text_of(matches, "digits"),
             only: matches.get_flag("only"),
             since: matches.get_str("since"),
             until: matches.get_str("until"),
             drop_refused: matches.get_flag("drop-refused"),
             quiet: matches.get_flag("quiet"),
-            errors: matches.get_one::<u64>("errors").unwrap_or(10),
+            errors: text_of(matches, "errors"),
+            color: text_of(matches, "color"),
             strict: matches.get_flag("strict"),
             keep_going: matches.get_flag("keep-going"),
         }

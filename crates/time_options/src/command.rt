@@ -1,5 +1,5 @@
 //! The options that there are.
-use clap::{Arg, ArgAction, ArgGroup, Command, value_parser};
+use clap::{Arg, ArgAction, ArgGroup, Command};
 use std::alloc::{AllocError, Global};
 
 const EXAMPLES: &str = "Examples:
@@ -35,9 +35,12 @@ fn option<'a>(alloc: Global, name: &'a str, value: &'a str, help: &'a str) -> Ar
 // Where a line's time stands.
 fn add_places(alloc: Global, command: Command<'_>) -> Result<Command<'_>, AllocError> {
     let front = flag(alloc, "front", "The line begins with it").short('l');
-    let field = option(alloc, "field", "N", "Field N, from 1")
-        .short('k')
-        .value_parser(value_parser!(usize).range(1..));
+    let anywhere = flag(
+        alloc,
+        "anywhere",
+        "It stands at the first place where a format reads",
+    );
+    let field = option(alloc, "field", "N", "Field N, from 1").short('k');
     let between = option(
         alloc,
         "between",
@@ -49,12 +52,14 @@ fn add_places(alloc: Global, command: Command<'_>) -> Result<Command<'_>, AllocE
     let after = option(alloc, "after", "KEY", "After KEY, to where its format ends").short('a');
     let places = ArgGroup::new(alloc, "place")
         .arg("front")?
+        .arg("anywhere")?
         .arg("field")?
         .arg("between")?
         .arg("after")?;
     command
         .next_help_heading("Where the time stands (else the whole line is the time)")
         .arg(front)?
+        .arg(anywhere)?
         .arg(field)?
         .arg(between)?
         .arg(after)?
@@ -85,9 +90,14 @@ fn add_reading(alloc: Global, command: Command<'_>) -> Result<Command<'_>, Alloc
         .short('f')
         .action(ArgAction::Append)
         .default_value("rfc3339");
-    let year = option(alloc, "year", "YEAR", "The year of times that have none").value_parser(
-        value_parser!(i32).range(-999_999..=999_999),
-    );
+    let year = option(alloc, "year", "YEAR", "The year of times that have none");
+    let latest = option(
+        alloc,
+        "latest",
+        "TIME",
+        "Such times are the latest not after TIME",
+    )
+    .conflicts_with("year")?;
     let offset = option(
         alloc,
         "offset",
@@ -99,6 +109,7 @@ fn add_reading(alloc: Global, command: Command<'_>) -> Result<Command<'_>, Alloc
         .next_help_heading("How it is read")
         .arg(from)?
         .arg(year)?
+        .arg(latest)?
         .arg(offset)
 }
 
@@ -155,9 +166,7 @@ fn add_lines(alloc: Global, command: Command<'_>) -> Result<Command<'_>, AllocEr
 // What becomes of refused lines.
 fn add_reports(alloc: Global, command: Command<'_>) -> Result<Command<'_>, AllocError> {
     let quiet = flag(alloc, "quiet", "Names no refused line").short('q');
-    let errors = option(alloc, "errors", "N", "Names the first N of a file")
-        .value_parser(value_parser!(u64))
-        .default_value("10");
+    let errors = option(alloc, "errors", "N", "Names the first N of a file").default_value("10");
     let strict = flag(
         alloc,
         "strict",
@@ -170,12 +179,16 @@ fn add_reports(alloc: Global, command: Command<'_>) -> Result<Command<'_>, Alloc
         "Goes on under --strict, with its status",
     )
     .requires_arg("strict")?;
+    let color = option(alloc, "color", "WHEN", "In colours: auto, always or never").default_value(
+        "auto",
+    );
     command
         .next_help_heading("What becomes of refused lines")
         .arg(quiet)?
         .arg(errors)?
         .arg(strict)?
-        .arg(keep_going)
+        .arg(keep_going)?
+        .arg(color)
 }
 
 // The words that are no options, and the option that prints completions.
@@ -193,7 +206,7 @@ fn add_words(alloc: Global, command: Command<'_>) -> Result<Command<'_>, AllocEr
     command.arg(files)?.arg(completions)
 }
 
-/// The command line of `restamp`.
+/// The command line of `restamp`, which takes no option that it doesn't name, and no two that exclude each other.
 pub fn make_command<'a>(alloc: Global) -> Result<Command<'a>, AllocError> {
     let command = Command::new(alloc, "restamp")
         .bin_name("restamp")?

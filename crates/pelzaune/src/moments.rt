@@ -10,9 +10,9 @@ ghost use Rattle.pelzaune.specs.Handed.{Hands, HandsCount, IsCountHanded, IsHand
 ghost use Rattle.pelzaune.specs.declared.formats.Format.TheVariants.{Rfc3339 as rfc3339};
 
 use crate::formats::{Format, format_of};
-use crate::handing::{count, hand, hand_count};
+use crate::handing::{count, hand_count};
 use crate::parts::Nanoseconds;
-use crate::status::UNKNOWN_FORMAT;
+use crate::status::{UNKNOWN_FORMAT, status_of};
 use time_parsing::{Iso8601, Parsable, Rfc2822, Rfc3339};
 use time_values::OffsetDateTime;
 
@@ -40,7 +40,13 @@ fn parsed_moment<P: From<OffsetDateTime> + Copy, F: Parsable>(
     ensures { IsHandedOver (IsHanded P.from_gives)
         (of_moment (F.path format.now) (F.reads format.now) (F.refuses format.now) text.now) result out.old out.new }
 {
-    hand::<OffsetDateTime, P, F>(format, text, out)
+    match format.parse_offset_date_time(text, None) {
+        Ok(value) => {
+            *out = P::from(value);
+            0
+        }
+        Err(error) => status_of(error),
+    }
 }
 
 /// Hands over the parts of a text's moment by the format of that number.

@@ -2,5 +2,6 @@ pub mod ColumnLemmas
 pub mod Constructed
 pub mod HeldRows
 pub mod HeldSteps
+pub mod InPlace
 pub mod Instants
 pub mod Laid

@@ -12,8 +12,9 @@ ghost use Rattle.pelzaune.specs.Held.{held_tree};
 
 use crate::cuts::{count_lines, first_line};
 use crate::descriptions::{MOST_STEPS, Syntax, fault_status, read_description, syntax_of};
-use crate::handing::{count, count_by};
+use crate::handing::count;
 use crate::held::HeldDescription;
+use crate::moments::count_by;
 use crate::parts::Nanoseconds;
 use crate::status::UNKNOWN_SYNTAX;
 use time_descriptions::Description;

@@ -1,11 +1,11 @@
 //! The outcomes of parses, as C is handed them.
-ghost use Rattle.std.specs.Prelude.{Result};
+ghost use Rattle.std.specs.Prelude.{Ok, Result};
 ghost use Rattle.time_values.specs.declared.error.TryFromParsed.{TryFromParsed as TryFromParsed_};
 ghost use Rattle.time_record.specs.Resolution.{parsed_seen};
 ghost use Rattle.pelzaune.specs.Described as Described;
 ghost use Rattle.pelzaune.specs.Described.{HandsRead};
 ghost use Rattle.pelzaune.specs.Formats as Formats;
-ghost use Rattle.pelzaune.specs.Handed.{IsHanded, IsCountHanded, ArePartsHanded, IsHandedOver, Hands, HandsCount, HandsParts, of_moment, of_record};
+ghost use Rattle.pelzaune.specs.Handed.{IsHanded, IsCountHanded, ArePartsHanded, IsHandedOver, Hands, HandsParts, of_moment, of_record};
 
 use crate::descriptions::{MOST_STEPS, fault_status, read_description, syntax_of};
 use crate::formats::{Format, format_of};
@@ -16,7 +16,7 @@ use time_descriptions::Description;
 use time_parsing::{Iso8601, Parsable, Rfc2822, Rfc3339, Target};
 use time_record::Parsed;
 use time_values::error::TryFromParsed;
-use time_values::{Date, Time, UtcOffset};
+use time_values::{Date, OffsetDateTime, Time, UtcOffset};
 
 /// Hands over the value of a text.
 #[inline(always)]
@@ -46,6 +46,20 @@ pub fn hand_by<V: Target, P: From<V> + Copy>(format: u32, text: &[u8], out: &mut
     }
 }
 
+/// Hands over the nanoseconds of a moment.
+#[inline(always)]
+pub fn hand_count(value: OffsetDateTime, out: &mut Nanoseconds) -> u32
+    ensures { IsCountHanded (Ok value) result out.old out.new }
+{
+    match nanoseconds_of(value) {
+        Some(count) => {
+            *out = count;
+            0
+        }
+        None => TOO_WIDE,
+    }
+}
+
 /// Hands over the nanoseconds of a text's moment.
 #[inline(always)]
 pub fn count<F: Parsable>(format: &F, text: &[u8], out: &mut Nanoseconds) -> u32
@@ -53,27 +67,8 @@ pub fn count<F: Parsable>(format: &F, text: &[u8], out: &mut Nanoseconds) -> u32
         (of_moment (F.path format.now) (F.reads format.now) (F.refuses format.now) text.now) result out.old out.new }
 {
     match format.parse_offset_date_time(text, None) {
-        Ok(value) => match nanoseconds_of(value) {
-            Some(count) => {
-                *out = count;
-                0
-            }
-            None => TOO_WIDE,
-        },
+        Ok(value) => hand_count(value, out),
         Err(error) => status_of(error),
-    }
-}
-
-/// Hands over the nanoseconds of a text's moment by the format of that number.
-#[inline(always)]
-pub fn count_by(format: u32, text: &[u8], out: &mut Nanoseconds) -> u32
-    ensures { HandsCount (Formats.format_of format) text.now result out.old out.new }
-{
-    match format_of(format) {
-        Some(Format::Rfc3339) => count(&Rfc3339, text, out),
-        Some(Format::Rfc2822) => count(&Rfc2822, text, out),
-        Some(Format::Iso8601) => count(&Iso8601, text, out),
-        None => UNKNOWN_FORMAT,
     }
 }
 

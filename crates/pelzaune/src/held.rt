@@ -1,15 +1,13 @@
 //! Descriptions that C holds by value: they are read once, and then parse many texts.
 mod fast;
 
-ghost use Rattle.std.specs.Prelude.{◌≡◌, ◌≢◌, ◌⊎◌, ◌-◌, ◌<◌, ◌≤◌, [], Ok, Err, MatchResult, true, false, length, map};
+ghost use Rattle.std.specs.Prelude.{◌≡◌, ◌-◌, ◌<◌, ◌≤◌, true, false, length, map};
 ghost use Rattle.time_values.specs.Range.{greatest_year};
-ghost use Rattle.time_values.specs.Refusal.{trailing};
 ghost use Rattle.time_components.specs.Steps.{steps_shape, steps_trees};
 ghost use Rattle.time_record.specs.Answer.{Answers};
 ghost use Rattle.time_record.specs.Reading.{Reads, Refuses};
-ghost use Rattle.time_record.specs.Resolution.{IsMoment};
 ghost use Rattle.time_record.specs.WalkSteps.{Goes};
-ghost use Rattle.time_parsing.specs.Outcome.{begun, over_record, seen};
+ghost use Rattle.time_parsing.specs.Outcome.{over_record};
 ghost use Rattle.time_parsing.specs.exact.DescriptionLaws.{tree_exact};
 ghost use Rattle.pelzaune.specs.Described as Described;
 ghost use Rattle.pelzaune.specs.Held.{Holds, held_tree};
@@ -130,31 +128,6 @@ fn read_held<'a>(
     }
 }
 
-// The record that a parse begins with.
-#[inline(always)]
-fn begin(defaults: Option<Parsed>) -> Parsed
-    ensures { result ≡ begun defaults }
-{
-    let mut record = Parsed::new();
-    if let Some(defaults) = defaults {
-        record = defaults;
-    }
-    record
-}
-
-// The moment of a record that was read up to this rest.
-#[inline(always)]
-fn moment_before(rest: &[u8], parsed: &Parsed) -> Result<OffsetDateTime, Parse>
-    ensures { MatchResult (seen result)
-        (λ v. (rest.now ≡ []) × IsMoment greatest_year parsed.now (Ok v))
-        (λ e. ((rest.now ≢ []) × (e ≡ trailing)) ⊎ ((rest.now ≡ []) × IsMoment greatest_year parsed.now (Err e))) }
-{
-    if !rest.is_empty() {
-        return Err(ParseFromDescription::UnexpectedTrailingCharacters.into());
-    }
-    Ok(OffsetDateTime::try_from(*parsed)?)
-}
-
 impl Parsable for HeldDescription {
     ghost reads = { λ s. Reads greatest_year (held_tree s) };
 
@@ -175,9 +148,10 @@ impl Parsable for HeldDescription {
         input: &[u8],
         defaults: Option<Parsed>,
     ) -> Result<OffsetDateTime, Parse> {
-        let mut parsed = begin(defaults);
-        let rest = self.parse_into(input, &mut parsed)?;
-        moment_before(rest, &parsed)
+        match self.parse_internal(input, defaults) {
+            Ok(parsed) => Ok(OffsetDateTime::try_from(parsed)?),
+            Err(error) => Err(error),
+        }
     }
 
     ghost exact = { λ s. tree_exact greatest_year (held_tree s) };

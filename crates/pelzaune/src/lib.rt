@@ -21,6 +21,7 @@ mod handing;
 mod held;
 pub mod laws;
 mod locating;
+mod moments;
 mod parts;
 mod status;
 mod steps;
@@ -28,7 +29,8 @@ mod text;
 mod writing;
 
 use crate::descriptions::check;
-use crate::handing::{count_by, count_read, hand_by, hand_read, parts_by, parts_read};
+use crate::handing::{count_read, hand_by, hand_read, parts_by, parts_read};
+use crate::moments::{count_by, moment_by};
 use crate::parts::{
     DateParts, Instant, LocalParts, MomentParts, Nanoseconds, OffsetParts, Parts, TimeParts,
 };
@@ -104,7 +106,7 @@ pub extern "C" fn pelzaune_parse_utc(format: u32, text: &[u8], out: &mut LocalPa
 pub extern "C" fn pelzaune_parse_moment(format: u32, text: &[u8], out: &mut MomentParts) -> u32
     ensures { Hands HasMoment of_moment (format_of format) text.now result out.old out.new }
 {
-    hand_by::<OffsetDateTime, MomentParts>(format, text, out)
+    moment_by::<MomentParts>(format, text, out)
 }
 
 /// Parses a text by the format of that number into the instant of its date, time and offset. On any other status than 0
@@ -113,7 +115,7 @@ pub extern "C" fn pelzaune_parse_moment(format: u32, text: &[u8], out: &mut Mome
 pub extern "C" fn pelzaune_parse_instant(format: u32, text: &[u8], out: &mut Instant) -> u32
     ensures { Hands HasInstant of_moment (format_of format) text.now result out.old out.new }
 {
-    hand_by::<OffsetDateTime, Instant>(format, text, out)
+    moment_by::<Instant>(format, text, out)
 }
 
 /// Parses a text by the format of that number into the nanoseconds from 1970-01-01T00:00:00Z to the instant of its date,

@@ -112,110 +112,6 @@ fn skipping(count: u16) -> Step
     }
 }
 
-// A component with its modifiers.
-macro_rules! component {
-    ($name:ident { $($field:ident: $value:expr),+ }) => {
-        Step::Component(Component::$name(modifier::$name { $($field: $value),+ }))
-    };
-}
-
-// A component with a padding.
-macro_rules! padded {
-    ($name:ident, $padding:expr) => {
-        component!($name { padding: $padding })
-    };
-}
-
-// A component with a padding and a sign.
-macro_rules! signed {
-    ($name:ident, $padding:expr, $flag:expr) => {
-        component!($name { padding: $padding, sign_is_mandatory: $flag })
-    };
-}
-
-// A number of units since 1970, with a sign.
-macro_rules! stamped {
-    ($name:ident, $flag:expr) => {
-        component!($name { sign_is_mandatory: $flag })
-    };
-}
-
-// A name, in which letters may have any case or not.
-macro_rules! cased {
-    ($name:ident, $flag:expr) => {
-        component!($name { case_sensitive: $flag })
-    };
-}
-
-// A day of the week by its number.
-macro_rules! counted {
-    ($name:ident, $flag:expr) => {
-        component!($name { one_indexed: $flag })
-    };
-}
-
-/// The step that is held.
-#[inline]
-#[tactic(auto, unfolding(crate::specs::Held::step_of))]
-pub fn step_of(held: HeldStep) -> Step
-    ensures { result ≡ Held.step_of held }
-{
-    let padding = padding_of(held.choice);
-    let flag = held.flag != 0;
-    match held.kind {
-        0 => Step::Literal(held.choice),
-        1 => Step::More(held.choice),
-        2 => Step::Group(Group::Optional, held.len),
-        3 => Step::Group(Group::First, held.len),
-        4 => Step::Group(Group::List, held.len),
-        5 => padded!(Day, padding),
-        6 => cased!(MonthShort, flag),
-        7 => cased!(MonthLong, flag),
-        8 => padded!(MonthNumerical, padding),
-        9 => padded!(Ordinal, padding),
-        10 => cased!(WeekdayShort, flag),
-        11 => cased!(WeekdayLong, flag),
-        12 => counted!(WeekdaySunday, flag),
-        13 => counted!(WeekdayMonday, flag),
-        14 => padded!(WeekNumberIso, padding),
-        15 => padded!(WeekNumberSunday, padding),
-        16 => padded!(WeekNumberMonday, padding),
-        17 => signed!(CalendarYearFullExtendedRange, padding, flag),
-        18 => signed!(CalendarYearFullStandardRange, padding, flag),
-        19 => signed!(IsoYearFullExtendedRange, padding, flag),
-        20 => signed!(IsoYearFullStandardRange, padding, flag),
-        21 => signed!(CalendarYearCenturyExtendedRange, padding, flag),
-        22 => signed!(CalendarYearCenturyStandardRange, padding, flag),
-        23 => signed!(IsoYearCenturyExtendedRange, padding, flag),
-        24 => signed!(IsoYearCenturyStandardRange, padding, flag),
-        25 => padded!(CalendarYearLastTwo, padding),
-        26 => padded!(IsoYearLastTwo, padding),
-        27 => padded!(Hour12, padding),
-        28 => padded!(Hour24, padding),
-        29 => padded!(Minute, padding),
-        30 => component!(Period {
-            is_uppercase: held.choice != 0,
-            case_sensitive: flag
-        }),
-        31 => padded!(Second, padding),
-        32 => component!(Subsecond {
-            digits: digits_of(held.choice)
-        }),
-        33 => signed!(OffsetHour, padding, flag),
-        34 => padded!(OffsetMinute, padding),
-        35 => padded!(OffsetSecond, padding),
-        36 => skipping(held.count),
-        37 => stamped!(UnixTimestampSecond, flag),
-        38 => stamped!(UnixTimestampMillisecond, flag),
-        39 => stamped!(UnixTimestampMicrosecond, flag),
-        40 => stamped!(UnixTimestampNanosecond, flag),
-        41 => component!(End {
-            trailing_input: trailing_of(held.choice)
-        }),
-        _ => Step::Literal(0),
-    }
-}
-
 // A component of that kind, with what is chosen of it.
 fn chosen(kind: u8, choice: u8, flag: bool) -> HeldStep
     ensures { result ≡ Held.chosen kind choice flag }
@@ -229,9 +125,29 @@ fn chosen(kind: u8, choice: u8, flag: bool) -> HeldStep
     }
 }
 
-// A component of that kind with its padding and its sign.
-macro_rules! chosen_signed {
-    ($kind:expr, $modifiers:ident) => {
+// Each form of a component, as a step of what is held, and held by its number.
+
+// A padding.
+macro_rules! padded {
+    (step $name:ident, $held:ident, $padding:ident, $flag:ident) => {
+        Step::Component(Component::$name(modifier::$name {
+            padding: $padding,
+        }))
+    };
+    (held $kind:literal, $modifiers:ident) => {
+        chosen($kind, padding_number($modifiers.padding), false)
+    };
+}
+
+// A padding and a sign.
+macro_rules! signed {
+    (step $name:ident, $held:ident, $padding:ident, $flag:ident) => {
+        Step::Component(Component::$name(modifier::$name {
+            padding: $padding,
+            sign_is_mandatory: $flag,
+        }))
+    };
+    (held $kind:literal, $modifiers:ident) => {
         chosen(
             $kind,
             padding_number($modifiers.padding),
@@ -240,53 +156,182 @@ macro_rules! chosen_signed {
     };
 }
 
+// A number of units since 1970, with a sign.
+macro_rules! stamped {
+    (step $name:ident, $held:ident, $padding:ident, $flag:ident) => {
+        Step::Component(Component::$name(modifier::$name {
+            sign_is_mandatory: $flag,
+        }))
+    };
+    (held $kind:literal, $modifiers:ident) => {
+        chosen($kind, 0, $modifiers.sign_is_mandatory)
+    };
+}
+
+// A name, in which letters may have any case or not.
+macro_rules! cased {
+    (step $name:ident, $held:ident, $padding:ident, $flag:ident) => {
+        Step::Component(Component::$name(modifier::$name {
+            case_sensitive: $flag,
+        }))
+    };
+    (held $kind:literal, $modifiers:ident) => {
+        chosen($kind, 0, $modifiers.case_sensitive)
+    };
+}
+
+// A day of the week by its number.
+macro_rules! counted {
+    (step $name:ident, $held:ident, $padding:ident, $flag:ident) => {
+        Step::Component(Component::$name(modifier::$name {
+            one_indexed: $flag,
+        }))
+    };
+    (held $kind:literal, $modifiers:ident) => {
+        chosen($kind, 0, $modifiers.one_indexed)
+    };
+}
+
+// `AM` or `PM`.
+macro_rules! halved {
+    (step $name:ident, $held:ident, $padding:ident, $flag:ident) => {
+        Step::Component(Component::$name(modifier::$name {
+            is_uppercase: $held.choice != 0,
+            case_sensitive: $flag,
+        }))
+    };
+    (held $kind:literal, $modifiers:ident) => {
+        chosen(
+            $kind,
+            u8::from($modifiers.is_uppercase),
+            $modifiers.case_sensitive,
+        )
+    };
+}
+
+// The digits of a fraction.
+macro_rules! fractional {
+    (step $name:ident, $held:ident, $padding:ident, $flag:ident) => {
+        Step::Component(Component::$name(modifier::$name {
+            digits: digits_of($held.choice),
+        }))
+    };
+    (held $kind:literal, $modifiers:ident) => {
+        chosen($kind, digits_number($modifiers.digits), false)
+    };
+}
+
+// Bytes that are skipped.
+macro_rules! skipped {
+    (step $name:ident, $held:ident, $padding:ident, $flag:ident) => {
+        skipping($held.count)
+    };
+    (held $kind:literal, $modifiers:ident) => {
+        HeldStep {
+            count: $modifiers.count.get(),
+            ..chosen($kind, 0, false)
+        }
+    };
+}
+
+// What becomes of bytes that are left.
+macro_rules! ended {
+    (step $name:ident, $held:ident, $padding:ident, $flag:ident) => {
+        Step::Component(Component::$name(modifier::$name {
+            trailing_input: trailing_of($held.choice),
+        }))
+    };
+    (held $kind:literal, $modifiers:ident) => {
+        chosen($kind, trailing_number($modifiers.trailing_input), false)
+    };
+}
+
+// The number, the name and the form of each component.
+macro_rules! components {
+    ($of_each:ident $($given:ident)+) => {
+        $of_each! { $($given)+;
+            5 Day padded,
+            6 MonthShort cased,
+            7 MonthLong cased,
+            8 MonthNumerical padded,
+            9 Ordinal padded,
+            10 WeekdayShort cased,
+            11 WeekdayLong cased,
+            12 WeekdaySunday counted,
+            13 WeekdayMonday counted,
+            14 WeekNumberIso padded,
+            15 WeekNumberSunday padded,
+            16 WeekNumberMonday padded,
+            17 CalendarYearFullExtendedRange signed,
+            18 CalendarYearFullStandardRange signed,
+            19 IsoYearFullExtendedRange signed,
+            20 IsoYearFullStandardRange signed,
+            21 CalendarYearCenturyExtendedRange signed,
+            22 CalendarYearCenturyStandardRange signed,
+            23 IsoYearCenturyExtendedRange signed,
+            24 IsoYearCenturyStandardRange signed,
+            25 CalendarYearLastTwo padded,
+            26 IsoYearLastTwo padded,
+            27 Hour12 padded,
+            28 Hour24 padded,
+            29 Minute padded,
+            30 Period halved,
+            31 Second padded,
+            32 Subsecond fractional,
+            33 OffsetHour signed,
+            34 OffsetMinute padded,
+            35 OffsetSecond padded,
+            36 Ignore skipped,
+            37 UnixTimestampSecond stamped,
+            38 UnixTimestampMillisecond stamped,
+            39 UnixTimestampMicrosecond stamped,
+            40 UnixTimestampNanosecond stamped,
+            41 End ended
+        }
+    };
+}
+
+// The step of what is held.
+macro_rules! step_of_each {
+    ($held:ident $padding:ident $flag:ident; $($kind:literal $name:ident $form:ident),+) => {
+        match $held.kind {
+            0 => Step::Literal($held.choice),
+            1 => Step::More($held.choice),
+            2 => Step::Group(Group::Optional, $held.len),
+            3 => Step::Group(Group::First, $held.len),
+            4 => Step::Group(Group::List, $held.len),
+            $($kind => $form!(step $name, $held, $padding, $flag),)+
+            _ => Step::Literal(0),
+        }
+    };
+}
+
+// What is held of a component.
+macro_rules! held_of_each {
+    ($component:ident; $($kind:literal $name:ident $form:ident),+) => {
+        match $component {
+            $(Component::$name(modifiers) => $form!(held $kind, modifiers),)+
+        }
+    };
+}
+
+/// The step that is held.
+#[inline]
+#[tactic(auto, unfolding(crate::specs::Held::step_of))]
+pub fn step_of(held: HeldStep) -> Step
+    ensures { result ≡ Held.step_of held }
+{
+    let padding = padding_of(held.choice);
+    let flag = held.flag != 0;
+    components!(step_of_each held padding flag)
+}
+
 // The component, held.
 #[tactic(auto, using(crate::proofs::HeldSteps::padding_back, crate::proofs::HeldSteps::digits_back, crate::proofs::HeldSteps::trailing_back, crate::proofs::HeldSteps::flag_back, crate::proofs::HeldSteps::skips), unfolding(crate::specs::Held::step_of))]
 fn held_component(component: Component) -> HeldStep
     ensures { Held.step_of result ≡ step.Component component }
 {
-    match component {
-        Component::Day(m) => chosen(5, padding_number(m.padding), false),
-        Component::MonthShort(m) => chosen(6, 0, m.case_sensitive),
-        Component::MonthLong(m) => chosen(7, 0, m.case_sensitive),
-        Component::MonthNumerical(m) => chosen(8, padding_number(m.padding), false),
-        Component::Ordinal(m) => chosen(9, padding_number(m.padding), false),
-        Component::WeekdayShort(m) => chosen(10, 0, m.case_sensitive),
-        Component::WeekdayLong(m) => chosen(11, 0, m.case_sensitive),
-        Component::WeekdaySunday(m) => chosen(12, 0, m.one_indexed),
-        Component::WeekdayMonday(m) => chosen(13, 0, m.one_indexed),
-        Component::WeekNumberIso(m) => chosen(14, padding_number(m.padding), false),
-        Component::WeekNumberSunday(m) => chosen(15, padding_number(m.padding), false),
-        Component::WeekNumberMonday(m) => chosen(16, padding_number(m.padding), false),
-        Component::CalendarYearFullExtendedRange(m) => chosen_signed!(17, m),
-        Component::CalendarYearFullStandardRange(m) => chosen_signed!(18, m),
-        Component::IsoYearFullExtendedRange(m) => chosen_signed!(19, m),
-        Component::IsoYearFullStandardRange(m) => chosen_signed!(20, m),
-        Component::CalendarYearCenturyExtendedRange(m) => chosen_signed!(21, m),
-        Component::CalendarYearCenturyStandardRange(m) => chosen_signed!(22, m),
-        Component::IsoYearCenturyExtendedRange(m) => chosen_signed!(23, m),
-        Component::IsoYearCenturyStandardRange(m) => chosen_signed!(24, m),
-        Component::CalendarYearLastTwo(m) => chosen(25, padding_number(m.padding), false),
-        Component::IsoYearLastTwo(m) => chosen(26, padding_number(m.padding), false),
-        Component::Hour12(m) => chosen(27, padding_number(m.padding), false),
-        Component::Hour24(m) => chosen(28, padding_number(m.padding), false),
-        Component::Minute(m) => chosen(29, padding_number(m.padding), false),
-        Component::Period(m) => chosen(30, u8::from(m.is_uppercase), m.case_sensitive),
-        Component::Second(m) => chosen(31, padding_number(m.padding), false),
-        Component::Subsecond(m) => chosen(32, digits_number(m.digits), false),
-        Component::OffsetHour(m) => chosen_signed!(33, m),
-        Component::OffsetMinute(m) => chosen(34, padding_number(m.padding), false),
-        Component::OffsetSecond(m) => chosen(35, padding_number(m.padding), false),
-        Component::Ignore(m) => HeldStep {
-            count: m.count.get(),
-            ..chosen(36, 0, false)
-        },
-        Component::UnixTimestampSecond(m) => chosen(37, 0, m.sign_is_mandatory),
-        Component::UnixTimestampMillisecond(m) => chosen(38, 0, m.sign_is_mandatory),
-        Component::UnixTimestampMicrosecond(m) => chosen(39, 0, m.sign_is_mandatory),
-        Component::UnixTimestampNanosecond(m) => chosen(40, 0, m.sign_is_mandatory),
-        Component::End(m) => chosen(41, trailing_number(m.trailing_input), false),
-    }
+    components!(held_of_each component)
 }
 
 // The group of so many steps, held.

@@ -55,6 +55,7 @@ static inline int has_no_offset(const question *asked)
     if (asked->held || asked->number != PELZAUNE_ISO8601) return 0;
     for (size_t k = asked->length; k-- > 0;) {
         uint8_t byte = asked->bytes[k];
+        if (byte >= '0' && byte <= ':') continue; /* a digit or a colon */
         if (byte == 'T') return 1;
         if (byte == 'Z' || byte == '+' || byte == '-') return 0;
     }

@@ -34,7 +34,9 @@ fn read_joined<'a>(
     let mut next = 0;
     let mut rest = input;
     while next < joined.len() {
-        let front = fast::read(&joined[next], joined.len() - next, parsed, rest);
+        let Some(front) = fast::read(&joined[next], joined.len() - next, parsed, rest) else {
+            return (next, rest);
+        };
         rest = front.rest;
         next += front.count;
         if !front.is_all {

@@ -34,31 +34,35 @@ pub(super) struct Front<'a> {
     pub is_all: bool,
 }
 
-/// Reads steps that are read at once, as far as they go. `left` is how many steps there are from here on.
+/// Reads steps that are read at once, as far as they go. `left` is how many steps there are from here on. `None`: no
+/// such steps, and the record is as it was.
 #[inline(always)]
 pub(super) fn read<'a>(
     joined: &Joined,
     left: usize,
     parsed: &mut Parsed,
     input: &'a [u8],
-) -> Front<'a>
+) -> Option<Front<'a>>
     requires { 1 ≤ left }
-    ensures within { result.count ≤ left }
-    ensures read { MayReadFront joined.now left result.count input.now parsed.old result.rest.now parsed.new }
-    ensures all { IsTrue result.is_all → 0 < result.count }
+    ensures within { IfSome result (λ front. front.count ≤ left) }
+    ensures read { MatchOption result (parsed.new ≡ parsed.old)
+        (λ front. MayReadFront joined.now left front.count input.now parsed.old front.rest.now parsed.new) }
+    ensures all { IfSome result (λ front. IsTrue front.is_all → 0 < front.count) }
 {
     match joined {
-        Joined::Byte(byte) => whole(1, after(input, *byte), input),
-        Joined::Component(wanted) => whole(1, component(parsed, input, wanted), input),
-        Joined::Date(between) if left >= 5 => date(*between, parsed, input),
-        Joined::DayFirst(between) if left >= 5 => day_first(*between, parsed, input),
-        Joined::MonthDay(between) if left >= 3 => month_day(*between, parsed, input),
-        Joined::Time(between) if left >= 5 => time(*between, parsed, input),
-        Joined::Fraction(point) if left >= 3 => whole(3, fraction(parsed, input, *point), input),
-        Joined::Seconds(between, point) if left >= 6 => {
-            whole(6, seconds(parsed, input, *between, *point), input)
+        Joined::Byte(byte) => Some(whole(1, after(input, *byte), input)),
+        Joined::Component(wanted) => Some(whole(1, component(parsed, input, wanted), input)),
+        Joined::Date(between) if left >= 5 => Some(date(*between, parsed, input)),
+        Joined::DayFirst(between) if left >= 5 => Some(day_first(*between, parsed, input)),
+        Joined::MonthDay(between) if left >= 3 => Some(month_day(*between, parsed, input)),
+        Joined::Time(between) if left >= 5 => Some(time(*between, parsed, input)),
+        Joined::Fraction(point) if left >= 3 => {
+            Some(whole(3, fraction(parsed, input, *point), input))
         }
-        _ => none(input),
+        Joined::Seconds(between, point) if left >= 6 => {
+            Some(whole(6, seconds(parsed, input, *between, *point), input))
+        }
+        _ => None,
     }
 }
 

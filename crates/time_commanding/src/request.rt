@@ -1,7 +1,7 @@
 //! What the options ask for.
-ghost use Rattle.std.specs.Prelude.{◌≡◌, IfErr, MatchResult, OnOk, Some, map};
+ghost use Rattle.std.specs.Prelude.{◌≡◌, [], IfErr, MatchResult, OnOk, Some, map};
 ghost use Rattle.time_values.specs.Range.{greatest_year};
-ghost use Rattle.time_restamping.specs.Naming.{fault_of};
+ghost use Rattle.time_restamping.specs.Naming.{fault_of, Means, meaning_of, way_of};
 ghost use Rattle.time_options.specs.Options.{other_names, text_behind};
 ghost use Rattle.time_commanding.specs.Fault as fault;
 ghost use Rattle.time_commanding.specs.Fault.{told};
@@ -227,6 +227,30 @@ fn find_bound<'a>(
     }
 }
 
+// What stands for what a time leaves out, where these are the formats that the options mean.
+fn find_defaults<'a>(
+    options: &Options<'_, 'a>,
+    first: &Reading,
+    others: &[Reading],
+) -> Result<Defaults, Fault<'a>>
+    requires first { Means (way_of options.now.from.now) (meaning_of first.now) }
+    requires others { spec.AddsMeant (other_names options.now) [] others.now }
+    ensures { MatchResult result (λ defaults. spec.AreDefaults greatest_year options.now first.now others.now defaults)
+        (λ fault. spec.IsFault greatest_year options.now (told fault)) }
+{
+    let parts = match find_parts(options) {
+        Ok(parts) => parts,
+        Err(fault) => return Err(fault),
+    };
+    match find_bound(first, others, &only_parts(parts), options.latest) {
+        Ok(latest) => Ok(Defaults {
+            parts: Some(parts),
+            latest,
+        }),
+        Err((text, reason)) => Err(Fault::Latest(text, reason)),
+    }
+}
+
 // How the lines of files are answered.
 fn find_settings<'a>(options: &Options<'_, 'a>) -> Result<Settings, Fault<'a>>
     ensures { MatchResult result (λ settings. spec.AreSettings options.now settings)
@@ -277,22 +301,9 @@ impl<'a> Request<'a> {
             Err(Some((name, why))) => return Err(format_fault(name, why)),
             Err(None) => return Err(Fault::Memory),
         }
-        let parts = match find_parts(options) {
-            Ok(parts) => parts,
+        let defaults = match find_defaults(options, &first, others.as_slice()) {
+            Ok(defaults) => defaults,
             Err(fault) => return Err(fault),
-        };
-        let latest = match find_bound(
-            &first,
-            others.as_slice(),
-            &only_parts(parts),
-            options.latest,
-        ) {
-            Ok(latest) => latest,
-            Err((text, reason)) => return Err(Fault::Latest(text, reason)),
-        };
-        let defaults = Defaults {
-            parts: Some(parts),
-            latest,
         };
         let form = find_form(options)?;
         let settings = find_settings(options)?;

@@ -1,6 +1,7 @@
 //! Bytes that were read and are not answered yet.
 ghost use Rattle.std.specs.Io.KnownBytes.{Consumes, Keeps, IsAtEnd};
-ghost use Rattle.std.specs.Prelude.{◌≡◌, ◌+◌, ◌-◌, ◌<◌, ◌≤◌, ℕ, List, [], ◌++◌, length, take, drop, MatchResult, IsTrue, false};
+ghost use Rattle.std.specs.IoError.{error_kind};
+ghost use Rattle.std.specs.Prelude.{◌≡◌, ◌≢◌, ◌+◌, ◌-◌, ◌<◌, ◌≤◌, ℕ, List, [], ◌++◌, length, take, drop, MatchResult, IsTrue, false};
 ghost use Rattle.time_rewriting.specs.Lines.{Items};
 ghost use Rattle.time_rewriting.specs.declared.block.TheConstants.{LIMIT};
 
@@ -74,7 +75,8 @@ impl Block {
             (λ goes_on. (more : List ℕ) × (self.new.items ≡ self.old.items ++ more)
             × Consumes (R.remaining input.old) (R.remaining input.new) more
             × (goes_on ≡ false → (more ≡ []) × IsAtEnd (R.remaining input.new)))
-            (λ _. Keeps (R.remaining input.old) (R.remaining input.new) × (self.new.items ≡ self.old.items)) }
+            (λ e. Keeps (R.remaining input.old) (R.remaining input.new) × (self.new.items ≡ self.old.items)
+            × (error_kind e ≢ ErrorKind.Interrupted)) }
     {
         match self.read_once(input) {
             Ok(0) => Ok(false),

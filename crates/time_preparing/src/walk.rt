@@ -3,6 +3,7 @@
 //! It reads what is read at once, as far as that goes. The item at which it stops is read on its own, over the record at
 //! hand, and after it what is read at once again. So no step is read again that was read before.
 mod fast;
+mod front;
 
 ghost use Rattle.std.specs.Prelude.{◌≡◌, ◌≤◌, length, drop};
 ghost use Rattle.time_values.specs.Range.{greatest_year};
@@ -34,12 +35,10 @@ fn read_joined<'a>(
     let mut next = 0;
     let mut rest = input;
     while next < joined.len() {
-        let Some(front) = fast::read(&joined[next], joined.len() - next, parsed, rest) else {
-            return (next, rest);
-        };
-        rest = front.rest;
-        next += front.count;
-        if !front.is_all {
+        let found = front::read(&joined[next], joined.len() - next, parsed, rest);
+        rest = found.rest;
+        next += found.count;
+        if !found.is_all {
             return (next, rest);
         }
     }

@@ -2,223 +2,32 @@
 //!
 //! Each reader answers the rest after what the steps read one after the other, and puts what they put; or it answers
 //! `None`: not this form, and the record is as it was. Then the steps are walked.
-ghost use Rattle.std.specs.Prelude.{◌≡◌, ◌<◌, ◌≤◌, IfSome, IsTrue, MatchOption, length, take, ◌∷◌, ℕ, List, false, Some, None};
+ghost use Rattle.std.specs.Prelude.{◌≡◌, ◌<◌, ◌≤◌, IfSome, ◌∷◌, ℕ, List, false, Some, None};
 ghost use Rattle.time_values.specs.Range.{greatest_year};
 ghost use Rattle.time_components.specs.Tree.{component as component_tree, more, none as none_};
 ghost use Rattle.time_components.specs.declared.format_description.Component.TheVariants as components;
 ghost use Rattle.time_record.specs.Components.{is_pm as is_pm_};
 ghost use Rattle.time_record.specs.Record.{Record};
-ghost use Rattle.time_record.specs.Reading.{Reads, ReadsAll};
+ghost use Rattle.time_record.specs.Reading.{Reads};
 ghost use Rattle.time_record.specs.WalkFast.{MayRead};
-ghost use Rattle.time_preparing.specs.Forms.{date_parts, day_first_parts, three_parts, time_parts, with_subsecond};
-ghost use Rattle.time_preparing.specs.Joined.{month_day_parts};
-ghost use Rattle.time_preparing.specs.Walk.{fraction_tree, leaves, MayReadAll, MayReadFront, seconds_tree};
+ghost use Rattle.time_preparing.specs.Forms.{with_subsecond};
+ghost use Rattle.time_preparing.specs.Walk.{fraction_tree, MayReadAll, seconds_tree};
 
+use crate::forms::SECOND;
 use crate::forms::fast::{self, after};
-use crate::forms::{DAY, HOUR, MINUTE, MONTH, MONTH_NAME, SECOND, SPACED_DAY, YEAR};
-use crate::joined::Joined;
 use std::num::NonZero;
 use time_components::component::fast::subsecond;
 use time_components::component::parse_period;
 use time_components::{Component, Period, SubsecondDigits, modifier};
 use time_record::Parsed;
 
-/// Steps that were read in turn.
-#[derive(Clone, Copy)]
-pub(super) struct Front<'a> {
-    /// How many.
-    pub count: usize,
-    /// What stands after them.
-    pub rest: &'a [u8],
-    /// Whether they are all of those that are read at once, and there is one.
-    pub is_all: bool,
-}
-
-/// Reads steps that are read at once, as far as they go. `left` is how many steps there are from here on. `None`: no
-/// such steps, and the record is as it was.
-#[inline(always)]
-pub(super) fn read<'a>(
-    joined: &Joined,
-    left: usize,
-    parsed: &mut Parsed,
-    input: &'a [u8],
-) -> Option<Front<'a>>
-    requires { 1 ≤ left }
-    ensures within { IfSome result (λ front. front.count ≤ left) }
-    ensures read { MatchOption result (parsed.new ≡ parsed.old)
-        (λ front. MayReadFront joined.now left front.count input.now parsed.old front.rest.now parsed.new) }
-    ensures all { IfSome result (λ front. IsTrue front.is_all → 0 < front.count) }
-{
-    match joined {
-        Joined::Byte(byte) => Some(whole(1, after(input, *byte), input)),
-        Joined::Component(wanted) => Some(whole(1, component(parsed, input, wanted), input)),
-        Joined::Date(between) if left >= 5 => Some(date(*between, parsed, input)),
-        Joined::DayFirst(between) if left >= 5 => Some(day_first(*between, parsed, input)),
-        Joined::MonthDay(between) if left >= 3 => Some(month_day(*between, parsed, input)),
-        Joined::Time(between) if left >= 5 => Some(time(*between, parsed, input)),
-        Joined::Fraction(point) if left >= 3 => {
-            Some(whole(3, fraction(parsed, input, *point), input))
-        }
-        Joined::Seconds(between, point) if left >= 6 => {
-            Some(whole(6, seconds(parsed, input, *between, *point), input))
-        }
-        _ => None,
-    }
-}
-
-// None of the steps.
-#[inline(always)]
-fn none(input: &[u8]) -> Front<'_>
-    ensures count { result.count ≡ 0 }
-    ensures rest { result.rest.now ≡ input.now }
-    ensures all { IsTrue result.is_all → 0 < result.count }
-{
-    part(0, input)
-}
-
-// So many steps, which are not all.
-#[inline(always)]
-fn part(count: usize, rest: &[u8]) -> Front<'_>
-    ensures count { result.count ≡ count }
-    ensures rest { result.rest.now ≡ rest.now }
-    ensures all { IsTrue result.is_all → 0 < result.count }
-{
-    Front {
-        count,
-        rest,
-        is_all: false,
-    }
-}
-
-// So many steps, or none.
-#[inline(always)]
-fn whole<'a>(count: usize, rest: Option<&'a [u8]>, input: &'a [u8]) -> Front<'a>
-    requires { 0 < count }
-    ensures read { MatchOption rest.entry ((result.count ≡ 0) × (result.rest.now ≡ input.now))
-        (λ r. (result.count ≡ count) × (result.rest.now ≡ r.now)) }
-    ensures within { result.count ≤ count }
-    ensures all { IsTrue result.is_all → 0 < result.count }
-{
-    match rest {
-        Some(rest) => Front {
-            count,
-            rest,
-            is_all: true,
-        },
-        None => none(input),
-    }
-}
-
-// Reads a year, a month and a day in turn, as far as they go.
-#[inline(always)]
-fn date<'a>(between: u8, parsed: &mut Parsed, input: &'a [u8]) -> Front<'a>
-    ensures within { result.count ≤ 5 }
-    ensures read { ReadsAll greatest_year (leaves (take result.count (date_parts between)))
-        input.now parsed.old result.rest.now parsed.new }
-    ensures all { IsTrue result.is_all → 0 < result.count }
-{
-    let year = Component::CalendarYearFullExtendedRange(YEAR);
-    let month = Component::MonthNumerical(MONTH);
-    three(year, month, Component::Day(DAY), between, parsed, input)
-}
-
-// Reads a day, a month's name and a year in turn, as far as they go.
-#[inline(always)]
-fn day_first<'a>(between: u8, parsed: &mut Parsed, input: &'a [u8]) -> Front<'a>
-    ensures within { result.count ≤ 5 }
-    ensures read { ReadsAll greatest_year (leaves (take result.count (day_first_parts between)))
-        input.now parsed.old result.rest.now parsed.new }
-    ensures all { IsTrue result.is_all → 0 < result.count }
-{
-    let month = Component::MonthShort(MONTH_NAME);
-    let year = Component::CalendarYearFullExtendedRange(YEAR);
-    three(Component::Day(DAY), month, year, between, parsed, input)
-}
-
-// Reads an hour, a minute and a second in turn, as far as they go.
-#[inline(always)]
-fn time<'a>(between: u8, parsed: &mut Parsed, input: &'a [u8]) -> Front<'a>
-    ensures within { result.count ≤ 5 }
-    ensures read { ReadsAll greatest_year (leaves (take result.count (time_parts between)))
-        input.now parsed.old result.rest.now parsed.new }
-    ensures all { IsTrue result.is_all → 0 < result.count }
-{
-    let hour = Component::Hour24(HOUR);
-    let minute = Component::Minute(MINUTE);
-    three(
-        hour,
-        minute,
-        Component::Second(SECOND),
-        between,
-        parsed,
-        input,
-    )
-}
-
-// Reads three components in turn with this byte between them, as far as they go.
-#[inline(always)]
-fn three<'a>(
-    first: Component,
-    second: Component,
-    third: Component,
-    between: u8,
-    parsed: &mut Parsed,
-    input: &'a [u8],
-) -> Front<'a>
-    ensures within { result.count ≤ 5 }
-    ensures read { ReadsAll greatest_year (leaves (take result.count (three_parts first second third between)))
-        input.now parsed.old result.rest.now parsed.new }
-    ensures all { IsTrue result.is_all → 0 < result.count }
-{
-    let Some(a) = component(parsed, input, &first) else {
-        return none(input);
-    };
-    let Some(b) = after(a, between) else {
-        return part(1, a);
-    };
-    let Some(c) = component(parsed, b, &second) else {
-        return part(2, b);
-    };
-    let Some(d) = after(c, between) else {
-        return part(3, c);
-    };
-    let Some(e) = component(parsed, d, &third) else {
-        return part(4, d);
-    };
-    Front {
-        count: 5,
-        rest: e,
-        is_all: true,
-    }
-}
-
-// Reads a month's name and a day in turn with this byte between them, as far as they go.
-#[inline(always)]
-fn month_day<'a>(between: u8, parsed: &mut Parsed, input: &'a [u8]) -> Front<'a>
-    ensures within { result.count ≤ 3 }
-    ensures read { ReadsAll greatest_year (leaves (take result.count (month_day_parts between)))
-        input.now parsed.old result.rest.now parsed.new }
-    ensures all { IsTrue result.is_all → 0 < result.count }
-{
-    let Some(a) = month_name(parsed, input, MONTH_NAME) else {
-        return none(input);
-    };
-    let Some(b) = after(a, between) else {
-        return part(1, a);
-    };
-    let Some(c) = day(parsed, b, SPACED_DAY) else {
-        return part(2, b);
-    };
-    Front {
-        count: 3,
-        rest: c,
-        is_all: true,
-    }
-}
-
 // Reads a component. The commonest ones are read with no call.
 #[inline(always)]
-fn component<'a>(parsed: &mut Parsed, input: &'a [u8], component: &Component) -> Option<&'a [u8]>
+pub(super) fn component<'a>(
+    parsed: &mut Parsed,
+    input: &'a [u8],
+    component: &Component,
+) -> Option<&'a [u8]>
     ensures { MayRead greatest_year (component_tree false component.now) input.now parsed.old result parsed.new }
 {
     match *component {
@@ -238,7 +47,7 @@ fn component<'a>(parsed: &mut Parsed, input: &'a [u8], component: &Component) ->
 
 // Reads a year of four digits.
 #[inline(always)]
-fn year<'a>(
+pub(super) fn year<'a>(
     parsed: &mut Parsed,
     input: &'a [u8],
     modifiers: modifier::CalendarYearFullExtendedRange,
@@ -253,7 +62,7 @@ fn year<'a>(
 
 // Reads the first letters of a month's name.
 #[inline(always)]
-fn month_name<'a>(
+pub(super) fn month_name<'a>(
     parsed: &mut Parsed,
     input: &'a [u8],
     modifiers: modifier::MonthShort,
@@ -305,7 +114,7 @@ fn is_pm(period: Period) -> bool
 
 // Reads a month's number.
 #[inline(always)]
-fn month<'a>(
+pub(super) fn month<'a>(
     parsed: &mut Parsed,
     input: &'a [u8],
     modifiers: modifier::MonthNumerical,
@@ -320,7 +129,11 @@ fn month<'a>(
 
 // Reads a day.
 #[inline(always)]
-fn day<'a>(parsed: &mut Parsed, input: &'a [u8], modifiers: modifier::Day) -> Option<&'a [u8]>
+pub(super) fn day<'a>(
+    parsed: &mut Parsed,
+    input: &'a [u8],
+    modifiers: modifier::Day,
+) -> Option<&'a [u8]>
     ensures { MayRead greatest_year (component_tree false (components.Day modifiers))
         input.now parsed.old result parsed.new }
 {
@@ -331,7 +144,7 @@ fn day<'a>(parsed: &mut Parsed, input: &'a [u8], modifiers: modifier::Day) -> Op
 
 // Reads an hour of 24.
 #[inline(always)]
-fn hour_24<'a>(
+pub(super) fn hour_24<'a>(
     parsed: &mut Parsed,
     input: &'a [u8],
     modifiers: modifier::Hour24,
@@ -346,7 +159,11 @@ fn hour_24<'a>(
 
 // Reads a minute.
 #[inline(always)]
-fn minute<'a>(parsed: &mut Parsed, input: &'a [u8], modifiers: modifier::Minute) -> Option<&'a [u8]>
+pub(super) fn minute<'a>(
+    parsed: &mut Parsed,
+    input: &'a [u8],
+    modifiers: modifier::Minute,
+) -> Option<&'a [u8]>
     ensures { MayRead greatest_year (component_tree false (components.Minute modifiers))
         input.now parsed.old result parsed.new }
 {
@@ -357,7 +174,11 @@ fn minute<'a>(parsed: &mut Parsed, input: &'a [u8], modifiers: modifier::Minute)
 
 // Reads a second.
 #[inline(always)]
-fn second<'a>(parsed: &mut Parsed, input: &'a [u8], modifiers: modifier::Second) -> Option<&'a [u8]>
+pub(super) fn second<'a>(
+    parsed: &mut Parsed,
+    input: &'a [u8],
+    modifiers: modifier::Second,
+) -> Option<&'a [u8]>
     ensures { MayRead greatest_year (component_tree false (components.Second modifiers))
         input.now parsed.old result parsed.new }
 {
@@ -422,7 +243,7 @@ fn put_fraction(parsed: &mut Parsed, fraction: Option<u32>)
 
 // Reads a fraction that may be missing.
 #[inline(always)]
-fn fraction<'a>(parsed: &mut Parsed, input: &'a [u8], point: u8) -> Option<&'a [u8]>
+pub(super) fn fraction<'a>(parsed: &mut Parsed, input: &'a [u8], point: u8) -> Option<&'a [u8]>
     ensures { MayReadAll greatest_year (more (fraction_tree point) none_) input.now parsed.old result parsed.new }
 {
     let found = fraction_of(input, point)?;
@@ -432,7 +253,12 @@ fn fraction<'a>(parsed: &mut Parsed, input: &'a [u8], point: u8) -> Option<&'a [
 
 // Reads a second and its fraction that may be missing.
 #[inline(always)]
-fn seconds<'a>(parsed: &mut Parsed, input: &'a [u8], between: u8, point: u8) -> Option<&'a [u8]>
+pub(super) fn seconds<'a>(
+    parsed: &mut Parsed,
+    input: &'a [u8],
+    between: u8,
+    point: u8,
+) -> Option<&'a [u8]>
     ensures { MayReadAll greatest_year (more (seconds_tree between point) none_)
         input.now parsed.old result parsed.new }
 {

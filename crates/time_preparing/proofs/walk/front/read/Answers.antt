@@ -7,7 +7,7 @@ use Rattle.time_preparing.specs.declared.joined.Joined.TheVariants.{Byte, Compon
 use Rattle.time_preparing.proofs.Fronts.{plain_front, whole_front}
 use Rattle.time_preparing.proofs.Parts.{byte_may_read, tree_may_read}
 use Rattle.time_preparing.proofs.Rows.{fraction_row, plain_row, second_row}
-use Rattle.time_preparing.proofs.walk.fast.read.Goals as goal
+use Rattle.time_preparing.proofs.walk.front.read.Goals as goal
 
 pub returns-in-Byte-clause-read : goal.returns-in-Byte-clause-read
 returns-in-Byte-clause-read c =

@@ -4,7 +4,7 @@ use Rattle.time_components.specs.Tree.{component, none}
 use Rattle.time_components.specs.declared.format_description.Component.TheVariants.{MonthShort, Day}
 use Rattle.time_preparing.specs.declared.forms.TheConstants.{MONTH_NAME, SPACED_DAY}
 use Rattle.time_preparing.proofs.Parts.{read_all, byte_read, tree_read}
-use Rattle.time_preparing.proofs.walk.fast.month_day.Goals as goal
+use Rattle.time_preparing.proofs.walk.front.month_day.Goals as goal
 
 pub returns-in_default-clause-read : goal.returns-in_default-clause-read
 returns-in_default-clause-read c =

@@ -1,0 +1,181 @@
+//! What is read at once, in turn and as far as it goes: a second root over the readers of single parts.
+ghost use Rattle.std.specs.Prelude.{◌≡◌, ◌<◌, ◌≤◌, IsTrue, MatchOption, take};
+ghost use Rattle.time_values.specs.Range.{greatest_year};
+ghost use Rattle.time_record.specs.Reading.{ReadsAll};
+ghost use Rattle.time_preparing.specs.Forms.{date_parts, day_first_parts, time_parts};
+ghost use Rattle.time_preparing.specs.Joined.{month_day_parts};
+ghost use Rattle.time_preparing.specs.Walk.{leaves, MayReadFront};
+
+use super::fast::{
+    component, day, fraction, hour_24, minute, month, month_name, second, seconds, year,
+};
+use crate::forms::fast::after;
+use crate::forms::{DAY, HOUR, MINUTE, MONTH, MONTH_NAME, SECOND, SPACED_DAY, YEAR};
+use crate::joined::Joined;
+use time_components::Component;
+use time_record::Parsed;
+
+/// Steps that were read in turn.
+#[derive(Clone, Copy)]
+pub(super) struct Front<'a> {
+    /// How many.
+    pub count: usize,
+    /// What stands after them.
+    pub rest: &'a [u8],
+    /// Whether they are all of those that are read at once, and there is one.
+    pub is_all: bool,
+}
+
+/// Reads steps that are read at once, as far as they go. `left` is how many steps there are from here on.
+#[inline(always)]
+pub(super) fn read<'a>(
+    joined: &Joined,
+    left: usize,
+    parsed: &mut Parsed,
+    input: &'a [u8],
+) -> Front<'a>
+    requires { 1 ≤ left }
+    ensures within { result.count ≤ left }
+    ensures read { MayReadFront joined.now left result.count input.now parsed.old result.rest.now parsed.new }
+    ensures all { IsTrue result.is_all → 0 < result.count }
+{
+    match joined {
+        Joined::Byte(byte) => whole(1, after(input, *byte), input),
+        Joined::Component(wanted) => whole(1, component(parsed, input, wanted), input),
+        Joined::Date(between) if left >= 5 => date(*between, parsed, input),
+        Joined::DayFirst(between) if left >= 5 => day_first(*between, parsed, input),
+        Joined::MonthDay(between) if left >= 3 => month_day(*between, parsed, input),
+        Joined::Time(between) if left >= 5 => time(*between, parsed, input),
+        Joined::Fraction(point) if left >= 3 => whole(3, fraction(parsed, input, *point), input),
+        Joined::Seconds(between, point) if left >= 6 => {
+            whole(6, seconds(parsed, input, *between, *point), input)
+        }
+        _ => none(input),
+    }
+}
+
+// None of the steps.
+#[inline(always)]
+fn none(input: &[u8]) -> Front<'_>
+    ensures count { result.count ≡ 0 }
+    ensures rest { result.rest.now ≡ input.now }
+    ensures all { IsTrue result.is_all → 0 < result.count }
+{
+    part(0, input)
+}
+
+// So many steps, which are not all.
+#[inline(always)]
+fn part(count: usize, rest: &[u8]) -> Front<'_>
+    ensures count { result.count ≡ count }
+    ensures rest { result.rest.now ≡ rest.now }
+    ensures all { IsTrue result.is_all → 0 < result.count }
+{
+    Front {
+        count,
+        rest,
+        is_all: false,
+    }
+}
+
+// So many steps, or none.
+#[inline(always)]
+fn whole<'a>(count: usize, rest: Option<&'a [u8]>, input: &'a [u8]) -> Front<'a>
+    requires { 0 < count }
+    ensures read { MatchOption rest.entry ((result.count ≡ 0) × (result.rest.now ≡ input.now))
+        (λ r. (result.count ≡ count) × (result.rest.now ≡ r.now)) }
+    ensures within { result.count ≤ count }
+    ensures all { IsTrue result.is_all → 0 < result.count }
+{
+    match rest {
+        Some(rest) => Front {
+            count,
+            rest,
+            is_all: true,
+        },
+        None => none(input),
+    }
+}
+
+// Reads three components in turn with this byte between them, as far as they go.
+macro_rules! three {
+    ($parsed:expr, $input:expr, $between:expr, $first:ident $a:ident, $second:ident $b:ident, $third:ident $c:ident) => {{
+        let Some(first) = $first($parsed, $input, $a) else {
+            return none($input);
+        };
+        let Some(second) = after(first, $between) else {
+            return part(1, first);
+        };
+        let Some(third) = $second($parsed, second, $b) else {
+            return part(2, second);
+        };
+        let Some(fourth) = after(third, $between) else {
+            return part(3, third);
+        };
+        let Some(rest) = $third($parsed, fourth, $c) else {
+            return part(4, fourth);
+        };
+        Front {
+            count: 5,
+            rest,
+            is_all: true,
+        }
+    }};
+}
+
+// Reads a year, a month and a day in turn, as far as they go.
+#[inline(always)]
+fn date<'a>(between: u8, parsed: &mut Parsed, input: &'a [u8]) -> Front<'a>
+    ensures within { result.count ≤ 5 }
+    ensures read { ReadsAll greatest_year (leaves (take result.count (date_parts between)))
+        input.now parsed.old result.rest.now parsed.new }
+    ensures all { IsTrue result.is_all → 0 < result.count }
+{
+    three!(parsed, input, between, year YEAR, month MONTH, day DAY)
+}
+
+// Reads a day, a month's name and a year in turn, as far as they go.
+#[inline(always)]
+fn day_first<'a>(between: u8, parsed: &mut Parsed, input: &'a [u8]) -> Front<'a>
+    ensures within { result.count ≤ 5 }
+    ensures read { ReadsAll greatest_year (leaves (take result.count (day_first_parts between)))
+        input.now parsed.old result.rest.now parsed.new }
+    ensures all { IsTrue result.is_all → 0 < result.count }
+{
+    three!(parsed, input, between, day DAY, month_name MONTH_NAME, year YEAR)
+}
+
+// Reads an hour, a minute and a second in turn, as far as they go.
+#[inline(always)]
+fn time<'a>(between: u8, parsed: &mut Parsed, input: &'a [u8]) -> Front<'a>
+    ensures within { result.count ≤ 5 }
+    ensures read { ReadsAll greatest_year (leaves (take result.count (time_parts between)))
+        input.now parsed.old result.rest.now parsed.new }
+    ensures all { IsTrue result.is_all → 0 < result.count }
+{
+    three!(parsed, input, between, hour_24 HOUR, minute MINUTE, second SECOND)
+}
+
+// Reads a month's name and a day in turn with this byte between them, as far as they go.
+#[inline(always)]
+fn month_day<'a>(between: u8, parsed: &mut Parsed, input: &'a [u8]) -> Front<'a>
+    ensures within { result.count ≤ 3 }
+    ensures read { ReadsAll greatest_year (leaves (take result.count (month_day_parts between)))
+        input.now parsed.old result.rest.now parsed.new }
+    ensures all { IsTrue result.is_all → 0 < result.count }
+{
+    let Some(a) = month_name(parsed, input, MONTH_NAME) else {
+        return none(input);
+    };
+    let Some(b) = after(a, between) else {
+        return part(1, a);
+    };
+    let Some(c) = day(parsed, b, SPACED_DAY) else {
+        return part(2, b);
+    };
+    Front {
+        count: 3,
+        rest: c,
+        is_all: true,
+    }
+}

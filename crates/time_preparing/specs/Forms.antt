@@ -1,7 +1,6 @@
 -- The steps of forms whose parts stand at fixed places, and the records that their numbers make.
 use Rattle.std.specs.Prelude.{ℕ, List, [], ◌∷◌, ◌++◌, Option, None, Some}
 use Rattle.std.specs.Int.NonZero.{non_zero_u8_get}
-use Rattle.time_components.specs.declared.format_description.Component.{Component}
 use Rattle.time_components.specs.declared.format_description.Component.TheVariants.{CalendarYearFullExtendedRange, MonthNumerical, MonthShort, Day, Hour24, Minute, Second, OffsetHour, OffsetMinute}
 use Rattle.time_components.specs.declared.step.Step.{Step}
 use Rattle.time_components.specs.declared.step.Step.TheVariants as step
@@ -37,11 +36,6 @@ time_parts b =
     step.Component (Hour24 HOUR) ∷ step.Literal b
     ∷ step.Component (Minute MINUTE) ∷ step.Literal b
     ∷ step.Component (Second SECOND) ∷ []
-
--- three components with this byte between them
-abbrev pub three_parts : Component → Component → Component → ℕ → List Step
-three_parts c d e b =
-    step.Component c ∷ step.Literal b ∷ step.Component d ∷ step.Literal b ∷ step.Component e ∷ []
 
 -- a byte that may be there
 abbrev pub bytes_of : Option ℕ → List ℕ

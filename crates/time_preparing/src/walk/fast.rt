@@ -10,7 +10,7 @@ ghost use Rattle.time_record.specs.Components.{is_pm as is_pm_};
 ghost use Rattle.time_record.specs.Record.{Record};
 ghost use Rattle.time_record.specs.Reading.{Reads, ReadsAll};
 ghost use Rattle.time_record.specs.WalkFast.{MayRead};
-ghost use Rattle.time_preparing.specs.Forms.{date_parts, day_first_parts, three_parts, time_parts, with_subsecond};
+ghost use Rattle.time_preparing.specs.Forms.{date_parts, day_first_parts, time_parts, with_subsecond};
 ghost use Rattle.time_preparing.specs.Joined.{month_day_parts};
 ghost use Rattle.time_preparing.specs.Walk.{fraction_tree, leaves, MayReadAll, MayReadFront, seconds_tree};
 
@@ -105,6 +105,32 @@ fn whole<'a>(count: usize, rest: Option<&'a [u8]>, input: &'a [u8]) -> Front<'a>
     }
 }
 
+// Reads three components in turn with this byte between them, as far as they go.
+macro_rules! three {
+    ($parsed:expr, $input:expr, $between:expr, $first:ident $a:ident, $second:ident $b:ident, $third:ident $c:ident) => {{
+        let Some(first) = $first($parsed, $input, $a) else {
+            return none($input);
+        };
+        let Some(second) = after(first, $between) else {
+            return part(1, first);
+        };
+        let Some(third) = $second($parsed, second, $b) else {
+            return part(2, second);
+        };
+        let Some(fourth) = after(third, $between) else {
+            return part(3, third);
+        };
+        let Some(rest) = $third($parsed, fourth, $c) else {
+            return part(4, fourth);
+        };
+        Front {
+            count: 5,
+            rest,
+            is_all: true,
+        }
+    }};
+}
+
 // Reads a year, a month and a day in turn, as far as they go.
 #[inline(always)]
 fn date<'a>(between: u8, parsed: &mut Parsed, input: &'a [u8]) -> Front<'a>
@@ -113,9 +139,7 @@ fn date<'a>(between: u8, parsed: &mut Parsed, input: &'a [u8]) -> Front<'a>
         input.now parsed.old result.rest.now parsed.new }
     ensures all { IsTrue result.is_all → 0 < result.count }
 {
-    let year = Component::CalendarYearFullExtendedRange(YEAR);
-    let month = Component::MonthNumerical(MONTH);
-    three(year, month, Component::Day(DAY), between, parsed, input)
+    three!(parsed, input, between, year YEAR, month MONTH, day DAY)
 }
 
 // Reads a day, a month's name and a year in turn, as far as they go.
@@ -126,9 +150,7 @@ fn day_first<'a>(between: u8, parsed: &mut Parsed, input: &'a [u8]) -> Front<'a>
         input.now parsed.old result.rest.now parsed.new }
     ensures all { IsTrue result.is_all → 0 < result.count }
 {
-    let month = Component::MonthShort(MONTH_NAME);
-    let year = Component::CalendarYearFullExtendedRange(YEAR);
-    three(Component::Day(DAY), month, year, between, parsed, input)
+    three!(parsed, input, between, day DAY, month_name MONTH_NAME, year YEAR)
 }
 
 // Reads an hour, a minute and a second in turn, as far as they go.
@@ -139,53 +161,7 @@ fn time<'a>(between: u8, parsed: &mut Parsed, input: &'a [u8]) -> Front<'a>
         input.now parsed.old result.rest.now parsed.new }
     ensures all { IsTrue result.is_all → 0 < result.count }
 {
-    let hour = Component::Hour24(HOUR);
-    let minute = Component::Minute(MINUTE);
-    three(
-        hour,
-        minute,
-        Component::Second(SECOND),
-        between,
-        parsed,
-        input,
-    )
-}
-
-// Reads three components in turn with this byte between them, as far as they go.
-#[inline(always)]
-fn three<'a>(
-    first: Component,
-    second: Component,
-    third: Component,
-    between: u8,
-    parsed: &mut Parsed,
-    input: &'a [u8],
-) -> Front<'a>
-    ensures within { result.count ≤ 5 }
-    ensures read { ReadsAll greatest_year (leaves (take result.count (three_parts first second third between)))
-        input.now parsed.old result.rest.now parsed.new }
-    ensures all { IsTrue result.is_all → 0 < result.count }
-{
-    let Some(a) = component(parsed, input, &first) else {
-        return none(input);
-    };
-    let Some(b) = after(a, between) else {
-        return part(1, a);
-    };
-    let Some(c) = component(parsed, b, &second) else {
-        return part(2, b);
-    };
-    let Some(d) = after(c, between) else {
-        return part(3, c);
-    };
-    let Some(e) = component(parsed, d, &third) else {
-        return part(4, d);
-    };
-    Front {
-        count: 5,
-        rest: e,
-        is_all: true,
-    }
+    three!(parsed, input, between, hour_24 HOUR, minute MINUTE, second SECOND)
 }
 
 // Reads a month's name and a day in turn with this byte between them, as far as they go.

@@ -1,6 +1,6 @@
 use Rattle.std.proofs.Common.{false}
 use Rattle.time_values.specs.Range.{greatest_year}
-use Rattle.time_components.specs.Tree.{component, literal, none, more}
+use Rattle.time_components.specs.Tree.{component, none}
 use Rattle.time_components.specs.declared.format_description.Component.TheVariants.{Day, MonthShort, CalendarYearFullExtendedRange}
 use Rattle.time_preparing.specs.declared.forms.TheConstants.{DAY, MONTH_NAME, YEAR}
 use Rattle.time_preparing.proofs.Parts.{read_all, byte_read, tree_read}

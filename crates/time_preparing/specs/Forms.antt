@@ -48,7 +48,8 @@ byte_parts (Some b) = step.Literal b ∷ []
 
 -- an offset with a sign, its hour and its minute
 abbrev pub offset_parts : Option ℕ → List Step
-offset_parts b = step.Component (OffsetHour OFFSET_HOUR) ∷ byte_parts b ++ step.Component (OffsetMinute OFFSET_MINUTE) ∷ []
+offset_parts b =
+    step.Component (OffsetHour OFFSET_HOUR) ∷ byte_parts b ++ step.Component (OffsetMinute OFFSET_MINUTE) ∷ []
 
 -- the record with a year, a month and a day
 abbrev pub with_date : DateNumbers → Record → Record
@@ -60,7 +61,8 @@ with_clock n r = record r { hour_24 = Some n.hour; minute = Some n.minute; secon
 
 -- with an offset's hour and its sign, and its minute
 abbrev pub with_offset : OffsetNumbers → Record → Record
-with_offset n r = record r { offset_hour = Some n.hour; offset_is_negative = n.is_negative; offset_minute = Some n.minute }
+with_offset n r =
+    record r { offset_hour = Some n.hour; offset_is_negative = n.is_negative; offset_minute = Some n.minute }
 
 -- with nanoseconds of the second, where there are any
 abbrev pub with_subsecond : Option ℕ → Record → Record

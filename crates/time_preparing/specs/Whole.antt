@@ -27,7 +27,8 @@ whole_parts (whole.Date form) = dated_parts form
 whole_parts (whole.Time b) = time_parts b
 whole_parts (whole.Plain form between b) = dated_parts form ++ step.Literal between ∷ time_parts b
 whole_parts (whole.Moment m) =
-    dated_parts m.date ++ step.Literal m.between ∷ (time_parts m.in_time ++ (byte_parts m.before_offset ++ offset_parts m.in_offset))
+    dated_parts m.date ++ step.Literal m.between
+    ∷ (time_parts m.in_time ++ (byte_parts m.before_offset ++ offset_parts m.in_offset))
 
 -- What the list of these steps reads, the list of the others reads.
 abbrev pub IsLed : List Step → List Step → Type 0

@@ -18,8 +18,9 @@ use time_components::{Group, Step};
 use time_record::Parsed;
 use time_values::error::ParseFromDescription;
 
-// Reads what is read at once, as far as it goes, and answers how many steps that were, and the rest.
-#[inline(always)]
+// Reads what is read at once, as far as it goes, and answers how many steps that were, and the rest. It is called, so that
+// the readers of steps stand in one place, in line.
+#[inline(never)]
 fn read_joined<'a>(
     steps: &[Step],
     joined: &[Joined],

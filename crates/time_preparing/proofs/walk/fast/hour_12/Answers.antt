@@ -8,7 +8,8 @@ use Rattle.time_preparing.proofs.walk.fast.hour_12.Goals as goal
 
 pub returns : goal.returns
 returns c =
-    let sets = subst (λ v. Sets (put greatest_year (hour_12_is v) c.args.parsed.now) c.args.parsed.now (Some c.in_ok-set_hour_12.field-0) c.set_hour_12.new.self)
+    let old = c.args.parsed.now in
+    let sets = subst (λ v. Sets (put greatest_year (hour_12_is v) old) old (Some c.in_ok-set_hour_12.field-0) c.set_hour_12.new.self)
     c.in_ok-new.ensures c.in_ok-set_hour_12.ensures in
     spelled greatest_year false (Hour12 c.args.modifiers) c.args.input.now c.args.parsed.now c.in_ok-found.found.0.now (number c.in_ok-found.found.1)
     c.set_hour_12.new.self tt c.in_ok-found.ensures sets

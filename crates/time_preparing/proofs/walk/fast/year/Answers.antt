@@ -9,7 +9,9 @@ use Rattle.time_preparing.proofs.walk.fast.year.Goals as goal
 
 pub returns : goal.returns
 returns c =
-    let sets = subst (λ v. Sets (put greatest_year (year_is v) c.args.parsed.now) c.args.parsed.now (Some c.in_ok-set_year.field-0) c.set_year.new.self)
+    let old = c.args.parsed.now in
+    let sets = subst (λ v. Sets (put greatest_year (year_is v) old) old
+    (Some c.in_ok-set_year.field-0) c.set_year.new.self)
     (to_z-of_z w32 c.in_ok-found.found.1 c.in_ok-found.ensures.fits) c.in_ok-set_year.ensures in
-    spelled greatest_year false (CalendarYearFullExtendedRange c.args.modifiers) c.args.input.now c.args.parsed.now c.in_ok-found.found.0.now (signed c.in_ok-found.found.1)
-    c.set_year.new.self tt c.in_ok-found.ensures.cut sets
+    spelled greatest_year false (CalendarYearFullExtendedRange c.args.modifiers) c.args.input.now c.args.parsed.now c.in_ok-found.found.0.now
+    (signed c.in_ok-found.found.1) c.set_year.new.self tt c.in_ok-found.ensures.cut sets

@@ -12,8 +12,8 @@ returns-in_default-clause-read c =
 
 pub returns-in_default-after-clause-read : goal.returns-in_default-after-clause-read
 returns-in_default-after-clause-read c =
-    rw (c.part.ensures.count, c.part.ensures.rest) (tree_read greatest_year none _ _ _ (component false (CalendarYearFullExtendedRange YEAR)) _ _ _ c.in-Some.ensures
-    (read_all greatest_year _ _))
+    rw (c.part.ensures.count, c.part.ensures.rest) (tree_read greatest_year none _ _ _ (component false (CalendarYearFullExtendedRange YEAR)) _ _ _
+    c.in-Some.ensures (read_all greatest_year _ _))
 
 pub returns-in_default-month-clause-read : goal.returns-in_default-month-clause-read
 returns-in_default-month-clause-read c =

@@ -46,7 +46,8 @@ told_of shows_lines front t (refused column reason) = told_reason shows_lines fr
 
 -- A front is refused at one column and for one reason.
 pub one_reason : (job : Job) (shows_lines : Bool) (front : List ℕ) (column other : ℕ) (reason why : List ℕ)
-    → IsReason greatest_year job shows_lines front column reason → IsReason greatest_year job shows_lines front other why
+    → IsReason greatest_year job shows_lines front column reason
+    → IsReason greatest_year job shows_lines front other why
     → (column ≡ other) × (reason ≡ why)
 unfolding column_of told_of
 one_reason job shows_lines front column other reason why p q =

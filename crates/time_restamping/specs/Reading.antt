@@ -119,8 +119,8 @@ IsReadInYear Y u year result =
     MatchOption (put Y (year_is year) u.defaults) (result ≡ None)
     (λ dated. (read : Result Said Reason) × Says Y u.format u.is_open u.text (Some dated) read × (result ≡ Some read))
 
--- What it says in the first of so many years, from that one down, in which it says a moment that isn't too late; or else
--- the last reason.
+-- What it says in the first of so many years, from that one down, in which it says a moment that isn't too late; or
+-- else the last reason.
 unfoldable pub AreYearsTried : ℕ → Undated → ℕ → ℤ → Reason → Result Said Reason → Type 0
 AreYearsTried Y u zero year reason result = result ≡ Err reason
 AreYearsTried Y u (suc n) year reason result =
@@ -130,14 +130,15 @@ AreYearsTried Y u (suc n) year reason result =
     (λ s. MatchBool (is_after Y s.moment u.latest) (AreYearsTried Y u n (year -ℤ pos 1) reason result) (result ≡ Ok s))
     (λ why. AreYearsTried Y u n (year -ℤ pos 1) why result))
 
--- What a text says by a format; where it says nothing so, it may leave its year out, and says the latest moment that isn't
--- after a given one.
+-- What a text says by a format; where it says nothing so, it may leave its year out, and says the latest moment that
+-- isn't after a given one.
 abbrev pub IsDated : ℕ → Reading → Bool → List ℕ → Defaults → Result Said Reason → Type 0
 IsDated Y format is_open text defaults result =
     (plain : Result Said Reason) × Says Y format is_open text defaults.parts plain
     × MatchResult plain (λ s. result ≡ Ok s)
     (λ reason. MatchOption defaults.latest (result ≡ Err reason)
-    (λ latest. AreYearsTried Y (undated format is_open text (begun defaults.parts) latest) 10 (year_after latest) reason result))
+    (λ latest. AreYearsTried Y (undated format is_open text (begun defaults.parts) latest) 10 (year_after latest) reason
+    result))
 
 -- what it says by the first of these formats by which it says something, or else that reason
 abbrev pub AreTried : ℕ → List Reading → Bool → List ℕ → Defaults → Reason → Result Said Reason → Type 0

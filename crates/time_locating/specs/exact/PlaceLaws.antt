@@ -90,8 +90,8 @@ module _ {P N : Type 0} (A : Format P N) (one : AtMostOneEach A) (fault : P → 
       MarksPlaces-one ps j end x y (subst (λ o. MarksPlaces A fault name ps o end x) first.1 over_m) k.1
 
 module _ {P N : Type 0} (A : Format P N) (one : AtMostOneEach A) (fault : P → Refusal) (ps : List P) (start : N) where
-  MarksText-one : (name b : List ℕ) (x y : Option ℕ) → MarksText A fault ps start name b x → MarksText A fault ps start name b y
-      → x ≡ y
+  MarksText-one : (name b : List ℕ) (x y : Option ℕ) → MarksText A fault ps start name b x
+      → MarksText A fault ps start name b y → x ≡ y
   MarksText-one name b x y (inl h) (inl k) = h.1 ∙ sym k.1
   MarksText-one name b x y (inl h) (inr k) =
       absurd ((one_form A one ps start b).never_both k.0.0 k.0.1 h.0.0 k.0.2 h.0.1)

@@ -72,7 +72,8 @@ walk_all-loop-item-preserved g t c =
     )
 
 pub walk_all-returns-clause-reads : goal.walk_all-returns-clause-reads
-walk_all-returns-clause-reads g t c = Follows-end c.loop-item.invariant.0 (trees_from-end g.I.Inspect.shape c.args.items.now c.loop-item.item-index (omega arith))
+walk_all-returns-clause-reads g t c =
+    Follows-end c.loop-item.invariant.0 (trees_from-end g.I.Inspect.shape c.args.items.now c.loop-item.item-index (omega arith))
 
 pub walk_all-returns-clause-misses : goal.walk_all-returns-clause-misses
 walk_all-returns-clause-misses g t c =

@@ -5,7 +5,8 @@ use Rattle.time_parse.proofs.place.write_place.Goals as goal
 pub returns-in_default : goal.returns-in_default
 returns-in_default g c =
     unplaced_written c.args.target (g.F.Parsable.path c.args.format.now) (g.F.Parsable.reads c.args.format.now)
-    (g.F.Parsable.refuses c.args.format.now) (g.F.Locate.locates c.args.format.now) (g.F.Locate.marks c.args.format.now) c.args.text.now c.write_error_place.result _ _ _ c.in_default.ensures c.refusal.ensures
+    (g.F.Parsable.refuses c.args.format.now) (g.F.Locate.locates c.args.format.now) (g.F.Locate.marks c.args.format.now) c.args.text.now
+    c.write_error_place.result _ _ _ c.in_default.ensures c.refusal.ensures
     c.write_error_place.ensures
 
 pub returns-in-Ok : goal.returns-in-Ok

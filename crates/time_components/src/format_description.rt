@@ -188,22 +188,34 @@ impl Debug for BorrowedFormatItem<'_> {
     #[cycle(debug_borrowed)]
     fn fmt<W: fmt::Write>(&self, f: &mut fmt::Formatter<W>) -> fmt::Result {
         match self {
-            BorrowedFormatItem::Literal(text) => f.debug_tuple("Literal").field(text).finish(),
-            BorrowedFormatItem::StringLiteral(text) => {
-                f.debug_tuple("StringLiteral").field(text).finish()
-            }
-            BorrowedFormatItem::Component(component) => {
-                f.debug_tuple("Component").field(component).finish()
-            }
+            BorrowedFormatItem::Literal(text) => write_field("Literal", text, f),
+            BorrowedFormatItem::StringLiteral(text) => write_field("StringLiteral", text, f),
+            BorrowedFormatItem::Component(component) => write_field("Component", component, f),
             BorrowedFormatItem::Compound(items) => write_borrowed_list("Compound", items, f),
-            BorrowedFormatItem::Optional(item) => {
-                write!(f, "Optional(")?;
-                item.fmt(f)?;
-                write!(f, ")")
-            }
+            BorrowedFormatItem::Optional(item) => write_borrowed_optional(item, f),
             BorrowedFormatItem::First(items) => write_borrowed_list("First", items, f),
         }
     }
+}
+
+// Writes a variant that holds no item, as a derived `Debug` would.
+fn write_field<T: Debug, W: fmt::Write>(
+    name: &str,
+    value: &T,
+    f: &mut fmt::Formatter<W>,
+) -> fmt::Result {
+    f.debug_tuple(name).field(value).finish()
+}
+
+// Writes the variant that holds an item that may be missing, as a derived `Debug` would.
+#[cycle(debug_borrowed)]
+fn write_borrowed_optional<W: fmt::Write>(
+    item: &BorrowedFormatItem<'_>,
+    f: &mut fmt::Formatter<W>,
+) -> fmt::Result {
+    f.write_str("Optional(")?;
+    item.fmt(f)?;
+    f.write_str(")")
 }
 
 // Writes a variant that holds a list of items, as a derived `Debug` would.
@@ -213,14 +225,15 @@ fn write_borrowed_list<W: fmt::Write>(
     items: &[BorrowedFormatItem<'_>],
     f: &mut fmt::Formatter<W>,
 ) -> fmt::Result {
-    write!(f, "{name}([")?;
+    f.write_str(name)?;
+    f.write_str("([")?;
     for (index, item) in items.iter().enumerate() {
         if index > 0 {
-            write!(f, ", ")?;
+            f.write_str(", ")?;
         }
         item.fmt(f)?;
     }
-    write!(f, "])")
+    f.write_str("])")
 }
 
 impl Debug for FormatDescriptionV3<'_> {
@@ -235,11 +248,11 @@ impl Debug for FormatDescriptionV3Inner<'_> {
     #[cycle(debug_v3)]
     fn fmt<W: fmt::Write>(&self, f: &mut fmt::Formatter<W>) -> fmt::Result {
         match *self {
-            FormatDescriptionV3Inner::Component(component) => {
-                write!(f, "Component({component:?})")
+            FormatDescriptionV3Inner::Component(ref component) => {
+                write_v3_field("Component", component, f)
             }
-            FormatDescriptionV3Inner::BorrowedLiteral(text) => {
-                write!(f, "BorrowedLiteral({text:?})")
+            FormatDescriptionV3Inner::BorrowedLiteral(ref text) => {
+                write_v3_field("BorrowedLiteral", text, f)
             }
             FormatDescriptionV3Inner::BorrowedCompound(items) => {
                 write_v3_list("BorrowedCompound", items, f)
@@ -251,7 +264,7 @@ impl Debug for FormatDescriptionV3Inner<'_> {
                 write_v3_list("BorrowedFirst", items, f)
             }
             FormatDescriptionV3Inner::OwnedLiteral(ref text) => {
-                write!(f, "OwnedLiteral({text:?})")
+                write_v3_field("OwnedLiteral", text, f)
             }
             FormatDescriptionV3Inner::OwnedCompound(ref items) => {
                 write_v3_list("OwnedCompound", items.as_slice(), f)
@@ -266,6 +279,15 @@ impl Debug for FormatDescriptionV3Inner<'_> {
     }
 }
 
+// Writes a variant that holds no item, as a derived `Debug` would.
+fn write_v3_field<T: Debug, W: fmt::Write>(
+    name: &str,
+    value: &T,
+    f: &mut fmt::Formatter<W>,
+) -> fmt::Result {
+    write!(f, "{name}({value:?})")
+}
+
 // Writes a variant that holds a list of items, as a derived `Debug` would.
 #[cycle(debug_v3)]
 fn write_v3_list<W: fmt::Write>(
@@ -273,14 +295,15 @@ fn write_v3_list<W: fmt::Write>(
     items: &[FormatDescriptionV3Inner<'_>],
     f: &mut fmt::Formatter<W>,
 ) -> fmt::Result {
-    write!(f, "{name}([")?;
+    f.write_str(name)?;
+    f.write_str("([")?;
     for (index, item) in items.iter().enumerate() {
         if index > 0 {
-            write!(f, ", ")?;
+            f.write_str(", ")?;
         }
         item.fmt(f)?;
     }
-    write!(f, "])")
+    f.write_str("])")
 }
 
 // Writes a variant that holds an item that may be missing, as a derived `Debug` would.
@@ -293,5 +316,5 @@ fn write_v3_optional<W: fmt::Write>(
 ) -> fmt::Result {
     write!(f, "{name} {{ format: {format}, item: ")?;
     item.fmt(f)?;
-    write!(f, " }}")
+    f.write_str(" }")
 }

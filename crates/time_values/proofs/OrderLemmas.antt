@@ -1,10 +1,9 @@
 -- Orders by parts and by one number.
-use Rattle.std.proofs.Common.{Ordering, Less, Equal, Greater, ◌≡◌, ℕ, ◌+◌, ◌-◌, ◌<◌, refl, sym, ap, ◌∙◌, arith, ℤ, ◌<ℤ◌}
+use Rattle.std.proofs.Common.{Ordering, Less, Equal, Greater, ◌≡◌, ℕ, ◌-◌, ◌<◌, refl, sym, ap, ◌∙◌, arith, ℤ, ◌<ℤ◌}
 use Rattle.std.specs.Ordering.{ordering_then, nat_cmp, int_cmp}
 use Rattle.std.proofs.lemmas.Bool.Decides.{nat_tests}
 use Rattle.std.proofs.lemmas.Int.{ints}
 use Rattle.std.proofs.lemmas.Cmp.{by_ranked, ranked, int_ranked}
-use Rattle.time_values.specs.declared.aligned.Aligned.{Aligned}
 use Rattle.time_values.specs.declared.date.Date.{Date}
 use Rattle.time_values.specs.declared.time.Time.{Time}
 use Rattle.time_values.specs.Month.{month_number}

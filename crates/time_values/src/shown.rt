@@ -1,5 +1,5 @@
 //! Values as they are printed.
-ghost use Rattle.std.specs.Prelude.{◌≡◌, ◌+◌, ◌<◌, ◌≤◌, ◌++◌, length, Some};
+ghost use Rattle.std.specs.Prelude.{◌≡◌, ◌+◌, ◌<◌, ◌≤◌, ◌∷◌, ◌++◌, length, Some};
 ghost use Rattle.std.specs.Fmt.{signed_decimal};
 ghost use Rattle.time_values.specs.Moments.{nanoseconds};
 ghost use Rattle.time_values.specs.Shown as Shown;
@@ -43,6 +43,17 @@ fn append_magnitude(text: &mut Text, n: u32)
     }
 }
 
+// Two numbers of two digits, each after that mark.
+fn marked_pairs(mark: u8, first: u8, second: u8) -> [u8; 6]
+    requires first { first < 100 }
+    requires second { second < 100 }
+    ensures { result ≡ (mark ∷ Shown.fixed 2 first) ++ (mark ∷ Shown.fixed 2 second) }
+{
+    let [a1, a2] = pair(first);
+    let [b1, b2] = pair(second);
+    [mark, a1, a2, mark, b1, b2]
+}
+
 /// `YYYY-MM-DD`. A year outside 0 to 9999 has a sign, and as many digits as it takes.
 impl fmt::Display for Date {
     ghost output = { λ d. Some (Shown.date_shown d) };
@@ -51,10 +62,7 @@ impl fmt::Display for Date {
         let mut text = Text::new();
         append_year_sign(&mut text, self.year());
         append_magnitude(&mut text, self.year().unsigned_abs());
-        text.append(b"-");
-        text.append(&pair(self.month().number()));
-        text.append(b"-");
-        text.append(&pair(self.day()));
+        text.append(&marked_pairs(b'-', self.month().number(), self.day()));
         f.write_str(str::from_utf8(text.as_bytes()).map_err(|_| fmt::Error)?)
     }
 }
@@ -80,10 +88,7 @@ impl fmt::Display for Time {
     fn fmt<W: fmt::Write>(&self, f: &mut fmt::Formatter<W>) -> fmt::Result {
         let mut text = Text::new();
         append_hour(&mut text, self.hour());
-        text.append(b":");
-        text.append(&pair(self.minute()));
-        text.append(b":");
-        text.append(&pair(self.second()));
+        text.append(&marked_pairs(b':', self.minute(), self.second()));
         let digits = count_significant(self.nanosecond()).max(1);
         append_fraction(&mut text, digits, self.nanosecond());
         f.write_str(str::from_utf8(text.as_bytes()).map_err(|_| fmt::Error)?)

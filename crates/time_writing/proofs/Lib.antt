@@ -1,4 +1,5 @@
 pub mod KeptDigits
+pub mod Letters
 pub mod OneShown
 pub mod SameParts
 pub mod SameTexts

@@ -1,8 +1,11 @@
 //! Texts of ISO 8601-1:2019, section 5.4.2.
-ghost use Rattle.std.specs.Prelude.{◌≡◌, ◌≤◌, ◌++◌, length, pos};
+ghost use Rattle.std.specs.Prelude.{◌≡◌, ◌≤◌, ◌++◌, codes, length, pos, unsigned_abs};
 ghost use Rattle.time_values.specs.Calendar.{IsBetween};
 ghost use Rattle.time_values.specs.Dates as Dates;
 ghost use Rattle.time_values.specs.Moments.{offset_date};
+ghost use Rattle.time_values.specs.Month.{month_number};
+ghost use Rattle.time_values.specs.Shown.{fixed};
+ghost use Rattle.time_values.specs.Times as Times;
 ghost use Rattle.time_writing.specs.Texts.{moment_text, basic_offset_text, basic_text, unwritable_3339, Writes};
 
 use crate::fraction::FractionDigits;
@@ -11,7 +14,7 @@ use crate::rfc3339::{reason, text_3339};
 use crate::unwritable::Unwritable;
 use time_values::digits::{four, pair};
 use time_values::text::Text;
-use time_values::{OffsetDateTime, UtcOffset};
+use time_values::{Date, OffsetDateTime, Time, UtcOffset};
 
 /// The text of a moment by ISO 8601 in its extended form, with nine digits of a fraction:
 /// `2021-01-02T03:04:05.520000000+06:07`, with `Z` for an offset of 0.
@@ -36,20 +39,39 @@ fn append_offset(text: &mut Text, offset: UtcOffset)
     }
 }
 
+// `YYYYMMDD`.
+#[inline(always)]
+fn basic_date(date: &Date) -> [u8; 8]
+    requires { IsBetween (pos 0) (pos 9999) (Dates.year date.now) }
+    ensures { result ≡ fixed 4 (unsigned_abs (Dates.year date.now)) ++ fixed 2 (month_number (Dates.month date.now))
+        ++ fixed 2 (Dates.day date.now) }
+{
+    let [y1, y2, y3, y4] = four(date.year().unsigned_abs());
+    let [m1, m2] = pair(date.month().number());
+    let [d1, d2] = pair(date.day());
+    [y1, y2, y3, y4, m1, m2, d1, d2]
+}
+
+// `THHMMSS`.
+#[inline(always)]
+fn basic_clock(time: &Time) -> [u8; 7]
+    ensures { result ≡ codes "T" ++ fixed 2 (Times.hour time.now) ++ fixed 2 (Times.minute time.now)
+        ++ fixed 2 (Times.second time.now) }
+{
+    let [h1, h2] = pair(time.hour());
+    let [m1, m2] = pair(time.minute());
+    let [s1, s2] = pair(time.second());
+    [b'T', h1, h2, m1, m2, s1, s2]
+}
+
 // The text, where the year has four digits.
 fn write(value: OffsetDateTime) -> Text
     requires { IsBetween (pos 0) (pos 9999) (Dates.year (offset_date value)) }
     ensures { result.items ≡ basic_text value }
 {
-    let (date, time) = (value.date(), value.time());
     let mut text = Text::new();
-    text.append(&four(date.year().unsigned_abs()));
-    text.append(&pair(date.month().number()));
-    text.append(&pair(date.day()));
-    text.append(b"T");
-    text.append(&pair(time.hour()));
-    text.append(&pair(time.minute()));
-    text.append(&pair(time.second()));
+    text.append(&basic_date(&value.date()));
+    text.append(&basic_clock(&value.time()));
     append_offset(&mut text, value.offset());
     text
 }

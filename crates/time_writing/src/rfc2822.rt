@@ -1,15 +1,28 @@
 //! Texts of RFC 2822, section 3.3.
-ghost use Rattle.std.specs.Prelude.{◌≡◌, pos};
+ghost use Rattle.std.specs.Prelude.{◌≡◌, ◌++◌, codes, pos};
 ghost use Rattle.time_values.specs.Calendar.{IsBetween};
 ghost use Rattle.time_values.specs.Dates as Dates;
 ghost use Rattle.time_values.specs.Moments.{offset_date};
-ghost use Rattle.time_writing.specs.Texts.{IsMailText, unwritable_2822, WritesSuch};
+ghost use Rattle.time_values.specs.Shown.{fixed};
+ghost use Rattle.time_writing.specs.Texts.{IsMailText, short_month, short_weekday, unwritable_2822, WritesSuch};
 
 use crate::parts::{clock, month_letters, offset_without_colon, weekday_letters};
 use crate::unwritable::Unwritable;
-use time_values::OffsetDateTime;
 use time_values::digits::{four, pair};
 use time_values::text::Text;
+use time_values::{Date, OffsetDateTime, Weekday};
+
+// `Sat, 02 Jan ` of a date and its weekday.
+#[inline(always)]
+fn weekday_and_day(weekday: Weekday, date: &Date) -> [u8; 12]
+    ensures { result ≡ short_weekday weekday ++ codes ", " ++ fixed 2 (Dates.day date.now) ++ codes " "
+        ++ short_month (Dates.month date.now) ++ codes " " }
+{
+    let [w1, w2, w3] = weekday_letters(weekday);
+    let [d1, d2] = pair(date.day());
+    let [m1, m2, m3] = month_letters(date.month());
+    [w1, w2, w3, b',', b' ', d1, d2, b' ', m1, m2, m3, b' ']
+}
 
 // The text, where the year has four digits.
 #[inline(always)]
@@ -19,12 +32,7 @@ fn write(value: OffsetDateTime) -> Text
 {
     let date = value.date();
     let mut text = Text::new();
-    text.append(&weekday_letters(date.weekday()));
-    text.append(b", ");
-    text.append(&pair(date.day()));
-    text.append(b" ");
-    text.append(&month_letters(date.month()));
-    text.append(b" ");
+    text.append(&weekday_and_day(date.weekday(), &date));
     text.append(&four(date.year().unsigned_abs()));
     text.append(&clock(b' ', &value.time()));
     text.append(b" ");

@@ -52,7 +52,7 @@ pub made_of : (s : Said) (v : OffsetDateTime) → s.second < 60
 unfolding LeapSecondMayStand
 made_of s v below date clock offset =
     let other : (s.second == 60) ≡ false = ne_eqb s.second 60 (λ leap. absurd (omega arith)) in
-    let shown = of_parts greatest_year s v date (rw other clock) offset in
+    let shown = of_parts greatest_year s _ _ _ v refl refl refl date (rw other clock) offset in
     (shown.0, shown.1, λ leap. absurd (omega arith))
 
 -- the places of a whole text, one after another

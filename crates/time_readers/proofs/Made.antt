@@ -1,7 +1,14 @@
 -- What a constructor's answer says of its refusal.
-use Rattle.std.proofs.Common.{◌≡◌, ◌∙◌, ◌<◌, ◌≤◌, Bool, true, ℕ, List, [], pos, false, refl, sym, ap, inr, subst, Option, Some, None, Result, Ok, Err}
+use Rattle.std.proofs.Common.{◌≡◌, ◌∙◌, ◌<◌, ◌≤◌, Bool, true, ℕ, ℤ, List, [], pos, false, refl, sym, ap, inr, subst, Option, Some, None, Result, Ok, Err}
 use Rattle.std.specs.Prelude.{MatchResult, IsTrue, ◌↔◌, codes}
 use Rattle.std.proofs.lemmas.Bool.{le-leb, lt-leb}
+use Rattle.time_values.specs.Dates as Dates
+use Rattle.time_values.specs.DateRefusals.{calendar_date_refusal}
+use Rattle.time_values.specs.Month.{month_number, month_refusal}
+use Rattle.time_values.specs.declared.date.Date.{Date}
+use Rattle.time_values.specs.declared.time.Time.{Time}
+use Rattle.time_values.specs.declared.utc_offset.UtcOffset.{UtcOffset}
+use Rattle.time_values.specs.declared.month.Month.{Month}
 use Rattle.time_values.specs.Refusal.{Refusal, range, Constructs, refusal_of_range, refusal_of}
 use Rattle.time_values.specs.Moments.{offset_date, offset_time, offset_of}
 use Rattle.time_values.specs.Offsets.{HasOffset, offset_refusal}
@@ -25,24 +32,86 @@ pub refused : {A : Type 0} (o : Option Refusal) (P : A → Type 0) (e : Componen
 refused None P e h = absurd h
 refused (Some r) P e h = ap Some (sym h)
 
--- a moment of accepted parts is the one that is said
-pub of_parts : (Y : ℕ) (s : Said) (v : OffsetDateTime)
-    → Constructs (date_refusal Y s) (HasDate s) (Ok (offset_date v))
+-- the error of the month is the error of the date
+pub month_refused : (Y : ℕ) (s : Said) (e : ComponentRange) → Constructs (month_refusal s.month) (λ m. month_number m ≡ s.month) (Err e)
+    → Constructs (date_refusal Y s) (HasDate s) (Err e)
+month_refused Y s e h = rw (refused (month_refusal s.month) (λ m. month_number m ≡ s.month) e h) refl
+
+parts_said : (s : Said) (m : Month) (o : Option Refusal) (r : Result Date ComponentRange) → month_number m ≡ s.month
+    → Constructs o (Dates.HasParts (pos s.year) m s.day) r → Constructs o (HasDate s) r
+parts_said s m None (Ok v) is h = record { year = h.0; month = ap month_number h.1 ∙ is; day = h.2 }
+parts_said s m None (Err e) is h = h
+parts_said s m (Some f) (Ok v) is h = h
+parts_said s m (Some f) (Err e) is h = h
+
+-- a date of the month of that number is the one that is said
+pub date_made : (Y : ℕ) (s : Said) (y : ℤ) (m : Month) (r : Result Date ComponentRange) → y ≡ pos s.year
+    → Constructs (month_refusal s.month) (λ m. month_number m ≡ s.month) (Ok m)
+    → Constructs (calendar_date_refusal Y y (month_number m) s.day) (Dates.HasParts y m s.day) r
+    → Constructs (date_refusal Y s) (HasDate s) r
+date_made Y s y m r year month made =
+    let h = accepted (month_refusal s.month) (λ m. month_number m ≡ s.month) m month in
+    let refusal = λ (n : ℕ). calendar_date_refusal Y (pos s.year) n s.day in
+    let parts = subst (λ y. Constructs (calendar_date_refusal Y y (month_number m) s.day) (Dates.HasParts y m s.day) r) year made in
+    rw h.0 (parts_said s m (refusal s.month) r h.1 (subst (λ n. Constructs (refusal n) (Dates.HasParts (pos s.year) m s.day) r) h.1 parts))
+
+-- the first part that is refused is what the moment is refused for
+pub date_first : (Y : ℕ) (s : Said) (e : ComponentRange) → Constructs (date_refusal Y s) (HasDate s) (Err e)
+    → first_refusal Y s ≡ Some (refusal_of_range e)
+date_first Y s e date = rw (refused (date_refusal Y s) (HasDate s) e date) refl
+
+pub clock_first : (Y : ℕ) (s : Said) (d : Date) (e : ComponentRange) → Constructs (date_refusal Y s) (HasDate s) (Ok d)
     → Constructs (time_refusal s.hour s.minute (shown_second s) (shown_nanosecond s))
-    (HasClock s.hour s.minute (shown_second s) (shown_nanosecond s)) (Ok (offset_time v))
-    → Constructs (offset_refusal s.offset_hour s.offset_minute (pos 0)) (HasOffset s.offset_hour s.offset_minute (pos 0))
-    (Ok (offset_of v))
-    → (first_refusal Y s ≡ None) × IsMoment s v
-of_parts Y s v date clock offset =
+    (HasClock s.hour s.minute (shown_second s) (shown_nanosecond s)) (Err e)
+    → first_refusal Y s ≡ Some (refusal_of_range e)
+clock_first Y s d e date clock =
     let second = shown_second s in
     let nanosecond = shown_nanosecond s in
-    let d = accepted (date_refusal Y s) (HasDate s) (offset_date v) date in
-    let t = accepted (time_refusal s.hour s.minute second nanosecond) (HasClock s.hour s.minute second nanosecond)
-    (offset_time v) clock in
+    rw (
+      (accepted (date_refusal Y s) (HasDate s) d date).0,
+      refused (time_refusal s.hour s.minute second nanosecond) (HasClock s.hour s.minute second nanosecond) e clock,
+    ) refl
+
+pub offset_first : (Y : ℕ) (s : Said) (d : Date) (t : Time) (e : ComponentRange) → Constructs (date_refusal Y s) (HasDate s) (Ok d)
+    → Constructs (time_refusal s.hour s.minute (shown_second s) (shown_nanosecond s))
+    (HasClock s.hour s.minute (shown_second s) (shown_nanosecond s)) (Ok t)
+    → Constructs (offset_refusal s.offset_hour s.offset_minute (pos 0)) (HasOffset s.offset_hour s.offset_minute (pos 0)) (Err e)
+    → first_refusal Y s ≡ Some (refusal_of_range e)
+offset_first Y s d t e date clock offset =
+    let second = shown_second s in
+    let nanosecond = shown_nanosecond s in
     let hours = s.offset_hour in
     let minutes = s.offset_minute in
-    let o = accepted (offset_refusal hours minutes (pos 0)) (HasOffset hours minutes (pos 0)) (offset_of v) offset in
-    (rw (d.0, t.0, o.0) refl, record { date = d.1; clock = t.1; offset = o.1 })
+    rw (
+      (accepted (date_refusal Y s) (HasDate s) d date).0,
+      (accepted (time_refusal s.hour s.minute second nanosecond) (HasClock s.hour s.minute second nanosecond) t clock).0,
+      refused (offset_refusal hours minutes (pos 0)) (HasOffset hours minutes (pos 0)) e offset,
+    ) refl
+
+-- a moment of accepted parts is the one that is said
+pub of_parts : (Y : ℕ) (s : Said) (d : Date) (t : Time) (o : UtcOffset) (v : OffsetDateTime)
+    → offset_date v ≡ d → offset_time v ≡ t → offset_of v ≡ o
+    → Constructs (date_refusal Y s) (HasDate s) (Ok d)
+    → Constructs (time_refusal s.hour s.minute (shown_second s) (shown_nanosecond s))
+    (HasClock s.hour s.minute (shown_second s) (shown_nanosecond s)) (Ok t)
+    → Constructs (offset_refusal s.offset_hour s.offset_minute (pos 0)) (HasOffset s.offset_hour s.offset_minute (pos 0))
+    (Ok o)
+    → (first_refusal Y s ≡ None) × IsMoment s v
+of_parts Y s d t o v is_date is_time is_offset date clock offset =
+    let second = shown_second s in
+    let nanosecond = shown_nanosecond s in
+    let hours = s.offset_hour in
+    let minutes = s.offset_minute in
+    let has_date = accepted (date_refusal Y s) (HasDate s) d date in
+    let has_clock = accepted (time_refusal s.hour s.minute second nanosecond) (HasClock s.hour s.minute second nanosecond) t clock in
+    let has_offset = accepted (offset_refusal hours minutes (pos 0)) (HasOffset hours minutes (pos 0)) o offset in (
+      rw (has_date.0, has_clock.0, has_offset.0) refl,
+      record {
+        date = subst (HasDate s) (sym is_date) has_date.1;
+        clock = subst (HasClock s.hour s.minute second nanosecond) (sym is_time) has_clock.1;
+        offset = subst (HasOffset hours minutes (pos 0)) (sym is_offset) has_offset.1;
+      },
+    )
 
 -- what is answered after all places, of which the last refuses nothing
 pub after : {P N : Type 0} (form : Form N) (fails : List ℕ → P → Type 0) (fault : P → Refusal) (last : N → Option Refusal)

@@ -3,6 +3,7 @@ use Rattle.std.proofs.Common.{◌≡◌, ℕ, ◌+◌, ◌-◌, ◌*◌, ◌≤�
 use Rattle.std.proofs.lemmas.Simd.{pick_l_whole}
 use Rattle.std.specs.Str.{str_to_ascii_lowercase}
 use Rattle.time_values.specs.declared.month.Month.{Month}
+use Rattle.time_digits.proofs.CutLemmas.{take-drop}
 use Rattle.time_digits.specs.Digits.{IsDigit}
 use Rattle.time_readers.specs.Block.{AllWithin, pair_at}
 use Rattle.time_readers.specs.MailBlanks.{fws, cfws, opt_cfws_colon_opt_cfws}
@@ -158,13 +159,14 @@ pub to_offset_lists : (check_ranges : Bool) (n : Numbers) (text first rest : Lis
     → hour ≡ pair_at first 10 → IsWithin check_ranges 0 23 hour
     → minute ≡ pair_at first 13
     → second ≡ pair_at rest 0 → second ≤ 60
-    → Stand (Asks check_ranges) to_offset_places n text (drop 3 rest) (to_offset_numbers n month year hour minute second)
+    → Stand (Asks check_ranges) to_offset_places n text (take (length rest - 3) (drop 3 rest)) (to_offset_numbers n month year hour minute second)
 to_offset_lists check_ranges n text first rest month year hour minute second cut l short w
     sec0 sec1 space printed named yeq late heq hour_in neq seq shigh =
     let f = pick_l_whole 0 first 16 l in
     let r = four_first rest short in
     let stands = to_offset_stands check_ranges n _ _ _ _ _ _ _ _ _ _ _ _ _ _ _ _ _ _ _ _ (drop 4 rest) month year hour minute second
     (subst (AllWithin LEAST GREATEST) (sym f) w) sec0 sec1 space printed named yeq late heq hour_in neq seq shigh in
-    subst (λ t. Stand (Asks check_ranges) to_offset_places n text t (to_offset_numbers n month year hour minute second)) (three_left rest short)
+    subst (λ t. Stand (Asks check_ranges) to_offset_places n text t (to_offset_numbers n month year hour minute second))
+    (three_left rest short ∙ sym (take-drop rest 3 (omega (arith, short))))
     (subst (λ t. Stand (Asks check_ranges) to_offset_places n t (get_or rest 3 0 ∷ drop 4 rest) (to_offset_numbers n month year hour minute second))
     ((λ i. f i ++ r i) ∙ sym cut) stands)

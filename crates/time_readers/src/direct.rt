@@ -150,7 +150,6 @@ fn whole(rest: &[u8], said: Said) -> Result<OffsetDateTime, Parse>
 
 // The moment of the numbers.
 #[inline(always)]
-#[tactic(auto, using(crate::proofs::Made::not_made))]
 fn moment(said: Said) -> Result<OffsetDateTime, ComponentRange>
     requires year { said.year ≤ greatest_year }
     requires month { said.month ≢ 0 }
@@ -179,7 +178,6 @@ fn leap_second_may_stand(said: Said, moment: OffsetDateTime) -> bool
 
 // The moment that a calendar and a clock show, wherever a leap second stands.
 #[inline(always)]
-#[tactic(auto, using(crate::proofs::Made::accepted, crate::proofs::Made::refused, crate::proofs::Made::of_parts))]
 fn shown(said: Said) -> Result<OffsetDateTime, ComponentRange>
     requires year { said.year ≤ greatest_year }
     requires month { said.month ≢ 0 }

@@ -10,6 +10,7 @@ ghost use Rattle.time_readers.specs.Places.{Stand};
 ghost use Rattle.time_readers.specs.Rfc2822.{Asks, to_offset_places, offset_places};
 ghost use Rattle.time_readers.specs.declared.rfc2822.Place.TheVariants as place;
 
+use crate::block::two_digits;
 use crate::combinator::sign;
 use crate::ranges::is_in_range;
 use crate::rfc2822::{Numbers, grammar};
@@ -123,7 +124,7 @@ pub(super) fn to_offset<'a, const CHECK_RANGES: bool>(
     else {
         return None;
     };
-    let second = (*tens - b'0') * 10 + (*ones - b'0');
+    let second = two_digits(*tens, *ones);
     let month = component::fast::month_name([first[1], first[2], first[3]])?;
     let [century, in_century, hour, minute] = pairs(first);
     if century < 19 || !is_in_range::<CHECK_RANGES>(hour, 0, 23) {
@@ -158,8 +159,8 @@ pub(super) fn offset<'a, const CHECK_RANGES: bool>(
     else {
         return None;
     };
-    let hour = 10 * (*a - b'0') + (*b - b'0');
-    let minute = 10 * (*c - b'0') + (*d - b'0');
+    let hour = two_digits(*a, *b);
+    let minute = two_digits(*c, *d);
     if !is_in_range::<CHECK_RANGES>(hour, 0, 25) || !is_in_range::<CHECK_RANGES>(minute, 0, 59) {
         return None;
     }

@@ -1,12 +1,12 @@
 //! A date of the calendar whose year has four digits, by one pattern.
 ghost use Rattle.std.specs.Prelude.{◌≡◌, ◌≢◌, ◌+◌, ◌*◌, pos, IfSome, Ok, Some};
 ghost use Rattle.time_values.specs.declared.month.Month.{Month as Month_};
-ghost use Rattle.time_digits.specs.Digits.{IsDigit};
 ghost use Rattle.time_readers.specs.IsoAnswers.{GivesPartOrFault};
 ghost use Rattle.time_readers.specs.IsoDates.{calendar, date_text, iso_date};
 ghost use Rattle.time_readers.specs.IsoFast as spec;
 ghost use Rattle.time_readers.specs.IsoPieces.{numbered, months};
 
+use crate::block::two_digits;
 use crate::iso8601::{DateNumbers, ExtendedKind, Part};
 use std::num::NonZero;
 use time_values::Month;
@@ -96,16 +96,6 @@ fn basic_date(input: &[u8]) -> Option<CalendarDigits<'_>>
         rest,
         kind: ExtendedKind::Basic,
     })
-}
-
-// The number of two digits.
-#[inline(always)]
-fn two_digits(tens: u8, ones: u8) -> u8
-    requires tens { IsDigit tens }
-    requires ones { IsDigit ones }
-    ensures { result ≡ spec.two_digits tens ones }
-{
-    (tens - b'0') * 10 + (ones - b'0')
 }
 
 // The date of these numbers. `None`: no month has that number, or the day is 0.

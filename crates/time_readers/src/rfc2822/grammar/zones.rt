@@ -1,7 +1,7 @@
 //! The zone names of mail dates, and their hours from UTC: RFC 2822, section 4.3.
 ghost use Rattle.std.specs.Prelude.{◌≡◌, option_map};
 ghost use Rattle.std.specs.Char.{to_ascii_lowercase};
-ghost use Rattle.time_readers.specs.MailZones.{hours_of, is_military, short_zone, zone_literal};
+ghost use Rattle.time_readers.specs.MailZones.{beside, hours_of, is_military, short_zone, zone_hours, zone_literal};
 
 use crate::ParsedItem;
 
@@ -36,7 +36,15 @@ fn short_zone(input: &[u8]) -> Option<ParsedItem<'_, i8>>
 fn hours_of(name: [u8; 3]) -> Option<i8>
     ensures { result ≡ hours_of name }
 {
-    match &name.map(|c| c.to_ascii_lowercase()) {
+    hours_beside(name.map(|c| c.to_ascii_lowercase()))
+}
+
+// The hours of a name of three small letters.
+#[inline]
+fn hours_beside(name: [u8; 3]) -> Option<i8>
+    ensures { result ≡ beside name zone_hours }
+{
+    match &name {
         b"est" | b"cdt" => Some(-5),
         b"edt" => Some(-4),
         b"cst" | b"mdt" => Some(-6),

@@ -1,5 +1,5 @@
-use Rattle.std.proofs.Common.{◌≡◌, false, ◌+◌, ◌-◌, ◌*◌, ◌≤◌, length, ◌++◌, get_or, drop, refl, ap, sym, ◌∙◌, arith}
-use Rattle.std.proofs.lemmas.List.{take_all, length-take-le, length-drop, take-append-drop}
+use Rattle.std.proofs.Common.{◌≡◌, false, ◌+◌, ◌-◌, ◌*◌, ◌≤◌, length, ◌++◌, get_or, refl, ap, sym, ◌∙◌, arith}
+use Rattle.std.proofs.lemmas.List.{length-take-le, take-append-drop}
 use Rattle.time_digits.specs.Digits.{IsDigit}
 use Rattle.time_readers.specs.Block.{AllWithin}
 use Rattle.time_readers.specs.Rfc3339.{nothing_read}
@@ -27,7 +27,5 @@ returns-clause-stands c =
     let day = ap (λ xs. get_or xs 3 0) numbers in
     let hour = ap (λ xs. get_or xs 4 0) numbers in
     let minute = ap (λ xs. get_or xs 5 0) numbers in
-    let stands = front_lists false nothing_read text first rest _ _ _ _ _ _ cut long short within colon sec0 sec1
-    (λ i. century i * 100 + in_century i) month c.if-month-eq0.false (tt {0}) day (tt {0}) hour (tt {0}) minute refl (omega arith) in
-    let all = take_all (length rest - 3) (drop 3 rest) (omega (arith, length-drop 3 rest)) in
-    rw all stands
+    front_lists false nothing_read text first rest _ _ _ _ _ _ cut long short within colon sec0 sec1
+    (λ i. century i * 100 + in_century i) month c.if-month-eq0.false (tt {0}) day (tt {0}) hour (tt {0}) minute refl (omega arith)

@@ -1,4 +1,5 @@
-use Rattle.std.proofs.Common.{◌++◌, ap, ◌∙◌, arith, rules}
+use Rattle.std.proofs.Common.{◌≡◌, ◌++◌, ◌∷◌, [], length, get_or, ap, ◌∙◌, arith, rules}
+use Rattle.time_digits.specs.Digits.{AllDigits}
 use Rattle.time_readers.proofs.MailOffset.{last_offset_stands}
 use Rattle.time_readers.proofs.rfc2822.fast.offset.Goals as goal
 
@@ -7,7 +8,10 @@ returns g c =
     let rest = c.in_ok-signed.signed.0.now in
     let signed = c.in_ok-signed.ensures in
     let cut = signed.1 ∙ ap (λ t. t ++ rest) signed.2 in
-    last_offset_stands _ c.args.numbers.now c.in_ok-signed.signed.1 c.args.input.now rest _ _ _ _ cut (omega arith)
-    (omega arith, omega arith) (omega arith, omega arith) (omega arith, omega arith) (omega arith, omega arith)
-    (omega arith) (c.is_in_range.ensures.0 c.if-not-is_in_range.false) (omega arith) (c.is_in_range-else-not-is_in_range.ensures.0 c.if-not-is_in_range-2.false)
+    let long : length rest ≡ 4 = omega arith in
+    let d : AllDigits (get_or rest 0 0 ∷ get_or rest 1 0 ∷ get_or rest 2 0 ∷ get_or rest 3 0 ∷ []) = search rules in
+    last_offset_stands _ c.args.numbers.now c.in_ok-signed.signed.1 c.args.input.now rest _ _ _ _ cut long
+    d.0 d.1.0 d.1.1.0 d.1.1.1.0
+    c.two_digits-hour.ensures (c.is_in_range.ensures.0 c.if-not-is_in_range.false)
+    c.two_digits-minute.ensures (c.is_in_range-else-not-is_in_range.ensures.0 c.if-not-is_in_range-2.false)
     (search rules) (search rules)

@@ -1,10 +1,17 @@
 use Rattle.std.proofs.Common.{◌+◌, ◌-◌, ◌≡◌, arith, subst, sym, drop, refl}
+use Rattle.std.proofs.lemmas.Nat.{mul-lt}
 use Rattle.time_readers.specs.IsoFractions.{IsFloor}
 use Rattle.time_readers.proofs.IsoFractions.{digit_at, carry_below, floor_at}
 use Rattle.time_readers.proofs.iso8601.grammar.fractions.carried.Goals as goal
 
 pub overflow_sub-digit : goal.overflow_sub-digit
 overflow_sub-digit c = (digit_at c.args.digits.now (c.loop-count.count - 1) (omega arith) c.requires.digits).0
+
+pub overflow_mul-carry : goal.overflow_mul-carry
+overflow_mul-carry c = omega (arith, mul-lt c.from.result c.args.unit 256 7_200_000_000_001 (omega (arith, c.from.ensures)) (omega arith))
+
+pub overflow_add-carry : goal.overflow_add-carry
+overflow_add-carry c = omega (arith, mul-lt c.from.result c.args.unit 256 7_200_000_000_001 (omega (arith, c.from.ensures)) (omega arith))
 
 pub loop-count-preserved : goal.loop-count-preserved
 loop-count-preserved c =

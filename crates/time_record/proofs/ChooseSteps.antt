@@ -6,7 +6,7 @@ use Rattle.time_values.specs.Refusal.{refusal_of_description}
 use Rattle.time_components.specs.Tree.{Tree, Trees, first_of, none, more}
 use Rattle.time_record.specs.Count.{Begins, BeginsFirst, Counts, raised}
 use Rattle.time_record.specs.WalkSteps.{CountsFirst}
-use Rattle.time_record.specs.Reading.{NoReading, Reads, ReadsSome, Refuses}
+use Rattle.time_record.specs.Reading.{Reads, ReadsSome, Refuses}
 use Rattle.time_record.specs.Record.{Record}
 use Rattle.time_record.proofs.Counting.{BeginsFirst-within_places}
 use Rattle.time_record.proofs.Steps.{first_of-some, IsKept, IsKept-more, NoReadingSome, NoReadingSome-more, NoReadingSome-none, ReadsSome-here, ReadsSome-later, Reads-first_of_none, some-first_of}

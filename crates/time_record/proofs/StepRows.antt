@@ -1,8 +1,9 @@
 -- The trees of a row of steps, item by item.
 use Rattle.std.proofs.Common.{◌≡◌, ℕ, zero, suc, ◌-◌, ◌≤◌, List, [], ◌∷◌, length, take, drop, get_or, refl, ap, sym, ◌∙◌, arith, length-take, length-drop}
-use Rattle.std.proofs.lemmas.List.{take_all}
+use Rattle.std.proofs.lemmas.List.{drop_all, take_all}
 use Rattle.time_components.specs.Steps.{group_tree, further, steps_after, steps_trees, tree_at, trees_in}
 use Rattle.time_components.specs.Tree.{Trees, none, more}
+use Rattle.time_components.specs.declared.step.Group.{Group}
 use Rattle.time_components.specs.declared.step.Step.{Step}
 use Rattle.time_components.specs.declared.step.Step.TheVariants as step
 
@@ -64,3 +65,13 @@ pub first_item : (left : List Step) (x : Step) → 1 ≤ length left → x ≡ g
 first_item left x within is =
     first_of_drop left x within is
     ∙ ap (λ ys. more (tree_at steps_trees x ys) (steps_trees (steps_after x ys))) (sym (behind_is left within))
+
+-- a row that is one group
+pub whole_group : (steps : List Step) (g : Group) (len : ℕ) → 1 ≤ length steps → step.Group g len ≡ get_or steps 0 (step.Group g len) →
+    length (behind_first steps) ≤ len → steps_trees steps ≡ more (group_tree g (steps_trees (behind_first steps))) none
+whole_group steps g len within is all =
+    let inside = behind_first steps in
+    first_item steps (step.Group g len) within is
+    ∙ ap (λ ys. more (group_tree g (steps_trees ys)) (steps_trees (drop len inside))) (take_all len inside all)
+    ∙ ap (λ ys. more (group_tree g (steps_trees inside)) (steps_trees ys)) (drop_all len inside all)
+    ∙ ap (λ ts. more (group_tree g (steps_trees inside)) ts) (steps_trees-end [] (omega arith))

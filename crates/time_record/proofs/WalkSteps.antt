@@ -1,8 +1,11 @@
 -- How the answer and the count of trees in turn follow from those of their beginnings. `Y` is the greatest year.
-use Rattle.std.proofs.Common.{◌≡◌, ℕ, ◌+◌, List, refl, ap, sym, subst, inl, inr, arith}
+use Rattle.std.proofs.Common.{◌≡◌, ℕ, ◌+◌, ◌-◌, ◌≤◌, List, refl, sym, subst, inl, inr, arith, Result, Ok, Err}
+use Rattle.std.specs.Borrow.{Bor}
+use Rattle.time_values.specs.declared.error.ParseFromDescription.{ParseFromDescription}
 use Rattle.time_values.specs.Refusal.{Refusal}
 use Rattle.time_components.specs.Tree.{Tree, Trees, sequence, none, more}
-use Rattle.time_record.specs.Count.{Begins, BeginsAll, Counts, CountsAll, places_of_all, raised}
+use Rattle.time_record.specs.Answer.{Answers}
+use Rattle.time_record.specs.Count.{Begins, BeginsAll, Counts, CountsAll, raised}
 use Rattle.time_record.specs.WalkFast.{IsLeaf}
 use Rattle.time_record.specs.Reading.{NoReading, Reads, ReadsAll, IsFault, Refuses, RefusesAll}
 use Rattle.time_record.specs.Record.{Record}
@@ -54,6 +57,15 @@ module _ {Y : ℕ} {all : Trees} {b0 : List ℕ} {r0 : Record} {n : ℕ} {left :
   unfolding Reads ReadsAll
   Goes-end is = g.reads b r (subst (λ ts. ReadsAll Y ts b r b r) (sym is) (refl, refl))
 
+-- Two more are one more, twice.
+pub raised_twice : (count new : ℕ) → new ≡ raised count 2 → new ≡ raised (raised count 1) 1
+raised_twice count new is = omega arith
+
+-- a count of what is not counted yet, up to two places
+pub raised_further : (count uncounted left least : ℕ) → least ≤ left → left ≤ uncounted →
+    raised count (uncounted - least) ≡ raised (raised count (uncounted - left)) (left - least)
+raised_further count uncounted left least fewer within = omega arith
+
 -- What is left answers as all of them do, and the count stands where what was read has led it.
 pub record Walked (Y : ℕ) (all : Trees) (b0 : List ℕ) (r0 : Record) (left : Trees) (b : List ℕ) (r : Record) (old now : ℕ) : Type 0 where
   pub so_far : ℕ
@@ -100,3 +112,15 @@ module _ {Y : ℕ} {all : Trees} {b0 : List ℕ} {r0 : Record} {left : Trees} {b
         within = BeginsAll-within_places Y all b0 r0 (w.so_far + 0) begins;
         rises = omega arith;
       }
+
+-- a list of one tree
+module _ (Y : ℕ) (all : Trees) (t : Tree) (is : all ≡ more t none) (b : List ℕ) (r : Record) where
+  pub Answers-one : (read : Result (Bor (List ℕ)) ParseFromDescription) (r' : Record) → Answers Y t b r read r' → Answers Y (sequence all) b r read r'
+  unfolding Reads ReadsAll
+  Answers-one (Ok rest) r' h = subst (λ ts. Reads Y (sequence ts) b r rest.now r') (sym is) (rest.now, r', h, (refl, refl))
+  Answers-one (Err e) r' h = (Goes-refused (Goes-start Y all b r) t none is h.0, h.1)
+
+  pub Counts-one : (read : Result (Bor (List ℕ)) ParseFromDescription) (r' : Record) (old now : ℕ) → Answers Y t b r read r' →
+      Counts Y t b r old now → CountsAll Y all b r old now
+  Counts-one (Ok rest) r' old now h c = Walked-counts (Walked-reads (Walked-start Y all b r old) t none is now c h) refl
+  Counts-one (Err e) r' old now h c = Walked-counts_refused (Walked-start Y all b r old) t none is now c h.0.unread

@@ -14,6 +14,28 @@ use crate::{Parsed, Tries};
 use time_components::{Group, Step};
 use time_values::error::ParseFromDescription;
 
+/// Reads the steps in front of the input as a list, and counts it and the items inside it that are begun. Where one
+/// choice is all of the list, it needs no loop, and no copy of the record.
+#[inline(always)]
+pub fn walk_steps<'a>(
+    steps: &[Step],
+    parsed: &mut Parsed,
+    input: &'a [u8],
+    tries: &mut Tries,
+) -> Result<&'a [u8], ParseFromDescription>
+    ensures answers { Answers greatest_year (steps_shape steps.now) input.now parsed.old result parsed.new }
+    ensures counts { Counts greatest_year (steps_shape steps.now) input.now parsed.old tries.old tries.new }
+{
+    match steps {
+        [Step::Group(Group::First, len), choices @ ..] if *len >= choices.len() => {
+            // The list, and the choice in it.
+            tries.add(2);
+            walk_first(choices, parsed, input, tries)
+        }
+        _ => walk_list(steps, parsed, input, tries),
+    }
+}
+
 /// Reads the steps in front of the input as a list, and counts it and the items inside it that are begun.
 #[cycle(steps)]
 pub fn walk_list<'a>(
@@ -25,17 +47,17 @@ pub fn walk_list<'a>(
     ensures answers { Answers greatest_year (steps_shape steps.now) input.now parsed.old result parsed.new }
     ensures counts { Counts greatest_year (steps_shape steps.now) input.now parsed.old tries.old tries.new }
 {
-    tries.begin();
     let before = *parsed;
+    // The list itself counts as one more.
+    let mut uncounted = steps.len() + 1;
     let mut left = steps;
     let mut rest = input;
     loop {
         let (later, unread) = read_steps(left, parsed, rest);
-        tries.add(left.len() - later.len());
+        tries.add(uncounted - later.len());
         let [step, behind @ ..] = later else {
             return Ok(unread);
         };
-        let after = steps_after(step, behind);
         match walk_item(step, behind, parsed, unread, tries) {
             Ok(more) => rest = more,
             Err(fault) => {
@@ -43,7 +65,8 @@ pub fn walk_list<'a>(
                 return Err(fault);
             }
         }
-        left = after;
+        left = steps_after(step, behind);
+        uncounted = left.len();
     }
 }
 
@@ -158,20 +181,21 @@ fn walk_first<'a>(
     ensures answers { Answers greatest_year (first_of (steps_trees steps.now)) input.now parsed.old result parsed.new }
     ensures counts { CountsFirst greatest_year (steps_trees steps.now) input.now parsed.old tries.old tries.new }
 {
-    let mut first_fault = None;
-    let mut left = steps;
+    let [step, behind @ ..] = steps else {
+        return Ok(input);
+    };
+    let first_fault = match walk_item(step, behind, parsed, input, tries) {
+        Ok(rest) => return Ok(rest),
+        Err(fault) => fault,
+    };
+    let mut left = steps_after(step, behind);
     while let [step, behind @ ..] = left {
-        let after = steps_after(step, behind);
-        match walk_item(step, behind, parsed, input, tries) {
-            Ok(rest) => return Ok(rest),
-            Err(fault) => first_fault = first_fault.or(Some(fault)),
+        if let Ok(rest) = walk_item(step, behind, parsed, input, tries) {
+            return Ok(rest);
         }
-        left = after;
+        left = steps_after(step, behind);
     }
-    match first_fault {
-        Some(fault) => Err(fault),
-        None => Ok(input),
-    }
+    Err(first_fault)
 }
 
 // The steps behind those that belong to a step.

@@ -1,6 +1,7 @@
-use Rattle.std.proofs.Common.{◌+◌, ◌*◌, ◌≤◌, length}
+use Rattle.std.proofs.Common.{◌+◌, ◌-◌, ◌*◌, ◌≤◌, length, Some}
 use Rattle.time_values.specs.Range.{greatest_year}
 use Rattle.time_components.specs.Steps.{steps_trees}
+use Rattle.time_record.specs.Count.{raised}
 use Rattle.time_record.proofs.ChooseSteps.{Chooses}
 use Rattle.time_record.proofs.WalkSteps.{Walked}
 use Rattle.time_record.proofs.walk.steps.+steps.Given as goal
@@ -22,15 +23,17 @@ decreases-walk_first l = 4 * length l.steps.now
 
 abbrev pub invariant-walk_list-loop-later : goal.invariant-walk_list-loop-later
 invariant-walk_list-loop-later l =
-    Walked greatest_year (steps_trees l.steps) l.fn.input l.fn.parsed (steps_trees l.left) l.rest l.parsed l.initial.tries l.tries
+    Walked greatest_year (steps_trees l.steps) l.fn.input l.fn.parsed (steps_trees l.left) l.rest l.parsed
+    (raised l.initial.tries 1) (raised l.tries (l.uncounted - length l.left))
     × (length l.left ≤ length l.steps)
+    × (length l.left ≤ l.uncounted)
 
 abbrev pub decreases-walk_list-loop-later : goal.decreases-walk_list-loop-later
 decreases-walk_list-loop-later l = length l.left
 
 abbrev pub invariant-walk_first-loop-left : goal.invariant-walk_first-loop-left
 invariant-walk_first-loop-left l =
-    Chooses greatest_year (steps_trees l.steps) (steps_trees l.left) l.input l.fn.parsed l.parsed l.first_fault l.fn.tries l.tries
+    Chooses greatest_year (steps_trees l.steps) (steps_trees l.left) l.input l.fn.parsed l.parsed (Some l.first_fault) l.fn.tries l.tries
     × (length l.left ≤ length l.steps)
 
 abbrev pub decreases-walk_first-loop-left : goal.decreases-walk_first-loop-left

@@ -3,6 +3,7 @@ pub mod DescribedLists
 pub mod DescribedText
 pub mod DescribedTrees
 pub mod OneTree
+pub mod Putting
 pub mod ReadDescribed
 pub mod ReadDescribedItems
 pub mod Turns

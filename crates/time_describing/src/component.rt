@@ -214,7 +214,6 @@ fn put_words<const N: usize>(
 }
 
 /// Puts the component in its brackets.
-#[tactic(auto, using(crate::proofs::WrittenParts::words_by_parts))]
 pub(crate) fn put_component<const N: usize>(
     component: Component,
     text: &mut DescriptionText<N>,

@@ -1,13 +1,13 @@
 //! What an item of a description is.
-ghost use Rattle.std.specs.Prelude.{◌≡◌};
+ghost use Rattle.std.specs.Prelude.{◌≡◌, ⊤};
 ghost use Rattle.time_components.specs.Shape.{borrowed_shape, owned_shape};
 ghost use Rattle.time_components.specs.Tree.{Tree};
 ghost use Rattle.time_describing.specs.Nodes.{node_tree};
 
+use std::alloc::AllocError;
 use time_components::{BorrowedFormatItem, Component, OwnedFormatItem};
 
 /// What an item is, in terms of other items of its type.
-#[derive_where(Clone, Copy)]
 pub enum Node<'a, I> {
     /// Bytes that stand as they are.
     Literal(&'a [u8]),
@@ -20,6 +20,18 @@ pub enum Node<'a, I> {
     /// The first item that reads.
     First(&'a [I]),
 }
+
+impl<I> Clone for Node<'_, I> {
+    ghost is_clone = { λ node copy. copy ≡ node };
+
+    ghost is_infallible = { λ _. ⊤ };
+
+    fn clone(&self) -> Result<Self, AllocError> {
+        Ok(*self)
+    }
+}
+
+impl<I> Copy for Node<'_, I> {}
 
 /// An item that says what it is.
 pub trait Inspect {

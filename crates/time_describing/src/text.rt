@@ -11,7 +11,7 @@ pub struct DescriptionText<const N: usize> {
 }
 
 /// There is no room for a text.
-#[derive(Clone, Copy, Debug, PartialEq, Eq)]
+#[derive(Clone, Copy)]
 pub(crate) struct Full;
 
 impl<const N: usize> DescriptionText<N> {

@@ -1,5 +1,6 @@
 //! Why a text is no description.
-ghost use Rattle.std.specs.Prelude.{◌≡◌, ◌-◌, ◌≤◌, length, take, drop};
+ghost use Rattle.std.specs.Prelude.{◌≡◌, ◌-◌, ◌≤◌, ◌++◌, length, take, drop, codes, Some};
+ghost use Rattle.std.specs.Fmt.{DisplaysOnOk, decimal};
 ghost use Rattle.time_descriptions.specs.Refusal as refusal;
 ghost use Rattle.time_descriptions.specs.Refusal.{refusal_at, refusal_of, refusal_text};
 
@@ -61,48 +62,72 @@ pub enum InvalidFormatDescription<'a> {
     TooLong,
 }
 
+// Writes what is wrong, and where.
+fn write_at<W: fmt::Write>(f: &mut fmt::Formatter<W>, what: &str, index: usize) -> fmt::Result
+    ensures { DisplaysOnOk W.write_str_gives f.old result (Some (what.now ++ (codes " at byte index " ++ decimal index))) f.new }
+{
+    write!(f, "{what} at byte index {index}")
+}
+
+// Writes which word is not what it should be.
+fn write_invalid<W: fmt::Write>(
+    f: &mut fmt::Formatter<W>,
+    what: &str,
+    word: &[u8],
+    index: usize,
+) -> fmt::Result {
+    write!(
+        f,
+        "invalid {what} `{}` at byte index {index}",
+        word.escape_ascii()
+    )
+}
+
+// Writes which modifier a component lacks.
+fn write_missing<W: fmt::Write>(f: &mut fmt::Formatter<W>, name: &str, index: usize) -> fmt::Result
+    ensures { DisplaysOnOk W.write_str_gives f.old result (refusal_text (refusal.missing_modifier name.now index)) f.new }
+{
+    write!(
+        f,
+        "missing required modifier `{name}` for component at byte index {index}"
+    )
+}
+
+// Writes what isn't supported, and where.
+fn write_not_supported<W: fmt::Write>(
+    f: &mut fmt::Formatter<W>,
+    what: &str,
+    context: &str,
+    index: usize,
+) -> fmt::Result
+    ensures { DisplaysOnOk W.write_str_gives f.old result (refusal_text (refusal.not_supported what.now context.now index)) f.new }
+{
+    write!(
+        f,
+        "{what} is not supported in {context} at byte index {index}"
+    )
+}
+
 impl fmt::Display for InvalidFormatDescription<'_> {
     ghost output = { λ e. refusal_text (refusal_of e) };
 
     fn fmt<W: fmt::Write>(&self, f: &mut fmt::Formatter<W>) -> fmt::Result {
-        match self {
+        match *self {
             Self::UnclosedOpeningBracket { index } => {
-                write!(f, "unclosed opening bracket at byte index {index}")
+                write_at(f, "unclosed opening bracket", index)
             }
             Self::InvalidComponentName { name, index } => {
-                write!(
-                    f,
-                    "invalid component name `{}` at byte index {index}",
-                    name.escape_ascii()
-                )
+                write_invalid(f, "component name", name, index)
             }
-            Self::InvalidModifier { value, index } => {
-                write!(
-                    f,
-                    "invalid modifier `{}` at byte index {index}",
-                    value.escape_ascii()
-                )
-            }
-            Self::MissingComponentName { index } => {
-                write!(f, "missing component name at byte index {index}")
-            }
-            Self::MissingRequiredModifier { name, index } => {
-                write!(
-                    f,
-                    "missing required modifier `{name}` for component at byte index {index}"
-                )
-            }
-            Self::Expected { what, index } => { write!(f, "expected {what} at byte index {index}") }
+            Self::InvalidModifier { value, index } => write_invalid(f, "modifier", value, index),
+            Self::MissingComponentName { index } => write_at(f, "missing component name", index),
+            Self::MissingRequiredModifier { name, index } => write_missing(f, name, index),
+            Self::Expected { what, index } => write!(f, "expected {what} at byte index {index}"),
             Self::NotSupported {
                 what,
                 context,
                 index,
-            } => {
-                write!(
-                    f,
-                    "{what} is not supported in {context} at byte index {index}"
-                )
-            }
+            } => write_not_supported(f, what, context, index),
             Self::TooLong => write!(f, "the description is too long"),
         }
     }

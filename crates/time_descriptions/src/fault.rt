@@ -1,7 +1,7 @@
 //! Why a text is no description, by how many bytes are left from the place on.
 
 /// What should stand where something else, or nothing, stands.
-#[derive(Clone, Copy, Debug, PartialEq, Eq)]
+#[derive(Clone, Copy)]
 pub enum Expectation {
     /// A bracket or a backslash after a backslash.
     EscapedByte,
@@ -16,7 +16,7 @@ pub enum Expectation {
 }
 
 /// What may stand in no description.
-#[derive(Clone, Copy, Debug, PartialEq, Eq)]
+#[derive(Clone, Copy)]
 pub enum Unsupported {
     /// More lists inside one another than are read.
     DeepList,
@@ -25,7 +25,7 @@ pub enum Unsupported {
 }
 
 /// The first fault from the left, with how many bytes are left from its place on.
-#[derive(Clone, Copy, Debug, PartialEq, Eq)]
+#[derive(Clone, Copy)]
 pub enum Fault {
     /// A bracket is never closed.
     UnclosedOpeningBracket {

@@ -7,7 +7,7 @@ use crate::values::{Modifier, Precision, Representation};
 use time_components::{Component, Padding, SubsecondDigits, TrailingInput, modifier};
 
 /// The values of a component's modifiers.
-#[derive(Clone, Copy, Debug)]
+#[derive(Clone, Copy)]
 pub struct Modifiers {
     /// Whether it is the year of an ISO week date.
     pub is_iso_week: bool,

@@ -6,7 +6,7 @@ ghost use Rattle.time_descriptions.specs.Words.{look_up};
 use crate::words::look_up;
 
 /// What brackets may name.
-#[derive(Clone, Copy, Debug, PartialEq, Eq)]
+#[derive(Clone, Copy)]
 pub enum ComponentName {
     /// `day`
     Day,
@@ -45,7 +45,7 @@ pub enum ComponentName {
 }
 
 /// The keys of modifiers.
-#[derive(Clone, Copy, Debug, PartialEq, Eq)]
+#[derive(Clone, Copy)]
 pub enum ModifierKey {
     /// `base`
     Base,

@@ -8,7 +8,7 @@ use crate::words::{ignore_count, look_up};
 use time_components::{Padding, SubsecondDigits, TrailingInput, modifier};
 
 /// Which of the forms of a component is meant.
-#[derive(Clone, Copy, Debug, PartialEq, Eq)]
+#[derive(Clone, Copy)]
 pub enum Representation {
     /// The one where no `repr` stands.
     Default,
@@ -29,7 +29,7 @@ pub enum Representation {
 }
 
 /// The unit of a timestamp.
-#[derive(Clone, Copy, Debug, PartialEq, Eq)]
+#[derive(Clone, Copy)]
 pub enum Precision {
     /// `second`
     Second,
@@ -42,7 +42,7 @@ pub enum Precision {
 }
 
 /// A modifier with its value.
-#[derive(Clone, Copy, Debug)]
+#[derive(Clone, Copy)]
 pub enum Modifier {
     /// Whether it is the year of an ISO week date.
     Base(bool),

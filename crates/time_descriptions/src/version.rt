@@ -1,7 +1,7 @@
 //! The versions of descriptions.
 
 /// A version of descriptions.
-#[derive(Clone, Copy, Debug, PartialEq, Eq)]
+#[derive(Clone, Copy)]
 pub enum Version {
     /// `[[` is a bracket.
     One,

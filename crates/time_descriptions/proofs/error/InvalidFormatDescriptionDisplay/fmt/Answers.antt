@@ -1,7 +1,4 @@
 use Rattle.time_descriptions.proofs.error.InvalidFormatDescriptionDisplay.fmt.Goals as goal
 
 pub returns-in-Expected-clause-writes : goal.returns-in-Expected-clause-writes
-returns-in-Expected-clause-writes g c = rw c.in-Expected.is c.write-in-Expected.ensures.writes
-
-pub returns-in-NotSupported-clause-writes : goal.returns-in-NotSupported-clause-writes
-returns-in-NotSupported-clause-writes g c = rw c.in-NotSupported.is c.write-in-NotSupported.ensures.writes
+returns-in-Expected-clause-writes g c = rw c.in-Expected.is c.write.ensures.writes

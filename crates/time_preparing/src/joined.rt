@@ -1,5 +1,5 @@
 //! Steps of a description that are read at once.
-ghost use Rattle.std.specs.Prelude.{◌≡◌, [], IsTrue, false};
+ghost use Rattle.std.specs.Prelude.{◌≡◌, [], IfSome, IsTrue, false};
 ghost use Rattle.time_components.specs.Steps.{further};
 ghost use Rattle.time_preparing.specs.Joined.{BeginsWith, fraction_parts, month_day_parts, Says, second_parts};
 
@@ -101,26 +101,56 @@ fn goes_on(steps: &[Step]) -> bool
 pub(crate) fn joined_at(steps: &[Step]) -> Joined
     ensures { Says result steps.now }
 {
+    match several_at(steps) {
+        Some(joined) => joined,
+        None => alone_at(steps),
+    }
+}
+
+// Several steps in front of these, of which the second is a literal of one byte. This is no second way of reading.
+fn several_at(steps: &[Step]) -> Option<Joined>
+    ensures { IfSome result (λ joined. Says joined steps.now) }
+{
+    let [_, Step::Literal(between), behind @ ..] = steps else {
+        return None;
+    };
+    if let Some(joined) = three_at(steps, *between) {
+        return Some(joined);
+    }
+    let [_, _, Step::Literal(point), ..] = behind else {
+        return None;
+    };
+    if begins(steps, &second_steps(*between, *point)) {
+        Some(Joined::Seconds(*between, *point))
+    } else {
+        None
+    }
+}
+
+// Three steps in front of these, of which the second is a literal of this byte. This is no second way of reading.
+fn three_at(steps: &[Step], byte: u8) -> Option<Joined>
+    ensures { IfSome result (λ joined. Says joined steps.now) }
+{
+    if begins(steps, &date_steps(byte)) {
+        Some(Joined::Date(byte))
+    } else if begins(steps, &day_first_steps(byte)) {
+        Some(Joined::DayFirst(byte))
+    } else if begins(steps, &month_day_steps(byte)) {
+        Some(Joined::MonthDay(byte))
+    } else if begins(steps, &time_steps(byte)) {
+        Some(Joined::Time(byte))
+    } else if begins(steps, &fraction_steps(byte)) {
+        Some(Joined::Fraction(byte))
+    } else {
+        None
+    }
+}
+
+// A literal of one byte or a component in front of these steps.
+fn alone_at(steps: &[Step]) -> Joined
+    ensures { Says result steps.now }
+{
     match steps {
-        [_, Step::Literal(between), ..] if begins(steps, &date_steps(*between)) => {
-            Joined::Date(*between)
-        }
-        [_, Step::Literal(between), ..] if begins(steps, &day_first_steps(*between)) => {
-            Joined::DayFirst(*between)
-        }
-        [_, Step::Literal(between), ..] if begins(steps, &month_day_steps(*between)) => {
-            Joined::MonthDay(*between)
-        }
-        [_, Step::Literal(between), ..] if begins(steps, &time_steps(*between)) => {
-            Joined::Time(*between)
-        }
-        [_, Step::Literal(point), ..] if begins(steps, &fraction_steps(*point)) => {
-            Joined::Fraction(*point)
-        }
-        [_, Step::Literal(between), _, _, Step::Literal(point), ..]
-            if begins(steps, &second_steps(*between, *point)) => {
-            Joined::Seconds(*between, *point)
-        }
         [Step::Literal(byte), behind @ ..] if !goes_on(behind) => Joined::Byte(*byte),
         [Step::Component(component), behind @ ..] if !goes_on(behind) => {
             Joined::Component(*component)

@@ -7,7 +7,11 @@ mod iso_time_kinds;
 mod places;
 mod word_digits;
 
+use std::num::NonZero;
 use time_readers::ParsedItem;
+
+// The value in front of a text and the rest behind it, or nothing.
+type Answer<T> = Option<(T, &'static [u8])>;
 
 // The answer is that value with that rest, or none.
 fn answers<T: PartialEq + Copy>(
@@ -19,4 +23,16 @@ fn answers<T: PartialEq + Copy>(
         (None, None) => true,
         _ => false,
     }
+}
+
+// The answer with its number as a plain one.
+fn small(answer: Option<ParsedItem<'_, NonZero<u8>>>) -> Option<ParsedItem<'_, u8>> {
+    let found = answer?;
+    Some(ParsedItem(found.0, found.1.get()))
+}
+
+// The same of a number of two bytes.
+fn large(answer: Option<ParsedItem<'_, NonZero<u16>>>) -> Option<ParsedItem<'_, u16>> {
+    let found = answer?;
+    Some(ParsedItem(found.0, found.1.get()))
 }

@@ -7,7 +7,11 @@ mod read_back;
 mod texts;
 
 use time_values::error::ComponentRange;
-use time_values::{Date, Month, OffsetDateTime, Time, UtcOffset};
+use time_values::{Date, Month, OffsetDateTime, PlainDateTime, Time, UtcDateTime, UtcOffset};
+use time_writing::{Text, Unwritable};
+
+// The numbers of a moment's date, time and offset, and its text.
+type Row = ((i32, Month, u8), (u8, u8, u8, u32), (i8, i8), &'static str);
 
 // The moment of these numbers on a clock with that offset.
 fn moment(
@@ -46,4 +50,22 @@ fn last() -> Result<OffsetDateTime, ComponentRange> {
         (23, 59, 59, 999_999_999),
         (0, 0),
     )
+}
+
+// The moment's date and time without its offset.
+fn plain(value: OffsetDateTime) -> PlainDateTime {
+    PlainDateTime::new(value.date(), value.time())
+}
+
+// The same date and time in UTC.
+fn in_utc(value: OffsetDateTime) -> UtcDateTime {
+    UtcDateTime::new(value.date(), value.time())
+}
+
+// The text was written.
+fn is_written(written: Result<Text, Unwritable>, text: &str) -> bool {
+    match written {
+        Ok(written) => written.as_bytes() == text.as_bytes(),
+        Err(_) => false,
+    }
 }

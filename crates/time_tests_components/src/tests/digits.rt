@@ -1,6 +1,7 @@
 //! Readers of digits, signs and single bytes.
 ghost use Rattle.std.specs.Prelude.{◌≤◌};
 
+use super::{Answer, answers};
 use time_readers::combinator::{
     any_digit, ascii_char, ascii_char_ignore_case, exactly_n_digits, exactly_n_digits_padded,
     n_to_m_digits, n_to_m_digits_padded, one_or_two_digits, sign,
@@ -15,32 +16,37 @@ fn reads<T: PartialEq + Copy>(answer: Option<ParsedItem<'_, T>>, value: T, rest:
     }
 }
 
+// One to three digits of a number that fits into a byte.
+fn reads_as_many_as_fit() -> bool {
+    reads(n_to_m_digits::<1, 3, u8>(b"255x"), 255, b"x")
+        && n_to_m_digits::<1, 3, u8>(b"256").is_none()
+        && reads(n_to_m_digits::<1, 3, u8>(b"0256"), 25, b"6")
+}
+
+// Four to six digits, of which spaces may stand for the first.
+fn reads_behind_spaces() -> bool {
+    let space = Padding::Space;
+    reads(
+        n_to_m_digits_padded::<4, 6, u32>(b"  12345", space),
+        1234,
+        b"5",
+    ) && n_to_m_digits_padded::<4, 6, u32>(b"    1", space).is_none()
+}
+
+// Texts, how they are padded, and their number of two digits.
+static PADDED: [(&[u8], Padding, Answer<u8>); 3] = [
+    (b" 7", Padding::Space, Some((7, b""))),
+    (b"7x", Padding::None, Some((7, b"x"))),
+    (b"7x", Padding::Zero, None),
+];
+
 #[test]
 fn digits_and_record(rt: HostRuntime) {
-    assert!(rt; reads(n_to_m_digits::<1, 3, u8>(b"255x"), 255, b"x"));
-    assert!(rt; n_to_m_digits::<1, 3, u8>(b"256").is_none());
-    assert!(rt; reads(n_to_m_digits::<1, 3, u8>(b"0256"), 25, b"6"));
-
-    let space = Padding::Space;
-    assert!(rt;
-        reads(
-            n_to_m_digits_padded::<4, 6, u32>(b"  12345", space),
-            1234,
-            b"5"
-        )
-    );
-    assert!(rt; n_to_m_digits_padded::<4, 6, u32>(b"    1", space).is_none());
-
-    assert!(rt; reads(exactly_n_digits_padded::<2, u8>(b" 7", space), 7, b""));
-    assert!(rt;
-        reads(
-            exactly_n_digits_padded::<2, u8>(b"7x", Padding::None),
-            7,
-            b"x"
-        )
-    );
-    assert!(rt; exactly_n_digits_padded::<2, u8>(b"7x", Padding::Zero).is_none());
-
+    assert!(rt; reads_as_many_as_fit());
+    assert!(rt; reads_behind_spaces());
+    for (input, padding, wanted) in &PADDED {
+        assert!(rt; answers(exactly_n_digits_padded::<2, u8>(input, *padding), *wanted));
+    }
     assert!(rt; reads(exactly_n_digits::<9>(b"9999999990"), 999_999_999, b"0"));
     assert!(rt; exactly_n_digits::<9>(b"/234567891").is_none());
 }
@@ -55,22 +61,26 @@ fn reads_sign(input: &[u8], negative: bool, rest: &[u8]) -> bool {
 
 #[test]
 fn signs(rt: HostRuntime) {
-    assert!(rt; reads_sign(b"-1", true, b"1"));
-    assert!(rt; reads_sign(b"+1", false, b"1"));
+    assert!(rt; reads_sign(b"-1", true, b"1") && reads_sign(b"+1", false, b"1"));
     assert!(rt; sign(b"1").is_none());
+}
+
+// A letter is read as it is given, or in either case.
+fn reads_letters() -> bool {
+    reads(ascii_char::<b'T'>(b"T:"), (), b":")
+        && ascii_char::<b'T'>(b"t:").is_none()
+        && reads(ascii_char_ignore_case::<b'T'>(b"t:"), (), b":")
+        && reads(ascii_char_ignore_case::<b't'>(b"T:"), (), b":")
+        && ascii_char_ignore_case::<b'@'>(b"`").is_none()
 }
 
 #[test]
 fn single_bytes(rt: HostRuntime) {
     assert!(rt; reads(any_digit(b"07"), b'0', b"7"));
-    assert!(rt; any_digit(b"/").is_none());
-    assert!(rt; any_digit(b":").is_none());
-
-    assert!(rt; reads(ascii_char::<b'T'>(b"T:"), (), b":"));
-    assert!(rt; ascii_char::<b'T'>(b"t:").is_none());
-    assert!(rt; reads(ascii_char_ignore_case::<b'T'>(b"t:"), (), b":"));
-    assert!(rt; reads(ascii_char_ignore_case::<b't'>(b"T:"), (), b":"));
-    assert!(rt; ascii_char_ignore_case::<b'@'>(b"`").is_none());
+    for text in [b"/", b":"] {
+        assert!(rt; any_digit(text).is_none());
+    }
+    assert!(rt; reads_letters());
 }
 
 #[test]
@@ -87,17 +97,17 @@ fn pushed<T: Integer>(number: T, digit: u8) -> Option<T>
     number.checked_push_digit(digit)
 }
 
+// Of the greatest number's first digits the last one is pushed, and none above it.
+fn takes_the_last_digit<T: Integer + PartialEq + Copy>(first: T, greatest: T) -> bool {
+    pushed(first, 5) == Some(greatest) && pushed(first, 6).is_none()
+}
+
 #[test]
 fn greatest_numbers(rt: HostRuntime) {
-    assert!(rt; pushed(25u8, 5) == Some(255));
-    assert!(rt; pushed(25u8, 6) == None);
-    assert!(rt; pushed(6_553u16, 5) == Some(65_535));
-    assert!(rt; pushed(6_553u16, 6) == None);
-    assert!(rt; pushed(429_496_729u32, 5) == Some(u32::MAX));
-    assert!(rt; pushed(429_496_729u32, 6) == None);
-    let most = u128::MAX / 10;
-    assert!(rt; pushed(most, 5) == Some(u128::MAX));
-    assert!(rt; pushed(most, 6) == None);
+    assert!(rt; takes_the_last_digit(25u8, 255));
+    assert!(rt; takes_the_last_digit(6_553u16, 65_535));
+    assert!(rt; takes_the_last_digit(429_496_729u32, u32::MAX));
+    assert!(rt; takes_the_last_digit(u128::MAX / 10, u128::MAX));
     assert!(rt; reads(n_to_m_digits::<5, 5, u16>(b"65535"), 65_535, b""));
     assert!(rt; n_to_m_digits::<5, 5, u16>(b"65536").is_none());
 }

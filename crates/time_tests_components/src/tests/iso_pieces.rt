@@ -1,63 +1,64 @@
 //! The pieces of ISO 8601 texts, and their kinds.
-use super::answers;
-use time_readers::ParsedItem;
+use super::{Answer, answers, large, small};
 use time_readers::iso8601::{
     DateNumbers, ExtendedKind, date, day, dayk, dayo, float, hour, min, month, week, year,
 };
 use time_values::error::ParseFromDescription;
 use time_values::{Month, Weekday};
 
+static YEARS: [(&[u8], Answer<i32>); 4] = [
+    (b"20215", Some((2021, b"5"))),
+    (b"-0123456", Some((-12_345, b"6"))),
+    (b"+2021", None),
+    (b"202", None),
+];
+
+static MONTHS: [(&[u8], Answer<Month>); 3] = [
+    (b"123", Some((Month::December, b"3"))),
+    (b"00", None),
+    (b"13", None),
+];
+
+static WEEKDAYS: [(&[u8], Answer<Weekday>); 4] = [
+    (b"12", Some((Weekday::Monday, b"2"))),
+    (b"7", Some((Weekday::Sunday, b""))),
+    (b"0", None),
+    (b"8", None),
+];
+
 #[test]
 fn iso_pieces_of_dates(rt: HostRuntime) {
-    for (text, wanted) in [
-        (b"20215".as_slice(), Some((2021, b"5".as_slice()))),
-        (b"-0123456", Some((-12_345, b"6"))),
-        (b"+2021", None),
-        (b"202", None),
-    ] {
-        assert!(rt; answers(year(text), wanted), "{text:?}");
+    for (text, wanted) in &YEARS {
+        assert!(rt; answers(year(text), *wanted), "{text:?}");
     }
-    for (text, wanted) in [
-        (b"123".as_slice(), Some((Month::December, b"3".as_slice()))),
-        (b"00", None),
-        (b"13", None),
-    ] {
-        assert!(rt; answers(month(text), wanted), "{text:?}");
+    for (text, wanted) in &MONTHS {
+        assert!(rt; answers(month(text), *wanted), "{text:?}");
     }
-    for (text, wanted) in [
-        (b"12".as_slice(), Some((Weekday::Monday, b"2".as_slice()))),
-        (b"7", Some((Weekday::Sunday, b""))),
-        (b"0", None),
-        (b"8", None),
-    ] {
-        assert!(rt; answers(dayk(text), wanted), "{text:?}");
+    for (text, wanted) in &WEEKDAYS {
+        assert!(rt; answers(dayk(text), *wanted), "{text:?}");
     }
 }
 
+static WEEKS: [(&[u8], Answer<u8>); 3] = [(b"991", Some((99, b"1"))), (b"00", None), (b"1", None)];
+
+static DAYS: [(&[u8], Answer<u8>); 2] = [(b"32", Some((32, b""))), (b"00", None)];
+
+static ORDINALS: [(&[u8], Answer<u16>); 3] = [
+    (b"3670", Some((367, b"0"))),
+    (b"000", None),
+    (b"36", None),
+];
+
 #[test]
 fn iso_pieces_that_are_positive(rt: HostRuntime) {
-    for (text, wanted) in [
-        (b"991".as_slice(), Some((99, b"1".as_slice()))),
-        (b"00", None),
-        (b"1", None),
-    ] {
-        let number = week(text).map(|found| ParsedItem(found.0, found.1.get()));
-        assert!(rt; answers(number, wanted), "{text:?}");
+    for (text, wanted) in &WEEKS {
+        assert!(rt; answers(small(week(text)), *wanted), "{text:?}");
     }
-    for (text, wanted) in [
-        (b"32".as_slice(), Some((32, b"".as_slice()))),
-        (b"00", None),
-    ] {
-        let number = day(text).map(|found| ParsedItem(found.0, found.1.get()));
-        assert!(rt; answers(number, wanted), "{text:?}");
+    for (text, wanted) in &DAYS {
+        assert!(rt; answers(small(day(text)), *wanted), "{text:?}");
     }
-    for (text, wanted) in [
-        (b"3670".as_slice(), Some((367, b"0".as_slice()))),
-        (b"000", None),
-        (b"36", None),
-    ] {
-        let number = dayo(text).map(|found| ParsedItem(found.0, found.1.get()));
-        assert!(rt; answers(number, wanted), "{text:?}");
+    for (text, wanted) in &ORDINALS {
+        assert!(rt; answers(large(dayo(text)), *wanted), "{text:?}");
     }
 }
 
@@ -69,53 +70,61 @@ fn is_number(text: &[u8], whole: u8, digits: Option<&[u8]>, rest: &[u8]) -> bool
     }
 }
 
+static HOURS: [(&[u8], Answer<u8>); 2] = [(b"990", Some((99, b"0"))), (b"9", None)];
+
+// Texts, the whole part of the number that each begins with, its digits behind a point, and the rest.
+static NUMBERS: [(&[u8], u8, Option<&[u8]>, &[u8]); 3] = [
+    (b"03:", 3, None, b":"),
+    (b"03,25Z", 3, Some(b"25"), b"Z"),
+    (b"99.00", 99, Some(b"00"), b""),
+];
+
 #[test]
 fn iso_pieces_of_times(rt: HostRuntime) {
-    for (text, wanted) in [
-        (b"990".as_slice(), Some((99, b"0".as_slice()))),
-        (b"9", None),
-    ] {
-        assert!(rt; answers(hour(text), wanted), "{text:?}");
+    for (text, wanted) in &HOURS {
+        assert!(rt; answers(hour(text), *wanted), "{text:?}");
     }
     assert!(rt; answers(min(b"60"), Some((60, b""))));
-    for (text, whole, digits, rest) in [
-        (b"03:".as_slice(), 3, None, b":".as_slice()),
-        (b"03,25Z", 3, Some(b"25".as_slice()), b"Z"),
-        (b"99.00", 99, Some(b"00"), b""),
-    ] {
-        assert!(rt; is_number(text, whole, digits, rest), "{text:?}");
+    for (text, whole, digits, rest) in &NUMBERS {
+        assert!(rt; is_number(text, *whole, *digits, rest), "{text:?}");
     }
     for text in [b"03.".as_slice(), b"03,x", b"3"] {
         assert!(rt; float(text).is_none(), "{text:?}");
     }
 }
 
-#[test]
-fn iso_date_reader(rt: HostRuntime) {
-    let read = match date(b"2021-01-32x") {
+// The text begins with that day of a month, and this is the rest behind its extended form.
+fn begins_with_day(text: &[u8], wanted: (i32, Month, u8), rest: &[u8]) -> bool {
+    match date(text) {
         Ok(found) => match found.value {
             DateNumbers::Calendar(year, month, day) => {
-                year == 2021
-                    && month == Month::January
-                    && day.get() == 32
-                    && found.rest == b"x".as_slice()
+                (year, month, day.get()) == wanted
+                    && found.rest == rest
                     && found.kind == ExtendedKind::Extended
             }
             _ => false,
         },
         Err(_) => false,
-    };
-    assert!(rt; read);
-    let basic = match date(b"2021367") {
+    }
+}
+
+// The text begins with that day of a year in basic form.
+fn begins_with_ordinal(text: &[u8], wanted: (i32, u16)) -> bool {
+    match date(text) {
         Ok(found) => match found.value {
             DateNumbers::Ordinal(year, ordinal) => {
-                year == 2021 && ordinal.get() == 367 && found.kind == ExtendedKind::Basic
+                (year, ordinal.get()) == wanted && found.kind == ExtendedKind::Basic
             }
             _ => false,
         },
         Err(_) => false,
-    };
-    assert!(rt; basic);
+    }
+}
+
+#[test]
+fn iso_date_reader(rt: HostRuntime) {
+    assert!(rt; begins_with_day(b"2021-01-32x", (2021, Month::January, 32), b"x"));
+    assert!(rt; begins_with_ordinal(b"2021367", (2021, 367)));
     let refused = match date(b"2021-W50-8") {
         Ok(_) => false,
         Err(fault) => fault == ParseFromDescription::InvalidComponent("weekday"),
@@ -123,19 +132,26 @@ fn iso_date_reader(rt: HostRuntime) {
     assert!(rt; refused);
 }
 
+// Either kind may be given to an unknown one, which then is no other.
+fn is_coerced_once() -> bool {
+    let (mut basic, mut extended) = (ExtendedKind::Unknown, ExtendedKind::Unknown);
+    [
+        basic.coerce_basic(),
+        extended.coerce_extended(),
+        basic.coerce_extended(),
+        extended.coerce_basic(),
+    ] == [Some(()), Some(()), None, None]
+        && [basic, extended] == [ExtendedKind::Basic, ExtendedKind::Extended]
+}
+
 #[test]
 fn iso_kinds(rt: HostRuntime) {
-    assert!(rt; !ExtendedKind::Basic.maybe_extended());
-    assert!(rt; ExtendedKind::Unknown.maybe_extended());
-    assert!(rt; ExtendedKind::Extended.is_extended());
-    assert!(rt; !ExtendedKind::Unknown.is_extended());
-    let mut kind = ExtendedKind::Unknown;
-    assert!(rt; kind.coerce_basic() == Some(()));
-    assert!(rt; kind == ExtendedKind::Basic);
-    assert!(rt; kind.coerce_extended().is_none());
-    assert!(rt; kind == ExtendedKind::Basic);
-    let mut kind = ExtendedKind::Unknown;
-    assert!(rt; kind.coerce_extended() == Some(()));
-    assert!(rt; kind.coerce_basic().is_none());
-    assert!(rt; kind == ExtendedKind::Extended);
+    let [basic, extended, unknown] = [
+        ExtendedKind::Basic,
+        ExtendedKind::Extended,
+        ExtendedKind::Unknown,
+    ];
+    assert!(rt; [basic.maybe_extended(), unknown.maybe_extended()] == [false, true]);
+    assert!(rt; [unknown.is_extended(), extended.is_extended()] == [false, true]);
+    assert!(rt; is_coerced_once());
 }

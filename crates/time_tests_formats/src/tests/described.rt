@@ -33,6 +33,15 @@ const DATE: [BorrowedFormatItem<'static>; 5] = [
     })),
 ];
 
+// Texts that are no such date.
+static NO_DATES: [&[u8]; 5] = [
+    b"2021-13-02",
+    b"2021/01-02",
+    b"2021-01-02x",
+    b"2021-01-",
+    b"",
+];
+
 #[test]
 fn dates(rt: HostRuntime) -> Result<(), Fail> {
     let description = described(b"[year]-[month]-[day]")?;
@@ -40,58 +49,70 @@ fn dates(rt: HostRuntime) -> Result<(), Fail> {
     let date = Date::from_calendar_date(2021, Month::January, 2)?;
     assert!(rt; description.parse_date(b"2021-01-02", None) == Ok(date));
     assert!(rt; items.parse_date(b"2021-01-02", None) == Ok(date));
-    for text in [
-        b"2021-13-02".as_slice(),
-        b"2021/01-02".as_slice(),
-        b"2021-01-02x".as_slice(),
-        b"2021-01-".as_slice(),
-        b"".as_slice(),
-    ] {
+    for text in &NO_DATES {
         assert!(rt; description.parse_date(text, None) == items.parse_date(text, None));
     }
     Ok(())
 }
 
-// The refusal of a text by a description.
-fn refusal(refusal: ParseFromDescription) -> Result<Date, Parse> {
-    Err(Parse::ParseFromDescription(refusal))
-}
+// Texts, and how `[year], Day [day] of [month]` refuses them.
+static REFUSALS: [(&[u8], ParseFromDescription); 5] = [
+    (
+        b"2021, Day 02 of 13",
+        ParseFromDescription::InvalidComponent("month"),
+    ),
+    (
+        b"2021, Day 32 of 01",
+        ParseFromDescription::InvalidComponent("day"),
+    ),
+    (b"2021, Tag 02 of 01", ParseFromDescription::InvalidLiteral),
+    (b"2021, Da", ParseFromDescription::InvalidLiteral),
+    (
+        b"2021, Day 02 of 01.",
+        ParseFromDescription::UnexpectedTrailingCharacters,
+    ),
+];
 
 #[test]
 fn refusals(rt: HostRuntime) -> Result<(), Fail> {
     let description = described(b"[year], Day [day] of [month]")?;
     let date = Date::from_calendar_date(2021, Month::January, 2)?;
     assert!(rt; description.parse_date(b"2021, Day 02 of 01", None) == Ok(date));
-    let month = refusal(ParseFromDescription::InvalidComponent("month"));
-    assert!(rt; description.parse_date(b"2021, Day 02 of 13", None) == month);
-    let day = refusal(ParseFromDescription::InvalidComponent("day"));
-    assert!(rt; description.parse_date(b"2021, Day 32 of 01", None) == day);
-    let literal = refusal(ParseFromDescription::InvalidLiteral);
-    assert!(rt; description.parse_date(b"2021, Tag 02 of 01", None) == literal);
-    assert!(rt; description.parse_date(b"2021, Da", None) == literal);
-    let trailing = refusal(ParseFromDescription::UnexpectedTrailingCharacters);
-    assert!(rt; description.parse_date(b"2021, Day 02 of 01.", None) == trailing);
+    for (text, wanted) in &REFUSALS {
+        let refusal = Parse::ParseFromDescription(*wanted);
+        assert!(rt;
+            description.parse_date(text, None) == Err(refusal),
+            "{text:?}"
+        );
+    }
     Ok(())
+}
+
+// How many items are tried until the text is read, where no byte of it is left.
+fn tries_of(description: &Description<64>, text: &[u8]) -> Result<Option<u64>, Parse> {
+    let mut tries = Tries::new();
+    let mut parsed = Parsed::new();
+    let rest = parsed.parse_steps_counted(text, description.steps(), &mut tries)?;
+    Ok(if rest.is_empty() {
+        Some(tries.count())
+    } else {
+        None
+    })
 }
 
 #[test]
 fn optional_second(rt: HostRuntime) -> Result<(), Fail> {
     let description = described(b"[hour]:[minute][optional [:[second]]]")?;
-    let without = Time::from_hms_nano(3, 4, 0, 0)?;
-    assert!(rt; description.parse_time(b"03:04", None) == Ok(without));
-    let with = Time::from_hms_nano(3, 4, 5, 0)?;
-    assert!(rt; description.parse_time(b"03:04:05", None) == Ok(with));
+    for (text, second) in [(b"03:04".as_slice(), 0), (b"03:04:05", 5)] {
+        let wanted = Time::from_hms_nano(3, 4, second, 0)?;
+        assert!(rt; description.parse_time(text, None) == Ok(wanted));
+    }
     // A second that is out of range leaves the whole part unread, and the record without it.
     let mut parsed = Parsed::new();
     let rest = description.parse_into(b"03:04:61", &mut parsed)?;
-    assert!(rt; rest == b":61".as_slice());
-    assert!(rt; parsed.second().is_none());
+    assert!(rt; rest == b":61".as_slice() && parsed.second().is_none());
     // The row, three leaves, the optional item, its list, and two leaves: 1 + 3 + 1 + 1 + 2.
-    let mut tries = Tries::new();
-    let mut counted = Parsed::new();
-    let unread = counted.parse_steps_counted(b"03:04:05", description.steps(), &mut tries)?;
-    assert!(rt; unread.is_empty());
-    assert!(rt; tries.count() == 8);
+    assert!(rt; tries_of(&description, b"03:04:05")? == Some(8));
     Ok(())
 }
 
@@ -100,15 +121,13 @@ fn choice(rt: HostRuntime) -> Result<(), Fail> {
     let description = described(b"[first [[year]] [[month]]]")?;
     let mut parsed = Parsed::new();
     assert!(rt; description.parse_into(b"2021", &mut parsed)?.is_empty());
-    assert!(rt; parsed.year() == Some(2021));
-    assert!(rt; parsed.month().is_none());
-    let mut later = Parsed::new();
-    assert!(rt; description.parse_into(b"07", &mut later)?.is_empty());
-    assert!(rt; later.year().is_none());
-    assert!(rt; later.month() == Some(Month::July));
+    assert!(rt; (parsed.year(), parsed.month()) == (Some(2021), None));
+    let mut parsed = Parsed::new();
+    assert!(rt; description.parse_into(b"07", &mut parsed)?.is_empty());
+    assert!(rt; (parsed.year(), parsed.month()) == (None, Some(Month::July)));
     // The fault is the first list's.
     let year = Parse::ParseFromDescription(ParseFromDescription::InvalidComponent("year"));
-    assert!(rt; description.parse_into(b"x", &mut later) == Err(year));
+    assert!(rt; description.parse_into(b"x", &mut parsed) == Err(year));
     Ok(())
 }
 

@@ -1,95 +1,99 @@
 //! Texts of moments.
-use super::{first, in_1937, in_1985, in_1996, moment};
+use super::{Row, first, in_1937, in_1985, in_1996, is_written, moment};
 use std::test::Fail;
+use time_values::error::ComponentRange;
 use time_values::{Date, Month, OffsetDateTime, Time, UtcOffset};
 use time_writing::{FractionDigits, Unwritable, text_2822, text_3339, text_8601, text_8601_basic};
 
 // The moments and texts of RFC 3339, section 5.8.
 #[test]
 fn rfc3339(rt: HostRuntime) -> Result<(), Fail> {
-    for (value, text) in [
-        (in_1985()?, "1985-04-12T23:20:50.52Z"),
-        (in_1996()?, "1996-12-19T16:39:57-08:00"),
-        (in_1937()?, "1937-01-01T12:00:27.87+00:20"),
-    ] {
-        let Ok(written) = text_3339(value, FractionDigits::Auto) else {
-            return Err("no text".into());
-        };
-        assert!(rt; written.as_bytes() == text.as_bytes());
-    }
+    let auto = FractionDigits::Auto;
+    let [in_1985, in_1996, in_1937] = [in_1985()?, in_1996()?, in_1937()?];
+    assert!(rt; is_written(text_3339(in_1985, auto), "1985-04-12T23:20:50.52Z"));
+    assert!(rt; is_written(text_3339(in_1996, auto), "1996-12-19T16:39:57-08:00"));
+    assert!(rt; is_written(text_3339(in_1937, auto), "1937-01-01T12:00:27.87+00:20"));
     Ok(())
 }
 
+// The nanosecond of 2021-01-02T03:04:05Z, the digits that are written of it, and the text.
+static FRACTIONS: [(u32, FractionDigits, &str); 9] = [
+    (
+        123_456_789,
+        FractionDigits::Exactly(0),
+        "2021-01-02T03:04:05Z",
+    ),
+    (
+        123_456_789,
+        FractionDigits::Exactly(3),
+        "2021-01-02T03:04:05.123Z",
+    ),
+    (
+        123_456_789,
+        FractionDigits::Exactly(9),
+        "2021-01-02T03:04:05.123456789Z",
+    ),
+    (
+        123_456_789,
+        FractionDigits::Exactly(200),
+        "2021-01-02T03:04:05.123456789Z",
+    ),
+    (0, FractionDigits::Auto, "2021-01-02T03:04:05Z"),
+    (100_000_000, FractionDigits::Auto, "2021-01-02T03:04:05.1Z"),
+    (
+        123_000_000,
+        FractionDigits::Auto,
+        "2021-01-02T03:04:05.123Z",
+    ),
+    (1000, FractionDigits::Auto, "2021-01-02T03:04:05.000001Z"),
+    (1, FractionDigits::Auto, "2021-01-02T03:04:05.000000001Z"),
+];
+
 #[test]
 fn digits_of_a_fraction(rt: HostRuntime) -> Result<(), Fail> {
-    let value = moment((2021, Month::January, 2), (3, 4, 5, 123_456_789), (0, 0))?;
-    for (count, text) in [
-        (0, "2021-01-02T03:04:05Z"),
-        (3, "2021-01-02T03:04:05.123Z"),
-        (9, "2021-01-02T03:04:05.123456789Z"),
-        (200, "2021-01-02T03:04:05.123456789Z"),
-    ] {
-        let Ok(written) = text_3339(value, FractionDigits::Exactly(count)) else {
-            return Err("no text".into());
-        };
-        assert!(rt; written.as_bytes() == text.as_bytes());
-    }
-    for (nanosecond, text) in [
-        (0, "2021-01-02T03:04:05Z"),
-        (100_000_000, "2021-01-02T03:04:05.1Z"),
-        (123_000_000, "2021-01-02T03:04:05.123Z"),
-        (1000, "2021-01-02T03:04:05.000001Z"),
-        (1, "2021-01-02T03:04:05.000000001Z"),
-    ] {
-        let value = value.replace_nanosecond(nanosecond)?;
-        let Ok(written) = text_3339(value, FractionDigits::Auto) else {
-            return Err("no text".into());
-        };
-        assert!(rt; written.as_bytes() == text.as_bytes());
+    for (nanosecond, digits, text) in &FRACTIONS {
+        let value = moment((2021, Month::January, 2), (3, 4, 5, *nanosecond), (0, 0))?;
+        assert!(rt; is_written(text_3339(value, *digits), text));
     }
     Ok(())
 }
 
 // Dates of RFC 2822, appendix A. Of the second one the RFC leaves the day's first digit out.
+static MAIL_DATES: [Row; 3] = [
+    (
+        (1997, Month::November, 21),
+        (9, 55, 6, 0),
+        (-6, 0),
+        "Fri, 21 Nov 1997 09:55:06 -0600",
+    ),
+    (
+        (2003, Month::July, 1),
+        (10, 52, 37, 5),
+        (2, 0),
+        "Tue, 01 Jul 2003 10:52:37 +0200",
+    ),
+    (
+        (1969, Month::February, 13),
+        (23, 32, 54, 0),
+        (-3, -30),
+        "Thu, 13 Feb 1969 23:32:54 -0330",
+    ),
+];
+
 #[test]
 fn rfc2822(rt: HostRuntime) -> Result<(), Fail> {
-    for (value, text) in [
-        (
-            moment((1997, Month::November, 21), (9, 55, 6, 0), (-6, 0))?,
-            "Fri, 21 Nov 1997 09:55:06 -0600",
-        ),
-        (
-            moment((2003, Month::July, 1), (10, 52, 37, 5), (2, 0))?,
-            "Tue, 01 Jul 2003 10:52:37 +0200",
-        ),
-        (
-            moment((1969, Month::February, 13), (23, 32, 54, 0), (-3, -30))?,
-            "Thu, 13 Feb 1969 23:32:54 -0330",
-        ),
-    ] {
-        let Ok(written) = text_2822(value) else {
-            return Err("no text".into());
-        };
-        assert!(rt; written.as_bytes() == text.as_bytes());
+    for (date, time, offset, text) in &MAIL_DATES {
+        assert!(rt; is_written(text_2822(moment(*date, *time, *offset)?), text));
     }
     Ok(())
 }
 
 #[test]
 fn iso8601(rt: HostRuntime) -> Result<(), Fail> {
-    let Ok(written) = text_8601(in_1985()?) else {
-        return Err("no text".into());
-    };
-    assert!(rt; written.as_bytes() == b"1985-04-12T23:20:50.520000000Z".as_slice());
-    for (value, text) in [
-        (in_1985()?, "19850412T232050Z"),
-        (in_1996()?, "19961219T163957-0800"),
-    ] {
-        let Ok(written) = text_8601_basic(value) else {
-            return Err("no text".into());
-        };
-        assert!(rt; written.as_bytes() == text.as_bytes());
-    }
+    let (zulu, west) = (in_1985()?, in_1996()?);
+    assert!(rt; is_written(text_8601(zulu), "1985-04-12T23:20:50.520000000Z"));
+    assert!(rt; is_written(text_8601_basic(zulu), "19850412T232050Z"));
+    assert!(rt; is_written(text_8601_basic(west), "19961219T163957-0800"));
     Ok(())
 }
 
@@ -102,24 +106,34 @@ fn reasons(value: OffsetDateTime) -> [Option<Unwritable>; 3] {
     ]
 }
 
+// The begin of that year's May on a clock with that offset of hours and seconds.
+fn in_may(year: i32, (hours, seconds): (i8, i8)) -> Result<OffsetDateTime, ComponentRange> {
+    let date = Date::from_calendar_date(year, Month::May, 1)?;
+    let time = Time::from_hms_nano(0, 0, 0, 0)?;
+    let offset = UtcOffset::from_hms(hours, 0, seconds)?;
+    Ok(OffsetDateTime::new_in_offset(date, time, offset))
+}
+
+const YEAR: Option<Unwritable> = Some(Unwritable::Year);
+
+const HOUR: Option<Unwritable> = Some(Unwritable::OffsetHour);
+
+const SECOND: Option<Unwritable> = Some(Unwritable::OffsetSecond);
+
+// The year, the offset, and the reasons.
+const WITHOUT_A_TEXT: [(i32, (i8, i8), [Option<Unwritable>; 3]); 4] = [
+    (10_000, (0, 0), [YEAR, YEAR, YEAR]),
+    (1899, (0, 0), [None, YEAR, None]),
+    (2021, (24, 0), [HOUR, None, HOUR]),
+    (2021, (1, 1), [SECOND, SECOND, SECOND]),
+];
+
 #[test]
 fn moments_without_a_text(rt: HostRuntime) -> Result<(), Fail> {
-    let year = Some(Unwritable::Year);
-    let (hour, second) = (Some(Unwritable::OffsetHour), Some(Unwritable::OffsetSecond));
-    assert!(rt; reasons(first()?) == [year, year, year]);
-    assert!(rt;
-        reasons(moment((10_000, Month::May, 1), (0, 0, 0, 0), (0, 0))?) == [year, year, year]
-    );
-    assert!(rt;
-        reasons(moment((1899, Month::May, 1), (0, 0, 0, 0), (0, 0))?) == [None, year, None]
-    );
-    assert!(rt;
-        reasons(moment((2021, Month::May, 1), (0, 0, 0, 0), (24, 0))?) == [hour, None, hour]
-    );
-    let date = Date::from_calendar_date(2021, Month::May, 1)?;
-    let time = Time::from_hms_nano(0, 0, 0, 0)?;
-    let value = OffsetDateTime::new_in_offset(date, time, UtcOffset::from_hms(1, 0, 1)?);
-    assert!(rt; reasons(value) == [second, second, second]);
-    assert!(rt; text_8601(value).err() == second);
+    for (year, offset, wanted) in WITHOUT_A_TEXT {
+        assert!(rt; reasons(in_may(year, offset)?) == wanted);
+    }
+    assert!(rt; reasons(first()?) == [YEAR, YEAR, YEAR]);
+    assert!(rt; text_8601(in_may(2021, (1, 1))?).err() == SECOND);
     Ok(())
 }

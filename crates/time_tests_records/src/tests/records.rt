@@ -1,39 +1,60 @@
 //! The record of what was read: its options, their ranges, setters and builders.
 use std::num::NonZero;
-use std::test::Fail;
 use time_record::Parsed;
 use time_tests_fields::{Field, RANGES, get, set, with};
 
-#[test]
-fn digits_and_record(rt: HostRuntime) -> Result<(), Fail> {
+// A second of 60 is put, and none past it.
+fn holds_a_leap_second() -> bool {
     let mut parsed = Parsed::default();
-    assert!(rt; parsed.second().is_none());
-    assert!(rt; parsed.set_second(60) == Some(()));
-    assert!(rt; parsed.set_second(61).is_none());
-    assert!(rt; parsed.second() == Some(60));
-    assert!(rt; parsed.year_century_is_negative().is_none());
-    assert!(rt; parsed.set_year_century(0, true) == Some(()));
-    assert!(rt; parsed.year_century_is_negative() == Some(true));
-    assert!(rt; parsed.set_year_century(-5, false) == Some(()));
-    assert!(rt; parsed.year_century_is_negative() == Some(true));
-    assert!(rt; parsed.set_year_century(5, true) == Some(()));
-    assert!(rt; parsed.year_century_is_negative() == Some(false));
-    assert!(rt; parsed.set_offset_minute_signed(-30) == Some(()));
+    parsed.second().is_none()
+        && parsed.set_second(60) == Some(())
+        && parsed.set_second(61).is_none()
+        && parsed.second() == Some(60)
+}
+
+// Centuries put in turn, with the given sign of 0, and whether each is then negative.
+static SIGNS: [(i16, bool, bool); 3] = [(0, true, true), (-5, false, true), (5, true, false)];
+
+fn holds_signs_of_centuries() -> bool {
+    let mut parsed = Parsed::new();
+    let mut is_right = parsed.year_century_is_negative().is_none();
+    for (century, sign, is_negative) in &SIGNS {
+        let is_set = parsed.set_year_century(*century, *sign) == Some(());
+        is_right = is_right && is_set && parsed.year_century_is_negative() == Some(*is_negative);
+    }
+    is_right
+}
+
+// Without the sign that was read, the numbers of an offset are held with their own.
+fn holds_an_offset() -> bool {
+    let mut parsed = Parsed::new();
+    let minute = parsed.set_offset_minute_signed(-30);
     parsed.forget_offset_sign();
-    assert!(rt; parsed.offset_minute_signed() == Some(-30));
-    assert!(rt; parsed.offset_minute() == Some(30));
-    assert!(rt; parsed.set_offset_minute(60).is_none());
-    assert!(rt; parsed.offset_minute_signed() == Some(-30));
-    assert!(rt; parsed.set_offset_second_signed(-15) == Some(()));
-    assert!(rt; parsed.offset_second() == Some(15));
-    let past = NonZero::<u16>::new(367).ok_or("zero")?;
-    assert!(rt; Parsed::new().with_ordinal(past).is_none());
-    assert!(rt;
-        Parsed::new()
-            .with_unix_timestamp_nanos(31494784780800000000000)
-            .is_none()
-    );
-    Ok(())
+    let held = (parsed.offset_minute_signed(), parsed.offset_minute());
+    let past = parsed.set_offset_minute(60);
+    let kept = parsed.offset_minute_signed();
+    let second = parsed.set_offset_second_signed(-15);
+    [minute, past, second] == [Some(()), None, Some(())]
+        && (held, kept) == ((Some(-30), Some(30)), Some(-30))
+        && parsed.offset_second() == Some(15)
+}
+
+// No ordinal and no timestamp is put that is past the greatest.
+fn takes_nothing_past_the_ends() -> bool {
+    let ordinal = match NonZero::<u16>::new(367) {
+        Some(past) => Parsed::new().with_ordinal(past),
+        None => return false,
+    };
+    let timestamp = Parsed::new().with_unix_timestamp_nanos(31_494_784_780_800_000_000_000);
+    ordinal.is_none() && timestamp.is_none()
+}
+
+#[test]
+fn digits_and_record(rt: HostRuntime) {
+    assert!(rt; holds_a_leap_second());
+    assert!(rt; holds_signs_of_centuries());
+    assert!(rt; holds_an_offset());
+    assert!(rt; takes_nothing_past_the_ends());
 }
 
 // A number in range is put and got, and none past either end of it changes it.
@@ -81,15 +102,18 @@ fn iso_century_sign(century: i16, is_negative: bool) -> Option<bool> {
     parsed.iso_year_century_is_negative()
 }
 
+// Centuries, the given sign of 0, and whether they are negative.
+static ENDS: [(i16, bool, bool); 4] = [
+    (-9999, false, true),
+    (0, false, false),
+    (0, true, true),
+    (9999, true, false),
+];
+
 #[test]
 fn signs_of_centuries(rt: HostRuntime) {
-    for (century, sign, is_negative) in [
-        (-9999, false, true),
-        (0, false, false),
-        (0, true, true),
-        (9999, true, false),
-    ] {
-        assert!(rt; century_sign(century, sign) == Some(is_negative));
-        assert!(rt; iso_century_sign(century, sign) == Some(is_negative));
+    for (century, sign, is_negative) in &ENDS {
+        assert!(rt; century_sign(*century, *sign) == Some(*is_negative));
+        assert!(rt; iso_century_sign(*century, *sign) == Some(*is_negative));
     }
 }

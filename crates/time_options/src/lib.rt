@@ -3,6 +3,7 @@
 
 mod command;
 mod options;
+mod table;
 
 pub use command::make_command;
 pub use options::Options;

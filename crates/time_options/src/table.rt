@@ -1,0 +1,264 @@
+//! The options, each a row of a table, and the end of the help.
+
+/// The end of the help.
+pub(crate) const EXAMPLES: &str = "Examples:
+  tail -f access.log | restamp -b [ ] -f common -u
+  restamp -a 'Date: ' -f rfc2822 mbox
+  restamp -k 3 --csv -f '[day]/[month]/[year] [hour]:[minute]' orders.csv
+  restamp -l -f syslog --year 2026 -s 2026-11-25T12:00:00Z syslog
+
+FORMAT of --from is rfc3339, rfc2822, iso8601, unix, unix-ms, unix-us, unix-ns,
+common (access logs), syslog; or a description, as `[year]-[month]-[day]` or
+as strftime has it, `%Y-%m-%d`. FORMAT of --to is one of the first seven.
+The status is 0 where a time was rewritten, 1 where none was, and 2 after a
+wrong option, a file that was not read, a failed write, or a line that is
+refused under --strict.";
+
+/// What values an option has, and what help calls them.
+#[derive(Clone, Copy)]
+pub(crate) enum Kind {
+    /// None: it is given, or not.
+    Flag,
+    /// One.
+    Text(&'static str),
+    /// One each time that it is given.
+    Texts(&'static str),
+    /// Two.
+    Pair(&'static str),
+}
+
+/// An option.
+#[derive(Clone, Copy)]
+pub(crate) struct Row {
+    pub(crate) name: &'static str,
+    /// `-l` stands for it.
+    pub(crate) letter: Option<char>,
+    pub(crate) kind: Kind,
+    /// Its value where it isn't given.
+    pub(crate) default: Option<&'static str>,
+    pub(crate) help: &'static str,
+    /// The options that it needs.
+    pub(crate) needs: &'static [&'static str],
+    /// The options that can't stand beside it.
+    pub(crate) excludes: &'static [&'static str],
+}
+
+// What most rows have.
+const FLAG: Row = Row {
+    name: "",
+    letter: None,
+    kind: Kind::Flag,
+    default: None,
+    help: "",
+    needs: &[],
+    excludes: &[],
+};
+
+// Where a line's time stands.
+const PLACES: &[Row] = &[
+    Row {
+        name: "front",
+        letter: Some('l'),
+        help: "The line begins with it",
+        ..FLAG
+    },
+    Row {
+        name: "anywhere",
+        help: "It stands at the first place where a format reads",
+        ..FLAG
+    },
+    Row {
+        name: "field",
+        letter: Some('k'),
+        kind: Kind::Text("N"),
+        help: "Field N, from 1",
+        ..FLAG
+    },
+    Row {
+        name: "between",
+        letter: Some('b'),
+        kind: Kind::Pair("TEXT"),
+        help: "From after the first TEXT up to the second",
+        ..FLAG
+    },
+    Row {
+        name: "after",
+        letter: Some('a'),
+        kind: Kind::Text("KEY"),
+        help: "After KEY, to where its format ends",
+        ..FLAG
+    },
+    Row {
+        name: "delimiter",
+        letter: Some('d'),
+        kind: Kind::Text("BYTE"),
+        default: Some(","),
+        help: "Ends a field: a byte, or \\t for TAB",
+        ..FLAG
+    },
+    Row {
+        name: "blanks",
+        help: "Fields are words between blanks, as awk's",
+        needs: &["field"],
+        excludes: &["delimiter", "csv"],
+        ..FLAG
+    },
+    Row {
+        name: "csv",
+        help: "A field may stand in quotes",
+        needs: &["field"],
+        ..FLAG
+    },
+];
+
+// How it is read.
+const READING: &[Row] = &[
+    Row {
+        name: "from",
+        letter: Some('f'),
+        kind: Kind::Texts("FORMAT"),
+        default: Some("rfc3339"),
+        help: "The format, or several in turn",
+        ..FLAG
+    },
+    Row {
+        name: "year",
+        kind: Kind::Text("YEAR"),
+        help: "The year of times that have none",
+        ..FLAG
+    },
+    Row {
+        name: "latest",
+        kind: Kind::Text("TIME"),
+        help: "Such times are the latest not after TIME",
+        excludes: &["year"],
+        ..FLAG
+    },
+    Row {
+        name: "offset",
+        kind: Kind::Text("OFFSET"),
+        default: Some("+00:00"),
+        help: "The offset of times that have none",
+        ..FLAG
+    },
+];
+
+// How it is written.
+const WRITING: &[Row] = &[
+    Row {
+        name: "to",
+        letter: Some('t'),
+        kind: Kind::Text("FORMAT"),
+        default: Some("rfc3339"),
+        help: "The format",
+        ..FLAG
+    },
+    Row {
+        name: "zone",
+        letter: Some('z'),
+        kind: Kind::Text("ZONE"),
+        default: Some("keep"),
+        help: "keep, utc or an offset as +05:30",
+        ..FLAG
+    },
+    Row {
+        name: "utc",
+        letter: Some('u'),
+        help: "The same as --zone utc",
+        excludes: &["zone"],
+        ..FLAG
+    },
+    Row {
+        name: "digits",
+        kind: Kind::Text("N"),
+        default: Some("auto"),
+        help: "Digits of a fraction: 0 to 9, or auto",
+        ..FLAG
+    },
+    Row {
+        name: "only",
+        letter: Some('o'),
+        help: "Writes the times alone, one a line",
+        ..FLAG
+    },
+];
+
+// Which lines go out.
+const LINES: &[Row] = &[
+    Row {
+        name: "since",
+        letter: Some('s'),
+        kind: Kind::Text("TIME"),
+        help: "Drops lines whose time is before",
+        ..FLAG
+    },
+    Row {
+        name: "until",
+        letter: Some('e'),
+        kind: Kind::Text("TIME"),
+        help: "Drops lines whose time is that or after it",
+        ..FLAG
+    },
+    Row {
+        name: "drop-refused",
+        help: "Drops lines with no time, or a refused one",
+        ..FLAG
+    },
+];
+
+// What becomes of refused lines.
+const REPORTS: &[Row] = &[
+    Row {
+        name: "quiet",
+        letter: Some('q'),
+        help: "Names no refused line",
+        ..FLAG
+    },
+    Row {
+        name: "errors",
+        kind: Kind::Text("N"),
+        default: Some("10"),
+        help: "Names the first N of a file",
+        ..FLAG
+    },
+    Row {
+        name: "strict",
+        letter: Some('x'),
+        help: "Stops at the first, also of lines with no time",
+        ..FLAG
+    },
+    Row {
+        name: "keep-going",
+        help: "Goes on under --strict, with its status",
+        needs: &["strict"],
+        ..FLAG
+    },
+    Row {
+        name: "color",
+        kind: Kind::Text("WHEN"),
+        default: Some("auto"),
+        help: "In colours: auto, always or never",
+        ..FLAG
+    },
+];
+
+/// The headings of help, and the options under each.
+pub(crate) static SECTIONS: [(&str, &[Row]); 5] = [
+    (
+        "Where the time stands (else the whole line is the time)",
+        PLACES,
+    ),
+    ("How it is read", READING),
+    ("How it is written", WRITING),
+    ("Which lines go out", LINES),
+    ("What becomes of refused lines", REPORTS),
+];
+
+/// The option that prints completions, under no heading.
+pub(crate) const COMPLETIONS: Row = Row {
+    name: "completions",
+    kind: Kind::Text("SHELL"),
+    help: "Prints the completions of bash, zsh or fish",
+    ..FLAG
+};
+

@@ -1,5 +1,0 @@
-//! Tests of command lines, from their words to what is written.
-#![tactic(auto)]
-
-#[cfg(test)]
-mod tests;

@@ -9,8 +9,6 @@ mod laws;
 mod place;
 mod request;
 mod serving;
-#[cfg(test)]
-mod tests;
 
 use arguments::{Command, Question, command_of};
 use fault::told;

@@ -1,19 +1,34 @@
-//! Parses by descriptions that C holds.
+//! Descriptions that C holds by value: they are read once, and then parse many texts.
 ghost use Rattle.std.specs.Prelude.{◌≡◌, length};
 ghost use Rattle.time_values.specs.Range.{greatest_year};
 ghost use Rattle.time_record.specs.Resolution.{IsDated, IsTimed, IsOffset, IsPlain, IsUtcMoment};
 ghost use Rattle.time_answers.specs.Lines.{lines_of};
-ghost use Rattle.pelzaune.specs.Columns.{IsColumn};
-ghost use Rattle.pelzaune.specs.Handed.{IsHanded, IsCountHanded, ArePartsHanded, HasDate, HasTime, HasOffset, HasPlain, HasUtc, HasMoment, HasInstant, over_empty, of_record, of_moment};
-ghost use Rattle.pelzaune.specs.Held.{HandsHeld};
+ghost use Rattle.time_ffi.specs.Columns.{IsColumn};
+ghost use Rattle.time_ffi.specs.Handed.{IsHanded, IsCountHanded, ArePartsHanded, HasDate, HasTime, HasOffset, HasPlain, HasUtc, HasMoment, HasInstant, over_empty, of_record, of_moment};
+ghost use Rattle.time_ffi.specs.Described as Described;
+ghost use Rattle.time_ffi.specs.Held.{HandsHeld, Holds};
 
-use crate::columns::column;
-use crate::handing::{count, hand, parts};
-use crate::held::HeldDescription;
-use crate::parts::{
+use time_ffi::columns::column;
+use time_ffi::handing::{count, hand, parts};
+use time_ffi::held::{HeldDescription, describe};
+use time_ffi::parts::{
     DateParts, Instant, LocalParts, MomentParts, Nanoseconds, OffsetParts, Parts, TimeParts,
 };
 use time_values::{Date, OffsetDateTime, PlainDateTime, Time, UtcDateTime, UtcOffset};
+
+/// Holds the description of a text in the syntax of that number: the status is 0, or says why the text describes nothing,
+/// and then `index` is that of its first fault, if the fault has a place.
+#[unsafe(no_mangle)]
+pub extern "C" fn pelzaune_describe(
+    syntax: u32,
+    text: &[u8],
+    out: &mut HeldDescription,
+    index: &mut usize,
+) -> u32
+    ensures { Holds (Described.syntax_of syntax) text.now result out.old out.new index.old index.new }
+{
+    describe(syntax, text, out, index)
+}
 
 /// Parses a text by a held description into its date. On any other status than 0 `out` is unchanged.
 #[unsafe(no_mangle)]

@@ -7,34 +7,24 @@
 ghost use Rattle.std.specs.Prelude.{◌≡◌, length};
 ghost use Rattle.time_values.specs.Range.{greatest_year};
 ghost use Rattle.time_record.specs.Resolution.{IsDated, IsTimed, IsOffset, IsPlain, IsUtcMoment};
-ghost use Rattle.pelzaune.specs.Described.{Checks, HandsRead, syntax_of};
-ghost use Rattle.pelzaune.specs.Formats.{format_of};
-ghost use Rattle.pelzaune.specs.Handed.{Hands, HandsCount, HandsParts, IsHanded, IsCountHanded, ArePartsHanded, HasDate, HasTime, HasOffset, HasPlain, HasUtc, HasMoment, HasInstant, over_empty, of_record, of_moment};
-ghost use Rattle.pelzaune.specs.Status.{laid_over, status_text};
+ghost use Rattle.time_ffi.specs.Described.{Checks, HandsRead, syntax_of};
+ghost use Rattle.time_ffi.specs.Formats.{format_of};
+ghost use Rattle.time_ffi.specs.Handed.{Hands, HandsCount, HandsParts, IsHanded, IsCountHanded, ArePartsHanded, HasDate, HasTime, HasOffset, HasPlain, HasUtc, HasMoment, HasInstant, over_empty, of_record, of_moment};
+ghost use Rattle.time_ffi.specs.Status.{laid_over, status_text};
+ghost use Rattle.time_ffi.specs.Written.{HandsText};
 
 mod columns;
-mod cuts;
 mod described;
-mod descriptions;
-mod formats;
-mod handing;
-mod held;
-pub mod laws;
 mod locating;
-mod moments;
-mod parts;
-mod status;
-mod steps;
-mod text;
-mod writing;
 
-use crate::descriptions::check;
-use crate::handing::{count_read, hand_by, hand_read, parts_by, parts_read};
-use crate::moments::{count_by, moment_by};
-use crate::parts::{
+use time_ffi::descriptions::check;
+use time_ffi::handing::{count_read, hand_by, hand_read, parts_by, parts_read};
+use time_ffi::moments::{count_by, moment_by};
+use time_ffi::parts::{
     DateParts, Instant, LocalParts, MomentParts, Nanoseconds, OffsetParts, Parts, TimeParts,
 };
-use crate::text::{lay, pieces_of};
+use time_ffi::text::{lay, pieces_of};
+use time_ffi::writing::format_moment;
 use time_values::{Date, OffsetDateTime, PlainDateTime, Time, UtcDateTime, UtcOffset};
 
 /// The version of this interface, which `PELZAUNE_VERSION` of the header names too: 256 times its major number, and its
@@ -135,6 +125,21 @@ pub extern "C" fn pelzaune_parse_parts(format: u32, text: &[u8], out: &mut Parts
     ensures { HandsParts (format_of format) text.now result out.old out.new }
 {
     parts_by(format, text, out)
+}
+
+/// Writes the text of a moment by the format of that number over the front of the buffer, as far as the buffer goes;
+/// `count` is how many bytes the whole text has. On any other status than 0 both are unchanged: a part is out of its
+/// range, the moment has no text in that format, or no format has that number.
+#[unsafe(no_mangle)]
+pub extern "C" fn pelzaune_format_moment(
+    format: u32,
+    moment: &MomentParts,
+    buffer: &mut [u8],
+    count: &mut usize,
+) -> u32
+    ensures { HandsText (format_of format) moment.now result buffer.old buffer.new count.old count.new }
+{
+    format_moment(format, moment, buffer, count)
 }
 
 /// Checks a description in the syntax of that number: the status is 0, or says why the text describes nothing. Then

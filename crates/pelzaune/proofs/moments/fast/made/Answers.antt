@@ -1,9 +1,0 @@
-use Rattle.time_readers.specs.Direct.{said_rfc3339}
-use Rattle.pelzaune.proofs.InPlace.{made_of}
-use Rattle.pelzaune.proofs.moments.fast.made.Goals as goal
-
-pub returns : goal.returns
-returns c =
-    let made = c.new_in_offset.ensures in
-    made_of (said_rfc3339 c.args.numbers) c.new_in_offset.result c.requires.second (rw made.date c.in_ok-date.ensures)
-    (rw made.time c.in_ok-time.ensures) (rw made.offset c.in_ok-offset.ensures)

@@ -1,0 +1,96 @@
+//! Moments, as C is handed them by a format.
+//!
+//! The commonest texts of RFC 3339 are read where they are handed over (`fast`). Any other is parsed by the library, in a
+//! function of its own, so that it leaves the short cut its registers.
+mod fast;
+
+ghost use Rattle.std.specs.Prelude.{Some};
+ghost use Rattle.time_ffi.specs.Formats as Formats;
+ghost use Rattle.time_ffi.specs.Handed.{Hands, HandsCount, IsCountHanded, IsHanded, IsHandedOver, of_moment};
+ghost use Rattle.time_ffi.specs.declared.formats.Format.TheVariants.{Rfc3339 as rfc3339};
+
+use crate::formats::{Format, format_of};
+use crate::handing::{count, hand_count};
+use crate::parts::Nanoseconds;
+use crate::status::{UNKNOWN_FORMAT, status_of};
+use time_parsing::{Iso8601, Parsable, Rfc2822, Rfc3339};
+use time_values::OffsetDateTime;
+
+// Hands over the parts of a moment of RFC 3339.
+#[inline(never)]
+fn moment_3339<P: From<OffsetDateTime> + Copy>(text: &[u8], out: &mut P) -> u32
+    ensures { Hands P.from_gives of_moment (Some rfc3339) text.now result out.old out.new }
+{
+    match fast::moment(text) {
+        Some(value) => {
+            *out = P::from(value);
+            0
+        }
+        None => parsed_moment(&Rfc3339, text, out),
+    }
+}
+
+// Hands over the parts of a text's moment.
+#[inline(never)]
+fn parsed_moment<P: From<OffsetDateTime> + Copy, F: Parsable>(
+    format: &F,
+    text: &[u8],
+    out: &mut P,
+) -> u32
+    ensures { IsHandedOver (IsHanded P.from_gives)
+        (of_moment (F.path format.now) (F.reads format.now) (F.refuses format.now) text.now) result out.old out.new }
+{
+    match format.parse_offset_date_time(text, None) {
+        Ok(value) => {
+            *out = P::from(value);
+            0
+        }
+        Err(error) => status_of(error),
+    }
+}
+
+/// Hands over the parts of a text's moment by the format of that number.
+#[inline(always)]
+pub fn moment_by<P: From<OffsetDateTime> + Copy>(format: u32, text: &[u8], out: &mut P) -> u32
+    ensures { Hands P.from_gives of_moment (Formats.format_of format) text.now result out.old out.new }
+{
+    match format_of(format) {
+        Some(Format::Rfc3339) => moment_3339(text, out),
+        Some(Format::Rfc2822) => parsed_moment(&Rfc2822, text, out),
+        Some(Format::Iso8601) => parsed_moment(&Iso8601, text, out),
+        None => UNKNOWN_FORMAT,
+    }
+}
+
+// Hands over the nanoseconds of a moment of RFC 3339.
+#[inline(never)]
+fn count_3339(text: &[u8], out: &mut Nanoseconds) -> u32
+    ensures { HandsCount (Some rfc3339) text.now result out.old out.new }
+{
+    match fast::moment(text) {
+        Some(value) => hand_count(value, out),
+        None => parsed_count(&Rfc3339, text, out),
+    }
+}
+
+// Hands over the nanoseconds of a text's moment.
+#[inline(never)]
+fn parsed_count<F: Parsable>(format: &F, text: &[u8], out: &mut Nanoseconds) -> u32
+    ensures { IsHandedOver IsCountHanded
+        (of_moment (F.path format.now) (F.reads format.now) (F.refuses format.now) text.now) result out.old out.new }
+{
+    count(format, text, out)
+}
+
+/// Hands over the nanoseconds of a text's moment by the format of that number.
+#[inline(always)]
+pub fn count_by(format: u32, text: &[u8], out: &mut Nanoseconds) -> u32
+    ensures { HandsCount (Formats.format_of format) text.now result out.old out.new }
+{
+    match format_of(format) {
+        Some(Format::Rfc3339) => count_3339(text, out),
+        Some(Format::Rfc2822) => parsed_count(&Rfc2822, text, out),
+        Some(Format::Iso8601) => parsed_count(&Iso8601, text, out),
+        None => UNKNOWN_FORMAT,
+    }
+}

@@ -1,72 +1,104 @@
 //! Moments at other offsets, and of seconds.
-use super::{first, in_1985, in_1996, in_utc, last, moment, plain};
+use super::{FIRST, IN_1985, IN_1996, IN_1996_AT_ZERO, LAST, Numbers, in_utc, moment, plain};
 use std::convert::TryFrom;
-use std::test::Fail;
 use std::time::{Duration, UNIX_EPOCH};
 use time_values::error::ComponentRange;
 use time_values::{Month, OffsetDateTime, Timestamp, UtcDateTime, UtcOffset};
 
 // A minute before the first moment there is no date, and none behind the last one.
 fn has_no_date_past_the_ends() -> Result<bool, ComponentRange> {
-    let west = first()?.checked_to_offset(UtcOffset::from_hms(0, -1, 0)?);
-    let east = last()?.checked_to_offset(UtcOffset::from_hms(0, 1, 0)?);
-    Ok([west, east] == [None; 2])
+    let west = moment(FIRST)?.checked_to_offset(UtcOffset::from_hms(0, -1, 0)?);
+    let east = moment(LAST)?.checked_to_offset(UtcOffset::from_hms(0, 1, 0)?);
+    Ok(west == None && east == None)
 }
 
 // RFC 3339, section 5.8: 1996-12-19T16:39:57-08:00 is 1996-12-20T00:39:57Z.
-#[test]
-fn at_another_offset(rt: HostRuntime) -> Result<(), Fail> {
-    let (value, west) = (in_1996()?, UtcOffset::from_hms(-8, 0, 0)?);
-    let at_zero = moment((1996, Month::December, 20), (0, 39, 57, 0), (0, 0))?;
+fn is_the_same_in_utc() -> Result<bool, ComponentRange> {
+    let (value, at_zero) = (moment(IN_1996)?, moment(IN_1996_AT_ZERO)?);
     let utc = in_utc(at_zero);
-    assert!(rt; value.checked_to_utc() == Some(utc));
-    assert!(rt; value.checked_to_offset(UtcOffset::UTC) == Some(at_zero));
-    assert!(rt; [at_zero.checked_to_offset(west), utc.checked_to_offset(west)] == [Some(value); 2]);
-    assert!(rt; OffsetDateTime::from(utc) == at_zero);
-    assert!(rt; has_no_date_past_the_ends()?);
-    Ok(())
+    Ok(
+        value.checked_to_utc() == Some(utc)
+            && value.checked_to_offset(UtcOffset::UTC) == Some(at_zero)
+            && at_zero.checked_to_offset(value.offset()) == Some(value)
+            && utc.checked_to_offset(value.offset()) == Some(value)
+            && OffsetDateTime::from(utc) == at_zero,
+    )
+}
+
+// The date and time with the offset is the moment.
+fn is_made_with_its_offset() -> Result<bool, ComponentRange> {
+    let (value, (date, time, _)) = (moment(IN_1996)?, IN_1996);
+    Ok(
+        plain(value).assume_offset(UtcOffset::from_hms(-8, 0, 0)?) == value
+            && plain(value).assume_utc() == moment((date, time, (0, 0, 0)))?
+            && plain(value).as_utc() == in_utc(value),
+    )
 }
 
 #[test]
-fn with_an_offset(rt: HostRuntime) -> Result<(), Fail> {
-    let value = in_1996()?;
-    let at_zero = moment((1996, Month::December, 19), (16, 39, 57, 0), (0, 0))?;
-    assert!(rt; plain(value).assume_offset(UtcOffset::from_hms(-8, 0, 0)?) == value);
-    assert!(rt; plain(value).assume_utc() == at_zero);
-    assert!(rt; plain(value).as_utc() == in_utc(value));
-    Ok(())
+fn offsets(rt: HostRuntime) {
+    assert!(rt; has_no_date_past_the_ends() == Ok(true));
+    assert!(rt; is_the_same_in_utc() == Ok(true));
+    assert!(rt; is_made_with_its_offset() == Ok(true));
 }
 
-// The moment of that many seconds, and the same by way of UTC.
-fn of_whole_seconds(seconds: i64) -> [Result<OffsetDateTime, ComponentRange>; 2] {
-    let by_utc = match UtcDateTime::from_unix_timestamp(seconds) {
-        Ok(utc) => Ok(OffsetDateTime::from(utc)),
-        Err(refusal) => Err(refusal),
-    };
-    [OffsetDateTime::from_unix_timestamp(seconds), by_utc]
+// Seconds since 1970, and the moment of these.
+static SECONDS: [(i64, Numbers); 3] = [
+    (
+        482_196_050,
+        ((1985, Month::April, 12), (23, 20, 50, 0), (0, 0, 0)),
+    ),
+    (
+        482_196_051,
+        ((1985, Month::April, 12), (23, 20, 51, 0), (0, 0, 0)),
+    ),
+    (-31_619_087_596_800, FIRST),
+];
+
+// The moment is after so many seconds, by way of UTC too.
+fn is_after(seconds: i64, numbers: Numbers) -> Result<bool, ComponentRange> {
+    let value = OffsetDateTime::from_unix_timestamp(seconds)?;
+    let utc = UtcDateTime::from_unix_timestamp(seconds)?;
+    Ok([value, OffsetDateTime::from(utc)] == [moment(numbers)?; 2])
 }
 
-#[test]
-fn of_seconds(rt: HostRuntime) -> Result<(), Fail> {
-    let whole = moment((1985, Month::April, 12), (23, 20, 50, 0), (0, 0));
-    let refusal = Err(ComponentRange {
+// There is no moment after so many seconds.
+fn is_after_none(seconds: i64) -> bool {
+    let refusal = ComponentRange {
         name: "timestamp",
         conditional: false,
-    });
-    assert!(rt; of_whole_seconds(482_196_050) == [whole; 2]);
-    assert!(rt; of_whole_seconds(-31_619_087_596_800) == [first(); 2]);
-    assert!(rt; of_whole_seconds(31_494_784_780_800) == [refusal; 2]);
-    assert!(rt; of_whole_seconds(-31_619_087_596_801) == [refusal; 2]);
-    let timestamp = Timestamp::from_nanoseconds(482_196_050_520_000_000)?;
-    assert!(rt; OffsetDateTime::from(UtcDateTime::from(timestamp)) == in_1985()?);
-    Ok(())
+    };
+    OffsetDateTime::from_unix_timestamp(seconds) == Err(refusal)
+        && UtcDateTime::from_unix_timestamp(seconds) == Err(refusal)
 }
 
 #[test]
-fn of_the_systems_clock(rt: HostRuntime) -> Result<(), Fail> {
+fn of_seconds(rt: HostRuntime) {
+    for (seconds, numbers) in &SECONDS {
+        assert!(rt; is_after(*seconds, *numbers) == Ok(true));
+    }
+    assert!(rt; is_after_none(31_494_784_780_800));
+    assert!(rt; is_after_none(-31_619_087_596_801));
+}
+
+// The moment in 1985 is that of its nanoseconds.
+fn is_of_a_timestamp() -> Result<bool, ComponentRange> {
+    let timestamp = Timestamp::from_nanoseconds(482_196_050_520_000_000)?;
+    Ok(OffsetDateTime::from(UtcDateTime::from(timestamp)) == moment(IN_1985)?)
+}
+
+// It is that of its time on the system's clock, which goes on behind the last moment.
+fn is_of_the_systems_clock() -> Result<bool, ComponentRange> {
     let time = UNIX_EPOCH + Duration::new(482_196_050, 520_000_000);
-    assert!(rt; OffsetDateTime::from(UtcDateTime::try_from(time)?) == in_1985()?);
     let late = UNIX_EPOCH + Duration::from_secs(31_494_784_780_800);
-    assert!(rt; UtcDateTime::try_from(late).is_err());
-    Ok(())
+    Ok(
+        OffsetDateTime::from(UtcDateTime::try_from(time)?) == moment(IN_1985)?
+            && UtcDateTime::try_from(late).is_err(),
+    )
+}
+
+#[test]
+fn of_timestamps_and_clocks(rt: HostRuntime) {
+    assert!(rt; is_of_a_timestamp() == Ok(true));
+    assert!(rt; is_of_the_systems_clock() == Ok(true));
 }

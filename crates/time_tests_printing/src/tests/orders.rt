@@ -1,7 +1,6 @@
 //! Orders and hashes.
-use super::{first, in_1937, in_1985, in_1996, last, moment};
+use super::{FIRST, IN_1937, IN_1985, IN_1996, IN_1996_AT_ZERO, LAST, Numbers, moment};
 use std::cmp::Ordering;
-use std::test::Fail;
 use time_values::error::ComponentRange;
 use time_values::{Date, Month, PlainDateTime, Time, Timestamp, UtcDateTime, UtcOffset};
 
@@ -27,34 +26,42 @@ fn offsets_and_timestamps_rise() -> Result<bool, ComponentRange> {
     let farther = UtcOffset::from_hms(0, 31, 0)?;
     let timestamp = Timestamp::from_nanoseconds(-2)?;
     let later = Timestamp::from_nanoseconds(1)?;
-    Ok(west < UtcOffset::UTC && east < farther && timestamp < later)
+    Ok(
+        west < UtcOffset::UTC
+            && east < farther
+            && timestamp < later
+            && Month::January < Month::February,
+    )
 }
 
 #[test]
-fn values_from_the_least(rt: HostRuntime) -> Result<(), Fail> {
-    assert!(rt; dates_and_times_rise()?);
-    assert!(rt; offsets_and_timestamps_rise()?);
-    assert!(rt; Month::January < Month::February);
-    Ok(())
+fn values_from_the_least(rt: HostRuntime) {
+    assert!(rt; dates_and_times_rise() == Ok(true));
+    assert!(rt; offsets_and_timestamps_rise() == Ok(true));
 }
 
-// 16:39:57 at -08:00 is 00:39:57 of the next day in UTC (RFC 3339, section 5.8).
+// Different moments, and the order of their instants: 16:39:57 at -08:00 is 00:39:57 of the next day in UTC (RFC 3339,
+// section 5.8).
+static ORDERS: [(Numbers, Numbers, Ordering); 4] = [
+    (IN_1937, IN_1985, Ordering::Less),
+    (IN_1985, IN_1996_AT_ZERO, Ordering::Less),
+    (IN_1996, IN_1996_AT_ZERO, Ordering::Equal),
+    (LAST, FIRST, Ordering::Greater),
+];
+
+// The moments differ, and are the same instant only where the order of instants says so.
+fn differ(numbers: Numbers, others: Numbers, order: Ordering) -> Result<bool, ComponentRange> {
+    let (value, other) = (moment(numbers)?, moment(others)?);
+    Ok(
+        value != other
+            && value.cmp_instant(other) == order
+            && value.is_same_instant(other) == (order == Ordering::Equal),
+    )
+}
+
 #[test]
-fn moments_by_their_instants(rt: HostRuntime) -> Result<(), Fail> {
-    let in_utc = moment((1996, Month::December, 20), (0, 39, 57, 0), (0, 0))?;
-    let (earlier, value) = (in_1985()?, in_1996()?);
-    assert!(rt; value != in_utc);
-    assert!(rt;
-        [
-            value.is_same_instant(in_utc),
-            earlier.is_same_instant(in_utc)
-        ] == [true, false]
-    );
-    let orders = [
-        in_1937()?.cmp_instant(earlier),
-        value.cmp_instant(in_utc),
-        last()?.cmp_instant(first()?),
-    ];
-    assert!(rt; orders == [Ordering::Less, Ordering::Equal, Ordering::Greater]);
-    Ok(())
+fn moments_by_their_instants(rt: HostRuntime) {
+    for (numbers, others, order) in &ORDERS {
+        assert!(rt; differ(*numbers, *others, *order) == Ok(true));
+    }
 }

@@ -1,82 +1,119 @@
 //! Values as they are printed.
-use super::{first, in_1937, in_1985};
+use super::{FIRST, IN_1937, IN_1985, Numbers, in_utc, moment, plain};
+use std::alloc::Global;
 use std::fmt::Display;
-use std::test::Fail;
-use time_values::{Date, Month, PlainDateTime, Time, Timestamp, UtcDateTime, UtcOffset, Weekday};
+use time_values::error::ComponentRange;
+use time_values::{Date, Month, Time, Timestamp, UtcOffset, Weekday};
 
-// Fails where the value isn't printed so.
-fn prints<R: Alloc>(rt: &R, value: impl Display + Drop, text: &str) -> Result<(), Fail> {
-    let printed = format!(in rt.alloc(); "{value}")?;
-    if printed.as_str() != text {
-        return Err("another text".into());
+// The value is printed so.
+fn prints(alloc: Global, value: impl Display + Drop, text: &str) -> bool {
+    match format!(in alloc; "{value}") {
+        Ok(printed) => printed.as_str() == text,
+        Err(_) => false,
     }
-    Ok(())
 }
 
-#[test]
-fn dates(rt: HostRuntime) -> Result<(), Fail> {
-    for (year, text) in [
-        (2021, "2021-01-02"),
-        (0, "0000-01-02"),
-        (-1, "-0001-01-02"),
-        (9999, "9999-01-02"),
-        (10_000, "+10000-01-02"),
-        (-999_999, "-999999-01-02"),
-    ] {
-        prints(
-            &rt,
+// A value, by its numbers.
+#[derive(Clone, Copy)]
+enum Value {
+    Date(i32),
+    Time(u8, u32),
+    Offset(i8, i8, i8),
+    Timestamp(i128),
+    Month(Month),
+    Weekday(Weekday),
+}
+
+// Years whose 2 January is printed, then hours and nanoseconds at whose minute 5 and second 9 the times are.
+static VALUES: [(Value, &str); 17] = [
+    (Value::Date(2021), "2021-01-02"),
+    (Value::Date(0), "0000-01-02"),
+    (Value::Date(-1), "-0001-01-02"),
+    (Value::Date(9999), "9999-01-02"),
+    (Value::Date(10_000), "+10000-01-02"),
+    (Value::Date(-999_999), "-999999-01-02"),
+    (Value::Time(0, 0), "0:05:09.0"),
+    (Value::Time(1, 250_000_000), "1:05:09.25"),
+    (Value::Time(23, 1), "23:05:09.000000001"),
+    (Value::Time(10, 123_456_789), "10:05:09.123456789"),
+    (Value::Time(9, 1000), "9:05:09.000001"),
+    (Value::Offset(5, 30, 0), "+05:30:00"),
+    (Value::Offset(0, 0, -7), "-00:00:07"),
+    (Value::Offset(0, 0, 0), "+00:00:00"),
+    (Value::Timestamp(-1_500_000_000), "-1500000000"),
+    (Value::Month(Month::September), "September"),
+    (Value::Weekday(Weekday::Wednesday), "Wednesday"),
+];
+
+// The value of these numbers is printed so.
+fn is_printed(alloc: Global, value: Value, text: &str) -> Result<bool, ComponentRange> {
+    let is_printed = match value {
+        Value::Date(year) => prints(
+            alloc,
             Date::from_calendar_date(year, Month::January, 2)?,
             text,
-        )?;
+        ),
+        Value::Time(hour, nanosecond) => {
+            prints(alloc, Time::from_hms_nano(hour, 5, 9, nanosecond)?, text)
+        }
+        Value::Offset(hours, minutes, seconds) => {
+            prints(alloc, UtcOffset::from_hms(hours, minutes, seconds)?, text)
+        }
+        Value::Timestamp(nanoseconds) => {
+            prints(alloc, Timestamp::from_nanoseconds(nanoseconds)?, text)
+        }
+        Value::Month(month) => prints(alloc, month, text),
+        Value::Weekday(weekday) => prints(alloc, weekday, text),
+    };
+    Ok(is_printed)
+}
+
+#[test]
+fn values(rt: HostRuntime) {
+    for (value, text) in &VALUES {
+        assert!(rt; is_printed(rt.alloc(), *value, text) == Ok(true), "{text}");
     }
-    Ok(())
 }
 
-#[test]
-fn times(rt: HostRuntime) -> Result<(), Fail> {
-    for (hour, nanosecond, text) in [
-        (0, 0, "0:05:09.0"),
-        (1, 250_000_000, "1:05:09.25"),
-        (23, 1, "23:05:09.000000001"),
-        (10, 123_456_789, "10:05:09.123456789"),
-        (9, 1000, "9:05:09.000001"),
-    ] {
-        prints(&rt, Time::from_hms_nano(hour, 5, 9, nanosecond)?, text)?;
-    }
-    Ok(())
-}
-
-#[test]
-fn offsets(rt: HostRuntime) -> Result<(), Fail> {
-    prints(&rt, UtcOffset::from_hms(5, 30, 0)?, "+05:30:00")?;
-    prints(&rt, UtcOffset::from_hms(0, 0, -7)?, "-00:00:07")?;
-    prints(&rt, UtcOffset::UTC, "+00:00:00")
-}
-
-#[test]
-fn moments(rt: HostRuntime) -> Result<(), Fail> {
-    let value = in_1985()?;
-    prints(
-        &rt,
-        PlainDateTime::new(value.date(), value.time()),
+// Moments, and how they are printed without an offset, in UTC and with their offset.
+static MOMENTS: [(Numbers, &str, &str, &str); 3] = [
+    (
+        IN_1985,
         "1985-04-12 23:20:50.52",
-    )?;
-    prints(
-        &rt,
-        UtcDateTime::new(value.date(), value.time()),
         "1985-04-12 23:20:50.52 +00",
-    )?;
-    prints(&rt, in_1937()?, "1937-01-01 12:00:27.87 +00:20:00")?;
-    prints(&rt, first()?, "-999999-01-01 0:00:00.0 +00:00:00")?;
-    prints(
-        &rt,
-        Timestamp::from_nanoseconds(-1_500_000_000)?,
-        "-1500000000",
+        "1985-04-12 23:20:50.52 +00:00:00",
+    ),
+    (
+        IN_1937,
+        "1937-01-01 12:00:27.87",
+        "1937-01-01 12:00:27.87 +00",
+        "1937-01-01 12:00:27.87 +00:20:00",
+    ),
+    (
+        FIRST,
+        "-999999-01-01 0:00:00.0",
+        "-999999-01-01 0:00:00.0 +00",
+        "-999999-01-01 0:00:00.0 +00:00:00",
+    ),
+];
+
+// The moment is printed so in each of these ways.
+fn is_moment_printed(
+    alloc: Global,
+    numbers: Numbers,
+    [without, utc, with]: [&str; 3],
+) -> Result<bool, ComponentRange> {
+    let value = moment(numbers)?;
+    Ok(
+        prints(alloc, plain(value), without)
+            && prints(alloc, in_utc(value), utc)
+            && prints(alloc, value, with),
     )
 }
 
 #[test]
-fn names(rt: HostRuntime) -> Result<(), Fail> {
-    prints(&rt, Month::September, "September")?;
-    prints(&rt, Weekday::Wednesday, "Wednesday")
+fn moments(rt: HostRuntime) {
+    for (numbers, without, utc, with) in &MOMENTS {
+        assert!(rt; is_moment_printed(rt.alloc(), *numbers, [*without, *utc, *with]) == Ok(true));
+    }
 }

@@ -1,8 +1,5 @@
 //! Each day of 400 years here and there, against a count from day to day.
 use std::num::NonZero;
-use std::process::Abort;
-use std::test::Fail;
-use time_values::error::ComponentRange;
 use time_values::{Date, Month, Time, UtcDateTime};
 
 // A day and what a count from day to day says of it.
@@ -144,52 +141,59 @@ fn is_made_of_its_numbers(date: Date, counted: &Counted) -> bool {
 }
 
 // The midnight before the date is so many nanoseconds after 1970-01-01.
-fn begins_at(date: Date, nanos: i128) -> Result<bool, ComponentRange> {
-    let midnight = UtcDateTime::new(date, Time::from_hms_nano(0, 0, 0, 0)?);
-    Ok(
-        midnight.unix_timestamp_nanos() == nanos
-            && UtcDateTime::from_unix_timestamp_nanos(nanos) == Ok(midnight),
-    )
+fn begins_at(date: Date, nanos: i128) -> bool {
+    match Time::from_hms_nano(0, 0, 0, 0) {
+        Ok(midnight) => {
+            let midnight = UtcDateTime::new(date, midnight);
+            midnight.unix_timestamp_nanos() == nanos
+                && UtcDateTime::from_unix_timestamp_nanos(nanos) == Ok(midnight)
+        }
+        Err(_) => false,
+    }
 }
 
-// The getters agree with the count on so many days, behind which a year begins on a weekday.
-fn agree_on_days(
-    rt: &impl Abort,
-    start: Counted,
-    days: u32,
-    year: i32,
-    weekday: u8,
-) -> Result<(), Fail> {
+// The date of the count's year, month and day.
+fn date_of(counted: &Counted) -> Option<Date> {
+    let month = Month::from_number(NonZero::<u8>::new(counted.month)?).ok()?;
+    Date::from_calendar_date(counted.year, month, counted.day).ok()
+}
+
+// The count's date agrees with it.
+fn agrees(counted: &Counted) -> bool {
+    match date_of(counted) {
+        Some(date) => {
+            has_its_numbers(date, counted)
+                && is_made_of_its_numbers(date, counted)
+                && begins_at(date, counted.nanos)
+        }
+        None => false,
+    }
+}
+
+// The day behind so many days, or the first one whose date does not agree with the count.
+fn count(start: Counted, days: u32) -> Counted {
     let mut counted = start;
     for _ in 0..days {
-        let month = Month::from_number(NonZero::<u8>::new(counted.month).ok_or("zero")?)?;
-        let date = Date::from_calendar_date(counted.year, month, counted.day)?;
-        assert!(rt; has_its_numbers(date, &counted));
-        assert!(rt; is_made_of_its_numbers(date, &counted));
-        assert!(rt; begins_at(date, counted.nanos)?);
+        if !agrees(&counted) {
+            return counted;
+        }
         counted.step();
     }
-    assert!(rt; (counted.year, counted.month, counted.day) == (year, 1, 1));
-    assert!(rt; counted.weekday == weekday);
-    Ok(())
+    counted
 }
 
-#[test]
-fn days_of_400_years(rt: HostRuntime) -> Result<(), Fail> {
-    agree_on_days(&rt, Counted::IN_1900, 146_097, 2300, 0)
-}
+// Where the count begins, for how many days it goes on, and the year that begins behind them, on what weekday.
+static COUNTS: [(Counted, u32, i32, u8); 4] = [
+    (Counted::IN_1900, 146_097, 2300, 0),
+    (Counted::FIRST, 146_097, -999_599, 0),
+    (Counted::BEFORE_0, 146_462, 201, 3),
+    (Counted::IN_999600, 146_097, 1_000_000, 5),
+];
 
 #[test]
-fn days_of_the_first_400_years(rt: HostRuntime) -> Result<(), Fail> {
-    agree_on_days(&rt, Counted::FIRST, 146_097, -999_599, 0)
-}
-
-#[test]
-fn days_around_the_year_0(rt: HostRuntime) -> Result<(), Fail> {
-    agree_on_days(&rt, Counted::BEFORE_0, 146_462, 201, 3)
-}
-
-#[test]
-fn days_of_the_last_400_years(rt: HostRuntime) -> Result<(), Fail> {
-    agree_on_days(&rt, Counted::IN_999600, 146_097, 1_000_000, 5)
+fn days_of_400_years(rt: HostRuntime) {
+    for (start, days, year, weekday) in &COUNTS {
+        let end = count(*start, *days);
+        assert!(rt; (end.year, end.month, end.day, end.weekday) == (*year, 1, 1, *weekday));
+    }
 }

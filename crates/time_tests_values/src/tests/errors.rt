@@ -37,6 +37,14 @@ const YEAR_TEXT: &str = "year is out of range";
 
 const DAY_TEXT: &str = "day is out of range for the other components";
 
+static RANGES: [(ComponentRange, &str); 2] = [(YEAR, YEAR_TEXT), (DAY, DAY_TEXT)];
+
+static REFUSALS: [(ParseFromDescription, &str); 3] = [
+    (LITERAL, LITERAL_TEXT),
+    (MONTH, MONTH_TEXT),
+    (TRAILING, TRAILING_TEXT),
+];
+
 // The error prints that text.
 fn prints<E: Display>(alloc: Global, e: &E, text: &str) -> bool {
     match e.to_string(alloc) {
@@ -45,52 +53,38 @@ fn prints<E: Display>(alloc: Global, e: &E, text: &str) -> bool {
     }
 }
 
+// The error prints that text, and so does the joint error that is made of it.
+fn prints_joined<E: Display + Copy>(alloc: Global, e: E, text: &str) -> bool
+where
+    Error: From<E>,
+{
+    prints(alloc, &e, text) && prints(alloc, &Error::from(e), text)
+}
+
+// So does the error of a parse that is made of it.
+fn prints_parsed<E: Display + Copy>(alloc: Global, e: E, text: &str) -> bool
+where
+    Error: From<E>,
+    Parse: From<E>,
+{
+    prints_joined(alloc, e, text) && prints_joined::<Parse>(alloc, Parse::from(e), text)
+}
+
 #[test]
 fn texts(rt: HostRuntime) {
-    for (e, text) in [(YEAR, YEAR_TEXT), (DAY, DAY_TEXT)] {
-        assert!(rt; prints(rt.alloc(), &e, text));
-        let e = TryFromParsed::from(e);
-        assert!(rt; prints(rt.alloc(), &e, text));
-        assert!(rt; prints(rt.alloc(), &Parse::from(e), text));
+    for (e, text) in &REFUSALS {
+        assert!(rt; prints_parsed(rt.alloc(), *e, text));
     }
-    assert!(rt; prints(rt.alloc(), &MISSING, MISSING_TEXT));
-    for (e, text) in [
-        (LITERAL, LITERAL_TEXT),
-        (MONTH, MONTH_TEXT),
-        (TRAILING, TRAILING_TEXT),
-    ] {
-        assert!(rt; prints(rt.alloc(), &e, text));
-        assert!(rt; prints(rt.alloc(), &Parse::from(e), text));
-    }
+    assert!(rt; prints_parsed(rt.alloc(), MISSING, MISSING_TEXT));
     let text = "value was of a different variant than required";
     assert!(rt; prints(rt.alloc(), &DifferentVariant, text));
 }
 
-// The joint error prints that text.
-fn prints_joined(alloc: Global, e: Error, text: &str) -> bool {
-    prints(alloc, &e, text)
-}
-
 #[test]
 fn joint_error(rt: HostRuntime) {
-    for (e, text) in [
-        (LITERAL, LITERAL_TEXT),
-        (MONTH, MONTH_TEXT),
-        (TRAILING, TRAILING_TEXT),
-    ] {
-        assert!(rt; prints_joined(rt.alloc(), Error::from(e), text));
-        assert!(rt; prints_joined(rt.alloc(), Error::from(Parse::from(e)), text));
-    }
-    for (e, text) in [(YEAR, YEAR_TEXT), (DAY, DAY_TEXT)] {
-        assert!(rt; prints_joined(rt.alloc(), Error::from(e), text));
-    }
-    for (e, text) in [
-        (TryFromParsed::from(YEAR), YEAR_TEXT),
-        (TryFromParsed::from(DAY), DAY_TEXT),
-        (MISSING, MISSING_TEXT),
-    ] {
-        assert!(rt; prints_joined(rt.alloc(), Error::from(e), text));
-        assert!(rt; prints_joined(rt.alloc(), Error::from(Parse::from(e)), text));
+    for (e, text) in &RANGES {
+        assert!(rt; prints_joined(rt.alloc(), *e, text));
+        assert!(rt; prints_parsed(rt.alloc(), TryFromParsed::from(*e), text));
     }
 }
 

@@ -1,9 +1,9 @@
 //! Moments and times of the system's clock.
+use super::{Clock, Day, moment};
 use std::convert::TryFrom;
-use std::test::Fail;
 use std::time::{Duration, SystemTime, UNIX_EPOCH};
 use time_values::error::ComponentRange;
-use time_values::{Date, Month, OffsetDateTime, Time, UtcDateTime, UtcOffset};
+use time_values::{Month, OffsetDateTime, UtcDateTime};
 
 // 2000-02-29 is 10957 + 59 days after 1970-01-01: 30 years with 7 leap days, and 31 + 28 days.
 const SECONDS: u64 = (10_957 + 59) * 86_400 + 12 * 3600 + 34 * 60 + 56;
@@ -14,45 +14,69 @@ const OUT: ComponentRange = ComponentRange {
     conditional: false,
 };
 
-fn leap_day() -> Result<UtcDateTime, ComponentRange> {
-    let date = Date::from_calendar_date(2000, Month::February, 29)?;
-    let time = Time::from_hms_nano(12, 34, 56, 789)?;
-    Ok(UtcDateTime::new(date, time))
+// The moment is that time of the clock, with its offset and in UTC.
+fn is_on_the_clock(value: OffsetDateTime, time: SystemTime) -> bool {
+    match value.checked_to_utc() {
+        Some(utc) => {
+            SystemTime::try_from(value) == Ok(time)
+                && SystemTime::try_from(utc) == Ok(time)
+                && UtcDateTime::try_from(time) == Ok(utc)
+                && OffsetDateTime::try_from(time) == Ok(OffsetDateTime::from(utc))
+        }
+        None => false,
+    }
+}
+
+// The numbers of a moment, the hours of its offset, and the seconds from 1970-01-01 in UTC to it.
+static MOMENTS: [(Day, Clock, i8, u64); 3] = [
+    ((1970, Month::January, 1), (0, 0, 0, 0), 0, 0),
+    ((2000, Month::February, 29), (12, 34, 56, 789), 0, SECONDS),
+    (
+        (2000, Month::February, 29),
+        (12, 34, 56, 789),
+        -1,
+        SECONDS + 3600,
+    ),
+];
+
+// The moment of these numbers is so many seconds after 1970-01-01 on the clock.
+fn is_after(day: Day, clock: Clock, hours: i8, seconds: u64) -> Option<bool> {
+    let time = UNIX_EPOCH
+        .checked_add(Duration::from_secs(seconds))?
+        .checked_add(Duration::from_nanos(u64::from(clock.3)))?;
+    Some(is_on_the_clock(moment(day, clock, (hours, 0, 0))?, time))
 }
 
 #[test]
-fn a_moment_both_ways(rt: HostRuntime) -> Result<(), Fail> {
-    let utc = leap_day()?;
-    let clock = UNIX_EPOCH
-        .checked_add(Duration::new(SECONDS, 789))
-        .ok_or("past the clock's range")?;
-    assert!(rt; SystemTime::try_from(utc) == Ok(clock));
-    assert!(rt; UtcDateTime::try_from(clock) == Ok(utc));
-    assert!(rt; OffsetDateTime::try_from(clock) == Ok(OffsetDateTime::from(utc)));
-    let behind = OffsetDateTime::new_in_offset(
-        utc.date(),
-        utc.time(),
-        UtcOffset::from_hms(-1, 0, 0)?,
-    );
-    let later = UNIX_EPOCH
-        .checked_add(Duration::new(SECONDS + 3600, 789))
-        .ok_or("past the clock's range")?;
-    assert!(rt; SystemTime::try_from(behind) == Ok(later));
-    Ok(())
+fn moments_both_ways(rt: HostRuntime) {
+    for (day, clock, hours, seconds) in &MOMENTS {
+        assert!(rt; is_after(*day, *clock, *hours, *seconds) == Some(true));
+    }
+}
+
+// The clock does not have the nanosecond before 1970-01-01.
+fn starts_at_the_epoch() -> bool {
+    match UtcDateTime::from_unix_timestamp_nanos(-1) {
+        Ok(before) => {
+            SystemTime::try_from(before) == Err(OUT)
+                && SystemTime::try_from(OffsetDateTime::from(before)) == Err(OUT)
+        }
+        Err(_) => false,
+    }
+}
+
+// No moment is the clock's second after 999999-12-31T23:59:59.
+fn goes_past_the_last_moment() -> bool {
+    match UNIX_EPOCH.checked_add(Duration::new(31_494_784_780_800, 0)) {
+        Some(past) => {
+            UtcDateTime::try_from(past) == Err(OUT) && OffsetDateTime::try_from(past) == Err(OUT)
+        }
+        None => false,
+    }
 }
 
 #[test]
-fn the_ends(rt: HostRuntime) -> Result<(), Fail> {
-    let epoch = UtcDateTime::from_unix_timestamp_nanos(0)?;
-    let before = UtcDateTime::from_unix_timestamp_nanos(-1)?;
-    assert!(rt; SystemTime::try_from(epoch) == Ok(UNIX_EPOCH));
-    assert!(rt; SystemTime::try_from(before) == Err(OUT));
-    assert!(rt; SystemTime::try_from(OffsetDateTime::from(before)) == Err(OUT));
-    // The second after 999999-12-31T23:59:59.
-    let past = UNIX_EPOCH
-        .checked_add(Duration::new(31_494_784_780_800, 0))
-        .ok_or("past the clock's range")?;
-    assert!(rt; UtcDateTime::try_from(past) == Err(OUT));
-    assert!(rt; OffsetDateTime::try_from(past) == Err(OUT));
-    Ok(())
+fn the_ends(rt: HostRuntime) {
+    assert!(rt; starts_at_the_epoch());
+    assert!(rt; goes_past_the_last_moment());
 }

@@ -1,393 +1,516 @@
 //! Months, dates, times, offsets and moments.
+use super::{Clock, Day, date_and_time, moment};
 use std::num::NonZero;
-use std::test::Fail;
 use time_values::error::ComponentRange;
 use time_values::{Date, Month, OffsetDateTime, Time, Timestamp, UtcDateTime, UtcOffset, Weekday};
 
 // The refusal of a component whose range does not depend on others.
-fn out(name: &'static str) -> ComponentRange {
-    ComponentRange {
-        name,
-        conditional: false,
-    }
+macro_rules! out {
+    ($name:literal) => {
+        ComponentRange {
+            name: $name,
+            conditional: false,
+        }
+    };
 }
 
 // The refusal of a component whose range depends on others.
-fn out_for_others(name: &'static str) -> ComponentRange {
-    ComponentRange {
-        name,
-        conditional: true,
-    }
+macro_rules! out_for_others {
+    ($name:literal) => {
+        ComponentRange {
+            name: $name,
+            conditional: true,
+        }
+    };
 }
 
-#[test]
-fn months_and_weekdays(rt: HostRuntime) -> Result<(), Fail> {
-    let lengths = [31, 28, 31, 30, 31, 30, 31, 31, 30, 31, 30, 31];
-    let mut number = 0;
-    for length in lengths {
-        assert!(rt; number < 12);
-        number += 1;
-        let month = Month::from_number(NonZero::<u8>::new(number).ok_or("zero")?)?;
-        assert!(rt; month.number() == number);
-        assert!(rt; u8::from(month) == number);
-        assert!(rt; month.length(2023) == length);
-    }
-    for number in [13, 255] {
-        let refused = Month::from_number(NonZero::<u8>::new(number).ok_or("zero")?);
-        assert!(rt; refused == Err(out("month")));
-    }
-    assert!(rt; Weekday::Monday.number_days_from_monday() == 0);
-    assert!(rt; Weekday::Sunday.number_days_from_monday() == 6);
-    assert!(rt; Weekday::Sunday.number_days_from_sunday() == 0);
-    assert!(rt; Weekday::Saturday.number_days_from_sunday() == 6);
-    Ok(())
-}
-
-const FEBRUARIES: [(i32, u8); 6] = [
-    (0, 29),
-    (-4, 29),
-    (-100, 28),
-    (-400, 29),
-    (1900, 28),
-    (2000, 29),
+// The numbers of months, years, and how long the months are in them, or why there is no month of that number.
+static MONTHS: [(u8, i32, Result<(Month, u8), ComponentRange>); 20] = [
+    (1, 2023, Ok((Month::January, 31))),
+    (2, 2023, Ok((Month::February, 28))),
+    (3, 2023, Ok((Month::March, 31))),
+    (4, 2023, Ok((Month::April, 30))),
+    (5, 2023, Ok((Month::May, 31))),
+    (6, 2023, Ok((Month::June, 30))),
+    (7, 2023, Ok((Month::July, 31))),
+    (8, 2023, Ok((Month::August, 31))),
+    (9, 2023, Ok((Month::September, 30))),
+    (10, 2023, Ok((Month::October, 31))),
+    (11, 2023, Ok((Month::November, 30))),
+    (12, 2023, Ok((Month::December, 31))),
+    (2, 0, Ok((Month::February, 29))),
+    (2, -4, Ok((Month::February, 29))),
+    (2, -100, Ok((Month::February, 28))),
+    (2, -400, Ok((Month::February, 29))),
+    (2, 1900, Ok((Month::February, 28))),
+    (2, 2000, Ok((Month::February, 29))),
+    (13, 2023, Err(out!("month"))),
+    (255, 2023, Err(out!("month"))),
 ];
 
+// The month of that number, which it gives back, and its length in that year.
+fn month_of(number: u8, year: i32) -> Option<Result<(Month, u8), ComponentRange>> {
+    match Month::from_number(NonZero::<u8>::new(number)?) {
+        Ok(month) if (month.number(), u8::from(month)) == (number, number) => {
+            Some(Ok((month, month.length(year))))
+        }
+        Ok(_) => None,
+        Err(refusal) => Some(Err(refusal)),
+    }
+}
+
 #[test]
-fn months_in_leap_years(rt: HostRuntime) {
-    for (year, length) in FEBRUARIES {
-        assert!(rt; Month::February.length(year) == length, "in {year}");
+fn months(rt: HostRuntime) {
+    for (number, year, wanted) in &MONTHS {
+        assert!(rt;
+            month_of(*number, *year) == Some(*wanted),
+            "{number} in {year}"
+        );
     }
 }
 
-// The date of these parts has them.
-fn keeps_its_parts(year: i32, month: Month, day: u8) -> bool {
-    match Date::from_calendar_date(year, month, day) {
-        Ok(date) => (date.year(), date.month(), date.day()) == (year, month, day),
-        Err(_) => false,
+// Weekdays and their numbers from Monday and from Sunday.
+static WEEKDAYS: [(Weekday, u8, u8); 3] = [
+    (Weekday::Monday, 0, 1),
+    (Weekday::Saturday, 5, 6),
+    (Weekday::Sunday, 6, 0),
+];
+
+// The weekday has these numbers.
+fn has_numbers(weekday: Weekday, from_monday: u8, from_sunday: u8) -> bool {
+    weekday.number_days_from_monday() == from_monday
+        && weekday.number_days_from_sunday() == from_sunday
+}
+
+#[test]
+fn weekdays(rt: HostRuntime) {
+    for (weekday, from_monday, from_sunday) in &WEEKDAYS {
+        assert!(rt; has_numbers(*weekday, *from_monday, *from_sunday));
     }
 }
 
-const CALENDAR_DATES: [(i32, Month, u8); 5] = [
-    (-999_999, Month::January, 1),
-    (999_999, Month::December, 31),
-    (2020, Month::February, 29),
-    (0, Month::February, 29),
-    (2021, Month::April, 30),
+// Whether the date of these parts has them.
+fn keeps_its_parts((year, month, day): Day) -> Result<bool, ComponentRange> {
+    let date = Date::from_calendar_date(year, month, day)?;
+    Ok((date.year(), date.month(), date.day()) == (year, month, day))
+}
+
+static CALENDAR_DATES: [(Day, Result<bool, ComponentRange>); 12] = [
+    ((-999_999, Month::January, 1), Ok(true)),
+    ((999_999, Month::December, 31), Ok(true)),
+    ((2020, Month::February, 29), Ok(true)),
+    ((0, Month::February, 29), Ok(true)),
+    ((2021, Month::April, 30), Ok(true)),
+    ((-1_000_000, Month::January, 1), Err(out!("year"))),
+    ((1_000_000, Month::January, 32), Err(out!("year"))),
+    ((2021, Month::February, 29), Err(out_for_others!("day"))),
+    ((1900, Month::February, 29), Err(out_for_others!("day"))),
+    ((2021, Month::April, 31), Err(out_for_others!("day"))),
+    ((2021, Month::January, 0), Err(out_for_others!("day"))),
+    ((2021, Month::January, 32), Err(out_for_others!("day"))),
 ];
 
 #[test]
 fn calendar_dates(rt: HostRuntime) {
-    for (year, month, day) in CALENDAR_DATES {
-        assert!(rt; keeps_its_parts(year, month, day));
+    for (day, wanted) in &CALENDAR_DATES {
+        assert!(rt; keeps_its_parts(*day) == *wanted);
     }
-    for (year, month, day, refusal) in [
-        (-1_000_000, Month::January, 1, out("year")),
-        (1_000_000, Month::January, 32, out("year")),
-        (2021, Month::February, 29, out_for_others("day")),
-        (1900, Month::February, 29, out_for_others("day")),
-        (2021, Month::April, 31, out_for_others("day")),
-        (2021, Month::January, 0, out_for_others("day")),
-        (2021, Month::January, 32, out_for_others("day")),
-    ] {
-        assert!(rt; Date::from_calendar_date(year, month, day) == Err(refusal));
-    }
-    assert!(rt; Date::from_calendar_date(-999_999, Month::January, 1) == Ok(Date::MIN));
-    assert!(rt; Date::from_calendar_date(999_999, Month::December, 31) == Ok(Date::MAX));
-    assert!(rt; (Date::MIN.weekday(), Date::MAX.weekday()) == (Weekday::Monday, Weekday::Friday));
 }
 
-// The date of this day of the year has these parts.
-fn is_day_of_year(year: i32, ordinal: u16, month: Month, day: u8) -> bool {
-    match Date::from_ordinal_date(year, ordinal) {
+// A date's year, month, day of the month and day of the year.
+type Parts = (i32, Month, u8, u16);
+
+// The parts of that day of a year.
+fn parts_of_day(year: i32, ordinal: u16) -> Result<Parts, ComponentRange> {
+    let date = Date::from_ordinal_date(year, ordinal)?;
+    Ok((date.year(), date.month(), date.day(), date.ordinal()))
+}
+
+static ORDINAL_DATES: [(i32, u16, Result<Parts, ComponentRange>); 10] = [
+    (-999_999, 1, Ok((-999_999, Month::January, 1, 1))),
+    (999_999, 365, Ok((999_999, Month::December, 31, 365))),
+    (2020, 366, Ok((2020, Month::December, 31, 366))),
+    (2020, 60, Ok((2020, Month::February, 29, 60))),
+    (2021, 60, Ok((2021, Month::March, 1, 60))),
+    (-1_000_000, 1, Err(out!("year"))),
+    (1_000_000, 0, Err(out!("year"))),
+    (2021, 0, Err(out_for_others!("ordinal"))),
+    (2021, 366, Err(out_for_others!("ordinal"))),
+    (2020, 367, Err(out_for_others!("ordinal"))),
+];
+
+#[test]
+fn ordinal_dates(rt: HostRuntime) {
+    for (year, ordinal, wanted) in &ORDINAL_DATES {
+        assert!(rt; parts_of_day(*year, *ordinal) == *wanted);
+    }
+}
+
+// An ISO 8601 year, a week of it and a weekday.
+type WeekDate = (i32, u8, Weekday);
+
+// The week has the date of these parts as its weekday.
+fn is_in_week((year, month, day): Day, week_date: WeekDate) -> bool {
+    match Date::from_calendar_date(year, month, day) {
         Ok(date) => {
-            (date.year(), date.month(), date.day(), date.ordinal()) == (year, month, day, ordinal)
+            Date::from_iso_week_date(week_date.0, week_date.1, week_date.2) == Ok(date)
+                && date.to_iso_week_date() == week_date
+                && date.iso_week() == week_date.1
         }
         Err(_) => false,
     }
 }
 
-const ORDINAL_DATES: [(i32, u16, Month, u8); 5] = [
-    (-999_999, 1, Month::January, 1),
-    (999_999, 365, Month::December, 31),
-    (2020, 366, Month::December, 31),
-    (2020, 60, Month::February, 29),
-    (2021, 60, Month::March, 1),
+static WEEK_DATES: [(Day, WeekDate); 4] = [
+    ((2021, Month::January, 2), (2020, 53, Weekday::Saturday)),
+    ((2018, Month::December, 31), (2019, 1, Weekday::Monday)),
+    (
+        (-999_999, Month::January, 1),
+        (-999_999, 1, Weekday::Monday),
+    ),
+    (
+        (999_999, Month::December, 31),
+        (999_999, 52, Weekday::Friday),
+    ),
 ];
 
 #[test]
-fn ordinal_dates(rt: HostRuntime) {
-    for (year, ordinal, month, day) in ORDINAL_DATES {
-        assert!(rt; is_day_of_year(year, ordinal, month, day));
-    }
-    for (year, ordinal, refusal) in [
-        (-1_000_000, 1, out("year")),
-        (1_000_000, 0, out("year")),
-        (2021, 0, out_for_others("ordinal")),
-        (2021, 366, out_for_others("ordinal")),
-        (2020, 367, out_for_others("ordinal")),
-    ] {
-        assert!(rt; Date::from_ordinal_date(year, ordinal) == Err(refusal));
+fn iso_week_dates(rt: HostRuntime) {
+    for (day, week_date) in &WEEK_DATES {
+        assert!(rt; is_in_week(*day, *week_date));
     }
 }
 
-// The week of that ISO 8601 year has the date as its weekday.
-fn is_in_week(date: Date, year: i32, week: u8, weekday: Weekday) -> bool {
-    Date::from_iso_week_date(year, week, weekday) == Ok(date)
-        && date.to_iso_week_date() == (year, week, weekday)
-        && date.iso_week() == week
-}
-
-#[test]
-fn iso_week_dates(rt: HostRuntime) -> Result<(), Fail> {
-    let saturday = Date::from_calendar_date(2021, Month::January, 2)?;
-    assert!(rt; is_in_week(saturday, 2020, 53, Weekday::Saturday));
-    let monday = Date::from_calendar_date(2018, Month::December, 31)?;
-    assert!(rt; is_in_week(monday, 2019, 1, Weekday::Monday));
-    assert!(rt; is_in_week(Date::MIN, -999_999, 1, Weekday::Monday));
-    assert!(rt; is_in_week(Date::MAX, 999_999, 52, Weekday::Friday));
-    Ok(())
-}
+static WEEK_DATES_REFUSED: [(i32, u8, Weekday, ComponentRange); 7] = [
+    (-1_000_000, 1, Weekday::Monday, out!("year")),
+    (1_000_000, 0, Weekday::Monday, out!("year")),
+    (2021, 0, Weekday::Monday, out_for_others!("week")),
+    (2021, 53, Weekday::Monday, out_for_others!("week")),
+    (2020, 54, Weekday::Monday, out_for_others!("week")),
+    (999_999, 53, Weekday::Monday, out_for_others!("week")),
+    (999_999, 52, Weekday::Saturday, out_for_others!("weekday")),
+];
 
 #[test]
 fn iso_week_dates_refused(rt: HostRuntime) {
-    for (year, week, weekday, refusal) in [
-        (-1_000_000, 1, Weekday::Monday, out("year")),
-        (1_000_000, 0, Weekday::Monday, out("year")),
-        (2021, 0, Weekday::Monday, out_for_others("week")),
-        (2021, 53, Weekday::Monday, out_for_others("week")),
-        (2020, 54, Weekday::Monday, out_for_others("week")),
-        (999_999, 53, Weekday::Monday, out_for_others("week")),
-        (999_999, 52, Weekday::Saturday, out_for_others("weekday")),
-    ] {
-        assert!(rt; Date::from_iso_week_date(year, week, weekday) == Err(refusal));
+    for (year, week, weekday, refusal) in &WEEK_DATES_REFUSED {
+        assert!(rt; Date::from_iso_week_date(*year, *week, *weekday) == Err(*refusal));
     }
 }
 
-#[test]
-fn times(rt: HostRuntime) -> Result<(), Fail> {
-    for (hour, minute, second, nanosecond) in [(0, 0, 0, 0), (23, 59, 59, 999_999_999)] {
-        let time = Time::from_hms_nano(hour, minute, second, nanosecond)?;
-        assert!(rt; time.hour() == hour);
-        assert!(rt; time.minute() == minute);
-        assert!(rt; time.second() == second);
-        assert!(rt; time.nanosecond() == nanosecond);
-    }
-    Ok(())
+// The parts of the time that is made of them.
+fn time_of((hour, minute, second, nanosecond): Clock) -> Result<Clock, ComponentRange> {
+    let time = Time::from_hms_nano(hour, minute, second, nanosecond)?;
+    Ok((time.hour(), time.minute(), time.second(), time.nanosecond()))
 }
 
-const TIMES_REFUSED: [(u8, u8, u8, u32, &str); 4] = [
-    (24, 60, 60, 1_000_000_000, "hour"),
-    (23, 60, 60, 1_000_000_000, "minute"),
-    (23, 59, 60, 1_000_000_000, "second"),
-    (23, 59, 59, 1_000_000_000, "nanosecond"),
+static TIMES: [(Clock, Result<Clock, ComponentRange>); 6] = [
+    ((0, 0, 0, 0), Ok((0, 0, 0, 0))),
+    ((23, 59, 59, 999_999_999), Ok((23, 59, 59, 999_999_999))),
+    ((24, 60, 60, 1_000_000_000), Err(out!("hour"))),
+    ((23, 60, 60, 1_000_000_000), Err(out!("minute"))),
+    ((23, 59, 60, 1_000_000_000), Err(out!("second"))),
+    ((23, 59, 59, 1_000_000_000), Err(out!("nanosecond"))),
 ];
 
 #[test]
-fn times_refused(rt: HostRuntime) {
-    for (hour, minute, second, nanosecond, name) in TIMES_REFUSED {
-        assert!(rt; Time::from_hms_nano(hour, minute, second, nanosecond) == Err(out(name)));
+fn times(rt: HostRuntime) {
+    for (given, wanted) in &TIMES {
+        assert!(rt; time_of(*given) == *wanted);
     }
 }
 
-// An offset made of these numbers has these parts.
-fn has_parts(given: (i8, i8, i8), parts: (i8, i8, i8)) -> bool {
-    match UtcOffset::from_hms(given.0, given.1, given.2) {
-        Ok(offset) => offset.as_hms() == parts,
-        Err(_) => false,
-    }
+// The hours, minutes and seconds of an offset.
+type Offset = (i8, i8, i8);
+
+// The parts of the offset that is made of these numbers.
+fn offset_of((hours, minutes, seconds): Offset) -> Result<Offset, ComponentRange> {
+    Ok(UtcOffset::from_hms(hours, minutes, seconds)?.as_hms())
 }
 
-const OFFSETS: [((i8, i8, i8), (i8, i8, i8)); 7] = [
-    ((25, 59, 59), (25, 59, 59)),
-    ((-25, -59, -59), (-25, -59, -59)),
-    ((-25, 59, 59), (-25, -59, -59)),
-    ((5, -30, -10), (5, 30, 10)),
-    ((0, -30, 10), (0, -30, -10)),
-    ((0, 0, -10), (0, 0, -10)),
-    ((0, 0, 0), (0, 0, 0)),
+static OFFSETS: [(Offset, Result<Offset, ComponentRange>); 13] = [
+    ((25, 59, 59), Ok((25, 59, 59))),
+    ((-25, -59, -59), Ok((-25, -59, -59))),
+    ((-25, 59, 59), Ok((-25, -59, -59))),
+    ((5, -30, -10), Ok((5, 30, 10))),
+    ((0, -30, 10), Ok((0, -30, -10))),
+    ((0, 0, -10), Ok((0, 0, -10))),
+    ((0, 0, 0), Ok((0, 0, 0))),
+    ((26, 60, 60), Err(out!("hours"))),
+    ((-26, -60, -60), Err(out!("hours"))),
+    ((25, 60, 60), Err(out!("minutes"))),
+    ((25, -60, -60), Err(out!("minutes"))),
+    ((25, 59, 60), Err(out!("seconds"))),
+    ((-25, 59, -60), Err(out!("seconds"))),
 ];
 
 #[test]
 fn offsets(rt: HostRuntime) {
-    for (given, parts) in OFFSETS {
-        assert!(rt; has_parts(given, parts));
+    for (given, wanted) in &OFFSETS {
+        assert!(rt; offset_of(*given) == *wanted);
     }
-    assert!(rt; UtcOffset::from_hms(0, 0, 0) == Ok(UtcOffset::UTC));
 }
 
-const OFFSETS_REFUSED: [(i8, i8, i8, &str); 6] = [
-    (26, 60, 60, "hours"),
-    (-26, -60, -60, "hours"),
-    (25, 60, 60, "minutes"),
-    (25, -60, -60, "minutes"),
-    (25, 59, 60, "seconds"),
-    (-25, 59, -60, "seconds"),
-];
+// The first date, the last one and the offset of UTC are made of their parts, and the dates have their weekdays.
+fn constants_are_made() -> bool {
+    Date::from_calendar_date(-999_999, Month::January, 1) == Ok(Date::MIN)
+        && Date::from_calendar_date(999_999, Month::December, 31) == Ok(Date::MAX)
+        && (Date::MIN.weekday(), Date::MAX.weekday()) == (Weekday::Monday, Weekday::Friday)
+        && UtcOffset::from_hms(0, 0, 0) == Ok(UtcOffset::UTC)
+}
 
 #[test]
-fn offsets_refused(rt: HostRuntime) {
-    for (hours, minutes, seconds, name) in OFFSETS_REFUSED {
-        assert!(rt; UtcOffset::from_hms(hours, minutes, seconds) == Err(out(name)));
-    }
+fn constants(rt: HostRuntime) {
+    assert!(rt; constants_are_made());
 }
 
 const FIRST: i128 = -31_619_087_596_800_000_000_000;
 
 const LAST: i128 = 31_494_784_780_799_999_999_999;
 
-fn midnight() -> Result<Time, ComponentRange> {
-    Time::from_hms_nano(0, 0, 0, 0)
+// The moment in UTC after these nanoseconds has that date and time, and gives the nanoseconds back.
+fn is_utc_after(nanos: i128, date: Date, time: Time) -> bool {
+    match UtcDateTime::from_unix_timestamp_nanos(nanos) {
+        Ok(utc) => {
+            utc == UtcDateTime::new(date, time)
+                && utc.date() == date
+                && utc.time() == time
+                && utc.unix_timestamp_nanos() == nanos
+        }
+        Err(_) => false,
+    }
 }
 
-fn last_nanosecond() -> Result<Time, ComponentRange> {
-    Time::from_hms_nano(23, 59, 59, 999_999_999)
+// So does the timestamp of that moment.
+fn is_timestamp_after(nanos: i128, utc: UtcDateTime) -> bool {
+    let stamp = Timestamp::from(utc);
+    stamp.nanoseconds() == nanos && Timestamp::from_nanoseconds(nanos) == Ok(stamp)
 }
 
-// The moment in UTC after these nanoseconds has that date and time, and gives them back.
-fn is_utc_after(nanos: i128, date: Date, time: Time) -> Result<bool, ComponentRange> {
-    let utc = UtcDateTime::from_unix_timestamp_nanos(nanos)?;
-    Ok(
-        utc == UtcDateTime::new(date, time)
-            && utc.date() == date
-            && utc.time() == time
-            && utc.unix_timestamp_nanos() == nanos,
-    )
-}
-
-// So has the timestamp.
-fn is_timestamp_after(nanos: i128) -> Result<bool, ComponentRange> {
-    let stamp = Timestamp::from(UtcDateTime::from_unix_timestamp_nanos(nanos)?);
-    Ok(stamp.nanoseconds() == nanos && Timestamp::from_nanoseconds(nanos) == Ok(stamp))
-}
-
-// So has the moment with an offset, which is in UTC.
-fn is_moment_after(nanos: i128, date: Date, time: Time) -> Result<bool, ComponentRange> {
-    let moment = OffsetDateTime::from_unix_timestamp_nanos(nanos)?;
-    Ok(
-        moment == OffsetDateTime::new_in_offset(date, time, UtcOffset::UTC)
-            && moment.unix_timestamp_nanos() == nanos
-            && moment.checked_to_utc() == Some(UtcDateTime::new(date, time)),
-    )
+// So does the moment with an offset, which is in UTC.
+fn is_moment_after(nanos: i128, moment: OffsetDateTime, utc: UtcDateTime) -> bool {
+    OffsetDateTime::from_unix_timestamp_nanos(nanos) == Ok(moment)
+        && moment.unix_timestamp_nanos() == nanos
+        && moment.checked_to_utc() == Some(utc)
 }
 
 // All three types agree on the moment after these nanoseconds.
-fn is_after(nanos: i128, date: Date, time: Time) -> Result<bool, ComponentRange> {
-    Ok(
-        is_utc_after(nanos, date, time)?
-            && is_timestamp_after(nanos)?
-            && is_moment_after(nanos, date, time)?,
-    )
+fn is_after(nanos: i128, day: Day, clock: Clock) -> bool {
+    match date_and_time(day, clock) {
+        Some((date, time)) => {
+            let utc = UtcDateTime::new(date, time);
+            let moment = OffsetDateTime::new_in_offset(date, time, UtcOffset::UTC);
+            is_utc_after(nanos, date, time)
+                && is_timestamp_after(nanos, utc)
+                && is_moment_after(nanos, moment, utc)
+        }
+        None => false,
+    }
 }
 
+static MOMENTS: [(i128, Day, Clock); 4] = [
+    (FIRST, (-999_999, Month::January, 1), (0, 0, 0, 0)),
+    (
+        LAST,
+        (999_999, Month::December, 31),
+        (23, 59, 59, 999_999_999),
+    ),
+    (0, (1970, Month::January, 1), (0, 0, 0, 0)),
+    (-1, (1969, Month::December, 31), (23, 59, 59, 999_999_999)),
+];
+
 #[test]
-fn moments(rt: HostRuntime) -> Result<(), Fail> {
-    let epoch = Date::from_calendar_date(1970, Month::January, 1)?;
-    let before = Date::from_calendar_date(1969, Month::December, 31)?;
-    let (first, last) = (midnight()?, last_nanosecond()?);
-    for (nanos, date, time) in [
-        (FIRST, Date::MIN, first),
-        (LAST, Date::MAX, last),
-        (0, epoch, first),
-        (-1, before, last),
-    ] {
-        assert!(rt; is_after(nanos, date, time)?, "{nanos}");
+fn moments(rt: HostRuntime) {
+    for (nanos, day, clock) in &MOMENTS {
+        assert!(rt; is_after(*nanos, *day, *clock), "{nanos}");
     }
-    Ok(())
+}
+
+const OUT_OF_MOMENTS: ComponentRange = out!("timestamp");
+
+// None of the three types has a moment after these nanoseconds.
+fn is_after_none(nanos: i128) -> bool {
+    UtcDateTime::from_unix_timestamp_nanos(nanos) == Err(OUT_OF_MOMENTS)
+        && OffsetDateTime::from_unix_timestamp_nanos(nanos) == Err(OUT_OF_MOMENTS)
+        && Timestamp::from_nanoseconds(nanos) == Err(OUT_OF_MOMENTS)
 }
 
 #[test]
 fn moments_refused(rt: HostRuntime) {
     for nanos in [FIRST - 1, LAST + 1, i128::MIN, i128::MAX] {
-        assert!(rt; UtcDateTime::from_unix_timestamp_nanos(nanos) == Err(out("timestamp")));
-        assert!(rt; OffsetDateTime::from_unix_timestamp_nanos(nanos) == Err(out("timestamp")));
-        assert!(rt; Timestamp::from_nanoseconds(nanos) == Err(out("timestamp")));
+        assert!(rt; is_after_none(nanos), "{nanos}");
     }
 }
 
-// What is kept where the moment has no date in UTC.
-#[test]
-fn offset_moments(rt: HostRuntime) -> Result<(), Fail> {
-    let ahead = UtcOffset::from_hms(25, 59, 59)?;
-    let early = OffsetDateTime::new_in_offset(Date::MIN, midnight()?, ahead);
-    assert!(rt; early.date() == Date::MIN);
-    assert!(rt; early.time() == midnight()?);
-    assert!(rt; early.offset() == ahead);
-    assert!(rt; early.unix_timestamp_nanos() == FIRST - 93_599_000_000_000);
-    assert!(rt; early.checked_to_utc() == None);
-    let behind = UtcOffset::from_hms(-25, -59, -59)?;
-    let late = OffsetDateTime::new_in_offset(Date::MAX, last_nanosecond()?, behind);
-    assert!(rt; late.unix_timestamp_nanos() == LAST + 93_599_000_000_000);
-    assert!(rt; late.checked_to_utc() == None);
-    assert!(rt; !late.is_valid_leap_second_stand_in());
-    Ok(())
+// The numbers of a moment, the nanoseconds from 1970-01-01 in UTC to it, and its date and time in UTC if it has one.
+// 1 March 2021 is 51 years of 365 days, 13 leap days, 31 and 28 days after 1970-01-01.
+type OffsetMoment = (Day, Clock, Offset, i128, Option<(Day, Clock)>);
+
+const IN_2021: i128 = (51 * 365 + 13 + 31 + 28) * 86_400_000_000_000;
+
+const OFFSET: i128 = 93_599_000_000_000;
+
+static OFFSET_MOMENTS: [OffsetMoment; 4] = [
+    (
+        (-999_999, Month::January, 1),
+        (0, 0, 0, 0),
+        (25, 59, 59),
+        FIRST - OFFSET,
+        None,
+    ),
+    (
+        (999_999, Month::December, 31),
+        (23, 59, 59, 999_999_999),
+        (-25, -59, -59),
+        LAST + OFFSET,
+        None,
+    ),
+    (
+        (2021, Month::March, 1),
+        (0, 0, 0, 0),
+        (25, 59, 59),
+        IN_2021 - OFFSET,
+        Some(((2021, Month::February, 27), (22, 0, 1, 0))),
+    ),
+    (
+        (2021, Month::March, 1),
+        (23, 59, 59, 999_999_999),
+        (-25, -59, -59),
+        IN_2021 + 86_399_999_999_999 + OFFSET,
+        Some(((2021, Month::March, 3), (1, 59, 58, 999_999_999))),
+    ),
+];
+
+// What the moment keeps of its date, time and offset, and the nanoseconds to it.
+fn kept(moment: OffsetDateTime) -> (Day, Clock, Offset, i128) {
+    (
+        moment.date().to_calendar_date(),
+        moment.time().as_hms_nano(),
+        moment.offset().as_hms(),
+        moment.unix_timestamp_nanos(),
+    )
 }
 
-// A moment of the first of March 2021 is in UTC on another day.
-fn in_utc(time: Time, offset: UtcOffset) -> Result<UtcDateTime, Fail> {
-    let date = Date::from_calendar_date(2021, Month::March, 1)?;
-    let moment = OffsetDateTime::new_in_offset(date, time, offset);
-    Ok(moment.checked_to_utc().ok_or("no date")?)
+// Its date and time in UTC.
+fn in_utc(moment: OffsetDateTime) -> Option<(Day, Clock)> {
+    let utc = moment.checked_to_utc()?;
+    Some((utc.date().to_calendar_date(), utc.time().as_hms_nano()))
 }
 
-#[test]
-fn offset_moments_two_days_apart(rt: HostRuntime) -> Result<(), Fail> {
-    let utc = in_utc(midnight()?, UtcOffset::from_hms(25, 59, 59)?)?;
-    assert!(rt; utc.date() == Date::from_calendar_date(2021, Month::February, 27)?);
-    assert!(rt; utc.time() == Time::from_hms_nano(22, 0, 1, 0)?);
-    let utc = in_utc(last_nanosecond()?, UtcOffset::from_hms(-25, -59, -59)?)?;
-    assert!(rt; utc.date() == Date::from_calendar_date(2021, Month::March, 3)?);
-    assert!(rt; utc.time() == Time::from_hms_nano(1, 59, 58, 999_999_999)?);
-    Ok(())
-}
-
-// The moment of December 2016 stands for a leap second.
-fn is_stand_in(day: u8, second: u8, nanosecond: u32) -> Result<bool, ComponentRange> {
-    let date = Date::from_calendar_date(2016, Month::December, day)?;
-    let time = Time::from_hms_nano(23, 59, second, nanosecond)?;
-    Ok(UtcDateTime::new(date, time).is_valid_leap_second_stand_in())
-}
-
-#[test]
-fn leap_seconds(rt: HostRuntime) -> Result<(), Fail> {
-    for (day, second, nanosecond, valid) in [
-        (31, 59, 999_999_999, true),
-        (30, 59, 999_999_999, false),
-        (31, 59, 999_999_998, false),
-        (31, 58, 999_999_999, false),
-    ] {
-        assert!(rt; is_stand_in(day, second, nanosecond)? == valid);
+// The moment keeps its numbers, is after so many nanoseconds, and has that date and time in UTC.
+fn is_offset_moment((day, clock, offset, nanos, utc): OffsetMoment) -> bool {
+    match moment(day, clock, offset) {
+        Some(value) => kept(value) == (day, clock, offset, nanos) && in_utc(value) == utc,
+        None => false,
     }
-    Ok(())
 }
 
-// The last nanosecond of a day of December 1990 in UTC, eight hours behind it.
 #[test]
-fn leap_seconds_behind_utc(rt: HostRuntime) -> Result<(), Fail> {
-    let pacific = UtcOffset::from_hms(-8, 0, 0)?;
-    let time = Time::from_hms_nano(15, 59, 59, 999_999_999)?;
-    for (day, valid) in [(31, true), (30, false)] {
-        let date = Date::from_calendar_date(1990, Month::December, day)?;
-        let moment = OffsetDateTime::new_in_offset(date, time, pacific);
-        assert!(rt; moment.is_valid_leap_second_stand_in() == valid);
+fn offset_moments(rt: HostRuntime) {
+    for row in &OFFSET_MOMENTS {
+        assert!(rt; is_offset_moment(*row));
     }
-    Ok(())
+}
+
+// Whether the moment stands for a leap second, as its moment in UTC does where it has one.
+fn is_stand_in(day: Day, clock: Clock, offset: Offset) -> Option<bool> {
+    let moment = moment(day, clock, offset)?;
+    let valid = moment.is_valid_leap_second_stand_in();
+    match moment.checked_to_utc() {
+        Some(utc) if utc.is_valid_leap_second_stand_in() != valid => None,
+        _ => Some(valid),
+    }
+}
+
+// Only the last nanosecond of a month in UTC stands for a leap second, as at the ends of 2016 and of 1990 (RFC 3339,
+// section 5.8).
+static LEAP_SECONDS: [(Day, Clock, Offset, bool); 7] = [
+    (
+        (2016, Month::December, 31),
+        (23, 59, 59, 999_999_999),
+        (0, 0, 0),
+        true,
+    ),
+    (
+        (2016, Month::December, 30),
+        (23, 59, 59, 999_999_999),
+        (0, 0, 0),
+        false,
+    ),
+    (
+        (2016, Month::December, 31),
+        (23, 59, 59, 999_999_998),
+        (0, 0, 0),
+        false,
+    ),
+    (
+        (2016, Month::December, 31),
+        (23, 59, 58, 999_999_999),
+        (0, 0, 0),
+        false,
+    ),
+    (
+        (1990, Month::December, 31),
+        (15, 59, 59, 999_999_999),
+        (-8, 0, 0),
+        true,
+    ),
+    (
+        (1990, Month::December, 30),
+        (15, 59, 59, 999_999_999),
+        (-8, 0, 0),
+        false,
+    ),
+    (
+        (999_999, Month::December, 31),
+        (23, 59, 59, 999_999_999),
+        (-25, -59, -59),
+        false,
+    ),
+];
+
+#[test]
+fn leap_seconds(rt: HostRuntime) {
+    for (day, clock, offset, valid) in &LEAP_SECONDS {
+        assert!(rt; is_stand_in(*day, *clock, *offset) == Some(*valid));
+    }
+}
+
+// The last date at 1:02:03 and that nanosecond, an hour ahead of UTC.
+fn with_nanosecond(nanosecond: u32) -> Option<OffsetDateTime> {
+    moment(
+        (999_999, Month::December, 31),
+        (1, 2, 3, nanosecond),
+        (1, 0, 0),
+    )
+}
+
+// The nanosecond replaces another one, in UTC too.
+fn replaces(nanosecond: u32) -> Option<bool> {
+    let (before, after) = (with_nanosecond(4)?, with_nanosecond(nanosecond)?);
+    let utc = UtcDateTime::new(before.date(), before.time());
+    Some(
+        before.replace_nanosecond(nanosecond) == Ok(after)
+            && utc.replace_nanosecond(nanosecond)
+                == Ok(UtcDateTime::new(after.date(), after.time())),
+    )
+}
+
+// A nanosecond that no second has replaces none.
+fn is_refused() -> Option<bool> {
+    let refusal = out!("nanosecond");
+    let moment = with_nanosecond(4)?;
+    let utc = UtcDateTime::new(moment.date(), moment.time());
+    Some(
+        moment.replace_nanosecond(1_000_000_000) == Err(refusal)
+            && utc.replace_nanosecond(1_000_000_000) == Err(refusal),
+    )
 }
 
 #[test]
-fn nanoseconds_replaced(rt: HostRuntime) -> Result<(), Fail> {
-    let time = Time::from_hms_nano(1, 2, 3, 4)?;
-    let offset = UtcOffset::from_hms(1, 0, 0)?;
-    let utc = UtcDateTime::new(Date::MAX, time);
-    let moment = OffsetDateTime::new_in_offset(Date::MAX, time, offset);
+fn nanoseconds_replaced(rt: HostRuntime) {
     for nanosecond in [0, 999_999_999] {
-        let changed = Time::from_hms_nano(1, 2, 3, nanosecond)?;
-        assert!(rt; utc.replace_nanosecond(nanosecond) == Ok(UtcDateTime::new(Date::MAX, changed)));
-        assert!(rt;
-            moment.replace_nanosecond(nanosecond)
-                == Ok(OffsetDateTime::new_in_offset(Date::MAX, changed, offset))
-        );
+        assert!(rt; replaces(nanosecond) == Some(true));
     }
-    assert!(rt; utc.replace_nanosecond(1_000_000_000) == Err(out("nanosecond")));
-    assert!(rt; moment.replace_nanosecond(1_000_000_000) == Err(out("nanosecond")));
-    Ok(())
+    assert!(rt; is_refused() == Some(true));
 }

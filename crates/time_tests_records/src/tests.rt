@@ -1,4 +1,3 @@
 mod conversions;
 mod descriptions;
 mod records;
-mod wide_years;

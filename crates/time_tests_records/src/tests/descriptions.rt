@@ -1,14 +1,12 @@
 //! Components and descriptions, read into a record.
-use std::alloc::{AllocError, Global};
+use std::alloc::Global;
 use std::num::NonZero;
-use std::test::Fail;
 use time_readers::{
     BorrowedFormatItem, Component, OwnedFormatItem, Padding, SubsecondDigits, TrailingInput,
     modifier,
 };
 use time_record::{AnyFormatItem, Parsed};
 use time_tests_fields::{Field, record_of, same};
-use time_values::Month;
 use time_values::error::ParseFromDescription;
 
 macro_rules! padded {
@@ -77,339 +75,326 @@ macro_rules! end {
     };
 }
 
+// A text is read up to the rest, and the record behind it holds these options.
+macro_rules! read {
+    ($rest:expr, $after:expr) => {
+        Seen {
+            before: NOTHING,
+            answer: Ok($rest),
+            after: $after,
+        }
+    };
+}
+
+// A text is read to its end as this number.
+macro_rules! number {
+    ($field:ident, $number:expr) => {
+        read!(b"", Held::Numbers(&[(Field::$field, $number)]))
+    };
+}
+
+// A text is refused, and the record is as it was.
+macro_rules! refused {
+    ($error:expr) => {
+        Seen {
+            before: MARCH_AT_NOON,
+            answer: Err($error),
+            after: Held::Numbers(MARCH_AT_NOON),
+        }
+    };
+}
+
 mod ends;
 mod version_3;
+mod wide_years;
+
+type Numbers = &'static [(Field, i128)];
+
+const NOTHING: Numbers = &[];
+
+const MARCH_AT_NOON: Numbers = &[(Field::Month, 3), (Field::Hour24, 12)];
+
+const NOON: Held = Held::Numbers(&[(Field::Hour24, 12)]);
+
+const HALF_PAST: Held = Held::Numbers(&[(Field::Hour24, 12), (Field::Minute, 30)]);
+
+// The options that a record holds.
+enum Held {
+    Numbers(Numbers),
+    // A calendar century, and whether it is negative.
+    Century(i16, bool),
+    // The same of an ISO 8601 century.
+    IsoCentury(i16, bool),
+}
+
+// What a text makes of a record.
+struct Seen {
+    before: Numbers,
+    answer: Result<&'static [u8], ParseFromDescription>,
+    after: Held,
+}
 
 const HOUR: Component = padded!(Hour24, Zero);
 
 const MINUTE: Component = padded!(Minute, Zero);
 
+const NO_IGNORED: ParseFromDescription = ParseFromDescription::InvalidComponent("ignore");
+
 const NO_HOUR: ParseFromDescription = ParseFromDescription::InvalidComponent("hour");
 
 const NO_MINUTE: ParseFromDescription = ParseFromDescription::InvalidComponent("minute");
+
+const NO_LITERAL: ParseFromDescription = ParseFromDescription::InvalidLiteral;
+
+fn record(held: &Held) -> Option<Parsed> {
+    match held {
+        Held::Numbers(numbers) => record_of(numbers),
+        Held::Century(century, is_negative) => Parsed::new()
+            .with_year_century(*century, *is_negative),
+        Held::IsoCentury(century, is_negative) => Parsed::new()
+            .with_iso_year_century(*century, *is_negative),
+    }
+}
+
+// The record before a text is read, and the record behind it.
+fn records(seen: &Seen) -> Option<(Parsed, Parsed)> {
+    Some((record_of(seen.before)?, record(&seen.after)?))
+}
+
+// An item makes that of the text.
+fn item_sees<I: AnyFormatItem>(item: &I, text: &str, seen: &Seen) -> bool {
+    let Some((mut parsed, after)) = records(seen) else {
+        return false;
+    };
+    parsed.parse_item(text.as_bytes(), item) == seen.answer && same(&parsed, &after)
+}
+
+// A component by itself makes that of the text.
+fn component_sees(component: Component, text: &str, seen: &Seen) -> bool {
+    let Some((mut parsed, after)) = records(seen) else {
+        return false;
+    };
+    parsed.parse_component(text.as_bytes(), component) == seen.answer && same(&parsed, &after)
+}
+
+// A component makes that of the text, by itself and as an item of either type.
+fn sees(component: Component, text: &str, seen: &Seen) -> bool {
+    component_sees(component, text, seen)
+        && item_sees(&BorrowedFormatItem::Component(component), text, seen)
+        && item_sees(&OwnedFormatItem::Component(component), text, seen)
+}
+
+// A component, a text, and what it makes of that.
+type Row = (Component, &'static str, Seen);
+
+const COMPONENTS: [Row; 46] = [
+    (signed!(CalendarYearFullExtendedRange, Zero), "20215", read!(b"5", Held::Numbers(&[(Field::Year, 2021)]))),
+    (cased!(MonthShort, false), "Septembre", read!(b"tembre", Held::Numbers(&[(Field::Month, 9)]))),
+    (timestamp!(UnixTimestampSecond), "000000000000001", read!(b"1", Held::Numbers(&[(Field::UnixTimestampNanos, 0)]))),
+    (subsecond!(OneOrMore), "111111111111111111111111111111111", read!(b"1", Held::Numbers(&[(Field::Subsecond, 111_111_111)]))),
+    (signed!(CalendarYearCenturyStandardRange, Zero), "5x", read!(b"x", Held::Century(5, false))),
+    (end!(Prohibit), "", read!(b"", Held::Numbers(NOTHING))),
+    (end!(Discard), "x", read!(b"", Held::Numbers(NOTHING))),
+    (end!(Prohibit), "x", refused!(ParseFromDescription::UnexpectedTrailingCharacters)),
+(padded!(Day, Zero), "00", refused!(ParseFromDescription::InvalidComponent("day"))),
+(padded!(Day, Zero), "32", refused!(ParseFromDescription::InvalidComponent("day"))),
+(cased!(MonthLong, false), "Septembre", refused!(ParseFromDescription::InvalidComponent("month"))),
+(cased!(MonthShort, true), "JAN", refused!(ParseFromDescription::InvalidComponent("month"))),
+(padded!(MonthNumerical, Zero), "13", refused!(ParseFromDescription::InvalidComponent("month"))),
+(padded!(Ordinal, Zero), "367", refused!(ParseFromDescription::InvalidComponent("ordinal"))),
+(cased!(WeekdayShort, true), "mon", refused!(ParseFromDescription::InvalidComponent("weekday"))),
+(cased!(WeekdayLong, false), "Mondax", refused!(ParseFromDescription::InvalidComponent("weekday"))),
+(indexed!(WeekdaySunday, true), "0", refused!(ParseFromDescription::InvalidComponent("weekday"))),
+(indexed!(WeekdaySunday, true), "8", refused!(ParseFromDescription::InvalidComponent("weekday"))),
+(indexed!(WeekdayMonday, false), "7", refused!(ParseFromDescription::InvalidComponent("weekday"))),
+(padded!(WeekNumberIso, Zero), "00", refused!(ParseFromDescription::InvalidComponent("week number"))),
+(padded!(WeekNumberSunday, Zero), "54", refused!(ParseFromDescription::InvalidComponent("week number"))),
+(padded!(WeekNumberMonday, Zero), "54", refused!(ParseFromDescription::InvalidComponent("week number"))),
+(signed!(CalendarYearFullExtendedRange, Zero), "+202", refused!(ParseFromDescription::InvalidComponent("year"))),
+(signed!(CalendarYearFullStandardRange, Zero), "202", refused!(ParseFromDescription::InvalidComponent("year"))),
+(signed!(IsoYearFullExtendedRange, Zero), "-010", refused!(ParseFromDescription::InvalidComponent("year"))),
+(signed!(IsoYearFullStandardRange, Zero), "+202", refused!(ParseFromDescription::InvalidComponent("year"))),
+(signed!(CalendarYearCenturyStandardRange, Zero), "+5x", refused!(ParseFromDescription::InvalidComponent("year"))),
+(signed!(CalendarYearCenturyExtendedRange, Zero), "+1", refused!(ParseFromDescription::InvalidComponent("year"))),
+(signed!(IsoYearCenturyExtendedRange, Zero), "-1", refused!(ParseFromDescription::InvalidComponent("year"))),
+(signed!(IsoYearCenturyStandardRange, Zero), "x", refused!(ParseFromDescription::InvalidComponent("year"))),
+(padded!(CalendarYearLastTwo, Zero), "1", refused!(ParseFromDescription::InvalidComponent("year"))),
+(padded!(IsoYearLastTwo, Zero), "1", refused!(ParseFromDescription::InvalidComponent("year"))),
+(padded!(Hour12, Zero), "00", refused!(ParseFromDescription::InvalidComponent("hour"))),
+(padded!(Hour12, Zero), "13", refused!(ParseFromDescription::InvalidComponent("hour"))),
+(HOUR, "24", refused!(ParseFromDescription::InvalidComponent("hour"))),
+(MINUTE, "60", refused!(ParseFromDescription::InvalidComponent("minute"))),
+(padded!(Second, Zero), "61", refused!(ParseFromDescription::InvalidComponent("second"))),
+(period!(false, true), "AM", refused!(ParseFromDescription::InvalidComponent("period"))),
+(subsecond!(Nine), "/23456789", refused!(ParseFromDescription::InvalidComponent("subsecond"))),
+(signed!(OffsetHour, Zero), "+26", refused!(ParseFromDescription::InvalidComponent("offset hour"))),
+(padded!(OffsetMinute, Zero), "60", refused!(ParseFromDescription::InvalidComponent("offset minute"))),
+(padded!(OffsetSecond, Zero), "60", refused!(ParseFromDescription::InvalidComponent("offset second"))),
+(timestamp!(UnixTimestampSecond), "31494784780800", refused!(ParseFromDescription::InvalidComponent("unix_timestamp"))),
+(timestamp!(UnixTimestampMillisecond), "31494784780800000", refused!(ParseFromDescription::InvalidComponent("unix_timestamp"))),
+(timestamp!(UnixTimestampMicrosecond), "31494784780800000000", refused!(ParseFromDescription::InvalidComponent("unix_timestamp"))),
+(timestamp!(UnixTimestampNanosecond), "31494784780800000000000", refused!(ParseFromDescription::InvalidComponent("unix_timestamp")))
+];
+
+#[test]
+fn components(rt: HostRuntime) {
+    for (component, text, seen) in &COMPONENTS {
+        assert!(rt; sees(*component, text, seen), "{text}");
+    }
+}
 
 fn ignore(count: u16) -> Option<Component> {
     let count = NonZero::<u16>::new(count)?;
     Some(Component::Ignore(modifier::Ignore { count }))
 }
 
-// A record that a refusal leaves as it was.
-fn march_at_noon() -> Parsed {
-    let mut parsed = Parsed::new();
-    let _ = parsed.set_month(Month::March);
-    let _ = parsed.set_hour_24(12);
-    parsed
-}
-
-// An item that reads the text over an empty record leaves this rest and this record.
-fn item_reads<I: AnyFormatItem>(item: &I, text: &[u8], rest: &[u8], wanted: &Parsed) -> bool {
-    let mut parsed = Parsed::new();
-    match parsed.parse_item(text, item) {
-        Ok(found) => found == rest && same(&parsed, wanted),
-        Err(_) => false,
-    }
-}
-
-// An item refuses the text so, and the record is as it was.
-fn item_refuses<I: AnyFormatItem>(item: &I, text: &[u8], error: ParseFromDescription) -> bool {
-    let before = march_at_noon();
-    let mut parsed = before;
-    match parsed.parse_item(text, item) {
-        Ok(_) => false,
-        Err(found) => found == error && same(&parsed, &before),
-    }
-}
-
-// A component by itself reads so.
-fn component_reads(component: Component, text: &[u8], rest: &[u8], wanted: &Parsed) -> bool {
-    let mut parsed = Parsed::new();
-    match parsed.parse_component(text, component) {
-        Ok(found) => found == rest && same(&parsed, wanted),
-        Err(_) => false,
-    }
-}
-
-// A component by itself refuses so.
-fn component_refuses(component: Component, text: &[u8], error: ParseFromDescription) -> bool {
-    let before = march_at_noon();
-    let mut parsed = before;
-    match parsed.parse_component(text, component) {
-        Ok(_) => false,
-        Err(found) => found == error && same(&parsed, &before),
-    }
-}
-
-// A component reads so, by itself and as an item of either type.
-fn reads(component: Component, text: &[u8], rest: &[u8], wanted: &Parsed) -> bool {
-    let borrowed = BorrowedFormatItem::Component(component);
-    let owned = OwnedFormatItem::Component(component);
-    component_reads(component, text, rest, wanted)
-        && item_reads(&borrowed, text, rest, wanted)
-        && item_reads(&owned, text, rest, wanted)
-}
-
-// A component refuses so, by itself and as an item of either type.
-fn refuses(component: Component, text: &[u8], error: ParseFromDescription) -> bool {
-    let borrowed = BorrowedFormatItem::Component(component);
-    let owned = OwnedFormatItem::Component(component);
-    component_refuses(component, text, error)
-        && item_refuses(&borrowed, text, error)
-        && item_refuses(&owned, text, error)
-}
-
-// A component reads the whole text as that number.
-fn reads_number(component: Component, text: &str, field: Field, number: i128) -> bool {
-    match record_of(&[(field, number)]) {
-        Some(wanted) => reads(component, text.as_bytes(), b"", &wanted),
+// A skipped part of so many bytes makes that of the text.
+fn skipped_sees(count: u16, text: &str, seen: &Seen) -> bool {
+    match ignore(count) {
+        Some(component) => sees(component, text, seen),
         None => false,
     }
 }
 
-fn century_is(century: i16, is_negative: bool) -> Option<Parsed> {
-    Parsed::new().with_year_century(century, is_negative)
-}
+static SKIPPED: [(u16, &str, Seen); 3] = [
+    (1, "xy", read!(b"y", Held::Numbers(NOTHING))),
+    (1, "\u{E9}", read!(b"\xA9", Held::Numbers(NOTHING))),
+    (3, "ab", refused!(NO_IGNORED)),
+];
 
 #[test]
-fn components(rt: HostRuntime) -> Result<(), Fail> {
-    for (component, text, rest, field, number) in [
-        (
-            signed!(CalendarYearFullExtendedRange, Zero),
-            "20215",
-            "5",
-            Field::Year,
-            2021,
-        ),
-        (
-            cased!(MonthShort, false),
-            "Septembre",
-            "tembre",
-            Field::Month,
-            9,
-        ),
-        (
-            timestamp!(UnixTimestampSecond),
-            "000000000000001",
-            "1",
-            Field::UnixTimestampNanos,
-            0,
-        ),
-        (
-            subsecond!(OneOrMore),
-            "111111111111111111111111111111111",
-            "1",
-            Field::Subsecond,
-            111_111_111,
-        ),
-    ] {
-        let wanted = record_of(&[(field, number)]).ok_or("out of range")?;
-        assert!(rt;
-            reads(component, text.as_bytes(), rest.as_bytes(), &wanted),
-            "{text}"
-        );
-    }
-    let century = signed!(CalendarYearCenturyStandardRange, Zero);
-    let wanted = century_is(5, false).ok_or("out of range")?;
-    assert!(rt; reads(century, b"5x", b"x", &wanted));
-    Ok(())
-}
-
-#[test]
-fn components_without_a_number(rt: HostRuntime) -> Result<(), Fail> {
-    let empty = Parsed::new();
-    let one = ignore(1).ok_or("zero")?;
-    for (component, text, rest) in [
-        (end!(Prohibit), b"".as_slice(), b"".as_slice()),
-        (end!(Discard), b"x", b""),
-        (one, b"xy", b"y"),
-        (one, &[0xC3, 0xA9], &[0xA9]),
-    ] {
-        assert!(rt; reads(component, text, rest, &empty));
-    }
-    Ok(())
-}
-
-#[test]
-fn components_refused(rt: HostRuntime) {
-    for (component, text, name) in [
-        (padded!(Day, Zero), "00", "day"),
-        (padded!(Day, Zero), "32", "day"),
-        (cased!(MonthLong, false), "Septembre", "month"),
-        (cased!(MonthShort, true), "JAN", "month"),
-        (padded!(MonthNumerical, Zero), "13", "month"),
-        (padded!(Ordinal, Zero), "367", "ordinal"),
-        (cased!(WeekdayShort, true), "mon", "weekday"),
-        (cased!(WeekdayLong, false), "Mondax", "weekday"),
-        (indexed!(WeekdaySunday, true), "0", "weekday"),
-        (indexed!(WeekdaySunday, true), "8", "weekday"),
-        (indexed!(WeekdayMonday, false), "7", "weekday"),
-        (padded!(WeekNumberIso, Zero), "00", "week number"),
-        (padded!(WeekNumberSunday, Zero), "54", "week number"),
-        (padded!(WeekNumberMonday, Zero), "54", "week number"),
-        (signed!(CalendarYearFullExtendedRange, Zero), "+202", "year"),
-        (signed!(CalendarYearFullStandardRange, Zero), "202", "year"),
-        (signed!(IsoYearFullExtendedRange, Zero), "-010", "year"),
-        (signed!(IsoYearFullStandardRange, Zero), "+202", "year"),
-        (
-            signed!(CalendarYearCenturyStandardRange, Zero),
-            "+5x",
-            "year",
-        ),
-        (
-            signed!(CalendarYearCenturyExtendedRange, Zero),
-            "+1",
-            "year",
-        ),
-        (signed!(IsoYearCenturyExtendedRange, Zero), "-1", "year"),
-        (signed!(IsoYearCenturyStandardRange, Zero), "x", "year"),
-        (padded!(CalendarYearLastTwo, Zero), "1", "year"),
-        (padded!(IsoYearLastTwo, Zero), "1", "year"),
-        (padded!(Hour12, Zero), "00", "hour"),
-        (padded!(Hour12, Zero), "13", "hour"),
-        (HOUR, "24", "hour"),
-        (MINUTE, "60", "minute"),
-        (padded!(Second, Zero), "61", "second"),
-        (period!(false, true), "AM", "period"),
-        (subsecond!(Nine), "/23456789", "subsecond"),
-        (signed!(OffsetHour, Zero), "+26", "offset hour"),
-        (padded!(OffsetMinute, Zero), "60", "offset minute"),
-        (padded!(OffsetSecond, Zero), "60", "offset second"),
-        (
-            timestamp!(UnixTimestampSecond),
-            "31494784780800",
-            "unix_timestamp",
-        ),
-        (
-            timestamp!(UnixTimestampMillisecond),
-            "31494784780800000",
-            "unix_timestamp",
-        ),
-        (
-            timestamp!(UnixTimestampMicrosecond),
-            "31494784780800000000",
-            "unix_timestamp",
-        ),
-        (
-            timestamp!(UnixTimestampNanosecond),
-            "31494784780800000000000",
-            "unix_timestamp",
-        ),
-    ] {
-        let error = ParseFromDescription::InvalidComponent(name);
-        assert!(rt; refuses(component, text.as_bytes(), error), "{text}");
+fn components_skipped(rt: HostRuntime) {
+    for (count, text, seen) in &SKIPPED {
+        assert!(rt; skipped_sees(*count, text, seen), "{text}");
     }
 }
 
+// A tree of items.
+enum Tree {
+    // `Hour24`, a colon and `Minute`.
+    Clock,
+    // A clock that may be missing.
+    Part,
+    // A part and `Hour24`.
+    PartAndHour,
+    // A clock, or else `Hour24`.
+    Either,
+    // A choice of nothing.
+    Nothing,
+    // `Minute`, or else an `x`.
+    Others,
+    // `Minute` and an `x`.
+    OthersInTurn,
+    // `Ignore` of one byte.
+    Skipped,
+}
+
+const CLOCK: [BorrowedFormatItem<'static>; 3] = [
+    BorrowedFormatItem::Component(HOUR),
+    BorrowedFormatItem::StringLiteral(":"),
+    BorrowedFormatItem::Component(MINUTE),
+];
+
+const OTHERS: [BorrowedFormatItem<'static>; 2] = [
+    BorrowedFormatItem::Component(MINUTE),
+    BorrowedFormatItem::Literal(b"x"),
+];
+
+// A tree that borrows its items makes that of the text.
+fn borrowed_sees(tree: &Tree, text: &str, seen: &Seen) -> bool {
+    let clock = BorrowedFormatItem::Compound(&CLOCK);
+    let either = [clock, BorrowedFormatItem::Component(HOUR)];
+    let item = match tree {
+        Tree::Part => BorrowedFormatItem::Optional(&clock),
+        Tree::Either => BorrowedFormatItem::First(&either),
+        Tree::Nothing => BorrowedFormatItem::First(&[]),
+        Tree::Others => BorrowedFormatItem::First(&OTHERS),
+        Tree::OthersInTurn => BorrowedFormatItem::Compound(&OTHERS),
+        _ => return false,
+    };
+    item_sees(&item, text, seen)
+}
+
+static BORROWED: [(Tree, &str, Seen); 8] = [
+    (Tree::Part, "12:x", read!(b"12:x", Held::Numbers(NOTHING))),
+    (Tree::Part, "12:30x", read!(b"x", HALF_PAST)),
+    (Tree::Either, "12:30x", read!(b"x", HALF_PAST)),
+    (Tree::Either, "12x", read!(b"x", NOON)),
+    (Tree::Either, "1x", refused!(NO_HOUR)),
+    (Tree::Nothing, "x", read!(b"x", Held::Numbers(NOTHING))),
+    (Tree::Others, "y", refused!(NO_MINUTE)),
+    (Tree::OthersInTurn, "05y", refused!(NO_LITERAL)),
+];
+
 #[test]
-fn components_refused_at_the_end(rt: HostRuntime) -> Result<(), Fail> {
-    let three = ignore(3).ok_or("zero")?;
-    let error = ParseFromDescription::InvalidComponent("ignore");
-    assert!(rt; refuses(three, b"ab", error));
-    let error = ParseFromDescription::UnexpectedTrailingCharacters;
-    assert!(rt; refuses(end!(Prohibit), b"x", error));
-    Ok(())
+fn components_in_borrowed_trees(rt: HostRuntime) {
+    for (tree, text, seen) in &BORROWED {
+        assert!(rt; borrowed_sees(tree, text, seen), "{text}");
+    }
 }
 
-// A record of `12`, and one of `12:30`.
-fn noon_and_half_past() -> Option<(Parsed, Parsed)> {
-    let noon = Parsed::new().with_hour_24(12)?;
-    Some((noon, noon.with_minute(30)?))
-}
-
-#[test]
-fn components_in_borrowed_optional(rt: HostRuntime) -> Result<(), Fail> {
-    let (_, half_past) = noon_and_half_past().ok_or("out of range")?;
-    let clock = [
-        BorrowedFormatItem::Component(HOUR),
-        BorrowedFormatItem::StringLiteral(":"),
-        BorrowedFormatItem::Component(MINUTE),
-    ];
-    let clock = BorrowedFormatItem::Compound(&clock);
-    let part = BorrowedFormatItem::Optional(&clock);
-    assert!(rt; item_reads(&part, b"12:x", b"12:x", &Parsed::new()));
-    assert!(rt; item_reads(&part, b"12:30x", b"x", &half_past));
-    Ok(())
-}
-
-#[test]
-fn components_in_borrowed_first(rt: HostRuntime) -> Result<(), Fail> {
-    let (noon, half_past) = noon_and_half_past().ok_or("out of range")?;
-    let clock = [
-        BorrowedFormatItem::Component(HOUR),
-        BorrowedFormatItem::StringLiteral(":"),
-        BorrowedFormatItem::Component(MINUTE),
-    ];
-    let either = [
-        BorrowedFormatItem::Compound(&clock),
-        BorrowedFormatItem::Component(HOUR),
-    ];
-    let either = BorrowedFormatItem::First(&either);
-    assert!(rt; item_reads(&either, b"12:30x", b"x", &half_past));
-    assert!(rt; item_reads(&either, b"12x", b"x", &noon));
-    assert!(rt; item_refuses(&either, b"1x", NO_HOUR));
-    Ok(())
-}
-
-#[test]
-fn components_in_borrowed_lists(rt: HostRuntime) {
-    let none = BorrowedFormatItem::First(&[]);
-    assert!(rt; item_reads(&none, b"x", b"x", &Parsed::new()));
-    let others = [
-        BorrowedFormatItem::Component(MINUTE),
-        BorrowedFormatItem::Literal(b"x"),
-    ];
-    assert!(rt; item_refuses(&BorrowedFormatItem::First(&others), b"y", NO_MINUTE));
-    let error = ParseFromDescription::InvalidLiteral;
-    assert!(rt; item_refuses(&BorrowedFormatItem::Compound(&others), b"05y", error));
-}
-
-// `Hour24`, a colon and `Minute`.
-fn owned_clock(alloc: Global) -> Result<OwnedFormatItem, AllocError> {
-    let colon = String::from_str(alloc, ":")?;
-    let items = vec![in alloc;
+fn owned_clock(alloc: Global) -> Option<OwnedFormatItem> {
+    let colon = String::from_str(alloc, ":").ok()?;
+    let items = [
         OwnedFormatItem::Component(HOUR),
         OwnedFormatItem::StringLiteral(colon),
         OwnedFormatItem::Component(MINUTE),
-    ]?;
-    Ok(OwnedFormatItem::Compound(items))
+    ];
+    Some(OwnedFormatItem::Compound(Vec::from_array(alloc, items).ok()?))
 }
 
-#[test]
-fn components_in_owned_optional(rt: HostRuntime) -> Result<(), Fail> {
-    let (_, half_past) = noon_and_half_past().ok_or("out of range")?;
-    let part = OwnedFormatItem::Optional(Box::new(rt.alloc(), owned_clock(rt.alloc())?)?);
-    assert!(rt; item_reads(&part, b"12:x", b"12:x", &Parsed::new()));
-    assert!(rt; item_reads(&part, b"12:30x", b"x", &half_past));
-    Ok(())
+fn owned_part(alloc: Global) -> Option<OwnedFormatItem> {
+    let item = Box::new(alloc, owned_clock(alloc)?).ok()?;
+    Some(OwnedFormatItem::Optional(item))
 }
 
-#[test]
-fn components_in_owned_first(rt: HostRuntime) -> Result<(), Fail> {
-    let (noon, half_past) = noon_and_half_past().ok_or("out of range")?;
-    let clock = owned_clock(rt.alloc())?;
-    let either = vec![in rt.alloc(); clock, OwnedFormatItem::Component(HOUR)]?;
-    let either = OwnedFormatItem::First(either);
-    assert!(rt; item_reads(&either, b"12:30x", b"x", &half_past));
-    assert!(rt; item_reads(&either, b"12x", b"x", &noon));
-    assert!(rt; item_refuses(&either, b"1x", NO_HOUR));
-    Ok(())
+fn owned_either(alloc: Global) -> Option<OwnedFormatItem> {
+    let items = [owned_clock(alloc)?, OwnedFormatItem::Component(HOUR)];
+    Some(OwnedFormatItem::First(Vec::from_array(alloc, items).ok()?))
 }
 
-#[test]
-fn components_in_owned_lists(rt: HostRuntime) -> Result<(), Fail> {
-    let none = OwnedFormatItem::First(Vec::new(rt.alloc()));
-    assert!(rt; item_reads(&none, b"x", b"x", &Parsed::new()));
-    let clock = owned_clock(rt.alloc())?;
-    assert!(rt; item_refuses(&clock, b"12x", ParseFromDescription::InvalidLiteral));
-    Ok(())
-}
-
-#[test]
-fn components_in_owned_choices_refused(rt: HostRuntime) -> Result<(), Fail> {
-    let literal = vec![in rt.alloc(); b'x']?;
-    let others = vec![in rt.alloc();
+fn owned_others(alloc: Global) -> Option<OwnedFormatItem> {
+    let literal = Vec::from_array(alloc, [b'x']).ok()?;
+    let items = [
         OwnedFormatItem::Component(MINUTE),
         OwnedFormatItem::Literal(literal),
-    ]?;
-    assert!(rt; item_refuses(&OwnedFormatItem::First(others), b"y", NO_MINUTE));
-    Ok(())
+    ];
+    Some(OwnedFormatItem::First(Vec::from_array(alloc, items).ok()?))
+}
+
+fn owned(alloc: Global, tree: &Tree) -> Option<OwnedFormatItem> {
+    match tree {
+        Tree::Clock => owned_clock(alloc),
+        Tree::Part => owned_part(alloc),
+        Tree::Either => owned_either(alloc),
+        Tree::Nothing => Some(OwnedFormatItem::First(Vec::new(alloc))),
+        Tree::Others => owned_others(alloc),
+        _ => None,
+    }
+}
+
+// A tree that owns its items makes that of the text.
+fn owned_sees(alloc: Global, tree: &Tree, text: &str, seen: &Seen) -> bool {
+    match owned(alloc, tree) {
+        Some(item) => item_sees(&item, text, seen),
+        None => false,
+    }
+}
+
+static OWNED: [(Tree, &str, Seen); 8] = [
+    (Tree::Part, "12:x", read!(b"12:x", Held::Numbers(NOTHING))),
+    (Tree::Part, "12:30x", read!(b"x", HALF_PAST)),
+    (Tree::Either, "12:30x", read!(b"x", HALF_PAST)),
+    (Tree::Either, "12x", read!(b"x", NOON)),
+    (Tree::Either, "1x", refused!(NO_HOUR)),
+    (Tree::Nothing, "x", read!(b"x", Held::Numbers(NOTHING))),
+    (Tree::Clock, "12x", refused!(NO_LITERAL)),
+    (Tree::Others, "y", refused!(NO_MINUTE)),
+];
+
+#[test]
+fn components_in_owned_trees(rt: HostRuntime) {
+    for (tree, text, seen) in &OWNED {
+        assert!(rt; owned_sees(rt.alloc(), tree, text, seen), "{text}");
+    }
 }

@@ -1,100 +1,91 @@
 //! Descriptions of version 3.
-use super::{HOUR, MINUTE, NO_HOUR, ignore, march_at_noon, noon_and_half_past};
-use std::alloc::{AllocError, Global};
-use std::test::Fail;
+use super::{
+    HALF_PAST, HOUR, Held, MARCH_AT_NOON, MINUTE, NO_HOUR, NO_IGNORED, NO_LITERAL, NOON, NOTHING, Seen, Tree, ignore, records,
+};
+use std::alloc::Global;
 use time_readers::FormatDescriptionV3Inner;
-use time_record::Parsed;
 use time_tests_fields::same;
-use time_values::error::ParseFromDescription;
 
-// The items of a version-3 description refuse the text so, and the record is as it was.
-fn v3_refuses(
-    items: &FormatDescriptionV3Inner<'_>,
-    text: &[u8],
-    error: ParseFromDescription,
-) -> bool {
-    let before = march_at_noon();
-    let mut parsed = before;
-    match parsed.parse_v3(text, items) {
-        Ok(_) => false,
-        Err(found) => found == error && same(&parsed, &before),
-    }
-}
-
-// They read the text up to that rest and leave that record.
-fn v3_reads(
-    items: &FormatDescriptionV3Inner<'_>,
-    text: &[u8],
-    rest: &[u8],
-    wanted: &Parsed,
-) -> bool {
-    let mut parsed = Parsed::new();
-    match parsed.parse_v3(text, items) {
-        Ok(found) => found == rest && same(&parsed, wanted),
-        Err(_) => false,
-    }
-}
-
-#[test]
-fn components_in_version_3(rt: HostRuntime) -> Result<(), Fail> {
-    let skipped = FormatDescriptionV3Inner::Component(ignore(1).ok_or("zero")?);
-    let error = ParseFromDescription::InvalidComponent("ignore");
-    assert!(rt; v3_refuses(&skipped, &[0xC3, 0xA9], error));
-    assert!(rt; v3_refuses(&skipped, b"", error));
-    assert!(rt; v3_reads(&skipped, b"xy", b"y", &Parsed::new()));
-    assert!(rt; v3_reads(&skipped, &[b'x', 0xC3, 0xA9], &[0xC3, 0xA9], &Parsed::new()));
-    Ok(())
-}
-
-// `Hour24`, a colon and `Minute`.
-fn v3_clock(alloc: Global) -> Result<FormatDescriptionV3Inner<'static>, AllocError> {
-    let items = vec![in alloc;
+fn v3_clock(alloc: Global) -> Option<FormatDescriptionV3Inner<'static>> {
+    let items = [
         FormatDescriptionV3Inner::Component(HOUR),
         FormatDescriptionV3Inner::BorrowedLiteral(":"),
         FormatDescriptionV3Inner::Component(MINUTE),
-    ]?;
-    Ok(FormatDescriptionV3Inner::OwnedCompound(items))
+    ];
+    let items = Vec::from_array(alloc, items).ok()?;
+    Some(FormatDescriptionV3Inner::OwnedCompound(items))
 }
 
-// The same, which may be missing.
-fn v3_part(alloc: Global) -> Result<FormatDescriptionV3Inner<'static>, AllocError> {
-    let clock = v3_clock(alloc)?;
-    let item = Box::new(alloc, clock)?;
-    Ok(FormatDescriptionV3Inner::OwnedOptional { format: true, item })
+fn v3_part(alloc: Global) -> Option<FormatDescriptionV3Inner<'static>> {
+    let item = Box::new(alloc, v3_clock(alloc)?).ok()?;
+    Some(FormatDescriptionV3Inner::OwnedOptional { format: true, item })
 }
+
+// The item, and behind it `Hour24`.
+fn v3_before_hour(
+    alloc: Global,
+    item: FormatDescriptionV3Inner<'static>,
+) -> Option<Vec<FormatDescriptionV3Inner<'static>>> {
+    let items = [item, FormatDescriptionV3Inner::Component(HOUR)];
+    Vec::from_array(alloc, items).ok()
+}
+
+fn v3(alloc: Global, tree: &Tree) -> Option<FormatDescriptionV3Inner<'static>> {
+    match tree {
+        Tree::Clock => v3_clock(alloc),
+        Tree::Part => v3_part(alloc),
+        Tree::PartAndHour => v3_part_and_hour(alloc),
+        Tree::Either => v3_either(alloc),
+        Tree::Nothing => Some(FormatDescriptionV3Inner::BorrowedFirst(&[])),
+        Tree::Skipped => Some(FormatDescriptionV3Inner::Component(ignore(1)?)),
+        Tree::Others | Tree::OthersInTurn => None,
+    }
+}
+
+fn v3_part_and_hour(alloc: Global) -> Option<FormatDescriptionV3Inner<'static>> {
+    let items = v3_before_hour(alloc, v3_part(alloc)?)?;
+    Some(FormatDescriptionV3Inner::OwnedCompound(items))
+}
+
+fn v3_either(alloc: Global) -> Option<FormatDescriptionV3Inner<'static>> {
+    let items = v3_before_hour(alloc, v3_clock(alloc)?)?;
+    Some(FormatDescriptionV3Inner::OwnedFirst(items))
+}
+
+// A tree makes that of the text.
+fn v3_sees(items: &FormatDescriptionV3Inner<'_>, text: &str, seen: &Seen) -> bool {
+    let Some((mut parsed, after)) = records(seen) else {
+        return false;
+    };
+    parsed.parse_v3(text.as_bytes(), items) == seen.answer && same(&parsed, &after)
+}
+
+fn tree_sees(alloc: Global, tree: &Tree, text: &str, seen: &Seen) -> bool {
+    match v3(alloc, tree) {
+        Some(items) => v3_sees(&items, text, seen),
+        None => false,
+    }
+}
+
+static TREES: [(Tree, &str, Seen); 13] = [
+    (Tree::Skipped, "\u{E9}", refused!(NO_IGNORED)),
+    (Tree::Skipped, "", refused!(NO_IGNORED)),
+    (Tree::Skipped, "xy", read!(b"y", Held::Numbers(NOTHING))),
+    (Tree::Skipped, "x\u{E9}", read!(b"\xC3\xA9", Held::Numbers(NOTHING))),
+    (Tree::Clock, "12:30x", read!(b"x", HALF_PAST)),
+    (Tree::Clock, "12x", refused!(NO_LITERAL)),
+    (Tree::Part, "12:x", read!(b"12:x", Held::Numbers(NOTHING))),
+    (Tree::PartAndHour, "12:3012", read!(b"", HALF_PAST)),
+    (Tree::PartAndHour, "12", read!(b"", NOON)),
+    (Tree::Either, "12:30x", read!(b"x", HALF_PAST)),
+    (Tree::Either, "12x", read!(b"x", NOON)),
+    (Tree::Either, "1x", refused!(NO_HOUR)),
+    (Tree::Nothing, "x", read!(b"x", Held::Numbers(NOTHING))),
+];
 
 #[test]
-fn components_in_version_3_optional(rt: HostRuntime) -> Result<(), Fail> {
-    let (_, half_past) = noon_and_half_past().ok_or("out of range")?;
-    let clock = v3_clock(rt.alloc())?;
-    assert!(rt; v3_reads(&clock, b"12:30x", b"x", &half_past));
-    assert!(rt; v3_refuses(&clock, b"12x", ParseFromDescription::InvalidLiteral));
-    let part = v3_part(rt.alloc())?;
-    assert!(rt; v3_reads(&part, b"12:x", b"12:x", &Parsed::new()));
-    Ok(())
-}
-
-#[test]
-fn components_in_version_3_lists(rt: HostRuntime) -> Result<(), Fail> {
-    let (noon, half_past) = noon_and_half_past().ok_or("out of range")?;
-    let part = v3_part(rt.alloc())?;
-    let list = vec![in rt.alloc(); part, FormatDescriptionV3Inner::Component(HOUR)]?;
-    let list = FormatDescriptionV3Inner::OwnedCompound(list);
-    assert!(rt; v3_reads(&list, b"12:3012", b"", &half_past));
-    assert!(rt; v3_reads(&list, b"12", b"", &noon));
-    Ok(())
-}
-
-#[test]
-fn components_in_version_3_choices(rt: HostRuntime) -> Result<(), Fail> {
-    let (noon, half_past) = noon_and_half_past().ok_or("out of range")?;
-    let clock = v3_clock(rt.alloc())?;
-    let either = vec![in rt.alloc(); clock, FormatDescriptionV3Inner::Component(HOUR)]?;
-    let either = FormatDescriptionV3Inner::OwnedFirst(either);
-    assert!(rt; v3_reads(&either, b"12:30x", b"x", &half_past));
-    assert!(rt; v3_reads(&either, b"12x", b"x", &noon));
-    assert!(rt; v3_refuses(&either, b"1x", NO_HOUR));
-    let none = FormatDescriptionV3Inner::BorrowedFirst(&[]);
-    assert!(rt; v3_reads(&none, b"x", b"x", &Parsed::new()));
-    Ok(())
+fn components_in_version_3(rt: HostRuntime) {
+    for (tree, text, seen) in &TREES {
+        assert!(rt; tree_sees(rt.alloc(), tree, text, seen), "{text}");
+    }
 }

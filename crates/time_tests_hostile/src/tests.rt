@@ -1,4 +1,5 @@
 mod callers;
 mod counted;
 mod hostile;
+mod parts;
 mod readme;

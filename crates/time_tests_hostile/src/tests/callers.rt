@@ -17,7 +17,6 @@ ghost use Rattle.time_record.specs.Resolution.{IsDated};
 ghost use Rattle.time_parsing.specs.Outcome.{IsOutcome, begun, seen};
 
 use std::convert::TryFrom;
-use std::test::Fail;
 use time_components::{BorrowedFormatItem, Component, Padding, modifier};
 use time_digits::ParsedItem;
 use time_digits::combinator::exactly_n_digits;
@@ -37,17 +36,22 @@ fn noon(year: i32, month: Month, day: u8) -> Result<PlainDateTime, ComponentRang
     Ok(PlainDateTime::new(date, time))
 }
 
+// The place in its year of a 29 February, and the hour of its noon.
+fn noon_of_leap_day(year: i32) -> Result<(u16, u8), ComponentRange> {
+    let found = noon(year, Month::February, 29)?;
+    Ok((found.date().ordinal(), found.time().hour()))
+}
+
+const NO_DAY: ComponentRange = ComponentRange {
+    name: "day",
+    conditional: true,
+};
+
 #[test]
-fn callers_of_values(rt: HostRuntime) -> Result<(), Fail> {
-    let found = noon(2024, Month::February, 29)?;
-    assert_eq!(rt; found.date().ordinal(), 60);
-    assert_eq!(rt; found.time().hour(), 12);
-    let day = ComponentRange {
-        name: "day",
-        conditional: true,
-    };
-    assert!(rt; noon(2023, Month::February, 29) == Err(day));
-    Ok(())
+fn callers_of_values(rt: HostRuntime) {
+    for (year, seen) in [(2024, Ok((60, 12))), (2023, Err(NO_DAY))] {
+        assert!(rt; noon_of_leap_day(year) == seen, "{year}");
+    }
 }
 
 // The hour and the minute in front of a text, as `0930`, and the unread rest. This is no second way of reading.
@@ -60,12 +64,22 @@ fn hour_and_minute(input: &[u8]) -> Option<ParsedItem<'_, (u32, u32)>>
     Some(ParsedItem(minute.0, (hour.1, minute.1)))
 }
 
+// A text, and the hour, the minute and the rest that are found in it.
+static HOURS: [(&[u8], Option<((u32, u32), &[u8])>); 2] = [
+    (b"0930x", Some(((9, 30), b"x"))),
+    (b"093", None),
+];
+
+fn hour_minute_and_rest(input: &[u8]) -> Option<((u32, u32), &[u8])> {
+    let found = hour_and_minute(input)?;
+    Some((found.1, found.0))
+}
+
 #[test]
 fn callers_of_digits(rt: HostRuntime) {
-    let found = hour_and_minute(b"0930x").expect(&rt, "an hour and a minute");
-    assert!(rt; found.1 == (9, 30));
-    assert!(rt; found.0 == b"x".as_slice());
-    assert!(rt; hour_and_minute(b"093").is_none());
+    for (text, seen) in &HOURS {
+        assert!(rt; hour_minute_and_rest(text) == *seen);
+    }
 }
 
 // The numbers of a moment of RFC 3339 in front of a text, and the unread rest, or the first place that fails.
@@ -76,12 +90,25 @@ fn numbers(input: &[u8]) -> Result<(Numbers, &[u8]), Place>
     Ok((found.1, found.0))
 }
 
+// A text, and the day and the rest that are found in it.
+static STAMPS: [(&[u8], Option<(u8, &[u8])>); 2] = [
+    (
+        b"2021-01-02T03:04:05Z, and more",
+        Some((2, b", and more")),
+    ),
+    (b"2021-01-02T25:04:05Z", None),
+];
+
+fn day_and_rest(input: &[u8]) -> Option<(u8, &[u8])> {
+    let found = numbers(input).ok()?;
+    Some((found.0.day, found.1))
+}
+
 #[test]
 fn callers_of_readers(rt: HostRuntime) {
-    let found = numbers(b"2021-01-02T03:04:05Z, and more").expect(&rt, "a moment");
-    assert!(rt; found.0.day == 2);
-    assert!(rt; found.1 == b", and more".as_slice());
-    assert!(rt; numbers(b"2021-01-02T25:04:05Z").is_err());
+    for (text, seen) in &STAMPS {
+        assert!(rt; day_and_rest(text) == *seen);
+    }
 }
 
 // The date of a text that the description reads whole.
@@ -98,29 +125,45 @@ fn date_of(text: &[u8], description: &BorrowedFormatItem<'_>) -> Result<Date, Pa
     Ok(Date::try_from(parsed)?)
 }
 
+const YEAR: BorrowedFormatItem<'static> = BorrowedFormatItem::Component(
+    Component::CalendarYearFullStandardRange(modifier::CalendarYearFullStandardRange {
+        padding: Padding::Zero,
+        sign_is_mandatory: false,
+    }),
+);
+
+const MONTH: BorrowedFormatItem<'static> = BorrowedFormatItem::Component(Component::MonthNumerical(
+    modifier::MonthNumerical {
+        padding: Padding::Zero,
+    },
+));
+
+const DAY: BorrowedFormatItem<'static> = BorrowedFormatItem::Component(Component::Day(
+    modifier::Day {
+        padding: Padding::Zero,
+    },
+));
+
+const HYPHEN: BorrowedFormatItem<'static> = BorrowedFormatItem::StringLiteral("-");
+
+const MARCH: (i32, Month, u8) = (2021, Month::March, 4);
+
+// The year, the month and the day of a text such as `2021-03-04`.
+fn calendar_date(text: &[u8]) -> Option<(i32, Month, u8)> {
+    let items = [YEAR, HYPHEN, MONTH, HYPHEN, DAY];
+    let date = date_of(text, &BorrowedFormatItem::Compound(&items)).ok()?;
+    Some(date.to_calendar_date())
+}
+
 #[test]
-fn callers_of_records(rt: HostRuntime) -> Result<(), Fail> {
-    let padding = Padding::Zero;
-    let items = [
-        BorrowedFormatItem::Component(Component::CalendarYearFullStandardRange(
-            modifier::CalendarYearFullStandardRange {
-                padding,
-                sign_is_mandatory: false,
-            },
-        )),
-        BorrowedFormatItem::StringLiteral("-"),
-        BorrowedFormatItem::Component(Component::MonthNumerical(modifier::MonthNumerical {
-            padding,
-        })),
-        BorrowedFormatItem::StringLiteral("-"),
-        BorrowedFormatItem::Component(Component::Day(modifier::Day { padding })),
-    ];
-    let description = BorrowedFormatItem::Compound(&items);
-    let march = Date::from_calendar_date(2021, Month::March, 4)?;
-    assert!(rt; date_of(b"2021-03-04", &description) == Ok(march));
-    assert!(rt; date_of(b"2021-03-32", &description).is_err());
-    assert!(rt; date_of(b"2021-03-04x", &description).is_err());
-    Ok(())
+fn callers_of_records(rt: HostRuntime) {
+    for (text, seen) in [
+        (b"2021-03-04".as_slice(), Some(MARCH)),
+        (b"2021-03-32", None),
+        (b"2021-03-04x", None),
+    ] {
+        assert!(rt; calendar_date(text) == seen, "{text:?}");
+    }
 }
 
 // The date of a configuration entry, which may leave out the year for this one.
@@ -131,22 +174,22 @@ fn date_in<F: Parsable>(year: i32, text: &[u8], format: &F) -> Result<Date, Pars
     format.parse_date(text, Parsed::new().with_year(year))
 }
 
+// The year, the month and the day of a text such as `03-04`.
+fn calendar_date_in(year: i32, text: &[u8]) -> Option<(i32, Month, u8)> {
+    let items = [MONTH, HYPHEN, DAY];
+    let date = date_in(year, text, &BorrowedFormatItem::Compound(&items)).ok()?;
+    Some(date.to_calendar_date())
+}
+
 #[test]
-fn callers_of_formats(rt: HostRuntime) -> Result<(), Fail> {
-    let padding = Padding::Zero;
-    let items = [
-        BorrowedFormatItem::Component(Component::MonthNumerical(modifier::MonthNumerical {
-            padding,
-        })),
-        BorrowedFormatItem::StringLiteral("-"),
-        BorrowedFormatItem::Component(Component::Day(modifier::Day { padding })),
-    ];
-    let description = BorrowedFormatItem::Compound(&items);
-    let march = Date::from_calendar_date(2021, Month::March, 4)?;
-    assert!(rt; date_in(2021, b"03-04", &description) == Ok(march));
-    assert!(rt; date_in(2021, b"02-29", &description).is_err());
-    assert!(rt; date_in(2024, b"02-29", &description).is_ok());
-    assert!(rt; date_in(1_000_000, b"03-04", &description).is_err());
+fn callers_of_formats(rt: HostRuntime) {
+    for (year, text, seen) in [
+        (2021, b"03-04".as_slice(), Some(MARCH)),
+        (2021, b"02-29", None),
+        (2024, b"02-29", Some((2024, Month::February, 29))),
+        (1_000_000, b"03-04", None),
+    ] {
+        assert!(rt; calendar_date_in(year, text) == seen, "{year}");
+    }
     assert!(rt; date_in(1999, b"2021-03-04T00:00:00Z", &Rfc3339).is_ok());
-    Ok(())
 }

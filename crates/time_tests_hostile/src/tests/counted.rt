@@ -27,8 +27,17 @@ type Seen<'a> = (
     Option<u8>,
 );
 
+// Which items a text is read by.
+enum Items {
+    // An hour, a colon and a minute, or else an hour.
+    Choice,
+    // A minute that may be missing.
+    Option,
+    Colon,
+}
+
 // Reads the items over a record of the hour 7.
-fn seen<'a>(input: &'a [u8], items: &[BorrowedFormatItem<'_>]) -> Seen<'a> {
+fn read<'a>(input: &'a [u8], items: &[BorrowedFormatItem<'_>]) -> Seen<'a> {
     let mut parsed = Parsed::new();
     let _ = parsed.set_hour_24(7);
     let mut tries = Tries::new();
@@ -36,33 +45,34 @@ fn seen<'a>(input: &'a [u8], items: &[BorrowedFormatItem<'_>]) -> Seen<'a> {
     (answer, tries.count(), parsed.hour_24(), parsed.minute())
 }
 
-#[test]
-fn counted_choices(rt: HostRuntime) {
+fn seen<'a>(input: &'a [u8], items: &Items) -> Seen<'a> {
     let whole = [HOUR, COLON, MINUTE];
     let choice = [BorrowedFormatItem::Compound(&whole), HOUR];
-    let items = [BorrowedFormatItem::First(&choice)];
-    for (input, answer, tries, hour, minute) in [
-        (b"12x".as_slice(), Ok(b"x".as_slice()), 5, 12, None),
-        (
-            b"1x",
-            Err(ParseFromDescription::InvalidComponent("hour")),
-            4,
-            7,
-            None,
-        ),
-        (b"12:34", Ok(b""), 5, 12, Some(34)),
-    ] {
-        assert!(rt; seen(input, &items) == (answer, tries, Some(hour), minute));
-    }
+    let item = match items {
+        Items::Choice => BorrowedFormatItem::First(&choice),
+        Items::Option => BorrowedFormatItem::Optional(&MINUTE),
+        Items::Colon => COLON,
+    };
+    read(input, &[item])
 }
 
+const NO_HOUR: ParseFromDescription = ParseFromDescription::InvalidComponent("hour");
+
+const NO_COLON: ParseFromDescription = ParseFromDescription::InvalidLiteral;
+
+static SEEN: [(Items, &[u8], Seen<'static>); 5] = [
+    (Items::Choice, b"12x", (Ok(b"x"), 5, Some(12), None)),
+    (Items::Choice, b"1x", (Err(NO_HOUR), 4, Some(7), None)),
+    (Items::Choice, b"12:34", (Ok(b""), 5, Some(12), Some(34))),
+    (Items::Option, b"x", (Ok(b"x"), 2, Some(7), None)),
+    (Items::Colon, b"x", (Err(NO_COLON), 1, Some(7), None)),
+];
+
 #[test]
-fn counted_options(rt: HostRuntime) {
-    let option = [BorrowedFormatItem::Optional(&MINUTE)];
-    let unread = (Ok(b"x".as_slice()), 2, Some(7), None);
-    assert!(rt; seen(b"x", &option) == unread);
-    let refused = (Err(ParseFromDescription::InvalidLiteral), 1, Some(7), None);
-    assert!(rt; seen(b"x", &[COLON]) == refused);
+fn counted(rt: HostRuntime) {
+    for (items, input, answer) in &SEEN {
+        assert!(rt; seen(input, items) == *answer, "{input:?}");
+    }
 }
 
 // The count goes on from call to call, and a call that doesn't count answers the same.

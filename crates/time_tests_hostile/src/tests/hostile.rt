@@ -1,7 +1,16 @@
 //! Texts, records and descriptions that somebody chose to do harm by.
+use super::parts::{self, Moment};
 use std::alloc::{AllocError, Global};
-use std::test::Fail;
-use time_values::{Date, Month, OffsetDateTime, Time, UtcOffset};
+use time_parsing::Parsable;
+use time_record::Parsed;
+use time_values::error::Parse;
+
+// The second of January 2021 at 03:04:05 and the nanosecond, in UTC.
+macro_rules! second_of_january {
+    ($nanosecond:expr) => {
+        ((2021, Month::January, 2), (3, 4, 5, $nanosecond), (0, 0, 0))
+    };
+}
 
 mod changed_bytes;
 mod comments;
@@ -26,9 +35,8 @@ fn stretched(
     Ok(text)
 }
 
-// The second of January 2021 at 03:04:05 and the nanosecond, in UTC.
-fn second_of_january(nanosecond: u32) -> Result<OffsetDateTime, Fail> {
-    let date = Date::from_calendar_date(2021, Month::January, 2)?;
-    let time = Time::from_hms_nano(3, 4, 5, nanosecond)?;
-    Ok(OffsetDateTime::new_in_offset(date, time, UtcOffset::UTC))
+// The text has this answer, without defaults and over an empty record.
+fn is_answered<F: Parsable>(format: &F, text: &[u8], answer: Result<Moment, Parse>) -> bool {
+    parts::moment(format, text, None) == answer
+        && parts::moment(format, text, Some(Parsed::new())) == answer
 }

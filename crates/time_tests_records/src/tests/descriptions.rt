@@ -1,4 +1,5 @@
 //! Components and descriptions, read into a record.
+use kinds::{Cased, Indexed, Kind, Padded, Signed, Timestamp, component};
 use std::alloc::Global;
 use std::num::NonZero;
 use time_readers::{
@@ -11,67 +12,31 @@ use time_values::error::ParseFromDescription;
 
 macro_rules! padded {
     ($name:ident, $padding:ident) => {
-        Component::$name(modifier::$name {
-            padding: Padding::$padding,
-        })
+        Kind::Padded(Padded::$name, Padding::$padding)
     };
 }
 
 macro_rules! signed {
     ($name:ident, $padding:ident) => {
-        Component::$name(modifier::$name {
-            padding: Padding::$padding,
-            sign_is_mandatory: false,
-        })
+        Kind::Signed(Signed::$name, Padding::$padding)
     };
 }
 
 macro_rules! timestamp {
     ($name:ident) => {
-        Component::$name(modifier::$name {
-            sign_is_mandatory: false,
-        })
+        Kind::Timestamp(Timestamp::$name)
     };
 }
 
 macro_rules! cased {
     ($name:ident, $case_sensitive:expr) => {
-        Component::$name(modifier::$name {
-            case_sensitive: $case_sensitive,
-        })
+        Kind::Cased(Cased::$name, $case_sensitive)
     };
 }
 
 macro_rules! indexed {
     ($name:ident, $one_indexed:expr) => {
-        Component::$name(modifier::$name {
-            one_indexed: $one_indexed,
-        })
-    };
-}
-
-macro_rules! period {
-    ($is_uppercase:expr, $case_sensitive:expr) => {
-        Component::Period(modifier::Period {
-            is_uppercase: $is_uppercase,
-            case_sensitive: $case_sensitive,
-        })
-    };
-}
-
-macro_rules! subsecond {
-    ($digits:ident) => {
-        Component::Subsecond(modifier::Subsecond {
-            digits: SubsecondDigits::$digits,
-        })
-    };
-}
-
-macro_rules! end {
-    ($trailing_input:ident) => {
-        Component::End(modifier::End {
-            trailing_input: TrailingInput::$trailing_input,
-        })
+        Kind::Indexed(Indexed::$name, $one_indexed)
     };
 }
 
@@ -105,6 +70,7 @@ macro_rules! refused {
 }
 
 mod ends;
+mod kinds;
 mod version_3;
 mod wide_years;
 
@@ -134,9 +100,13 @@ struct Seen {
     after: Held,
 }
 
-const HOUR: Component = padded!(Hour24, Zero);
+const HOUR: Component = Component::Hour24(modifier::Hour24 {
+    padding: Padding::Zero,
+});
 
-const MINUTE: Component = padded!(Minute, Zero);
+const MINUTE: Component = Component::Minute(modifier::Minute {
+    padding: Padding::Zero,
+});
 
 const NO_IGNORED: ParseFromDescription = ParseFromDescription::InvalidComponent("ignore");
 
@@ -184,18 +154,18 @@ fn sees(component: Component, text: &str, seen: &Seen) -> bool {
         && item_sees(&OwnedFormatItem::Component(component), text, seen)
 }
 
-// A component, a text, and what it makes of that.
-type Row = (Component, &'static str, Seen);
+// A kind of component, a text, and what it makes of that.
+type Row = (Kind, &'static str, Seen);
 
-const COMPONENTS: [Row; 46] = [
+static COMPONENTS: [Row; 46] = [
     (signed!(CalendarYearFullExtendedRange, Zero), "20215", read!(b"5", Held::Numbers(&[(Field::Year, 2021)]))),
     (cased!(MonthShort, false), "Septembre", read!(b"tembre", Held::Numbers(&[(Field::Month, 9)]))),
     (timestamp!(UnixTimestampSecond), "000000000000001", read!(b"1", Held::Numbers(&[(Field::UnixTimestampNanos, 0)]))),
-    (subsecond!(OneOrMore), "111111111111111111111111111111111", read!(b"1", Held::Numbers(&[(Field::Subsecond, 111_111_111)]))),
+    (Kind::Subsecond(SubsecondDigits::OneOrMore), "111111111111111111111111111111111", read!(b"1", Held::Numbers(&[(Field::Subsecond, 111_111_111)]))),
     (signed!(CalendarYearCenturyStandardRange, Zero), "5x", read!(b"x", Held::Century(5, false))),
-    (end!(Prohibit), "", read!(b"", Held::Numbers(NOTHING))),
-    (end!(Discard), "x", read!(b"", Held::Numbers(NOTHING))),
-    (end!(Prohibit), "x", refused!(ParseFromDescription::UnexpectedTrailingCharacters)),
+    (Kind::End(TrailingInput::Prohibit), "", read!(b"", Held::Numbers(NOTHING))),
+    (Kind::End(TrailingInput::Discard), "x", read!(b"", Held::Numbers(NOTHING))),
+    (Kind::End(TrailingInput::Prohibit), "x", refused!(ParseFromDescription::UnexpectedTrailingCharacters)),
 (padded!(Day, Zero), "00", refused!(ParseFromDescription::InvalidComponent("day"))),
 (padded!(Day, Zero), "32", refused!(ParseFromDescription::InvalidComponent("day"))),
 (cased!(MonthLong, false), "Septembre", refused!(ParseFromDescription::InvalidComponent("month"))),
@@ -222,11 +192,11 @@ const COMPONENTS: [Row; 46] = [
 (padded!(IsoYearLastTwo, Zero), "1", refused!(ParseFromDescription::InvalidComponent("year"))),
 (padded!(Hour12, Zero), "00", refused!(ParseFromDescription::InvalidComponent("hour"))),
 (padded!(Hour12, Zero), "13", refused!(ParseFromDescription::InvalidComponent("hour"))),
-(HOUR, "24", refused!(ParseFromDescription::InvalidComponent("hour"))),
-(MINUTE, "60", refused!(ParseFromDescription::InvalidComponent("minute"))),
+(padded!(Hour24, Zero), "24", refused!(ParseFromDescription::InvalidComponent("hour"))),
+(padded!(Minute, Zero), "60", refused!(ParseFromDescription::InvalidComponent("minute"))),
 (padded!(Second, Zero), "61", refused!(ParseFromDescription::InvalidComponent("second"))),
-(period!(false, true), "AM", refused!(ParseFromDescription::InvalidComponent("period"))),
-(subsecond!(Nine), "/23456789", refused!(ParseFromDescription::InvalidComponent("subsecond"))),
+(Kind::Period(false, true), "AM", refused!(ParseFromDescription::InvalidComponent("period"))),
+(Kind::Subsecond(SubsecondDigits::Nine), "/23456789", refused!(ParseFromDescription::InvalidComponent("subsecond"))),
 (signed!(OffsetHour, Zero), "+26", refused!(ParseFromDescription::InvalidComponent("offset hour"))),
 (padded!(OffsetMinute, Zero), "60", refused!(ParseFromDescription::InvalidComponent("offset minute"))),
 (padded!(OffsetSecond, Zero), "60", refused!(ParseFromDescription::InvalidComponent("offset second"))),
@@ -238,8 +208,8 @@ const COMPONENTS: [Row; 46] = [
 
 #[test]
 fn components(rt: HostRuntime) {
-    for (component, text, seen) in &COMPONENTS {
-        assert!(rt; sees(*component, text, seen), "{text}");
+    for (kind, text, seen) in &COMPONENTS {
+        assert!(rt; sees(component(kind), text, seen), "{text}");
     }
 }
 

@@ -1,5 +1,5 @@
 //! Descriptions with many alternatives, and with many options in one another.
-use std::test::Fail;
+use std::alloc::{AllocError, Global};
 use time_readers::{BorrowedFormatItem, Component, OwnedFormatItem, Padding, modifier};
 use time_record::{AnyFormatItem, Parsed, Tries};
 use time_values::error::ParseFromDescription;
@@ -15,18 +15,29 @@ fn counted<'a, I: AnyFormatItem>(
 }
 
 #[test]
-fn hostile_trees(rt: HostRuntime) -> Result<(), Fail> {
+fn hostile_trees(rt: HostRuntime) {
     let literals = [BorrowedFormatItem::StringLiteral("a"); 1000];
-    let (answer, tries) = counted(&BorrowedFormatItem::First(&literals), b"b");
-    assert!(rt; answer == Err(ParseFromDescription::InvalidLiteral));
-    assert_eq!(rt; tries, 1001);
+    let refused = (Err(ParseFromDescription::InvalidLiteral), 1001);
+    assert!(rt; counted(&BorrowedFormatItem::First(&literals), b"b") == refused);
+}
+
+// A minute within so many options in one another.
+fn nested(alloc: Global, levels: usize) -> Result<OwnedFormatItem, AllocError> {
     let padding = Padding::Zero;
     let mut item = OwnedFormatItem::Component(Component::Minute(modifier::Minute { padding }));
-    for _ in 0..200 {
-        item = OwnedFormatItem::Optional(Box::new(rt.alloc(), item)?);
+    for _ in 0..levels {
+        item = OwnedFormatItem::Optional(Box::new(alloc, item)?);
     }
-    let (answer, tries) = counted(&item, b"x");
-    assert!(rt; answer == Ok(b"x".as_slice()));
-    assert_eq!(rt; tries, 201);
-    Ok(())
+    Ok(item)
+}
+
+// Nested options leave an `x` unread, after so many tries.
+fn leaves_an_x(alloc: Global, levels: usize, tries: u64) -> Result<bool, AllocError> {
+    let item = nested(alloc, levels)?;
+    Ok(counted(&item, b"x") == (Ok(b"x".as_slice()), tries))
+}
+
+#[test]
+fn hostile_trees_of_options(rt: HostRuntime) {
+    assert!(rt; leaves_an_x(rt.alloc(), 200, 201) == Ok(true));
 }

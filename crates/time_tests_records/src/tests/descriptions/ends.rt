@@ -1,5 +1,6 @@
 //! Each component at the first and the last value of its range, and under each padding.
-use super::{HOUR, Held, MINUTE, NOTHING, Row, Seen, sees};
+use super::kinds::{Cased, Indexed, Kind, Padded, Signed, Timestamp, component};
+use super::{Held, NOTHING, Row, Seen, sees};
 use time_readers::{
     BorrowedFormatItem, Component, OwnedFormatItem, Padding, SubsecondDigits, modifier,
 };
@@ -18,7 +19,7 @@ macro_rules! iso_century {
     };
 }
 
-const ENDS: [Row; 131] = [
+static ENDS: [Row; 131] = [
     // Days and months.
     (padded!(Day, Zero), "01", number!(Day, 1)),
     (padded!(Day, Zero), "31", number!(Day, 31)),
@@ -97,26 +98,26 @@ const ENDS: [Row; 131] = [
     (padded!(Hour12, Zero), "12", number!(Hour12, 12)),
     (padded!(Hour12, Space), " 1", number!(Hour12, 1)),
     (padded!(Hour12, None), "1", number!(Hour12, 1)),
-    (HOUR, "00", number!(Hour24, 0)),
-    (HOUR, "23", number!(Hour24, 23)),
+    (padded!(Hour24, Zero), "00", number!(Hour24, 0)),
+    (padded!(Hour24, Zero), "23", number!(Hour24, 23)),
     (padded!(Hour24, Space), " 0", number!(Hour24, 0)),
     (padded!(Hour24, None), "0", number!(Hour24, 0)),
-    (MINUTE, "00", number!(Minute, 0)),
-    (MINUTE, "59", number!(Minute, 59)),
+    (padded!(Minute, Zero), "00", number!(Minute, 0)),
+    (padded!(Minute, Zero), "59", number!(Minute, 59)),
     (padded!(Minute, Space), " 0", number!(Minute, 0)),
     (padded!(Minute, None), "0", number!(Minute, 0)),
     (padded!(Second, Zero), "00", number!(Second, 0)),
     (padded!(Second, Zero), "60", number!(Second, 60)),
     (padded!(Second, Space), " 0", number!(Second, 0)),
     (padded!(Second, None), "0", number!(Second, 0)),
-    (period!(true, true), "AM", number!(Hour12IsPm, 0)),
-    (period!(true, true), "PM", number!(Hour12IsPm, 1)),
-    (period!(false, true), "pm", number!(Hour12IsPm, 1)),
-    (period!(true, false), "aM", number!(Hour12IsPm, 0)),
-    (subsecond!(One), "5", number!(Subsecond, 500_000_000)),
-    (subsecond!(Nine), "000000000", number!(Subsecond, 0)),
-    (subsecond!(Nine), "999999999", number!(Subsecond, 999_999_999)),
-    (subsecond!(OneOrMore), "1234567899", number!(Subsecond, 123_456_789)),
+    (Kind::Period(true, true), "AM", number!(Hour12IsPm, 0)),
+    (Kind::Period(true, true), "PM", number!(Hour12IsPm, 1)),
+    (Kind::Period(false, true), "pm", number!(Hour12IsPm, 1)),
+    (Kind::Period(true, false), "aM", number!(Hour12IsPm, 0)),
+    (Kind::Subsecond(SubsecondDigits::One), "5", number!(Subsecond, 500_000_000)),
+    (Kind::Subsecond(SubsecondDigits::Nine), "000000000", number!(Subsecond, 0)),
+    (Kind::Subsecond(SubsecondDigits::Nine), "999999999", number!(Subsecond, 999_999_999)),
+    (Kind::Subsecond(SubsecondDigits::OneOrMore), "1234567899", number!(Subsecond, 123_456_789)),
     // Offsets.
     (signed!(OffsetHour, Zero), "-25", number!(OffsetHour, -25)),
     (signed!(OffsetHour, Zero), "+25", number!(OffsetHour, 25)),
@@ -163,14 +164,19 @@ const ENDS: [Row; 131] = [
 
 #[test]
 fn components_at_the_ends(rt: HostRuntime) {
-    for (component, text, seen) in &ENDS {
-        assert!(rt; sees(*component, text, seen), "{text}");
+    for (kind, text, seen) in &ENDS {
+        assert!(rt; sees(component(kind), text, seen), "{text}");
     }
 }
 
-const OFFSET_HOUR: Component = signed!(OffsetHour, Zero);
+const OFFSET_HOUR: Component = Component::OffsetHour(modifier::OffsetHour {
+    padding: Padding::Zero,
+    sign_is_mandatory: false,
+});
 
-const OFFSET_MINUTE: Component = padded!(OffsetMinute, Zero);
+const OFFSET_MINUTE: Component = Component::OffsetMinute(modifier::OffsetMinute {
+    padding: Padding::Zero,
+});
 
 // A minute without a sign takes the sign of the hour before it.
 fn reads_half_an_hour_west<I: AnyFormatItem>(items: &[I]) -> bool {

@@ -1,14 +1,13 @@
 //! Years of more than four digits.
+use super::kinds::{Kind, Signed, Timestamp, component};
 use super::{Held, NOTHING, Row, Seen, item_sees, sees};
 use time_readers::{BorrowedFormatItem, Component, Padding, modifier};
 use time_record::Parsed;
 use time_tests_fields::Field;
 
-const YEAR: Component = signed!(CalendarYearFullExtendedRange, Zero);
-
-const COMPONENTS: [Row; 12] = [
-    (YEAR, "+012345", number!(Year, 12_345)),
-    (YEAR, "-999999", number!(Year, -999_999)),
+static COMPONENTS: [Row; 12] = [
+    (signed!(CalendarYearFullExtendedRange, Zero), "+012345", number!(Year, 12_345)),
+    (signed!(CalendarYearFullExtendedRange, Zero), "-999999", number!(Year, -999_999)),
     (
         signed!(IsoYearFullExtendedRange, Zero),
         "-010000",
@@ -63,15 +62,20 @@ const COMPONENTS: [Row; 12] = [
 
 #[test]
 fn wide_years(rt: HostRuntime) {
-    for (component, text, seen) in &COMPONENTS {
-        assert!(rt; sees(*component, text, seen), "{text}");
+    for (kind, text, seen) in &COMPONENTS {
+        assert!(rt; sees(component(kind), text, seen), "{text}");
     }
     let built = Parsed::new().with_unix_timestamp_nanos(253_402_300_800_000_000_000);
     assert!(rt; built.is_some());
 }
 
 const CHOICE: [BorrowedFormatItem<'static>; 2] = [
-    BorrowedFormatItem::Component(YEAR),
+    BorrowedFormatItem::Component(Component::CalendarYearFullExtendedRange(
+        modifier::CalendarYearFullExtendedRange {
+            padding: Padding::Zero,
+            sign_is_mandatory: false,
+        },
+    )),
     BorrowedFormatItem::StringLiteral("+012345"),
 ];
 

@@ -51,10 +51,10 @@ macro_rules! read {
     };
 }
 
-// A text is read to its end as this number.
+// The record holds this number alone.
 macro_rules! number {
     ($field:ident, $number:expr) => {
-        read!(b"", Held::Numbers(&[(Field::$field, $number)]))
+        Held::Number(Field::$field, $number)
     };
 }
 
@@ -80,12 +80,15 @@ const NOTHING: Numbers = &[];
 
 const MARCH_AT_NOON: Numbers = &[(Field::Month, 3), (Field::Hour24, 12)];
 
-const NOON: Held = Held::Numbers(&[(Field::Hour24, 12)]);
+const NOON: Held = Held::Number(Field::Hour24, 12);
 
 const HALF_PAST: Held = Held::Numbers(&[(Field::Hour24, 12), (Field::Minute, 30)]);
 
 // The options that a record holds.
+#[derive(Clone, Copy)]
 enum Held {
+    Nothing,
+    Number(Field, i128),
     Numbers(Numbers),
     // A calendar century, and whether it is negative.
     Century(i16, bool),
@@ -94,6 +97,7 @@ enum Held {
 }
 
 // What a text makes of a record.
+#[derive(Drop)]
 struct Seen {
     before: Numbers,
     answer: Result<&'static [u8], ParseFromDescription>,
@@ -118,6 +122,8 @@ const NO_LITERAL: ParseFromDescription = ParseFromDescription::InvalidLiteral;
 
 fn record(held: &Held) -> Option<Parsed> {
     match held {
+        Held::Nothing => Some(Parsed::new()),
+        Held::Number(field, number) => record_of(&[(*field, *number)]),
         Held::Numbers(numbers) => record_of(numbers),
         Held::Century(century, is_negative) => Parsed::new()
             .with_year_century(*century, *is_negative),
@@ -155,55 +161,15 @@ fn sees(component: Component, text: &str, seen: &Seen) -> bool {
 }
 
 // A kind of component, a text, and what it makes of that.
-type Row = (Kind, &'static str, Seen);
-
-static COMPONENTS: [Row; 46] = [
-    (signed!(CalendarYearFullExtendedRange, Zero), "20215", read!(b"5", Held::Numbers(&[(Field::Year, 2021)]))),
-    (cased!(MonthShort, false), "Septembre", read!(b"tembre", Held::Numbers(&[(Field::Month, 9)]))),
-    (timestamp!(UnixTimestampSecond), "000000000000001", read!(b"1", Held::Numbers(&[(Field::UnixTimestampNanos, 0)]))),
-    (Kind::Subsecond(SubsecondDigits::OneOrMore), "111111111111111111111111111111111", read!(b"1", Held::Numbers(&[(Field::Subsecond, 111_111_111)]))),
+static COMPONENTS: [(Kind, &str, Seen); 8] = [
+    (signed!(CalendarYearFullExtendedRange, Zero), "20215", read!(b"5", number!(Year, 2021))),
+    (cased!(MonthShort, false), "Septembre", read!(b"tembre", number!(Month, 9))),
+    (timestamp!(UnixTimestampSecond), "000000000000001", read!(b"1", number!(UnixTimestampNanos, 0))),
+    (Kind::Subsecond(SubsecondDigits::OneOrMore), "111111111111111111111111111111111", read!(b"1", number!(Subsecond, 111_111_111))),
     (signed!(CalendarYearCenturyStandardRange, Zero), "5x", read!(b"x", Held::Century(5, false))),
-    (Kind::End(TrailingInput::Prohibit), "", read!(b"", Held::Numbers(NOTHING))),
-    (Kind::End(TrailingInput::Discard), "x", read!(b"", Held::Numbers(NOTHING))),
+    (Kind::End(TrailingInput::Prohibit), "", read!(b"", Held::Nothing)),
+    (Kind::End(TrailingInput::Discard), "x", read!(b"", Held::Nothing)),
     (Kind::End(TrailingInput::Prohibit), "x", refused!(ParseFromDescription::UnexpectedTrailingCharacters)),
-(padded!(Day, Zero), "00", refused!(ParseFromDescription::InvalidComponent("day"))),
-(padded!(Day, Zero), "32", refused!(ParseFromDescription::InvalidComponent("day"))),
-(cased!(MonthLong, false), "Septembre", refused!(ParseFromDescription::InvalidComponent("month"))),
-(cased!(MonthShort, true), "JAN", refused!(ParseFromDescription::InvalidComponent("month"))),
-(padded!(MonthNumerical, Zero), "13", refused!(ParseFromDescription::InvalidComponent("month"))),
-(padded!(Ordinal, Zero), "367", refused!(ParseFromDescription::InvalidComponent("ordinal"))),
-(cased!(WeekdayShort, true), "mon", refused!(ParseFromDescription::InvalidComponent("weekday"))),
-(cased!(WeekdayLong, false), "Mondax", refused!(ParseFromDescription::InvalidComponent("weekday"))),
-(indexed!(WeekdaySunday, true), "0", refused!(ParseFromDescription::InvalidComponent("weekday"))),
-(indexed!(WeekdaySunday, true), "8", refused!(ParseFromDescription::InvalidComponent("weekday"))),
-(indexed!(WeekdayMonday, false), "7", refused!(ParseFromDescription::InvalidComponent("weekday"))),
-(padded!(WeekNumberIso, Zero), "00", refused!(ParseFromDescription::InvalidComponent("week number"))),
-(padded!(WeekNumberSunday, Zero), "54", refused!(ParseFromDescription::InvalidComponent("week number"))),
-(padded!(WeekNumberMonday, Zero), "54", refused!(ParseFromDescription::InvalidComponent("week number"))),
-(signed!(CalendarYearFullExtendedRange, Zero), "+202", refused!(ParseFromDescription::InvalidComponent("year"))),
-(signed!(CalendarYearFullStandardRange, Zero), "202", refused!(ParseFromDescription::InvalidComponent("year"))),
-(signed!(IsoYearFullExtendedRange, Zero), "-010", refused!(ParseFromDescription::InvalidComponent("year"))),
-(signed!(IsoYearFullStandardRange, Zero), "+202", refused!(ParseFromDescription::InvalidComponent("year"))),
-(signed!(CalendarYearCenturyStandardRange, Zero), "+5x", refused!(ParseFromDescription::InvalidComponent("year"))),
-(signed!(CalendarYearCenturyExtendedRange, Zero), "+1", refused!(ParseFromDescription::InvalidComponent("year"))),
-(signed!(IsoYearCenturyExtendedRange, Zero), "-1", refused!(ParseFromDescription::InvalidComponent("year"))),
-(signed!(IsoYearCenturyStandardRange, Zero), "x", refused!(ParseFromDescription::InvalidComponent("year"))),
-(padded!(CalendarYearLastTwo, Zero), "1", refused!(ParseFromDescription::InvalidComponent("year"))),
-(padded!(IsoYearLastTwo, Zero), "1", refused!(ParseFromDescription::InvalidComponent("year"))),
-(padded!(Hour12, Zero), "00", refused!(ParseFromDescription::InvalidComponent("hour"))),
-(padded!(Hour12, Zero), "13", refused!(ParseFromDescription::InvalidComponent("hour"))),
-(padded!(Hour24, Zero), "24", refused!(ParseFromDescription::InvalidComponent("hour"))),
-(padded!(Minute, Zero), "60", refused!(ParseFromDescription::InvalidComponent("minute"))),
-(padded!(Second, Zero), "61", refused!(ParseFromDescription::InvalidComponent("second"))),
-(Kind::Period(false, true), "AM", refused!(ParseFromDescription::InvalidComponent("period"))),
-(Kind::Subsecond(SubsecondDigits::Nine), "/23456789", refused!(ParseFromDescription::InvalidComponent("subsecond"))),
-(signed!(OffsetHour, Zero), "+26", refused!(ParseFromDescription::InvalidComponent("offset hour"))),
-(padded!(OffsetMinute, Zero), "60", refused!(ParseFromDescription::InvalidComponent("offset minute"))),
-(padded!(OffsetSecond, Zero), "60", refused!(ParseFromDescription::InvalidComponent("offset second"))),
-(timestamp!(UnixTimestampSecond), "31494784780800", refused!(ParseFromDescription::InvalidComponent("unix_timestamp"))),
-(timestamp!(UnixTimestampMillisecond), "31494784780800000", refused!(ParseFromDescription::InvalidComponent("unix_timestamp"))),
-(timestamp!(UnixTimestampMicrosecond), "31494784780800000000", refused!(ParseFromDescription::InvalidComponent("unix_timestamp"))),
-(timestamp!(UnixTimestampNanosecond), "31494784780800000000000", refused!(ParseFromDescription::InvalidComponent("unix_timestamp")))
 ];
 
 #[test]
@@ -211,6 +177,67 @@ fn components(rt: HostRuntime) {
     for (kind, text, seen) in &COMPONENTS {
         assert!(rt; sees(component(kind), text, seen), "{text}");
     }
+}
+
+// A kind of component, a text that it refuses, and the name by which it does.
+static REFUSED: [(Kind, &str, &str); 38] = [
+    (padded!(Day, Zero), "00", "day"),
+    (padded!(Day, Zero), "32", "day"),
+    (cased!(MonthLong, false), "Septembre", "month"),
+    (cased!(MonthShort, true), "JAN", "month"),
+    (padded!(MonthNumerical, Zero), "13", "month"),
+    (padded!(Ordinal, Zero), "367", "ordinal"),
+    (cased!(WeekdayShort, true), "mon", "weekday"),
+    (cased!(WeekdayLong, false), "Mondax", "weekday"),
+    (indexed!(WeekdaySunday, true), "0", "weekday"),
+    (indexed!(WeekdaySunday, true), "8", "weekday"),
+    (indexed!(WeekdayMonday, false), "7", "weekday"),
+    (padded!(WeekNumberIso, Zero), "00", "week number"),
+    (padded!(WeekNumberSunday, Zero), "54", "week number"),
+    (padded!(WeekNumberMonday, Zero), "54", "week number"),
+    (signed!(CalendarYearFullExtendedRange, Zero), "+202", "year"),
+    (signed!(CalendarYearFullStandardRange, Zero), "202", "year"),
+    (signed!(IsoYearFullExtendedRange, Zero), "-010", "year"),
+    (signed!(IsoYearFullStandardRange, Zero), "+202", "year"),
+    (signed!(CalendarYearCenturyStandardRange, Zero), "+5x", "year"),
+    (signed!(CalendarYearCenturyExtendedRange, Zero), "+1", "year"),
+    (signed!(IsoYearCenturyExtendedRange, Zero), "-1", "year"),
+    (signed!(IsoYearCenturyStandardRange, Zero), "x", "year"),
+    (padded!(CalendarYearLastTwo, Zero), "1", "year"),
+    (padded!(IsoYearLastTwo, Zero), "1", "year"),
+    (padded!(Hour12, Zero), "00", "hour"),
+    (padded!(Hour12, Zero), "13", "hour"),
+    (padded!(Hour24, Zero), "24", "hour"),
+    (padded!(Minute, Zero), "60", "minute"),
+    (padded!(Second, Zero), "61", "second"),
+    (Kind::Period(false, true), "AM", "period"),
+    (Kind::Subsecond(SubsecondDigits::Nine), "/23456789", "subsecond"),
+    (signed!(OffsetHour, Zero), "+26", "offset hour"),
+    (padded!(OffsetMinute, Zero), "60", "offset minute"),
+    (padded!(OffsetSecond, Zero), "60", "offset second"),
+    (timestamp!(UnixTimestampSecond), "31494784780800", "unix_timestamp"),
+    (timestamp!(UnixTimestampMillisecond), "31494784780800000", "unix_timestamp"),
+    (timestamp!(UnixTimestampMicrosecond), "31494784780800000000", "unix_timestamp"),
+    (timestamp!(UnixTimestampNanosecond), "31494784780800000000000", "unix_timestamp"),
+];
+
+fn refuses(kind: &Kind, text: &str, name: &'static str) -> bool {
+    let seen = refused!(ParseFromDescription::InvalidComponent(name));
+    sees(component(kind), text, &seen)
+}
+
+#[test]
+fn components_refused(rt: HostRuntime) {
+    for (kind, text, name) in &REFUSED {
+        assert!(rt; refuses(kind, text, name), "{text}");
+    }
+}
+
+// A kind of component, a text that it reads to its end, and what the record then holds.
+type Row = (Kind, &'static str, Held);
+
+fn reads(kind: &Kind, text: &str, held: Held) -> bool {
+    sees(component(kind), text, &read!(b"", held))
 }
 
 fn ignore(count: u16) -> Option<Component> {
@@ -227,8 +254,8 @@ fn skipped_sees(count: u16, text: &str, seen: &Seen) -> bool {
 }
 
 static SKIPPED: [(u16, &str, Seen); 3] = [
-    (1, "xy", read!(b"y", Held::Numbers(NOTHING))),
-    (1, "\u{E9}", read!(b"\xA9", Held::Numbers(NOTHING))),
+    (1, "xy", read!(b"y", Held::Nothing)),
+    (1, "\u{E9}", read!(b"\xA9", Held::Nothing)),
     (3, "ab", refused!(NO_IGNORED)),
 ];
 
@@ -286,12 +313,12 @@ fn borrowed_sees(tree: &Tree, text: &str, seen: &Seen) -> bool {
 }
 
 static BORROWED: [(Tree, &str, Seen); 8] = [
-    (Tree::Part, "12:x", read!(b"12:x", Held::Numbers(NOTHING))),
+    (Tree::Part, "12:x", read!(b"12:x", Held::Nothing)),
     (Tree::Part, "12:30x", read!(b"x", HALF_PAST)),
     (Tree::Either, "12:30x", read!(b"x", HALF_PAST)),
     (Tree::Either, "12x", read!(b"x", NOON)),
     (Tree::Either, "1x", refused!(NO_HOUR)),
-    (Tree::Nothing, "x", read!(b"x", Held::Numbers(NOTHING))),
+    (Tree::Nothing, "x", read!(b"x", Held::Nothing)),
     (Tree::Others, "y", refused!(NO_MINUTE)),
     (Tree::OthersInTurn, "05y", refused!(NO_LITERAL)),
 ];
@@ -352,12 +379,12 @@ fn owned_sees(alloc: Global, tree: &Tree, text: &str, seen: &Seen) -> bool {
 }
 
 static OWNED: [(Tree, &str, Seen); 8] = [
-    (Tree::Part, "12:x", read!(b"12:x", Held::Numbers(NOTHING))),
+    (Tree::Part, "12:x", read!(b"12:x", Held::Nothing)),
     (Tree::Part, "12:30x", read!(b"x", HALF_PAST)),
     (Tree::Either, "12:30x", read!(b"x", HALF_PAST)),
     (Tree::Either, "12x", read!(b"x", NOON)),
     (Tree::Either, "1x", refused!(NO_HOUR)),
-    (Tree::Nothing, "x", read!(b"x", Held::Numbers(NOTHING))),
+    (Tree::Nothing, "x", read!(b"x", Held::Nothing)),
     (Tree::Clock, "12x", refused!(NO_LITERAL)),
     (Tree::Others, "y", refused!(NO_MINUTE)),
 ];

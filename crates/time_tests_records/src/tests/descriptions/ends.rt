@@ -1,6 +1,6 @@
 //! Each component at the first and the last value of its range, and under each padding.
-use super::kinds::{Cased, Indexed, Kind, Padded, Signed, Timestamp, component};
-use super::{Held, NOTHING, Row, Seen, sees};
+use super::kinds::{Cased, Indexed, Kind, Padded, Signed, Timestamp};
+use super::{Held, Row, reads};
 use time_readers::{
     BorrowedFormatItem, Component, OwnedFormatItem, Padding, SubsecondDigits, modifier,
 };
@@ -9,13 +9,13 @@ use time_tests_fields::Field;
 
 macro_rules! century {
     ($century:expr, $is_negative:expr) => {
-        read!(b"", Held::Century($century, $is_negative))
+        Held::Century($century, $is_negative)
     };
 }
 
 macro_rules! iso_century {
     ($century:expr, $is_negative:expr) => {
-        read!(b"", Held::IsoCentury($century, $is_negative))
+        Held::IsoCentury($century, $is_negative)
     };
 }
 
@@ -164,8 +164,8 @@ static ENDS: [Row; 131] = [
 
 #[test]
 fn components_at_the_ends(rt: HostRuntime) {
-    for (kind, text, seen) in &ENDS {
-        assert!(rt; sees(component(kind), text, seen), "{text}");
+    for (kind, text, held) in &ENDS {
+        assert!(rt; reads(kind, text, *held), "{text}");
     }
 }
 

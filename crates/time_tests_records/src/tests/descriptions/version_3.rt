@@ -70,17 +70,17 @@ fn tree_sees(alloc: Global, tree: &Tree, text: &str, seen: &Seen) -> bool {
 static TREES: [(Tree, &str, Seen); 13] = [
     (Tree::Skipped, "\u{E9}", refused!(NO_IGNORED)),
     (Tree::Skipped, "", refused!(NO_IGNORED)),
-    (Tree::Skipped, "xy", read!(b"y", Held::Numbers(NOTHING))),
-    (Tree::Skipped, "x\u{E9}", read!(b"\xC3\xA9", Held::Numbers(NOTHING))),
+    (Tree::Skipped, "xy", read!(b"y", Held::Nothing)),
+    (Tree::Skipped, "x\u{E9}", read!(b"\xC3\xA9", Held::Nothing)),
     (Tree::Clock, "12:30x", read!(b"x", HALF_PAST)),
     (Tree::Clock, "12x", refused!(NO_LITERAL)),
-    (Tree::Part, "12:x", read!(b"12:x", Held::Numbers(NOTHING))),
+    (Tree::Part, "12:x", read!(b"12:x", Held::Nothing)),
     (Tree::PartAndHour, "12:3012", read!(b"", HALF_PAST)),
     (Tree::PartAndHour, "12", read!(b"", NOON)),
     (Tree::Either, "12:30x", read!(b"x", HALF_PAST)),
     (Tree::Either, "12x", read!(b"x", NOON)),
     (Tree::Either, "1x", refused!(NO_HOUR)),
-    (Tree::Nothing, "x", read!(b"x", Held::Numbers(NOTHING))),
+    (Tree::Nothing, "x", read!(b"x", Held::Nothing)),
 ];
 
 #[test]

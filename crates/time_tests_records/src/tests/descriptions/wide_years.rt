@@ -1,6 +1,6 @@
 //! Years of more than four digits.
-use super::kinds::{Kind, Signed, Timestamp, component};
-use super::{Held, NOTHING, Row, Seen, item_sees, sees};
+use super::kinds::{Kind, Signed, Timestamp};
+use super::{Held, NOTHING, Row, Seen, item_sees, reads};
 use time_readers::{BorrowedFormatItem, Component, Padding, modifier};
 use time_record::Parsed;
 use time_tests_fields::Field;
@@ -62,8 +62,8 @@ static COMPONENTS: [Row; 12] = [
 
 #[test]
 fn wide_years(rt: HostRuntime) {
-    for (kind, text, seen) in &COMPONENTS {
-        assert!(rt; sees(component(kind), text, seen), "{text}");
+    for (kind, text, held) in &COMPONENTS {
+        assert!(rt; reads(kind, text, *held), "{text}");
     }
     let built = Parsed::new().with_unix_timestamp_nanos(253_402_300_800_000_000_000);
     assert!(rt; built.is_some());
@@ -79,7 +79,7 @@ const CHOICE: [BorrowedFormatItem<'static>; 2] = [
     BorrowedFormatItem::StringLiteral("+012345"),
 ];
 
-static IN_A_CHOICE: Seen = number!(Year, 12_345);
+static IN_A_CHOICE: Seen = read!(b"", number!(Year, 12_345));
 
 // A choice takes a year of five digits for the year, and not for the text behind it.
 #[test]

@@ -1,11 +1,16 @@
 mod answers;
 mod described;
+mod formats;
 mod front_moments;
 mod fronts;
 mod iso_fronts;
 mod iso_texts;
+mod long_texts;
+mod mail_blanks;
 mod mail_dates;
 mod mail_fronts;
+mod records;
+mod refusals;
 mod short_cuts;
 mod slow_stamps;
 mod two_paths;

@@ -1,24 +1,15 @@
 //! Texts of RFC 3339 and RFC 2822, and what each says directly and over an empty record.
 use self::Answer::{Moment, Refused};
-use self::Format::{Mail, Stamp};
-use time_parsing::{Parsable, Rfc2822, Rfc3339};
+use super::formats::Format::{self, Mail, Stamp};
+use super::formats::{Numbers, Part, numbers, said};
+use super::refusals::{
+    DAY, HOUR, LITERAL, MINUTE, MONTH, NO_DAY, NO_HOUR, NO_HOURS, NO_LEAP_SECOND, NO_MINUTE,
+    NO_MINUTES, NO_MONTH, NO_SECOND, OFFSET_HOUR, OFFSET_MINUTE, SECOND, TRAILING, YEAR,
+};
 use time_readers::direct;
 use time_record::Parsed;
-use time_values::Month::{April, December, January};
-use time_values::error::{ComponentRange, Parse, ParseFromDescription, TryFromParsed};
-use time_values::{Month, OffsetDateTime};
-
-/// The format of a text.
-#[derive(Clone, Copy, PartialEq)]
-pub(super) enum Format {
-    /// RFC 3339.
-    Stamp,
-    /// RFC 2822.
-    Mail,
-}
-
-/// Year, month and day, then hour, minute, second and nanosecond, then the offset's hours, minutes and seconds.
-pub(super) type Numbers = ((i32, Month, u8), (u8, u8, u8, u32), (i8, i8, i8));
+use time_values::Month::{self, April, December, January};
+use time_values::error::Parse;
 
 /// What a text says.
 #[derive(Clone, Copy)]
@@ -27,16 +18,6 @@ pub(super) enum Answer {
     Moment((i32, Month, u8), (u8, u8, u8, u32), (i8, i8)),
     /// None: the refusal without a record, and the one over an empty record.
     Refused(Parse, Parse),
-}
-
-/// The numbers of a moment, or its refusal.
-pub(super) fn numbers(answer: Result<OffsetDateTime, Parse>) -> Result<Numbers, Parse> {
-    let moment = answer?;
-    Ok((
-        moment.to_calendar_date(),
-        moment.to_hms_nano(),
-        moment.offset().as_hms(),
-    ))
 }
 
 /// The answer without a record, and over an empty one.
@@ -50,81 +31,24 @@ pub(super) fn both_ways(answer: Answer) -> (Result<Numbers, Parse>, Result<Numbe
     }
 }
 
+// What the text says without a record.
+fn directly(format: Format, text: &[u8]) -> Result<Numbers, Parse> {
+    match format {
+        Stamp => Ok(numbers(direct::rfc3339(text)?)),
+        Mail => Ok(numbers(direct::rfc2822(text)?)),
+        // No other format has a path without a record.
+        _ => Err(LITERAL),
+    }
+}
+
 /// The text has this answer by the format without defaults, by the direct path, and over an empty record.
 pub(super) fn is_answered(format: Format, text: &[u8], wanted: Answer) -> bool {
-    let empty = Some(Parsed::new());
-    let [whole, direct, staged] = match format {
-        Stamp => [
-            Rfc3339.parse_offset_date_time(text, None),
-            direct::rfc3339(text),
-            Rfc3339.parse_offset_date_time(text, empty),
-        ],
-        Mail => [
-            Rfc2822.parse_offset_date_time(text, None),
-            direct::rfc2822(text),
-            Rfc2822.parse_offset_date_time(text, empty),
-        ],
-    };
     let (wanted, wanted_over_a_record) = both_ways(wanted);
-    numbers(whole) == wanted && numbers(direct) == wanted && numbers(staged) == wanted_over_a_record
+    let staged = said(format, Part::Moment, text, Some(Parsed::new()));
+    said(format, Part::Moment, text, None) == wanted
+        && directly(format, text) == wanted
+        && staged == wanted_over_a_record
 }
-
-// The refusal of a component that can't be read.
-macro_rules! unread {
-    ($name:literal) => {
-        Parse::ParseFromDescription(ParseFromDescription::InvalidComponent($name))
-    };
-}
-
-// The refusal of a component out of its range, which others narrow or not.
-macro_rules! out {
-    ($name:literal, $conditional:literal) => {
-        Parse::TryFromParsed(TryFromParsed::ComponentRange(ComponentRange {
-            name: $name,
-            conditional: $conditional,
-        }))
-    };
-}
-
-const LITERAL: Parse = Parse::ParseFromDescription(ParseFromDescription::InvalidLiteral);
-
-const TRAILING: Parse = Parse::ParseFromDescription(
-    ParseFromDescription::UnexpectedTrailingCharacters,
-);
-
-// What a place's text isn't.
-const YEAR: Parse = unread!("year");
-
-const MONTH: Parse = unread!("month");
-
-const DAY: Parse = unread!("day");
-
-const HOUR: Parse = unread!("hour");
-
-const MINUTE: Parse = unread!("minute");
-
-const SECOND: Parse = unread!("second");
-
-const OFFSET_HOUR: Parse = unread!("offset hour");
-
-const OFFSET_MINUTE: Parse = unread!("offset minute");
-
-// What there isn't of that number.
-const NO_MONTH: Parse = out!("month", false);
-
-const NO_DAY: Parse = out!("day", true);
-
-const NO_HOUR: Parse = out!("hour", false);
-
-const NO_MINUTE: Parse = out!("minute", false);
-
-const NO_SECOND: Parse = out!("second", false);
-
-const NO_LEAP_SECOND: Parse = out!("second", true);
-
-const NO_HOURS: Parse = out!("hours", false);
-
-const NO_MINUTES: Parse = out!("minutes", false);
 
 /// The texts, with the format of each.
 pub(super) static TEXTS: [(Format, &[u8], Answer); 99] = [

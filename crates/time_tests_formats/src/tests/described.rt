@@ -1,22 +1,16 @@
 //! The parse of a whole text by a description that was read from a text.
-use std::test::Fail;
-use time_descriptions::{Description, parse_borrowed};
+use super::formats::Part::{Date, Offset, Time};
+use super::formats::{Format, NO_DATE, NO_OFFSET, NO_TIME, Numbers, Part, described, said};
+use super::refusals::{DAY, LITERAL, MONTH, TRAILING, YEAR};
+use time_descriptions::Description;
 use time_parsing::{Items, Parsable};
 use time_readers::{BorrowedFormatItem, Component, Padding, modifier};
 use time_record::{Parsed, Tries};
-use time_values::error::{Parse, ParseFromDescription};
-use time_values::{Date, Month, Time, UtcOffset};
-
-// The description of the text, of version 2.
-fn described(text: &[u8]) -> Result<Description<64>, Fail> {
-    match parse_borrowed::<2, 64>(text) {
-        Ok(description) => Ok(description),
-        Err(_) => Err("no description".into()),
-    }
-}
+use time_values::Month::January;
+use time_values::error::Parse;
 
 // The items of `[year]-[month]-[day]`.
-const DATE: [BorrowedFormatItem<'static>; 5] = [
+const ITEMS: [BorrowedFormatItem<'static>; 5] = [
     BorrowedFormatItem::Component(Component::CalendarYearFullExtendedRange(
         modifier::CalendarYearFullExtendedRange {
             padding: Padding::Zero,
@@ -33,112 +27,98 @@ const DATE: [BorrowedFormatItem<'static>; 5] = [
     })),
 ];
 
-// Texts that are no such date.
-static NO_DATES: [&[u8]; 5] = [
-    b"2021-13-02",
-    b"2021/01-02",
-    b"2021-01-02x",
-    b"2021-01-",
-    b"",
-];
+const SECOND_OF_JANUARY: Result<Numbers, Parse> = Ok(((2021, January, 2), NO_TIME, NO_OFFSET));
 
-#[test]
-fn dates(rt: HostRuntime) -> Result<(), Fail> {
-    let description = described(b"[year]-[month]-[day]")?;
-    let items = Items(&DATE);
-    let date = Date::from_calendar_date(2021, Month::January, 2)?;
-    assert!(rt; description.parse_date(b"2021-01-02", None) == Ok(date));
-    assert!(rt; items.parse_date(b"2021-01-02", None) == Ok(date));
-    for text in &NO_DATES {
-        assert!(rt; description.parse_date(text, None) == items.parse_date(text, None));
-    }
-    Ok(())
+// The date of the text by the items.
+fn date_by_items(text: &[u8]) -> Result<Numbers, Parse> {
+    let date = Items(&ITEMS).parse_date(text, None)?;
+    Ok((date.to_calendar_date(), NO_TIME, NO_OFFSET))
 }
 
-// Texts, and how `[year], Day [day] of [month]` refuses them.
-static REFUSALS: [(&[u8], ParseFromDescription); 5] = [
-    (
-        b"2021, Day 02 of 13",
-        ParseFromDescription::InvalidComponent("month"),
-    ),
-    (
-        b"2021, Day 32 of 01",
-        ParseFromDescription::InvalidComponent("day"),
-    ),
-    (b"2021, Tag 02 of 01", ParseFromDescription::InvalidLiteral),
-    (b"2021, Da", ParseFromDescription::InvalidLiteral),
-    (
-        b"2021, Day 02 of 01.",
-        ParseFromDescription::UnexpectedTrailingCharacters,
-    ),
+static DATES: [(&[u8], Result<Numbers, Parse>); 6] = [
+    (b"2021-01-02", SECOND_OF_JANUARY),
+    (b"2021-13-02", Err(MONTH)),
+    (b"2021/01-02", Err(LITERAL)),
+    (b"2021-01-02x", Err(TRAILING)),
+    (b"2021-01-", Err(DAY)),
+    (b"", Err(YEAR)),
 ];
 
 #[test]
-fn refusals(rt: HostRuntime) -> Result<(), Fail> {
-    let description = described(b"[year], Day [day] of [month]")?;
-    let date = Date::from_calendar_date(2021, Month::January, 2)?;
-    assert!(rt; description.parse_date(b"2021, Day 02 of 01", None) == Ok(date));
-    for (text, wanted) in &REFUSALS {
-        let refusal = Parse::ParseFromDescription(*wanted);
+fn dates(rt: HostRuntime) {
+    for (text, wanted) in &DATES {
+        let by_description = said(Format::Described(b"[year]-[month]-[day]"), Date, text, None);
+        let by_items = date_by_items(text);
         assert!(rt;
-            description.parse_date(text, None) == Err(refusal),
+            (by_description, by_items) == (*wanted, *wanted),
             "{text:?}"
         );
     }
-    Ok(())
+}
+
+const WORDED: &[u8] = b"[year], Day [day] of [month]";
+
+const CLOCK: &[u8] = b"[hour]:[minute][optional [:[second]]]";
+
+// Descriptions, and what a text says of a part by each.
+static TEXTS: [(&[u8], Part, &[u8], Result<Numbers, Parse>); 10] = [
+    (WORDED, Date, b"2021, Day 02 of 01", SECOND_OF_JANUARY),
+    (WORDED, Date, b"2021, Day 02 of 13", Err(MONTH)),
+    (WORDED, Date, b"2021, Day 32 of 01", Err(DAY)),
+    (WORDED, Date, b"2021, Tag 02 of 01", Err(LITERAL)),
+    (WORDED, Date, b"2021, Da", Err(LITERAL)),
+    (WORDED, Date, b"2021, Day 02 of 01.", Err(TRAILING)),
+    (
+        CLOCK,
+        Time,
+        b"03:04",
+        Ok((NO_DATE, (3, 4, 0, 0), NO_OFFSET)),
+    ),
+    (
+        CLOCK,
+        Time,
+        b"03:04:05",
+        Ok((NO_DATE, (3, 4, 5, 0), NO_OFFSET)),
+    ),
+    (
+        b"[offset_hour sign:mandatory]:[offset_minute]",
+        Offset,
+        b"-05:30",
+        Ok((NO_DATE, NO_TIME, (-5, -30, 0))),
+    ),
+    // 11 in the second half of the day is 11 + 12.
+    (
+        b"[hour repr:12] [period case:lower]",
+        Time,
+        b"11 pm",
+        Ok((NO_DATE, (23, 0, 0, 0), NO_OFFSET)),
+    ),
+];
+
+#[test]
+fn texts(rt: HostRuntime) {
+    for (description, part, text, wanted) in &TEXTS {
+        let said = said(Format::Described(description), *part, text, None);
+        assert!(rt; said == *wanted, "{text:?}");
+    }
 }
 
 // How many items are tried until the text is read, where no byte of it is left.
-fn tries_of(description: &Description<64>, text: &[u8]) -> Result<Option<u64>, Parse> {
+fn tries_of(description: &Description<80>, text: &[u8]) -> Option<u64> {
     let mut tries = Tries::new();
-    let mut parsed = Parsed::new();
-    let rest = parsed.parse_steps_counted(text, description.steps(), &mut tries)?;
-    Ok(if rest.is_empty() {
+    let rest = Parsed::new()
+        .parse_steps_counted(text, description.steps(), &mut tries)
+        .ok()?;
+    if rest.is_empty() {
         Some(tries.count())
     } else {
         None
-    })
-}
-
-#[test]
-fn optional_second(rt: HostRuntime) -> Result<(), Fail> {
-    let description = described(b"[hour]:[minute][optional [:[second]]]")?;
-    for (text, second) in [(b"03:04".as_slice(), 0), (b"03:04:05", 5)] {
-        let wanted = Time::from_hms_nano(3, 4, second, 0)?;
-        assert!(rt; description.parse_time(text, None) == Ok(wanted));
     }
-    // A second that is out of range leaves the whole part unread, and the record without it.
-    let mut parsed = Parsed::new();
-    let rest = description.parse_into(b"03:04:61", &mut parsed)?;
-    assert!(rt; rest == b":61".as_slice() && parsed.second().is_none());
-    // The row, three leaves, the optional item, its list, and two leaves: 1 + 3 + 1 + 1 + 2.
-    assert!(rt; tries_of(&description, b"03:04:05")? == Some(8));
-    Ok(())
 }
 
+// The row, three leaves, the optional item, its list, and two leaves: 1 + 3 + 1 + 1 + 2.
 #[test]
-fn choice(rt: HostRuntime) -> Result<(), Fail> {
-    let description = described(b"[first [[year]] [[month]]]")?;
-    let mut parsed = Parsed::new();
-    assert!(rt; description.parse_into(b"2021", &mut parsed)?.is_empty());
-    assert!(rt; (parsed.year(), parsed.month()) == (Some(2021), None));
-    let mut parsed = Parsed::new();
-    assert!(rt; description.parse_into(b"07", &mut parsed)?.is_empty());
-    assert!(rt; (parsed.year(), parsed.month()) == (None, Some(Month::July)));
-    // The fault is the first list's.
-    let year = Parse::ParseFromDescription(ParseFromDescription::InvalidComponent("year"));
-    assert!(rt; description.parse_into(b"x", &mut parsed) == Err(year));
-    Ok(())
-}
-
-#[test]
-fn offset_and_period(rt: HostRuntime) -> Result<(), Fail> {
-    let offset = described(b"[offset_hour sign:mandatory]:[offset_minute]")?;
-    let west = UtcOffset::from_hms(-5, -30, 0)?;
-    assert!(rt; offset.parse_offset(b"-05:30", None) == Ok(west));
-    let clock = described(b"[hour repr:12] [period case:lower]")?;
-    // 11 in the second half of the day is 11 + 12.
-    let late = Time::from_hms_nano(23, 0, 0, 0)?;
-    assert!(rt; clock.parse_time(b"11 pm", None) == Ok(late));
-    Ok(())
+fn optional_second(rt: HostRuntime) {
+    let description = described(CLOCK).expect(&rt, "a description");
+    assert!(rt; tries_of(&description, b"03:04:05") == Some(8));
 }

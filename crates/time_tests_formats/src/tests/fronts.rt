@@ -1,12 +1,10 @@
 //! Texts of RFC 3339 with each byte at each place, beside a slow reader.
-use super::answers::{Format, Numbers, TEXTS, both_ways, numbers};
+use super::answers::{TEXTS, both_ways};
+use super::formats::{Format, Numbers, Part, numbers, said};
 use super::slow_stamps::{moment, tail};
-use std::ops::Range;
-use std::test::Fail;
-use time_parsing::{Parsable, Rfc3339};
 use time_readers::{direct, rfc3339};
 use time_record::Parsed;
-use time_values::error::ParseFromDescription;
+use time_values::error::{Parse, ParseFromDescription};
 
 // How the places of the text refuse it.
 fn refusal<const RANGED: bool>(text: &[u8]) -> Option<ParseFromDescription> {
@@ -16,31 +14,39 @@ fn refusal<const RANGED: bool>(text: &[u8]) -> Option<ParseFromDescription> {
     }
 }
 
-// The text is read as the slow reader does: directly, over an empty record, and by its places alone.
-fn is_right(text: &[u8]) -> bool {
-    let directly = moment(text, false);
-    let staged = Rfc3339.parse_offset_date_time(text, Some(Parsed::new()));
-    numbers(direct::rfc3339(text)) == directly
-        && numbers(Rfc3339.parse_offset_date_time(text, None)) == directly
-        && numbers(staged) == moment(text, true)
-        && refusal::<true>(text) == tail(text, true).err()
+// The places alone refuse the text as the slow reader does.
+fn has_right_places(text: &[u8]) -> bool {
+    refusal::<true>(text) == tail(text, true).err()
         && refusal::<false>(text) == tail(text, false).err()
 }
 
-// The place and the byte there with which the text is not read so.
-fn wrong_byte(text: &[u8], places: Range<usize>) -> Result<Option<(usize, u8)>, Fail> {
-    for place in places {
-        let mut changed = [b' '; 35];
-        let changed = changed.get_mut(..text.len()).ok_or("length")?;
-        changed.copy_from_slice(text);
-        for byte in 0..=u8::MAX {
-            *changed.get_mut(place).ok_or("place")? = byte;
-            if !is_right(changed) {
-                return Ok(Some((place, byte)));
-            }
+// The moment of the text, read with no record.
+fn directly(text: &[u8]) -> Result<Numbers, Parse> {
+    Ok(numbers(direct::rfc3339(text)?))
+}
+
+// The text is read as the slow reader does: directly, over an empty record, and by its places alone.
+fn is_right(text: &[u8]) -> bool {
+    let wanted = moment(text, false);
+    let staged = said(Format::Stamp, Part::Moment, text, Some(Parsed::new()));
+    directly(text) == wanted
+        && said(Format::Stamp, Part::Moment, text, None) == wanted
+        && staged == moment(text, true)
+        && has_right_places(text)
+}
+
+// Whether the text is read so with each byte at that place; or a byte with which it is not.
+fn with_each_byte(text: &[u8], place: usize) -> Result<(), u8> {
+    let mut changed = [b' '; 35];
+    let changed = changed.get_mut(..text.len()).ok_or(0)?;
+    changed.copy_from_slice(text);
+    for byte in 0..=u8::MAX {
+        *changed.get_mut(place).ok_or(byte)? = byte;
+        if !is_right(changed) {
+            return Err(byte);
         }
     }
-    Ok(None)
+    Ok(())
 }
 
 // The slow reader gives the answers of the table.
@@ -48,12 +54,12 @@ fn wrong_byte(text: &[u8], places: Range<usize>) -> Result<Option<(usize, u8)>, 
 fn slow_stamps(rt: HostRuntime) {
     for (format, text, wanted) in &TEXTS {
         let said = (moment(text, false), moment(text, true));
-        let is_stamp = *format == Format::Stamp;
+        let is_stamp = matches!(format, Format::Stamp);
         assert!(rt; !is_stamp || said == both_ways(*wanted), "{text:?}");
     }
 }
 
-const WHOLE: [&[u8]; 4] = [
+static WHOLE: [&[u8]; 4] = [
     b"1985-04-12T23:20:50.52Z",
     b"1990-12-31T23:59:60Z",
     b"1990-12-31T15:59:60-08:00",
@@ -64,16 +70,17 @@ const WHOLE: [&[u8]; 4] = [
 const SECOND_END: usize = 19;
 
 #[test]
-fn fronts(rt: HostRuntime) -> Result<(), Fail> {
-    for text in WHOLE {
-        let wrong = wrong_byte(text, 0..SECOND_END)?;
-        assert!(rt; wrong == None, "{text:?} {wrong:?}");
+fn fronts(rt: HostRuntime) {
+    for text in &WHOLE {
+        for place in 0..SECOND_END {
+            let outcome = with_each_byte(text, place);
+            assert!(rt; outcome == Ok(()), "{text:?} {place} {outcome:?}");
+        }
     }
-    Ok(())
 }
 
 // Texts, and what stands behind their seconds: the nanosecond, and the hours and minutes of the offset.
-const TAILS: [(&[u8], Option<(u32, i8, i8)>); 24] = [
+static TAILS: [(&[u8], Option<(u32, i8, i8)>); 24] = [
     (b"2021-01-02T03:04:05Z", Some((0, 0, 0))),
     (b"2021-01-02T03:04:05z", Some((0, 0, 0))),
     (b"2021-01-02T03:04:05+00:00", Some((0, 0, 0))),
@@ -103,19 +110,22 @@ const TAILS: [(&[u8], Option<(u32, i8, i8)>); 24] = [
     (b"2021-01-02T03:04:05+05:30Z", None),
 ];
 
-// The nanosecond of a moment, and the hours and minutes of its offset.
-fn behind_second(numbers: Numbers) -> (u32, i8, i8) {
-    let (_, (_, _, _, nanosecond), (hours, minutes, _)) = numbers;
-    (nanosecond, hours, minutes)
+// The nanosecond of the text and the hours and minutes of its offset, by the slow reader.
+fn behind_second(text: &[u8]) -> Option<(u32, i8, i8)> {
+    let (_, (_, _, _, nanosecond), (hours, minutes, _)) = moment(text, false).ok()?;
+    Some((nanosecond, hours, minutes))
 }
 
 #[test]
-fn tails(rt: HostRuntime) -> Result<(), Fail> {
-    for (text, wanted) in TAILS {
-        let slow = moment(text, false).ok().map(behind_second);
-        assert!(rt; slow == wanted && is_right(text), "{text:?}");
-        let wrong = wrong_byte(text, SECOND_END..text.len())?;
-        assert!(rt; wrong == None, "{text:?} {wrong:?}");
+fn tails(rt: HostRuntime) {
+    for (text, wanted) in &TAILS {
+        assert!(rt;
+            behind_second(text) == *wanted && is_right(text),
+            "{text:?}"
+        );
+        for place in SECOND_END..text.len() {
+            let outcome = with_each_byte(text, place);
+            assert!(rt; outcome == Ok(()), "{text:?} {place} {outcome:?}");
+        }
     }
-    Ok(())
 }

@@ -1,196 +1,158 @@
 //! Whole texts of ISO 8601.
-use std::test::Fail;
-use time_parsing::{Iso8601, Parsable};
-use time_values::error::{Parse, ParseFromDescription, TryFromParsed};
-use time_values::{Date, Month, PlainDateTime, Time, UtcDateTime, UtcOffset};
+use super::formats::Part::{Date, Offset, Plain, Time, Utc};
+use super::formats::{Format, NO_DATE, NO_OFFSET, NO_TIME, Numbers, Part, said};
+use super::refusals::{
+    DAY, LITERAL, MISSING, MONTH, NO_DAY, NO_LEAP_SECOND, NO_ORDINAL, NO_SECOND, NO_WEEK,
+    NO_WEEKDAY, ORDINAL, TRAILING, WEEK, WEEKDAY, YEAR,
+};
+use time_values::Month::{December, January, March};
+use time_values::error::Parse;
 
-mod dates;
 mod fractions;
 mod offsets;
 mod time_records;
 
-// The parse is refused so.
-fn is_refused<T: Drop>(answer: Result<T, Parse>, refusal: ParseFromDescription) -> bool {
-    match answer {
-        Err(Parse::ParseFromDescription(found)) => found == refusal,
-        _ => false,
-    }
+macro_rules! date {
+    ($year:expr, $month:expr, $day:expr) => {
+        Ok((($year, $month, $day), NO_TIME, NO_OFFSET))
+    };
 }
 
-// The parse is refused as that component.
-fn lacks<T: Drop>(answer: Result<T, Parse>, component: &'static str) -> bool {
-    is_refused(answer, ParseFromDescription::InvalidComponent(component))
+macro_rules! time {
+    ($hour:expr, $minute:expr, $second:expr, $nanosecond:expr) => {
+        Ok((NO_DATE, ($hour, $minute, $second, $nanosecond), NO_OFFSET))
+    };
 }
 
-// The parse leaves bytes unread.
-fn trails<T: Drop>(answer: Result<T, Parse>) -> bool {
-    is_refused(answer, ParseFromDescription::UnexpectedTrailingCharacters)
+macro_rules! offset {
+    ($hours:expr, $minutes:expr) => {
+        Ok((NO_DATE, NO_TIME, ($hours, $minutes, 0)))
+    };
 }
 
-// What was read doesn't say the value.
-fn lacks_information<T: Drop>(answer: Result<T, Parse>) -> bool {
-    match answer {
-        Err(Parse::TryFromParsed(found)) => found == TryFromParsed::InsufficientInformation,
-        _ => false,
-    }
-}
-
-// The value of that name is out of range, as given or beside the others.
-fn is_out_of_range<T: Drop>(answer: Result<T, Parse>, name: &str, conditional: bool) -> bool {
-    match answer {
-        Err(Parse::TryFromParsed(TryFromParsed::ComponentRange(range))) => {
-            range.name == name && range.conditional == conditional
-        }
-        _ => false,
-    }
-}
-
-fn time_of(text: &[u8]) -> Result<Time, Parse> {
-    Iso8601.parse_time(text, None)
-}
-
-fn date_of(text: &[u8]) -> Result<Date, Parse> {
-    Iso8601.parse_date(text, None)
-}
-
-fn offset_of(text: &[u8]) -> Result<UtcOffset, Parse> {
-    Iso8601.parse_offset(text, None)
-}
-
-fn plain_of(text: &[u8]) -> Result<PlainDateTime, Parse> {
-    Iso8601.parse_plain_date_time(text, None)
-}
-
-const TIMES: [(&[u8], u8, u8, u8, u32); 7] = [
-    (b"03,5", 3, 30, 0, 0),
-    (b"03:04.5", 3, 4, 30, 0),
-    (b"0304.25", 3, 4, 15, 0),
-    (b"2021-01", 20, 21, 0, 0),
-    (b"12:34:56.9999999994", 12, 34, 56, 999_999_999),
-    (b"03.0001", 3, 0, 0, 360_000_000),
-    (b"T030405,5", 3, 4, 5, 500_000_000),
+// Texts, and what each says of a part.
+static TEXTS: [(Part, &[u8], Result<Numbers, Parse>); 87] = [
+    // Times.
+    (Time, b"03,5", time!(3, 30, 0, 0)),
+    (Time, b"03:04.5", time!(3, 4, 30, 0)),
+    (Time, b"0304.25", time!(3, 4, 15, 0)),
+    (Time, b"2021-01", time!(20, 21, 0, 0)),
+    (Time, b"12:34:56.9999999994", time!(12, 34, 56, 999_999_999)),
+    (Time, b"03.0001", time!(3, 0, 0, 360_000_000)),
+    (Time, b"T030405,5", time!(3, 4, 5, 500_000_000)),
+    (Time, b"0360", Err(MONTH)),
+    (Time, b"030461", Err(MONTH)),
+    (Time, b"12:34:56.9999999995", Err(YEAR)),
+    (Time, b"03.", Err(YEAR)),
+    (Time, b"03:04:", Err(YEAR)),
+    (Time, b"24", Err(YEAR)),
+    (Time, b"1234-05:30", Err(TRAILING)),
+    (Time, b"03:0405", Err(TRAILING)),
+    (Time, b"12:34:60", Err(NO_SECOND)),
+    (Time, b"2021-01-02", Err(MISSING)),
+    // Dates.
+    (Date, b"+002021-01-02", date!(2021, January, 2)),
+    (Date, b"+012345-01-02", date!(12345, January, 2)),
+    (Date, b"2020-W53-6", date!(2021, January, 2)),
+    (Date, b"9999-W52-6", date!(10000, January, 1)),
+    (Date, b"2020W536", date!(2021, January, 2)),
+    (Date, b"2021-002", date!(2021, January, 2)),
+    (Date, b"2020366", date!(2020, December, 31)),
+    (Date, b"-000044-03-15", date!(-44, March, 15)),
+    (Date, b"20210102T0304Z", date!(2021, January, 2)),
+    (Date, b"20211234", Err(TRAILING)),
+    (Date, b"202101", Err(MISSING)),
+    (Date, b"+999999-W52-6", Err(NO_WEEKDAY)),
+    (Date, b"2021-366", Err(NO_ORDINAL)),
+    (Date, b"2021-02-29", Err(NO_DAY)),
+    (Date, b"2021-W53-1", Err(NO_WEEK)),
+    // Neither the date nor a time nor an offset can be read, and the date's fault is that component, or its hyphen.
+    (Date, b"", Err(YEAR)),
+    (Date, b"x", Err(YEAR)),
+    (Date, b"999", Err(YEAR)),
+    (Date, b"+99999-01-01", Err(YEAR)),
+    (Date, b"9999x", Err(MONTH)),
+    (Date, b"999900", Err(MONTH)),
+    (Date, b"9999-13-01", Err(MONTH)),
+    (Date, b"9999000", Err(MONTH)),
+    (Date, b"999912", Err(DAY)),
+    (Date, b"9999-12-00", Err(DAY)),
+    (Date, b"9999-12-3", Err(DAY)),
+    (Date, b"9999-W00-1", Err(WEEK)),
+    (Date, b"9999W5", Err(WEEK)),
+    (Date, b"9999-W50-0", Err(WEEKDAY)),
+    (Date, b"9999-W50-8", Err(WEEKDAY)),
+    (Date, b"9999W50", Err(WEEKDAY)),
+    (Date, b"9999-12", Err(LITERAL)),
+    (Date, b"9999-12x", Err(LITERAL)),
+    (Date, b"9999-W50", Err(LITERAL)),
+    (Date, b"9999-W501", Err(LITERAL)),
+    // A form stands, and its value is out of range: the date is refused, though a later form stands behind the year, too.
+    (Date, b"9999-12-32", Err(DAY)),
+    (Date, b"99991232", Err(DAY)),
+    (Date, b"9999-367", Err(ORDINAL)),
+    (Date, b"9999400", Err(ORDINAL)),
+    (Date, b"9999-W54-1", Err(WEEK)),
+    (Date, b"9999W991", Err(WEEK)),
+    (Date, b"+999999-12-32", Err(DAY)),
+    (Date, b"+999999-367", Err(ORDINAL)),
+    (Date, b"-999999-W54-1", Err(WEEK)),
+    // Offsets.
+    (Offset, b"2021-01", offset!(-1, 0)),
+    (Offset, b"-05", offset!(-5, 0)),
+    (Offset, b"05:30Z", offset!(0, 0)),
+    (Offset, b"-0030", offset!(0, -30)),
+    (Offset, b"+25:59", offset!(25, 59)),
+    (Offset, b"T03+0405", offset!(4, 5)),
+    (Offset, b"+0160", Err(YEAR)),
+    (Offset, b"+26", Err(YEAR)),
+    (Offset, b"+05:", Err(YEAR)),
+    (Offset, b"+05:3", Err(YEAR)),
+    (Offset, b"+053", Err(TRAILING)),
+    // After a date alone no offset is read.
+    (Offset, b"2021-01-02+05", Err(TRAILING)),
+    (Offset, b"2021-01-02Z", Err(TRAILING)),
+    (Offset, b"2021-01-02T+05", Err(TRAILING)),
+    // Dates with times.
+    (
+        Plain,
+        b"2021-01-02T03",
+        Ok(((2021, January, 2), (3, 0, 0, 0), NO_OFFSET)),
+    ),
+    (
+        Plain,
+        b"2021-01-02T0304",
+        Ok(((2021, January, 2), (3, 4, 0, 0), NO_OFFSET)),
+    ),
+    (
+        Plain,
+        b"2021-01-02T03:04+05:06",
+        Ok(((2021, January, 2), (3, 4, 0, 0), NO_OFFSET)),
+    ),
+    (
+        Plain,
+        b"20210102T0304+0506",
+        Ok(((2021, January, 2), (3, 4, 0, 0), NO_OFFSET)),
+    ),
+    (Plain, b"2021-01-02T030405", Err(TRAILING)),
+    (Plain, b"2021-01-02T03:04+05:", Err(TRAILING)),
+    (Plain, b"2021-W01-1T24", Err(TRAILING)),
+    (Plain, b"2021-01-0203:04", Err(TRAILING)),
+    (Plain, b"2021-01-02+05", Err(TRAILING)),
+    (Plain, b"20210102T03:04", Err(TRAILING)),
+    // A second of 60 stands for the end of a month.
+    (
+        Utc,
+        b"2016-12-31T23:59:60Z",
+        Ok(((2016, December, 31), (23, 59, 59, 999_999_999), NO_OFFSET)),
+    ),
+    (Utc, b"2016-12-30T23:59:60Z", Err(NO_LEAP_SECOND)),
 ];
 
 #[test]
-fn iso_times(rt: HostRuntime) -> Result<(), Fail> {
-    for (text, hour, minute, second, nanosecond) in TIMES {
-        let wanted = Time::from_hms_nano(hour, minute, second, nanosecond)?;
-        assert!(rt; time_of(text) == Ok(wanted), "{text:?}");
+fn iso_texts(rt: HostRuntime) {
+    for (part, text, wanted) in &TEXTS {
+        let said = said(Format::Iso, *part, text, None);
+        assert!(rt; said == *wanted, "{text:?}");
     }
-    Ok(())
-}
-
-// Texts of times, and the component that each lacks.
-const TIMES_REFUSED: [(&[u8], &str); 6] = [
-    (b"0360", "month"),
-    (b"030461", "month"),
-    (b"12:34:56.9999999995", "year"),
-    (b"03.", "year"),
-    (b"03:04:", "year"),
-    (b"24", "year"),
-];
-
-#[test]
-fn iso_times_refused(rt: HostRuntime) {
-    for (text, component) in TIMES_REFUSED {
-        assert!(rt; lacks(time_of(text), component), "{text:?}");
-    }
-    for text in [b"1234-05:30".as_slice(), b"03:0405"] {
-        assert!(rt; trails(time_of(text)), "{text:?}");
-    }
-    assert!(rt; is_out_of_range(time_of(b"12:34:60"), "second", false));
-    assert!(rt; lacks_information(time_of(b"2021-01-02")));
-}
-
-const DATES: [(&[u8], i32, Month, u8); 9] = [
-    (b"+002021-01-02", 2021, Month::January, 2),
-    (b"+012345-01-02", 12345, Month::January, 2),
-    (b"2020-W53-6", 2021, Month::January, 2),
-    (b"9999-W52-6", 10000, Month::January, 1),
-    (b"2020W536", 2021, Month::January, 2),
-    (b"2021-002", 2021, Month::January, 2),
-    (b"2020366", 2020, Month::December, 31),
-    (b"-000044-03-15", -44, Month::March, 15),
-    (b"20210102T0304Z", 2021, Month::January, 2),
-];
-
-#[test]
-fn iso_dates(rt: HostRuntime) -> Result<(), Fail> {
-    for (text, year, month, day) in DATES {
-        let wanted = Date::from_calendar_date(year, month, day)?;
-        assert!(rt; date_of(text) == Ok(wanted), "{text:?}");
-    }
-    Ok(())
-}
-
-#[test]
-fn iso_dates_refused(rt: HostRuntime) {
-    assert!(rt; trails(date_of(b"20211234")));
-    assert!(rt; lacks_information(date_of(b"202101")));
-    for (text, name) in [
-        (b"+999999-W52-6".as_slice(), "weekday"),
-        (b"2021-366", "ordinal"),
-        (b"2021-02-29", "day"),
-        (b"2021-W53-1", "week"),
-    ] {
-        assert!(rt; is_out_of_range(date_of(text), name, true), "{text:?}");
-    }
-}
-
-const OFFSETS: [(&[u8], i8, i8); 6] = [
-    (b"2021-01", -1, 0),
-    (b"-05", -5, 0),
-    (b"05:30Z", 0, 0),
-    (b"-0030", 0, -30),
-    (b"+25:59", 25, 59),
-    (b"T03+0405", 4, 5),
-];
-
-#[test]
-fn iso_offsets(rt: HostRuntime) -> Result<(), Fail> {
-    for (text, hours, minutes) in OFFSETS {
-        let wanted = UtcOffset::from_hms(hours, minutes, 0)?;
-        assert!(rt; offset_of(text) == Ok(wanted), "{text:?}");
-    }
-    for text in [b"+0160".as_slice(), b"+26", b"+05:", b"+05:3"] {
-        assert!(rt; lacks(offset_of(text), "year"), "{text:?}");
-    }
-    assert!(rt; trails(offset_of(b"+053")));
-    Ok(())
-}
-
-#[test]
-fn iso_dates_with_times(rt: HostRuntime) -> Result<(), Fail> {
-    let date = Date::from_calendar_date(2021, Month::January, 2)?;
-    for (text, minute) in [
-        (b"2021-01-02T03".as_slice(), 0),
-        (b"2021-01-02T0304", 4),
-        (b"2021-01-02T03:04+05:06", 4),
-        (b"20210102T0304+0506", 4),
-    ] {
-        let wanted = PlainDateTime::new(date, Time::from_hms_nano(3, minute, 0, 0)?);
-        assert!(rt; plain_of(text) == Ok(wanted), "{text:?}");
-    }
-    for text in [
-        b"2021-01-02T030405".as_slice(),
-        b"2021-01-02T03:04+05:",
-        b"2021-W01-1T24",
-        b"2021-01-0203:04",
-        b"2021-01-02+05",
-        b"20210102T03:04",
-    ] {
-        assert!(rt; trails(plain_of(text)), "{text:?}");
-    }
-    Ok(())
-}
-
-#[test]
-fn iso_leap_seconds(rt: HostRuntime) -> Result<(), Fail> {
-    let date = Date::from_calendar_date(2016, Month::December, 31)?;
-    let last = Time::from_hms_nano(23, 59, 59, 999_999_999)?;
-    let wanted = UtcDateTime::new(date, last);
-    assert!(rt; Iso8601.parse_utc_date_time(b"2016-12-31T23:59:60Z", None) == Ok(wanted));
-    let earlier = Iso8601.parse_utc_date_time(b"2016-12-30T23:59:60Z", None);
-    assert!(rt; is_out_of_range(earlier, "second", true));
-    Ok(())
 }

@@ -1,47 +1,44 @@
-//! Mail dates by the short cuts of their blanks, and the blanks before each byte.
-use super::answers::{Format, TEXTS, is_answered};
-use time_readers::ParsedItem;
-use time_readers::rfc2822::{cfws, fws, opt_cfws, opt_cfws_colon_opt_cfws};
+//! The blanks of mail dates by their short cuts, before each byte.
+use super::mail_blanks::Reader::{self, Cfws, Colon, Fws, OptionalCfws};
+use super::mail_blanks::left;
 
-// How many bytes are left behind what is read.
-fn left(answer: Option<ParsedItem<'_, ()>>) -> Option<usize> {
-    match answer {
-        Some(found) => Some(found.0.len()),
-        None => None,
+static READERS: [Reader; 4] = [Fws, Cfws, OptionalCfws, Colon];
+
+// A blank, and the byte behind it if that is one too, is all that is read where the byte and an `x` follow.
+fn takes_blanks(reader: Reader, blank: u8, byte: u8) -> bool {
+    let text = [b':', blank, byte, b'x'];
+    let rest = if byte == b' ' || byte == b'\t' { 1 } else { 2 };
+    left(reader, behind_colon(reader, &text)) == Some(rest)
+}
+
+// Only one reader reads the colon.
+fn behind_colon(reader: Reader, text: &[u8; 4]) -> &[u8] {
+    match reader {
+        Colon => text,
+        _ => &text[1..],
     }
 }
 
-// A blank, and the byte behind it if that is one too, is all that is read where the byte and an `x` follow.
-fn takes_blanks(blank: u8, byte: u8) -> bool {
-    let text = [b':', blank, byte, b'x'];
-    let rest = if byte == b' ' || byte == b'\t' { 1 } else { 2 };
-    left(fws(&text[1..])) == Some(rest)
-        && left(cfws(&text[1..])) == Some(rest)
-        && opt_cfws(&text[1..]).0.len() == rest
-        && left(opt_cfws_colon_opt_cfws(&text)) == Some(rest)
-}
-
 // A byte that is no blank, with one behind it, is not read as blanks.
-fn takes_nothing(byte: u8) -> bool {
+fn takes_nothing(reader: Reader, byte: u8) -> bool {
     let text = [b':', byte, b' ', b'x'];
-    left(fws(&text[1..])) == None
-        && left(cfws(&text[1..])) == None
-        && opt_cfws(&text[1..]).0.len() == 3
-        && left(opt_cfws_colon_opt_cfws(&text)) == Some(3)
+    let wanted = match reader {
+        Fws | Cfws => None,
+        OptionalCfws | Colon => Some(3),
+    };
+    left(reader, behind_colon(reader, &text)) == wanted
 }
 
 #[test]
 fn short_cuts(rt: HostRuntime) {
-    for (format, text, wanted) in &TEXTS {
-        let is_mail = *format == Format::Mail;
-        assert!(rt; !is_mail || is_answered(*format, text, *wanted), "{text:?}");
-    }
-    for byte in 0..=u8::MAX {
-        assert!(rt;
-            takes_blanks(b' ', byte) && takes_blanks(b'\t', byte),
-            "{byte}"
-        );
-        let is_blank = byte == b' ' || byte == b'\t';
-        assert!(rt; is_blank || takes_nothing(byte), "{byte}");
+    for reader in &READERS {
+        for byte in 0..=u8::MAX {
+            assert!(rt;
+                takes_blanks(*reader, b' ', byte) && takes_blanks(*reader, b'\t', byte),
+                "{byte}"
+            );
+            let is_blank = byte == b' ' || byte == b'\t';
+            assert!(rt; is_blank || takes_nothing(*reader, byte), "{byte}");
+        }
     }
 }

@@ -1,7 +1,10 @@
 //! A slow reader of RFC 3339: byte by byte over the rows of a table, with a calendar of its own.
-use super::answers::Numbers;
+use super::formats::Numbers;
+use super::refusals::{
+    NO_DAY, NO_HOUR, NO_LEAP_SECOND, NO_MINUTE, NO_MINUTES, NO_MONTH, NO_SECOND, TRAILING,
+};
 use time_values::Month;
-use time_values::error::{ComponentRange, Parse, ParseFromDescription, TryFromParsed};
+use time_values::error::{Parse, ParseFromDescription};
 
 const LITERAL: ParseFromDescription = ParseFromDescription::InvalidLiteral;
 
@@ -17,7 +20,7 @@ enum Place {
     Number(usize, usize, u32, u32, u32, &'static str),
 }
 
-const FRONT: [Place; 11] = [
+static FRONT: [Place; 11] = [
     Place::Number(0, 4, 0, 0, 9999, "year"),
     Place::Byte(4, b'-'),
     Place::Number(5, 7, 1, 1, 12, "month"),
@@ -74,8 +77,8 @@ fn fault_at(text: &[u8], place: Place, ranged: bool) -> Option<ParseFromDescript
 
 // How the first place up to the second that doesn't stand refuses the text.
 fn front_fault(text: &[u8], ranged: bool) -> Option<ParseFromDescription> {
-    for place in FRONT {
-        let fault = fault_at(text, place, ranged);
+    for place in &FRONT {
+        let fault = fault_at(text, *place, ranged);
         if fault.is_some() {
             return fault;
         }
@@ -163,12 +166,7 @@ pub(super) fn tail(text: &[u8], ranged: bool) -> Result<Tail, ParseFromDescripti
     ))
 }
 
-// The refusal of a component out of its range.
-fn out(name: &'static str, conditional: bool) -> Parse {
-    Parse::TryFromParsed(TryFromParsed::ComponentRange(ComponentRange { name, conditional }))
-}
-
-const MONTHS: [(Month, u8); 12] = [
+static MONTHS: [(Month, u8); 12] = [
     (Month::January, 31),
     (Month::February, 28),
     (Month::March, 31),
@@ -218,25 +216,24 @@ fn pair(text: &[u8], begin: usize, end: usize) -> u8 {
 
 // The first number of a time of day that is out of its range.
 fn clock_fault(hour: u8, minute: u8, second: u8) -> Option<Parse> {
-    for (number, greatest, name) in [
-        (hour, 23, "hour"),
-        (minute, 59, "minute"),
-        (second, 60, "second"),
-    ] {
-        if number > greatest {
-            return Some(out(name, false));
-        }
+    if hour > 23 {
+        Some(NO_HOUR)
+    } else if minute > 59 {
+        Some(NO_MINUTE)
+    } else if second > 60 {
+        Some(NO_SECOND)
+    } else {
+        None
     }
-    None
 }
 
 // The numbers of a text whose places stand, or what the calendar refuses.
 fn dated(text: &[u8], nanosecond: u32, offset: (i8, i8)) -> Result<Numbers, Parse> {
     let year = number(text, 0, 4).unwrap_or(0);
-    let (month, days) = month(year, usize::from(pair(text, 5, 7))).ok_or(out("month", false))?;
+    let (month, days) = month(year, usize::from(pair(text, 5, 7))).ok_or(NO_MONTH)?;
     let day = pair(text, 8, 10);
     if day == 0 || days < day {
-        return Err(out("day", true));
+        return Err(NO_DAY);
     }
     let (hour, minute, second) = (pair(text, 11, 13), pair(text, 14, 16), pair(text, 17, 19));
     if let Some(fault) = clock_fault(hour, minute, second) {
@@ -252,7 +249,7 @@ fn dated(text: &[u8], nanosecond: u32, offset: (i8, i8)) -> Result<Numbers, Pars
         ));
     }
     if !ends_a_month(day, days, hour, minute, offset) {
-        return Err(out("second", true));
+        return Err(NO_LEAP_SECOND);
     }
     Ok((date, (hour, minute, 59, 999_999_999), (hours, minutes, 0)))
 }
@@ -262,10 +259,10 @@ fn dated(text: &[u8], nanosecond: u32, offset: (i8, i8)) -> Result<Numbers, Pars
 pub(super) fn moment(text: &[u8], ranged: bool) -> Result<Numbers, Parse> {
     let (nanosecond, offset, unread) = tail(text, ranged)?;
     if offset.1.unsigned_abs() > 59 {
-        return Err(out("minutes", false));
+        return Err(NO_MINUTES);
     }
     if unread != 0 {
-        return Err(ParseFromDescription::UnexpectedTrailingCharacters.into());
+        return Err(TRAILING);
     }
     dated(text, nanosecond, offset)
 }

@@ -1,0 +1,305 @@
+//! What texts put into records.
+use super::formats::{Format, described};
+use super::refusals::{DAY, DESCRIPTION, LITERAL, OFFSET_MINUTE, YEAR};
+use std::num::NonZero;
+use time_parsing::{Iso8601, Parsable, Rfc2822, Rfc3339};
+use time_record::Parsed;
+use time_values::Month::{self, January, July, March};
+use time_values::Weekday;
+use time_values::error::Parse;
+
+/// The year, the month, the day, and the ordinal, where 0 stands for none.
+type DateCells = (Option<i32>, Option<Month>, u8, u16);
+
+/// The ISO year, the week, where 0 stands for none, and the weekday.
+type WeekCells = (Option<i32>, u8, Option<Weekday>);
+
+/// The hour, the minute, the second and the nanosecond.
+pub(super) type TimeCells = (Option<u8>, Option<u8>, Option<u8>, Option<u32>);
+
+/// The hour and the minute of the offset.
+pub(super) type OffsetCells = (Option<i8>, Option<i8>);
+
+/// The cells of a record.
+pub(super) type Cells = (DateCells, WeekCells, TimeCells, OffsetCells);
+
+const NO_DATE: DateCells = (None, None, 0, 0);
+
+const NO_WEEK: WeekCells = (None, 0, None);
+
+/// No cell of a time is known.
+pub(super) const NO_TIME: TimeCells = (None, None, None, None);
+
+/// No cell of an offset is known.
+pub(super) const NO_OFFSET: OffsetCells = (None, None);
+
+// The number, or 0.
+fn number(cell: Option<NonZero<u8>>) -> u8 {
+    match cell {
+        Some(number) => number.get(),
+        None => 0,
+    }
+}
+
+fn date_cells(record: &Parsed) -> DateCells {
+    let ordinal = match record.ordinal() {
+        Some(ordinal) => ordinal.get(),
+        None => 0,
+    };
+    (record.year(), record.month(), number(record.day()), ordinal)
+}
+
+fn week_cells(record: &Parsed) -> WeekCells {
+    (
+        record.iso_year(),
+        number(record.iso_week_number()),
+        record.weekday(),
+    )
+}
+
+fn time_cells(record: &Parsed) -> TimeCells {
+    (
+        record.hour_24(),
+        record.minute(),
+        record.second(),
+        record.subsecond(),
+    )
+}
+
+/// How many bytes of the text are left unread, or its refusal, and the cells of the record then.
+pub(super) fn stored_by<F: Parsable>(
+    format: &F,
+    text: &[u8],
+    record: &mut Parsed,
+) -> (Result<usize, Parse>, Cells) {
+    let left = match format.parse_into(text, record) {
+        Ok(rest) => Ok(rest.len()),
+        Err(refusal) => Err(refusal),
+    };
+    let offset = (record.offset_hour(), record.offset_minute_signed());
+    let cells = (
+        date_cells(record),
+        week_cells(record),
+        time_cells(record),
+        offset,
+    );
+    (left, cells)
+}
+
+// The same by the format of that name.
+fn stored(format: Format, text: &[u8], record: &mut Parsed) -> (Result<usize, Parse>, Cells) {
+    match format {
+        Format::Stamp => stored_by(&Rfc3339, text, record),
+        Format::Mail => stored_by(&Rfc2822, text, record),
+        Format::Iso => stored_by(&Iso8601, text, record),
+        Format::Described(description) => match described(description) {
+            Some(description) => stored_by(&description, text, record),
+            None => (Err(DESCRIPTION), NOTHING),
+        },
+        _ => (Err(DESCRIPTION), NOTHING),
+    }
+}
+
+const NOTHING: Cells = (NO_DATE, NO_WEEK, NO_TIME, NO_OFFSET);
+
+const MARCH: DateCells = (None, Some(March), 0, 0);
+
+const SECOND_OF_JANUARY: DateCells = (Some(2021), Some(January), 2, 0);
+
+const MONDAY: WeekCells = (None, 0, Some(Weekday::Monday));
+
+const CLOCK: Format = Format::Described(b"[hour]:[minute][optional [:[second]]]");
+
+const YEAR_OR_MONTH: Format = Format::Described(b"[first [[year]] [[month]]]");
+
+// What a mail date puts into a record.
+const MAILED: Cells = (
+    SECOND_OF_JANUARY,
+    MONDAY,
+    (Some(3), Some(4), None, None),
+    (Some(0), Some(0)),
+);
+
+/// A format and the month that a record has, the text that is read over it before, if any, and the text, how many bytes
+/// of it are left, and what the record has then.
+type Row = (
+    Format,
+    Option<Month>,
+    &'static [u8],
+    &'static [u8],
+    Result<usize, Parse>,
+    Cells,
+);
+
+static RECORDS: [Row; 16] = [
+    // Of two forms the first counts that stands.
+    (
+        Format::Iso,
+        None,
+        b"",
+        b"20210102",
+        Ok(0),
+        (SECOND_OF_JANUARY, NO_WEEK, NO_TIME, NO_OFFSET),
+    ),
+    (
+        Format::Iso,
+        None,
+        b"",
+        b"2021-010-",
+        Ok(1),
+        ((Some(2021), None, 0, 10), NO_WEEK, NO_TIME, NO_OFFSET),
+    ),
+    (
+        Format::Iso,
+        None,
+        b"",
+        b"-000044-03-15",
+        Ok(0),
+        ((Some(-44), Some(March), 15, 0), NO_WEEK, NO_TIME, NO_OFFSET),
+    ),
+    (
+        Format::Iso,
+        None,
+        b"",
+        b"+009999W017",
+        Ok(0),
+        (
+            NO_DATE,
+            (Some(9999), 1, Some(Weekday::Sunday)),
+            NO_TIME,
+            NO_OFFSET,
+        ),
+    ),
+    // A text that is refused, and a part that can't be read, leave the record as it was.
+    (
+        Format::Iso,
+        Some(March),
+        b"",
+        b"9999-12-32",
+        Err(DAY),
+        (MARCH, NO_WEEK, NO_TIME, NO_OFFSET),
+    ),
+    (
+        Format::Iso,
+        Some(March),
+        b"9999-12-32",
+        b"2021-01-02T03:04:61+26",
+        Ok(12),
+        (SECOND_OF_JANUARY, NO_WEEK, NO_TIME, NO_OFFSET),
+    ),
+    // After a date alone no offset is read.
+    (
+        Format::Iso,
+        None,
+        b"",
+        b"2021-01-02+05",
+        Ok(3),
+        (SECOND_OF_JANUARY, NO_WEEK, NO_TIME, NO_OFFSET),
+    ),
+    (
+        Format::Iso,
+        None,
+        b"2021-01-02+05",
+        b"2021-01-02T03+05",
+        Ok(0),
+        (
+            SECOND_OF_JANUARY,
+            NO_WEEK,
+            (Some(3), Some(0), Some(0), Some(0)),
+            (Some(5), Some(0)),
+        ),
+    ),
+    // A date that can't be read puts nothing there.
+    (
+        Format::Iso,
+        None,
+        b"",
+        b"1234-05:30",
+        Ok(3),
+        (
+            NO_DATE,
+            NO_WEEK,
+            (Some(12), Some(34), Some(0), Some(0)),
+            (Some(-5), Some(0)),
+        ),
+    ),
+    (
+        Format::Mail,
+        None,
+        b"",
+        b"Mon, 02 Jan 2021 03:04 GMT",
+        Ok(0),
+        MAILED,
+    ),
+    (
+        Format::Mail,
+        None,
+        b"Mon, 02 Jan 2021 03:04 GMT",
+        b"1 Jun 2021 03:04 +0060",
+        Err(OFFSET_MINUTE),
+        MAILED,
+    ),
+    (
+        Format::Stamp,
+        Some(March),
+        b"",
+        b"2021-05x",
+        Err(LITERAL),
+        (MARCH, NO_WEEK, NO_TIME, NO_OFFSET),
+    ),
+    // A second that is out of range leaves the whole part unread, and the record without it.
+    (
+        CLOCK,
+        None,
+        b"",
+        b"03:04:61",
+        Ok(3),
+        (NO_DATE, NO_WEEK, (Some(3), Some(4), None, None), NO_OFFSET),
+    ),
+    (
+        YEAR_OR_MONTH,
+        None,
+        b"",
+        b"2021",
+        Ok(0),
+        ((Some(2021), None, 0, 0), NO_WEEK, NO_TIME, NO_OFFSET),
+    ),
+    (
+        YEAR_OR_MONTH,
+        None,
+        b"",
+        b"07",
+        Ok(0),
+        ((None, Some(July), 0, 0), NO_WEEK, NO_TIME, NO_OFFSET),
+    ),
+    // The fault is the first list's.
+    (
+        YEAR_OR_MONTH,
+        None,
+        b"07",
+        b"x",
+        Err(YEAR),
+        ((None, Some(July), 0, 0), NO_WEEK, NO_TIME, NO_OFFSET),
+    ),
+];
+
+// The text of the row puts that into the record.
+fn is_stored(row: &Row) -> bool {
+    let (format, month, before, text, left, cells) = *row;
+    let mut record = Parsed::new();
+    if let Some(month) = month
+        && record.set_month(month).is_none()
+    {
+        return false;
+    }
+    // The empty text is refused, and leaves the record as it is.
+    let _ = stored(format, before, &mut record);
+    stored(format, text, &mut record) == (left, cells)
+}
+
+#[test]
+fn records(rt: HostRuntime) {
+    for row in &RECORDS {
+        assert!(rt; is_stored(row), "{:?}", row.3);
+    }
+}

@@ -1,69 +1,41 @@
 //! Lines at the ends of the range of years, and every refusal that the program may meet.
-use super::{BUFFER, NEVER, Page, answer, make_source};
-use crate::serving::{run, serve, serve_in};
-use linked_list_allocator::LocalHeap;
-use std::alloc::{AllocError, Global};
-use std::io;
-use std::test::Fail;
-use time_answers::Stop;
+use super::{Row, are_answered, fills, joined, try_parts, try_reads, try_sizes};
 
 // The first moment of the years of four digits, and the first that there is.
-const RANGE_ENDS: [(&str, &str, &str, &str); 7] = [
+static RANGE_ENDS: [Row; 7] = [
     (
-        "unix",
-        "datetime",
-        "-377705116800",
+        "unix\tdatetime\t-377705116800",
         "-9999-01-01 00:00:00.000000000 +00:00:00\n",
     ),
     (
-        "local",
-        "datetime",
-        "-9999-01-01 00:00:00 +00:01",
+        "local\tdatetime\t-9999-01-01 00:00:00 +00:01",
         "-9999-01-01 00:00:00.000000000 +00:01:00\n",
     ),
     (
-        "unix",
-        "datetime",
-        "-31619087596800",
+        "unix\tdatetime\t-31619087596800",
         "-999999-01-01 00:00:00.000000000 +00:00:00\n",
     ),
     (
-        "unix",
-        "datetime",
-        "-31619087596801",
+        "unix\tdatetime\t-31619087596801",
         "error: the 'unix_timestamp' component could not be parsed\n",
     ),
     (
-        "iso8601",
-        "datetime",
-        "-999999-01-01T00:00:00+00:01",
+        "iso8601\tdatetime\t-999999-01-01T00:00:00+00:01",
         "-999999-01-01 00:00:00.000000000 +00:01:00\n",
     ),
     (
-        "iso8601",
-        "utc",
-        "-999999-01-01T00:00:00+00:01",
+        "iso8601\tutc\t-999999-01-01T00:00:00+00:01",
         "error: year is out of range for the other components\n",
     ),
     (
-        "iso8601",
-        "timestamp",
-        "-999999-01-01T00:00:00+00:01",
+        "iso8601\ttimestamp\t-999999-01-01T00:00:00+00:01",
         "error: the `Parsed` struct did not include enough information to construct the type\n",
     ),
 ];
 
 #[test]
-fn range_ends(rt: HostRuntime) -> Result<(), Fail> {
-    for (format, target, text, line) in RANGE_ENDS {
-        let written = answer(rt.alloc(), format, target, text.as_bytes())?;
-        assert_eq!(rt;
-            written.as_slice(),
-            line.as_bytes(),
-            "{format} {target} {text}"
-        );
-    }
-    Ok(())
+fn range_ends(rt: HostRuntime) {
+    are_answered(&rt, &RANGE_ENDS);
 }
 
 // A line of each format, one that is refused, and one that is none.
@@ -89,86 +61,31 @@ error: the 'month' component could not be parsed
 error: line
 ";
 
-// The bytes so many times.
-fn repeated(alloc: Global, bytes: &[u8], times: usize) -> Result<Vec<u8>, AllocError> {
-    let mut text = Vec::new(alloc);
-    for _ in 0..times {
-        text.extend_from_slice(bytes)?;
-    }
-    Ok(text)
-}
-
-// What `serve` answers where so much memory is left, and what it wrote.
-fn served_within(
-    alloc: Global,
-    size: usize,
-    input: &[u8],
-) -> Result<(Result<(), Stop>, Vec<u8>), Fail> {
-    let heap = LocalHeap::new(alloc, size)?;
-    let mut page = Page::new(alloc, NEVER);
-    let answer = serve_in(&heap, &mut make_source(input, 1024, NEVER), &mut page);
-    let Page { text, .. } = page;
-    Ok((answer, text))
-}
-
 // The input takes some growths of the buffer, and each is refused at some of these sizes.
 #[test]
-fn hostile_program(rt: HostRuntime) -> Result<(), Fail> {
-    let input = repeated(rt.alloc(), LINES, 40)?;
-    let output = repeated(rt.alloc(), ANSWERS, 40)?;
-    let mut refused = 0_u32;
-    let mut served = 0_u32;
-    for size in 1..=128_usize {
-        let (answer, text) = served_within(rt.alloc(), size * 512, &input)?;
-        if answer.is_ok() {
-            assert!(rt; text.as_slice() == output.as_slice(), "{size}");
-            served = served.saturating_add(1);
-        } else {
-            assert!(rt; answer == Err(Stop::Memory) && text.is_empty(), "{size}");
-            refused = refused.saturating_add(1);
-        }
-    }
-    assert!(rt; refused > 0 && served > 0);
-    let mut page = [0_u8; ANSWERS.len() + 1];
-    let mut out = io::Cursor::new(&mut page[..]);
-    assert!(rt; run(LINES, &mut out).is_ok());
-    assert!(rt; page.strip_suffix(&[0]) == Some(ANSWERS));
-    Ok(())
+fn hostile_program(rt: HostRuntime) {
+    let input = joined(rt.alloc(), &[(&[LINES], 40)]).expect(&rt, "memory");
+    let output = joined(rt.alloc(), &[(&[ANSWERS], 40)]).expect(&rt, "memory");
+    try_sizes(
+        &rt,
+        input.as_slice(),
+        output.as_slice(),
+        1024,
+        (512, 1..129),
+    );
+    assert!(rt; fills(LINES, ANSWERS));
 }
 
+// The lines have 253 bytes, and one read more finds their end.
 #[test]
 fn hostile_program_unread(rt: HostRuntime) {
-    for most in [1, 7, 100] {
-        for at in 0..=LINES.len().div_ceil(most) {
-            let mut page = Page::new(rt.alloc(), NEVER);
-            let answer = serve(rt.alloc(), &mut make_source(LINES, most, at), &mut page);
-            assert!(rt; answer == Err(Stop::Unread), "{most} {at}");
-            assert!(rt; page.text.is_empty(), "{most} {at}");
-        }
+    for most_and_reads in [(1, 254), (7, 38), (100, 4)] {
+        try_reads(&rt, LINES, ANSWERS, most_and_reads);
     }
 }
 
+// 205000 bytes of answers fill the room for 65536 bytes three times, and go on.
 #[test]
-fn hostile_program_unwritten(rt: HostRuntime) -> Result<(), Fail> {
-    let input = repeated(rt.alloc(), LINES, 1000)?;
-    let mut page = Page::new(rt.alloc(), NEVER);
-    let answer = serve(
-        rt.alloc(),
-        &mut make_source(&input, BUFFER, NEVER),
-        &mut page,
-    );
-    assert!(rt; answer == Ok(()));
-    let output = repeated(rt.alloc(), ANSWERS, 1000)?;
-    assert!(rt; page.text.as_slice() == output.as_slice());
-    assert!(rt; page.writes > 3);
-    for at in 0..page.writes {
-        let mut page = Page::new(rt.alloc(), at);
-        let answer = serve(
-            rt.alloc(),
-            &mut make_source(&input, BUFFER, NEVER),
-            &mut page,
-        );
-        assert!(rt; answer == Err(Stop::Unwritten), "{at}");
-    }
-    Ok(())
+fn hostile_program_unwritten(rt: HostRuntime) {
+    try_parts(&rt, &[(&[LINES], 1000)], &[(&[ANSWERS], 1000)], 4);
 }

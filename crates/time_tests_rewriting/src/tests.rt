@@ -2,7 +2,6 @@
 use std::alloc::Global;
 use std::io;
 use std::io::{ErrorKind, Read, Write};
-use std::test::Fail;
 use time_rewriting::{Block, Fate, Output, Reports, Rewriting, Settings, Stop, Stream, Tally};
 use time_values::text::Text;
 
@@ -142,6 +141,13 @@ pub const ALL: Settings = Settings {
     strict: false,
 };
 
+/// The new times alone.
+pub const TIMES: Settings = Settings {
+    output: Output::Times,
+    reports: Reports::Quiet,
+    strict: false,
+};
+
 /// What was written, logged and counted, and how it ended.
 #[derive(Drop)]
 pub struct Answer {
@@ -151,27 +157,36 @@ pub struct Answer {
     pub ended: Result<(), Stop>,
 }
 
-/// Answers what a source gives, as a file of the name `f`.
-pub fn answer_to(alloc: Global, settings: Settings, mut source: Source<'_>) -> Answer {
-    let mut stream = Stream::new(Page::new(alloc, NEVER), Page::new(alloc, NEVER));
-    let mut block = Block::new();
-    let ended = stream.serve(&Marks, settings, b"f", &mut source, &mut block);
-    let (out, log, tally) = stream.into_parts();
-    let Page { text: out, .. } = out;
-    let Page { text: log, .. } = log;
-    Answer {
-        out,
-        log,
-        tally,
-        ended,
+impl Answer {
+    /// What a stream holds, and how its work ended.
+    pub fn new(stream: Stream<Page, Page>, ended: Result<(), Stop>) -> Answer {
+        let (out, log, tally) = stream.into_parts();
+        let Page { text: out, .. } = out;
+        let Page { text: log, .. } = log;
+        Answer {
+            out,
+            log,
+            tally,
+            ended,
+        }
+    }
+
+    /// Whether it ended so, with those bytes written and logged.
+    pub fn is(&self, ended: Result<(), Stop>, out: &[u8], log: &[u8]) -> bool {
+        self.ended == ended && self.out.as_slice() == out && self.log.as_slice() == log
     }
 }
 
-/// One text after another, `count` times.
-pub fn repeated(alloc: Global, text: &[u8], count: usize) -> Result<Vec<u8>, Fail> {
-    let mut bytes = Vec::new(alloc);
-    for _ in 0..count {
-        bytes.extend_from_slice(text)?;
-    }
-    Ok(bytes)
+/// Answers what a source gives on those pages, as a file of the name `f`.
+pub fn answer_on(out: Page, log: Page, settings: Settings, mut source: Source<'_>) -> Answer {
+    let mut stream = Stream::new(out, log);
+    let ended = stream.serve(&Marks, settings, b"f", &mut source, &mut Block::new());
+    Answer::new(stream, ended)
+}
+
+/// The same, where no write fails.
+pub fn answer_to(alloc: Global, settings: Settings, source: Source<'_>) -> Answer {
+    let out = Page::new(alloc, NEVER);
+    let log = Page::new(alloc, NEVER);
+    answer_on(out, log, settings, source)
 }

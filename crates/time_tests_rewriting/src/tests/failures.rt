@@ -1,7 +1,6 @@
 //! Reads and writes that fail, and the first refused line where the work stops at it.
-use crate::tests::{ALL, Marks, NEVER, Page, answer_to, make_source};
-use std::test::Fail;
-use time_rewriting::{Block, Output, Reports, Settings, Stop, Stream};
+use crate::tests::{ALL, NEVER, Page, Source, answer_on, answer_to, make_source};
+use time_rewriting::{Output, Reports, Settings, Stop};
 
 const STRICT: Settings = Settings {
     output: Output::AllLines,
@@ -9,73 +8,64 @@ const STRICT: Settings = Settings {
     strict: true,
 };
 
+// Which read fails, and what went out. The reads are `@a`, LF `@`, `b` `!`, LF `#`, `c` LF and `d`: whole lines are
+// answered before the next read.
+static READS: [(usize, &[u8]); 6] = [
+    (0, b""),
+    (1, b""),
+    (2, b"nowa\n"),
+    (3, b"nowa\n"),
+    (4, b"nowa\nnowb!\n"),
+    (5, b"nowa\nnowb!\n"),
+];
+
 #[test]
-fn each_read_fails(rt: HostRuntime) -> Result<(), Fail> {
-    // `@a`, LF `@`, `b` `!`: whole lines are answered before the next read.
-    let input = b"@a\n@b!\n#c\nd";
-    let wanted: [&[u8]; 6] = [
-        b"",
-        b"",
-        b"nowa\n",
-        b"nowa\n",
-        b"nowa\nnowb!\n",
-        b"nowa\nnowb!\n",
-    ];
-    for (fails_at, out) in wanted.iter().enumerate() {
-        let mut source = make_source(input, 2);
-        source.fails_at = fails_at;
+fn each_read_fails(rt: HostRuntime) {
+    for (fails_at, out) in &READS {
+        let source = Source {
+            fails_at: *fails_at,
+            ..make_source(b"@a\n@b!\n#c\nd", 2)
+        };
         let got = answer_to(rt.alloc(), ALL, source);
-        assert_eq!(rt; got.ended, Err(Stop::Unread), "{fails_at}");
-        assert_eq!(rt; got.out.as_slice(), *out, "{fails_at}");
-        assert_eq!(rt; got.log.as_slice(), b"f: no read\n".as_slice());
-        assert_eq!(rt; got.tally.unread, 1);
+        let is_unread = got.is(Err(Stop::Unread), out, b"f: no read\n");
+        assert!(rt; is_unread && got.tally.unread == 1, "{fails_at}");
     }
-    Ok(())
 }
 
-#[test]
-fn each_write_fails(rt: HostRuntime) -> Result<(), Fail> {
-    let input = b"@a\n!b\nc";
-    for fails_at in 0..2usize {
-        let mut stream = Stream::new(
-            Page::new(rt.alloc(), fails_at),
-            Page::new(rt.alloc(), NEVER),
-        );
-        let mut source = make_source(input, 3);
-        let ended = stream.serve(&Marks, ALL, b"f", &mut source, &mut Block::new());
-        assert_eq!(rt; ended, Err(Stop::Unwritten));
-    }
-    // A report is several writes: the name, the line's number, the reason and LF.
-    for fails_at in 0..4usize {
-        let mut stream = Stream::new(
-            Page::new(rt.alloc(), NEVER),
-            Page::new(rt.alloc(), fails_at),
-        );
-        let mut source = make_source(input, 3);
-        let ended = stream.serve(&Marks, ALL, b"f", &mut source, &mut Block::new());
-        assert_eq!(rt; ended, Err(Stop::Unwritten));
-    }
-    Ok(())
-}
+// Which write of what goes out fails, and which of a report: the name, the line's number, the reason and LF.
+static WRITES: [(usize, usize); 6] = [
+    (0, NEVER),
+    (1, NEVER),
+    (NEVER, 0),
+    (NEVER, 1),
+    (NEVER, 2),
+    (NEVER, 3),
+];
 
 #[test]
-fn stops_at_a_refused_line(rt: HostRuntime) -> Result<(), Fail> {
-    for (input, out, log) in [
-        (
-            b"@a\n#\n!b\n@c\n".as_slice(),
-            b"nowa\n".as_slice(),
-            b"f:3:1: bad\n".as_slice(),
-        ),
-        (b"!", b"", b"f:1:1: bad\n"),
-        (b"a\n!", b"a\n", b"f:2:1: bad\n"),
-    ] {
+fn each_write_fails(rt: HostRuntime) {
+    for (out, log) in &WRITES {
+        let out = Page::new(rt.alloc(), *out);
+        let log = Page::new(rt.alloc(), *log);
+        let got = answer_on(out, log, ALL, make_source(b"@a\n!b\nc", 3));
+        assert!(rt; got.ended == Err(Stop::Unwritten), "{:?}", got.out);
+    }
+}
+
+// An input, what goes out, and the log.
+static REFUSED: [(&[u8], &[u8], &[u8]); 3] = [
+    (b"@a\n#\n!b\n@c\n", b"nowa\n", b"f:3:1: bad\n"),
+    (b"!", b"", b"f:1:1: bad\n"),
+    (b"a\n!", b"a\n", b"f:2:1: bad\n"),
+];
+
+#[test]
+fn stops_at_a_refused_line(rt: HostRuntime) {
+    for (input, out, log) in &REFUSED {
         for most in [1, 4, NEVER] {
             let got = answer_to(rt.alloc(), STRICT, make_source(input, most));
-            assert_eq!(rt; got.ended, Err(Stop::Refused));
-            assert_eq!(rt; got.out.as_slice(), out);
-            assert_eq!(rt; got.log.as_slice(), log);
-            assert_eq!(rt; got.tally.refused, 1);
+            let is_refused = got.is(Err(Stop::Refused), out, log);
+            assert!(rt; is_refused && got.tally.refused == 1, "{most} of {input:?}");
         }
     }
-    Ok(())
 }

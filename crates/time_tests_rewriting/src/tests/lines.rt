@@ -1,6 +1,5 @@
 //! Lines of each fate, in each setting, also where they come a byte at a time.
-use crate::tests::{ALL, answer_to, make_source};
-use std::test::Fail;
+use crate::tests::{ALL, NEVER, Source, TIMES, answer_to, make_source};
 use time_rewriting::{Output, Reports, Settings, Tally};
 
 const REWRITTEN: Settings = Settings {
@@ -9,16 +8,10 @@ const REWRITTEN: Settings = Settings {
     strict: false,
 };
 
-const TIMES: Settings = Settings {
-    output: Output::Times,
-    reports: Reports::Quiet,
-    strict: false,
-};
-
 // The settings, an input, what goes out, and what is logged.
 type Row = (Settings, &'static [u8], &'static [u8], &'static [u8]);
 
-const ROWS: [Row; 20] = [
+static ROWS: [Row; 20] = [
     (ALL, b"", b"", b""),
     (ALL, b"\n", b"\n", b""),
     (ALL, b"a", b"a", b""),
@@ -46,44 +39,34 @@ const ROWS: [Row; 20] = [
     (ALL, b"@@\n", b"now@\n", b""),
 ];
 
+// At once, and a byte a read, where each second read is interrupted.
 #[test]
-fn fates(rt: HostRuntime) -> Result<(), Fail> {
-    for (settings, input, out, log) in ROWS {
-        let got = answer_to(rt.alloc(), settings, make_source(input, input.len()));
-        assert!(rt; got.ended.is_ok());
-        assert_eq!(rt; got.out.as_slice(), out);
-        assert_eq!(rt; got.log.as_slice(), log);
+fn fates(rt: HostRuntime) {
+    for (settings, input, out, log) in &ROWS {
+        for (most, interrupts) in [(NEVER, false), (1, true)] {
+            let source = Source {
+                interrupts,
+                ..make_source(input, most)
+            };
+            let got = answer_to(rt.alloc(), *settings, source);
+            assert!(rt; got.is(Ok(()), out, log), "{most} of {input:?}");
+        }
     }
-    Ok(())
 }
 
-#[test]
-fn a_byte_a_read(rt: HostRuntime) -> Result<(), Fail> {
-    for (settings, input, out, log) in ROWS {
-        let mut source = make_source(input, 1);
-        source.interrupts = true;
-        let got = answer_to(rt.alloc(), settings, source);
-        assert!(rt; got.ended.is_ok());
-        assert_eq!(rt; got.out.as_slice(), out);
-        assert_eq!(rt; got.log.as_slice(), log);
-    }
-    Ok(())
-}
+const COUNTS: Tally = Tally {
+    line: 7,
+    refused_here: 2,
+    lines: 7,
+    rewritten: 2,
+    without: 2,
+    dropped: 1,
+    refused: 2,
+    unread: 0,
+};
 
 #[test]
-fn counts(rt: HostRuntime) -> Result<(), Fail> {
-    let input = b"a\n@b\n!c\n#d\n@e\n\n!";
-    let got = answer_to(rt.alloc(), ALL, make_source(input, 4));
-    let wanted = Tally {
-        line: 7,
-        refused_here: 2,
-        lines: 7,
-        rewritten: 2,
-        without: 2,
-        dropped: 1,
-        refused: 2,
-        unread: 0,
-    };
-    assert_eq!(rt; got.tally, wanted);
-    Ok(())
+fn counts(rt: HostRuntime) {
+    let source = make_source(b"a\n@b\n!c\n#d\n@e\n\n!", 4);
+    assert!(rt; answer_to(rt.alloc(), ALL, source).tally == COUNTS);
 }

@@ -1,75 +1,115 @@
-//! Lines about as long as the limit. `=` shows where the front ended.
-use crate::tests::{ALL, NEVER, answer_to, make_source, repeated};
+//! Lines about as long as the limit, and many lines. `=` shows where the front ended.
+use crate::tests::{ALL, NEVER, TIMES, answer_to, make_source};
 use std::alloc::Global;
-use std::test::Fail;
-use time_rewriting::{LIMIT, Output, Reports, Settings};
+use time_rewriting::{LIMIT, Settings, Tally};
 
-// `=` and as many `x` as make a line of `length` bytes, with `now` after its first LIMIT bytes, and then what ends it.
-fn wanted(alloc: Global, length: usize, ending: &[u8]) -> Result<Vec<u8>, Fail> {
-    let front = length.min(LIMIT);
-    let mut bytes = repeated(alloc, b"=", 1)?;
-    bytes.extend_from_slice(repeated(alloc, b"x", front.saturating_sub(1))?.as_slice())?;
-    bytes.extend_from_slice(b"now")?;
-    bytes.extend_from_slice(repeated(alloc, b"x", length.saturating_sub(front))?.as_slice())?;
-    bytes.extend_from_slice(ending)?;
-    Ok(bytes)
-}
+// A text, and how many times it stands.
+type Piece = (&'static [u8], usize);
 
-#[test]
-fn lengths_about_the_limit(rt: HostRuntime) -> Result<(), Fail> {
-    for length in [1, LIMIT - 1, LIMIT, LIMIT + 1, 2 * LIMIT + 3] {
-        for (ending, most) in [
-            (b"\n".as_slice(), LIMIT),
-            (b"", 65536),
-            (b"\n@ b\n", 100003),
-        ] {
-            let mut input = repeated(rt.alloc(), b"=", 1)?;
-            input.extend_from_slice(repeated(rt.alloc(), b"x", length - 1)?.as_slice())?;
-            input.extend_from_slice(ending)?;
-            let got = answer_to(rt.alloc(), ALL, make_source(input.as_slice(), most));
-            assert!(rt; got.ended.is_ok());
-            let after: &[u8] = if ending.len() > 1 {
-                b"\nnow b\n"
-            } else {
-                ending
-            };
-            let wanted = wanted(rt.alloc(), length, after)?;
-            assert!(rt; got.out.as_slice() == wanted.as_slice(), "{length}");
+// The pieces one after the other, or nothing where there is no memory for them.
+fn joined(alloc: Global, pieces: &[Piece]) -> Option<Vec<u8>> {
+    let mut bytes = Vec::new(alloc);
+    for (text, count) in pieces {
+        for _ in 0..*count {
+            bytes.extend_from_slice(text).ok()?;
         }
     }
-    Ok(())
+    Some(bytes)
 }
 
-#[test]
-fn a_long_dropped_line(rt: HostRuntime) -> Result<(), Fail> {
-    let mut input = repeated(rt.alloc(), b"#", LIMIT + 5)?;
-    input.extend_from_slice(b"\na\n")?;
-    let got = answer_to(rt.alloc(), ALL, make_source(input.as_slice(), LIMIT));
-    assert_eq!(rt; got.out.as_slice(), b"a\n".as_slice());
-    assert_eq!(rt; got.tally.lines, 2);
-    Ok(())
+// What is counted of an input, of which a read gives at most so many bytes, where that goes out and nothing is logged.
+fn counted(
+    alloc: Global,
+    settings: Settings,
+    input: &[Piece],
+    most: usize,
+    out: &[Piece],
+) -> Option<Tally> {
+    let input = joined(alloc, input)?;
+    let out = joined(alloc, out)?;
+    let got = answer_to(alloc, settings, make_source(input.as_slice(), most));
+    if got.is(Ok(()), out.as_slice(), b"") {
+        Some(got.tally)
+    } else {
+        None
+    }
 }
 
-#[test]
-fn the_time_of_a_long_line(rt: HostRuntime) -> Result<(), Fail> {
-    let settings = Settings {
-        output: Output::Times,
-        reports: Reports::Quiet,
-        strict: false,
-    };
-    let input = repeated(rt.alloc(), b"@", 3 * LIMIT)?;
-    let got = answer_to(rt.alloc(), settings, make_source(input.as_slice(), LIMIT));
-    assert_eq!(rt; got.out.as_slice(), b"now\n".as_slice());
-    Ok(())
-}
+// How many `x` stand in a front that begins with `=`, and how many after it. The lines have 1, LIMIT - 1, LIMIT,
+// LIMIT + 1 and 2 * LIMIT + 3 bytes.
+static LENGTHS: [(usize, usize); 5] = [
+    (0, 0),
+    (LIMIT - 2, 0),
+    (LIMIT - 1, 0),
+    (LIMIT - 1, 1),
+    (LIMIT - 1, LIMIT + 3),
+];
+
+// What ends the line, what that becomes, and how many bytes a read gives at most.
+static ENDINGS: [(&[u8], &[u8], usize); 3] = [
+    (b"\n", b"\n", LIMIT),
+    (b"", b"", 65536),
+    (b"\n@ b\n", b"\nnow b\n", 100003),
+];
 
 #[test]
-fn many_lines(rt: HostRuntime) -> Result<(), Fail> {
-    // 200,000 lines of 3 bytes fill the block twice and what waits many times.
-    let input = repeated(rt.alloc(), b"@a\n", 200000)?;
-    let wanted = repeated(rt.alloc(), b"nowa\n", 200000)?;
-    let got = answer_to(rt.alloc(), ALL, make_source(input.as_slice(), NEVER));
-    assert!(rt; got.out.as_slice() == wanted.as_slice());
-    assert_eq!(rt; got.tally.rewritten, 200000);
-    Ok(())
+fn lengths_about_the_limit(rt: HostRuntime) {
+    for (front, after) in &LENGTHS {
+        for (ending, wanted, most) in &ENDINGS {
+            let input: [Piece; 4] = [(b"=", 1), (b"x", *front), (b"x", *after), (*ending, 1)];
+            let out: [Piece; 5] = [
+                (b"=", 1),
+                (b"x", *front),
+                (b"now", 1),
+                (b"x", *after),
+                (*wanted, 1),
+            ];
+            let tally = counted(rt.alloc(), ALL, &input, *most, &out);
+            assert!(rt; tally.is_some(), "{front}, {after}, {most}");
+        }
+    }
+}
+
+// The settings, an input, what goes out, how many bytes a read gives at most, how many lines there are, and how many of
+// them are rewritten.
+type Row = (
+    Settings,
+    &'static [Piece],
+    &'static [Piece],
+    usize,
+    u64,
+    u64,
+);
+
+// A long line that is dropped, one of which only the time goes out, and many of 3 bytes: they fill the block twice and
+// what waits many times.
+static ROWS: [Row; 3] = [
+    (
+        ALL,
+        &[(b"#", LIMIT + 5), (b"\na\n", 1)],
+        &[(b"a\n", 1)],
+        LIMIT,
+        2,
+        0,
+    ),
+    (TIMES, &[(b"@", 3 * LIMIT)], &[(b"now\n", 1)], LIMIT, 1, 1),
+    (
+        ALL,
+        &[(b"@a\n", 200000)],
+        &[(b"nowa\n", 200000)],
+        NEVER,
+        200000,
+        200000,
+    ),
+];
+
+#[test]
+fn long_and_many_lines(rt: HostRuntime) {
+    for (settings, input, out, most, lines, rewritten) in &ROWS {
+        let tally = counted(rt.alloc(), *settings, input, *most, out).unwrap_or(Tally::new());
+        assert!(rt;
+            tally.lines == *lines && tally.rewritten == *rewritten,
+            "{tally:?}"
+        );
+    }
 }

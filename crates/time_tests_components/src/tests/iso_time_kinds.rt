@@ -1,12 +1,11 @@
 //! Each row of the table of times under each kind before it, by the part's reader.
-use std::test::Fail;
 use time_readers::iso8601::{ExtendedKind, time};
 
-/// Hour, minute, second and nanosecond, the unread rest, and the kind after.
+// Hour, minute, second and nanosecond, the unread rest, and the kind after.
 type Found = (u8, u8, u8, u32, &'static [u8], ExtendedKind);
 
-/// What a text says under a kind, or nothing where it is refused.
-type Row = (&'static [u8], Option<Found>);
+// What a text says under a kind, or nothing where it is refused.
+type Row = (&'static [u8], ExtendedKind, Option<Found>);
 
 // What is read of the text under the kind is that.
 fn reads(text: &[u8], kind: ExtendedKind, wanted: Option<Found>) -> bool {
@@ -29,110 +28,112 @@ const EXTENDED: ExtendedKind = ExtendedKind::Extended;
 
 const UNKNOWN: ExtendedKind = ExtendedKind::Unknown;
 
-const OF_BASIC_KIND: [Row; 11] = [
-    (b"03,5x", Some((3, 30, 0, 0, b"x", BASIC))),
-    (b"03", Some((3, 0, 0, 0, b"", BASIC))),
-    (b"0304.5", Some((3, 4, 30, 0, b"", BASIC))),
-    (b"03:04.5", None),
-    (b"0304", Some((3, 4, 0, 0, b"", BASIC))),
-    (b"03:04", None),
-    (b"030405", Some((3, 4, 5, 0, b"", BASIC))),
-    (b"030405.25", Some((3, 4, 5, 250_000_000, b"", BASIC))),
-    (b"0304:05", Some((3, 4, 0, 0, b":05", BASIC))),
-    (b"03:04:05", None),
-    (b"03:04:05,25", None),
+static TIMES: [Row; 61] = [
+    (b"03,5x", BASIC, Some((3, 30, 0, 0, b"x", BASIC))),
+    (b"03", BASIC, Some((3, 0, 0, 0, b"", BASIC))),
+    (b"0304.5", BASIC, Some((3, 4, 30, 0, b"", BASIC))),
+    (b"03:04.5", BASIC, None),
+    (b"0304", BASIC, Some((3, 4, 0, 0, b"", BASIC))),
+    (b"03:04", BASIC, None),
+    (b"030405", BASIC, Some((3, 4, 5, 0, b"", BASIC))),
+    (
+        b"030405.25",
+        BASIC,
+        Some((3, 4, 5, 250_000_000, b"", BASIC)),
+    ),
+    (b"0304:05", BASIC, Some((3, 4, 0, 0, b":05", BASIC))),
+    (b"03:04:05", BASIC, None),
+    (b"03:04:05,25", BASIC, None),
+    (b"03,5x", EXTENDED, Some((3, 30, 0, 0, b"x", EXTENDED))),
+    (b"03", EXTENDED, Some((3, 0, 0, 0, b"", EXTENDED))),
+    (b"0304.5", EXTENDED, Some((3, 4, 30, 0, b"", EXTENDED))),
+    (b"03:04.5", EXTENDED, Some((3, 4, 30, 0, b"", EXTENDED))),
+    (b"0304", EXTENDED, Some((3, 4, 0, 0, b"", EXTENDED))),
+    (b"03:04", EXTENDED, Some((3, 4, 0, 0, b"", EXTENDED))),
+    (b"030405", EXTENDED, Some((3, 4, 0, 0, b"05", EXTENDED))),
+    (b"0304:05", EXTENDED, Some((3, 4, 5, 0, b"", EXTENDED))),
+    (
+        b"0304:05.25",
+        EXTENDED,
+        Some((3, 4, 5, 250_000_000, b"", EXTENDED)),
+    ),
+    (b"03:04:05", EXTENDED, Some((3, 4, 5, 0, b"", EXTENDED))),
+    (
+        b"03:04:05,25",
+        EXTENDED,
+        Some((3, 4, 5, 250_000_000, b"", EXTENDED)),
+    ),
+    (b"03,5x", UNKNOWN, Some((3, 30, 0, 0, b"x", UNKNOWN))),
+    (b"03", UNKNOWN, Some((3, 0, 0, 0, b"", UNKNOWN))),
+    (b"0304.5", UNKNOWN, Some((3, 4, 30, 0, b"", BASIC))),
+    (b"03:04.5", UNKNOWN, Some((3, 4, 30, 0, b"", EXTENDED))),
+    (b"0304", UNKNOWN, Some((3, 4, 0, 0, b"", BASIC))),
+    (b"03:04", UNKNOWN, Some((3, 4, 0, 0, b"", EXTENDED))),
+    (b"030405", UNKNOWN, Some((3, 4, 5, 0, b"", BASIC))),
+    (
+        b"030405.25",
+        UNKNOWN,
+        Some((3, 4, 5, 250_000_000, b"", BASIC)),
+    ),
+    (b"0304:05", UNKNOWN, Some((3, 4, 0, 0, b":05", BASIC))),
+    (b"03:04:05", UNKNOWN, Some((3, 4, 5, 0, b"", EXTENDED))),
+    (
+        b"03:04:05,25",
+        UNKNOWN,
+        Some((3, 4, 5, 250_000_000, b"", EXTENDED)),
+    ),
+    // What may follow a whole hour, and a whole minute.
+    (b"03:", BASIC, None),
+    (b"03x", BASIC, Some((3, 0, 0, 0, b"x", BASIC))),
+    (b"03.5:", BASIC, Some((3, 30, 0, 0, b":", BASIC))),
+    (b"034", BASIC, Some((3, 0, 0, 0, b"4", BASIC))),
+    (b"03:", EXTENDED, None),
+    (b"03x", EXTENDED, Some((3, 0, 0, 0, b"x", EXTENDED))),
+    (b"03.5:", EXTENDED, Some((3, 30, 0, 0, b":", EXTENDED))),
+    (b"034", EXTENDED, Some((3, 0, 0, 0, b"4", EXTENDED))),
+    (b"03:", UNKNOWN, None),
+    (b"03x", UNKNOWN, Some((3, 0, 0, 0, b"x", UNKNOWN))),
+    (b"03.5:", UNKNOWN, Some((3, 30, 0, 0, b":", UNKNOWN))),
+    (b"034", UNKNOWN, Some((3, 0, 0, 0, b"4", UNKNOWN))),
+    (b"0304:", EXTENDED, None),
+    (b"0304:", UNKNOWN, Some((3, 4, 0, 0, b":", BASIC))),
+    (b"03:04:", UNKNOWN, None),
+    (b"03:0405", UNKNOWN, Some((3, 4, 0, 0, b"05", EXTENDED))),
+    // A number out of its range refuses, and so does a fraction of a second that rounds to 1.
+    (b"24", UNKNOWN, None),
+    (b"24.5", UNKNOWN, None),
+    (b"0360", UNKNOWN, None),
+    (b"0360.5", UNKNOWN, None),
+    (b"03:60", UNKNOWN, None),
+    (b"03:60.5", UNKNOWN, None),
+    (b"030461", UNKNOWN, None),
+    (b"03:04:61.5", UNKNOWN, None),
+    (b"03:04:05.9999999995", UNKNOWN, None),
+    (
+        b"030405,9999999994999999999999999999999999999999",
+        UNKNOWN,
+        Some((3, 4, 5, 999_999_999, b"", BASIC)),
+    ),
+    // A small letter stands before no time, and the letter alone is none.
+    (b"t03", UNKNOWN, None),
+    (b"T", UNKNOWN, None),
 ];
 
 #[test]
-fn iso_times_of_basic_kind(rt: HostRuntime) {
-    for (text, wanted) in OF_BASIC_KIND {
-        assert!(rt; reads(text, BASIC, wanted), "{text:?}");
+fn iso_times_by_kind(rt: HostRuntime) {
+    for (text, kind, wanted) in &TIMES {
+        assert!(rt; reads(text, *kind, *wanted), "{text:?} {kind:?}");
     }
 }
 
-const OF_EXTENDED_KIND: [Row; 11] = [
-    (b"03,5x", Some((3, 30, 0, 0, b"x", EXTENDED))),
-    (b"03", Some((3, 0, 0, 0, b"", EXTENDED))),
-    (b"0304.5", Some((3, 4, 30, 0, b"", EXTENDED))),
-    (b"03:04.5", Some((3, 4, 30, 0, b"", EXTENDED))),
-    (b"0304", Some((3, 4, 0, 0, b"", EXTENDED))),
-    (b"03:04", Some((3, 4, 0, 0, b"", EXTENDED))),
-    (b"030405", Some((3, 4, 0, 0, b"05", EXTENDED))),
-    (b"0304:05", Some((3, 4, 5, 0, b"", EXTENDED))),
-    (b"0304:05.25", Some((3, 4, 5, 250_000_000, b"", EXTENDED))),
-    (b"03:04:05", Some((3, 4, 5, 0, b"", EXTENDED))),
-    (b"03:04:05,25", Some((3, 4, 5, 250_000_000, b"", EXTENDED))),
-];
-
-#[test]
-fn iso_times_of_extended_kind(rt: HostRuntime) {
-    for (text, wanted) in OF_EXTENDED_KIND {
-        assert!(rt; reads(text, EXTENDED, wanted), "{text:?}");
-    }
-}
-
-const OF_UNKNOWN_KIND: [Row; 11] = [
-    (b"03,5x", Some((3, 30, 0, 0, b"x", UNKNOWN))),
-    (b"03", Some((3, 0, 0, 0, b"", UNKNOWN))),
-    (b"0304.5", Some((3, 4, 30, 0, b"", BASIC))),
-    (b"03:04.5", Some((3, 4, 30, 0, b"", EXTENDED))),
-    (b"0304", Some((3, 4, 0, 0, b"", BASIC))),
-    (b"03:04", Some((3, 4, 0, 0, b"", EXTENDED))),
-    (b"030405", Some((3, 4, 5, 0, b"", BASIC))),
-    (b"030405.25", Some((3, 4, 5, 250_000_000, b"", BASIC))),
-    (b"0304:05", Some((3, 4, 0, 0, b":05", BASIC))),
-    (b"03:04:05", Some((3, 4, 5, 0, b"", EXTENDED))),
-    (b"03:04:05,25", Some((3, 4, 5, 250_000_000, b"", EXTENDED))),
-];
-
-#[test]
-fn iso_times_of_unknown_kind(rt: HostRuntime) {
-    for (text, wanted) in OF_UNKNOWN_KIND {
-        assert!(rt; reads(text, UNKNOWN, wanted), "{text:?}");
-    }
-}
-
-// What may follow a whole hour, and a whole minute.
-#[test]
-fn iso_times_by_what_follows(rt: HostRuntime) {
-    for kind in [BASIC, EXTENDED, UNKNOWN] {
-        assert!(rt; reads(b"03:", kind, None));
-        assert!(rt; reads(b"03x", kind, Some((3, 0, 0, 0, b"x", kind))));
-        assert!(rt; reads(b"03.5:", kind, Some((3, 30, 0, 0, b":", kind))));
-        assert!(rt; reads(b"034", kind, Some((3, 0, 0, 0, b"4", kind))));
-    }
-    assert!(rt; reads(b"0304:", EXTENDED, None));
-    assert!(rt; reads(b"0304:", UNKNOWN, Some((3, 4, 0, 0, b":", BASIC))));
-    assert!(rt; reads(b"03:04:", UNKNOWN, None));
-    assert!(rt; reads(b"03:0405", UNKNOWN, Some((3, 4, 0, 0, b"05", EXTENDED))));
-}
-
-// A number out of its range refuses, and so does a fraction of a second that rounds to 1.
-#[test]
-fn iso_times_out_of_range(rt: HostRuntime) {
-    for text in [
-        b"24".as_slice(),
-        b"24.5",
-        b"0360",
-        b"0360.5",
-        b"03:60",
-        b"03:60.5",
-        b"030461",
-        b"03:04:61.5",
-        b"03:04:05.9999999995",
-    ] {
-        assert!(rt; reads(text, UNKNOWN, None), "{text:?}");
-    }
-    let nearly = b"030405,9999999994999999999999999999999999999999";
-    assert!(rt; reads(nearly, UNKNOWN, Some((3, 4, 5, 999_999_999, b"", BASIC))));
+// The hour behind the letter that has to stand.
+fn hour_behind_letter(text: &[u8]) -> Option<u8> {
+    let found = time(text, UNKNOWN, true)?;
+    Some(found.value.hour)
 }
 
 #[test]
-fn iso_times_with_their_letter(rt: HostRuntime) -> Result<(), Fail> {
-    let with_letter = time(b"T03", UNKNOWN, true).ok_or("T03")?;
-    assert!(rt; with_letter.value.hour == 3);
-    assert!(rt; time(b"03", UNKNOWN, true).is_none());
-    assert!(rt; time(b"t03", UNKNOWN, false).is_none());
-    assert!(rt; time(b"T", UNKNOWN, false).is_none());
-    Ok(())
+fn iso_times_with_their_letter(rt: HostRuntime) {
+    assert!(rt; hour_behind_letter(b"T03") == Some(3));
+    assert!(rt; hour_behind_letter(b"03").is_none());
 }

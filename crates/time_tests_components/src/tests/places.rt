@@ -1,64 +1,123 @@
 //! The places of RFC 3339.
-use time_readers::rfc3339::{Place, place_fault, read};
+use time_readers::rfc3339::{Numbers, Place, place_fault, read};
 use time_values::error::ParseFromDescription;
+
+// The numbers of 2021-01-02T03:04:05, without a fraction, in UTC.
+const SECOND: Numbers = Numbers {
+    year: 2021,
+    month: 1,
+    day: 2,
+    hour: 3,
+    minute: 4,
+    second: 5,
+    subsecond: None,
+    is_utc: true,
+    offset_is_negative: false,
+    offset_hour: 0,
+    offset_minute: 0,
+};
+
+// Texts, what their places say, and the unread rest. The first is an example of RFC 3339, section 5.8.
+static READ: [(&[u8], Numbers, &[u8]); 3] = [
+    (
+        b"1985-04-12T23:20:50.52Z",
+        Numbers {
+            year: 1985,
+            month: 4,
+            day: 12,
+            hour: 23,
+            minute: 20,
+            second: 50,
+            subsecond: Some(520_000_000),
+            ..SECOND
+        },
+        b"",
+    ),
+    (
+        b"2021-01-02T03:04:05.1234567899Z",
+        Numbers {
+            subsecond: Some(123_456_789),
+            ..SECOND
+        },
+        b"",
+    ),
+    (
+        b"2021-01-02T03:04:05-00:30x",
+        Numbers {
+            is_utc: false,
+            offset_is_negative: true,
+            offset_minute: 30,
+            ..SECOND
+        },
+        b"x",
+    ),
+];
+
+fn are_equal(a: &Numbers, b: &Numbers) -> bool {
+    (a.year, a.month, a.day) == (b.year, b.month, b.day)
+        && (a.hour, a.minute, a.second, a.subsecond) == (b.hour, b.minute, b.second, b.subsecond)
+        && (a.is_utc, a.offset_is_negative) == (b.is_utc, b.offset_is_negative)
+        && (a.offset_hour, a.offset_minute) == (b.offset_hour, b.offset_minute)
+}
+
+// The places of the text say these numbers, before that rest.
+fn says(text: &[u8], numbers: &Numbers, rest: &[u8]) -> bool {
+    match read::<true>(text) {
+        Ok(found) => found.0 == rest && are_equal(&found.1, numbers),
+        Err(_) => false,
+    }
+}
 
 #[test]
 fn rfc3339_places(rt: HostRuntime) {
-    let found = read::<true>(b"1985-04-12T23:20:50.52Z").expect(&rt, "a date and time");
-    assert!(rt; found.0.is_empty());
-    let numbers = found.1;
-    assert!(rt; (numbers.year, numbers.month, numbers.day) == (1985, 4, 12));
-    assert!(rt; (numbers.hour, numbers.minute, numbers.second) == (23, 20, 50));
-    assert!(rt; (numbers.subsecond, numbers.is_utc) == (Some(520_000_000), true));
-
-    let found = read::<true>(b"2021-01-02T03:04:05.1234567899Z").expect(&rt, "ten digits");
-    assert!(rt; found.1.subsecond == Some(123_456_789));
-}
-
-#[test]
-fn rfc3339_places_behind_utc(rt: HostRuntime) {
-    let found = read::<true>(b"2021-01-02T03:04:05-00:30x").expect(&rt, "a date and time");
-    assert!(rt; found.0 == b"x".as_slice());
-    let numbers = found.1;
-    assert!(rt; (numbers.subsecond, numbers.is_utc) == (None, false));
-    assert!(rt;
-        (
-            numbers.offset_is_negative,
-            numbers.offset_hour,
-            numbers.offset_minute
-        ) == (true, 0, 30)
-    );
-}
-
-// The text fails first at that place.
-fn fails_at<const RANGED: bool>(input: &[u8], place: Place) -> bool {
-    match read::<RANGED>(input) {
-        Ok(_) => false,
-        Err(found) => found == place,
+    for (text, numbers, rest) in &READ {
+        assert!(rt; says(text, numbers, rest), "{text:?}");
     }
 }
+
+// Texts, the place where each fails first, and the one where it does with no range checked.
+static FAILED: [(&[u8], Place, Option<Place>); 8] = [
+    (b"", Place::Year, Some(Place::Year)),
+    (b"2021-00-02T03:04:05Z", Place::Month, Some(Place::Month)),
+    (b"2021-01-02", Place::Separator, Some(Place::Separator)),
+    (
+        b"2021-01-02\xc3\xa903:04:05Z",
+        Place::Hour,
+        Some(Place::Hour),
+    ),
+    (
+        b"2021-01-02T03:04:05.Z",
+        Place::Subsecond,
+        Some(Place::Subsecond),
+    ),
+    (
+        b"2021-01-02T03:04:05+24:00",
+        Place::OffsetHour,
+        Some(Place::OffsetHour),
+    ),
+    (b"2021-13-01T00:00:00Z", Place::Month, None),
+    (b"2021-01-02T03:04:05+05:60", Place::OffsetMinute, None),
+];
 
 #[test]
 fn rfc3339_places_that_fail(rt: HostRuntime) {
-    for (input, place) in [
-        (b"".as_slice(), Place::Year),
-        (b"2021-00-02T03:04:05Z", Place::Month),
-        (b"2021-01-02", Place::Separator),
-        (b"2021-01-02\xc3\xa903:04:05Z", Place::Hour),
-        (b"2021-01-02T03:04:05.Z", Place::Subsecond),
-        (b"2021-01-02T03:04:05+24:00", Place::OffsetHour),
-    ] {
-        assert!(rt; fails_at::<true>(input, place));
-        assert!(rt; fails_at::<false>(input, place));
+    for (text, place, unranged) in &FAILED {
+        assert!(rt; read::<true>(text).err() == Some(*place), "{text:?}");
+        assert!(rt; read::<false>(text).err() == *unranged, "{text:?}");
     }
-    assert!(rt; fails_at::<true>(b"2021-13-01T00:00:00Z", Place::Month));
-    assert!(rt; read::<false>(b"2021-13-01T00:00:00Z").is_ok());
-    assert!(rt; fails_at::<true>(b"2021-01-02T03:04:05+05:60", Place::OffsetMinute));
 }
+
+static FAULTS: [(Place, ParseFromDescription); 2] = [
+    (Place::YearDash, ParseFromDescription::InvalidLiteral),
+    (
+        Place::OffsetHour,
+        ParseFromDescription::InvalidComponent("offset hour"),
+    ),
+];
 
 #[test]
 fn rfc3339_faults(rt: HostRuntime) {
-    assert!(rt; place_fault(Place::YearDash) == ParseFromDescription::InvalidLiteral);
-    let hour = ParseFromDescription::InvalidComponent("offset hour");
-    assert!(rt; place_fault(Place::OffsetHour) == hour);
+    for (place, fault) in &FAULTS {
+        assert!(rt; place_fault(*place) == *fault, "{place:?}");
+    }
 }

@@ -1,63 +1,65 @@
 //! Texts with room for the steps that they begin, and for one step less.
 use time_descriptions::{InvalidFormatDescription, parse_borrowed};
 
-const TOO_LONG: Option<InvalidFormatDescription<'static>> = Some(InvalidFormatDescription::TooLong);
-
-// A component is one step, each byte of a literal is one, and so is a group and each list of a choice.
-#[test]
-fn room_of_read_texts(rt: HostRuntime) {
-    assert!(rt; parse_borrowed::<2, 0>(b"").is_ok());
-
-    let component = b"[ year  padding:space sign:mandatory ]";
-    assert!(rt; parse_borrowed::<2, 1>(component).is_ok());
-    assert!(rt; parse_borrowed::<2, 0>(component).err() == TOO_LONG);
-
-    let literal = b"[day]abc[month]";
-    assert!(rt; parse_borrowed::<2, 5>(literal).is_ok());
-    assert!(rt; parse_borrowed::<2, 4>(literal).err() == TOO_LONG);
-
-    let escaped = b"\\[\\]\\\\";
-    assert!(rt; parse_borrowed::<2, 3>(escaped).is_ok());
-    assert!(rt; parse_borrowed::<2, 2>(escaped).err() == TOO_LONG);
-}
-
-#[test]
-fn room_of_groups(rt: HostRuntime) {
+// Texts, how many steps each begins up to its end or its first fault, and that fault.
+static TEXTS: [(&[u8], usize, Option<InvalidFormatDescription<'static>>); 9] = [
+    // A component is one step, each byte of a literal is one, and so is a group and each list of a choice.
+    (b"[ year  padding:space sign:mandatory ]", 1, None),
+    (b"[day]abc[month]", 5, None),
+    (b"abc", 3, None),
+    (b"\\[\\]\\\\", 3, None),
     // The group, a byte and a component.
-    let optional = b"[optional [ [second]]]";
-    assert!(rt; parse_borrowed::<2, 3>(optional).is_ok());
-    assert!(rt; parse_borrowed::<2, 2>(optional).err() == TOO_LONG);
-
+    (b"[optional [ [second]]]", 3, None),
     // The group, and two lists of one component and of none.
-    let first = b"[first [[day]] []]";
-    assert!(rt; parse_borrowed::<2, 4>(first).is_ok());
-    assert!(rt; parse_borrowed::<2, 3>(first).err() == TOO_LONG);
+    (b"[first [[day]] []]", 4, None),
+    // One component, and no step of what follows the first fault.
+    (
+        b"[day][x][year]-[month]",
+        1,
+        Some(InvalidFormatDescription::InvalidComponentName {
+            name: b"x",
+            index: 6,
+        }),
+    ),
+    // The open group, two lists of it, a component and a byte.
+    (
+        b"[first [[day]] [a]",
+        5,
+        Some(InvalidFormatDescription::UnclosedOpeningBracket { index: 0 }),
+    ),
+    // A group that doesn't open begins no step.
+    (
+        b"[day][optional day]",
+        1,
+        Some(InvalidFormatDescription::Expected {
+            what: "an opening bracket",
+            index: 15,
+        }),
+    ),
+];
+
+// The error of the text in room for so many steps, which are at most five.
+fn error_in(text: &[u8], room: usize) -> Option<InvalidFormatDescription<'_>> {
+    match room {
+        0 => parse_borrowed::<2, 0>(text).err(),
+        1 => parse_borrowed::<2, 1>(text).err(),
+        2 => parse_borrowed::<2, 2>(text).err(),
+        3 => parse_borrowed::<2, 3>(text).err(),
+        4 => parse_borrowed::<2, 4>(text).err(),
+        _ => parse_borrowed::<2, 5>(text).err(),
+    }
 }
 
-// What stands before the first fault counts, and nothing after it.
 #[test]
-fn room_of_refused_texts(rt: HostRuntime) {
-    // One component, and no step of what follows.
-    let name = InvalidFormatDescription::InvalidComponentName {
-        name: b"x",
-        index: 6,
-    };
-    let unnamed = b"[day][x][year]-[month]";
-    assert!(rt; parse_borrowed::<2, 1>(unnamed).err() == Some(name));
-    assert!(rt; parse_borrowed::<2, 0>(unnamed).err() == TOO_LONG);
-
-    // The open group, two lists of it, a component and a byte.
-    let bracket = InvalidFormatDescription::UnclosedOpeningBracket { index: 0 };
-    let unclosed = b"[first [[day]] [a]";
-    assert!(rt; parse_borrowed::<2, 5>(unclosed).err() == Some(bracket));
-    assert!(rt; parse_borrowed::<2, 4>(unclosed).err() == TOO_LONG);
-
-    // A group that doesn't open begins no step.
-    let expected = InvalidFormatDescription::Expected {
-        what: "an opening bracket",
-        index: 15,
-    };
-    let unopened = b"[day][optional day]";
-    assert!(rt; parse_borrowed::<2, 1>(unopened).err() == Some(expected));
-    assert!(rt; parse_borrowed::<2, 0>(unopened).err() == TOO_LONG);
+fn room_of_texts(rt: HostRuntime) {
+    for (text, steps, fault) in &TEXTS {
+        let less = steps.saturating_sub(1);
+        assert!(rt; error_in(text, *steps) == *fault, "{}", text.escape_ascii());
+        assert!(rt;
+            error_in(text, less) == Some(InvalidFormatDescription::TooLong),
+            "{}",
+            text.escape_ascii()
+        );
+    }
+    assert!(rt; error_in(b"", 0).is_none());
 }

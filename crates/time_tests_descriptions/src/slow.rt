@@ -23,7 +23,7 @@ const CASE_SENSITIVE: Key = ("case_sensitive", &["true", "false"]);
 const SIGN: Key = ("sign", &["automatic", "mandatory"]);
 
 /// The names, each with its keys.
-pub const NAMES: [(&str, &[Key]); 17] = [
+pub static NAMES: [(&str, &[Key]); 17] = [
     ("day", &[PADDING]),
     ("minute", &[PADDING]),
     ("offset_minute", &[PADDING]),
@@ -89,6 +89,26 @@ fn expected(what: &'static str, index: usize) -> InvalidFormatDescription<'stati
     InvalidFormatDescription::Expected { what, index }
 }
 
+// The word is no modifier here.
+fn invalid(value: &[u8], index: usize) -> InvalidFormatDescription<'_> {
+    InvalidFormatDescription::InvalidModifier { value, index }
+}
+
+// What stands beside the name, in letters of either case.
+fn beside<V: Copy>(rows: &[(&str, V)], name: &[u8]) -> Option<V> {
+    for (own, value) in rows {
+        if own.as_bytes().eq_ignore_ascii_case(name) {
+            return Some(*value);
+        }
+    }
+    None
+}
+
+// The keys of the component of that name.
+fn keys_of(name: &[u8]) -> Option<&'static [Key]> {
+    beside(&NAMES, name)
+}
+
 // Whether the bytes are digits that say 1 to 65535.
 fn is_count(bytes: &[u8]) -> bool {
     let mut value = 0u64;
@@ -101,6 +121,19 @@ fn is_count(bytes: &[u8]) -> bool {
             .saturating_add(u64::from(*byte).saturating_sub(48));
     }
     value > 0 && value < 65536
+}
+
+// Whether the bytes are one of the values, or a count where none is listed.
+fn is_value(values: &[&str], bytes: &[u8]) -> bool {
+    if values.is_empty() {
+        return is_count(bytes);
+    }
+    for value in values {
+        if value.as_bytes().eq_ignore_ascii_case(bytes) {
+            return true;
+        }
+    }
+    false
 }
 
 impl<'a> Slow<'a> {
@@ -168,10 +201,30 @@ impl<'a> Slow<'a> {
         }
         let name = self.after_space(next);
         let end = self.after_word(name);
-        match self.between(name, end) {
-            b"optional" => self.group(depth, index, end, false),
-            b"first" => self.group(depth, index, end, true),
-            _ => self.component(index, name, end),
+        let word = self.between(name, end);
+        let is_first = word == b"first".as_slice();
+        if is_first || word == b"optional".as_slice() {
+            self.group(depth, index, end, is_first)
+        } else {
+            self.component(index, name, end)
+        }
+    }
+
+    // The index of the first list of a group whose word ends there.
+    fn first_list(self, word: usize, is_first: bool) -> Read<'a> {
+        let list = self.after_space(word);
+        if list == word {
+            let what = if is_first {
+                "whitespace after `first`"
+            } else {
+                "whitespace after `optional`"
+            };
+            return Err(expected(what, word));
+        }
+        if self.is(list, b'[') {
+            Ok(list)
+        } else {
+            Err(expected("an opening bracket", list))
         }
     }
 
@@ -185,18 +238,7 @@ impl<'a> Slow<'a> {
                 index: opening,
             });
         }
-        let mut list = self.after_space(word);
-        if list == word {
-            let what = if is_first {
-                "whitespace after `first`"
-            } else {
-                "whitespace after `optional`"
-            };
-            return Err(expected(what, word));
-        }
-        if !self.is(list, b'[') {
-            return Err(expected("an opening bracket", list));
-        }
+        let mut list = self.first_list(word, is_first)?;
         let unclosed = InvalidFormatDescription::UnclosedOpeningBracket { index: opening };
         for _ in 0..self.text.len() {
             let end = self.items(depth - 1, true, list.saturating_add(1))?;
@@ -223,25 +265,10 @@ impl<'a> Slow<'a> {
             let index = if from == inside { opening } else { inside };
             return Err(InvalidFormatDescription::MissingComponentName { index });
         }
-        let mut keys: Option<&[Key]> = None;
-        for row in NAMES {
-            if row.0.as_bytes().eq_ignore_ascii_case(name) {
-                keys = Some(row.1);
-            }
-        }
-        let Some(keys) = keys else {
+        let Some(keys) = keys_of(name) else {
             return Err(InvalidFormatDescription::InvalidComponentName { name, index: from });
         };
-        let mut has_count = false;
-        let mut index = self.after_space(to);
-        for _ in 0..self.text.len() {
-            let end = self.after_word(index);
-            if end == index {
-                break;
-            }
-            has_count |= self.modifier(keys, index, end)?;
-            index = self.after_space(end);
-        }
+        let (index, has_count) = self.modifiers(keys, self.after_space(to))?;
         if self.is(index, b'[') {
             return Err(expected("a modifier or a closing bracket", index));
         }
@@ -257,6 +284,35 @@ impl<'a> Slow<'a> {
         Ok(index.saturating_add(1))
     }
 
+    // The index after the modifiers, and whether one of them is a count.
+    fn modifiers(
+        self,
+        keys: &[Key],
+        from: usize,
+    ) -> Result<(usize, bool), InvalidFormatDescription<'a>> {
+        let mut has_count = false;
+        let mut index = from;
+        for _ in 0..self.text.len() {
+            let end = self.after_word(index);
+            if end == index {
+                break;
+            }
+            has_count |= self.modifier(keys, index, end)?;
+            index = self.after_space(end);
+        }
+        Ok((index, has_count))
+    }
+
+    // The index of the first colon between these two.
+    fn colon(self, from: usize, to: usize) -> Option<usize> {
+        for index in from..to {
+            if self.is(index, b':') {
+                return Some(index);
+            }
+        }
+        None
+    }
+
     // Whether the modifier is a count.
     fn modifier(
         self,
@@ -264,37 +320,19 @@ impl<'a> Slow<'a> {
         from: usize,
         to: usize,
     ) -> Result<bool, InvalidFormatDescription<'a>> {
-        let word = self.between(from, to);
-        let Some(len) = word.iter().position(|byte| *byte == b':') else {
-            return Err(InvalidFormatDescription::InvalidModifier {
-                value: word,
-                index: from,
-            });
+        let Some(colon) = self.colon(from, to) else {
+            return Err(invalid(self.between(from, to), from));
         };
-        let colon = from.saturating_add(len);
         let key = self.between(from, colon);
+        let Some(values) = beside(keys, key) else {
+            return Err(invalid(key, from));
+        };
         let begin = colon.saturating_add(1);
         let value = self.between(begin, to);
-        for row in keys {
-            if row.0.as_bytes().eq_ignore_ascii_case(key) {
-                let is_count_key = row.1.is_empty();
-                let mut is_value = is_count_key && is_count(value);
-                for other in row.1 {
-                    is_value |= other.as_bytes().eq_ignore_ascii_case(value);
-                }
-                return if is_value {
-                    Ok(is_count_key)
-                } else {
-                    Err(InvalidFormatDescription::InvalidModifier {
-                        value,
-                        index: begin,
-                    })
-                };
-            }
+        if is_value(values, value) {
+            Ok(values.is_empty())
+        } else {
+            Err(invalid(value, begin))
         }
-        Err(InvalidFormatDescription::InvalidModifier {
-            value: key,
-            index: from,
-        })
     }
 }

@@ -1,28 +1,28 @@
 //! Texts that are short, cut or changed.
+ghost use Rattle.std.specs.Prelude.{◌≡◌, ◌⊎◌};
+
 use crate::slow::{NAMES, Slow};
-use std::alloc::{AllocError, Global};
-use std::test::Fail;
+use std::alloc::Global;
 use time_descriptions::{OwnedError, parse_borrowed, parse_owned};
 
-// Whether the text has the fault that the slow reader gives, in both versions.
-fn is_told(text: &[u8]) -> bool {
-    let one = Slow { text, version: 1 };
-    let two = Slow { text, version: 2 };
-    parse_borrowed::<1, 128>(text).err() == one.fault()
-        && parse_borrowed::<2, 128>(text).err() == two.fault()
+// Whether the text of the version has the fault that the slow reader gives, in room for 128 steps, and as an item that
+// owns its parts.
+fn is_told_in<const VERSION: usize>(alloc: Global, text: &[u8]) -> bool
+    requires { (VERSION ≡ 1) ⊎ (VERSION ≡ 2) }
+{
+    let version = VERSION;
+    let fault = Slow { text, version }.fault();
+    parse_borrowed::<VERSION, 128>(text).err() == fault
+        && parse_owned::<VERSION>(alloc, text).err() == fault.map(OwnedError::Invalid)
 }
 
-// The same of the text as an item that owns its parts, and of one in room for 128 steps.
-fn is_told_alike(alloc: Global, text: &[u8]) -> bool {
-    let one = Slow { text, version: 1 }.fault();
-    let two = Slow { text, version: 2 }.fault();
-    is_told(text)
-        && parse_owned::<1>(alloc, text).err() == one.map(OwnedError::Invalid)
-        && parse_owned::<2>(alloc, text).err() == two.map(OwnedError::Invalid)
+// The same in both versions.
+fn is_told(alloc: Global, text: &[u8]) -> bool {
+    is_told_in::<1>(alloc, text) && is_told_in::<2>(alloc, text)
 }
 
 // The bytes of short texts.
-const ALPHABET: [u8; 7] = [b'[', b']', b'\\', b' ', b':', b'd', b'1'];
+static ALPHABET: [u8; 7] = [b'[', b']', b'\\', b' ', b':', b'd', b'1'];
 
 // The text of that many bytes whose bytes are the digits of the number to the base 7.
 fn short_text(number: u32, len: usize) -> [u8; 6] {
@@ -43,7 +43,7 @@ fn short_texts(rt: HostRuntime) {
         for number in 0..texts {
             let text = short_text(number, len);
             assert!(rt;
-                is_told_alike(rt.alloc(), &text[..len.min(6)]),
+                is_told(rt.alloc(), &text[..len.min(6)]),
                 "number {number} of {len} bytes"
             );
         }
@@ -53,74 +53,72 @@ fn short_texts(rt: HostRuntime) {
     assert_eq!(rt; tried, 137257);
 }
 
+// Whether the text is told with each byte of short texts at the place.
+fn is_told_changed(alloc: Global, text: &[u8], place: usize) -> bool {
+    let mut bytes = [0u8; 64];
+    let Some(changed) = bytes.get_mut(..text.len()) else {
+        return false;
+    };
+    changed.copy_from_slice(text);
+    for byte in &ALPHABET {
+        if let Some(it) = changed.get_mut(place) {
+            *it = *byte;
+        }
+        if !is_told(alloc, changed) {
+            return false;
+        }
+    }
+    true
+}
+
 // How many texts around this one were tried: each front, and each with one byte changed. `None`: one of them has
 // another fault than the slow reader gives.
 fn tried_around(alloc: Global, text: &[u8]) -> Option<usize> {
-    let mut tried = 0usize;
-    let mut copy = [0u8; 64];
-    let len = text.len().min(64);
-    for place in 0..len {
-        copy[place] = text[place];
-    }
-    for cut in 0..len {
-        let kept = copy[cut];
-        for byte in ALPHABET {
-            copy[cut] = byte;
-            if !is_told_alike(alloc, &copy[..len]) {
-                return None;
-            }
-        }
-        copy[cut] = kept;
-        if !is_told_alike(alloc, &copy[..cut]) {
+    let mut tried = 1usize;
+    for cut in 0..text.len() {
+        if !(is_told(alloc, &text[..cut]) && is_told_changed(alloc, text, cut)) {
             return None;
         }
         tried = tried.saturating_add(8);
     }
-    if is_told_alike(alloc, &copy[..len]) {
-        Some(tried.saturating_add(1))
+    if is_told(alloc, text) {
+        Some(tried)
     } else {
         None
     }
 }
 
-// A component with one modifier.
-fn component(alloc: Global, name: &str, key: &str, value: &str) -> Result<Vec<u8>, AllocError> {
-    let mut text = Vec::new(alloc);
-    for part in ["[", name, " ", key, ":", value, "]"] {
-        text.extend_from_slice(part.as_bytes())?;
-    }
-    Ok(text)
+// How many texts around a component with that modifier were tried.
+fn tried_of(alloc: Global, name: &str, key: &str, value: &str) -> Option<usize> {
+    let text = format!(in alloc; "[{name} {key}:{value}]").ok()?;
+    tried_around(alloc, text.as_bytes())
 }
 
 #[test]
-fn names_and_values(rt: HostRuntime) -> Result<(), Fail> {
-    let mut tried = 0usize;
-    for (name, keys) in NAMES {
-        for (key, values) in keys {
+fn names_and_values(rt: HostRuntime) {
+    let mut tried = tried_of(rt.alloc(), "ignore", "count", "65535").unwrap_or(0);
+    for (name, keys) in &NAMES {
+        for (key, values) in *keys {
             for value in *values {
-                let text = component(rt.alloc(), name, key, value)?;
-                let around = tried_around(rt.alloc(), &text);
+                let around = tried_of(rt.alloc(), name, key, value);
                 assert!(rt; around.is_some(), "{name} {key}:{value}");
                 tried = tried.saturating_add(around.unwrap_or(0));
             }
         }
     }
-    let count = component(rt.alloc(), "ignore", "count", "65535")?;
-    let around = tried_around(rt.alloc(), &count);
-    assert!(rt; around.is_some());
-    tried = tried.saturating_add(around.unwrap_or(0));
     assert_eq!(rt; tried, 15893);
-    Ok(())
 }
+
+static GROUPS: [&[u8]; 3] = [
+    b"[optional [[day]]]",
+    b"[first [[day]] [a\\]b]]",
+    b"[optional [[first [[hour]:[minute]] [-]]]]",
+];
 
 #[test]
 fn groups(rt: HostRuntime) {
     let mut tried = 0usize;
-    for text in [
-        b"[optional [[day]]]".as_slice(),
-        b"[first [[day]] [a\\]b]]".as_slice(),
-        b"[optional [[first [[hour]:[minute]] [-]]]]".as_slice(),
-    ] {
+    for text in &GROUPS {
         let around = tried_around(rt.alloc(), text);
         assert!(rt; around.is_some(), "{}", text.escape_ascii());
         tried = tried.saturating_add(around.unwrap_or(0));
@@ -128,23 +126,23 @@ fn groups(rt: HostRuntime) {
     assert_eq!(rt; tried, 659);
 }
 
+// Eleven optional items inside one another.
+const NESTED: &[u8] = b"\
+    [optional [[optional [[optional [[optional [[optional [[optional [\
+    [optional [[optional [[optional [[optional [[optional [\
+    ]]]]]]]]]]]]]]]]]]]]]]";
+
 // That many optional items inside one another.
-fn nested(alloc: Global, levels: usize) -> Result<Vec<u8>, AllocError> {
-    let mut text = Vec::new(alloc);
-    for _ in 0..levels {
-        text.extend_from_slice(b"[optional [")?;
-    }
-    for _ in 0..levels {
-        text.extend_from_slice(b"]]")?;
-    }
-    Ok(text)
+fn nested(levels: usize) -> &'static [u8] {
+    let outer = 11usize.saturating_sub(levels);
+    let from = outer.saturating_mul(11);
+    let to = NESTED.len().saturating_sub(outer.saturating_mul(2));
+    NESTED.get(from..to).unwrap_or(b"")
 }
 
 #[test]
-fn deep_lists(rt: HostRuntime) -> Result<(), Fail> {
+fn deep_lists(rt: HostRuntime) {
     for levels in 1..12usize {
-        let text = nested(rt.alloc(), levels)?;
-        assert!(rt; is_told_alike(rt.alloc(), &text), "{levels} levels");
+        assert!(rt; is_told(rt.alloc(), nested(levels)), "{levels} levels");
     }
-    Ok(())
 }

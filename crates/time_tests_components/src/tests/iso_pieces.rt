@@ -62,21 +62,16 @@ fn iso_pieces_that_are_positive(rt: HostRuntime) {
     }
 }
 
-// The number in front of the text has that whole part, these digits behind a point and that rest.
-fn is_number(text: &[u8], whole: u8, digits: Option<&[u8]>, rest: &[u8]) -> bool {
-    match float(text) {
-        Some(found) => found.1.0 == whole && found.1.1 == digits && found.0 == rest,
-        None => false,
-    }
-}
-
 static HOURS: [(&[u8], Answer<u8>); 2] = [(b"990", Some((99, b"0"))), (b"9", None)];
 
-// Texts, the whole part of the number that each begins with, its digits behind a point, and the rest.
-static NUMBERS: [(&[u8], u8, Option<&[u8]>, &[u8]); 3] = [
-    (b"03:", 3, None, b":"),
-    (b"03,25Z", 3, Some(b"25"), b"Z"),
-    (b"99.00", 99, Some(b"00"), b""),
+// Texts, the whole part of the number that each begins with and its digits behind a point.
+static NUMBERS: [(&[u8], Answer<(u8, Option<&[u8]>)>); 6] = [
+    (b"03:", Some(((3, None), b":"))),
+    (b"03,25Z", Some(((3, Some(b"25")), b"Z"))),
+    (b"99.00", Some(((99, Some(b"00")), b""))),
+    (b"03.", None),
+    (b"03,x", None),
+    (b"3", None),
 ];
 
 #[test]
@@ -85,11 +80,8 @@ fn iso_pieces_of_times(rt: HostRuntime) {
         assert!(rt; answers(hour(text), *wanted), "{text:?}");
     }
     assert!(rt; answers(min(b"60"), Some((60, b""))));
-    for (text, whole, digits, rest) in &NUMBERS {
-        assert!(rt; is_number(text, *whole, *digits, rest), "{text:?}");
-    }
-    for text in [b"03.".as_slice(), b"03,x", b"3"] {
-        assert!(rt; float(text).is_none(), "{text:?}");
+    for (text, wanted) in &NUMBERS {
+        assert!(rt; answers(float(text), *wanted), "{text:?}");
     }
 }
 

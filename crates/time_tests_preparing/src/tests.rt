@@ -2,7 +2,6 @@
 mod alike;
 mod worked;
 
-use std::test::Fail;
 use time_descriptions::{Description, parse_borrowed, parse_strftime};
 use time_preparing::Prepared;
 
@@ -16,20 +15,15 @@ pub struct Both {
 }
 
 /// The description of that text, as it was read and prepared. With a `%` it is one of strftime.
-pub fn read(text: &[u8]) -> Result<Both, Fail> {
+pub fn read(text: &[u8]) -> Option<Both> {
     let description = if text.contains(&b'%') {
-        parse_strftime::<64>(text).ok()
+        parse_strftime::<64>(text).ok()?
     } else {
-        parse_borrowed::<2, 64>(text).ok()
+        parse_borrowed::<2, 64>(text).ok()?
     };
-    let Some(description) = description else {
-        return Err("no description".into());
-    };
-    match Prepared::from_steps(description.steps()) {
-        Some(prepared) => Ok(Both {
-            description,
-            prepared,
-        }),
-        None => Err("too long".into()),
-    }
+    let prepared = Prepared::from_steps(description.steps())?;
+    Some(Both {
+        description,
+        prepared,
+    })
 }

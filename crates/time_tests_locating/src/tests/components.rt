@@ -1,19 +1,19 @@
 //! Where components begin in texts that are read. The index is that of the component's first byte, of an offset's hour
 //! that of its sign, and of a second of RFC 2822 that of what stands before its colon.
-use std::test::Fail;
-use time_components::{
-    BorrowedFormatItem, Component, FormatDescriptionV3, FormatDescriptionV3Inner, OwnedFormatItem,
-    item, modifier,
-};
-use time_descriptions::parse_borrowed;
+use super::description_of;
+use super::parts::{DAY, HOUR, MINUTE, MONTH, YEAR};
+use std::process::Abort;
+use time_components::BorrowedFormatItem::{self, Component as Part, Compound, Optional};
+use time_components::item;
 use time_locating::{Locate, locate_error};
 use time_parsing::{Iso8601, Items, Parsable, Rfc2822, Rfc3339};
 use time_record::Parsed;
+use time_values::error::Parse;
 
-// A text, the name of a component, and the index at which the component begins.
-type Row = (&'static [u8], &'static str, Option<usize>);
+/// A text, the name of a component, and the index at which the component begins.
+pub type Mark<'a> = (&'a [u8], &'a str, Option<usize>);
 
-static RFC3339: [Row; 25] = [
+static RFC3339: [Mark<'static>; 25] = [
     // No February has a day 30, and no November a day 31.
     (b"2021-02-30T00:00:00Z", "day", Some(8)),
     (b"2021-11-31T00:00:00Z", "day", Some(8)),
@@ -46,7 +46,7 @@ static RFC3339: [Row; 25] = [
     (b"", "year", None),
 ];
 
-static RFC2822: [Row; 20] = [
+static RFC2822: [Mark<'static>; 20] = [
     (b"31 Nov 2021 00:00 GMT", "day", Some(0)),
     (b"Sat, 30 Feb 2021 03:04:05 +0607", "day", Some(5)),
     (b"Sat, 2 Jan 2021 12:00:60 +0000", "second", Some(21)),
@@ -75,7 +75,7 @@ static RFC2822: [Row; 20] = [
     (b"2 Jan 21 25:04 EST", "day", None),
 ];
 
-static ISO8601: [Row; 44] = [
+static ISO8601: [Mark<'static>; 44] = [
     (b"2021-02-30", "day", Some(8)),
     (b"20210230", "day", Some(6)),
     // 2021 has 365 days and 52 weeks, of which 2020 has 53.
@@ -125,8 +125,12 @@ static ISO8601: [Row; 44] = [
     (b"x", "year", None),
 ];
 
-// By `[year]-[month]-[day][optional [ [hour]:[minute]]]`.
-static DATE: [Row; 10] = [
+const DATE_TEXT: &[u8] = b"[year]-[month]-[day][optional [ [hour]:[minute]]]";
+
+const CLOCK: [BorrowedFormatItem<'static>; 4] = [item!(" "), Part(HOUR), item!(":"), Part(MINUTE)];
+
+// By that description, as text and as items.
+static DATE: [Mark<'static>; 10] = [
     (b"2021-02-30", "day", Some(8)),
     (b"2021-02-30 24:00", "day", Some(8)),
     (b"2021-02-30 03:04", "year", Some(0)),
@@ -140,8 +144,10 @@ static DATE: [Row; 10] = [
     (b"2021-02", "year", None),
 ];
 
-// By `[first [[hour]:[minute]] [[ordinal].[year]] [[week_number].[year base:iso_week]-[weekday repr:monday]]]`.
-static CHOICE: [Row; 8] = [
+const CHOICE_TEXT: &[u8] =
+    b"[first [[hour]:[minute]] [[ordinal].[year]] [[week_number].[year base:iso_week]-[weekday repr:monday]]]";
+
+static CHOICE: [Mark<'static>; 8] = [
     (b"12:30", "hour", Some(0)),
     (b"12:30", "minute", Some(3)),
     (b"366.2021", "ordinal", Some(0)),
@@ -152,174 +158,121 @@ static CHOICE: [Row; 8] = [
     (b"53.2021-1", "ordinal", None),
 ];
 
-#[test]
-fn rfc3339(rt: HostRuntime) -> Result<(), Fail> {
-    for (text, name, index) in &RFC3339 {
-        assert_eq!(rt;
-            Rfc3339.locate_component(text, None, name),
-            *index,
-            "{name} {text:?}"
-        );
+// By a month, `-`, a day, `/` and a day. What the defaults give isn't in the text, and of two days the last one counts.
+static TWO_DAYS: [Mark<'static>; 3] = [
+    (b"02-01/30", "year", None),
+    (b"02-01/30", "day", Some(6)),
+    (b"02-01/30", "month", Some(0)),
+];
+
+const TWO_DAYS_ITEMS: [BorrowedFormatItem<'static>; 5] = [
+    Part(MONTH),
+    item!("-"),
+    Part(DAY),
+    item!("/"),
+    Part(DAY),
+];
+
+// Whether the component of that name begins where the row says in its text, read over the defaults.
+fn is_marked<F: Locate>(format: &F, row: &Mark<'_>, defaults: Option<Parsed>) -> bool {
+    let (text, name, index) = *row;
+    format.locate_component(text, defaults, name) == index
+}
+
+/// In each row's text the component of that name begins where the row says.
+pub fn assert_marks<F: Locate>(rt: &impl Abort, format: &F, rows: &[Mark<'_>]) {
+    for row in rows {
+        assert!(rt; is_marked(format, row, None), "{} {:?}", row.1, row.0);
     }
-    assert!(rt; Rfc3339.parse_offset_date_time(RFC3339[0].0, None).is_err());
-    Ok(())
 }
 
 #[test]
-fn rfc2822(rt: HostRuntime) -> Result<(), Fail> {
-    for (text, name, index) in &RFC2822 {
-        assert_eq!(rt;
-            (&Rfc2822).locate_component(text, None, name),
-            *index,
-            "{name} {text:?}"
-        );
-    }
-    Ok(())
+fn formats(rt: HostRuntime) {
+    assert_marks(&rt, &Rfc3339, &RFC3339);
+    assert_marks(&rt, &&Rfc2822, &RFC2822);
+    assert_marks(&rt, &Iso8601, &ISO8601);
 }
 
 #[test]
-fn iso8601(rt: HostRuntime) -> Result<(), Fail> {
-    for (text, name, index) in &ISO8601 {
-        assert_eq!(rt;
-            Iso8601.locate_component(text, None, name),
-            *index,
-            "{name} {text:?}"
-        );
-    }
-    Ok(())
-}
-
-#[test]
-fn descriptions(rt: HostRuntime) -> Result<(), Fail> {
-    let clock = [item!(" "), item!(Hour24), item!(":"), item!(Minute)];
-    let clock = BorrowedFormatItem::Compound(&clock);
+fn descriptions(rt: HostRuntime) {
+    let clock = Compound(&CLOCK);
     let items = [
-        item!(CalendarYearFullStandardRange),
+        Part(YEAR),
         item!("-"),
-        item!(MonthNumerical),
+        Part(MONTH),
         item!("-"),
-        item!(Day),
-        BorrowedFormatItem::Optional(&clock),
+        Part(DAY),
+        Optional(&clock),
     ];
-    let date = BorrowedFormatItem::Compound(&items);
-    let described = match parse_borrowed::<2, 64>(
-        b"[year]-[month]-[day][optional [ [hour]:[minute]]]",
-    ) {
-        Ok(described) => described,
-        Err(_) => return Err("no description".into()),
-    };
-    for (text, name, index) in &DATE {
-        assert_eq!(rt;
-            date.locate_component(text, None, name),
-            *index,
-            "{name} {text:?}"
-        );
-        assert_eq!(rt; Items(&items).locate_component(text, None, name), *index);
-        assert_eq!(rt; described.locate_component(text, None, name), *index);
-    }
-    Ok(())
+    assert_marks(&rt, &Compound(&items), &DATE);
+    assert_marks(&rt, &Items(&items), &DATE);
+    assert_marks(&rt, &description_of(&rt, DATE_TEXT), &DATE);
+    assert_marks(&rt, &description_of(&rt, CHOICE_TEXT), &CHOICE);
 }
 
 #[test]
-fn choices(rt: HostRuntime) -> Result<(), Fail> {
-    let described = match parse_borrowed::<2, 64>(
-        b"[first [[hour]:[minute]] [[ordinal].[year]] [[week_number].[year base:iso_week]-[weekday repr:monday]]]",
-    ) {
-        Ok(described) => described,
-        Err(_) => return Err("no description".into()),
-    };
-    for (text, name, index) in &CHOICE {
-        assert_eq!(rt;
-            described.locate_component(text, None, name),
-            *index,
-            "{name} {text:?}"
-        );
-    }
-    Ok(())
-}
-
-// What the defaults give isn't in the text, and of two days the last one counts.
-#[test]
-fn defaults(rt: HostRuntime) -> Result<(), Fail> {
-    let items = [
-        item!(MonthNumerical),
-        item!("-"),
-        item!(Day),
-        item!("/"),
-        item!(Day),
-    ];
-    for (name, index) in [("year", None), ("day", Some(6)), ("month", Some(0))] {
+fn defaults(rt: HostRuntime) {
+    for row in &TWO_DAYS {
         let known = Parsed::new().with_year(2021);
-        assert_eq!(rt;
-            Items(&items).locate_component(b"02-01/30", known, name),
-            index
-        );
+        assert!(rt; is_marked(&Items(&TWO_DAYS_ITEMS), row, known), "{}", row.1);
     }
-    Ok(())
 }
 
-const DAY: Component = Component::Day(modifier::Day {
-    padding: time_components::Padding::Zero,
-});
+// A text with the index at which it goes wrong where no date is made of it: that of its place, or else of the component
+// that the calendar refuses.
+type Fault<'a> = (&'a [u8], Result<(), Option<usize>>);
 
-// A day after a dash, owned and of version 3.
-#[test]
-fn owned(rt: HostRuntime) -> Result<(), Fail> {
-    let dash = OwnedFormatItem::Literal(vec![in rt.alloc(); b'-']?);
-    let items = vec![in rt.alloc(); dash, OwnedFormatItem::Component(DAY)]?;
-    let description = OwnedFormatItem::Compound(items);
-    assert_eq!(rt; description.locate_component(b"-30", None, "day"), Some(1));
-    assert_eq!(rt; description.locate_component(b"-32", None, "day"), None);
-    let description = FormatDescriptionV3 {
-        inner: FormatDescriptionV3Inner::Component(DAY),
-    };
-    assert_eq!(rt; description.locate_component(b"30", None, "day"), Some(0));
-    assert_eq!(rt; description.locate_component(b"30", None, "hour"), None);
-    Ok(())
-}
+static RFC3339_DATES: [Fault<'static>; 2] = [
+    (b"2021-02-30T00:00:00Z", Err(Some(8))),
+    (b"2021-13-30T00:00:00Z", Err(Some(5))),
+];
 
-// The index at which a text goes wrong that no date is made of.
-fn index_of_date<F: Locate>(format: &F, text: &[u8]) -> Option<usize> {
-    let error = format.parse_date(text, None).err()?;
-    locate_error(format, text, None, error)
-}
+static RFC2822_DATES: [Fault<'static>; 1] = [(b"31 Nov 2021 00:00 GMT", Err(Some(0)))];
 
-// The index at which a text goes wrong is that of its place, or else of the component that the calendar refuses.
-#[test]
-fn errors(rt: HostRuntime) -> Result<(), Fail> {
-    assert_eq!(rt; index_of_date(&Rfc3339, b"2021-02-30T00:00:00Z"), Some(8));
-    assert_eq!(rt; index_of_date(&Rfc3339, b"2021-13-30T00:00:00Z"), Some(5));
-    assert_eq!(rt; index_of_date(&Iso8601, b"2021-366"), Some(5));
-    assert_eq!(rt; index_of_date(&Iso8601, b"2021-W53-1"), Some(6));
-    assert_eq!(rt; index_of_date(&Iso8601, b"2021-W54-1"), Some(6));
-    assert_eq!(rt; index_of_date(&Rfc2822, b"31 Nov 2021 00:00 GMT"), Some(0));
+static ISO8601_DATES: [Fault<'static>; 4] = [
+    (b"2021-366", Err(Some(5))),
+    (b"2021-W53-1", Err(Some(6))),
+    (b"2021-W54-1", Err(Some(6))),
     // A time has no date, and no component is at fault.
-    assert_eq!(rt; index_of_date(&Iso8601, b"03:04"), None);
-    // 1 January 2022 is a Saturday, so from Sundays week 0 of 2022 has that day alone, and no Friday.
-    let described = match parse_borrowed::<2, 64>(
-        b"[year]-[week_number repr:sunday]-[weekday repr:short]",
-    ) {
-        Ok(described) => described,
-        Err(_) => return Err("no description".into()),
-    };
-    assert_eq!(rt; index_of_date(&described, b"2022-00-Fri"), Some(5));
-    assert_eq!(rt; index_of_date(&described, b"2022-00-Sat"), None);
-    assert!(rt; described.parse_date(b"2022-00-Sat", None).is_ok());
-    Ok(())
+    (b"03:04", Err(None)),
+];
+
+const WEEK_TEXT: &[u8] = b"[year]-[week_number repr:sunday]-[weekday repr:short]";
+
+// 1 January 2022 is a Saturday, so from Sundays week 0 of 2022 has that day alone, and no Friday.
+static WEEK_DATES: [Fault<'static>; 2] = [(b"2022-00-Fri", Err(Some(5))), (b"2022-00-Sat", Ok(()))];
+
+fn assert_dates<F: Locate>(rt: &impl Abort, format: &F, rows: &[Fault<'_>]) {
+    for (text, wanted) in rows {
+        let found = match format.parse_date(text, None) {
+            Ok(_) => Ok(()),
+            Err(error) => Err(locate_error(format, text, None, error)),
+        };
+        assert!(rt; found == *wanted, "{text:?}");
+    }
 }
 
-// A leap second at noon, and in UTC the year after the last one.
 #[test]
-fn errors_of_moments(rt: HostRuntime) -> Result<(), Fail> {
-    let text = b"2021-01-02T12:00:60Z";
-    let Err(error) = Rfc3339.parse_offset_date_time(text, None) else {
-        return Err("a leap second at noon".into());
-    };
-    assert_eq!(rt; locate_error(&Rfc3339, text, None, error), Some(17));
+fn errors(rt: HostRuntime) {
+    assert_dates(&rt, &Rfc3339, &RFC3339_DATES);
+    assert_dates(&rt, &Rfc2822, &RFC2822_DATES);
+    assert_dates(&rt, &Iso8601, &ISO8601_DATES);
+    assert_dates(&rt, &description_of(&rt, WEEK_TEXT), &WEEK_DATES);
+}
+
+// The index at which a text goes wrong that was refused.
+fn index_of<F: Locate>(format: &F, text: &[u8], refusal: Option<Parse>) -> Option<usize> {
+    locate_error(format, text, None, refusal?)
+}
+
+// A leap second at noon, a day that February hasn't, and in UTC the year after the last one.
+#[test]
+fn errors_of_moments(rt: HostRuntime) {
+    for (text, index) in [(b"2021-01-02T12:00:60Z", 17), (b"2021-02-30T00:00:00Z", 8)] {
+        let refusal = Rfc3339.parse_offset_date_time(text, None).err();
+        assert!(rt; index_of(&Rfc3339, text, refusal) == Some(index));
+    }
     let text = b"+999999-12-31T23:00-01";
-    let Err(error) = Iso8601.parse_utc_date_time(text, None) else {
-        return Err("the year 1000000".into());
-    };
-    assert_eq!(rt; locate_error(&Iso8601, text, None, error), Some(0));
-    Ok(())
+    let refusal = Iso8601.parse_utc_date_time(text, None).err();
+    assert!(rt; index_of(&Iso8601, text, refusal) == Some(0));
 }

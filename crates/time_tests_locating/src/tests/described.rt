@@ -1,13 +1,8 @@
 //! Texts that descriptions refuse which were read from a text. Of a literal the first byte is told.
-use std::test::Fail;
-use time_descriptions::{Description, parse_borrowed};
+use super::{Row, assert_located, description_of};
 use time_locating::Expected::{Component, End, Literal};
-use time_locating::{Expected, Locate, Located};
 
-// A text, the index at which it goes wrong, and what is expected there.
-type Row = (&'static [u8], usize, Expected<'static>);
-
-static DATE: [Row; 16] = [
+const DATE: &[Row<'static>] = &[
     (b"2021-13-02", 5, Component("month")),
     (b"2021-00-02", 5, Component("month")),
     (b"2021-0", 5, Component("month")),
@@ -26,7 +21,7 @@ static DATE: [Row; 16] = [
     (b"", 0, Component("year")),
 ];
 
-static TIME: [Row; 9] = [
+const TIME: &[Row<'static>] = &[
     (b"on 12 o'clock", 0, Literal(b"a")),
     (b"at 24 o'clock", 3, Component("hour")),
     (b"at 12 o'clok", 5, Literal(b" ")),
@@ -38,7 +33,7 @@ static TIME: [Row; 9] = [
     (b"at", 0, Literal(b"a")),
 ];
 
-static CHOICE: [Row; 6] = [
+const CHOICE: &[Row<'static>] = &[
     (b"12:60", 3, Component("minute")),
     (b"12", 2, Literal(b":")),
     (b"31:00", 2, Literal(b".")),
@@ -47,46 +42,28 @@ static CHOICE: [Row; 6] = [
     (b"night", 0, Literal(b"n")),
 ];
 
-// The description of the text, of version 2.
-fn described(text: &[u8]) -> Result<Description<64>, Fail> {
-    match parse_borrowed::<2, 64>(text) {
-        Ok(description) => Ok(description),
-        Err(_) => Err("no description".into()),
-    }
-}
+// A description, rows of texts that it refuses, and texts that it reads whole.
+type Case = (
+    &'static [u8],
+    &'static [Row<'static>],
+    &'static [&'static [u8]],
+);
 
-fn is_at(found: Option<Located<'_>>, row: &Row) -> bool {
-    let (_, index, expected) = *row;
-    found == Some(Located { index, expected })
-}
-
-#[test]
-fn dates(rt: HostRuntime) -> Result<(), Fail> {
-    let description = described(b"[year]-[month]-[day]")?;
-    for row in &DATE {
-        assert!(rt; is_at(description.locate(row.0, None), row), "{:?}", row.0);
-    }
+static DESCRIPTIONS: [Case; 3] = [
     // All of it is read, though no date is made of it.
-    assert_eq!(rt; description.locate(b"2021-02-30", None), None);
-    Ok(())
-}
+    (b"[year]-[month]-[day]", DATE, &[b"2021-02-30"]),
+    (
+        b"at [hour] o'clock[optional [ and [minute]]]",
+        TIME,
+        &[b"at 12 o'clock and 30", b"at 12 o'clock"],
+    ),
+    (b"[first [noon] [[hour]:[minute]] [[day].]]", CHOICE, &[]),
+];
 
 #[test]
-fn longer_literals(rt: HostRuntime) -> Result<(), Fail> {
-    let description = described(b"at [hour] o'clock[optional [ and [minute]]]")?;
-    for row in &TIME {
-        assert!(rt; is_at(description.locate(row.0, None), row), "{:?}", row.0);
+fn descriptions(rt: HostRuntime) {
+    for (text, rows, whole) in &DESCRIPTIONS {
+        let description = description_of(&rt, text);
+        assert_located(&rt, &description, rows, whole);
     }
-    assert_eq!(rt; description.locate(b"at 12 o'clock and 30", None), None);
-    assert_eq!(rt; description.locate(b"at 12 o'clock", None), None);
-    Ok(())
-}
-
-#[test]
-fn choices(rt: HostRuntime) -> Result<(), Fail> {
-    let description = described(b"[first [noon] [[hour]:[minute]] [[day].]]")?;
-    for row in &CHOICE {
-        assert!(rt; is_at(description.locate(row.0, None), row), "{:?}", row.0);
-    }
-    Ok(())
 }

@@ -1,19 +1,15 @@
 //! Texts that ISO 8601 refuses. Each row of a date, a time and an offset that may stand there is begun, and misses the
-//! first of its pieces that doesn't stand. The place is what is missed furthest on; of those at one index it is the end,
-//! where bytes remain after all that is read, or else what the refusal of the parse names, or the first.
-use std::test::Fail;
+//! first of its pieces that doesn't stand. The place is what is missed furthest on; of those at one index it is the
+//! end, where bytes remain after all that is read, or else what the refusal of the parse names, or the first.
+use super::{Row, assert_located, is_at};
 use time_locating::Expected::{Component, End, Literal};
-use time_locating::{Expected, Locate, Located};
-use time_parsing::{Iso8601, Parsable};
+use time_parsing::Iso8601;
 use time_record::Parsed;
 
-// A text, the index at which it goes wrong, and what is expected there.
-type Row = (&'static [u8], usize, Expected<'static>);
-
-// `2021-01-02` has the month at 5 and the day at 8, `20210102` the month at 4 and the day at 6. Where the date is refused
-// the first four digits are an hour and a minute, after which `-01` is an offset: what remains then ends the text too
-// late.
-static DATES: [Row; 29] = [
+// `2021-01-02` has the month at 5 and the day at 8, `20210102` the month at 4 and the day at 6. Where the date is
+// refused the first four digits are an hour and a minute, after which `-01` is an offset: what remains then ends the
+// text too late.
+static DATES: [Row<'static>; 29] = [
     (b"", 0, Component("year")),
     (b"x", 0, Component("year")),
     // An hour, and one byte after it.
@@ -48,7 +44,7 @@ static DATES: [Row; 29] = [
 ];
 
 // Times and offsets alone. Where the first digits are no hour the text is no date either, whose year comes first.
-static TIMES: [Row; 27] = [
+static TIMES: [Row<'static>; 27] = [
     (b"24:00", 0, Component("year")),
     (b"23,", 0, Component("year")),
     (b"T", 1, Component("hour")),
@@ -81,7 +77,7 @@ static TIMES: [Row; 27] = [
 ];
 
 // Dates with times after them.
-static MOMENTS: [Row; 16] = [
+static MOMENTS: [Row<'static>; 16] = [
     (b"2021-01-02T", 11, Component("hour")),
     (b"2021-01-02T25:04", 11, Component("hour")),
     (b"20210102T250405Z", 9, Component("hour")),
@@ -101,76 +97,51 @@ static MOMENTS: [Row; 16] = [
     (b"2021-W53-4T03:04:5", 17, Component("second")),
 ];
 
-// `2021-01-02T03:04:05+06:07` cut off at each byte. `20`, `2021` and `2021-01` are read whole, as a time.
-static CUTS: [Option<(usize, Expected<'static>)>; 26] = [
-    Some((0, Component("year"))),
-    Some((0, Component("year"))),
-    None,
-    Some((2, End)),
-    None,
-    Some((5, Component("month"))),
-    Some((5, Component("month"))),
-    None,
-    Some((8, Component("day"))),
-    Some((8, Component("day"))),
-    None,
-    Some((11, Component("hour"))),
-    Some((11, Component("hour"))),
-    None,
-    Some((14, Component("minute"))),
-    Some((14, Component("minute"))),
-    None,
-    Some((17, Component("second"))),
-    Some((17, Component("second"))),
-    None,
-    Some((20, Component("offset hour"))),
-    Some((20, Component("offset hour"))),
-    None,
-    Some((23, Component("offset minute"))),
-    Some((23, Component("offset minute"))),
-    None,
+// `2021-01-02T03:04:05+06:07` cut off at each byte where it isn't read whole.
+static CUTS: [Row<'static>; 17] = [
+    (b"", 0, Component("year")),
+    (b"2", 0, Component("year")),
+    (b"202", 2, End),
+    (b"2021-", 5, Component("month")),
+    (b"2021-0", 5, Component("month")),
+    (b"2021-01-", 8, Component("day")),
+    (b"2021-01-0", 8, Component("day")),
+    (b"2021-01-02T", 11, Component("hour")),
+    (b"2021-01-02T0", 11, Component("hour")),
+    (b"2021-01-02T03:", 14, Component("minute")),
+    (b"2021-01-02T03:0", 14, Component("minute")),
+    (b"2021-01-02T03:04:", 17, Component("second")),
+    (b"2021-01-02T03:04:0", 17, Component("second")),
+    (b"2021-01-02T03:04:05+", 20, Component("offset hour")),
+    (b"2021-01-02T03:04:05+0", 20, Component("offset hour")),
+    (b"2021-01-02T03:04:05+06:", 23, Component("offset minute")),
+    (b"2021-01-02T03:04:05+06:0", 23, Component("offset minute")),
 ];
 
-fn is_at(found: Option<Located<'_>>, row: &Row) -> bool {
-    let (_, index, expected) = *row;
-    found == Some(Located { index, expected })
-}
+// What is read whole has no place, also where the calendar has no such day. The cuts `20`, `2021` and `2021-01` are
+// read as a time.
+static WHOLE: [&[u8]; 11] = [
+    b"2021-02-30T00:00:00Z",
+    b"2021-366",
+    b"20",
+    b"2021",
+    b"2021-01",
+    b"2021-01-02",
+    b"2021-01-02T03",
+    b"2021-01-02T03:04",
+    b"2021-01-02T03:04:05",
+    b"2021-01-02T03:04:05+06",
+    b"2021-01-02T03:04:05+06:07",
+];
+
+// Defaults change nothing.
+static HOUR: Row<'static> = (b"20210102T25", 9, Component("hour"));
 
 #[test]
-fn places(rt: HostRuntime) -> Result<(), Fail> {
+fn iso8601(rt: HostRuntime) {
     for rows in [&DATES[..], &TIMES, &MOMENTS] {
-        for row in rows {
-            assert!(rt; is_at(Iso8601.locate(row.0, None), row), "{:?}", row.0);
-            assert!(rt; Iso8601.parse_internal(row.0, None).is_err(), "{:?}", row.0);
-        }
+        assert_located(&rt, &Iso8601, rows, &[]);
     }
-    Ok(())
-}
-
-#[test]
-fn cuts(rt: HostRuntime) -> Result<(), Fail> {
-    let text = b"2021-01-02T03:04:05+06:07";
-    for (length, place) in CUTS.iter().enumerate() {
-        let cut = text.get(..length).ok_or("cut")?;
-        let expected = match *place {
-            Some((index, expected)) => Some(Located { index, expected }),
-            None => None,
-        };
-        assert_eq!(rt; Iso8601.locate(cut, None), expected, "{length}");
-    }
-    Ok(())
-}
-
-// A text that is read whole has no place, also where the calendar has no such day, and defaults change nothing.
-#[test]
-fn read_whole(rt: HostRuntime) -> Result<(), Fail> {
-    assert_eq!(rt; Iso8601.locate(b"2021-02-30T00:00:00Z", None), None);
-    assert_eq!(rt; Iso8601.locate(b"2021-366", None), None);
-    let known = Parsed::new().with_year(2021);
-    let place = Located {
-        index: 9,
-        expected: Component("hour"),
-    };
-    assert_eq!(rt; (&Iso8601).locate(b"20210102T25", known), Some(place));
-    Ok(())
+    assert_located(&rt, &Iso8601, &CUTS, &WHOLE);
+    assert!(rt; is_at(&&Iso8601, &HOUR, Parsed::new().with_year(2021)));
 }

@@ -1,41 +1,46 @@
 //! Texts that items refuse.
-use std::test::Fail;
-use time_components::{
-    BorrowedFormatItem, Component, FormatDescriptionV3, FormatDescriptionV3Inner, OwnedFormatItem,
-    item, modifier,
-};
-use time_locating::Expected::{Component as Named, End, Literal};
-use time_locating::{Expected, Locate, Located};
+use super::parts::{DAY, END, HOUR, MINUTE, MONTH, SECOND, YEAR};
+use super::{Row, assert_located};
+use std::process::Abort;
+use time_components::BorrowedFormatItem::{self, Component as Part, Compound, First, Optional};
+use time_components::item;
+use time_locating::Expected::{Component, End, Literal};
+use time_locating::{Locate, Located};
 use time_parsing::Items;
 
-// A text, the index at which it goes wrong, and what is expected there.
-type Row = (&'static [u8], usize, Expected<'static>);
+type Item = BorrowedFormatItem<'static>;
 
-// An hour, `:` and a minute, and then perhaps `:` and a second.
-static CLOCK: [Row; 16] = [
-    (b"23:59:61", 6, Named("second")),
-    (b"23:59:6", 6, Named("second")),
-    (b"23:59:", 6, Named("second")),
+const SECOND_ITEMS: [Item; 2] = [item!(":"), Part(SECOND)];
+
+// By an hour, `:` and a minute, and then perhaps `:` and a second.
+static CLOCK_ROWS: [Row<'static>; 16] = [
+    (b"23:59:61", 6, Component("second")),
+    (b"23:59:6", 6, Component("second")),
+    (b"23:59:", 6, Component("second")),
     (b"23:59x", 5, End),
     (b"23:59 :10", 5, End),
     (b"23:59:59x", 8, End),
-    (b"23:60", 3, Named("minute")),
-    (b"23:5", 3, Named("minute")),
-    (b"23:", 3, Named("minute")),
-    (b"23:x0", 3, Named("minute")),
+    (b"23:60", 3, Component("minute")),
+    (b"23:5", 3, Component("minute")),
+    (b"23:", 3, Component("minute")),
+    (b"23:x0", 3, Component("minute")),
     (b"23-59", 2, Literal(b":")),
     (b"23", 2, Literal(b":")),
-    (b"24:00", 0, Named("hour")),
-    (b"2", 0, Named("hour")),
-    (b"x", 0, Named("hour")),
-    (b"", 0, Named("hour")),
+    (b"24:00", 0, Component("hour")),
+    (b"2", 0, Component("hour")),
+    (b"x", 0, Component("hour")),
+    (b"", 0, Component("hour")),
 ];
 
-// The first of `noon`, of an hour, `:` and a minute, and of a day and `.`.
-static CHOICE: [Row; 14] = [
-    (b"12:60", 3, Named("minute")),
-    (b"12:5", 3, Named("minute")),
-    (b"12:", 3, Named("minute")),
+const CLOCK: [Item; 3] = [Part(HOUR), item!(":"), Part(MINUTE)];
+
+const DAY_ITEMS: [Item; 2] = [Part(DAY), item!(".")];
+
+// By the first of `noon`, of an hour, `:` and a minute, and of a day and `.`.
+static CHOICE_ROWS: [Row<'static>; 14] = [
+    (b"12:60", 3, Component("minute")),
+    (b"12:5", 3, Component("minute")),
+    (b"12:", 3, Component("minute")),
     // At index 2 neither `:` nor `.` stands. The alternatives before come first.
     (b"12", 2, Literal(b":")),
     (b"12-30", 2, Literal(b":")),
@@ -51,173 +56,141 @@ static CHOICE: [Row; 14] = [
     (b"", 0, Literal(b"noon")),
 ];
 
-// The first of an hour, `:` and a minute, and of an hour alone.
-static SHORTER: [Row; 4] = [
+// By the first of an hour, `:` and a minute, and of an hour alone.
+static SHORTER_ROWS: [Row<'static>; 4] = [
     // The hour alone reads, and `:61` remains; but the minute is missed further on.
-    (b"12:61", 3, Named("minute")),
+    (b"12:61", 3, Component("minute")),
     (b"12x", 2, End),
     (b"12:30:", 5, End),
-    (b"24", 0, Named("hour")),
+    (b"24", 0, Component("hour")),
 ];
 
-// Perhaps a `+`, then perhaps `(`, a day and `)`.
-static OPTIONS: [Row; 7] = [
+const IN_BRACKETS: [Item; 3] = [item!("("), Part(DAY), item!(")")];
+
+// By perhaps a `+`, then perhaps `(`, a day and `)`.
+static OPTIONS_ROWS: [Row<'static>; 7] = [
     (b"x", 0, End),
     (b"-", 0, End),
     (b"+x", 1, End),
-    (b"+(", 2, Named("day")),
-    (b"(00)", 1, Named("day")),
+    (b"+(", 2, Component("day")),
+    (b"(00)", 1, Component("day")),
     (b"(31", 3, Literal(b")")),
     (b"(31)+", 4, End),
 ];
 
-fn is_at(found: Option<Located<'_>>, row: &Row) -> bool {
-    let (_, index, expected) = *row;
-    found == Some(Located { index, expected })
-}
+// An hour, and then the end of the text.
+const ENDS: [Item; 2] = [Part(HOUR), Part(END)];
 
-#[test]
-fn optional_second(rt: HostRuntime) -> Result<(), Fail> {
-    let second = [item!(":"), item!(Second)];
-    let second = BorrowedFormatItem::Compound(&second);
-    let items = [
-        item!(Hour24),
-        item!(":"),
-        item!(Minute),
-        BorrowedFormatItem::Optional(&second),
-    ];
-    let description = BorrowedFormatItem::Compound(&items);
-    for row in &CLOCK {
-        assert!(rt; is_at(description.locate(row.0, None), row), "{:?}", row.0);
-        assert!(rt;
-            is_at(Items(&items).locate(row.0, None), row),
-            "{:?}",
-            row.0
-        );
-        assert!(rt;
-            is_at((&description).locate(row.0, None), row),
-            "{:?}",
-            row.0
-        );
-    }
-    assert_eq!(rt; description.locate(b"23:59:59", None), None);
-    assert_eq!(rt; description.locate(b"23:59", None), None);
-    Ok(())
-}
-
-#[test]
-fn choice(rt: HostRuntime) -> Result<(), Fail> {
-    let clock = [item!(Hour24), item!(":"), item!(Minute)];
-    let day = [item!(Day), item!(".")];
-    let first = [
-        item!("noon"),
-        BorrowedFormatItem::Compound(&clock),
-        BorrowedFormatItem::Compound(&day),
-    ];
-    let description = BorrowedFormatItem::First(&first);
-    for row in &CHOICE {
-        assert!(rt; is_at(description.locate(row.0, None), row), "{:?}", row.0);
-    }
-    assert_eq!(rt; description.locate(b"noon", None), None);
-    let first = [BorrowedFormatItem::Compound(&clock), item!(Hour24)];
-    let description = BorrowedFormatItem::First(&first);
-    for row in &SHORTER {
-        assert!(rt; is_at(description.locate(row.0, None), row), "{:?}", row.0);
-    }
-    Ok(())
-}
-
-#[test]
-fn options(rt: HostRuntime) -> Result<(), Fail> {
-    let plus = item!("+");
-    let day = [item!("("), item!(Day), item!(")")];
-    let day = BorrowedFormatItem::Compound(&day);
-    let items = [
-        BorrowedFormatItem::Optional(&plus),
-        BorrowedFormatItem::Optional(&day),
-    ];
-    for row in &OPTIONS {
-        assert!(rt;
-            is_at(Items(&items).locate(row.0, None), row),
-            "{:?}",
-            row.0
-        );
-    }
-    assert_eq!(rt; Items(&items).locate(b"+(31)", None), None);
-    assert_eq!(rt; Items(&items).locate(b"", None), None);
-    Ok(())
-}
-
-// An item that wants the end of the text, and items of which none reads a byte.
-#[test]
-fn ends(rt: HostRuntime) -> Result<(), Fail> {
-    let items = [item!(Hour24), item!(End)];
-    assert!(rt; is_at(Items(&items).locate(b"23x", None), &(b"", 2, End)));
-    let no_items: [BorrowedFormatItem<'_>; 0] = [];
-    let list = BorrowedFormatItem::Compound(&no_items);
-    let choice = BorrowedFormatItem::First(&no_items);
-    assert!(rt; is_at(list.locate(b"x", None), &(b"", 0, End)));
-    assert!(rt; is_at(choice.locate(b"x", None), &(b"", 0, End)));
-    assert_eq!(rt; list.locate(b"", None), None);
-    assert_eq!(rt; choice.locate(b"", None), None);
-    Ok(())
-}
+static ENDS_ROWS: [Row<'static>; 1] = [(b"23x", 2, End)];
 
 // Bytes that are no text are told as they stand.
-#[test]
-fn other_bytes(rt: HostRuntime) -> Result<(), Fail> {
-    let items = [BorrowedFormatItem::Literal(&[0xff, 0x00]), item!(Day)];
-    assert!(rt;
-        is_at(
-            Items(&items).locate(&[0xff, 0x01], None),
-            &(b"", 0, Literal(&[0xff, 0x00]))
-        )
-    );
-    assert!(rt;
-        is_at(
-            Items(&items).locate(&[0xff, 0x00, 0xff], None),
-            &(b"", 2, Named("day"))
-        )
-    );
-    Ok(())
+const BYTES: [Item; 2] = [BorrowedFormatItem::Literal(&[0xff, 0x00]), Part(DAY)];
+
+static BYTES_ROWS: [Row<'static>; 2] = [
+    (&[0xff, 0x01], 0, Literal(&[0xff, 0x00])),
+    (&[0xff, 0x00, 0xff], 2, Component("day")),
+];
+
+// A date and a time.
+const MOMENT: [Item; 9] = [
+    Part(YEAR),
+    item!("-"),
+    Part(MONTH),
+    item!("-"),
+    Part(DAY),
+    item!(" "),
+    Part(HOUR),
+    item!(":"),
+    Part(MINUTE),
+];
+
+// A text that is cut off at each byte goes wrong where the item begins that the cut is in.
+static MOMENT_ROWS: [Row<'static>; 16] = [
+    (b"", 0, Component("year")),
+    (b"2", 0, Component("year")),
+    (b"20", 0, Component("year")),
+    (b"202", 0, Component("year")),
+    (b"2021", 4, Literal(b"-")),
+    (b"2021-", 5, Component("month")),
+    (b"2021-0", 5, Component("month")),
+    (b"2021-01", 7, Literal(b"-")),
+    (b"2021-01-", 8, Component("day")),
+    (b"2021-01-0", 8, Component("day")),
+    (b"2021-01-02", 10, Literal(b" ")),
+    (b"2021-01-02 ", 11, Component("hour")),
+    (b"2021-01-02 0", 11, Component("hour")),
+    (b"2021-01-02 03", 13, Literal(b":")),
+    (b"2021-01-02 03:", 14, Component("minute")),
+    (b"2021-01-02 03:0", 14, Component("minute")),
+];
+
+// By items of which none reads a byte.
+static NO_ROWS: [Row<'static>; 1] = [(b"x", 0, End)];
+
+// The items refuse the text of each row where the row says, and read the other texts whole.
+fn assert_items(
+    rt: &impl Abort,
+    items: &[BorrowedFormatItem<'_>],
+    rows: &[Row<'_>],
+    whole: &[&[u8]],
+) {
+    for (text, index, expected) in rows {
+        let place = Located {
+            index: *index,
+            expected: *expected,
+        };
+        assert!(rt; Items(items).locate(text, None) == Some(place), "{text:?}");
+    }
+    for text in whole {
+        assert!(rt; Items(items).locate(text, None).is_none(), "{text:?}");
+    }
 }
 
-const HOUR: Component = Component::Hour24(modifier::Hour24 {
-    padding: time_components::Padding::Zero,
-});
-
-// An hour and then perhaps `h`, owned.
-#[test]
-fn owned(rt: HostRuntime) -> Result<(), Fail> {
-    let letter = OwnedFormatItem::Literal(vec![in rt.alloc(); b'h']?);
-    let items = vec![in rt.alloc();
-        OwnedFormatItem::Component(HOUR),
-        OwnedFormatItem::Optional(Box::new(rt.alloc(), letter)?),
-    ]?;
-    let description = OwnedFormatItem::Compound(items);
-    assert!(rt; is_at(description.locate(b"23m", None), &(b"", 2, End)));
-    assert!(rt; is_at(description.locate(b"24h", None), &(b"", 0, Named("hour"))));
-    assert_eq!(rt; description.locate(b"23h", None), None);
-    Ok(())
+// The same, also as one item that holds them.
+fn assert_list(
+    rt: &impl Abort,
+    items: &[BorrowedFormatItem<'_>],
+    rows: &[Row<'_>],
+    whole: &[&[u8]],
+) {
+    assert_items(rt, items, rows, whole);
+    assert_located(rt, &Compound(items), rows, whole);
 }
 
-// A skipped byte, which in a description of version 3 ends between characters.
 #[test]
-fn version_3(rt: HostRuntime) -> Result<(), Fail> {
-    let skip = Component::Ignore(modifier::Ignore {
-        count: std::num::NonZero::<u16>::new(1).ok_or("count")?,
-    });
-    let description = FormatDescriptionV3 {
-        inner: FormatDescriptionV3Inner::Component(skip),
-    };
-    assert!(rt;
-        is_at(
-            description.locate("é".as_bytes(), None),
-            &(b"", 0, Named("ignore"))
-        )
-    );
-    assert!(rt; is_at(description.locate(b"ab", None), &(b"", 1, End)));
-    let borrowed = BorrowedFormatItem::Component(skip);
-    assert!(rt; is_at(borrowed.locate("é".as_bytes(), None), &(b"", 1, End)));
-    Ok(())
+fn lists(rt: HostRuntime) {
+    assert_list(&rt, &ENDS, &ENDS_ROWS, &[]);
+    assert_list(&rt, &BYTES, &BYTES_ROWS, &[]);
+    assert_list(&rt, &MOMENT, &MOMENT_ROWS, &[b"2021-01-02 03:04"]);
+    assert_list(&rt, &[], &NO_ROWS, &[b""]);
+}
+
+#[test]
+fn optional_second(rt: HostRuntime) {
+    let second = Compound(&SECOND_ITEMS);
+    let items = [Part(HOUR), item!(":"), Part(MINUTE), Optional(&second)];
+    assert_list(&rt, &items, &CLOCK_ROWS, &[b"23:59:59", b"23:59"]);
+}
+
+#[test]
+fn options(rt: HostRuntime) {
+    let day = Compound(&IN_BRACKETS);
+    let items = [Optional(&item!("+")), Optional(&day)];
+    assert_list(&rt, &items, &OPTIONS_ROWS, &[b"+(31)", b""]);
+}
+
+#[test]
+fn choices(rt: HostRuntime) {
+    let clock = Compound(&CLOCK);
+    let day = Compound(&DAY_ITEMS);
+    let items = [item!("noon"), clock, day];
+    assert_located(&rt, &First(&items), &CHOICE_ROWS, &[b"noon"]);
+    assert_located(&rt, &First(&[]), &NO_ROWS, &[b""]);
+}
+
+#[test]
+fn shorter_choices(rt: HostRuntime) {
+    let clock = Compound(&CLOCK);
+    let items = [clock, Part(HOUR)];
+    assert_located(&rt, &First(&items), &SHORTER_ROWS, &[]);
 }

@@ -1,15 +1,11 @@
-//! Texts that RFC 2822 refuses. The first place that doesn't have its form, or whose number is out of its range, is told
-//! at the index where it begins, with the blanks and the colon that belong to it. Of `02 Jan 2021 03:04 +0100` the month
-//! begins at 3, the year at 7, the hour at 12, the minute at 15, a second at 17 and the offset at 18.
-use std::test::Fail;
+//! Texts that RFC 2822 refuses. The first place that doesn't have its form, or whose number is out of its range, is
+//! told at the index where it begins, with the blanks and the colon that belong to it. Of `02 Jan 2021 03:04 +0100` the
+//! month begins at 3, the year at 7, the hour at 12, the minute at 15, a second at 17 and the offset at 18.
+use super::{Row, assert_located};
 use time_locating::Expected::{Component, End, Literal};
-use time_locating::{Expected, Locate, Located};
-use time_parsing::{Parsable, Rfc2822};
+use time_parsing::Rfc2822;
 
-// A text, the index at which it goes wrong, and what is expected there.
-type Row = (&'static [u8], usize, Expected<'static>);
-
-static PLACES: [Row; 38] = [
+static PLACES: [Row<'static>; 47] = [
     (b"Sat 02 Jan 2021 03:04 +0100", 0, Literal(b",")),
     (b" Sat 02 Jan 2021 03:04 +0100", 0, Literal(b",")),
     (b"Sat, Jan 2021 03:04 +0100", 5, Component("day")),
@@ -53,11 +49,8 @@ static PLACES: [Row; 38] = [
     (b"02 Jan 2021 03:04 +0100 \r\n", 23, End),
     (b"02 Jan 2021 03:04 +0100)", 23, End),
     (b"02 Jan 2021 03:04 +0100 (a))", 27, End),
-];
-
-// Comments that don't close. Where blanks had to stand and none do the place is theirs; where a blank stands before the
-// comment it is the next place, at the bracket, or what trails.
-static OPEN: [Row; 9] = [
+    // Comments that don't close. Where blanks had to stand and none do the place is theirs; where a blank stands before
+    // the comment it is the next place, at the bracket, or what trails.
     (b"(Sat, 02 Jan 2021 03:04 +0100", 0, Component("day")),
     (b" (Sat, 02 Jan 2021 03:04 +0100", 1, Component("day")),
     (b"Sat, (02 Jan 2021 03:04 +0100", 5, Component("day")),
@@ -69,87 +62,64 @@ static OPEN: [Row; 9] = [
     (b"02 Jan 2021 03:04 +0100 (a (b)", 24, End),
 ];
 
-// `Sat, 02 Jan 2021 03:04:05 +0607` cut off at each byte: where the place begins that the cut is in. A day 0 is none, a
-// year of two digits is one, and the colon of a second belongs to it.
-static BEGINS: [(usize, Expected<'static>); 31] = [
-    (0, Component("day")),
-    (0, Component("day")),
-    (0, Component("day")),
-    (0, Literal(b",")),
-    (4, Component("day")),
-    (5, Component("day")),
-    (5, Component("day")),
-    (7, Literal(b" ")),
-    (8, Component("month")),
-    (8, Component("month")),
-    (8, Component("month")),
-    (11, Literal(b" ")),
-    (12, Component("year")),
-    (12, Component("year")),
-    (14, Literal(b" ")),
-    (14, Literal(b" ")),
-    (16, Literal(b" ")),
-    (17, Component("hour")),
-    (17, Component("hour")),
-    (19, Literal(b":")),
-    (20, Component("minute")),
-    (20, Component("minute")),
-    (22, Literal(b" ")),
-    (22, Component("second")),
-    (22, Component("second")),
-    (25, Literal(b" ")),
-    (26, Component("offset hour")),
-    (26, Component("offset hour")),
-    (26, Component("offset hour")),
-    (29, Component("offset minute")),
-    (29, Component("offset minute")),
+// `Sat, 02 Jan 2021 03:04:05 +0607` cut off at each byte goes wrong where the place begins that the cut is in. A day 0
+// is none, a year of two digits is one, and the colon of a second belongs to it.
+static CUTS: [Row<'static>; 31] = [
+    (b"", 0, Component("day")),
+    (b"S", 0, Component("day")),
+    (b"Sa", 0, Component("day")),
+    (b"Sat", 0, Literal(b",")),
+    (b"Sat,", 4, Component("day")),
+    (b"Sat, ", 5, Component("day")),
+    (b"Sat, 0", 5, Component("day")),
+    (b"Sat, 02", 7, Literal(b" ")),
+    (b"Sat, 02 ", 8, Component("month")),
+    (b"Sat, 02 J", 8, Component("month")),
+    (b"Sat, 02 Ja", 8, Component("month")),
+    (b"Sat, 02 Jan", 11, Literal(b" ")),
+    (b"Sat, 02 Jan ", 12, Component("year")),
+    (b"Sat, 02 Jan 2", 12, Component("year")),
+    (b"Sat, 02 Jan 20", 14, Literal(b" ")),
+    (b"Sat, 02 Jan 202", 14, Literal(b" ")),
+    (b"Sat, 02 Jan 2021", 16, Literal(b" ")),
+    (b"Sat, 02 Jan 2021 ", 17, Component("hour")),
+    (b"Sat, 02 Jan 2021 0", 17, Component("hour")),
+    (b"Sat, 02 Jan 2021 03", 19, Literal(b":")),
+    (b"Sat, 02 Jan 2021 03:", 20, Component("minute")),
+    (b"Sat, 02 Jan 2021 03:0", 20, Component("minute")),
+    (b"Sat, 02 Jan 2021 03:04", 22, Literal(b" ")),
+    (b"Sat, 02 Jan 2021 03:04:", 22, Component("second")),
+    (b"Sat, 02 Jan 2021 03:04:0", 22, Component("second")),
+    (b"Sat, 02 Jan 2021 03:04:05", 25, Literal(b" ")),
+    (b"Sat, 02 Jan 2021 03:04:05 ", 26, Component("offset hour")),
+    (b"Sat, 02 Jan 2021 03:04:05 +", 26, Component("offset hour")),
+    (
+        b"Sat, 02 Jan 2021 03:04:05 +0",
+        26,
+        Component("offset hour"),
+    ),
+    (
+        b"Sat, 02 Jan 2021 03:04:05 +06",
+        29,
+        Component("offset minute"),
+    ),
+    (
+        b"Sat, 02 Jan 2021 03:04:05 +060",
+        29,
+        Component("offset minute"),
+    ),
 ];
 
-fn is_at(found: Option<Located<'_>>, row: &Row) -> bool {
-    let (_, index, expected) = *row;
-    found == Some(Located { index, expected })
-}
+// What is read whole has no place, also where the calendar has no such day.
+static WHOLE: [&[u8]; 4] = [
+    b"30 Feb 2021 03:04 +0100",
+    b"2 Jan 21(c)03:04 UT",
+    b"(a) Sat, 02 Jan 2021 03:04 +0100 (b)",
+    b"Sat, 02 Jan 2021 03:04:05 +0607",
+];
 
 #[test]
-fn places(rt: HostRuntime) -> Result<(), Fail> {
-    for row in &PLACES {
-        assert!(rt; is_at(Rfc2822.locate(row.0, None), row), "{:?}", row.0);
-        assert!(rt; Rfc2822.parse_date(row.0, None).is_err(), "{:?}", row.0);
-    }
-    Ok(())
-}
-
-#[test]
-fn open_comments(rt: HostRuntime) -> Result<(), Fail> {
-    for row in &OPEN {
-        assert!(rt; is_at(Rfc2822.locate(row.0, None), row), "{:?}", row.0);
-    }
-    Ok(())
-}
-
-#[test]
-fn cuts(rt: HostRuntime) -> Result<(), Fail> {
-    let text = b"Sat, 02 Jan 2021 03:04:05 +0607";
-    for (length, (index, expected)) in BEGINS.iter().enumerate() {
-        let cut = text.get(..length).ok_or("cut")?;
-        let place = Located {
-            index: *index,
-            expected: *expected,
-        };
-        assert_eq!(rt; Rfc2822.locate(cut, None), Some(place), "{length}");
-    }
-    assert_eq!(rt; Rfc2822.locate(text, None), None);
-    Ok(())
-}
-
-// A text that is read whole has no place, also where the calendar has no such day.
-#[test]
-fn read_whole(rt: HostRuntime) -> Result<(), Fail> {
-    assert_eq!(rt; Rfc2822.locate(b"30 Feb 2021 03:04 +0100", None), None);
-    assert_eq!(rt; Rfc2822.locate(b"2 Jan 21(c)03:04 UT", None), None);
-    assert_eq!(rt;
-        Rfc2822.locate(b"(a) Sat, 02 Jan 2021 03:04 +0100 (b)", None),
-        None
-    );
-    Ok(())
+fn rfc2822(rt: HostRuntime) {
+    assert_located(&rt, &Rfc2822, &PLACES, &WHOLE);
+    assert_located(&rt, &Rfc2822, &CUTS, &[]);
 }

@@ -1,16 +1,12 @@
-//! Texts that RFC 3339 refuses. The first place that doesn't have its form, or whose number is out of its range, is told
-//! at the index where it begins: `2021-01-02T03:04:05` takes nineteen bytes, with the year at 0, the month at 5, the day
-//! at 8, the hour at 11, the minute at 14 and the second at 17.
-use std::test::Fail;
+//! Texts that RFC 3339 refuses. The first place that doesn't have its form, or whose number is out of its range, is
+//! told at the index where it begins: `2021-01-02T03:04:05` takes nineteen bytes, with the year at 0, the month at 5, the
+//! day at 8, the hour at 11, the minute at 14 and the second at 17.
+use super::{Row, assert_located, is_at};
 use time_locating::Expected::{Component, End, Literal};
-use time_locating::{Expected, Locate, Located};
-use time_parsing::{Parsable, Rfc3339};
+use time_parsing::Rfc3339;
 use time_record::Parsed;
 
-// A text, the index at which it goes wrong, and what is expected there.
-type Row = (&'static [u8], usize, Expected<'static>);
-
-static PLACES: [Row; 40] = [
+static PLACES: [Row<'static>; 40] = [
     (b"21-01-02T03:04:05Z", 0, Component("year")),
     (b"+2021-01-02T03:04:05Z", 0, Component("year")),
     (b"2021/01-02T03:04:05Z", 4, Literal(b"-")),
@@ -63,80 +59,59 @@ static PLACES: [Row; 40] = [
     (b"2021-01-02T03:04:05.25-06:077", 28, End),
 ];
 
-// `2021-01-02T03:04:05.25+06:07` cut off at each byte: where the place begins that the cut is in.
-static BEGINS: [(usize, Expected<'static>); 28] = [
-    (0, Component("year")),
-    (0, Component("year")),
-    (0, Component("year")),
-    (0, Component("year")),
-    (4, Literal(b"-")),
-    (5, Component("month")),
-    (5, Component("month")),
-    (7, Literal(b"-")),
-    (8, Component("day")),
-    (8, Component("day")),
-    (10, Component("separator")),
-    (11, Component("hour")),
-    (11, Component("hour")),
-    (13, Literal(b":")),
-    (14, Component("minute")),
-    (14, Component("minute")),
-    (16, Literal(b":")),
-    (17, Component("second")),
-    (17, Component("second")),
-    (19, Component("offset hour")),
-    (19, Component("subsecond")),
-    (21, Component("offset hour")),
-    (22, Component("offset hour")),
-    (22, Component("offset hour")),
-    (22, Component("offset hour")),
-    (25, Literal(b":")),
-    (26, Component("offset minute")),
-    (26, Component("offset minute")),
+// `2021-01-02T03:04:05.25+06:07` cut off at each byte goes wrong where the place begins that the cut is in.
+static CUTS: [Row<'static>; 28] = [
+    (b"", 0, Component("year")),
+    (b"2", 0, Component("year")),
+    (b"20", 0, Component("year")),
+    (b"202", 0, Component("year")),
+    (b"2021", 4, Literal(b"-")),
+    (b"2021-", 5, Component("month")),
+    (b"2021-0", 5, Component("month")),
+    (b"2021-01", 7, Literal(b"-")),
+    (b"2021-01-", 8, Component("day")),
+    (b"2021-01-0", 8, Component("day")),
+    (b"2021-01-02", 10, Component("separator")),
+    (b"2021-01-02T", 11, Component("hour")),
+    (b"2021-01-02T0", 11, Component("hour")),
+    (b"2021-01-02T03", 13, Literal(b":")),
+    (b"2021-01-02T03:", 14, Component("minute")),
+    (b"2021-01-02T03:0", 14, Component("minute")),
+    (b"2021-01-02T03:04", 16, Literal(b":")),
+    (b"2021-01-02T03:04:", 17, Component("second")),
+    (b"2021-01-02T03:04:0", 17, Component("second")),
+    (b"2021-01-02T03:04:05", 19, Component("offset hour")),
+    (b"2021-01-02T03:04:05.", 19, Component("subsecond")),
+    (b"2021-01-02T03:04:05.2", 21, Component("offset hour")),
+    (b"2021-01-02T03:04:05.25", 22, Component("offset hour")),
+    (b"2021-01-02T03:04:05.25+", 22, Component("offset hour")),
+    (b"2021-01-02T03:04:05.25+0", 22, Component("offset hour")),
+    (b"2021-01-02T03:04:05.25+06", 25, Literal(b":")),
+    (
+        b"2021-01-02T03:04:05.25+06:",
+        26,
+        Component("offset minute"),
+    ),
+    (
+        b"2021-01-02T03:04:05.25+06:0",
+        26,
+        Component("offset minute"),
+    ),
 ];
 
-fn is_at(found: Option<Located<'_>>, row: &Row) -> bool {
-    let (_, index, expected) = *row;
-    found == Some(Located { index, expected })
-}
+// What is read whole has no place, also where the calendar has no such day.
+static WHOLE: [&[u8]; 3] = [
+    b"2021-02-30T00:00:00Z",
+    b"2021-01-02t03:04:60z",
+    b"2021-01-02T03:04:05.25+06:07",
+];
+
+// Defaults change nothing.
+static MONTH: Row<'static> = (b"2021-13-01T00:00:00Z", 5, Component("month"));
 
 #[test]
-fn places(rt: HostRuntime) -> Result<(), Fail> {
-    for row in &PLACES {
-        assert!(rt; is_at(Rfc3339.locate(row.0, None), row), "{:?}", row.0);
-        assert!(rt; Rfc3339.parse_date(row.0, None).is_err(), "{:?}", row.0);
-    }
-    Ok(())
-}
-
-#[test]
-fn cuts(rt: HostRuntime) -> Result<(), Fail> {
-    let text = b"2021-01-02T03:04:05.25+06:07";
-    for (length, (index, expected)) in BEGINS.iter().enumerate() {
-        let cut = text.get(..length).ok_or("cut")?;
-        let place = Located {
-            index: *index,
-            expected: *expected,
-        };
-        assert_eq!(rt; Rfc3339.locate(cut, None), Some(place), "{length}");
-    }
-    assert_eq!(rt; Rfc3339.locate(text, None), None);
-    Ok(())
-}
-
-// A text that is read whole has no place, also where the calendar has no such day, and defaults change nothing.
-#[test]
-fn read_whole(rt: HostRuntime) -> Result<(), Fail> {
-    assert_eq!(rt; Rfc3339.locate(b"2021-02-30T00:00:00Z", None), None);
-    assert_eq!(rt; Rfc3339.locate(b"2021-01-02t03:04:60z", None), None);
-    let known = Parsed::new().with_year(2021);
-    let place = Located {
-        index: 5,
-        expected: Component("month"),
-    };
-    assert_eq!(rt;
-        (&Rfc3339).locate(b"2021-13-01T00:00:00Z", known),
-        Some(place)
-    );
-    Ok(())
+fn rfc3339(rt: HostRuntime) {
+    assert_located(&rt, &Rfc3339, &PLACES, &WHOLE);
+    assert_located(&rt, &Rfc3339, &CUTS, &[]);
+    assert!(rt; is_at(&&Rfc3339, &MONTH, Parsed::new().with_year(2021)));
 }

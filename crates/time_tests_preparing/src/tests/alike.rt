@@ -1,8 +1,120 @@
 //! Each text of a joined step, with each of its bytes changed to each other byte, against the walk over the steps.
 use super::{Both, read};
-use std::test::Fail;
+use std::num::NonZero;
+use std::process::Abort;
 use time_parsing::Parsable;
 use time_record::Parsed;
+use time_values::error::Parse;
+use time_values::{Date, Month, OffsetDateTime, PlainDateTime, Time, Weekday};
+
+// A description, and a text that it reads.
+type Row = (&'static [u8], &'static [u8]);
+
+static DATES: [Row; 6] = [
+    (b"[year]-[month]-[day]", b"2021-03-04"),
+    (b"[year]-[month]-[day]", b"0000-12-31x"),
+    (b"[year]x[month]x[day]", b"9999x10x29"),
+    (b"[day]/[month repr:short]/[year]", b"29/Feb/2021"),
+    (b"%b %e", b"Nov  9"),
+    (b"%b %e", b"Dec 31x"),
+];
+
+static TIMES: [Row; 4] = [
+    (b"[hour]:[minute]:[second]", b"23:59:60"),
+    (b"[hour]0[minute]0[second]", b"00000009"),
+    (FRACTION, b"23:59:58.123456789"),
+    (FRACTION, b"00:00:00"),
+];
+
+const FRACTION: &[u8] = b"[hour]:[minute]:[second][optional [.[subsecond]]]";
+
+static GROUPS: [Row; 4] = [
+    (
+        b"[hour repr:12 padding:none]:[minute][optional [:[second][optional [.[subsecond]]]]] [period]",
+        b"1:05:09.25 PM",
+    ),
+    (LOCAL, b"2021-01-02 03:04:05 -00:30"),
+    (LOCAL, b"2020-366"),
+    (
+        b"[optional [[year]-[month]]]-[day][optional [ab]]c",
+        b"2020-12-11abc",
+    ),
+];
+
+const LOCAL: &[u8] =
+    b"[first [[year]-[month]-[day] [hour]:[minute]:[second] [offset_hour sign:mandatory]:[offset_minute]] [[year]-[ordinal]]]";
+
+static MOMENTS: [Row; 5] = [
+    (b"%Y-%m-%dT%H:%M:%S%z", b"2021-01-02T23:59:60-0030"),
+    (b"%b %e %H:%M:%S", b"Mar  4 05:06:07"),
+    (
+        b"[year]-[month]-[day] [hour]:[minute]:[second]",
+        b"2020-02-29 23:59:59",
+    ),
+    (
+        b"[day]/[month repr:short]/[year]:[hour]:[minute]:[second] [offset_hour sign:mandatory][offset_minute]",
+        b"31/Dec/1999:23:59:59 +0530",
+    ),
+    (
+        b"[year]-[month]-[day] [hour]:[minute]:[second] [offset_hour sign:mandatory]:[offset_minute]",
+        b"2021-01-02 03:04:05 -00:30",
+    ),
+];
+
+static COMPONENTS: [Row; 3] = [
+    (b"%a, %d %m %H %M %S %y", b"Thu, 04 03 05 06 07 21"),
+    (b"[offset_minute][optional [ x[minute]]]", b"59 x07"),
+    (b"[hour][first [[minute]] [x[minute]]] at", b"05x06 at"),
+];
+
+type DateParts = (
+    Option<i32>,
+    Option<Month>,
+    Option<NonZero<u8>>,
+    Option<NonZero<u16>>,
+    Option<Weekday>,
+);
+
+fn date_parts(record: &Parsed) -> DateParts {
+    (
+        record.year(),
+        record.month(),
+        record.day(),
+        record.ordinal(),
+        record.weekday(),
+    )
+}
+
+type TimeParts = (
+    Option<u8>,
+    Option<NonZero<u8>>,
+    Option<bool>,
+    Option<u8>,
+    Option<u8>,
+    Option<u32>,
+);
+
+fn time_parts(record: &Parsed) -> TimeParts {
+    (
+        record.hour_24(),
+        record.hour_12(),
+        record.hour_12_is_pm(),
+        record.minute(),
+        record.second(),
+        record.subsecond(),
+    )
+}
+
+fn offset_parts(record: &Parsed) -> (Option<i8>, Option<i8>) {
+    (record.offset_hour(), record.offset_minute_signed())
+}
+
+// Whether two records have the same parts.
+fn is_same(a: &Parsed, b: &Parsed) -> bool {
+    date_parts(a) == date_parts(b)
+        && time_parts(a) == time_parts(b)
+        && offset_parts(a) == offset_parts(b)
+}
 
 // Whether both read the text alike: the same rest and record, or the same refusal and the record as it was.
 fn is_alike(both: &Both, text: &[u8], begun: Parsed) -> bool {
@@ -13,119 +125,96 @@ fn is_alike(both: &Both, text: &[u8], begun: Parsed) -> bool {
     walked == read && is_same(&by_walk, &at_once)
 }
 
-// Whether two records have the same parts.
-fn is_same(a: &Parsed, b: &Parsed) -> bool {
-    a.year() == b.year()
-        && a.month() == b.month()
-        && a.day() == b.day()
-        && a.ordinal() == b.ordinal()
-        && a.hour_24() == b.hour_24()
-        && a.hour_12() == b.hour_12()
-        && a.hour_12_is_pm() == b.hour_12_is_pm()
-        && a.minute() == b.minute()
-        && a.second() == b.second()
-        && a.subsecond() == b.subsecond()
-        && a.offset_hour() == b.offset_hour()
-        && a.offset_minute_signed() == b.offset_minute_signed()
-        && a.weekday() == b.weekday()
+// What a format makes of the whole text.
+type Values = (
+    Result<Date, Parse>,
+    Result<Time, Parse>,
+    Result<PlainDateTime, Parse>,
+    Result<OffsetDateTime, Parse>,
+);
+
+fn values_of<F: Parsable>(format: &F, text: &[u8]) -> Values {
+    (
+        format.parse_date(text, None),
+        format.parse_time(text, None),
+        format.parse_plain_date_time(text, None),
+        format.parse_offset_date_time(text, None),
+    )
 }
 
-// Whether both make the same values of the whole text, or the same refusals.
-fn is_alike_whole(both: &Both, text: &[u8]) -> bool {
-    let Both {
-        description,
-        prepared,
-    } = both;
-    description.parse_date(text, None) == prepared.parse_date(text, None)
-        && description.parse_time(text, None) == prepared.parse_time(text, None)
-        && description.parse_plain_date_time(text, None)
-            == prepared.parse_plain_date_time(text, None)
-        && description.parse_offset_date_time(text, None)
-            == prepared.parse_offset_date_time(text, None)
+// Whether both read the text alike over the record, and make the same of the whole text without it.
+fn is_alike_in_all(both: &Both, text: &[u8], known: Parsed) -> bool {
+    is_alike(both, text, known)
+        && values_of(&both.description, text) == values_of(&both.prepared, text)
+}
+
+// More bytes than any text of the rows has.
+const ROOM: usize = 32;
+
+// Whether both read each text alike that differs from the first one in that byte alone.
+fn are_alike_at(both: &Both, text: &[u8], at: usize, known: Parsed) -> bool {
+    let mut bytes = [0; ROOM];
+    let Some(changed) = bytes.get_mut(..text.len()) else {
+        return false;
+    };
+    changed.copy_from_slice(text);
+    for byte in 0..=255u8 {
+        let Some(place) = changed.get_mut(at) else {
+            return false;
+        };
+        *place = byte;
+        if !is_alike_in_all(both, changed, known) {
+            return false;
+        }
+    }
+    true
 }
 
 // Whether both read each text alike that differs from the first one in one byte, and each front of it.
-fn are_alike<const N: usize>(both: &Both, text: [u8; N]) -> bool {
-    let mut known = Parsed::new();
-    let known_day = known.set_ordinal(std::num::NonZero::<u16>::MIN);
-    let mut alike = known_day.is_some() && is_alike(both, &text, Parsed::new());
-    for at in 0..N {
-        alike &= is_alike(both, &text[..at], known);
-        alike &= is_alike_whole(both, &text[..at]);
-        let mut changed = text;
-        for byte in 0..=255u8 {
-            changed[at] = byte;
-            alike &= is_alike(both, &changed, known);
-            alike &= is_alike_whole(both, &changed);
+fn are_alike(both: &Both, text: &[u8]) -> bool {
+    let known = Parsed::new().with_ordinal(NonZero::<u16>::MIN);
+    let Some(known) = known else {
+        return false;
+    };
+    for at in 0..text.len() {
+        if !is_alike_in_all(both, &text[..at], known) || !are_alike_at(both, text, at, known) {
+            return false;
         }
     }
-    alike
+    is_alike(both, text, Parsed::new())
+}
+
+fn assert_alike(rt: &impl Abort, rows: &[Row]) {
+    for (description, text) in rows {
+        let alike = match read(description) {
+            Some(both) => are_alike(&both, text),
+            None => false,
+        };
+        assert!(rt; alike, "{text:?}");
+    }
 }
 
 #[test]
-fn dates(rt: HostRuntime) -> Result<(), Fail> {
-    assert!(rt; are_alike(&read(b"[year]-[month]-[day]")?, *b"2021-03-04"));
-    assert!(rt; are_alike(&read(b"[year]-[month]-[day]")?, *b"0000-12-31x"));
-    assert!(rt; are_alike(&read(b"[year]x[month]x[day]")?, *b"9999x10x29"));
-    assert!(rt; are_alike(&read(b"[day]/[month repr:short]/[year]")?, *b"29/Feb/2021"));
-    assert!(rt; are_alike(&read(b"%b %e")?, *b"Nov  9"));
-    assert!(rt; are_alike(&read(b"%b %e")?, *b"Dec 31x"));
-    Ok(())
+fn dates(rt: HostRuntime) {
+    assert_alike(&rt, &DATES);
 }
 
 #[test]
-fn times(rt: HostRuntime) -> Result<(), Fail> {
-    assert!(rt; are_alike(&read(b"[hour]:[minute]:[second]")?, *b"23:59:60"));
-    assert!(rt; are_alike(&read(b"[hour]0[minute]0[second]")?, *b"00000009"));
-    let fraction = b"[hour]:[minute]:[second][optional [.[subsecond]]]";
-    assert!(rt; are_alike(&read(fraction)?, *b"23:59:58.123456789"));
-    assert!(rt; are_alike(&read(fraction)?, *b"00:00:00"));
-    Ok(())
+fn times(rt: HostRuntime) {
+    assert_alike(&rt, &TIMES);
 }
 
 #[test]
-fn groups(rt: HostRuntime) -> Result<(), Fail> {
-    let clock =
-        b"[hour repr:12 padding:none]:[minute][optional [:[second][optional [.[subsecond]]]]] [period]";
-    assert!(rt; are_alike(&read(clock)?, *b"1:05:09.25 PM"));
-    let local =
-        b"[first [[year]-[month]-[day] [hour]:[minute]:[second] [offset_hour sign:mandatory]:[offset_minute]] [[year]-[ordinal]]]";
-    assert!(rt; are_alike(&read(local)?, *b"2021-01-02 03:04:05 -00:30"));
-    assert!(rt; are_alike(&read(local)?, *b"2020-366"));
-    let inside = b"[optional [[year]-[month]]]-[day][optional [ab]]c";
-    assert!(rt; are_alike(&read(inside)?, *b"2020-12-11abc"));
-    Ok(())
+fn groups(rt: HostRuntime) {
+    assert_alike(&rt, &GROUPS);
 }
 
 #[test]
-fn moments(rt: HostRuntime) -> Result<(), Fail> {
-    assert!(rt; are_alike(&read(b"%Y-%m-%dT%H:%M:%S%z")?, *b"2021-01-02T23:59:60-0030"));
-    assert!(rt; are_alike(&read(b"%b %e %H:%M:%S")?, *b"Mar  4 05:06:07"));
-    let plain = b"[year]-[month]-[day] [hour]:[minute]:[second]";
-    assert!(rt; are_alike(&read(plain)?, *b"2020-02-29 23:59:59"));
-    let log =
-        b"[day]/[month repr:short]/[year]:[hour]:[minute]:[second] [offset_hour sign:mandatory][offset_minute]";
-    assert!(rt; are_alike(&read(log)?, *b"31/Dec/1999:23:59:59 +0530"));
-    let apart =
-        b"[year]-[month]-[day] [hour]:[minute]:[second] [offset_hour sign:mandatory]:[offset_minute]";
-    assert!(rt; are_alike(&read(apart)?, *b"2021-01-02 03:04:05 -00:30"));
-    Ok(())
+fn moments(rt: HostRuntime) {
+    assert_alike(&rt, &MOMENTS);
 }
 
 #[test]
-fn components(rt: HostRuntime) -> Result<(), Fail> {
-    assert!(rt; are_alike(&read(b"%a, %d %m %H %M %S %y")?, *b"Thu, 04 03 05 06 07 21"));
-    assert!(rt;
-        are_alike(
-            &read(b"[offset_minute][optional [ x[minute]]]")?,
-            *b"59 x07"
-        )
-    );
-    assert!(rt;
-        are_alike(
-            &read(b"[hour][first [[minute]] [x[minute]]] at")?,
-            *b"05x06 at"
-        )
-    );
-    Ok(())
+fn components(rt: HostRuntime) {
+    assert_alike(&rt, &COMPONENTS);
 }

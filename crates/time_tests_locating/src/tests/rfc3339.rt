@@ -1,6 +1,6 @@
 //! Texts that RFC 3339 refuses. The first place that doesn't have its form, or whose number is out of its range, is
-//! told at the index where it begins: `2021-01-02T03:04:05` takes nineteen bytes, with the year at 0, the month at 5, the
-//! day at 8, the hour at 11, the minute at 14 and the second at 17.
+//! told at the index where it begins: `2021-01-02T03:04:05` takes nineteen bytes, with the year at 0, the month at 5,
+//! the day at 8, the hour at 11, the minute at 14 and the second at 17.
 use super::{Row, assert_located, is_at};
 use time_locating::Expected::{Component, End, Literal};
 use time_parsing::Rfc3339;

@@ -1,5 +1,5 @@
 //! The walk over the steps of a description that was read from a text, a second root over the short cuts of leaves.
-ghost use Rattle.std.specs.Prelude.{◌≡◌, ◌≢◌, ◌-◌, ◌≤◌, ◌++◌, ◌∷◌, [], ℕ, List, length, drop, MatchOption};
+ghost use Rattle.std.specs.Prelude.{◌≡◌, ◌≢◌, ◌-◌, ◌≤◌, ◌++◌, ◌∷◌, [], ℕ, List, Ok, length, drop, MatchOption};
 ghost use Rattle.time_values.specs.Range.{greatest_year};
 ghost use Rattle.time_components.specs.Steps as steps_;
 ghost use Rattle.time_components.specs.Steps.{steps_shape, steps_trees, tree_at};
@@ -58,6 +58,7 @@ pub fn walk_list<'a>(
         let [step, behind @ ..] = later else {
             return Ok(unread);
         };
+        let after = steps_after(step, behind);
         match walk_item(step, behind, parsed, unread, tries) {
             Ok(more) => rest = more,
             Err(fault) => {
@@ -65,7 +66,7 @@ pub fn walk_list<'a>(
                 return Err(fault);
             }
         }
-        left = steps_after(step, behind);
+        left = after;
         uncounted = left.len();
     }
 }
@@ -94,7 +95,8 @@ fn read_steps<'s, 'a>(
     (left, rest)
 }
 
-// Reads the item of a step, with those behind it that belong to it.
+// Reads the item of a step, with those behind it that belong to it. By `Ok(..?)` a result is handed on in parts, and not
+// kept in memory for its callers.
 #[cycle(steps)]
 #[inline(always)]
 fn walk_item<'a>(
@@ -114,7 +116,7 @@ fn walk_item<'a>(
         }
         Step::Component(component) => {
             tries.begin();
-            parsed.parse_component(input, component)
+            Ok(parsed.parse_component(input, component)?)
         }
         Step::Group(group, len) => {
             let (inside, _) = behind.split_at(len.min(behind.len()));
@@ -142,16 +144,16 @@ fn walk_group<'a>(
         Group::List => walk_list(inside, parsed, input, tries),
         Group::Optional => {
             tries.begin();
-            walk_optional(inside, parsed, input, tries)
+            Ok(walk_optional(inside, parsed, input, tries))
         }
         Group::First => {
             tries.begin();
-            walk_first(inside, parsed, input, tries)
+            Ok(walk_first(inside, parsed, input, tries)?)
         }
     }
 }
 
-// Reads steps that may be missing.
+// Reads steps that may be missing, and answers the rest.
 #[cycle(steps)]
 #[inline(always)]
 #[tactic(auto, unfolding(crate::specs::Reading::Reads))]
@@ -160,13 +162,13 @@ fn walk_optional<'a>(
     parsed: &mut Parsed,
     input: &'a [u8],
     tries: &mut Tries,
-) -> Result<&'a [u8], ParseFromDescription>
-    ensures answers { Answers greatest_year (optional (steps_shape inside.now)) input.now parsed.old result parsed.new }
+) -> &'a [u8]
+    ensures answers { Answers greatest_year (optional (steps_shape inside.now)) input.now parsed.old (Ok result) parsed.new }
     ensures counts { Counts greatest_year (steps_shape inside.now) input.now parsed.old tries.old tries.new }
 {
     match walk_list(inside, parsed, input, tries) {
-        Ok(rest) => Ok(rest),
-        Err(_) => Ok(input),
+        Ok(rest) => rest,
+        Err(_) => input,
     }
 }
 

@@ -52,11 +52,11 @@ pub walk_list-loop-later-preserved : goal.walk_list-loop-later-preserved
 walk_list-loop-later-preserved t c =
     let left = c.read_steps.result.0.now in
     let x = c.step-item.result in
-    let after = c.steps_after-left.result.now in
+    let after = c.steps_after-after.result.now in
     let item = tree_at steps_trees x (behind_first left) in
     let counted = c.add.ensures ∙ raised_further _ _ _ _ c.read_steps.ensures.fewer c.loop-later.invariant.2 in
     let w = Walked-further c.loop-later.invariant.0 _ _ c.read_steps.ensures.goes counted in
-    let is = first_item left x (omega arith) c.step-item.is ∙ ap (λ ys. more item (steps_trees ys)) (sym c.steps_after-left.ensures.after) in (
+    let is = first_item left x (omega arith) c.step-item.is ∙ ap (λ ys. more item (steps_trees ys)) (sym c.steps_after-after.ensures.after) in (
       subst (λ n. Walked greatest_year (steps_trees c.args.steps.now) c.args.input.now c.args.parsed.now (steps_trees after) c.in-Ok.more.now
           c.walk_item.new.parsed (raised c.args.tries.now 1) n)
           (omega arith) (Walked-reads w item (steps_trees after) is _ c.in-Ok.ensures.counts c.in-Ok.ensures.answers),

@@ -107,19 +107,18 @@ static FOUND: [Row; 22] = [
     (Place::After(b"t="), b"at=t=b", b"at=", b"t=b", b""),
 ];
 
-// Whether the place of a row cuts its line into its parts.
-fn is_cut(row: &Row) -> bool {
-    let (place, line, before, time, after) = row;
-    match find_time(*place, line) {
-        Some(cut) => cut.before == *before && cut.time == *time && cut.after == *after,
+// Whether the place cuts the line into those parts.
+fn is_cut(place: Place<'_>, line: &[u8], before: &[u8], time: &[u8], after: &[u8]) -> bool {
+    match find_time(place, line) {
+        Some(cut) => cut.before == before && cut.time == time && cut.after == after,
         None => false,
     }
 }
 
 #[test]
 fn found(rt: HostRuntime) {
-    for row in &FOUND {
-        assert!(rt; is_cut(row), "{:?}", row.1);
+    for (place, line, before, time, after) in &FOUND {
+        assert!(rt; is_cut(*place, line, before, time, after), "{line:?}");
     }
 }
 

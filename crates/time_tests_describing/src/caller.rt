@@ -4,7 +4,7 @@ ghost use Rattle.time_components.specs.Shape.{borrowed_shape};
 ghost use Rattle.time_components.specs.Tree.{sequence, trees};
 ghost use Rattle.time_descriptions.specs.Description.{shape};
 
-use std::test::Fail;
+use crate::texts::is_text;
 use time_components::{BorrowedFormatItem, item};
 use time_describing::{NoText, description_of, text_of};
 use time_descriptions::Description;
@@ -19,12 +19,9 @@ pub fn description_of_items<const N: usize>(
 }
 
 #[test]
-fn text_of_a_clock(rt: HostRuntime) -> Result<(), Fail> {
+fn text_of_a_clock(rt: HostRuntime) {
     let items = [item!(Hour12), item!(":"), item!(Minute)];
-    let Ok(text) = text_of::<32, _>(&BorrowedFormatItem::Compound(&items)) else {
-        return Err("no text".into());
-    };
-    assert!(rt; text.as_bytes() == b"[hour repr:12]:[minute]".as_slice());
+    let clock = BorrowedFormatItem::Compound(&items);
+    assert!(rt; is_text(text_of::<32, _>(&clock), b"[hour repr:12]:[minute]"));
     assert!(rt; description_of_items::<32>(&items).is_ok());
-    Ok(())
 }

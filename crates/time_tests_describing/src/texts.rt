@@ -1,7 +1,7 @@
 //! The text of what a text describes.
-use std::test::Fail;
+use std::alloc::Global;
 use time_components::{BorrowedFormatItem, item};
-use time_describing::{description_of, text_of};
+use time_describing::{DescriptionText, NoText, description_of, text_of};
 use time_descriptions::parse_owned;
 
 // Texts, and the one that is written of what they describe: without defaults, with one space before each modifier and
@@ -75,33 +75,48 @@ static TEXTS: [(&[u8], &[u8]); 30] = [
     ),
 ];
 
+/// A text was written, and is that.
+pub fn is_text<const N: usize>(text: Result<DescriptionText<N>, NoText>, wanted: &[u8]) -> bool {
+    match text {
+        Ok(text) => text.as_bytes() == wanted,
+        Err(_) => false,
+    }
+}
+
+// That is written of what the text describes.
+fn is_written(alloc: Global, read: &[u8], written: &[u8]) -> bool {
+    match parse_owned::<2>(alloc, read) {
+        Ok(item) => is_text(text_of::<64, _>(&item), written),
+        Err(_) => false,
+    }
+}
+
 #[test]
 fn texts(rt: HostRuntime) {
     for (read, written) in &TEXTS {
-        let mut is_written = false;
-        if let Ok(item) = parse_owned::<2>(rt.alloc(), read) {
-            if let Ok(text) = text_of::<64, _>(&item) {
-                is_written = text.as_bytes() == *written;
-            }
-        }
-        assert!(rt; is_written, "{}", read.escape_ascii());
+        assert!(rt;
+            is_written(rt.alloc(), read, written),
+            "{}",
+            read.escape_ascii()
+        );
+    }
+}
+
+// The item has a description of so many steps, and it has room.
+fn has_steps(item: &BorrowedFormatItem<'_>, wanted: usize) -> bool {
+    match description_of::<28, _>(item) {
+        Ok(description) => description.steps().len() == wanted,
+        Err(_) => false,
     }
 }
 
 // A text has room exactly where it has as many bytes.
 #[test]
-fn borrowed_items(rt: HostRuntime) -> Result<(), Fail> {
+fn borrowed_items(rt: HostRuntime) {
     let second = [item!(":"), item!(Second)];
     let seconds = BorrowedFormatItem::Compound(&second);
     let items = [item!(Hour24), BorrowedFormatItem::Optional(&seconds)];
     let clock = BorrowedFormatItem::Compound(&items);
-    let Ok(text) = text_of::<28, _>(&clock) else {
-        return Err("no text".into());
-    };
-    assert!(rt; text.as_bytes() == b"[hour][optional [:[second]]]".as_slice());
-    let Ok(description) = description_of::<28, _>(&clock) else {
-        return Err("no description".into());
-    };
-    assert_eq!(rt; description.steps().len(), 4);
-    Ok(())
+    assert!(rt; is_text(text_of::<28, _>(&clock), b"[hour][optional [:[second]]]"));
+    assert!(rt; has_steps(&clock, 4));
 }

@@ -162,12 +162,7 @@ impl Parsable for HeldDescription {
 /// Holds the description of a text in the syntax of that number: the status is 0, or says why the text describes nothing,
 /// and then `index` is that of its first fault, if the fault has a place.
 #[inline(always)]
-pub fn describe(
-    syntax: u32,
-    text: &[u8],
-    out: &mut HeldDescription,
-    index: &mut usize,
-) -> u32
+pub fn describe(syntax: u32, text: &[u8], out: &mut HeldDescription, index: &mut usize) -> u32
     ensures { Holds (Described.syntax_of syntax) text.now result out.old out.new index.old index.new }
 {
     match syntax_of(syntax) {

@@ -74,12 +74,7 @@ pub fn locate_by(format: u32, text: &[u8], out: &mut Place) -> u32
 /// The same by a description in the syntax of that number. A text that describes nothing is answered as
 /// [`check`](crate::descriptions::check) answers it.
 #[inline(always)]
-pub fn locate_read(
-    syntax: u32,
-    description: &[u8],
-    text: &[u8],
-    out: &mut Place,
-) -> u32
+pub fn locate_read(syntax: u32, description: &[u8], text: &[u8], out: &mut Place) -> u32
     ensures { HandsReadPlace (Described.syntax_of syntax) description.now text.now result out.old out.new }
 {
     match syntax_of(syntax) {

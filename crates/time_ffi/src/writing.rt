@@ -107,12 +107,7 @@ fn write_moment(format: Format, parts: &MomentParts, buffer: &mut [u8], count: &
 /// `count` is how many bytes the whole text has. On any other status than 0 both are unchanged: a part is out of its
 /// range, the moment has no text in that format, or no format has that number.
 #[inline(always)]
-pub fn format_moment(
-    format: u32,
-    moment: &MomentParts,
-    buffer: &mut [u8],
-    count: &mut usize,
-) -> u32
+pub fn format_moment(format: u32, moment: &MomentParts, buffer: &mut [u8], count: &mut usize) -> u32
     ensures { HandsText (Formats.format_of format) moment.now result buffer.old buffer.new count.old count.new }
 {
     match format_of(format) {

@@ -261,4 +261,3 @@ pub(crate) const COMPLETIONS: Row = Row {
     help: "Prints the completions of bash, zsh or fish",
     ..FLAG
 };
-

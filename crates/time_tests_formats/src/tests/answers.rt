@@ -50,347 +50,282 @@ pub(super) fn is_answered(format: Format, text: &[u8], wanted: Answer) -> bool {
         && staged == wanted_over_a_record
 }
 
-/// The texts, with the format of each.
-pub(super) static TEXTS: [(Format, &[u8], Answer); 99] = [
+/// The first of the texts that doesn't have its answer by the format, if there is one.
+pub(super) fn unanswered(format: Format, rows: &[Row]) -> Option<&'static [u8]> {
+    for (text, wanted) in rows {
+        if !is_answered(format, text, *wanted) {
+            return Some(*text);
+        }
+    }
+    None
+}
+
+/// A text and its answer.
+pub(super) type Row = (&'static [u8], Answer);
+
+/// Texts of RFC 3339.
+pub(super) static STAMPS: [Row; 20] = [
     (
-        Stamp,
         b"1985-04-12T23:20:50.52Z",
         Moment((1985, April, 12), (23, 20, 50, 520_000_000), (0, 0)),
     ),
     (
-        Stamp,
         b"1990-12-31T15:59:60-08:00",
         Moment((1990, December, 31), (15, 59, 59, 999_999_999), (-8, 0)),
     ),
     (
-        Stamp,
         b"1990-12-31T23:59:60Z",
         Moment((1990, December, 31), (23, 59, 59, 999_999_999), (0, 0)),
     ),
     (
-        Stamp,
         b"9999-12-31T23:59:59.999999999-23:59",
         Moment((9999, December, 31), (23, 59, 59, 999_999_999), (-23, -59)),
     ),
     (
-        Stamp,
         b"2021-01-02T03:04:05.1234567899Z",
         Moment((2021, January, 2), (3, 4, 5, 123_456_789), (0, 0)),
     ),
     (
-        Stamp,
         b"2021-01-02T03:04:05Z",
         Moment((2021, January, 2), (3, 4, 5, 0), (0, 0)),
     ),
     (
-        Stamp,
         b"2021-01-02t03:04:05.1234567899-05:30",
         Moment((2021, January, 2), (3, 4, 5, 123_456_789), (-5, -30)),
     ),
     (
-        Stamp,
         b"1990-12-30T23:59:60Z",
         Refused(NO_LEAP_SECOND, NO_LEAP_SECOND),
     ),
-    (Stamp, b"2021-13-01T00:00:00Z", Refused(NO_MONTH, MONTH)),
-    (Stamp, b"2021-13-01T00:00:00Zx", Refused(TRAILING, MONTH)),
-    (Stamp, b"2021-01-02\xc3\xa903:04:05Z", Refused(HOUR, HOUR)),
-    (Stamp, b"", Refused(YEAR, YEAR)),
-    (Stamp, b"2021-00-01T00:00:00Z", Refused(MONTH, MONTH)),
-    (Stamp, b"2021-01-00T00:00:00Z", Refused(NO_DAY, DAY)),
-    (Stamp, b"2021-01-32T25:00:00Z", Refused(NO_DAY, DAY)),
-    (Stamp, b"2021-01-02T24:04:05Z", Refused(NO_HOUR, HOUR)),
-    (Stamp, b"2021-01-02T03:60:05Z", Refused(NO_MINUTE, MINUTE)),
-    (Stamp, b"2021-01-02T03:04:61Z", Refused(NO_SECOND, SECOND)),
+    (b"2021-13-01T00:00:00Z", Refused(NO_MONTH, MONTH)),
+    (b"2021-13-01T00:00:00Zx", Refused(TRAILING, MONTH)),
+    (b"2021-01-02\xc3\xa903:04:05Z", Refused(HOUR, HOUR)),
+    (b"", Refused(YEAR, YEAR)),
+    (b"2021-00-01T00:00:00Z", Refused(MONTH, MONTH)),
+    (b"2021-01-00T00:00:00Z", Refused(NO_DAY, DAY)),
+    (b"2021-01-32T25:00:00Z", Refused(NO_DAY, DAY)),
+    (b"2021-01-02T24:04:05Z", Refused(NO_HOUR, HOUR)),
+    (b"2021-01-02T03:60:05Z", Refused(NO_MINUTE, MINUTE)),
+    (b"2021-01-02T03:04:61Z", Refused(NO_SECOND, SECOND)),
     (
-        Stamp,
         b"2021-01-02T03:04:05+24:00",
         Refused(OFFSET_HOUR, OFFSET_HOUR),
     ),
     (
-        Stamp,
         b"2021-01-02T03:04:05+05:60x",
         Refused(NO_MINUTES, OFFSET_MINUTE),
     ),
+];
+
+/// Texts of RFC 2822 that say a moment.
+pub(super) static MAIL_DATES: [Row; 21] = [
     (
-        Mail,
         b"Mon, 02 Jan 2021 03:04:05 +0607",
         Moment((2021, January, 2), (3, 4, 5, 0), (6, 7)),
     ),
     (
-        Mail,
         b"02 Jan 49 03:04 EST",
         Moment((2049, January, 2), (3, 4, 0, 0), (-5, 0)),
     ),
     (
-        Mail,
         b"02 Jan 2021 03:04 -0030",
         Moment((2021, January, 2), (3, 4, 0, 0), (0, -30)),
     ),
     (
-        Mail,
         b"02 Jan 2021 03:04 GMT (x)",
         Moment((2021, January, 2), (3, 4, 0, 0), (0, 0)),
     ),
     (
-        Mail,
         b"02 (a(b\\)c)) Jan 2021 03:04 +0000",
         Moment((2021, January, 2), (3, 4, 0, 0), (0, 0)),
     ),
     // A comment of 31 levels, the most that are read.
     (
-        Mail,
         b"02 ((((((((((((((((((((((((((((((())))))))))))))))))))))))))))))) Jan 2021 03:04 +0000",
         Moment((2021, January, 2), (3, 4, 0, 0), (0, 0)),
     ),
     (
-        Mail,
         b"1 Jan 99 00:00 Z",
         Moment((1999, January, 1), (0, 0, 0, 0), (0, 0)),
     ),
     (
-        Mail,
         b"1 Jan 99 00:00 UT",
         Moment((1999, January, 1), (0, 0, 0, 0), (0, 0)),
     ),
     (
-        Mail,
         b"1 Jan 21(x)03:04 GMT",
         Moment((2021, January, 1), (3, 4, 0, 0), (0, 0)),
     ),
     (
-        Mail,
         b"1 Jan 2021\r\n 03:04 GMT",
         Moment((2021, January, 1), (3, 4, 0, 0), (0, 0)),
     ),
     (
-        Mail,
         b"31 Dec 2016 23:59:60 GMT",
         Moment((2016, December, 31), (23, 59, 59, 999_999_999), (0, 0)),
     ),
     (
-        Mail,
         b"31 Dec 1990 15:59:60 -0800",
         Moment((1990, December, 31), (15, 59, 59, 999_999_999), (-8, 0)),
     ),
     (
-        Mail,
         b"1 Jan 2021 03:04 -2500",
         Moment((2021, January, 1), (3, 4, 0, 0), (-25, 0)),
     ),
     (
-        Mail,
         b"1 Jan 00 00:00 GMT",
         Moment((2000, January, 1), (0, 0, 0, 0), (0, 0)),
     ),
     (
-        Mail,
         b"1 Jan 49 00:00 GMT",
         Moment((2049, January, 1), (0, 0, 0, 0), (0, 0)),
     ),
     (
-        Mail,
         b"1 Jan 50 00:00 GMT",
         Moment((1950, January, 1), (0, 0, 0, 0), (0, 0)),
     ),
     (
-        Mail,
         b"1 Jan 1900 00:00 GMT",
         Moment((1900, January, 1), (0, 0, 0, 0), (0, 0)),
     ),
     (
-        Mail,
         b"1 Jan 9999 00:00 GMT",
         Moment((9999, January, 1), (0, 0, 0, 0), (0, 0)),
     ),
     (
-        Mail,
         b"Mon, 02 Jan 2021 03:04 GMT",
         Moment((2021, January, 2), (3, 4, 0, 0), (0, 0)),
     ),
     (
-        Mail,
         b" (x)sAt,2 jAN 2021 03 : 04 gmt",
         Moment((2021, January, 2), (3, 4, 0, 0), (0, 0)),
     ),
     (
-        Mail,
         b"Sat, 02 Jan 2021 03:04:05 PST (x)",
         Moment((2021, January, 2), (3, 4, 5, 0), (-8, 0)),
     ),
+];
+
+/// Texts of RFC 2822 with a part that is not read, or out of its range.
+pub(super) static MAIL_REFUSED: [Row; 27] = [
     // A comment of 32 levels.
     (
-        Mail,
         b"02 (((((((((((((((((((((((((((((((()))))))))))))))))))))))))))))))) Jan 2021 03:04 +0000",
         Refused(MONTH, MONTH),
     ),
-    (Mail, b"02 Jan 2021\r03:04 +0000", Refused(LITERAL, LITERAL)),
-    (Mail, b"02 Jan 1899 03:04 +0000", Refused(YEAR, YEAR)),
-    (Mail, b"1 Jan 99 00:00 J", Refused(OFFSET_HOUR, OFFSET_HOUR)),
+    (b"02 Jan 1899 03:04 +0000", Refused(YEAR, YEAR)),
+    (b"1 Jan 99 00:00 J", Refused(OFFSET_HOUR, OFFSET_HOUR)),
+    (b"1 Jan 99 00:00 Z (x)", Refused(OFFSET_HOUR, OFFSET_HOUR)),
+    (b"1 Jan 2021 03:04 -2600", Refused(NO_HOURS, OFFSET_HOUR)),
+    (b"0 Jan 2021 03:04 GMT", Refused(NO_DAY, DAY)),
+    (b"32 Jan 2021 03:04 GMT", Refused(NO_DAY, DAY)),
+    (b"1 Jan 2021 24:00 GMT", Refused(NO_HOUR, HOUR)),
+    (b"1 Jan 2021 03:60 GMT", Refused(NO_MINUTE, MINUTE)),
+    (b"1 Jan 2021 03:04:61 GMT", Refused(NO_SECOND, SECOND)),
     (
-        Mail,
-        b"1 Jan 99 00:00 Z (x)",
-        Refused(OFFSET_HOUR, OFFSET_HOUR),
-    ),
-    (Mail, b"1 Jan 99 00:00 Zx", Refused(TRAILING, TRAILING)),
-    (
-        Mail,
-        b"Mon 02 Jan 2021 03:04 +0000",
-        Refused(LITERAL, LITERAL),
-    ),
-    (Mail, b"1 Jan 2021(x)03:04 GMT", Refused(LITERAL, LITERAL)),
-    (Mail, b"1 Jan 2021 \r\n03:04 GMT", Refused(LITERAL, LITERAL)),
-    (
-        Mail,
-        b"1 Jan 2021 03:04 -2600",
-        Refused(NO_HOURS, OFFSET_HOUR),
-    ),
-    (Mail, b"0 Jan 2021 03:04 GMT", Refused(NO_DAY, DAY)),
-    (Mail, b"32 Jan 2021 03:04 GMT", Refused(NO_DAY, DAY)),
-    (Mail, b"32 Jan 2021 03:04 Zx", Refused(TRAILING, DAY)),
-    (Mail, b"1 Jan 2021 24:00 GMT", Refused(NO_HOUR, HOUR)),
-    (Mail, b"1 Jan 2021 03:60 GMT", Refused(NO_MINUTE, MINUTE)),
-    (Mail, b"1 Jan 2021 03:04:61 GMT", Refused(NO_SECOND, SECOND)),
-    (
-        Mail,
         b"1 Jan 2021 03:04 -2560",
         Refused(NO_MINUTES, OFFSET_MINUTE),
     ),
+    (b"1 Jan 2021 03:04 +2600", Refused(NO_HOURS, OFFSET_HOUR)),
     (
-        Mail,
-        b"1 Jan 2021 03:04 +2600",
-        Refused(NO_HOURS, OFFSET_HOUR),
-    ),
-    (
-        Mail,
         b"1 Jan 2021 03:04 +0060",
         Refused(NO_MINUTES, OFFSET_MINUTE),
     ),
     (
-        Mail,
         b"31 Dec 1990 15:58:60 -0800",
         Refused(NO_LEAP_SECOND, NO_LEAP_SECOND),
     ),
     (
-        Mail,
         b"30 Dec 2016 23:59:60 GMT",
         Refused(NO_LEAP_SECOND, NO_LEAP_SECOND),
     ),
-    (Mail, b"1 Jan 1899 00:00 GMT", Refused(YEAR, YEAR)),
-    (Mail, b"1 Jan 9 00:00 GMT", Refused(YEAR, YEAR)),
-    (Mail, b"1 Jan 199 00:00 GMT", Refused(LITERAL, LITERAL)),
-    (Mail, b"Mot, 02 Jan 2021 03:04 GMT", Refused(DAY, DAY)),
+    (b"1 Jan 1899 00:00 GMT", Refused(YEAR, YEAR)),
+    (b"1 Jan 9 00:00 GMT", Refused(YEAR, YEAR)),
+    (b"Mot, 02 Jan 2021 03:04 GMT", Refused(DAY, DAY)),
+    (b"", Refused(DAY, DAY)),
+    (b"x Jan 2021 03:04 GMT", Refused(DAY, DAY)),
+    (b"1 Jxn 2021 03:04 GMT", Refused(MONTH, MONTH)),
+    (b"1 Jan x 03:04 GMT", Refused(YEAR, YEAR)),
+    (b"1 Jan 2021 3:04 GMT", Refused(HOUR, HOUR)),
+    (b"1 Jan 2021 03:04: GMT", Refused(SECOND, SECOND)),
+    (b"1 Jan 2021 03:04 XYZ", Refused(OFFSET_HOUR, OFFSET_HOUR)),
+    (b"1 Jan 2021 03:04 0000", Refused(OFFSET_HOUR, OFFSET_HOUR)),
     (
-        Mail,
-        b"Monday, 02 Jan 2021 03:04 GMT",
-        Refused(LITERAL, LITERAL),
-    ),
-    (Mail, b"", Refused(DAY, DAY)),
-    (Mail, b"x Jan 2021 03:04 GMT", Refused(DAY, DAY)),
-    (Mail, b"1Jan 2021 03:04 GMT", Refused(LITERAL, LITERAL)),
-    (Mail, b"1 Jxn 2021 03:04 GMT", Refused(MONTH, MONTH)),
-    (Mail, b"1 Jan2021 03:04 GMT", Refused(LITERAL, LITERAL)),
-    (Mail, b"1 Jan x 03:04 GMT", Refused(YEAR, YEAR)),
-    (Mail, b"1 Jan 202103:04 GMT", Refused(LITERAL, LITERAL)),
-    (Mail, b"1 Jan 2021 3:04 GMT", Refused(HOUR, HOUR)),
-    (Mail, b"1 Jan 2021 03.04 GMT", Refused(LITERAL, LITERAL)),
-    (Mail, b"1 Jan 2021 03:04: GMT", Refused(SECOND, SECOND)),
-    (Mail, b"1 Jan 2021 03:04", Refused(LITERAL, LITERAL)),
-    (Mail, b"1 Jan 2021 03:04GMT", Refused(LITERAL, LITERAL)),
-    (Mail, b"1 Jan 2021 03:04:05+0000", Refused(LITERAL, LITERAL)),
-    (
-        Mail,
-        b"1 Jan 2021 03:04 XYZ",
-        Refused(OFFSET_HOUR, OFFSET_HOUR),
-    ),
-    (
-        Mail,
-        b"1 Jan 2021 03:04 0000",
-        Refused(OFFSET_HOUR, OFFSET_HOUR),
-    ),
-    (
-        Mail,
         b"1 Jan 2021 03:04 +00",
         Refused(OFFSET_MINUTE, OFFSET_MINUTE),
     ),
+];
+
+/// Texts of RFC 2822 with a literal that does not stand, or with bytes behind them.
+pub(super) static MAIL_NOT_IN_FORM: [Row; 17] = [
+    (b"02 Jan 2021\r03:04 +0000", Refused(LITERAL, LITERAL)),
+    (b"1 Jan 99 00:00 Zx", Refused(TRAILING, TRAILING)),
+    (b"Mon 02 Jan 2021 03:04 +0000", Refused(LITERAL, LITERAL)),
+    (b"1 Jan 2021(x)03:04 GMT", Refused(LITERAL, LITERAL)),
+    (b"1 Jan 2021 \r\n03:04 GMT", Refused(LITERAL, LITERAL)),
+    (b"32 Jan 2021 03:04 Zx", Refused(TRAILING, DAY)),
+    (b"1 Jan 199 00:00 GMT", Refused(LITERAL, LITERAL)),
+    (b"Monday, 02 Jan 2021 03:04 GMT", Refused(LITERAL, LITERAL)),
+    (b"1Jan 2021 03:04 GMT", Refused(LITERAL, LITERAL)),
+    (b"1 Jan2021 03:04 GMT", Refused(LITERAL, LITERAL)),
+    (b"1 Jan 202103:04 GMT", Refused(LITERAL, LITERAL)),
+    (b"1 Jan 2021 03.04 GMT", Refused(LITERAL, LITERAL)),
+    (b"1 Jan 2021 03:04", Refused(LITERAL, LITERAL)),
+    (b"1 Jan 2021 03:04GMT", Refused(LITERAL, LITERAL)),
+    (b"1 Jan 2021 03:04:05+0000", Refused(LITERAL, LITERAL)),
+    (b"1 Jan 2021 03:04 +0000 x", Refused(TRAILING, TRAILING)),
+    (b"1 Jan 2021 03:04 +00000", Refused(TRAILING, TRAILING)),
+];
+
+/// A carriage return in place of each blank of a text of RFC 2822.
+pub(super) static MAIL_RETURNS: [Row; 14] = [
+    (b"\rSat, 02 Jan 2021 03 : 04 : 05 +0000 ", Refused(DAY, DAY)),
+    (b" Sat,\r02 Jan 2021 03 : 04 : 05 +0000 ", Refused(DAY, DAY)),
     (
-        Mail,
-        b"1 Jan 2021 03:04 +0000 x",
-        Refused(TRAILING, TRAILING),
-    ),
-    (
-        Mail,
-        b"1 Jan 2021 03:04 +00000",
-        Refused(TRAILING, TRAILING),
-    ),
-    // A carriage return in place of each blank.
-    (
-        Mail,
-        b"\rSat, 02 Jan 2021 03 : 04 : 05 +0000 ",
-        Refused(DAY, DAY),
-    ),
-    (
-        Mail,
-        b" Sat,\r02 Jan 2021 03 : 04 : 05 +0000 ",
-        Refused(DAY, DAY),
-    ),
-    (
-        Mail,
         b" Sat, 02\rJan 2021 03 : 04 : 05 +0000 ",
         Refused(LITERAL, LITERAL),
     ),
     (
-        Mail,
         b" Sat, 02 Jan\r2021 03 : 04 : 05 +0000 ",
         Refused(LITERAL, LITERAL),
     ),
     (
-        Mail,
         b" Sat, 02 Jan 2021\r03 : 04 : 05 +0000 ",
         Refused(LITERAL, LITERAL),
     ),
     (
-        Mail,
         b" Sat, 02 Jan 21\r03 : 04 : 05 +0000 ",
         Refused(LITERAL, LITERAL),
     ),
     (
-        Mail,
         b" Sat, 02 Jan 2021 03\r: 04 : 05 +0000 ",
         Refused(LITERAL, LITERAL),
     ),
     (
-        Mail,
         b" Sat, 02 Jan 2021 03 :\r04 : 05 +0000 ",
         Refused(MINUTE, MINUTE),
     ),
     (
-        Mail,
         b" Sat, 02 Jan 2021 03 : 04\r: 05 +0000 ",
         Refused(LITERAL, LITERAL),
     ),
     (
-        Mail,
         b" Sat, 02 Jan 2021 03 : 04 :\r05 +0000 ",
         Refused(SECOND, SECOND),
     ),
     (
-        Mail,
         b" Sat, 02 Jan 2021 03 : 04 : 05\r+0000 ",
         Refused(LITERAL, LITERAL),
     ),
     (
-        Mail,
         b" Sat, 02 Jan 2021 03 : 04\r+0000 ",
         Refused(LITERAL, LITERAL),
     ),
     (
-        Mail,
         b" Sat, 02 Jan 2021 03 : 04 : 05 +0000\r",
         Refused(TRAILING, TRAILING),
     ),
     (
-        Mail,
         b" Sat, 02 Jan 2021 03 : 04 : 05 +0000 \r",
         Refused(TRAILING, TRAILING),
     ),

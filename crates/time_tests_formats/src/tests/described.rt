@@ -1,6 +1,8 @@
 //! The parse of a whole text by a description that was read from a text.
 use super::formats::Part::{Date, Offset, Time};
-use super::formats::{Format, NO_DATE, NO_OFFSET, NO_TIME, Numbers, Part, described, said};
+use super::formats::{
+    Format, NO_DATE, NO_OFFSET, NO_TIME, Numbers, Part, date_items, described, said,
+};
 use super::refusals::{DAY, LITERAL, MONTH, TRAILING, YEAR};
 use time_descriptions::Description;
 use time_parsing::{Items, Parsable};
@@ -9,29 +11,18 @@ use time_record::{Parsed, Tries};
 use time_values::Month::January;
 use time_values::error::Parse;
 
-// The items of `[year]-[month]-[day]`.
-const ITEMS: [BorrowedFormatItem<'static>; 5] = [
-    BorrowedFormatItem::Component(Component::CalendarYearFullExtendedRange(
-        modifier::CalendarYearFullExtendedRange {
-            padding: Padding::Zero,
-            sign_is_mandatory: false,
-        },
-    )),
-    BorrowedFormatItem::Literal(b"-"),
-    BorrowedFormatItem::Component(Component::MonthNumerical(modifier::MonthNumerical {
+const YEAR_COMPONENT: Component = Component::CalendarYearFullExtendedRange(
+    modifier::CalendarYearFullExtendedRange {
         padding: Padding::Zero,
-    })),
-    BorrowedFormatItem::Literal(b"-"),
-    BorrowedFormatItem::Component(Component::Day(modifier::Day {
-        padding: Padding::Zero,
-    })),
-];
+        sign_is_mandatory: false,
+    },
+);
 
 const SECOND_OF_JANUARY: Result<Numbers, Parse> = Ok(((2021, January, 2), NO_TIME, NO_OFFSET));
 
 // The date of the text by the items.
-fn date_by_items(text: &[u8]) -> Result<Numbers, Parse> {
-    let date = Items(&ITEMS).parse_date(text, None)?;
+fn date_by(items: &[BorrowedFormatItem<'_>], text: &[u8]) -> Result<Numbers, Parse> {
+    let date = Items(items).parse_date(text, None)?;
     Ok((date.to_calendar_date(), NO_TIME, NO_OFFSET))
 }
 
@@ -46,9 +37,10 @@ static DATES: [(&[u8], Result<Numbers, Parse>); 6] = [
 
 #[test]
 fn dates(rt: HostRuntime) {
+    let items = date_items(YEAR_COMPONENT, BorrowedFormatItem::Literal(b"-"));
     for (text, wanted) in &DATES {
         let by_description = said(Format::Described(b"[year]-[month]-[day]"), Date, text, None);
-        let by_items = date_by_items(text);
+        let by_items = date_by(&items, text);
         assert!(rt;
             (by_description, by_items) == (*wanted, *wanted),
             "{text:?}"

@@ -2,6 +2,7 @@
 use super::refusals::DESCRIPTION;
 use time_descriptions::{Description, parse_borrowed};
 use time_parsing::{Iso8601, Parsable, Rfc2822, Rfc3339};
+use time_readers::{BorrowedFormatItem, Component, Padding, modifier};
 use time_record::Parsed;
 use time_values::error::Parse;
 use time_values::{Month, OffsetDateTime};
@@ -90,6 +91,19 @@ pub(super) fn said_by<F: Parsable>(
     }
 }
 
+// The same by the description of that text.
+fn said_as_described(
+    description: &[u8],
+    part: Part,
+    text: &[u8],
+    defaults: Option<Parsed>,
+) -> Result<Numbers, Parse> {
+    match described(description) {
+        Some(description) => said_by(&description, part, text, defaults),
+        None => Err(DESCRIPTION),
+    }
+}
+
 /// The same by the format of that name.
 pub(super) fn said(
     format: Format,
@@ -102,9 +116,26 @@ pub(super) fn said(
         Format::StampByReference => said_by(&&Rfc3339, part, text, defaults),
         Format::Mail => said_by(&Rfc2822, part, text, defaults),
         Format::Iso => said_by(&Iso8601, part, text, defaults),
-        Format::Described(description) => match described(description) {
-            Some(description) => said_by(&description, part, text, defaults),
-            None => Err(DESCRIPTION),
-        },
+        Format::Described(description) => said_as_described(description, part, text, defaults),
     }
+}
+
+/// The items of a year of that component, a month and a day, with that literal before the day.
+pub(super) fn date_items(
+    year: Component,
+    hyphen: BorrowedFormatItem<'static>,
+) -> [BorrowedFormatItem<'static>; 5] {
+    let month = Component::MonthNumerical(modifier::MonthNumerical {
+        padding: Padding::Zero,
+    });
+    let day = Component::Day(modifier::Day {
+        padding: Padding::Zero,
+    });
+    [
+        BorrowedFormatItem::Component(year),
+        BorrowedFormatItem::Literal(b"-"),
+        BorrowedFormatItem::Component(month),
+        hyphen,
+        BorrowedFormatItem::Component(day),
+    ]
 }

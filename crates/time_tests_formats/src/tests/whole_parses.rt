@@ -1,7 +1,9 @@
 //! The parse of a whole text, by each type of format.
 use self::Defaults::{Epoch, FirstDay, OffsetSecond, Seconds, Signed, Stamped};
 use super::formats::Part::{Date, Moment, Offset, Time, Utc};
-use super::formats::{Format, NO_DATE, NO_OFFSET, NO_TIME, Numbers, Part, said, said_by};
+use super::formats::{
+    Format, NO_DATE, NO_OFFSET, NO_TIME, Numbers, Part, date_items, said, said_by,
+};
 use super::refusals::{MISSING, MONTH, NO_SECOND, TRAILING, YEAR};
 use std::alloc::{AllocError, Global};
 use std::num::NonZero;
@@ -266,21 +268,22 @@ fn reads_a_date<F: Parsable>(format: &F) -> bool {
         && said_by(format, Date, b"2021-03-04 ", None) == Err(TRAILING)
 }
 
-const ITEMS: [BorrowedFormatItem<'static>; 5] = [
-    BorrowedFormatItem::Component(YEAR_COMPONENT),
-    BorrowedFormatItem::Literal(b"-"),
-    BorrowedFormatItem::Component(MONTH_COMPONENT),
-    BorrowedFormatItem::StringLiteral("-"),
-    BorrowedFormatItem::Component(DAY_COMPONENT),
-];
+// The items have too little for a date.
+fn know_too_little(items: &[BorrowedFormatItem<'_>], text: &[u8]) -> bool {
+    Items(items).parse_date(text, None) == Err(MISSING)
+}
 
 // Each type of description, with the same items, gives the same date, and the same refusals.
 #[test]
 fn descriptions_alike(rt: HostRuntime) {
-    let compound = BorrowedFormatItem::Compound(&ITEMS);
+    let items = date_items(YEAR_COMPONENT, BorrowedFormatItem::StringLiteral("-"));
+    let compound = BorrowedFormatItem::Compound(&items);
     assert!(rt;
-        reads_a_date(&compound) && reads_a_date(&&compound) && reads_a_date(&Items(&ITEMS))
+        reads_a_date(&compound) && reads_a_date(&&compound) && reads_a_date(&Items(&items))
     );
+    // The first three are a year and a month, and the last three a month and a day.
+    assert!(rt; know_too_little(&items[..3], b"2021-03"));
+    assert!(rt; know_too_little(&items[2..], b"03-04"));
 }
 
 fn owned_hyphen(alloc: Global) -> Result<OwnedFormatItem, AllocError> {
@@ -325,29 +328,6 @@ fn descriptions_alike_in_version_3(rt: HostRuntime) -> Result<(), Fail> {
     let description = version_3(rt.alloc())?;
     assert!(rt; reads_a_date(&description));
     Ok(())
-}
-
-const YEAR_AND_MONTH: [BorrowedFormatItem<'static>; 3] = [
-    BorrowedFormatItem::Component(YEAR_COMPONENT),
-    BorrowedFormatItem::Literal(b"-"),
-    BorrowedFormatItem::Component(MONTH_COMPONENT),
-];
-
-const MONTH_AND_DAY: [BorrowedFormatItem<'static>; 3] = [
-    BorrowedFormatItem::Component(MONTH_COMPONENT),
-    BorrowedFormatItem::StringLiteral("-"),
-    BorrowedFormatItem::Component(DAY_COMPONENT),
-];
-
-// The items have too little for a date.
-fn knows_too_little(items: &[BorrowedFormatItem<'_>], text: &[u8]) -> bool {
-    Items(items).parse_date(text, None) == Err(MISSING)
-}
-
-#[test]
-fn descriptions_of_a_part_of_a_date(rt: HostRuntime) {
-    assert!(rt; knows_too_little(&YEAR_AND_MONTH, b"2021-03"));
-    assert!(rt; knows_too_little(&MONTH_AND_DAY, b"03-04"));
 }
 
 const IGNORED: Parse = Parse::ParseFromDescription(ParseFromDescription::InvalidComponent(

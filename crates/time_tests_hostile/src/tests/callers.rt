@@ -92,10 +92,7 @@ fn numbers(input: &[u8]) -> Result<(Numbers, &[u8]), Place>
 
 // A text, and the day and the rest that are found in it.
 static STAMPS: [(&[u8], Option<(u8, &[u8])>); 2] = [
-    (
-        b"2021-01-02T03:04:05Z, and more",
-        Some((2, b", and more")),
-    ),
+    (b"2021-01-02T03:04:05Z, and more", Some((2, b", and more"))),
     (b"2021-01-02T25:04:05Z", None),
 ];
 
@@ -132,11 +129,11 @@ const YEAR: BorrowedFormatItem<'static> = BorrowedFormatItem::Component(
     }),
 );
 
-const MONTH: BorrowedFormatItem<'static> = BorrowedFormatItem::Component(Component::MonthNumerical(
-    modifier::MonthNumerical {
+const MONTH: BorrowedFormatItem<'static> = BorrowedFormatItem::Component(
+    Component::MonthNumerical(modifier::MonthNumerical {
         padding: Padding::Zero,
-    },
-));
+    }),
+);
 
 const DAY: BorrowedFormatItem<'static> = BorrowedFormatItem::Component(Component::Day(
     modifier::Day {

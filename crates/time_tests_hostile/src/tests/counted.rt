@@ -46,14 +46,15 @@ fn read<'a>(input: &'a [u8], items: &[BorrowedFormatItem<'_>]) -> Seen<'a> {
 }
 
 fn seen<'a>(input: &'a [u8], items: &Items) -> Seen<'a> {
-    let whole = [HOUR, COLON, MINUTE];
-    let choice = [BorrowedFormatItem::Compound(&whole), HOUR];
-    let item = match items {
-        Items::Choice => BorrowedFormatItem::First(&choice),
-        Items::Option => BorrowedFormatItem::Optional(&MINUTE),
-        Items::Colon => COLON,
-    };
-    read(input, &[item])
+    match items {
+        Items::Choice => {
+            let whole = [HOUR, COLON, MINUTE];
+            let choice = [BorrowedFormatItem::Compound(&whole), HOUR];
+            read(input, &[BorrowedFormatItem::First(&choice)])
+        }
+        Items::Option => read(input, &[BorrowedFormatItem::Optional(&MINUTE)]),
+        Items::Colon => read(input, &[COLON]),
+    }
 }
 
 const NO_HOUR: ParseFromDescription = ParseFromDescription::InvalidComponent("hour");

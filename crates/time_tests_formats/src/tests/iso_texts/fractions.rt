@@ -1,5 +1,6 @@
 //! Fractions of a unit.
 use self::Rounding::{Floor, HalfUp};
+use time_readers::combinator::leading_digits;
 use time_readers::iso8601::{floor_fraction, round_fraction};
 
 // How a fraction becomes a whole number.
@@ -9,12 +10,17 @@ enum Rounding {
     HalfUp,
 }
 
-// How many whole parts of the unit the digits behind its point are.
-fn whole(rounding: Rounding, digits: &[u8], unit: u64) -> u64 {
-    match rounding {
+// How many whole parts of the unit the digits behind its point are, if they are digits and an hour has those parts.
+fn whole(rounding: Rounding, digits: &[u8], unit: u64) -> Option<u64> {
+    let count = leading_digits(digits, digits.len());
+    if count < digits.len() || unit < 1 || 3_600_000_000_000 < unit {
+        return None;
+    }
+    let digits = &digits[..count];
+    Some(match rounding {
         Floor => floor_fraction(digits, unit),
         HalfUp => round_fraction(digits, unit),
-    }
+    })
 }
 
 // Digits, the parts that a unit has, and how many of them are whole.
@@ -95,6 +101,9 @@ static FRACTIONS: [(Rounding, &[u8], u64, u64); 23] = [
 #[test]
 fn iso_fractions(rt: HostRuntime) {
     for (rounding, digits, unit, wanted) in &FRACTIONS {
-        assert!(rt; whole(*rounding, digits, *unit) == *wanted, "{digits:?}");
+        assert!(rt;
+            whole(*rounding, digits, *unit) == Some(*wanted),
+            "{digits:?}"
+        );
     }
 }

@@ -115,14 +115,20 @@ fn is_right_if_changed<F: Parsable>(
 #[test]
 fn changed_bytes(rt: HostRuntime) {
     for text in &STAMPS {
-        assert!(rt; is_right_if_changed(rt.alloc(), &Rfc3339, text) == Ok(true), "{text:?}");
+        assert!(rt;
+            is_right_if_changed(rt.alloc(), &Rfc3339, text) == Ok(true),
+            "{text:?}"
+        );
     }
 }
 
 #[test]
 fn changed_bytes_of_mail_dates(rt: HostRuntime) {
     for text in &MAIL_DATES {
-        assert!(rt; is_right_if_changed(rt.alloc(), &Rfc2822, text) == Ok(true), "{text:?}");
+        assert!(rt;
+            is_right_if_changed(rt.alloc(), &Rfc2822, text) == Ok(true),
+            "{text:?}"
+        );
     }
 }
 

@@ -27,7 +27,9 @@ const MINUTE: Parse = Parse::ParseFromDescription(ParseFromDescription::InvalidC
 
 const SECOND: Parse = Parse::ParseFromDescription(ParseFromDescription::InvalidComponent("second"));
 
-const TRAILING: Parse = Parse::ParseFromDescription(ParseFromDescription::UnexpectedTrailingCharacters);
+const TRAILING: Parse = Parse::ParseFromDescription(
+    ParseFromDescription::UnexpectedTrailingCharacters,
+);
 
 // What stands before and behind each place of a mail date that takes comments, and how a comment there that
 // is none is refused.
@@ -66,7 +68,11 @@ fn hostile_comments(rt: HostRuntime) {
     }
 }
 
-fn open_comment_is_refused(alloc: Global, front: &[u8], refusal: Parse) -> Result<bool, AllocError> {
+fn open_comment_is_refused(
+    alloc: Global,
+    front: &[u8],
+    refusal: Parse,
+) -> Result<bool, AllocError> {
     let text = stretched(alloc, front, b'(', 100_000, b"")?;
     Ok(is_answered(&Rfc2822, &text, Err(refusal)))
 }

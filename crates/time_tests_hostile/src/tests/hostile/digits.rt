@@ -33,7 +33,10 @@ fn stamp_is_answered(
 #[test]
 fn hostile_digits(rt: HostRuntime) {
     for (front, end, answer) in &STAMPS {
-        assert!(rt; stamp_is_answered(rt.alloc(), front, end, *answer) == Ok(true), "{front:?}");
+        assert!(rt;
+            stamp_is_answered(rt.alloc(), front, end, *answer) == Ok(true),
+            "{front:?}"
+        );
     }
 }
 
@@ -55,6 +58,9 @@ fn time_is_answered(
 #[test]
 fn hostile_digits_of_times(rt: HostRuntime) {
     for (front, answer) in &TIMES {
-        assert!(rt; time_is_answered(rt.alloc(), front, *answer) == Ok(true), "{front:?}");
+        assert!(rt;
+            time_is_answered(rt.alloc(), front, *answer) == Ok(true),
+            "{front:?}"
+        );
     }
 }

@@ -96,12 +96,7 @@ static TIMES: [(Format, &[u8], (Field, i128), Clock); 4] = [
         (Field::Second, 9),
         (3, 4, 9, 0),
     ),
-    (
-        Format::Clock,
-        b"3:04 PM",
-        (Field::Hour24, 1),
-        (1, 4, 0, 0),
-    ),
+    (Format::Clock, b"3:04 PM", (Field::Hour24, 1), (1, 4, 0, 0)),
 ];
 
 fn timed(format: &Format, text: &[u8], defaults: Option<Parsed>) -> Result<Clock, Parse> {
@@ -117,7 +112,10 @@ fn timed(format: &Format, text: &[u8], defaults: Option<Parsed>) -> Result<Clock
 fn stale_defaults_of_times(rt: HostRuntime) {
     for (format, text, left, seen) in &TIMES {
         let defaults = record_of(&[*left]);
-        assert!(rt; defaults.is_some() && timed(format, text, defaults) == Ok(*seen), "{text:?}");
+        assert!(rt;
+            defaults.is_some() && timed(format, text, defaults) == Ok(*seen),
+            "{text:?}"
+        );
     }
 }
 
@@ -126,7 +124,10 @@ fn stale_defaults_of_leap_seconds(rt: HostRuntime) {
     let leap = Parsed::new().with_second(60);
     let answer = Rfc2822.parse_utc_date_time(b"31 Dec 2016 23:59 GMT", leap);
     let seen = match answer {
-        Ok(moment) => Some((moment.date().to_calendar_date(), moment.time().as_hms_nano())),
+        Ok(moment) => Some((
+            moment.date().to_calendar_date(),
+            moment.time().as_hms_nano(),
+        )),
         Err(_) => None,
     };
     assert!(rt; seen == Some(((2016, Month::December, 31), (23, 59, 59, 999_999_999))));

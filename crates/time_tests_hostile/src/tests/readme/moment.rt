@@ -15,7 +15,11 @@ const NO_YEAR: Parse = Parse::ParseFromDescription(ParseFromDescription::Invalid
 
 #[test]
 fn moments(rt: HostRuntime) {
-    let seen = ((1985, Month::April, 12), (23, 20, 50, 520_000_000), (0, 0, 0));
+    let seen = (
+        (1985, Month::April, 12),
+        (23, 20, 50, 520_000_000),
+        (0, 0, 0),
+    );
     assert!(rt; moment(b"1985-04-12T23:20:50.52Z").map(parts) == Ok(seen));
     assert!(rt; moment(b"") == Err(NO_YEAR));
 }

@@ -115,7 +115,8 @@ static DATES_REFUSED: [Row; 29] = [
     (Date, b"9999-12x", Err(LITERAL)),
     (Date, b"9999-W50", Err(LITERAL)),
     (Date, b"9999-W501", Err(LITERAL)),
-    // A form stands, and its value is out of range: the date is refused, though a later form stands behind the year, too.
+    // A form stands, and its value is out of range: the date is refused, though a later form stands behind the year,
+    // too.
     (Date, b"9999-12-32", Err(DAY)),
     (Date, b"99991232", Err(DAY)),
     (Date, b"9999-367", Err(ORDINAL)),

@@ -48,23 +48,43 @@ static DATES: [Row<Day>; 13] = [
     (&[(Field::Year, 2021)], Err(UNKNOWN)),
     // A Sunday that ends a year, weeks of Sundays and of Mondays, and days that no year has.
     (
-        &[(Field::Year, 2023), (Field::SundayWeekNumber, 53), (Field::Weekday, 6)],
+        &[
+            (Field::Year, 2023),
+            (Field::SundayWeekNumber, 53),
+            (Field::Weekday, 6),
+        ],
         Ok((2023, Month::December, 31)),
     ),
     (
-        &[(Field::Year, 2023), (Field::SundayWeekNumber, 53), (Field::Weekday, 0)],
+        &[
+            (Field::Year, 2023),
+            (Field::SundayWeekNumber, 53),
+            (Field::Weekday, 0),
+        ],
         Err(NO_ORDINAL),
     ),
     (
-        &[(Field::Year, 2018), (Field::SundayWeekNumber, 1), (Field::Weekday, 0)],
+        &[
+            (Field::Year, 2018),
+            (Field::SundayWeekNumber, 1),
+            (Field::Weekday, 0),
+        ],
         Ok((2018, Month::January, 8)),
     ),
     (
-        &[(Field::Year, 2018), (Field::MondayWeekNumber, 0), (Field::Weekday, 0)],
+        &[
+            (Field::Year, 2018),
+            (Field::MondayWeekNumber, 0),
+            (Field::Weekday, 0),
+        ],
         Err(NO_ORDINAL),
     ),
     (
-        &[(Field::Year, 2018), (Field::MondayWeekNumber, 1), (Field::Weekday, 0)],
+        &[
+            (Field::Year, 2018),
+            (Field::MondayWeekNumber, 1),
+            (Field::Weekday, 0),
+        ],
         Ok((2018, Month::January, 1)),
     ),
     // ISO 8601 weeks, whose year comes as a century and two digits.
@@ -179,7 +199,11 @@ static TIMES: [Row<Clock>; 12] = [
         Ok((5, 30, 0, 0)),
     ),
     (
-        &[(Field::Hour24, 5), (Field::Minute, 30), (Field::Subsecond, 1)],
+        &[
+            (Field::Hour24, 5),
+            (Field::Minute, 30),
+            (Field::Subsecond, 1),
+        ],
         Err(UNKNOWN),
     ),
     (
@@ -248,7 +272,10 @@ fn offset_by(parsed: Parsed) -> Result<Offset, TryFromParsed> {
 #[test]
 fn conversions_to_offsets(rt: HostRuntime) {
     for (numbers, seen) in &OFFSETS {
-        assert!(rt; record_of(numbers).map(offset_by) == Some(*seen), "{seen:?}");
+        assert!(rt;
+            record_of(numbers).map(offset_by) == Some(*seen),
+            "{seen:?}"
+        );
     }
 }
 
@@ -300,12 +327,18 @@ type Moment = (Day, Clock);
 
 fn plain(parsed: Parsed) -> Result<Moment, TryFromParsed> {
     let moment = PlainDateTime::try_from(parsed)?;
-    Ok((moment.date().to_calendar_date(), moment.time().as_hms_nano()))
+    Ok((
+        moment.date().to_calendar_date(),
+        moment.time().as_hms_nano(),
+    ))
 }
 
 fn in_utc(parsed: Parsed) -> Result<Moment, TryFromParsed> {
     let moment = UtcDateTime::try_from(parsed)?;
-    Ok((moment.date().to_calendar_date(), moment.time().as_hms_nano()))
+    Ok((
+        moment.date().to_calendar_date(),
+        moment.time().as_hms_nano(),
+    ))
 }
 
 fn at_offset(parsed: Parsed) -> Result<(Moment, Offset), TryFromParsed> {
@@ -405,6 +438,9 @@ fn moments(numbers: &[(Field, i128)], takes_leap_seconds: bool) -> Option<Moment
 #[test]
 fn conversions_to_moments(rt: HostRuntime) {
     for (numbers, takes_leap_seconds, seen) in &MOMENTS {
-        assert!(rt; moments(numbers, *takes_leap_seconds) == Some(*seen), "{seen:?}");
+        assert!(rt;
+            moments(numbers, *takes_leap_seconds) == Some(*seen),
+            "{seen:?}"
+        );
     }
 }

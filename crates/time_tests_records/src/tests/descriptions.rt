@@ -125,10 +125,14 @@ fn record(held: &Held) -> Option<Parsed> {
         Held::Nothing => Some(Parsed::new()),
         Held::Number(field, number) => record_of(&[(*field, *number)]),
         Held::Numbers(numbers) => record_of(numbers),
-        Held::Century(century, is_negative) => Parsed::new()
-            .with_year_century(*century, *is_negative),
-        Held::IsoCentury(century, is_negative) => Parsed::new()
-            .with_iso_year_century(*century, *is_negative),
+        Held::Century(century, is_negative) => Parsed::new().with_year_century(
+            *century,
+            *is_negative,
+        ),
+        Held::IsoCentury(century, is_negative) => Parsed::new().with_iso_year_century(
+            *century,
+            *is_negative,
+        ),
     }
 }
 
@@ -162,14 +166,46 @@ fn sees(component: Component, text: &str, seen: &Seen) -> bool {
 
 // A kind of component, a text, and what it makes of that.
 static COMPONENTS: [(Kind, &str, Seen); 8] = [
-    (signed!(CalendarYearFullExtendedRange, Zero), "20215", read!(b"5", number!(Year, 2021))),
-    (cased!(MonthShort, false), "Septembre", read!(b"tembre", number!(Month, 9))),
-    (timestamp!(UnixTimestampSecond), "000000000000001", read!(b"1", number!(UnixTimestampNanos, 0))),
-    (Kind::Subsecond(SubsecondDigits::OneOrMore), "111111111111111111111111111111111", read!(b"1", number!(Subsecond, 111_111_111))),
-    (signed!(CalendarYearCenturyStandardRange, Zero), "5x", read!(b"x", Held::Century(5, false))),
-    (Kind::End(TrailingInput::Prohibit), "", read!(b"", Held::Nothing)),
-    (Kind::End(TrailingInput::Discard), "x", read!(b"", Held::Nothing)),
-    (Kind::End(TrailingInput::Prohibit), "x", refused!(ParseFromDescription::UnexpectedTrailingCharacters)),
+    (
+        signed!(CalendarYearFullExtendedRange, Zero),
+        "20215",
+        read!(b"5", number!(Year, 2021)),
+    ),
+    (
+        cased!(MonthShort, false),
+        "Septembre",
+        read!(b"tembre", number!(Month, 9)),
+    ),
+    (
+        timestamp!(UnixTimestampSecond),
+        "000000000000001",
+        read!(b"1", number!(UnixTimestampNanos, 0)),
+    ),
+    (
+        Kind::Subsecond(SubsecondDigits::OneOrMore),
+        "111111111111111111111111111111111",
+        read!(b"1", number!(Subsecond, 111_111_111)),
+    ),
+    (
+        signed!(CalendarYearCenturyStandardRange, Zero),
+        "5x",
+        read!(b"x", Held::Century(5, false)),
+    ),
+    (
+        Kind::End(TrailingInput::Prohibit),
+        "",
+        read!(b"", Held::Nothing),
+    ),
+    (
+        Kind::End(TrailingInput::Discard),
+        "x",
+        read!(b"", Held::Nothing),
+    ),
+    (
+        Kind::End(TrailingInput::Prohibit),
+        "x",
+        refused!(ParseFromDescription::UnexpectedTrailingCharacters),
+    ),
 ];
 
 #[test]
@@ -199,8 +235,16 @@ static REFUSED: [(Kind, &str, &str); 38] = [
     (signed!(CalendarYearFullStandardRange, Zero), "202", "year"),
     (signed!(IsoYearFullExtendedRange, Zero), "-010", "year"),
     (signed!(IsoYearFullStandardRange, Zero), "+202", "year"),
-    (signed!(CalendarYearCenturyStandardRange, Zero), "+5x", "year"),
-    (signed!(CalendarYearCenturyExtendedRange, Zero), "+1", "year"),
+    (
+        signed!(CalendarYearCenturyStandardRange, Zero),
+        "+5x",
+        "year",
+    ),
+    (
+        signed!(CalendarYearCenturyExtendedRange, Zero),
+        "+1",
+        "year",
+    ),
     (signed!(IsoYearCenturyExtendedRange, Zero), "-1", "year"),
     (signed!(IsoYearCenturyStandardRange, Zero), "x", "year"),
     (padded!(CalendarYearLastTwo, Zero), "1", "year"),
@@ -211,14 +255,34 @@ static REFUSED: [(Kind, &str, &str); 38] = [
     (padded!(Minute, Zero), "60", "minute"),
     (padded!(Second, Zero), "61", "second"),
     (Kind::Period(false, true), "AM", "period"),
-    (Kind::Subsecond(SubsecondDigits::Nine), "/23456789", "subsecond"),
+    (
+        Kind::Subsecond(SubsecondDigits::Nine),
+        "/23456789",
+        "subsecond",
+    ),
     (signed!(OffsetHour, Zero), "+26", "offset hour"),
     (padded!(OffsetMinute, Zero), "60", "offset minute"),
     (padded!(OffsetSecond, Zero), "60", "offset second"),
-    (timestamp!(UnixTimestampSecond), "31494784780800", "unix_timestamp"),
-    (timestamp!(UnixTimestampMillisecond), "31494784780800000", "unix_timestamp"),
-    (timestamp!(UnixTimestampMicrosecond), "31494784780800000000", "unix_timestamp"),
-    (timestamp!(UnixTimestampNanosecond), "31494784780800000000000", "unix_timestamp"),
+    (
+        timestamp!(UnixTimestampSecond),
+        "31494784780800",
+        "unix_timestamp",
+    ),
+    (
+        timestamp!(UnixTimestampMillisecond),
+        "31494784780800000",
+        "unix_timestamp",
+    ),
+    (
+        timestamp!(UnixTimestampMicrosecond),
+        "31494784780800000000",
+        "unix_timestamp",
+    ),
+    (
+        timestamp!(UnixTimestampNanosecond),
+        "31494784780800000000000",
+        "unix_timestamp",
+    ),
 ];
 
 fn refuses(kind: &Kind, text: &str, name: &'static str) -> bool {
@@ -299,17 +363,21 @@ const OTHERS: [BorrowedFormatItem<'static>; 2] = [
 
 // A tree that borrows its items makes that of the text.
 fn borrowed_sees(tree: &Tree, text: &str, seen: &Seen) -> bool {
-    let clock = BorrowedFormatItem::Compound(&CLOCK);
-    let either = [clock, BorrowedFormatItem::Component(HOUR)];
-    let item = match tree {
-        Tree::Part => BorrowedFormatItem::Optional(&clock),
-        Tree::Either => BorrowedFormatItem::First(&either),
-        Tree::Nothing => BorrowedFormatItem::First(&[]),
-        Tree::Others => BorrowedFormatItem::First(&OTHERS),
-        Tree::OthersInTurn => BorrowedFormatItem::Compound(&OTHERS),
-        _ => return false,
-    };
-    item_sees(&item, text, seen)
+    match tree {
+        Tree::Part => {
+            let clock = BorrowedFormatItem::Compound(&CLOCK);
+            item_sees(&BorrowedFormatItem::Optional(&clock), text, seen)
+        }
+        Tree::Either => {
+            let clock = BorrowedFormatItem::Compound(&CLOCK);
+            let either = [clock, BorrowedFormatItem::Component(HOUR)];
+            item_sees(&BorrowedFormatItem::First(&either), text, seen)
+        }
+        Tree::Nothing => item_sees(&BorrowedFormatItem::First(&[]), text, seen),
+        Tree::Others => item_sees(&BorrowedFormatItem::First(&OTHERS), text, seen),
+        Tree::OthersInTurn => item_sees(&BorrowedFormatItem::Compound(&OTHERS), text, seen),
+        _ => false,
+    }
 }
 
 static BORROWED: [(Tree, &str, Seen); 8] = [

@@ -1,6 +1,7 @@
 //! Descriptions of version 3.
 use super::{
-    HALF_PAST, HOUR, Held, MARCH_AT_NOON, MINUTE, NO_HOUR, NO_IGNORED, NO_LITERAL, NOON, NOTHING, Seen, Tree, ignore, records,
+    HALF_PAST, HOUR, Held, MARCH_AT_NOON, MINUTE, NO_HOUR, NO_IGNORED, NO_LITERAL, NOON, NOTHING,
+    Seen, Tree, ignore, records,
 };
 use std::alloc::Global;
 use time_readers::FormatDescriptionV3Inner;

@@ -6,8 +6,16 @@ use time_record::Parsed;
 use time_tests_fields::Field;
 
 static COMPONENTS: [Row; 12] = [
-    (signed!(CalendarYearFullExtendedRange, Zero), "+012345", number!(Year, 12_345)),
-    (signed!(CalendarYearFullExtendedRange, Zero), "-999999", number!(Year, -999_999)),
+    (
+        signed!(CalendarYearFullExtendedRange, Zero),
+        "+012345",
+        number!(Year, 12_345),
+    ),
+    (
+        signed!(CalendarYearFullExtendedRange, Zero),
+        "-999999",
+        number!(Year, -999_999),
+    ),
     (
         signed!(IsoYearFullExtendedRange, Zero),
         "-010000",

@@ -27,7 +27,7 @@ Else it is a description, where it has a `[`, as `[year]-[month]-[day]`. With
 --v1 it is one of version 1.
 Else it is a description as strftime has it, where it has a `%`, as `%d/%b/%Y`.
 TARGET is date, time, offset, plain, utc, datetime, staged or timestamp.
-With --place an error says where its text goes wrong, as ` at 5: expected month`.
+With --place an error says where a text goes wrong, as ` at 5: expected month`.
 
 The status is 0; or 1 after a failed write; or 2 after a fault of the arguments,
 or a failed read.";

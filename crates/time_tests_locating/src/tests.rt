@@ -19,10 +19,15 @@ use time_record::Parsed;
 /// A text, the index at which it goes wrong, and what is expected there.
 pub type Row<'a> = (&'a [u8], usize, Expected<'a>);
 
+/// Whether that is the place that the row says.
+pub fn is_place(found: Option<Located<'_>>, row: &Row<'_>) -> bool {
+    let (_, index, expected) = *row;
+    found == Some(Located { index, expected })
+}
+
 /// Whether the row's text, read over the defaults, goes wrong where the row says.
 pub fn is_at<F: Locate>(format: &F, row: &Row<'_>, defaults: Option<Parsed>) -> bool {
-    let (text, index, expected) = *row;
-    format.locate(text, defaults) == Some(Located { index, expected })
+    is_place(format.locate(row.0, defaults), row)
 }
 
 // Whether no record and no date is parsed of the text.

@@ -1,11 +1,11 @@
 //! Texts that items refuse.
 use super::parts::{DAY, END, HOUR, MINUTE, MONTH, SECOND, YEAR};
-use super::{Row, assert_located};
+use super::{Row, assert_located, is_place};
 use std::process::Abort;
 use time_components::BorrowedFormatItem::{self, Component as Part, Compound, First, Optional};
 use time_components::item;
 use time_locating::Expected::{Component, End, Literal};
-use time_locating::{Locate, Located};
+use time_locating::Locate;
 use time_parsing::Items;
 
 type Item = BorrowedFormatItem<'static>;
@@ -127,21 +127,20 @@ static MOMENT_ROWS: [Row<'static>; 16] = [
 // By items of which none reads a byte.
 static NO_ROWS: [Row<'static>; 1] = [(b"x", 0, End)];
 
-// The items refuse the text of each row where the row says, and read the other texts whole.
-fn assert_items(
-    rt: &impl Abort,
-    items: &[BorrowedFormatItem<'_>],
-    rows: &[Row<'_>],
-    whole: &[&[u8]],
-) {
-    for (text, index, expected) in rows {
-        let place = Located {
-            index: *index,
-            expected: *expected,
-        };
-        assert!(rt; Items(items).locate(text, None) == Some(place), "{text:?}");
+// Items as a format refuse the text of each row where the row says.
+fn assert_items(rt: &impl Abort, items: &[BorrowedFormatItem<'_>], rows: &[Row<'_>]) {
+    for row in rows {
+        assert!(rt;
+            is_place(Items(items).locate(row.0, None), row),
+            "{:?}",
+            row.0
+        );
     }
-    for text in whole {
+}
+
+// Items as a format read each of the texts whole.
+fn assert_whole(rt: &impl Abort, items: &[BorrowedFormatItem<'_>], texts: &[&[u8]]) {
+    for text in texts {
         assert!(rt; Items(items).locate(text, None).is_none(), "{text:?}");
     }
 }
@@ -153,7 +152,8 @@ fn assert_list(
     rows: &[Row<'_>],
     whole: &[&[u8]],
 ) {
-    assert_items(rt, items, rows, whole);
+    assert_items(rt, items, rows);
+    assert_whole(rt, items, whole);
     assert_located(rt, &Compound(items), rows, whole);
 }
 

@@ -19,6 +19,8 @@ static DATES: [Row; 6] = [
     (b"%b %e", b"Dec 31x"),
 ];
 
+const FRACTION: &[u8] = b"[hour]:[minute]:[second][optional [.[subsecond]]]";
+
 static TIMES: [Row; 4] = [
     (b"[hour]:[minute]:[second]", b"23:59:60"),
     (b"[hour]0[minute]0[second]", b"00000009"),
@@ -26,7 +28,8 @@ static TIMES: [Row; 4] = [
     (FRACTION, b"00:00:00"),
 ];
 
-const FRACTION: &[u8] = b"[hour]:[minute]:[second][optional [.[subsecond]]]";
+const LOCAL: &[u8] =
+    b"[first [[year]-[month]-[day] [hour]:[minute]:[second] [offset_hour sign:mandatory]:[offset_minute]] [[year]-[ordinal]]]";
 
 static GROUPS: [Row; 4] = [
     (
@@ -40,9 +43,6 @@ static GROUPS: [Row; 4] = [
         b"2020-12-11abc",
     ),
 ];
-
-const LOCAL: &[u8] =
-    b"[first [[year]-[month]-[day] [hour]:[minute]:[second] [offset_hour sign:mandatory]:[offset_minute]] [[year]-[ordinal]]]";
 
 static MOMENTS: [Row; 5] = [
     (b"%Y-%m-%dT%H:%M:%S%z", b"2021-01-02T23:59:60-0030"),

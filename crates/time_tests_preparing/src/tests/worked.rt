@@ -157,7 +157,7 @@ fn defaults(rt: HostRuntime) {
     }
 }
 
-// Whether so many steps have room for a description of five, and are its own.
+// The steps are those of the description, which are five: three components and two dashes.
 #[test]
 fn room(rt: HostRuntime) {
     let Some(both) = read(DATE) else {

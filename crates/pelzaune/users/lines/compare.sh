@@ -3,13 +3,17 @@
 #
 #     compare.sh COUNT
 #
-# It stands in the library's folder, whose module and program `answers` are built. time_lines is built here, by `rt run`.
+# It stands in the library's folder, whose module and program `answers` are built. time_lines is built
+# here, by `rt run`, where a source is newer than the program: that proves what isn't proved yet.
 set -e
 count=$1 at=$(mktemp -d) python=${PYTHON:-python3} home=$(pwd)
 trap 'rm -rf "$at"' EXIT
 "$python" users/lines/make_lines.py "$count" > "$at/lines"
-(cd ../time_lines && ${RT:-rt} run < /dev/null > "$at/log" 2>&1) || { cat "$at/log"; exit 1; }
-../time_lines/out/time_lines < "$at/lines" > "$at/program"
+program=../time_lines/out/time_lines
+if ! [ -x "$program" ] || [ -n "$(find .. -name out -prune -o -name '*.rt' -newer "$program" -print -quit)" ]; then
+    (cd ../time_lines && ${RT:-rt} run < /dev/null > "$at/log" 2>&1) || { cat "$at/log"; exit 1; }
+fi
+"$program" < "$at/lines" > "$at/program"
 "$home/out/c/answers" moments < "$at/lines" > "$at/moments"
 cmp "$at/program" "$at/moments"
 "$home/out/c/answers" nanoseconds < "$at/lines" > "$at/nanoseconds"

@@ -60,6 +60,37 @@ pub(super) fn unanswered(format: Format, rows: &[Row]) -> Option<&'static [u8]> 
     None
 }
 
+/// The first mail date that doesn't have its answer, if there is one. A function for each table keeps its rows apart.
+pub(super) fn unanswered_mail_date() -> Option<&'static [u8]> {
+    for text in [
+        unanswered_moment(),
+        unanswered_refusal(),
+        unanswered_form(),
+        unanswered_return(),
+    ] {
+        if text.is_some() {
+            return text;
+        }
+    }
+    None
+}
+
+fn unanswered_moment() -> Option<&'static [u8]> {
+    unanswered(Mail, &MAIL_DATES)
+}
+
+fn unanswered_refusal() -> Option<&'static [u8]> {
+    unanswered(Mail, &MAIL_REFUSED)
+}
+
+fn unanswered_form() -> Option<&'static [u8]> {
+    unanswered(Mail, &MAIL_NOT_IN_FORM)
+}
+
+fn unanswered_return() -> Option<&'static [u8]> {
+    unanswered(Mail, &MAIL_RETURNS)
+}
+
 /// A text and its answer.
 pub(super) type Row = (&'static [u8], Answer);
 
@@ -118,7 +149,7 @@ pub(super) static STAMPS: [Row; 20] = [
 ];
 
 /// Texts of RFC 2822 that say a moment.
-pub(super) static MAIL_DATES: [Row; 21] = [
+static MAIL_DATES: [Row; 21] = [
     (
         b"Mon, 02 Jan 2021 03:04:05 +0607",
         Moment((2021, January, 2), (3, 4, 5, 0), (6, 7)),
@@ -207,7 +238,7 @@ pub(super) static MAIL_DATES: [Row; 21] = [
 ];
 
 /// Texts of RFC 2822 with a part that is not read, or out of its range.
-pub(super) static MAIL_REFUSED: [Row; 27] = [
+static MAIL_REFUSED: [Row; 27] = [
     // A comment of 32 levels.
     (
         b"02 (((((((((((((((((((((((((((((((()))))))))))))))))))))))))))))))) Jan 2021 03:04 +0000",
@@ -257,7 +288,7 @@ pub(super) static MAIL_REFUSED: [Row; 27] = [
 ];
 
 /// Texts of RFC 2822 with a literal that does not stand, or with bytes behind them.
-pub(super) static MAIL_NOT_IN_FORM: [Row; 17] = [
+static MAIL_NOT_IN_FORM: [Row; 17] = [
     (b"02 Jan 2021\r03:04 +0000", Refused(LITERAL, LITERAL)),
     (b"1 Jan 99 00:00 Zx", Refused(TRAILING, TRAILING)),
     (b"Mon 02 Jan 2021 03:04 +0000", Refused(LITERAL, LITERAL)),
@@ -278,7 +309,7 @@ pub(super) static MAIL_NOT_IN_FORM: [Row; 17] = [
 ];
 
 /// A carriage return in place of each blank of a text of RFC 2822.
-pub(super) static MAIL_RETURNS: [Row; 14] = [
+static MAIL_RETURNS: [Row; 14] = [
     (b"\rSat, 02 Jan 2021 03 : 04 : 05 +0000 ", Refused(DAY, DAY)),
     (b" Sat,\r02 Jan 2021 03 : 04 : 05 +0000 ", Refused(DAY, DAY)),
     (

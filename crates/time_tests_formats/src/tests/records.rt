@@ -66,16 +66,13 @@ fn time_cells(record: &Parsed) -> TimeCells {
     )
 }
 
-/// How many bytes of the text are left unread, or its refusal, and the cells of the record then.
-pub(super) fn stored_by<F: Parsable>(
+/// What is left of the text, or its refusal, and the cells of the record then.
+pub(super) fn stored_by<'a, F: Parsable>(
     format: &F,
-    text: &[u8],
+    text: &'a [u8],
     record: &mut Parsed,
-) -> (Result<usize, Parse>, Cells) {
-    let left = match format.parse_into(text, record) {
-        Ok(rest) => Ok(rest.len()),
-        Err(refusal) => Err(refusal),
-    };
+) -> (Result<&'a [u8], Parse>, Cells) {
+    let left = format.parse_into(text, record);
     let offset = (record.offset_hour(), record.offset_minute_signed());
     let cells = (
         date_cells(record),
@@ -87,7 +84,11 @@ pub(super) fn stored_by<F: Parsable>(
 }
 
 // The same by the format of that name.
-fn stored(format: Format, text: &[u8], record: &mut Parsed) -> (Result<usize, Parse>, Cells) {
+fn stored<'a>(
+    format: Format,
+    text: &'a [u8],
+    record: &mut Parsed,
+) -> (Result<&'a [u8], Parse>, Cells) {
     match format {
         Format::Stamp => stored_by(&Rfc3339, text, record),
         Format::Mail => stored_by(&Rfc2822, text, record),
@@ -120,14 +121,14 @@ const MAILED: Cells = (
     (Some(0), Some(0)),
 );
 
-/// A format and the month that a record has, the text that is read over it before, if any, and the text, how many bytes
-/// of it are left, and what the record has then.
+/// A format and the month that a record has, the text that is read over it before, if any, and the text, what is
+/// left of it, and what the record has then.
 type Row = (
     Format,
     Option<Month>,
     &'static [u8],
     &'static [u8],
-    Result<usize, Parse>,
+    Result<&'static [u8], Parse>,
     Cells,
 );
 
@@ -138,7 +139,7 @@ static RECORDS: [Row; 16] = [
         None,
         b"",
         b"20210102",
-        Ok(0),
+        Ok(b""),
         (SECOND_OF_JANUARY, NO_WEEK, NO_TIME, NO_OFFSET),
     ),
     (
@@ -146,7 +147,7 @@ static RECORDS: [Row; 16] = [
         None,
         b"",
         b"2021-010-",
-        Ok(1),
+        Ok(b"-"),
         ((Some(2021), None, 0, 10), NO_WEEK, NO_TIME, NO_OFFSET),
     ),
     (
@@ -154,7 +155,7 @@ static RECORDS: [Row; 16] = [
         None,
         b"",
         b"-000044-03-15",
-        Ok(0),
+        Ok(b""),
         ((Some(-44), Some(March), 15, 0), NO_WEEK, NO_TIME, NO_OFFSET),
     ),
     (
@@ -162,7 +163,7 @@ static RECORDS: [Row; 16] = [
         None,
         b"",
         b"+009999W017",
-        Ok(0),
+        Ok(b""),
         (
             NO_DATE,
             (Some(9999), 1, Some(Weekday::Sunday)),
@@ -184,7 +185,7 @@ static RECORDS: [Row; 16] = [
         Some(March),
         b"9999-12-32",
         b"2021-01-02T03:04:61+26",
-        Ok(12),
+        Ok(b"T03:04:61+26"),
         (SECOND_OF_JANUARY, NO_WEEK, NO_TIME, NO_OFFSET),
     ),
     // After a date alone no offset is read.
@@ -193,7 +194,7 @@ static RECORDS: [Row; 16] = [
         None,
         b"",
         b"2021-01-02+05",
-        Ok(3),
+        Ok(b"+05"),
         (SECOND_OF_JANUARY, NO_WEEK, NO_TIME, NO_OFFSET),
     ),
     (
@@ -201,7 +202,7 @@ static RECORDS: [Row; 16] = [
         None,
         b"2021-01-02+05",
         b"2021-01-02T03+05",
-        Ok(0),
+        Ok(b""),
         (
             SECOND_OF_JANUARY,
             NO_WEEK,
@@ -215,7 +216,7 @@ static RECORDS: [Row; 16] = [
         None,
         b"",
         b"1234-05:30",
-        Ok(3),
+        Ok(b":30"),
         (
             NO_DATE,
             NO_WEEK,
@@ -228,7 +229,7 @@ static RECORDS: [Row; 16] = [
         None,
         b"",
         b"Mon, 02 Jan 2021 03:04 GMT",
-        Ok(0),
+        Ok(b""),
         MAILED,
     ),
     (
@@ -253,7 +254,7 @@ static RECORDS: [Row; 16] = [
         None,
         b"",
         b"03:04:61",
-        Ok(3),
+        Ok(b":61"),
         (NO_DATE, NO_WEEK, (Some(3), Some(4), None, None), NO_OFFSET),
     ),
     (
@@ -261,7 +262,7 @@ static RECORDS: [Row; 16] = [
         None,
         b"",
         b"2021",
-        Ok(0),
+        Ok(b""),
         ((Some(2021), None, 0, 0), NO_WEEK, NO_TIME, NO_OFFSET),
     ),
     (
@@ -269,7 +270,7 @@ static RECORDS: [Row; 16] = [
         None,
         b"",
         b"07",
-        Ok(0),
+        Ok(b""),
         ((None, Some(July), 0, 0), NO_WEEK, NO_TIME, NO_OFFSET),
     ),
     // The fault is the first list's.

@@ -1,4 +1,5 @@
-//! The blanks of mail dates by their short cuts, before each byte.
+//! Mail dates by the short cuts of their blanks, and the blanks before each byte.
+use super::answers::unanswered_mail_date;
 use super::mail_blanks::Reader::{self, Cfws, Colon, Fws, OptionalCfws};
 use super::mail_blanks::left;
 
@@ -31,6 +32,8 @@ fn takes_nothing(reader: Reader, byte: u8) -> bool {
 
 #[test]
 fn short_cuts(rt: HostRuntime) {
+    let text = unanswered_mail_date();
+    assert!(rt; text == None, "{text:?}");
     for reader in &READERS {
         for byte in 0..=u8::MAX {
             assert!(rt;

@@ -43,7 +43,8 @@ pub(crate) struct Metered<'a, R, S: Drop> {
 impl<R: Clock + Eprint, S: Read + Drop> Read for Metered<'_, R, S> {
     ghost remaining = { λ metered. S.remaining metered.source };
 
-    // Before a read all that was read is answered and every report is written to its end.
+    // Before a read all that was read is answered and every report is written to its end. It is left on its own, as the
+    // loop that calls it is compiled by its size.
     #[inline(never)]
     fn read(&mut self, buf: &mut [u8]) -> io::Result<usize> {
         let Some(meter) = &mut self.meter else {
@@ -70,7 +71,6 @@ impl<'a, R: Files + Input + Clock + Eprint + AllocGlobal> Disk<'a, R> {
     }
 
     // The source, whose progress is told where that is wanted.
-    #[inline(never)]
     fn metered(
         &self,
         name: &str,
@@ -100,6 +100,7 @@ impl<'a, R: Files + Input + Clock + Eprint + AllocGlobal> Opening for Disk<'a, R
 
     ghost use Rattle.std.specs.Prelude.{None};
 
+    #[inline(never)]
     fn open(&self, name: &[u8]) -> io::Result<Metered<'a, R, Source<R::File, R::Reader>>> {
         self.progress.erase();
         if name == b"-".as_slice() {

@@ -6,3 +6,4 @@ pub mod Parts
 pub mod Preparing
 pub mod Wholes
 pub mod Outcomes
+pub mod Placing

@@ -2,6 +2,7 @@
 #![tactic(auto)]
 
 mod forms;
+mod items;
 mod joined;
 pub mod laws;
 mod parsable;
@@ -9,4 +10,5 @@ mod prepared;
 mod walk;
 mod whole;
 
+pub use items::Unprepared;
 pub use prepared::Prepared;

@@ -1,18 +1,22 @@
 //! Prepared descriptions.
-ghost use Rattle.std.specs.Prelude.{◌≡◌, ◌<◌, ◌≤◌, length, MatchOption};
+ghost use Rattle.std.specs.Prelude.{◌≡◌, ◌<◌, ◌≤◌, length, map, MatchOption};
 ghost use Rattle.time_values.specs.Range.{greatest_year};
+ghost use Rattle.time_components.specs.Shape.{borrowed_shape};
 ghost use Rattle.time_components.specs.Steps.{steps_shape};
+ghost use Rattle.time_components.specs.Tree.{trees};
 ghost use Rattle.time_record.specs.Answer.{Answers};
+ghost use Rattle.time_preparing.specs.Items.{Prepares};
 ghost use Rattle.time_preparing.specs.Joined.{Fits};
 ghost use Rattle.time_preparing.specs.Walk.{Tells};
 ghost use Rattle.time_preparing.specs.Whole.{Leads};
 
+use crate::items::{Unprepared, put_items};
 use crate::joined::{Joined, joined_at};
 use crate::walk::walk;
 use crate::whole::{Whole, whole_of};
 use arrayvec::ArrayVec;
 use std::marker::Model;
-use time_components::Step;
+use time_components::{BorrowedFormatItem, Step};
 use time_record::Parsed;
 use time_values::error::ParseFromDescription;
 
@@ -51,6 +55,22 @@ impl<const N: usize> Prepared<N> {
             return None;
         }
         Some(prepare(steps))
+    }
+
+    /// Prepares items in turn, as of a description that was put together by hand. There is a step for each component,
+    /// for each byte of a literal, and for each `Compound`, `Optional` and `First` beside those inside it.
+    ///
+    /// # Errors
+    ///
+    /// The first reason against it in the order of the items: [`Unprepared::EmptyLiteral`] at a literal of no byte,
+    /// [`Unprepared::OptionalNotCompound`] at an `Optional` of anything but a `Compound`, and [`Unprepared::TooLong`] where
+    /// step `N + 1` would begin. There is one exactly where no steps, or more than `N`, have the tree of the items.
+    pub fn from_items(items: &[BorrowedFormatItem<'_>]) -> Result<Prepared<N>, Unprepared>
+        ensures { Prepares N (trees (map borrowed_shape items.now)) result }
+    {
+        let mut steps = ArrayVec::<Step, N>::new();
+        put_items(items, &mut steps)?;
+        Ok(prepare(steps.as_slice()))
     }
 
     /// The steps of the description.

@@ -1,5 +1,7 @@
-//! What a prepared description answers: worked values, and the same as the walk over its steps.
+//! What a prepared description answers: worked values, and the same as the walk over its steps or its items.
 mod alike;
+mod items;
+mod parts;
 mod worked;
 
 use time_descriptions::{Description, parse_borrowed, parse_strftime};

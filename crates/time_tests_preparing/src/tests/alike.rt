@@ -109,8 +109,8 @@ fn offset_parts(record: &Parsed) -> (Option<i8>, Option<i8>) {
     (record.offset_hour(), record.offset_minute_signed())
 }
 
-// Whether two records have the same parts.
-fn is_same(a: &Parsed, b: &Parsed) -> bool {
+/// Whether two records have the same parts.
+pub fn is_same(a: &Parsed, b: &Parsed) -> bool {
     date_parts(a) == date_parts(b)
         && time_parts(a) == time_parts(b)
         && offset_parts(a) == offset_parts(b)
@@ -125,15 +125,16 @@ fn is_alike(both: &Both, text: &[u8], begun: Parsed) -> bool {
     walked == read && is_same(&by_walk, &at_once)
 }
 
-// What a format makes of the whole text.
-type Values = (
+/// What a format makes of the whole text.
+pub type Values = (
     Result<Date, Parse>,
     Result<Time, Parse>,
     Result<PlainDateTime, Parse>,
     Result<OffsetDateTime, Parse>,
 );
 
-fn values_of<F: Parsable>(format: &F, text: &[u8]) -> Values {
+/// Without defaults.
+pub fn values_of<F: Parsable>(format: &F, text: &[u8]) -> Values {
     (
         format.parse_date(text, None),
         format.parse_time(text, None),

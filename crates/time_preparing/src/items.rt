@@ -1,0 +1,181 @@
+//! The steps of items that were put together by hand.
+ghost use Rattle.std.specs.Prelude.{◌≡◌, ◌<◌, ◌≤◌, ◌+◌, ◌-◌, ◌++◌, ◌∷◌, [], length, map, IfErr, OnOk, Some, false, slice_set};
+ghost use Rattle.time_components.specs.Shape.{borrowed_shape};
+ghost use Rattle.time_components.specs.Steps.{group_tree};
+ghost use Rattle.time_components.specs.Tree as tree;
+ghost use Rattle.time_components.specs.Tree.{literal, optional, trees};
+ghost use Rattle.time_components.specs.declared.step.Step.TheVariants as step;
+ghost use Rattle.time_preparing.specs.Items.{unprepared_text};
+ghost use Rattle.time_preparing.specs.Puts.{PutsItem, PutsItems};
+ghost use Rattle.time_preparing.specs.declared.items.Unprepared.TheVariants as unprepared;
+
+use arrayvec::ArrayVec;
+use std::fmt;
+use time_components::{BorrowedFormatItem, Component, Group, Step};
+
+/// Why items are not prepared.
+#[derive(Clone, Copy, Debug, PartialEq, Eq)]
+pub enum Unprepared {
+    /// A literal has no byte, and no step stands for it.
+    EmptyLiteral,
+    /// An optional item is no `Compound`. Steps are optional as a list alone: in a `Compound` of its own the item
+    /// parses as it does by itself.
+    OptionalNotCompound,
+    /// There are more steps than there is room for.
+    TooLong,
+}
+
+impl fmt::Display for Unprepared {
+    ghost output = { λ reason. Some (unprepared_text reason) };
+
+    fn fmt<W: fmt::Write>(&self, f: &mut fmt::Formatter<W>) -> fmt::Result {
+        match self {
+            Unprepared::EmptyLiteral => write!(f, "a literal is empty"),
+            Unprepared::OptionalNotCompound => write!(f, "an optional item is no compound"),
+            Unprepared::TooLong => write!(f, "the description is too long"),
+        }
+    }
+}
+
+impl std::error::Error for Unprepared {}
+
+// One more step, if there is room.
+fn put<const N: usize>(steps: &mut ArrayVec<Step, N>, step: Step) -> Result<(), Unprepared>
+    ensures ok { OnOk result (steps.new.items ≡ steps.old.items ++ step ∷ []) }
+    ensures room { OnOk result (length steps.new.items ≤ N) }
+    ensures err { IfErr result (λ e. (e ≡ unprepared.TooLong) × (N ≤ length steps.old.items)) }
+{
+    match steps.try_push(step) {
+        Ok(()) => Ok(()),
+        Err(_) => Err(Unprepared::TooLong),
+    }
+}
+
+// The further bytes of a literal, if there is room.
+fn put_further<const N: usize>(
+    bytes: &[u8],
+    steps: &mut ArrayVec<Step, N>,
+) -> Result<(), Unprepared>
+    ensures ok { OnOk result (steps.new.items ≡ steps.old.items ++ map step.More bytes.now) }
+    ensures room { OnOk result (length steps.old.items ≤ N → length steps.new.items ≤ N) }
+    ensures err { IfErr result (λ e. (e ≡ unprepared.TooLong) × (N < length steps.old.items + length bytes.now)) }
+{
+    for byte in bytes {
+        put(steps, Step::More(*byte))?;
+    }
+    Ok(())
+}
+
+// The steps of a literal of these bytes, if there is room.
+fn put_bytes<const N: usize>(
+    first: u8,
+    further: &[u8],
+    steps: &mut ArrayVec<Step, N>,
+) -> Result<(), Unprepared>
+    requires { length steps.old.items ≤ N }
+    ensures { PutsItem N (literal (first ∷ further.now)) steps.old.items result steps.new.items }
+{
+    put(steps, Step::Literal(first))?;
+    put_further(further, steps)
+}
+
+// The steps of a literal, if it has any and there is room.
+fn put_literal<const N: usize>(
+    bytes: &[u8],
+    steps: &mut ArrayVec<Step, N>,
+) -> Result<(), Unprepared>
+    requires { length steps.old.items ≤ N }
+    ensures { PutsItem N (literal bytes.now) steps.old.items result steps.new.items }
+{
+    match bytes {
+        [] => Err(Unprepared::EmptyLiteral),
+        [first, further @ ..] => put_bytes(*first, further, steps),
+    }
+}
+
+// The step of a component, if there is room.
+fn put_component<const N: usize>(
+    component: Component,
+    steps: &mut ArrayVec<Step, N>,
+) -> Result<(), Unprepared>
+    requires { length steps.old.items ≤ N }
+    ensures { PutsItem N (tree.component false component) steps.old.items result steps.new.items }
+{
+    put(steps, Step::Component(component))
+}
+
+// The steps of an item, if it has any and there is room.
+#[cycle(items)]
+fn put_item<const N: usize>(
+    item: &BorrowedFormatItem<'_>,
+    steps: &mut ArrayVec<Step, N>,
+) -> Result<(), Unprepared>
+    requires { length steps.old.items ≤ N }
+    ensures { PutsItem N (borrowed_shape item.now) steps.old.items result steps.new.items }
+{
+    match item {
+        BorrowedFormatItem::Literal(bytes) => put_literal(bytes, steps),
+        BorrowedFormatItem::StringLiteral(text) => put_literal(text.as_bytes(), steps),
+        BorrowedFormatItem::Component(component) => put_component(*component, steps),
+        BorrowedFormatItem::Compound(items) => put_group(Group::List, items, steps),
+        BorrowedFormatItem::Optional(item) => put_optional(item, steps),
+        BorrowedFormatItem::First(items) => put_group(Group::First, items, steps),
+    }
+}
+
+// The steps of an item that may be missing, if it has any and there is room.
+#[cycle(items)]
+fn put_optional<const N: usize>(
+    item: &BorrowedFormatItem<'_>,
+    steps: &mut ArrayVec<Step, N>,
+) -> Result<(), Unprepared>
+    requires { length steps.old.items ≤ N }
+    ensures { PutsItem N (optional (borrowed_shape item.now)) steps.old.items result steps.new.items }
+{
+    match item {
+        BorrowedFormatItem::Compound(items) => put_group(Group::Optional, items, steps),
+        _ => Err(Unprepared::OptionalNotCompound),
+    }
+}
+
+// Lets the group at the index have all steps after it.
+fn close_group<const N: usize>(steps: &mut ArrayVec<Step, N>, group: Group, index: usize)
+    requires { index < length steps.old.items }
+    ensures { steps.new.items ≡ slice_set steps.old.items index
+        (step.Group group (length steps.old.items - index - 1)) }
+{
+    let len = steps.len() - index - 1;
+    steps[index] = Step::Group(group, len);
+}
+
+// The steps of a group of these items, if they have any and there is room.
+#[cycle(items)]
+fn put_group<const N: usize>(
+    group: Group,
+    items: &[BorrowedFormatItem<'_>],
+    steps: &mut ArrayVec<Step, N>,
+) -> Result<(), Unprepared>
+    requires { length steps.old.items ≤ N }
+    ensures { PutsItem N (group_tree group (trees (map borrowed_shape items.now))) steps.old.items result steps.new.items }
+{
+    let index = steps.len();
+    put(steps, Step::Group(group, 0))?;
+    put_items(items, steps)?;
+    close_group(steps, group, index);
+    Ok(())
+}
+
+/// Puts the steps of items in turn, if they have any and there is room.
+#[cycle(items)]
+pub(crate) fn put_items<const N: usize>(
+    items: &[BorrowedFormatItem<'_>],
+    steps: &mut ArrayVec<Step, N>,
+) -> Result<(), Unprepared>
+    requires { length steps.old.items ≤ N }
+    ensures { PutsItems N (trees (map borrowed_shape items.now)) steps.old.items result steps.new.items }
+{
+    for item in items {
+        put_item(item, steps)?;
+    }
+    Ok(())
+}

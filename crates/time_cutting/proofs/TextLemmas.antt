@@ -4,7 +4,8 @@ use Rattle.std.specs.Prelude.{Option}
 use Rattle.std.specs.List.{position_or_len}
 use Rattle.std.specs.Option.{option_map}
 use Rattle.std.proofs.lemmas.List.Sums.{position_or_len_is}
-use Rattle.memchr.specs.Find.{Nowhere, NoneBefore, Passes, OccursAt, occurs_at, FindsNeedle}
+use Rattle.std.proofs.lemmas.Bool.Decides.{nat_tests}
+use Rattle.memchr.specs.Find.{Nowhere, NoneBefore, Passes, IsFirstByte, is_byte, OccursAt, occurs_at, FindsNeedle}
 use Rattle.memchr.proofs.lemmas.MatchLemmas.{occurs_at-true, OccursAt-true}
 use Rattle.time_cutting.specs.Texts.{place_of}
 
@@ -47,6 +48,11 @@ place_of-here : (text bytes : List ℕ) → OccursAt bytes text 0 → place_of t
 place_of-here text [] h = rw (occurs_at-true [] text 0 h) refl
 place_of-here text (x ∷ bytes) h = rw (occurs_at-true (x ∷ bytes) text 0 h) refl
 
+-- the text stands at the front of the bytes
+pub place_of-front : (text bytes : List ℕ) → occurs_at bytes text 0 ≡ true → place_of text bytes ≡ Some 0
+place_of-front text [] h = rw h refl
+place_of-front text (x ∷ bytes) h = rw h refl
+
 place_of-later : (x : ℕ) (text bytes : List ℕ) → (OccursAt (x ∷ bytes) text 0 → ⊥)
     → place_of text (x ∷ bytes) ≡ option_map (λ n. n + 1) (place_of text bytes)
 place_of-later x text bytes ne =
@@ -73,3 +79,28 @@ pub place_of-is : (text bytes : List ℕ) (r : Option ℕ) → FindsNeedle bytes
 place_of-is text bytes None nowhere = sym (place_of-nowhere text bytes (λ k below is. nowhere k (omega arith) below is))
 place_of-is text bytes (Some n) first =
     sym (place_of-found text bytes n first.1 (λ k below is. first.0.before k (omega arith) below is))
+
+-- a text of one byte stands where that byte does
+module _ (text bytes : List ℕ) (one : length text ≡ 1) where
+  stands-byte : (n : ℕ) → n < length bytes → Passes (is_byte (get_or text 0 0)) bytes n → OccursAt bytes text n
+  stands-byte n below here = record {
+    fits = omega arith;
+    reads = λ j h. let first : j ≡ 0 = omega arith in let there : n + j ≡ n = omega arith in
+        let same : get_or bytes n 0 ≡ get_or text 0 0 = grind (arith, nat_tests) in rw (there, first) same;
+  }
+
+  byte-stands : (n : ℕ) → OccursAt bytes text n → Passes (is_byte (get_or text 0 0)) bytes n
+  byte-stands n h =
+      let there : n + 0 ≡ n = omega arith in
+      let same : get_or bytes n 0 ≡ get_or text 0 0 = rw there at (h.reads 0 (omega arith)) in grind (arith, nat_tests)
+
+  -- what a search for that byte found
+  pub place_of-byte : (r : Option ℕ) → IsFirstByte (is_byte (get_or text 0 0)) bytes r → r ≡ place_of text bytes
+  place_of-byte None nowhere =
+      place_of-is text bytes None (λ k low below is. let fits = is.fits in nowhere k low (omega arith) (byte-stands k is))
+  place_of-byte (Some n) first =
+      let inside = first.0.high in
+      place_of-is text bytes (Some n) (
+        record { low = omega arith; high = omega arith; before = λ k low below is. first.0.before k low below (byte-stands k is) },
+        stands-byte n inside first.1,
+      )

@@ -47,6 +47,7 @@ pub struct Cut<'a> {
 }
 
 // How long the line is without a CR at its end.
+#[inline(always)]
 fn body_length(line: &[u8]) -> usize
     ensures value { result ≡ body_length line.now }
     ensures within { result ≤ length line.now }
@@ -85,6 +86,7 @@ fn find_after(key: &[u8], line: &[u8]) -> Option<Span>
 
 /// The part of the line that is its time, or for an open place begins with it; `None` where the line has no place for
 /// one: too few fields, no such text, or a quote that isn't closed. No field has the number 0.
+#[inline(always)]
 pub fn find_span(place: Place<'_>, line: &[u8]) -> Option<Span>
     ensures value { result ≡ span_of place.entry line.now }
     ensures within { IfSome result (IsPart (length line.now)) }

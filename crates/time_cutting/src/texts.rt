@@ -1,6 +1,7 @@
 //! Searches of bytes.
 ghost use Rattle.std.specs.Prelude.{◌≡◌, ◌≤◌, ◌==◌, ◌+◌, length, not, IfSome};
 ghost use Rattle.std.specs.List.{position_or_len};
+ghost use Rattle.memchr.specs.Find.{occurs_at};
 ghost use Rattle.time_cutting.specs.Fields as fields;
 ghost use Rattle.time_cutting.specs.Texts as texts;
 
@@ -69,11 +70,26 @@ pub(crate) fn closing_quote(bytes: &[u8]) -> Option<usize>
     None
 }
 
-/// Where the text first stands in the bytes.
+// Whether the bytes begin with the text, as the lines of a mailbox do with a key.
+#[inline(always)]
+fn begins_with(text: &[u8], bytes: &[u8]) -> bool
+    ensures { result ≡ occurs_at bytes.now text.now 0 }
+{
+    text.len() <= bytes.len() && &bytes[..text.len()] == text
+}
+
+/// Where the text first stands in the bytes. A search by a text of several bytes lays it out first, which costs some three
+/// hundred instructions.
 #[inline]
 pub(crate) fn find_text(text: &[u8], bytes: &[u8]) -> Option<usize>
     ensures value { result ≡ texts.place_of text.now bytes.now }
     ensures within { IfSome result (λ n. n + length text.now ≤ length bytes.now) }
 {
+    if let [byte] = text {
+        return memchr(*byte, bytes);
+    }
+    if begins_with(text, bytes) {
+        return Some(0);
+    }
     memmem::find(bytes, text)
 }

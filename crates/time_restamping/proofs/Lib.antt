@@ -2,3 +2,4 @@ pub mod Counts
 pub mod ReadingLemmas
 pub mod OneWriting
 pub mod OneVerdict
+pub mod Offsets

@@ -8,7 +8,6 @@ use Rattle.time_values.specs.declared.offset_date_time.OffsetDateTime.{OffsetDat
 use Rattle.time_cutting.specs.Cuts.{span_of, is_open}
 use Rattle.time_cutting.specs.declared.cuts.Place.{Place}
 use Rattle.time_cutting.specs.declared.fields.Span.{Span}
-use Rattle.time_descriptions.specs.Description.{shape}
 use Rattle.time_record.specs.Reading as Description
 use Rattle.time_record.specs.Record.{Record, put, year_is}
 use Rattle.time_record.specs.Resolution.{IsMoment}
@@ -25,9 +24,10 @@ use Rattle.time_parsing.specs.exact.Iso8601Laws.{iso8601_exact}
 use Rattle.time_parsing.specs.exact.Rfc2822Laws.{rfc2822_exact}
 use Rattle.time_parsing.specs.exact.Rfc3339Laws.{rfc3339_exact}
 use Rattle.time_parsing.proofs.OneOutcome.{one_moment_outcome, one_front}
-use Rattle.time_restamping.specs.Job.{Verdict, IsPut, IsJudgedAt, IsJudgedAnywhere, IsJudged, SaysNear, SaysNoneBefore, IsFirst, is_kept, missed, verdict_of, refused, dropped}
+use Rattle.time_restamping.specs.Job.{Verdict, IsPut, IsJudgedAt, IsJudgedAnywhere, SaysNear, SaysNoneBefore, IsFirst, is_kept, missed, verdict_of, refused, dropped}
 use Rattle.time_restamping.specs.Laws.{OneVerdict}
 use Rattle.time_restamping.specs.Reading.{IsReadBy, IsRead, Says, Undated, undated, is_after, year_after, IsReadInYear, AreYearsTried, IsDated, AreTried, IsReadInTurn, all_of, front_of, guarded}
+use Rattle.time_restamping.specs.Described.{tree_of}
 use Rattle.time_restamping.specs.Reason.{Reason}
 use Rattle.time_restamping.specs.declared.job.Job.{Job}
 use Rattle.time_restamping.specs.declared.job.TheConstants.{REACH}
@@ -62,11 +62,14 @@ one_read reading.Iso8601 is_open text defaults a b p q =
     one_read_by is_open over_record (Iso8601.Reads greatest_year) (Iso8601.Refuses greatest_year)
     (iso8601_exact greatest_year) tt text defaults a b p q
 one_read (reading.Described d) is_open text defaults a b p q =
-    one_read_by is_open over_record (Description.Reads greatest_year (shape d)) (Description.Refuses greatest_year (shape d))
-    (tree_exact greatest_year (shape d)) tt text defaults a b p q
+    one_read_by is_open over_record (Description.Reads greatest_year (tree_of d))
+    (Description.Refuses greatest_year (tree_of d)) (tree_exact greatest_year (tree_of d)) tt text defaults a b p q
+one_read (reading.Complete d) is_open text defaults a b p q =
+    one_read_by is_open over_record (Description.Reads greatest_year (tree_of d))
+    (Description.Refuses greatest_year (tree_of d)) (tree_exact greatest_year (tree_of d)) tt text None a b p q
 one_read (reading.Counted d) is_open text defaults a b p q =
-    one_read_by is_open over_record (Description.Reads greatest_year (shape d)) (Description.Refuses greatest_year (shape d))
-    (tree_exact greatest_year (shape d)) tt text defaults a b p q
+    one_read_by is_open over_record (Description.Reads greatest_year (tree_of d))
+    (Description.Refuses greatest_year (tree_of d)) (tree_exact greatest_year (tree_of d)) tt text defaults a b p q
 
 one_says : (format : Reading) (is_open : Bool) (text : List ℕ) (defaults : Option Record) (a b : Result Said Reason)
     → Says greatest_year format is_open text defaults a → Says greatest_year format is_open text defaults b → a ≡ b

@@ -1,5 +1,5 @@
 -- How a time is written. `Y` is the greatest year.
-use Rattle.std.specs.Prelude.{◌≡◌, ℕ, ℤ, Option, None, Some, Result, Ok, Err, IfSome, IfNone, MatchOption}
+use Rattle.std.specs.Prelude.{◌≡◌, ℕ, ℤ, Option, None, Some, Result, Ok, Err, MatchOption}
 use Rattle.std.specs.Fmt.{signed_decimal}
 use Rattle.time_values.specs.Clocks.{shown_at}
 use Rattle.time_values.specs.Instants.{IsInstant, IsWhole}

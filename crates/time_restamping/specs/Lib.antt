@@ -1,4 +1,5 @@
 pub mod Reason
+pub mod Described
 pub mod Reading
 pub mod Form
 pub mod Naming

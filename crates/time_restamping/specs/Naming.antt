@@ -3,10 +3,11 @@ use Rattle.std.specs.Prelude.{◌≡◌, ◌==◌, Bool, ℕ, List, codes, Optio
 use Rattle.std.specs.List.{list_any}
 use Rattle.std.specs.Str.{bytes_eq}
 use Rattle.time_components.specs.Tree.{Tree}
-use Rattle.time_descriptions.specs.Description.{IsRefused, shape, version_of}
+use Rattle.time_descriptions.specs.Description.{IsRefused, version_of}
 use Rattle.time_descriptions.specs.Grammar.{Describes}
 use Rattle.time_descriptions.specs.Refusal.{Refusal, refusal_of}
 use Rattle.time_descriptions.specs.Strftime.{DescribesStrftime, IsRefusedStrftime}
+use Rattle.time_restamping.specs.Described.{tree_of}
 use Rattle.time_restamping.specs.declared.form.Unit.TheVariants.{Seconds, Milliseconds, Microseconds, Nanoseconds}
 use Rattle.time_restamping.specs.declared.form.Writing.{Writing}
 use Rattle.time_restamping.specs.declared.form.Writing.TheVariants as writing
@@ -18,12 +19,14 @@ use Rattle.time_restamping.specs.declared.reading.Reading.{Reading}
 use Rattle.time_restamping.specs.declared.reading.Reading.TheVariants as reading
 use Rattle.time_restamping.specs.declared.reading.TheConstants.{MOST_STEPS}
 
--- how a format is named: one of the three, or by the text of a description, in brackets or as strftime has it
+-- how a format is named: one of the three, or by the text of a description, in brackets or as strftime has it; of a
+-- number of seconds, or one whose texts say all of a moment
 pub data Way : Type 0 where
   rfc3339 : Way
   rfc2822 : Way
   iso8601 : Way
   counted : List ℕ → Way
+  complete : List ℕ → Way
   brackets : List ℕ → Way
   strftime : List ℕ → Way
   unknown : Way
@@ -34,6 +37,7 @@ seen_way variant.Rfc3339 = rfc3339
 seen_way variant.Rfc2822 = rfc2822
 seen_way variant.Iso8601 = iso8601
 seen_way (variant.Counted text) = counted text.now
+seen_way (variant.Complete text) = complete text.now
 seen_way (variant.Brackets text) = brackets text.now
 seen_way (variant.Strftime text) = strftime text.now
 seen_way variant.Unknown = unknown
@@ -61,25 +65,27 @@ way_of name =
     if bytes_eq name (codes "unix-ms") then brackets (codes "[unix_timestamp precision:millisecond]") else
     if bytes_eq name (codes "unix-us") then brackets (codes "[unix_timestamp precision:microsecond]") else
     if bytes_eq name (codes "unix-ns") then brackets (codes "[unix_timestamp precision:nanosecond]") else
-    if bytes_eq name (codes "common") then
-    brackets common_text else
+    if bytes_eq name (codes "common") then complete common_text else
     if bytes_eq name (codes "syslog") then
     brackets (codes "[month repr:short] [day padding:space] [hour]:[minute]:[second]") else described_way name
 
--- what a format means: the tree of a description, or a format that has none
+-- what a format means: a format that has no description, or the tree of one: of one whose texts say all of a moment, or
+-- of a number of seconds
 pub data Meaning : Type 0 where
   as_rfc3339 : Meaning
   as_rfc2822 : Meaning
   as_iso8601 : Meaning
   as_tree : Tree → Meaning
+  as_complete : Tree → Meaning
   as_count : Tree → Meaning
 
 abbrev pub meaning_of : Reading → Meaning
 meaning_of reading.Rfc3339 = as_rfc3339
 meaning_of reading.Rfc2822 = as_rfc2822
 meaning_of reading.Iso8601 = as_iso8601
-meaning_of (reading.Described d) = as_tree (shape d)
-meaning_of (reading.Counted d) = as_count (shape d)
+meaning_of (reading.Described d) = as_tree (tree_of d)
+meaning_of (reading.Complete d) = as_complete (tree_of d)
+meaning_of (reading.Counted d) = as_count (tree_of d)
 
 -- why a format means nothing: it has no name and is no description, or a description has that fault
 pub data Fault : Type 0 where
@@ -96,6 +102,7 @@ Means rfc3339 meaning = meaning ≡ as_rfc3339
 Means rfc2822 meaning = meaning ≡ as_rfc2822
 Means iso8601 meaning = meaning ≡ as_iso8601
 Means (counted text) meaning = (tree : Tree) × Describes (version_of 2) text tree × (meaning ≡ as_count tree)
+Means (complete text) meaning = (tree : Tree) × Describes (version_of 2) text tree × (meaning ≡ as_complete tree)
 Means (brackets text) meaning = (tree : Tree) × Describes (version_of 2) text tree × (meaning ≡ as_tree tree)
 Means (strftime text) meaning = (tree : Tree) × DescribesStrftime text tree × (meaning ≡ as_tree tree)
 Means unknown meaning = ⊥
@@ -106,6 +113,7 @@ IsFault rfc3339 f = ⊥
 IsFault rfc2822 f = ⊥
 IsFault iso8601 f = ⊥
 IsFault (counted text) f = (r : Refusal) × IsRefused MOST_STEPS (version_of 2) text r × (f ≡ faulty r)
+IsFault (complete text) f = (r : Refusal) × IsRefused MOST_STEPS (version_of 2) text r × (f ≡ faulty r)
 IsFault (brackets text) f = (r : Refusal) × IsRefused MOST_STEPS (version_of 2) text r × (f ≡ faulty r)
 IsFault (strftime text) f = (r : Refusal) × IsRefusedStrftime MOST_STEPS text r × (f ≡ faulty r)
 IsFault unknown f = f ≡ unnamed

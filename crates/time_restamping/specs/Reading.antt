@@ -6,7 +6,6 @@ use Rattle.time_values.specs.Moments.{offset_date, offset_instant}
 use Rattle.time_values.specs.Refusal.{Refusal, refusal_of}
 use Rattle.time_values.specs.declared.error.Parse.{Parse}
 use Rattle.time_values.specs.declared.offset_date_time.OffsetDateTime.{OffsetDateTime}
-use Rattle.time_descriptions.specs.Description.{shape}
 use Rattle.time_readers.specs.Direct.{RefusesRfc3339, RefusesRfc2822}
 use Rattle.time_record.specs.Reading as Description
 use Rattle.time_record.specs.Record.{Record, put, year_is}
@@ -16,6 +15,7 @@ use Rattle.time_parsing.specs.Outcome as Outcome
 use Rattle.time_parsing.specs.Iso8601 as Iso8601
 use Rattle.time_parsing.specs.Rfc2822 as Rfc2822
 use Rattle.time_parsing.specs.Rfc3339 as Rfc3339
+use Rattle.time_restamping.specs.Described.{tree_of}
 use Rattle.time_restamping.specs.Reason.{Reason, unread, negative_fraction}
 use Rattle.time_restamping.specs.declared.reading.Reading.{Reading}
 use Rattle.time_restamping.specs.declared.reading.Reading.TheVariants as reading
@@ -52,7 +52,8 @@ IsReadBy Y false path reads refuses text defaults result =
     (outcome : Result OffsetDateTime Refusal)
     × IsMomentOutcome Y path reads refuses text defaults outcome × (result ≡ all_of text outcome)
 
--- The same by any of the formats. A text of RFC 3339 or RFC 2822 says all of a moment, so that defaults don't count.
+-- The same by any of the formats. A text of RFC 3339, of RFC 2822 or of a complete description says all of a moment, so
+-- that defaults don't count.
 abbrev pub IsRead : ℕ → Reading → Bool → List ℕ → Option Record → Result Said Refusal → Type 0
 IsRead Y reading.Rfc3339 is_open text defaults =
     IsReadBy Y is_open (direct (RefusesRfc3339 Y)) (Rfc3339.Reads Y) (Rfc3339.Refuses Y) text None
@@ -61,9 +62,14 @@ IsRead Y reading.Rfc2822 is_open text defaults =
 IsRead Y reading.Iso8601 is_open text defaults =
     IsReadBy Y is_open over_record (Iso8601.Reads Y) (Iso8601.Refuses Y) text defaults
 IsRead Y (reading.Described d) is_open text defaults =
-    IsReadBy Y is_open over_record (Description.Reads Y (shape d)) (Description.Refuses Y (shape d)) text defaults
+    IsReadBy Y is_open over_record (Description.Reads Y (tree_of d)) (Description.Refuses Y (tree_of d)) text
+    defaults
+IsRead Y (reading.Complete d) is_open text defaults =
+    IsReadBy Y is_open over_record (Description.Reads Y (tree_of d)) (Description.Refuses Y (tree_of d)) text
+    None
 IsRead Y (reading.Counted d) is_open text defaults =
-    IsReadBy Y is_open over_record (Description.Reads Y (shape d)) (Description.Refuses Y (shape d)) text defaults
+    IsReadBy Y is_open over_record (Description.Reads Y (tree_of d)) (Description.Refuses Y (tree_of d)) text
+    defaults
 
 -- whether a fraction after a minus is refused
 abbrev pub is_counted : Reading → Bool
@@ -71,6 +77,7 @@ is_counted reading.Rfc3339 = false
 is_counted reading.Rfc2822 = false
 is_counted reading.Iso8601 = false
 is_counted (reading.Described d) = false
+is_counted (reading.Complete d) = false
 is_counted (reading.Counted d) = true
 
 -- a number begins with a minus, and has a point

@@ -1,5 +1,5 @@
 -- Why a time isn't rewritten.
-use Rattle.std.specs.Prelude.{List, ◌++◌, codes, ℕ, Result, Ok, Err}
+use Rattle.std.specs.Prelude.{List, codes, ℕ, Result, Ok, Err}
 use Rattle.time_values.specs.Refusal.{Refusal, refusal_of}
 use Rattle.time_values.specs.Shown.{Items}
 use Rattle.time_values.specs.Texts.{refusal_text}

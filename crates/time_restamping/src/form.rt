@@ -1,13 +1,21 @@
 //! How a time is written.
-ghost use Rattle.std.specs.Prelude.{◌≡◌, ◌≤◌, length, codes};
+ghost use Rattle.std.specs.Prelude.{◌≡◌, ◌≤◌, length, codes, MatchOption, MatchResult};
 ghost use Rattle.std.specs.Fmt.{signed_decimal};
 ghost use Rattle.time_values.specs.Range.{greatest_year};
 ghost use Rattle.time_restamping.specs.Form as spec;
-ghost use Rattle.time_restamping.specs.Reason.{seen_written};
+ghost use Rattle.time_values.specs.Instants.{IsInstant, IsWhole};
+ghost use Rattle.time_values.specs.Moments.{nanoseconds, offset_instant};
+ghost use Rattle.time_restamping.specs.declared.form.Unit.TheVariants.{Milliseconds, Microseconds, Nanoseconds};
+ghost use Rattle.time_restamping.specs.Reason.{out_of_range, seen, seen_written};
 
 use crate::reason::Reason;
 use time_values::{OffsetDateTime, Timestamp, UtcOffset};
 use time_writing::{FractionDigits, Text, Unwritable, text_2822, text_3339, text_8601};
+
+// The first second of the first day in UTC, and the last one of the last day, since 1970-01-01T00:00:00Z.
+const FIRST_SECOND: i64 = -31_619_087_596_800;
+
+const LAST_SECOND: i64 = 31_494_784_780_799;
 
 /// What is counted since 1970-01-01T00:00:00Z.
 #[derive(Clone, Copy, Debug, PartialEq, Eq)]
@@ -62,10 +70,13 @@ fn written(text: Result<Text, Unwritable>) -> Result<Text, Reason>
 fn shown(moment: OffsetDateTime, offset: Option<UtcOffset>) -> Option<OffsetDateTime>
     ensures { spec.IsShown greatest_year offset moment result }
 {
-    match offset {
-        None => Some(moment),
-        Some(offset) => moment.checked_to_offset(offset),
+    let Some(offset) = offset else {
+        return Some(moment);
+    };
+    if moment.offset() == offset {
+        return Some(moment);
     }
+    moment.checked_to_offset(offset)
 }
 
 // A number that has at most 64 bits.
@@ -90,19 +101,73 @@ fn wide_number(count: i128) -> Text
     text
 }
 
+// The whole seconds of the moment since 1970, if it has a date in UTC. They cost far less than its nanoseconds.
+#[inline(always)]
+fn seconds_of(moment: OffsetDateTime) -> Option<i64>
+    ensures { MatchOption result (¬ IsInstant greatest_year (offset_instant greatest_year moment))
+        (λ z. IsInstant greatest_year (offset_instant greatest_year moment)
+        × IsWhole 1_000_000_000 (offset_instant greatest_year moment) z) }
+{
+    let seconds = moment.unix_timestamp();
+    if seconds < FIRST_SECOND {
+        return None;
+    }
+    if LAST_SECOND < seconds {
+        return None;
+    }
+    Some(seconds)
+}
+
+// Its nanoseconds since 1970, if it has a date in UTC.
+fn stamp_of(moment: OffsetDateTime) -> Result<Timestamp, Reason>
+    ensures { MatchResult result
+        (λ stamp. IsInstant greatest_year (offset_instant greatest_year moment)
+        × (nanoseconds stamp ≡ offset_instant greatest_year moment))
+        (λ e. (seen e ≡ out_of_range) × (¬ IsInstant greatest_year (offset_instant greatest_year moment))) }
+{
+    match moment.checked_to_utc() {
+        Some(utc) => Ok(Timestamp::from(utc)),
+        None => Err(Reason::OutOfRange),
+    }
+}
+
+// Its milliseconds since 1970. None of these is inlined, so that their results take no place where seconds are written.
+#[inline(never)]
+fn write_milliseconds(moment: OffsetDateTime) -> Result<Text, Reason>
+    ensures { spec.IsCounted greatest_year Milliseconds moment (seen_written result) }
+{
+    Ok(number(stamp_of(moment)?.as_milliseconds()))
+}
+
+// Its microseconds since 1970.
+#[inline(never)]
+fn write_microseconds(moment: OffsetDateTime) -> Result<Text, Reason>
+    ensures { spec.IsCounted greatest_year Microseconds moment (seen_written result) }
+{
+    Ok(wide_number(stamp_of(moment)?.as_microseconds()))
+}
+
+// Its nanoseconds since 1970.
+#[inline(never)]
+fn write_nanoseconds(moment: OffsetDateTime) -> Result<Text, Reason>
+    ensures { spec.IsCounted greatest_year Nanoseconds moment (seen_written result) }
+{
+    Ok(wide_number(stamp_of(moment)?.nanoseconds()))
+}
+
 // The units of the moment since 1970.
+#[inline(always)]
 fn write_count(moment: OffsetDateTime, unit: Unit) -> Result<Text, Reason>
     ensures { spec.IsCounted greatest_year unit moment (seen_written result) }
 {
-    let Some(utc) = moment.checked_to_utc() else {
-        return Err(Reason::OutOfRange);
-    };
-    let stamp = Timestamp::from(utc);
     match unit {
-        Unit::Seconds => Ok(number(stamp.as_seconds())),
-        Unit::Milliseconds => Ok(number(stamp.as_milliseconds())),
-        Unit::Microseconds => Ok(wide_number(stamp.as_microseconds())),
-        Unit::Nanoseconds => Ok(wide_number(stamp.nanoseconds())),
+        Unit::Seconds => match seconds_of(moment) {
+            Some(seconds) => Ok(number(seconds)),
+            None => Err(Reason::OutOfRange),
+        },
+        Unit::Milliseconds => write_milliseconds(moment),
+        Unit::Microseconds => write_microseconds(moment),
+        Unit::Nanoseconds => write_nanoseconds(moment),
     }
 }
 

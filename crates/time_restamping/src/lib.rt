@@ -1,6 +1,7 @@
 //! What becomes of a line whose time is read by one format and written by another.
 #![tactic(auto)]
 
+mod described;
 mod form;
 mod job;
 pub mod laws;
@@ -8,6 +9,7 @@ mod naming;
 mod reading;
 mod reason;
 
+pub use described::Described;
 pub use form::{Form, Unit, Writing, write_moment};
 pub use job::{Job, REACH, Verdict};
 pub use naming::{FormatFault, find_reading, find_writing};

@@ -1,7 +1,13 @@
 //! Formats by their names, and by descriptions.
-ghost use Rattle.std.specs.Prelude.{◌≡◌, MatchResult, if◌then◌else◌};
+ghost use Rattle.std.specs.Prelude.{◌≡◌, MatchResult};
+ghost use Rattle.time_descriptions.specs.Description.{IsRefused, version_of};
+ghost use Rattle.time_descriptions.specs.Grammar.{Describes};
+ghost use Rattle.time_descriptions.specs.Refusal.{Refusal};
+ghost use Rattle.time_restamping.specs.Described.{tree_of};
 ghost use Rattle.time_restamping.specs.Naming as spec;
+ghost use Rattle.time_restamping.specs.declared.reading.TheConstants.{MOST_STEPS};
 
+use crate::described::Described;
 use crate::form::{Unit, Writing};
 use crate::reading::{MOST_STEPS, Reading};
 use time_descriptions::{InvalidFormatDescription, parse_borrowed, parse_strftime};
@@ -23,6 +29,8 @@ enum Way<'a> {
     Iso8601,
     // A description of a number of seconds.
     Counted(&'a [u8]),
+    // A description whose texts say all of a moment.
+    Complete(&'a [u8]),
     Brackets(&'a [u8]),
     Strftime(&'a [u8]),
     Unknown,
@@ -60,7 +68,7 @@ fn find_way(name: &[u8]) -> Way<'_>
     } else if name == b"unix-ns".as_slice() {
         Way::Brackets(b"[unix_timestamp precision:nanosecond]")
     } else if name == b"common".as_slice() {
-        Way::Brackets(
+        Way::Complete(
             b"[day]/[month repr:short]/[year]:[hour]:[minute]:[second] [offset_hour sign:mandatory][offset_minute]",
         )
     } else if name == b"syslog".as_slice() {
@@ -70,20 +78,14 @@ fn find_way(name: &[u8]) -> Way<'_>
     }
 }
 
-// The format that the text describes in brackets; of a number of seconds where it is one.
-fn bracketed(text: &[u8], is_count: bool) -> Result<Reading, FormatFault<'_>>
+// What the text describes in brackets.
+fn bracketed(text: &[u8]) -> Result<Described, FormatFault<'_>>
     ensures { MatchResult result
-        (λ reading. spec.Means (if is_count then spec.counted text.now else spec.brackets text.now) (spec.meaning_of reading))
-        (λ fault. spec.IsFault (if is_count then spec.counted text.now else spec.brackets text.now) (spec.fault_of fault)) }
+        (λ described. Describes (version_of 2) text.now (tree_of described))
+        (λ fault. (r : Refusal) × IsRefused MOST_STEPS (version_of 2) text.now r × (spec.fault_of fault ≡ spec.faulty r)) }
 {
     match parse_borrowed::<2, MOST_STEPS>(text) {
-        Ok(description) => {
-            if is_count {
-                Ok(Reading::Counted(description))
-            } else {
-                Ok(Reading::Described(description))
-            }
-        }
+        Ok(description) => Ok(Described::new(description)),
         Err(error) => Err(FormatFault::Description(error)),
     }
 }
@@ -95,7 +97,7 @@ fn lettered(text: &[u8]) -> Result<Reading, FormatFault<'_>>
         (λ fault. spec.IsFault (spec.strftime text.now) (spec.fault_of fault)) }
 {
     match parse_strftime::<MOST_STEPS>(text) {
-        Ok(description) => Ok(Reading::Described(description)),
+        Ok(description) => Ok(Reading::Described(Described::new(description))),
         Err(error) => Err(FormatFault::Description(error)),
     }
 }
@@ -112,8 +114,9 @@ pub fn find_reading(name: &[u8]) -> Result<Reading, FormatFault<'_>>
         Way::Rfc3339 => Ok(Reading::Rfc3339),
         Way::Rfc2822 => Ok(Reading::Rfc2822),
         Way::Iso8601 => Ok(Reading::Iso8601),
-        Way::Counted(text) => bracketed(text, true),
-        Way::Brackets(text) => bracketed(text, false),
+        Way::Counted(text) => Ok(Reading::Counted(bracketed(text)?)),
+        Way::Complete(text) => Ok(Reading::Complete(bracketed(text)?)),
+        Way::Brackets(text) => Ok(Reading::Described(bracketed(text)?)),
         Way::Strftime(text) => lettered(text),
         Way::Unknown => Err(FormatFault::Unknown),
     }

@@ -2,13 +2,16 @@
 ghost use Rattle.std.specs.Option.{option_map};
 ghost use Rattle.std.specs.Prelude.{◌≡◌, ◌≤◌, ◌≤ℤ◌, ◌-ℤ◌, neg_ℤ, pos, length, take, IfOk, IfSome};
 ghost use Rattle.time_values.specs.Range.{greatest_year};
+ghost use Rattle.time_record.specs.Reading.{Reads, Refuses};
 ghost use Rattle.time_parsing.specs.Outcome as outcome;
+ghost use Rattle.time_parsing.specs.Outcome.{over_record};
+ghost use Rattle.time_restamping.specs.Described.{tree_of};
 ghost use Rattle.time_restamping.specs.Reading as spec;
 ghost use Rattle.time_restamping.specs.Reason.{seen, seen_read};
 
+use crate::described::Described;
 use crate::reason::Reason;
 use std::cmp::Ordering;
-use time_descriptions::Description;
 use time_parsing::{Iso8601, Parsable, Rfc2822, Rfc3339};
 use time_record::Parsed;
 use time_values::OffsetDateTime;
@@ -27,9 +30,11 @@ pub enum Reading {
     /// ISO 8601.
     Iso8601,
     /// By a description.
-    Described(Description<MOST_STEPS>),
+    Described(Described),
+    /// By a description whose texts say all of a moment, so that defaults don't count.
+    Complete(Described),
     /// By a description of a number of seconds, which may have a fraction unless a minus stands before it.
-    Counted(Description<MOST_STEPS>),
+    Counted(Described),
 }
 
 /// What stands for what a time leaves out.
@@ -58,7 +63,8 @@ impl Reading {
     {
         match self {
             Reading::Counted(_) => true,
-            Reading::Rfc3339 | Reading::Rfc2822 | Reading::Iso8601 | Reading::Described(_) => false,
+            Reading::Rfc3339 | Reading::Rfc2822 | Reading::Iso8601 => false,
+            Reading::Described(_) | Reading::Complete(_) => false,
         }
     }
 }
@@ -89,6 +95,24 @@ fn read_by<F: Parsable>(
     })
 }
 
+// The same by a description.
+#[inline(always)]
+fn read_described(
+    described: &Described,
+    is_open: bool,
+    text: &[u8],
+    defaults: Option<Parsed>,
+) -> Result<Said, Parse>
+    ensures said { spec.IsReadBy greatest_year is_open over_record (Reads greatest_year (tree_of described.now))
+        (Refuses greatest_year (tree_of described.now)) text.now defaults (spec.seen_said result) }
+    ensures within { IfOk result (λ said. said.length ≤ length text.now) }
+{
+    match described {
+        Described::Prepared(prepared) => read_by(prepared, is_open, text, defaults),
+        Described::Walked(description) => read_by(description, is_open, text, defaults),
+    }
+}
+
 // The same by any of the formats. Those that say all of a moment need no defaults.
 #[inline(always)]
 fn read_plain(
@@ -104,8 +128,9 @@ fn read_plain(
         Reading::Rfc3339 => read_by(&Rfc3339, is_open, text, None),
         Reading::Rfc2822 => read_by(&Rfc2822, is_open, text, None),
         Reading::Iso8601 => read_by(&Iso8601, is_open, text, *defaults),
-        Reading::Described(description) => read_by(description, is_open, text, *defaults),
-        Reading::Counted(description) => read_by(description, is_open, text, *defaults),
+        Reading::Described(described) => read_described(described, is_open, text, *defaults),
+        Reading::Complete(described) => read_described(described, is_open, text, None),
+        Reading::Counted(described) => read_described(described, is_open, text, *defaults),
     }
 }
 
@@ -116,9 +141,9 @@ fn is_negative_fraction(number: &[u8]) -> bool
     !number.is_empty() && number[0] == b'-' && number.contains(&b'.')
 }
 
-/// What the text says by the format; where it is open what a front of it says, as far as the format goes. Defaults
-/// stand for what the text leaves out.
-pub fn read(
+/// What [`read`] says, in line.
+#[inline(always)]
+pub(crate) fn read_once(
     reading: &Reading,
     is_open: bool,
     text: &[u8],
@@ -135,6 +160,20 @@ pub fn read(
         return Err(Reason::NegativeFraction);
     }
     Ok(said)
+}
+
+/// What the text says by the format; where it is open what a front of it says, as far as the format goes. Defaults
+/// stand for what the text leaves out.
+pub fn read(
+    reading: &Reading,
+    is_open: bool,
+    text: &[u8],
+    defaults: &Option<Parsed>,
+) -> Result<Said, Reason>
+    ensures said { spec.Says greatest_year reading.now is_open text.now defaults.now (seen_read result) }
+    ensures within { IfOk result (λ said. said.length ≤ length text.now) }
+{
+    read_once(reading, is_open, text, defaults)
 }
 
 // Whether the moment lies after another.
@@ -198,23 +237,18 @@ fn begun(parts: Option<Parsed>) -> Parsed
     }
 }
 
-/// What the text says by the format; where it leaves the year out, the latest moment that isn't after the one that is
-/// given. Of the years from the one after that moment's down, ten are tried, since 29 February may be missing in seven in a
-/// row.
-#[inline(always)]
-pub fn read_dated(
+// What a text says that says nothing by the format, for that reason, unless it is the year that it leaves out.
+fn read_undated(
     reading: &Reading,
     is_open: bool,
     text: &[u8],
     defaults: &Defaults,
+    reason: Reason,
 ) -> Result<Said, Reason>
+    requires { spec.Says greatest_year reading.now is_open text.now defaults.now.parts (Err (seen reason)) }
     ensures said { spec.IsDated greatest_year reading.now is_open text.now defaults.now (seen_read result) }
     ensures within { IfOk result (λ said. said.length ≤ length text.now) }
 {
-    let reason = match read(reading, is_open, text, &defaults.parts) {
-        Ok(said) => return Ok(said),
-        Err(reason) => reason,
-    };
     let Some(latest) = defaults.latest else {
         return Err(reason);
     };
@@ -226,6 +260,24 @@ pub fn read_dated(
         latest,
     };
     undated.read_years(latest.year() + 1, 10, reason)
+}
+
+/// What the text says by the format; where it leaves the year out, the latest moment that isn't after the one that is
+/// given. Of the years from the one after that moment's down, ten are tried, since 29 February may be missing in seven in a
+/// row.
+pub fn read_dated(
+    reading: &Reading,
+    is_open: bool,
+    text: &[u8],
+    defaults: &Defaults,
+) -> Result<Said, Reason>
+    ensures said { spec.IsDated greatest_year reading.now is_open text.now defaults.now (seen_read result) }
+    ensures within { IfOk result (λ said. said.length ≤ length text.now) }
+{
+    match read(reading, is_open, text, &defaults.parts) {
+        Ok(said) => Ok(said),
+        Err(reason) => read_undated(reading, is_open, text, defaults, reason),
+    }
 }
 
 // What the first says of the formats that says something; or else the reason that is given.
@@ -247,6 +299,25 @@ fn read_others(
     Err(reason)
 }
 
+/// What a text says that says nothing by the first of the formats as it stands, for that reason.
+pub(crate) fn read_further(
+    first: &Reading,
+    others: &[Reading],
+    is_open: bool,
+    text: &[u8],
+    defaults: &Defaults,
+    reason: Reason,
+) -> Result<Said, Reason>
+    requires { spec.Says greatest_year first.now is_open text.now defaults.now.parts (Err (seen reason)) }
+    ensures said { spec.IsReadInTurn greatest_year first.now others.now is_open text.now defaults.now (seen_read result) }
+    ensures within { IfOk result (λ said. said.length ≤ length text.now) }
+{
+    match read_undated(first, is_open, text, defaults, reason) {
+        Ok(said) => Ok(said),
+        Err(why) => read_others(others, is_open, text, defaults, why),
+    }
+}
+
 /// What the text says by the first of the formats by which it says something; the reason is that of the first.
 #[inline(always)]
 pub fn read_in_turn(
@@ -259,8 +330,8 @@ pub fn read_in_turn(
     ensures said { spec.IsReadInTurn greatest_year first.now others.now is_open text.now defaults.now (seen_read result) }
     ensures within { IfOk result (λ said. said.length ≤ length text.now) }
 {
-    match read_dated(first, is_open, text, defaults) {
+    match read(first, is_open, text, &defaults.parts) {
         Ok(said) => Ok(said),
-        Err(reason) => read_others(others, is_open, text, defaults, reason),
+        Err(reason) => read_further(first, others, is_open, text, defaults, reason),
     }
 }

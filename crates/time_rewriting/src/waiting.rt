@@ -61,6 +61,9 @@ impl Waiting {
         ensures { OnOk result (Appends (append_known (W.contents out.old) self.old.items)
             (append_known (W.contents out.new) self.new.items) bytes.now) }
     {
+        if bytes.is_empty() {
+            return Ok(());
+        }
         if MOST - self.len < bytes.len() {
             return self.put_many(bytes, out);
         }

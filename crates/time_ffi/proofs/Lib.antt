@@ -5,3 +5,4 @@ pub mod HeldSteps
 pub mod InPlace
 pub mod Instants
 pub mod Laid
+pub mod MailInPlace

@@ -7,7 +7,7 @@ mod fast;
 ghost use Rattle.std.specs.Prelude.{Some};
 ghost use Rattle.time_ffi.specs.Formats as Formats;
 ghost use Rattle.time_ffi.specs.Handed.{Hands, HandsCount, IsCountHanded, IsHanded, IsHandedOver, of_moment};
-ghost use Rattle.time_ffi.specs.declared.formats.Format.TheVariants.{Rfc3339 as rfc3339};
+ghost use Rattle.time_ffi.specs.declared.formats.Format.TheVariants.{Rfc2822 as rfc2822, Rfc3339 as rfc3339};
 
 use crate::formats::{Format, format_of};
 use crate::handing::{count, hand_count};
@@ -27,6 +27,20 @@ fn moment_3339<P: From<OffsetDateTime> + Copy>(text: &[u8], out: &mut P) -> u32
             0
         }
         None => parsed_moment(&Rfc3339, text, out),
+    }
+}
+
+// Hands over the parts of a mail date's moment.
+#[inline(never)]
+fn moment_2822<P: From<OffsetDateTime> + Copy>(text: &[u8], out: &mut P) -> u32
+    ensures { Hands P.from_gives of_moment (Some rfc2822) text.now result out.old out.new }
+{
+    match fast::rfc2822::moment(text) {
+        Some(value) => {
+            *out = P::from(value);
+            0
+        }
+        None => parsed_moment(&Rfc2822, text, out),
     }
 }
 
@@ -56,7 +70,7 @@ pub fn moment_by<P: From<OffsetDateTime> + Copy>(format: u32, text: &[u8], out: 
 {
     match format_of(format) {
         Some(Format::Rfc3339) => moment_3339(text, out),
-        Some(Format::Rfc2822) => parsed_moment(&Rfc2822, text, out),
+        Some(Format::Rfc2822) => moment_2822(text, out),
         Some(Format::Iso8601) => parsed_moment(&Iso8601, text, out),
         None => UNKNOWN_FORMAT,
     }
@@ -70,6 +84,17 @@ fn count_3339(text: &[u8], out: &mut Nanoseconds) -> u32
     match fast::moment(text) {
         Some(value) => hand_count(value, out),
         None => parsed_count(&Rfc3339, text, out),
+    }
+}
+
+// Hands over the nanoseconds of a mail date's moment.
+#[inline(never)]
+fn count_2822(text: &[u8], out: &mut Nanoseconds) -> u32
+    ensures { HandsCount (Some rfc2822) text.now result out.old out.new }
+{
+    match fast::rfc2822::moment(text) {
+        Some(value) => hand_count(value, out),
+        None => parsed_count(&Rfc2822, text, out),
     }
 }
 
@@ -89,7 +114,7 @@ pub fn count_by(format: u32, text: &[u8], out: &mut Nanoseconds) -> u32
 {
     match format_of(format) {
         Some(Format::Rfc3339) => count_3339(text, out),
-        Some(Format::Rfc2822) => parsed_count(&Rfc2822, text, out),
+        Some(Format::Rfc2822) => count_2822(text, out),
         Some(Format::Iso8601) => parsed_count(&Iso8601, text, out),
         None => UNKNOWN_FORMAT,
     }

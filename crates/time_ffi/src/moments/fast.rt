@@ -1,6 +1,7 @@
 //! The commonest moments of RFC 3339, many bytes at once.
 //!
 //! Each reader answers what the library's reader does, or `None`: not this form.
+pub(super) mod iso8601;
 pub(super) mod rfc2822;
 
 ghost use Rattle.std.specs.Prelude.{◌≡◌, ◌<◌, ◌≤◌, IfSome, IsTrue, Ok, None, [], ◌∷◌, false, map, pos, unwrap_or};

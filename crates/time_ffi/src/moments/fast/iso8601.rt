@@ -303,15 +303,24 @@ fn has_separators(text: &[u8]) -> bool {
     matches!(text, [_, _, _, _, b'-', ..])
 }
 
-// A whole moment. `None`: not this form. Both kinds are made apart, since their values would meet in memory.
+// A date and a time of either kind. `None`: not this form.
+#[inline(always)]
+fn front_of(text: &[u8]) -> Option<Front<'_>>
+    ensures { IfSome result (IsFront text.now) }
+{
+    if has_separators(text) {
+        extended(text)
+    } else {
+        basic(text)
+    }
+}
+
+// A whole moment. `None`: not this form.
 #[inline(always)]
 pub(in crate::moments) fn moment(text: &[u8]) -> Option<OffsetDateTime>
     ensures { IfSome result (λ v. of_moment over_record (Reads greatest_year) (Refuses greatest_year) text.now (Ok v)) }
 {
-    if has_separators(text) {
-        return moment_of(extended(text)?);
-    }
-    moment_of(basic(text)?)
+    moment_of(front_of(text)?)
 }
 
 // A whole date and time, with no offset. `None`: not this form.

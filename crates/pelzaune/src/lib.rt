@@ -19,7 +19,7 @@ mod locating;
 
 use time_ffi::descriptions::check;
 use time_ffi::handing::{count_read, hand_by, hand_read, parts_by, parts_read};
-use time_ffi::moments::{count_by, moment_by};
+use time_ffi::moments::{count_by, local_by, moment_by};
 use time_ffi::parts::{
     DateParts, Instant, LocalParts, MomentParts, Nanoseconds, OffsetParts, Parts, TimeParts,
 };
@@ -78,7 +78,7 @@ pub extern "C" fn pelzaune_parse_offset(format: u32, text: &[u8], out: &mut Offs
 pub extern "C" fn pelzaune_parse_local(format: u32, text: &[u8], out: &mut LocalParts) -> u32
     ensures { Hands HasPlain (over_empty (IsPlain greatest_year)) (format_of format) text.now result out.old out.new }
 {
-    hand_by::<PlainDateTime, LocalParts>(format, text, out)
+    local_by(format, text, out)
 }
 
 /// Parses a text by the format of that number into its date and time in UTC. On any other status than 0 `out` is

@@ -3,5 +3,8 @@ pub mod Constructed
 pub mod HeldRows
 pub mod HeldSteps
 pub mod InPlace
+pub mod IsoInPlace
+pub mod IsoWhole
 pub mod Instants
 pub mod Laid
+pub mod MailInPlace

@@ -3,6 +3,7 @@ pub mod Described
 pub mod Formats
 pub mod Handed
 pub mod Held
+pub mod IsoFronts
 pub mod Laws
 pub mod Places
 pub mod Status

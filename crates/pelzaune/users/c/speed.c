@@ -1,6 +1,6 @@
 /* Parses a text many times, to count instructions.
  *
- *     speed moment|instant|nanoseconds FORMAT TIMES TEXT
+ *     speed moment|instant|nanoseconds|local FORMAT TIMES TEXT
  *     speed read|described|date|time|strptime|fields DESCRIPTION TIMES TEXT
  *
  * FORMAT is the number of a format, DESCRIPTION a description of strftime. `read` is an instant by the text of the
@@ -36,8 +36,8 @@ static int64_t seconds_of(struct tm tm)
     return (int64_t)timegm(&tm) - offset;
 }
 
-static const char *const calls[] = { "moment", "instant", "nanoseconds", "read", "described", "date", "time", "strptime", "fields" };
-enum { MOMENT, INSTANT, NANOSECONDS, READ, DESCRIBED, DATE, TIME, STRPTIME, FIELDS, CALLS };
+static const char *const calls[] = { "moment", "instant", "nanoseconds", "local", "read", "described", "date", "time", "strptime", "fields" };
+enum { MOMENT, INSTANT, NANOSECONDS, LOCAL, READ, DESCRIBED, DATE, TIME, STRPTIME, FIELDS, CALLS };
 
 /* A number of what a call answers. */
 static int64_t answer(int call, const how *it, const char *text, size_t length)
@@ -45,6 +45,7 @@ static int64_t answer(int call, const how *it, const char *text, size_t length)
     const uint8_t *bytes = (const uint8_t *)text;
     pelzaune_moment moment;
     pelzaune_instant instant;
+    pelzaune_local local;
     pelzaune_date date;
     pelzaune_time time;
     int64_t count;
@@ -53,6 +54,7 @@ static int64_t answer(int call, const how *it, const char *text, size_t length)
     case MOMENT: return pelzaune_parse_moment(it->format, bytes, length, &moment) ? -1 : moment.second + moment.offset;
     case INSTANT: return pelzaune_parse_instant(it->format, bytes, length, &instant) ? -1 : instant.seconds;
     case NANOSECONDS: return pelzaune_parse_nanoseconds(it->format, bytes, length, &count) ? -1 : count;
+    case LOCAL: return pelzaune_parse_local(it->format, bytes, length, &local) ? -1 : local.second + local.day;
     case READ: return pelzaune_read_instant(PELZAUNE_STRFTIME, (const uint8_t *)it->text, strlen(it->text), bytes, length, &instant)
         ? -1 : instant.seconds;
     case DESCRIBED: return pelzaune_described_instant(&it->held, bytes, length, &instant) ? -1 : instant.seconds;

@@ -18,6 +18,9 @@ for call in moment instant nanoseconds; do
     row $call 2 'Sat, 02 Jan 2021 03:04:05 +0607'
     row $call 3 20210102T030405Z
 done
+row local 3 20210102T030405
+row local 3 2021-01-02T03:04:05
+row moment 3 2021-01-02T03:04:05Z
 row moment 1 2021-13-02T03:04:05Z
 row date %Y-%m-%d 2021-03-04
 row fields %Y-%m-%d 2021-03-04

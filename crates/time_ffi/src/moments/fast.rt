@@ -1,6 +1,9 @@
 //! The commonest moments of RFC 3339, many bytes at once.
 //!
 //! Each reader answers what the library's reader does, or `None`: not this form.
+pub(super) mod iso8601;
+pub(super) mod rfc2822;
+
 ghost use Rattle.std.specs.Prelude.{◌≡◌, ◌<◌, ◌≤◌, IfSome, IsTrue, Ok, None, [], ◌∷◌, false, map, pos, unwrap_or};
 ghost use Rattle.time_values.specs.Offsets.{HasOffset, offset_refusal};
 ghost use Rattle.time_values.specs.Range.{greatest_year};
@@ -21,6 +24,7 @@ ghost use Rattle.time_ffi.specs.Handed.{of_moment};
 use std::num::NonZero;
 use std::simd::prelude::*;
 use time_readers::combinator::fraction;
+use time_readers::direct::Said;
 use time_readers::rfc3339::Numbers;
 use time_values::{Date, Month, OffsetDateTime, Time, UtcOffset};
 
@@ -31,12 +35,12 @@ const GREATEST: [u8; 16] = *b"9999-19-39\xff29:59";
 
 // Whether each byte lies between the least and the greatest of its place.
 #[inline(always)]
-fn is_within(bytes: &[u8; 16]) -> bool
-    ensures { IsTrue result → AllWithin LEAST GREATEST bytes.now }
+fn is_within(bytes: &[u8; 16], least: [u8; 16], greatest: [u8; 16]) -> bool
+    ensures { IsTrue result → AllWithin least greatest bytes.now }
 {
     let bytes = u8x16::from_slice(bytes);
-    let above = bytes.simd_ge(u8x16::from_array(LEAST));
-    let below = bytes.simd_le(u8x16::from_array(GREATEST));
+    let above = bytes.simd_ge(u8x16::from_array(least));
+    let below = bytes.simd_le(u8x16::from_array(greatest));
     (above & below).all()
 }
 
@@ -70,7 +74,7 @@ fn to_second(text: &[u8]) -> Option<(Numbers, &[u8])>
     let [b':', tens @ b'0'..=b'5', ones @ b'0'..=b'9', rest @ ..] = rest else {
         return None;
     };
-    if !is_within(first) {
+    if !is_within(first, LEAST, GREATEST) {
         return None;
     }
     let [century, in_century, month, day, hour, minute, _, _] = pairs(first);
@@ -160,35 +164,49 @@ fn signed(is_negative: bool, value: u8) -> i8
     if is_negative { -value } else { value }
 }
 
-// The offset of the numbers. That of UTC is a constant.
+// What the numbers say.
 #[inline(always)]
-fn offset_of(numbers: Numbers) -> Option<UtcOffset>
+fn said(numbers: Numbers) -> Said
     requires hour { numbers.offset_hour ≤ 23 }
     requires minute { numbers.offset_minute ≤ 59 }
-    ensures { IfSome result (λ o. Constructs
-        (offset_refusal (said_rfc3339 numbers).offset_hour (said_rfc3339 numbers).offset_minute (pos 0))
-        (HasOffset (said_rfc3339 numbers).offset_hour (said_rfc3339 numbers).offset_minute (pos 0)) (Ok o)) }
+    ensures { result ≡ said_rfc3339 numbers }
 {
-    if numbers.offset_hour == 0 && numbers.offset_minute == 0 {
-        return Some(UtcOffset::UTC);
+    Said {
+        year: numbers.year,
+        month: numbers.month,
+        day: numbers.day,
+        hour: numbers.hour,
+        minute: numbers.minute,
+        second: numbers.second,
+        nanosecond: numbers.subsecond.unwrap_or(0),
+        offset_hour: signed(numbers.offset_is_negative, numbers.offset_hour),
+        offset_minute: signed(numbers.offset_is_negative, numbers.offset_minute),
     }
-    let hours = signed(numbers.offset_is_negative, numbers.offset_hour);
-    let minutes = signed(numbers.offset_is_negative, numbers.offset_minute);
-    UtcOffset::from_hms(hours, minutes, 0).ok()
 }
 
-// The date of the numbers. `None`: there is none.
+// The offset that is said. That of UTC is a constant. `None`: there is none.
+#[inline(always)]
+fn offset_of(said: Said) -> Option<UtcOffset>
+    ensures { IfSome result (λ o. Constructs (offset_refusal said.offset_hour said.offset_minute (pos 0))
+        (HasOffset said.offset_hour said.offset_minute (pos 0)) (Ok o)) }
+{
+    if said.offset_hour == 0 && said.offset_minute == 0 {
+        return Some(UtcOffset::UTC);
+    }
+    UtcOffset::from_hms(said.offset_hour, said.offset_minute, 0).ok()
+}
+
+// The date that is said. `None`: there is none.
 #[inline(always)]
 #[tactic(auto, using(crate::proofs::InPlace::date_of))]
-fn date_of(numbers: Numbers) -> Option<Date>
-    ensures { IfSome result (λ d. Constructs (date_refusal greatest_year (said_rfc3339 numbers))
-        (HasDate (said_rfc3339 numbers)) (Ok d)) }
+fn date_of(said: Said) -> Option<Date>
+    ensures { IfSome result (λ d. Constructs (date_refusal greatest_year said) (HasDate said) (Ok d)) }
 {
-    let number = NonZero::<u8>::new(numbers.month)?;
+    let number = NonZero::<u8>::new(said.month)?;
     let Ok(month) = Month::from_number(number) else {
         return None;
     };
-    match Date::from_calendar_date(i32::from(numbers.year), month, numbers.day) {
+    match Date::from_calendar_date(i32::from(said.year), month, said.day) {
         Ok(date) => Some(date),
         Err(_) => None,
     }
@@ -196,26 +214,22 @@ fn date_of(numbers: Numbers) -> Option<Date>
 
 // The time that a clock shows. `None`: there is none.
 #[inline(always)]
-fn clock_of(numbers: Numbers) -> Option<Time>
-    ensures { IfSome result (λ t. Constructs
-        (time_refusal numbers.hour numbers.minute numbers.second (unwrap_or numbers.subsecond 0))
-        (HasClock numbers.hour numbers.minute numbers.second (unwrap_or numbers.subsecond 0)) (Ok t)) }
+fn clock_of(said: Said) -> Option<Time>
+    ensures { IfSome result (λ t. Constructs (time_refusal said.hour said.minute said.second said.nanosecond)
+        (HasClock said.hour said.minute said.second said.nanosecond) (Ok t)) }
 {
-    let nanosecond = numbers.subsecond.unwrap_or(0);
-    Time::from_hms_nano(numbers.hour, numbers.minute, numbers.second, nanosecond).ok()
+    Time::from_hms_nano(said.hour, said.minute, said.second, said.nanosecond).ok()
 }
 
-// The moment of the numbers. `None`: one is out of its range.
+// The moment that is said, which is no leap second. `None`: a number is out of its range.
 #[inline(always)]
-fn made(numbers: Numbers) -> Option<OffsetDateTime>
-    requires second { numbers.second < 60 }
-    requires hour { numbers.offset_hour ≤ 23 }
-    requires minute { numbers.offset_minute ≤ 59 }
-    ensures { IfSome result (λ v. IsMade greatest_year (said_rfc3339 numbers) v) }
+fn made(said: Said) -> Option<OffsetDateTime>
+    requires { said.second < 60 }
+    ensures { IfSome result (λ v. IsMade greatest_year said v) }
 {
-    let offset = offset_of(numbers)?;
-    let date = date_of(numbers)?;
-    let time = clock_of(numbers)?;
+    let offset = offset_of(said)?;
+    let date = date_of(said)?;
+    let time = clock_of(said)?;
     Some(OffsetDateTime::new_in_offset(date, time, offset))
 }
 
@@ -227,5 +241,5 @@ pub(super) fn moment(text: &[u8]) -> Option<OffsetDateTime>
 {
     let (numbers, rest) = to_second(text)?;
     let (numbers, rest) = subsecond(numbers, rest)?;
-    made(offset(numbers, rest)?)
+    made(said(offset(numbers, rest)?))
 }

@@ -1,9 +1,8 @@
-use Rattle.time_readers.specs.Direct.{said_rfc3339}
 use Rattle.time_ffi.proofs.InPlace.{made_of}
 use Rattle.time_ffi.proofs.moments.fast.made.Goals as goal
 
 pub returns : goal.returns
 returns c =
     let made = c.new_in_offset.ensures in
-    made_of (said_rfc3339 c.args.numbers) c.new_in_offset.result c.requires.second (rw made.date c.in_ok-date.ensures)
+    made_of c.args.said c.new_in_offset.result c.requires (rw made.date c.in_ok-date.ensures)
     (rw made.time c.in_ok-time.ensures) (rw made.offset c.in_ok-offset.ensures)

@@ -1,0 +1,18 @@
+use Rattle.std.proofs.Common.{◌∙◌, ◌∷◌, [], get_or, ap, sym, rules}
+use Rattle.time_digits.specs.Digits.{AllDigits}
+use Rattle.time_readers.specs.IsoDates.{date_text}
+use Rattle.time_readers.specs.IsoPieces.{numbered, months}
+use Rattle.time_digits.proofs.CutLemmas.{take-drop}
+use Rattle.time_readers.proofs.IsoCalendarDates.{basic_date, first_eight}
+use Rattle.time_ffi.proofs.moments.fast.iso8601.basic_date.Goals as goal
+
+pub returns : goal.returns
+returns c =
+    let s = c.args.text.now in
+    let long = c.in-48-to-57.len_at_least in
+    let date = c.in_ok-date.ensures in
+    let d : AllDigits (get_or s 0 0 ∷ get_or s 1 0 ∷ get_or s 2 0 ∷ get_or s 3 0
+    ∷ get_or s 4 0 ∷ get_or s 5 0 ∷ get_or s 6 0 ∷ get_or s 7 0 ∷ []) = search rules in
+    rw (take-drop s 8 long, date.3, c.two_digits.ensures, c.two_digits-2.ensures, c.two_digits-4.ensures)
+    (ap date_text (first_eight s long) ∙ basic_date _ _ _ _ _ _ _ _ _ _ d.0 d.1.0 d.1.1.0 d.1.1.1.0 d.1.1.1.1.0 d.1.1.1.1.1.0 d.1.1.1.1.1.1.0 d.1.1.1.1.1.1.1.0
+    (ap (numbered months) (sym c.two_digits-3.ensures) ∙ date.1) (λ e. date.2 (c.two_digits-4.ensures ∙ e)))

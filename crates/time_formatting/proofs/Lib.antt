@@ -1,0 +1,4 @@
+pub mod Counts
+pub mod Digits
+pub mod IsoWeeks
+pub mod Walking

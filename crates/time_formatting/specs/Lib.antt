@@ -1,0 +1,6 @@
+pub mod Components
+pub mod Numbers
+pub mod Steps
+pub mod Texts
+pub mod Unformattable
+pub mod Years

@@ -1,4 +1,5 @@
 pub mod Components
+pub mod Laws
 pub mod Numbers
 pub mod Steps
 pub mod Texts

@@ -2,6 +2,7 @@
 #![tactic(auto)]
 
 mod component;
+pub mod laws;
 mod names;
 mod numbers;
 mod unformattable;

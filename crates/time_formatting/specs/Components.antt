@@ -18,7 +18,7 @@ use Rattle.time_values.specs.Times as Times
 use Rattle.time_values.specs.Weekday.{days_from_monday}
 use Rattle.time_values.specs.declared.offset_date_time.OffsetDateTime.{OffsetDateTime}
 use Rattle.time_values.specs.declared.weekday.Weekday.{Weekday}
-use Rattle.time_values.proofs.NumberLemmas.{weekday_at}
+use Rattle.time_values.specs.declared.weekday.Weekday.TheVariants.{Monday, Tuesday, Wednesday, Thursday, Friday, Saturday, Sunday}
 use Rattle.time_formatting.specs.Numbers.{count_text, padded, sign_text}
 use Rattle.time_formatting.specs.Years.{century, full_year, in_standard_range, iso_week, iso_year}
 use Rattle.time_formatting.specs.declared.unformattable.Unformattable.{Unformattable}
@@ -31,6 +31,12 @@ hour_12 h = if h % 12 == 0 then 12 else h % 12
 -- the half of the day
 abbrev pub half_of : ℕ → Period
 half_of h = if nat_lt h 12 then Am else Pm
+
+-- the weekday so many days after Monday
+abbrev pub weekday_at : ℕ → Weekday
+weekday_at n =
+    if n == 0 then Monday else if n == 1 then Tuesday else if n == 2 then Wednesday else
+    if n == 3 then Thursday else if n == 4 then Friday else if n == 5 then Saturday else Sunday
 
 -- the weekday of the date
 unfoldable pub weekday_of : ℕ → OffsetDateTime → Weekday

@@ -1,0 +1,45 @@
+-- The text of a moment by a description. `Y` is the greatest year.
+use Rattle.std.specs.Prelude.{ℕ, List, [], ◌++◌, length, nat_le, if◌then◌else◌, Result, Ok, Err}
+use Rattle.time_components.specs.Tree.{Tree, Trees, literal, component, sequence, optional, first_of, none, more}
+use Rattle.time_values.specs.Shown.{Items}
+use Rattle.time_values.specs.declared.offset_date_time.OffsetDateTime.{OffsetDateTime}
+use Rattle.time_formatting.specs.Components.{component_text}
+use Rattle.time_formatting.specs.declared.unformattable.Unformattable.{Unformattable}
+use Rattle.time_formatting.specs.declared.unformattable.Unformattable.TheVariants.{TooLong}
+
+-- the bytes after those that stand, where they are 35 at most
+abbrev pub joined : List ℕ → List ℕ → Result (List ℕ) Unformattable
+joined before bytes = if nat_le (length (before ++ bytes)) 35 then Ok (before ++ bytes) else Err TooLong
+
+-- the next text, unless there is a reason that there is none
+abbrev pub and_then : Result (List ℕ) Unformattable → (List ℕ → Result (List ℕ) Unformattable)
+    → Result (List ℕ) Unformattable
+and_then (Ok bytes) next = next bytes
+and_then (Err why) next = Err why
+
+abbrev mutual
+  -- The bytes that stand, with the text of a tree after them: a literal as it is, a component's text, each tree of a
+  -- list in turn, an optional tree, and the first of a choice. Or the first reason why there is no such text.
+  pub text_after : ℕ → OffsetDateTime → List ℕ → Tree → Result (List ℕ) Unformattable
+  text_after Y v before (literal bytes) = joined before bytes
+  text_after Y v before (component whole c) = and_then (component_text Y v c) (joined before)
+  text_after Y v before (sequence ts) = texts_after Y v before ts
+  text_after Y v before (optional t) = text_after Y v before t
+  text_after Y v before (first_of ts) = first_after Y v before ts
+
+  pub texts_after : ℕ → OffsetDateTime → List ℕ → Trees → Result (List ℕ) Unformattable
+  texts_after Y v before none = Ok before
+  texts_after Y v before (more t ts) = and_then (text_after Y v before t) (λ bytes. texts_after Y v bytes ts)
+
+  pub first_after : ℕ → OffsetDateTime → List ℕ → Trees → Result (List ℕ) Unformattable
+  first_after Y v before none = Ok before
+  first_after Y v before (more t ts) = text_after Y v before t
+
+-- the text of a moment by a tree, or the first reason why there is none
+abbrev pub text_of : ℕ → OffsetDateTime → Tree → Result (List ℕ) Unformattable
+text_of Y v tree = text_after Y v [] tree
+
+-- a text as its bytes, or the reason
+abbrev pub bytes_of : Result Items Unformattable → Result (List ℕ) Unformattable
+bytes_of (Ok text) = Ok text.items
+bytes_of (Err why) = Err why

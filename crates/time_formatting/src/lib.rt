@@ -1,0 +1,14 @@
+//! Texts of moments by descriptions. None takes memory: a text is an array and a length.
+#![tactic(auto)]
+
+mod component;
+pub mod laws;
+mod names;
+mod numbers;
+mod unformattable;
+mod walk;
+mod years;
+
+pub use time_values::text::Text;
+pub use unformattable::Unformattable;
+pub use walk::format;

@@ -1,0 +1,99 @@
+//! Numbers under a padding, signs, and counts of units since 1970.
+ghost use Rattle.std.specs.Prelude.{◌≡◌, ◌+◌, ◌^◌, ◌≤◌, ◌<◌, ◌++◌, length, unsigned_abs};
+ghost use Rattle.time_formatting.specs.Numbers.{count_text, filled, padded, sign_text};
+ghost use Rattle.time_formatting.specs.Numbers as numbers;
+
+use itoa::Buffer;
+use time_components::Padding;
+use time_values::digits::pair;
+use time_values::text::Text;
+
+// What stands for a zero in front of a number.
+fn filler(padding: Padding) -> &'static [u8]
+    ensures bytes { result.now ≡ numbers.filler padding }
+    ensures bound { length result.now ≤ 1 }
+{
+    match padding {
+        Padding::Zero => b"0",
+        Padding::Space => b" ",
+        Padding::None => b"",
+    }
+}
+
+/// Puts the digits of a number, with what the padding has for each zero in front of them. There must be room for all.
+#[tactic(auto, using(crate::proofs::Digits::filled_one, crate::proofs::Digits::filled_other))]
+pub(crate) fn append_digits(text: &mut Text, digits: &[u8], padding: Padding)
+    requires { length text.old.items + length digits.now ≤ 35 }
+    ensures text { text.new.items ≡ text.old.items ++ filled (numbers.filler padding) digits.now }
+    ensures room { length text.new.items ≤ length text.old.items + length digits.now }
+{
+    let fill = filler(padding);
+    let mut left = digits;
+    while left.len() > 1 && left[0] == b'0' {
+        text.append(fill);
+        left = &left[1..];
+    }
+    text.append(left);
+}
+
+/// The last two digits of a number under the padding.
+#[tactic(auto, using(crate::proofs::Digits::two_of))]
+pub(crate) fn two_places(padding: Padding, number: u8) -> Text
+    ensures { result.items ≡ padded padding 2 number }
+{
+    let mut text = Text::new();
+    append_digits(&mut text, &pair(number % 100), padding);
+    text
+}
+
+/// The last three digits of a number under the padding.
+pub(crate) fn three_places(padding: Padding, number: u16) -> Text
+    ensures { result.items ≡ padded padding 3 number }
+{
+    let [tens, ones] = pair((number % 100) as u8);
+    let mut text = Text::new();
+    append_digits(
+        &mut text,
+        &[b'0' + (number / 100 % 10) as u8, tens, ones],
+        padding,
+    );
+    text
+}
+
+/// Puts `-` for a number below 0, and `+` for another where a sign has to stand. There must be room for it.
+pub(crate) fn append_sign(text: &mut Text, is_behind: bool, is_mandatory: bool)
+    requires { length text.old.items ≤ 34 }
+    ensures text { text.new.items ≡ text.old.items ++ sign_text is_behind is_mandatory }
+    ensures room { length text.new.items ≤ length text.old.items + 1 }
+{
+    if is_behind {
+        text.append(b"-");
+    } else if is_mandatory {
+        text.append(b"+");
+    }
+}
+
+// The magnitude of whole units, rounded down.
+fn count(nanoseconds: i128, unit: u128) -> u128
+    requires unit { 1 ≤ unit }
+    ensures value { result ≡ unsigned_abs (numbers.whole unit nanoseconds) }
+{
+    let magnitude = nanoseconds.unsigned_abs();
+    if nanoseconds < 0 {
+        (magnitude - 1) / unit + 1
+    } else {
+        magnitude / unit
+    }
+}
+
+/// The whole units of that many nanoseconds, rounded down, as a decimal number with its sign.
+pub(crate) fn count_of_units(nanoseconds: i128, unit: u128, sign_is_mandatory: bool) -> Text
+    requires unit { 1 ≤ unit }
+    requires nanoseconds { unsigned_abs nanoseconds < 10 ^ 30 }
+    ensures { result.items ≡ count_text unit sign_is_mandatory nanoseconds }
+{
+    let mut text = Text::new();
+    append_sign(&mut text, nanoseconds < 0, sign_is_mandatory);
+    text.append(Buffer::new().format(count(nanoseconds, unit)).as_bytes());
+    text
+}

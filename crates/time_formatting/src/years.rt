@@ -1,0 +1,187 @@
+//! Years and centuries.
+ghost use Rattle.std.specs.Prelude.{◌≡◌, ◌+◌, ◌≤◌, ◌<◌, ◌++◌, length, nat_le, option_map, unsigned_abs};
+ghost use Rattle.time_values.specs.Calendar.{IsYear};
+ghost use Rattle.time_values.specs.Moments.{offset_date};
+ghost use Rattle.time_values.specs.Range.{greatest_year};
+ghost use Rattle.time_formatting.specs.Components as components;
+ghost use Rattle.time_formatting.specs.Texts.{bytes_of};
+ghost use Rattle.time_formatting.specs.Years as years;
+
+use crate::numbers::{append_digits, append_sign};
+use crate::unformattable::Unformattable;
+use time_components::{Component, Padding};
+use time_values::OffsetDateTime;
+use time_values::digits::{five, four, pair, six};
+use time_values::text::Text;
+
+// Puts the sign of a year.
+fn append_year_sign(text: &mut Text, sign_is_mandatory: bool, year: i32)
+    requires { length text.old.items ≤ 34 }
+    ensures text { text.new.items ≡ text.old.items ++ years.year_sign sign_is_mandatory year }
+    ensures room { length text.new.items ≤ length text.old.items + 1 }
+{
+    append_sign(text, year < 0, sign_is_mandatory || year > 9999);
+}
+
+// A year.
+fn full(sign_is_mandatory: bool, padding: Padding, year: i32) -> Text
+    requires { IsYear greatest_year year }
+    ensures { result.items ≡ years.full_year sign_is_mandatory padding year }
+{
+    let mut text = Text::new();
+    append_year_sign(&mut text, sign_is_mandatory, year);
+    let number = year.unsigned_abs();
+    if number < 10_000 {
+        append_digits(&mut text, &four(number), padding);
+    } else if number < 100_000 {
+        text.append(&five(number));
+    } else {
+        text.append(&six(number));
+    }
+    text
+}
+
+// A year without its last two digits.
+fn century(sign_is_mandatory: bool, padding: Padding, year: i32) -> Text
+    requires { IsYear greatest_year year }
+    ensures { result.items ≡ years.century sign_is_mandatory padding year }
+{
+    let mut text = Text::new();
+    append_year_sign(&mut text, sign_is_mandatory, year);
+    let number = year.unsigned_abs() / 100;
+    if number < 100 {
+        append_digits(&mut text, &pair(number as u8), padding);
+        return text;
+    }
+    let [a, b, c, d] = four(number);
+    if number < 1000 {
+        text.append(&[b, c, d]);
+    } else {
+        text.append(&[a, b, c, d]);
+    }
+    text
+}
+
+// Whether a year has four digits at most.
+fn is_standard(year: i32) -> bool
+    ensures { result ≡ nat_le (unsigned_abs year) 9999 }
+{
+    year.unsigned_abs() <= 9999
+}
+
+// A year of four digits at most, or why there is no text.
+fn standard_full(
+    sign_is_mandatory: bool,
+    padding: Padding,
+    year: i32,
+) -> Result<Text, Unformattable>
+    requires { IsYear greatest_year year }
+    ensures { bytes_of result ≡ years.in_standard_range year (years.full_year sign_is_mandatory padding year) }
+{
+    if is_standard(year) {
+        Ok(full(sign_is_mandatory, padding, year))
+    } else {
+        Err(Unformattable::Year)
+    }
+}
+
+// Such a year without its last two digits, or why there is no text.
+fn standard_century(
+    sign_is_mandatory: bool,
+    padding: Padding,
+    year: i32,
+) -> Result<Text, Unformattable>
+    requires { IsYear greatest_year year }
+    ensures { bytes_of result ≡ years.in_standard_range year (years.century sign_is_mandatory padding year) }
+{
+    if is_standard(year) {
+        Ok(century(sign_is_mandatory, padding, year))
+    } else {
+        Err(Unformattable::Year)
+    }
+}
+
+/// The year of the date's ISO week.
+pub(crate) fn iso_year(value: &OffsetDateTime) -> i32
+    ensures value { result ≡ years.iso_year greatest_year (offset_date value.now) }
+    ensures within { IsYear greatest_year result }
+{
+    let (year, _, _) = value.date().to_iso_week_date();
+    year
+}
+
+/// The number of the date's ISO week.
+pub(crate) fn iso_week(value: &OffsetDateTime) -> u8
+    ensures { result ≡ years.iso_week greatest_year (offset_date value.now) }
+{
+    let (_, week, _) = value.date().to_iso_week_date();
+    week
+}
+
+/// The text of a component that is a whole year, or `None` where it is none.
+pub(crate) fn year_text(
+    value: &OffsetDateTime,
+    component: Component,
+) -> Option<Result<Text, Unformattable>>
+    ensures { option_map bytes_of result ≡ components.year_of greatest_year value.now component }
+{
+    let year = value.date().year();
+    let text = match component {
+        Component::CalendarYearFullExtendedRange(m) => Ok(full(
+            m.sign_is_mandatory,
+            m.padding,
+            year,
+        )),
+        Component::CalendarYearFullStandardRange(m) => standard_full(
+            m.sign_is_mandatory,
+            m.padding,
+            year,
+        ),
+        Component::IsoYearFullExtendedRange(m) => Ok(full(
+            m.sign_is_mandatory,
+            m.padding,
+            iso_year(value),
+        )),
+        Component::IsoYearFullStandardRange(m) => standard_full(
+            m.sign_is_mandatory,
+            m.padding,
+            iso_year(value),
+        ),
+        _ => return None,
+    };
+    Some(text)
+}
+
+/// The text of a component that is a year without its last two digits, or `None` where it is none.
+pub(crate) fn century_text(
+    value: &OffsetDateTime,
+    component: Component,
+) -> Option<Result<Text, Unformattable>>
+    ensures { option_map bytes_of result ≡ components.century_of greatest_year value.now component }
+{
+    let year = value.date().year();
+    let text = match component {
+        Component::CalendarYearCenturyExtendedRange(m) => Ok(century(
+            m.sign_is_mandatory,
+            m.padding,
+            year,
+        )),
+        Component::CalendarYearCenturyStandardRange(m) => standard_century(
+            m.sign_is_mandatory,
+            m.padding,
+            year,
+        ),
+        Component::IsoYearCenturyExtendedRange(m) => Ok(century(
+            m.sign_is_mandatory,
+            m.padding,
+            iso_year(value),
+        )),
+        Component::IsoYearCenturyStandardRange(m) => standard_century(
+            m.sign_is_mandatory,
+            m.padding,
+            iso_year(value),
+        ),
+        _ => return None,
+    };
+    Some(text)
+}

@@ -4,11 +4,13 @@
 mod completions;
 mod opening;
 mod output;
+mod progress;
 
 use clap::ArgMatches;
 use completions::completions_of;
 use opening::Disk;
-use output::Watched;
+use output::{Erasing, Watched};
+use progress::{Progress, Telling};
 use std::alloc::AllocError;
 use std::io::{BufWriter, ErrorKind, IsTerminal, Write};
 use std::process::ExitCode;
@@ -56,22 +58,24 @@ fn tell_unwritten(rt: &HostRuntime, failure: Option<ErrorKind>) -> io::Result<()
 }
 
 // Answers the files, and gives the exit status.
-fn answer(rt: &HostRuntime, request: &Request<'_>, names: &[&[u8]]) -> io::Result<u8> {
+fn answer(
+    rt: &HostRuntime,
+    request: &Request<'_>,
+    names: &[&[u8]],
+    telling: Telling,
+) -> io::Result<u8> {
+    let progress = Progress::new(rt, telling);
     let out = Watched::new(io::writer(rt));
-    let log = BufWriter::new(rt.alloc(), rt.stderr())?;
+    let log = BufWriter::new(rt.alloc(), Erasing::new(rt.stderr(), &progress))?;
     let mut stream = Stream::new(out, log);
-    let stop = match serve(
-        request,
-        names,
-        &Disk::new(rt),
-        &mut stream,
-        &mut Block::new(),
-    ) {
+    let disk = Disk::new(rt, &progress);
+    let stop = match serve(request, names, &disk, &mut stream, &mut Block::new()) {
         Ok(()) => None,
         Err(stop) => Some(stop),
     };
     let (out, log, tally) = stream.into_parts();
     drop(log);
+    progress.erase();
     if let Some(Stop::Unwritten) = stop {
         tell_unwritten(rt, out.failure())?;
     }
@@ -94,13 +98,29 @@ fn complete(rt: &HostRuntime, shell: &str) -> io::Result<u8> {
     }
 }
 
-// Whether reports go to a terminal that shows colours.
-fn shows_colors(rt: &HostRuntime) -> bool {
+// Whether reports go to a terminal that isn't dumb.
+fn has_terminal(rt: &HostRuntime) -> bool {
     let is_dumb = match env::var(rt, "TERM") {
         Ok(name) => name.as_str() == "dumb",
         Err(_) => false,
     };
-    rt.stderr().is_terminal() && env::var(rt, "NO_COLOR").is_err() && !is_dumb
+    rt.stderr().is_terminal() && !is_dumb
+}
+
+// Whether reports go to a terminal that shows colours.
+fn shows_colors(rt: &HostRuntime) -> bool {
+    has_terminal(rt) && env::var(rt, "NO_COLOR").is_err()
+}
+
+// How it is told how far a file was read. Where standard output is a terminal, too, no line is written over another's end.
+fn telling_of(rt: &HostRuntime, matches: &ArgMatches<'_>) -> Telling {
+    if !matches.get_flag("progress") {
+        Telling::Nothing
+    } else if has_terminal(rt) && !rt.stdout().is_terminal() {
+        Telling::OneLine
+    } else {
+        Telling::Lines
+    }
 }
 
 // Does what the options ask for.
@@ -110,7 +130,7 @@ fn follow(rt: &HostRuntime, matches: &ArgMatches<'_>) -> io::Result<u8> {
     }
     let names = names_of(rt, matches)?;
     match Request::new(rt.alloc(), &Options::of(matches), shows_colors(rt)) {
-        Ok(request) => answer(rt, &request, names.as_slice()),
+        Ok(request) => answer(rt, &request, names.as_slice(), telling_of(rt, matches)),
         Err(fault) => tell(rt, fault),
     }
 }

@@ -1,6 +1,9 @@
 //! Files and standard input, by their names.
+use crate::progress::{Meter, Progress};
+use std::fs::{Metadata, OpenFile};
 use std::io::Read;
 use std::rt::Files;
+use std::time::Clock;
 use std::{fs, io};
 use time_rewriting::Opening;
 
@@ -8,12 +11,7 @@ use time_rewriting::Opening;
 #[derive(Drop)]
 pub(crate) struct Disk<'a, R> {
     rt: &'a R,
-}
-
-impl<'a, R> Disk<'a, R> {
-    pub(crate) fn new(rt: &'a R) -> Disk<'a, R> {
-        Disk { rt }
-    }
+    progress: &'a Progress<'a, R>,
 }
 
 /// What is read.
@@ -34,20 +32,83 @@ impl<F: Read + Drop, I: Read + Drop> Read for Source<F, I> {
     }
 }
 
-impl<R: Files + Input> Opening for Disk<'_, R> {
-    type Input = Source<R::File, R::Reader>;
+/// A reader that tells how far it has come.
+#[derive(Drop)]
+pub(crate) struct Metered<'a, R, S: Drop> {
+    source: S,
+    meter: Option<Meter>,
+    progress: &'a Progress<'a, R>,
+}
+
+impl<R: Clock + Eprint, S: Read + Drop> Read for Metered<'_, R, S> {
+    ghost remaining = { λ metered. S.remaining metered.source };
+
+    // Before a read all that was read is answered and every report is written to its end. It is left on its own, as the
+    // loop that calls it is compiled by its size.
+    #[inline(never)]
+    fn read(&mut self, buf: &mut [u8]) -> io::Result<usize> {
+        let Some(meter) = &mut self.meter else {
+            return self.source.read(buf);
+        };
+        self.progress.tell(meter);
+        let n = self.source.read(buf)?;
+        meter.count(n);
+        Ok(n)
+    }
+}
+
+// The size of a file, where it has one.
+fn size_of(metadata: io::Result<Metadata>) -> Option<u64> {
+    match metadata.ok()?.len() {
+        0 => None,
+        size => Some(size),
+    }
+}
+
+impl<'a, R: Files + Input + Clock + Eprint + AllocGlobal> Disk<'a, R> {
+    pub(crate) fn new(rt: &'a R, progress: &'a Progress<'a, R>) -> Disk<'a, R> {
+        Disk { rt, progress }
+    }
+
+    // The source, whose progress is told where that is wanted.
+    fn metered(
+        &self,
+        name: &str,
+        source: Source<R::File, R::Reader>,
+    ) -> Metered<'a, R, Source<R::File, R::Reader>> {
+        let meter = if self.progress.is_wanted() {
+            let size = match &source {
+                Source::File(file) => size_of(file.metadata()),
+                Source::Input(_) => size_of(fs::metadata(self.rt, "/dev/stdin")),
+            };
+            self.progress.begin(self.rt.alloc(), name, size)
+        } else {
+            None
+        };
+        Metered {
+            source,
+            meter,
+            progress: self.progress,
+        }
+    }
+}
+
+impl<'a, R: Files + Input + Clock + Eprint + AllocGlobal> Opening for Disk<'a, R> {
+    type Input = Metered<'a, R, Source<R::File, R::Reader>>;
 
     ghost bytes_of = { λ _ _. None };
 
     ghost use Rattle.std.specs.Prelude.{None};
 
-    fn open(&self, name: &[u8]) -> io::Result<Source<R::File, R::Reader>> {
+    #[inline(never)]
+    fn open(&self, name: &[u8]) -> io::Result<Metered<'a, R, Source<R::File, R::Reader>>> {
+        self.progress.erase();
         if name == b"-".as_slice() {
-            return Ok(Source::Input(self.rt.reader()));
+            return Ok(self.metered("-", Source::Input(self.rt.reader())));
         }
         let Ok(path) = std::str::from_utf8(name) else {
             return Err(io::Error::from(io::ErrorKind::InvalidInput));
         };
-        Ok(Source::File(fs::open(self.rt, path)?))
+        Ok(self.metered(path, Source::File(fs::open(self.rt, path)?)))
     }
 }

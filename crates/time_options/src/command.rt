@@ -1,5 +1,5 @@
 //! The command line, from the table of the options.
-use crate::table::{COMPLETIONS, EXAMPLES, Kind, Row, SECTIONS};
+use crate::table::{EXAMPLES, Kind, OTHERS, Row, SECTIONS};
 use clap::{Arg, ArgAction, ArgGroup, Command};
 use std::alloc::{AllocError, Global};
 
@@ -78,7 +78,7 @@ pub fn make_command<'a>(alloc: Global) -> Result<Command<'a>, AllocError> {
             "Rewrites the time in each line of files, or of standard input, and leaves every\nother byte as it is.",
         )
         .after_help(EXAMPLES)
-        .arg(files(alloc))?
-        .arg(option(alloc, &COMPLETIONS)?)?;
+        .arg(files(alloc))?;
+    let command = add(alloc, command, OTHERS)?;
     add_sections(alloc, command)?.group(one_place(alloc)?)
 }

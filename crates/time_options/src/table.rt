@@ -254,10 +254,17 @@ pub(crate) static SECTIONS: [(&str, &[Row]); 5] = [
     ("What becomes of refused lines", REPORTS),
 ];
 
-/// The option that prints completions, under no heading.
-pub(crate) const COMPLETIONS: Row = Row {
-    name: "completions",
-    kind: Kind::Text("SHELL"),
-    help: "Prints the completions of bash, zsh or fish",
-    ..FLAG
-};
+/// The options under no heading.
+pub(crate) const OTHERS: &[Row] = &[
+    Row {
+        name: "progress",
+        help: "Tells how far a long file was read",
+        ..FLAG
+    },
+    Row {
+        name: "completions",
+        kind: Kind::Text("SHELL"),
+        help: "Prints the completions of bash, zsh or fish",
+        ..FLAG
+    },
+];

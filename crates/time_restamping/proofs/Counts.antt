@@ -1,11 +1,11 @@
 -- Units since 1970 have few digits.
-use Rattle.std.proofs.Common.{◌≡◌, ℕ, suc, ◌+◌, ◌^◌, ◌<◌, ◌≤◌, ℤ, pos, negsuc, length, arith}
+use Rattle.std.proofs.Common.{◌≡◌, suc, ◌≤◌, ℤ, pos, negsuc, length, arith}
 use Rattle.std.specs.Prelude.{neg_ℤ, ◌≤ℤ◌}
 use Rattle.std.specs.Fmt.{signed_decimal}
 use Rattle.std.specs.Int.{w128, cast_signed as to_z, cast_unsigned as of_z}
 use Rattle.std.proofs.lemmas.Fmt.{length-decimal-le_wide}
 use Rattle.std.proofs.lemmas.Int.{ints, to_z-of_z}
-use Rattle.time_values.specs.Instants.{IsInstant, IsWhole, first_instant, last_instant}
+use Rattle.time_values.specs.Instants.{IsInstant, IsWhole}
 use Rattle.time_values.specs.Range.{greatest_year}
 use Rattle.time_values.proofs.InstantLemmas.{first_instant_is, last_instant_is}
 

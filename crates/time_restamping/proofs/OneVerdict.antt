@@ -24,7 +24,7 @@ use Rattle.time_parsing.specs.exact.Iso8601Laws.{iso8601_exact}
 use Rattle.time_parsing.specs.exact.Rfc2822Laws.{rfc2822_exact}
 use Rattle.time_parsing.specs.exact.Rfc3339Laws.{rfc3339_exact}
 use Rattle.time_parsing.proofs.OneOutcome.{one_moment_outcome, one_front}
-use Rattle.time_restamping.specs.Job.{Verdict, IsPut, IsJudgedAt, IsJudgedAnywhere, IsJudged, SaysNear, SaysNoneBefore, IsFirst, is_kept, missed, verdict_of, refused, dropped}
+use Rattle.time_restamping.specs.Job.{Verdict, IsPut, IsJudgedAt, IsJudgedAnywhere, SaysNear, SaysNoneBefore, IsFirst, is_kept, missed, verdict_of, refused, dropped}
 use Rattle.time_restamping.specs.Laws.{OneVerdict}
 use Rattle.time_restamping.specs.Reading.{IsReadBy, IsRead, Says, Undated, undated, is_after, year_after, IsReadInYear, AreYearsTried, IsDated, AreTried, IsReadInTurn, all_of, front_of, guarded}
 use Rattle.time_restamping.specs.Described.{tree_of}

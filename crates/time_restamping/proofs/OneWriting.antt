@@ -1,12 +1,11 @@
 -- A moment has one text in a form.
-use Rattle.std.proofs.Common.{◌≡◌, ℕ, ℤ, pos, ◌+ℤ◌, ◌*ℤ◌, List, sym, ap, subst, refl, arith, ◌∙◌, None, Some, Ok, Err}
-use Rattle.std.specs.Prelude.{Option, Result, MatchOption, IsOkAnd}
+use Rattle.std.proofs.Common.{◌≡◌, ℕ, ℤ, List, sym, ap, subst, refl, arith, ◌∙◌, None, Some, Ok, Err}
+use Rattle.std.specs.Prelude.{Option, Result, MatchOption}
 use Rattle.std.proofs.lemmas.Int.{ints}
 use Rattle.std.specs.Fmt.{signed_decimal}
 use Rattle.time_values.specs.Clocks.{shown_at}
 use Rattle.time_values.specs.Instants.{IsInstant, IsWhole, clock_nanos}
 use Rattle.time_values.specs.Moments.{offset_date, offset_time, offset_of, offset_instant}
-use Rattle.time_values.specs.Offsets.{offset_seconds}
 use Rattle.time_values.specs.Range.{greatest_year}
 use Rattle.time_values.specs.Shown.{Items}
 use Rattle.time_values.specs.declared.offset_date_time.OffsetDateTime.{OffsetDateTime}

@@ -7,7 +7,7 @@ use Rattle.std.proofs.Math.Seq.{drop-cons}
 use Rattle.time_parsing.specs.Outcome.{begun}
 use Rattle.time_record.specs.Record.{Record}
 use Rattle.time_values.specs.declared.offset_date_time.OffsetDateTime.{OffsetDateTime}
-use Rattle.time_restamping.specs.Reading.{AreTried, Says, Undated, undated, is_after, year_after, IsReadInYear, AreYearsTried, IsDated}
+use Rattle.time_restamping.specs.Reading.{AreTried, Says, Undated, undated, is_after, year_after, IsReadInYear, AreYearsTried, IsDated, IsReadInTurn}
 use Rattle.time_restamping.specs.Reason.{Reason}
 use Rattle.time_restamping.specs.declared.reading.Defaults.{Defaults}
 use Rattle.time_restamping.specs.declared.reading.Reading.{Reading}
@@ -43,7 +43,7 @@ on_none : {V : Type 0} (o : Option V) (P : Type 0) (Q : V → Type 0) → o ≡ 
 on_none None P Q e p = p
 on_none (Some v) P Q e p = absurd cc
 
-on_some : {V : Type 0} (o : Option V) (v : V) (P : Type 0) (Q : V → Type 0) → o ≡ Some v → Q v → MatchOption o P Q
+pub on_some : {V : Type 0} (o : Option V) (v : V) (P : Type 0) (Q : V → Type 0) → o ≡ Some v → Q v → MatchOption o P Q
 on_some None v P Q e q = absurd cc
 on_some (Some w) v P Q e q = let same : v ≡ w = cc in subst Q same q
 
@@ -94,6 +94,11 @@ module _ (Y : ℕ) (u : Undated) (year : ℤ) (reason : Reason) (result : Result
   years-none (suc n) some read later =
       let k : suc n - 1 ≡ n = omega arith in
       (None, read, subst (λ (m : ℕ). AreYearsTried Y u m (year -ℤ pos 1) reason result) k later)
+
+-- what a text says by the first of several formats
+pub in_turn-first : (Y : ℕ) (format : Reading) (formats : List Reading) (is_open : Bool) (text : List ℕ) (defaults : Defaults) (s : Said)
+    → Says Y format is_open text defaults.parts (Ok s) → IsReadInTurn Y format formats is_open text defaults (Ok s)
+in_turn-first Y format formats is_open text defaults s says = (Ok s, (Ok s, says, refl), refl)
 
 -- what a text says that may leave its year out
 module _ (Y : ℕ) (format : Reading) (is_open : Bool) (text : List ℕ) (defaults : Defaults) (e : Reason) where

@@ -52,15 +52,19 @@ IsPut Y job start said verdict = MatchBool (is_kept Y job said.moment)
 abbrev pub missed : Job → Verdict
 missed job = if job.asks_for_times then refused 1 missing else without
 
--- The verdict on a line whose time stands at that place: it is read by the first of the formats that reads it, and
--- written anew where it lies within the bounds.
+-- The verdict on a line of which a part from a byte on is the time: it is read by the first of the formats that reads
+-- it, and written anew where it lies within the bounds.
+abbrev pub IsJudgedPart : ℕ → Job → Bool → ℕ → List ℕ → Verdict → Type 0
+IsJudgedPart Y job is_open start text verdict =
+    (read : Result Said Reason)
+    × IsReadInTurn Y job.first.now job.others.now is_open text job.defaults read
+    × MatchResult read (λ said. IsPut Y job start said verdict) (λ e. verdict ≡ refused (start + 1) e)
+
+-- The verdict on a line whose time stands at that place.
 abbrev pub IsJudgedAt : ℕ → Job → Place → List ℕ → Verdict → Type 0
 IsJudgedAt Y job place line verdict =
     MatchOption (span_of place line) (verdict ≡ missed job)
-    (λ span. (read : Result Said Reason)
-    × IsReadInTurn Y job.first.now job.others.now (is_open place)
-    (slice_range line span.start span.stop) job.defaults read
-    × MatchResult read (λ said. IsPut Y job span.start said verdict) (λ e. verdict ≡ refused (span.start + 1) e))
+    (λ span. IsJudgedPart Y job (is_open place) span.start (slice_range line span.start span.stop) verdict)
 
 -- what a front of a text says, of which so many bytes count
 abbrev pub SaysNear : ℕ → Job → List ℕ → Result Said Reason → Type 0

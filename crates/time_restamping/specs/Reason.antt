@@ -1,5 +1,5 @@
 -- Why a time isn't rewritten.
-use Rattle.std.specs.Prelude.{List, ◌++◌, codes, ℕ, Result, Ok, Err}
+use Rattle.std.specs.Prelude.{List, codes, ℕ, Result, Ok, Err}
 use Rattle.time_formatting.specs.Unformattable.{unformattable_text}
 use Rattle.time_formatting.specs.declared.unformattable.Unformattable.{Unformattable}
 use Rattle.time_values.specs.Refusal.{Refusal, refusal_of}

@@ -1,5 +1,5 @@
 //! How a time is written.
-ghost use Rattle.std.specs.Prelude.{◌≡◌, ◌≤◌, length, codes, MatchResult};
+ghost use Rattle.std.specs.Prelude.{◌≡◌, ◌≤◌, length, codes, MatchOption, MatchResult};
 ghost use Rattle.std.specs.Fmt.{signed_decimal};
 ghost use Rattle.time_values.specs.Range.{greatest_year};
 ghost use Rattle.time_descriptions.specs.Description.{shape};
@@ -7,6 +7,7 @@ ghost use Rattle.time_formatting.specs.Texts.{text_of};
 ghost use Rattle.time_restamping.specs.Form as spec;
 ghost use Rattle.time_values.specs.Instants.{IsInstant, IsWhole};
 ghost use Rattle.time_values.specs.Moments.{nanoseconds, offset_instant};
+ghost use Rattle.time_restamping.specs.declared.form.Unit.TheVariants.{Milliseconds, Microseconds, Nanoseconds};
 ghost use Rattle.time_restamping.specs.Reason.{out_of_range, seen, seen_written};
 
 use crate::reading::MOST_STEPS;
@@ -109,20 +110,19 @@ fn wide_number(count: i128) -> Text
 
 // The whole seconds of the moment since 1970, if it has a date in UTC. They cost far less than its nanoseconds.
 #[inline(always)]
-fn seconds_of(moment: OffsetDateTime) -> Result<i64, Reason>
-    ensures { MatchResult result
+fn seconds_of(moment: OffsetDateTime) -> Option<i64>
+    ensures { MatchOption result (¬ IsInstant greatest_year (offset_instant greatest_year moment))
         (λ z. IsInstant greatest_year (offset_instant greatest_year moment)
-        × IsWhole 1_000_000_000 (offset_instant greatest_year moment) z)
-        (λ e. (seen e ≡ out_of_range) × (¬ IsInstant greatest_year (offset_instant greatest_year moment))) }
+        × IsWhole 1_000_000_000 (offset_instant greatest_year moment) z) }
 {
     let seconds = moment.unix_timestamp();
     if seconds < FIRST_SECOND {
-        return Err(Reason::OutOfRange);
+        return None;
     }
     if LAST_SECOND < seconds {
-        return Err(Reason::OutOfRange);
+        return None;
     }
-    Ok(seconds)
+    Some(seconds)
 }
 
 // Its nanoseconds since 1970, if it has a date in UTC.
@@ -138,16 +138,43 @@ fn stamp_of(moment: OffsetDateTime) -> Result<Timestamp, Reason>
     }
 }
 
+// Its milliseconds since 1970. None of these is inlined, so that their results take no place where seconds are written.
+#[inline(never)]
+fn write_milliseconds(moment: OffsetDateTime) -> Result<Text, Reason>
+    ensures { spec.IsCounted greatest_year Milliseconds moment (seen_written result) }
+{
+    Ok(number(stamp_of(moment)?.as_milliseconds()))
+}
+
+// Its microseconds since 1970.
+#[inline(never)]
+fn write_microseconds(moment: OffsetDateTime) -> Result<Text, Reason>
+    ensures { spec.IsCounted greatest_year Microseconds moment (seen_written result) }
+{
+    Ok(wide_number(stamp_of(moment)?.as_microseconds()))
+}
+
+// Its nanoseconds since 1970.
+#[inline(never)]
+fn write_nanoseconds(moment: OffsetDateTime) -> Result<Text, Reason>
+    ensures { spec.IsCounted greatest_year Nanoseconds moment (seen_written result) }
+{
+    Ok(wide_number(stamp_of(moment)?.nanoseconds()))
+}
+
 // The units of the moment since 1970.
 #[inline(always)]
 fn write_count(moment: OffsetDateTime, unit: Unit) -> Result<Text, Reason>
     ensures { spec.IsCounted greatest_year unit moment (seen_written result) }
 {
     match unit {
-        Unit::Seconds => Ok(number(seconds_of(moment)?)),
-        Unit::Milliseconds => Ok(number(stamp_of(moment)?.as_milliseconds())),
-        Unit::Microseconds => Ok(wide_number(stamp_of(moment)?.as_microseconds())),
-        Unit::Nanoseconds => Ok(wide_number(stamp_of(moment)?.nanoseconds())),
+        Unit::Seconds => match seconds_of(moment) {
+            Some(seconds) => Ok(number(seconds)),
+            None => Err(Reason::OutOfRange),
+        },
+        Unit::Milliseconds => write_milliseconds(moment),
+        Unit::Microseconds => write_microseconds(moment),
+        Unit::Nanoseconds => write_nanoseconds(moment),
     }
 }
 

@@ -1,11 +1,12 @@
 //! What becomes of a line.
-ghost use Rattle.std.specs.Prelude.{◌≡◌, ◌≤◌, ◌<◌, ◌+◌, ◌^◌, length, IfOk, IfSome};
+ghost use Rattle.std.specs.Prelude.{◌≡◌, ◌≤◌, ◌<◌, ◌+◌, ◌^◌, length, Err, IfOk, IfSome};
 ghost use Rattle.time_values.specs.Range.{greatest_year};
 ghost use Rattle.time_restamping.specs.Job as spec;
-ghost use Rattle.time_restamping.specs.Reason.{seen_read};
+ghost use Rattle.time_restamping.specs.Reading.{Says};
+ghost use Rattle.time_restamping.specs.Reason.{seen, seen_read};
 
 use crate::form::{Form, write_moment};
-use crate::reading::{Defaults, Reading, Said, read_in_turn};
+use crate::reading::{Defaults, Reading, Said, read_further, read_in_turn, read_once};
 use crate::reason::Reason;
 use std::cmp::Ordering;
 use time_cutting::{Place, find_span};
@@ -126,17 +127,35 @@ impl Job<'_> {
         let Some(span) = find_span(place, line) else {
             return self.miss();
         };
-        match read_in_turn(
+        let is_open = place.is_open();
+        let text = &line[span.start..span.stop];
+        match read_once(self.first, is_open, text, &self.defaults.parts) {
+            Ok(said) => self.put(span.start, said),
+            Err(reason) => self.judge_further(span.start, is_open, text, reason),
+        }
+    }
+
+    // The verdict on a line of which a part says nothing by the first format as it stands, for that reason. It isn't inlined,
+    // so that what is read by the others takes no place beside what is read by the first.
+    #[inline(never)]
+    fn judge_further(&self, start: usize, is_open: bool, text: &[u8], reason: Reason) -> Verdict
+        requires start { start + 1 < 2 ^ 64 }
+        requires says { Says greatest_year self.now.first.now is_open text.now self.now.defaults.parts (Err (seen reason)) }
+        ensures verdict { spec.IsJudgedPart greatest_year self.now is_open start text.now (spec.seen_verdict result) }
+        ensures within { spec.IsWithin (start + length text.now) (spec.seen_verdict result) }
+    {
+        match read_further(
             self.first,
             self.others,
-            place.is_open(),
-            &line[span.start..span.stop],
+            is_open,
+            text,
             &self.defaults,
+            reason,
         ) {
-            Ok(said) => self.put(span.start, said),
-            Err(reason) => Verdict::Refused {
-                column: span.start + 1,
-                reason,
+            Ok(said) => self.put(start, said),
+            Err(why) => Verdict::Refused {
+                column: start + 1,
+                reason: why,
             },
         }
     }

@@ -3,7 +3,6 @@ ghost use Rattle.std.specs.Prelude.{◌≡◌, MatchResult};
 ghost use Rattle.time_descriptions.specs.Description.{shape, version_of};
 ghost use Rattle.time_descriptions.specs.Grammar.{Describes};
 ghost use Rattle.time_descriptions.specs.Strftime.{DescribesStrftime};
-ghost use Rattle.time_restamping.specs.Described.{tree_of};
 ghost use Rattle.time_restamping.specs.Naming as spec;
 
 use crate::described::Described;

@@ -141,9 +141,9 @@ fn is_negative_fraction(number: &[u8]) -> bool
     !number.is_empty() && number[0] == b'-' && number.contains(&b'.')
 }
 
-// What the text says by the format; where it is open what a front of it says.
+/// What [`read`] says, in line.
 #[inline(always)]
-fn read_once(
+pub(crate) fn read_once(
     reading: &Reading,
     is_open: bool,
     text: &[u8],
@@ -299,10 +299,8 @@ fn read_others(
     Err(reason)
 }
 
-// What a text says that says nothing by the first of the formats as it stands, for that reason. It isn't inlined, so that
-// its results take no place beside that of the first format.
-#[inline(never)]
-fn read_further(
+/// What a text says that says nothing by the first of the formats as it stands, for that reason.
+pub(crate) fn read_further(
     first: &Reading,
     others: &[Reading],
     is_open: bool,
@@ -332,7 +330,7 @@ pub fn read_in_turn(
     ensures said { spec.IsReadInTurn greatest_year first.now others.now is_open text.now defaults.now (seen_read result) }
     ensures within { IfOk result (λ said. said.length ≤ length text.now) }
 {
-    match read_once(first, is_open, text, &defaults.parts) {
+    match read(first, is_open, text, &defaults.parts) {
         Ok(said) => Ok(said),
         Err(reason) => read_further(first, others, is_open, text, defaults, reason),
     }

@@ -1,4 +1,4 @@
-use Rattle.std.proofs.Common.{Ok, Err}
+use Rattle.std.proofs.Common.{Ok}
 use Rattle.time_values.specs.Range.{greatest_year}
 use Rattle.time_restamping.specs.Reason.{seen}
 use Rattle.time_restamping.proofs.ReadingLemmas.{tried-here, tried-later}

@@ -1,5 +1,4 @@
-use Rattle.std.proofs.Common.{◌-◌, ℤ, pos, sym, subst, arith, ◌∙◌, None, Some, Ok, Err}
-use Rattle.std.specs.Prelude.{◌-ℤ◌}
+use Rattle.std.proofs.Common.{◌-◌, ℤ, sym, subst, arith, ◌∙◌, None, Some, Ok, Err}
 use Rattle.std.specs.Int.{w32}
 use Rattle.std.proofs.lemmas.Int.{ints, to_z-of_z}
 use Rattle.time_values.specs.Range.{greatest_year}

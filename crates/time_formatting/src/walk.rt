@@ -13,7 +13,11 @@ use time_components::{Component, Group, Step};
 use time_values::OffsetDateTime;
 use time_values::text::Text;
 
-/// The text of a moment by a description.
+/// The text of a moment by the steps of a description, of at most 35 bytes. What is optional is written, and of a choice the
+/// first.
+///
+/// A moment without such a text is refused, by the first reason from the left: a component of the standard range meets a
+/// year outside -9999 to 9999, an `ignore` stands, or the text would pass 35 bytes.
 pub fn format(value: OffsetDateTime, steps: &[Step]) -> Result<Text, Unformattable>
     ensures { bytes_of result ≡ text_of greatest_year value (steps_shape steps.now) }
 {

@@ -1,6 +1,5 @@
 -- What is wrong with an option, without where its value lies in memory, and how it is told.
 use Rattle.std.specs.Prelude.{ℕ, List, codes, Option, None, Some}
-use Rattle.time_descriptions.specs.Refusal.{refusal_of, refusal_text}
 use Rattle.time_restamping.specs.Naming as naming
 use Rattle.time_restamping.specs.Reason.{Reason, seen, reason_text}
 use Rattle.time_commanding.specs.declared.fault.Fault as declared
@@ -12,7 +11,7 @@ pub data Fault : Type 0 where
   field : List ℕ → Fault
   delimiter : List ℕ → Fault
   from : List ℕ → naming.Fault → Fault
-  to : List ℕ → Fault
+  to : List ℕ → naming.Fault → Fault
   year : List ℕ → Fault
   offset : List ℕ → Fault
   zone : List ℕ → Fault
@@ -28,9 +27,8 @@ abbrev pub told : declared.Fault → Fault
 told fault.Memory = memory
 told (fault.Field value) = field value.now
 told (fault.Delimiter value) = delimiter value.now
-told (fault.UnknownFormat value) = from value.now naming.unnamed
-told (fault.Description value error) = from value.now (naming.faulty (refusal_of error))
-told (fault.To value) = to value.now
+told (fault.From value why) = from value.now (naming.fault_of why)
+told (fault.To value why) = to value.now (naming.fault_of why)
 told (fault.Year value) = year value.now
 told (fault.Offset value) = offset value.now
 told (fault.Zone value) = zone value.now
@@ -47,7 +45,7 @@ place_of memory = None
 place_of (field value) = Some (codes "--field <N>", value)
 place_of (delimiter value) = Some (codes "--delimiter <BYTE>", value)
 place_of (from value why) = Some (codes "--from <FORMAT>", value)
-place_of (to value) = Some (codes "--to <FORMAT>", value)
+place_of (to value why) = Some (codes "--to <FORMAT>", value)
 place_of (year value) = Some (codes "--year <YEAR>", value)
 place_of (offset value) = Some (codes "--offset <OFFSET>", value)
 place_of (zone value) = Some (codes "--zone <ZONE>", value)
@@ -63,9 +61,8 @@ abbrev pub why_text : Fault → Option (List ℕ)
 why_text memory = Some (codes "out of memory")
 why_text (field value) = Some (codes "it is not a number from 1 to 18446744073709551615")
 why_text (delimiter value) = Some (codes "it is not one byte")
-why_text (from value naming.unnamed) = Some (codes "no format has this name, and a description has a `[` or a `%`")
-why_text (from value (naming.faulty refusal)) = refusal_text refusal
-why_text (to value) = Some (codes "no format has this name")
+why_text (from value why) = naming.fault_text why
+why_text (to value why) = naming.fault_text why
 why_text (year value) = Some (codes "it is not a year from -999999 to 999999")
 why_text (offset value) = Some (codes "it is no offset such as +05:30")
 why_text (zone value) = Some (codes "it is not keep, utc or an offset such as +05:30")

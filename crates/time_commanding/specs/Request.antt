@@ -8,7 +8,7 @@ use Rattle.time_cutting.specs.declared.fields.Fields.{Fields}
 use Rattle.time_cutting.specs.declared.fields.Fields.TheVariants.{Delimited, Blank, Quoted}
 use Rattle.time_record.specs.Record.{Record}
 use Rattle.time_restamping.specs.Naming as naming
-use Rattle.time_restamping.specs.Naming.{Means, meaning_of, way_of, writing_named}
+use Rattle.time_restamping.specs.Naming.{Means, MeansWriting, meaning_of, way_of}
 use Rattle.time_restamping.specs.declared.naming.FormatFault as declared_fault
 use Rattle.time_restamping.specs.Reason.{Reason, seen}
 use Rattle.time_restamping.specs.declared.reason.Reason as declared
@@ -109,7 +109,7 @@ zone_of o = if o.utc then codes "utc" else o.zone.now
 
 -- How a time is written.
 pub record IsForm (Y : ℕ) (o : Options) (form : Form) : Type 0 where
-  pub writing : writing_named o.to.now ≡ Some form.writing
+  pub writing : MeansWriting o.to.now form.writing
   pub digits : digits_of o.digits.now ≡ Some form.digits
   pub zone : IsZone Y (zone_of o) (Some form.offset)
 
@@ -180,7 +180,7 @@ IsFault Y o fault.memory = Unit {0}
 IsFault Y o (fault.field value) = (text_behind o.field ≡ Some value) × IsPositive value None
 IsFault Y o (fault.delimiter value) = (value ≡ o.delimiter.now) × (delimiter_of value ≡ None)
 IsFault Y o (fault.from value why) = IsOneOf (o.from.now ∷ other_names o) value × naming.IsFault (way_of value) why
-IsFault Y o (fault.to value) = (value ≡ o.to.now) × (writing_named value ≡ None)
+IsFault Y o (fault.to value why) = (value ≡ o.to.now) × naming.IsWritingFault value why
 IsFault Y o (fault.year value) =
     (r : Record) × IsOffsetRecord Y o.offset.now (Some r) × (text_behind o.year ≡ Some value) × IsYeared Y value r None
 IsFault Y o (fault.offset value) = (value ≡ o.offset.now) × IsOffsetRecord Y value None
@@ -198,7 +198,7 @@ pub record IsJobOf (r : Request) (job : Job) : Type 0 where
   pub first : job.first.now ≡ r.first
   pub others : job.others.now ≡ r.others.items
   pub defaults : job.defaults ≡ r.defaults
-  pub form : job.form ≡ r.form
+  pub form : job.form.now ≡ r.form
   pub since : job.since ≡ r.since
   pub until : job.until ≡ r.until
   pub asks_for_times : job.asks_for_times ≡ r.strict

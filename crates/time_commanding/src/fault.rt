@@ -4,8 +4,7 @@ ghost use Rattle.std.specs.Option.{option_map};
 ghost use Rattle.time_commanding.specs.Fault as spec;
 
 use std::fmt;
-use time_descriptions::InvalidFormatDescription;
-use time_restamping::Reason;
+use time_restamping::{FormatFault, Reason};
 
 /// Why the options ask for nothing: an option that doesn't take its value.
 #[derive(Clone, Copy)]
@@ -17,11 +16,9 @@ pub enum Fault<'a> {
     /// `--delimiter` takes one byte.
     Delimiter(&'a str),
     /// `--from` takes a format's name, or a description.
-    UnknownFormat(&'a str),
-    /// The description that `--from` has is faulty.
-    Description(&'a str, InvalidFormatDescription<'a>),
-    /// `--to` takes a format's name.
-    To(&'a str),
+    From(&'a str, FormatFault<'a>),
+    /// `--to` takes the name of a format that times are written by, or a description.
+    To(&'a str, FormatFault<'a>),
     /// `--year` takes a year from -999999 to 999999.
     Year(&'a str),
     /// `--offset` takes an offset.
@@ -51,9 +48,8 @@ impl<'a> Fault<'a> {
             Fault::Memory => None,
             Fault::Field(value) => Some(("--field <N>", value)),
             Fault::Delimiter(value) => Some(("--delimiter <BYTE>", value)),
-            Fault::UnknownFormat(value) => Some(("--from <FORMAT>", value)),
-            Fault::Description(value, _) => Some(("--from <FORMAT>", value)),
-            Fault::To(value) => Some(("--to <FORMAT>", value)),
+            Fault::From(value, _) => Some(("--from <FORMAT>", value)),
+            Fault::To(value, _) => Some(("--to <FORMAT>", value)),
             Fault::Year(value) => Some(("--year <YEAR>", value)),
             Fault::Offset(value) => Some(("--offset <OFFSET>", value)),
             Fault::Zone(value) => Some(("--zone <ZONE>", value)),
@@ -75,14 +71,8 @@ impl fmt::Display for Fault<'_> {
             Fault::Memory => write!(f, "out of memory"),
             Fault::Field(_) => write!(f, "it is not a number from 1 to 18446744073709551615"),
             Fault::Delimiter(_) => write!(f, "it is not one byte"),
-            Fault::UnknownFormat(_) => {
-                write!(
-                    f,
-                    "no format has this name, and a description has a `[` or a `%`"
-                )
-            }
-            Fault::Description(_, error) => write!(f, "{error}"),
-            Fault::To(_) => write!(f, "no format has this name"),
+            Fault::From(_, why) => write!(f, "{why}"),
+            Fault::To(_, why) => write!(f, "{why}"),
             Fault::Year(_) => write!(f, "it is not a year from -999999 to 999999"),
             Fault::Offset(_) => write!(f, "it is no offset such as +05:30"),
             Fault::Zone(_) => write!(f, "it is not keep, utc or an offset such as +05:30"),

@@ -1,9 +1,8 @@
 //! What the options ask for.
 ghost use Rattle.std.specs.Prelude.{◌≡◌, [], IfErr, MatchResult, OnOk, Some, map};
 ghost use Rattle.time_values.specs.Range.{greatest_year};
-ghost use Rattle.time_restamping.specs.Naming.{fault_of, Means, meaning_of, way_of};
+ghost use Rattle.time_restamping.specs.Naming.{Means, meaning_of, way_of};
 ghost use Rattle.time_options.specs.Options.{other_names, text_behind};
-ghost use Rattle.time_commanding.specs.Fault as fault;
 ghost use Rattle.time_commanding.specs.Fault.{told};
 ghost use Rattle.time_commanding.specs.Request as spec;
 
@@ -107,16 +106,6 @@ fn find_place<'a>(options: &Options<'_, 'a>) -> Result<Option<Place<'a>>, Fault<
     }
 }
 
-// The fault of a format.
-fn format_fault<'a>(name: &'a str, why: FormatFault<'a>) -> Fault<'a>
-    ensures { told result ≡ fault.from name.now (fault_of why.entry) }
-{
-    match why {
-        FormatFault::Unknown => Fault::UnknownFormat(name),
-        FormatFault::Description(error) => Fault::Description(name, error),
-    }
-}
-
 // Adds the formats of those names. One that is none is handed back, with its fault; nothing is where memory is short.
 fn add_formats<'a>(
     names: &[&'a str],
@@ -182,8 +171,9 @@ fn find_form<'a>(options: &Options<'_, 'a>) -> Result<Form, Fault<'a>>
     ensures { MatchResult result (λ form. spec.IsForm greatest_year options.now form)
         (λ fault. spec.IsFault greatest_year options.now (told fault)) }
 {
-    let Some(writing) = find_writing(options.to.as_bytes()) else {
-        return Err(Fault::To(options.to));
+    let writing = match find_writing(options.to.as_bytes()) {
+        Ok(writing) => writing,
+        Err(why) => return Err(Fault::To(options.to, why)),
     };
     let zone = zone_of(options);
     let Some(offset) = find_zone(zone) else {
@@ -293,12 +283,12 @@ impl<'a> Request<'a> {
         let place = find_place(options)?;
         let first = match find_reading(options.from.as_bytes()) {
             Ok(first) => first,
-            Err(why) => return Err(format_fault(options.from, why)),
+            Err(why) => return Err(Fault::From(options.from, why)),
         };
         let mut others = Vec::new(alloc);
         match add_others(options, &mut others) {
             Ok(()) => {}
-            Err(Some((name, why))) => return Err(format_fault(name, why)),
+            Err(Some((name, why))) => return Err(Fault::From(name, why)),
             Err(None) => return Err(Fault::Memory),
         }
         let defaults = match find_defaults(options, &first, others.as_slice()) {
@@ -341,7 +331,7 @@ impl<'a> Request<'a> {
             first: &self.first,
             others: self.others.as_slice(),
             defaults: self.defaults,
-            form: self.form,
+            form: &self.form,
             since: self.since,
             until: self.until,
             asks_for_times: self.strict,

@@ -3,13 +3,14 @@
 /// The end of the help.
 pub(crate) const EXAMPLES: &str = "Examples:
   tail -f access.log | restamp -b [ ] -f common -u
+  restamp -b [ ] -f common -u -t '%d/%b/%Y:%H:%M:%S %z' access.log
   restamp -a 'Date: ' -f rfc2822 mbox
   restamp -k 3 --csv -f '[day]/[month]/[year] [hour]:[minute]' orders.csv
   restamp -l -f syslog --year 2026 -s 2026-11-25T12:00:00Z syslog
 
-FORMAT of --from is rfc3339, rfc2822, iso8601, unix, unix-ms, unix-us, unix-ns,
-common (access logs), syslog; or a description, as `[year]-[month]-[day]` or
-as strftime has it, `%Y-%m-%d`. FORMAT of --to is one of the first seven.
+FORMAT is rfc3339, rfc2822, iso8601, unix, unix-ms, unix-us, unix-ns; or a
+description, as `[year]-[month]-[day]` or as strftime has it, `%Y-%m-%d`;
+for --from also common (access logs) or syslog.
 The status is 0 where a time was rewritten, 1 where none was, and 2 after a
 wrong option, a file that was not read, a failed write, or a line that is
 refused under --strict.";

@@ -22,7 +22,7 @@ use Rattle.time_restamping.specs.declared.form.Form.{Form}
 use Rattle.time_restamping.specs.declared.form.Unit.{Unit as Unit_}
 use Rattle.time_restamping.specs.declared.form.Unit.TheVariants.{Seconds, Milliseconds, Microseconds, Nanoseconds}
 use Rattle.time_restamping.specs.declared.form.Writing.{Writing}
-use Rattle.time_restamping.specs.declared.form.Writing.TheVariants.{Rfc3339, Rfc2822, Iso8601, Count}
+use Rattle.time_restamping.specs.declared.form.Writing.TheVariants.{Rfc3339, Rfc2822, Iso8601, Count, Described}
 
 -- what the clock of a moment shows
 clock_is : (v : OffsetDateTime)
@@ -94,6 +94,7 @@ one_by Rfc3339 digits v a b p q = p.2 ∙ ap written (one_text _ _ p.0 q.0 p.1 q
 one_by Rfc2822 digits v a b p q = p.2 ∙ ap written (one_mail _ v p.0 q.0 p.1 q.1) ∙ sym q.2
 one_by Iso8601 digits v a b p q = p.2 ∙ ap written (one_text _ _ p.0 q.0 p.1 q.1) ∙ sym q.2
 one_by (Count unit) digits v a b p q = one_count unit v a b p q
+one_by (Described d) digits v a b p q = p ∙ sym q
 
 one_at : (form : Form) (shown other : Option OffsetDateTime) (a b : Result Items Reason) → shown ≡ other
     → MatchOption shown (a ≡ Err out_of_range) (λ w. IsWrittenBy greatest_year form.writing form.digits w a)

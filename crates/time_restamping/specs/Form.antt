@@ -1,6 +1,9 @@
 -- How a time is written. `Y` is the greatest year.
-use Rattle.std.specs.Prelude.{◌≡◌, ℕ, ℤ, Option, None, Some, Result, Ok, Err, MatchOption}
+use Rattle.std.specs.Prelude.{◌≡◌, ℕ, ℤ, List, Option, None, Some, Result, Ok, Err, MatchOption}
 use Rattle.std.specs.Fmt.{signed_decimal}
+use Rattle.time_descriptions.specs.Description.{shape}
+use Rattle.time_formatting.specs.Texts.{text_of}
+use Rattle.time_formatting.specs.declared.unformattable.Unformattable.{Unformattable}
 use Rattle.time_values.specs.Clocks.{shown_at}
 use Rattle.time_values.specs.Instants.{IsInstant, IsWhole}
 use Rattle.time_values.specs.Moments.{offset_instant, offset_of, offset_time}
@@ -11,17 +14,22 @@ use Rattle.time_values.specs.declared.utc_offset.UtcOffset.{UtcOffset}
 use Rattle.time_writing.specs.Texts.{Writes, WritesSuch, IsMailText, moment_text, count_of, unwritable_3339, unwritable_2822}
 use Rattle.time_writing.specs.declared.fraction.FractionDigits.{FractionDigits}
 use Rattle.time_writing.specs.declared.unwritable.Unwritable.{Unwritable}
-use Rattle.time_restamping.specs.Reason.{Reason, unwritable, out_of_range}
+use Rattle.time_restamping.specs.Reason.{Reason, unwritable, unformattable, out_of_range}
 use Rattle.time_restamping.specs.declared.form.Form.{Form}
 use Rattle.time_restamping.specs.declared.form.Unit.{Unit as Unit_}
 use Rattle.time_restamping.specs.declared.form.Unit.TheVariants.{Seconds, Milliseconds, Microseconds, Nanoseconds}
 use Rattle.time_restamping.specs.declared.form.Writing.{Writing}
-use Rattle.time_restamping.specs.declared.form.Writing.TheVariants.{Rfc3339, Rfc2822, Iso8601, Count}
+use Rattle.time_restamping.specs.declared.form.Writing.TheVariants.{Rfc3339, Rfc2822, Iso8601, Count, Described}
 
 -- a text, or that there is none
 abbrev pub written : Result Items Unwritable → Result Items Reason
 written (Ok text) = Ok text
 written (Err why) = Err (unwritable why)
+
+-- the same of a text by a description
+abbrev pub described : Result (List ℕ) Unformattable → Result Items Reason
+described (Ok bytes) = Ok (record { items = bytes })
+described (Err why) = Err (unformattable why)
 
 -- The moment on a clock with the offset, if one is given and the clock shows a date there.
 abbrev pub IsShown : ℕ → Option UtcOffset → OffsetDateTime → Option OffsetDateTime → Type 0
@@ -55,6 +63,7 @@ IsWrittenBy Y Rfc2822 digits v result =
 IsWrittenBy Y Iso8601 digits v result =
     (text : Result Items Unwritable) × Writes (unwritable_3339 v) (moment_text 9 v) text × (result ≡ written text)
 IsWrittenBy Y (Count unit) digits v result = IsCounted Y unit v result
+IsWrittenBy Y (Described d) digits v result = result ≡ described (text_of Y v (shape d))
 
 -- the same at the offset that is asked for
 abbrev pub IsWritten : ℕ → Form → OffsetDateTime → Result Items Reason → Type 0

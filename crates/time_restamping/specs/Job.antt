@@ -45,7 +45,7 @@ verdict_of start said (Err e) = refused (start + 1) e
 
 abbrev pub IsPut : ℕ → Job → ℕ → Said → Verdict → Type 0
 IsPut Y job start said verdict = MatchBool (is_kept Y job said.moment)
-    ((text : Result Items Reason) × IsWritten Y job.form said.moment text × (verdict ≡ verdict_of start said text))
+    ((text : Result Items Reason) × IsWritten Y job.form.now said.moment text × (verdict ≡ verdict_of start said text))
     (verdict ≡ dropped)
 
 -- the verdict on a line that has no place for a time

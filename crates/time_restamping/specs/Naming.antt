@@ -1,12 +1,13 @@
 -- Formats by their names, and by descriptions.
-use Rattle.std.specs.Prelude.{◌≡◌, ◌==◌, Bool, ℕ, List, codes, Option, None, Some, if◌then◌else◌}
+use Rattle.std.specs.Prelude.{◌≡◌, ◌==◌, Bool, ℕ, List, codes, Option, None, Some, MatchOption, if◌then◌else◌}
 use Rattle.std.specs.List.{list_any}
 use Rattle.std.specs.Str.{bytes_eq}
 use Rattle.time_components.specs.Tree.{Tree}
-use Rattle.time_descriptions.specs.Description.{IsRefused, version_of}
+use Rattle.time_descriptions.specs.Description.{IsRefused, shape, version_of}
 use Rattle.time_descriptions.specs.Grammar.{Describes}
-use Rattle.time_descriptions.specs.Refusal.{Refusal, refusal_of}
+use Rattle.time_descriptions.specs.Refusal.{Refusal, refusal_of, refusal_text}
 use Rattle.time_descriptions.specs.Strftime.{DescribesStrftime, IsRefusedStrftime}
+use Rattle.time_descriptions.specs.declared.description.Description.{Description}
 use Rattle.time_restamping.specs.Described.{tree_of}
 use Rattle.time_restamping.specs.declared.form.Unit.TheVariants.{Seconds, Milliseconds, Microseconds, Nanoseconds}
 use Rattle.time_restamping.specs.declared.form.Writing.{Writing}
@@ -128,3 +129,19 @@ writing_named name =
     if bytes_eq name (codes "unix-ms") then Some (writing.Count Milliseconds) else
     if bytes_eq name (codes "unix-us") then Some (writing.Count Microseconds) else
     if bytes_eq name (codes "unix-ns") then Some (writing.Count Nanoseconds) else None
+
+-- A text means a format that times are written by: the one of that name, or else what it describes.
+abbrev pub MeansWriting : List ℕ → Writing → Type 0
+MeansWriting name result =
+    MatchOption (writing_named name)
+    ((d : Description MOST_STEPS) × Means (described_way name) (as_tree (shape d)) × (result ≡ writing.Described d))
+    (λ named. result ≡ named)
+
+-- why a text means none: it is no such name, and no description
+abbrev pub IsWritingFault : List ℕ → Fault → Type 0
+IsWritingFault name f = (writing_named name ≡ None) × IsFault (described_way name) f
+
+-- what is printed of a fault; of a word that a description has nothing is said
+abbrev pub fault_text : Fault → Option (List ℕ)
+fault_text unnamed = Some (codes "no format has this name, and a description has a `[` or a `%`")
+fault_text (faulty refusal) = refusal_text refusal

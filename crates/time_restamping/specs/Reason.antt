@@ -1,5 +1,7 @@
 -- Why a time isn't rewritten.
 use Rattle.std.specs.Prelude.{List, codes, ℕ, Result, Ok, Err}
+use Rattle.time_formatting.specs.Unformattable.{unformattable_text}
+use Rattle.time_formatting.specs.declared.unformattable.Unformattable.{Unformattable}
 use Rattle.time_values.specs.Refusal.{Refusal, refusal_of}
 use Rattle.time_values.specs.Shown.{Items}
 use Rattle.time_values.specs.Texts.{refusal_text}
@@ -9,12 +11,14 @@ use Rattle.time_restamping.specs.declared.reading.Said.{Said}
 use Rattle.time_restamping.specs.declared.reason.Reason as declared
 use Rattle.time_restamping.specs.declared.reason.Reason.TheVariants as variant
 
--- no format reads it, it has a fraction after a minus, it has no date at an offset, it has no text, or has no place
+-- no format reads it, it has a fraction after a minus, it has no date at an offset, it has no text by a format or by a
+-- description, or has no place
 pub data Reason : Type 0 where
   unread : Refusal → Reason
   negative_fraction : Reason
   out_of_range : Reason
   unwritable : Unwritable → Reason
+  unformattable : Unformattable → Reason
   missing : Reason
 
 -- the reason that a value stands for, without where its texts lie in memory
@@ -23,6 +27,7 @@ seen (variant.Unread e) = unread (refusal_of e)
 seen variant.NegativeFraction = negative_fraction
 seen variant.OutOfRange = out_of_range
 seen (variant.Unwritable why) = unwritable why
+seen (variant.Unformattable why) = unformattable why
 seen variant.Missing = missing
 
 -- what it prints
@@ -31,6 +36,7 @@ reason_text (unread e) = refusal_text e
 reason_text negative_fraction = codes "a fraction after a minus is read in two ways"
 reason_text out_of_range = codes "the time has no date at that offset"
 reason_text (unwritable why) = unwritable_text why
+reason_text (unformattable why) = unformattable_text why
 reason_text missing = codes "the line has no place for a time"
 
 -- results, with their errors so

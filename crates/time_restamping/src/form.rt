@@ -2,13 +2,18 @@
 ghost use Rattle.std.specs.Prelude.{◌≡◌, ◌≤◌, length, codes, MatchOption, MatchResult};
 ghost use Rattle.std.specs.Fmt.{signed_decimal};
 ghost use Rattle.time_values.specs.Range.{greatest_year};
+ghost use Rattle.time_descriptions.specs.Description.{shape};
+ghost use Rattle.time_formatting.specs.Texts.{text_of};
 ghost use Rattle.time_restamping.specs.Form as spec;
 ghost use Rattle.time_values.specs.Instants.{IsInstant, IsWhole};
 ghost use Rattle.time_values.specs.Moments.{nanoseconds, offset_instant};
 ghost use Rattle.time_restamping.specs.declared.form.Unit.TheVariants.{Milliseconds, Microseconds, Nanoseconds};
 ghost use Rattle.time_restamping.specs.Reason.{out_of_range, seen, seen_written};
 
+use crate::reading::MOST_STEPS;
 use crate::reason::Reason;
+use time_descriptions::Description;
+use time_formatting::format;
 use time_values::{OffsetDateTime, Timestamp, UtcOffset};
 use time_writing::{FractionDigits, Text, Unwritable, text_2822, text_3339, text_8601};
 
@@ -31,7 +36,7 @@ pub enum Unit {
 }
 
 /// The format that a time is written by.
-#[derive(Clone, Copy, Debug, PartialEq, Eq)]
+#[derive(Drop)]
 pub enum Writing {
     /// RFC 3339.
     Rfc3339,
@@ -41,10 +46,12 @@ pub enum Writing {
     Iso8601,
     /// A decimal number of units.
     Count(Unit),
+    /// By a description.
+    Described(Description<MOST_STEPS>),
 }
 
 /// All that says how a time is written.
-#[derive(Clone, Copy, Debug)]
+#[derive(Drop)]
 pub struct Form {
     /// The format.
     pub writing: Writing,
@@ -171,18 +178,34 @@ fn write_count(moment: OffsetDateTime, unit: Unit) -> Result<Text, Reason>
     }
 }
 
+// The text of the moment by a description, or why it has none. It isn't inlined, so that it takes no place beside the
+// texts of the named formats.
+#[inline(never)]
+fn write_described(
+    moment: OffsetDateTime,
+    description: &Description<MOST_STEPS>,
+) -> Result<Text, Reason>
+    ensures { seen_written result ≡ spec.described (text_of greatest_year moment (shape description.now)) }
+{
+    match format(moment, description.steps()) {
+        Ok(text) => Ok(text),
+        Err(why) => Err(Reason::Unformattable(why)),
+    }
+}
+
 /// The text of the moment, or why it has none.
 #[inline(always)]
-pub fn write_moment(moment: OffsetDateTime, form: Form) -> Result<Text, Reason>
-    ensures { spec.IsWritten greatest_year form moment (seen_written result) }
+pub fn write_moment(moment: OffsetDateTime, form: &Form) -> Result<Text, Reason>
+    ensures { spec.IsWritten greatest_year form.now moment (seen_written result) }
 {
     let Some(moment) = shown(moment, form.offset) else {
         return Err(Reason::OutOfRange);
     };
-    match form.writing {
+    match &form.writing {
         Writing::Rfc3339 => written(text_3339(moment, form.digits)),
         Writing::Rfc2822 => written(text_2822(moment)),
         Writing::Iso8601 => written(text_8601(moment)),
-        Writing::Count(unit) => write_count(moment, unit),
+        Writing::Count(unit) => write_count(moment, *unit),
+        Writing::Described(description) => write_described(moment, description),
     }
 }

@@ -28,7 +28,7 @@ pub struct Job<'a> {
     /// What stands for what a time leaves out.
     pub defaults: Defaults,
     /// How it is written.
-    pub form: Form,
+    pub form: &'a Form,
     /// Drops lines whose time is before.
     pub since: Option<OffsetDateTime>,
     /// Drops lines whose time isn't before.

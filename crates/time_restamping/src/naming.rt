@@ -1,16 +1,15 @@
 //! Formats by their names, and by descriptions.
 ghost use Rattle.std.specs.Prelude.{◌≡◌, MatchResult};
-ghost use Rattle.time_descriptions.specs.Description.{IsRefused, version_of};
+ghost use Rattle.time_descriptions.specs.Description.{shape, version_of};
 ghost use Rattle.time_descriptions.specs.Grammar.{Describes};
-ghost use Rattle.time_descriptions.specs.Refusal.{Refusal};
-ghost use Rattle.time_restamping.specs.Described.{tree_of};
+ghost use Rattle.time_descriptions.specs.Strftime.{DescribesStrftime};
 ghost use Rattle.time_restamping.specs.Naming as spec;
-ghost use Rattle.time_restamping.specs.declared.reading.TheConstants.{MOST_STEPS};
 
 use crate::described::Described;
 use crate::form::{Unit, Writing};
 use crate::reading::{MOST_STEPS, Reading};
-use time_descriptions::{InvalidFormatDescription, parse_borrowed, parse_strftime};
+use std::fmt;
+use time_descriptions::{Description, InvalidFormatDescription, parse_borrowed, parse_strftime};
 
 /// What is wrong with a format.
 #[derive(Clone, Copy, Debug)]
@@ -19,6 +18,22 @@ pub enum FormatFault<'a> {
     Unknown,
     /// The description is faulty.
     Description(InvalidFormatDescription<'a>),
+}
+
+impl fmt::Display for FormatFault<'_> {
+    ghost output = { λ fault. spec.fault_text (spec.fault_of fault) };
+
+    fn fmt<W: fmt::Write>(&self, f: &mut fmt::Formatter<W>) -> fmt::Result {
+        match self {
+            FormatFault::Unknown => {
+                write!(
+                    f,
+                    "no format has this name, and a description has a `[` or a `%`"
+                )
+            }
+            FormatFault::Description(error) => write!(f, "{error}"),
+        }
+    }
 }
 
 // How a format is named.
@@ -79,25 +94,23 @@ fn find_way(name: &[u8]) -> Way<'_>
 }
 
 // What the text describes in brackets.
-fn bracketed(text: &[u8]) -> Result<Described, FormatFault<'_>>
-    ensures { MatchResult result
-        (λ described. Describes (version_of 2) text.now (tree_of described))
-        (λ fault. (r : Refusal) × IsRefused MOST_STEPS (version_of 2) text.now r × (spec.fault_of fault ≡ spec.faulty r)) }
+fn bracketed(text: &[u8]) -> Result<Description<MOST_STEPS>, FormatFault<'_>>
+    ensures { MatchResult result (λ description. Describes (version_of 2) text.now (shape description))
+        (λ fault. spec.IsFault (spec.brackets text.now) (spec.fault_of fault)) }
 {
     match parse_borrowed::<2, MOST_STEPS>(text) {
-        Ok(description) => Ok(Described::new(description)),
+        Ok(description) => Ok(description),
         Err(error) => Err(FormatFault::Description(error)),
     }
 }
 
-// The format that the text describes as strftime has it.
-fn lettered(text: &[u8]) -> Result<Reading, FormatFault<'_>>
-    ensures { MatchResult result
-        (λ reading. spec.Means (spec.strftime text.now) (spec.meaning_of reading))
+// What the text describes as strftime has it.
+fn lettered(text: &[u8]) -> Result<Description<MOST_STEPS>, FormatFault<'_>>
+    ensures { MatchResult result (λ description. DescribesStrftime text.now (shape description))
         (λ fault. spec.IsFault (spec.strftime text.now) (spec.fault_of fault)) }
 {
     match parse_strftime::<MOST_STEPS>(text) {
-        Ok(description) => Ok(Reading::Described(Described::new(description))),
+        Ok(description) => Ok(description),
         Err(error) => Err(FormatFault::Description(error)),
     }
 }
@@ -114,17 +127,16 @@ pub fn find_reading(name: &[u8]) -> Result<Reading, FormatFault<'_>>
         Way::Rfc3339 => Ok(Reading::Rfc3339),
         Way::Rfc2822 => Ok(Reading::Rfc2822),
         Way::Iso8601 => Ok(Reading::Iso8601),
-        Way::Counted(text) => Ok(Reading::Counted(bracketed(text)?)),
-        Way::Complete(text) => Ok(Reading::Complete(bracketed(text)?)),
-        Way::Brackets(text) => Ok(Reading::Described(bracketed(text)?)),
-        Way::Strftime(text) => lettered(text),
+        Way::Counted(text) => Ok(Reading::Counted(Described::new(bracketed(text)?))),
+        Way::Complete(text) => Ok(Reading::Complete(Described::new(bracketed(text)?))),
+        Way::Brackets(text) => Ok(Reading::Described(Described::new(bracketed(text)?))),
+        Way::Strftime(text) => Ok(Reading::Described(Described::new(lettered(text)?))),
         Way::Unknown => Err(FormatFault::Unknown),
     }
 }
 
-/// The format of that name that times are written by: `rfc3339`, `rfc2822`, `iso8601`, `unix`, `unix-ms`, `unix-us` or
-/// `unix-ns`.
-pub fn find_writing(name: &[u8]) -> Option<Writing>
+// The format of that name that times are written by.
+fn find_named(name: &[u8]) -> Option<Writing>
     ensures { result ≡ spec.writing_named name.now }
 {
     if name == b"rfc3339".as_slice() {
@@ -143,5 +155,30 @@ pub fn find_writing(name: &[u8]) -> Option<Writing>
         Some(Writing::Count(Unit::Nanoseconds))
     } else {
         None
+    }
+}
+
+// What the text describes, in brackets or as strftime has it.
+fn find_description(text: &[u8]) -> Result<Description<MOST_STEPS>, FormatFault<'_>>
+    ensures { MatchResult result (λ description. spec.Means (spec.described_way text.now) (spec.as_tree (shape description)))
+        (λ fault. spec.IsFault (spec.described_way text.now) (spec.fault_of fault)) }
+{
+    match described_way(text) {
+        Way::Brackets(text) => bracketed(text),
+        Way::Strftime(text) => lettered(text),
+        _ => Err(FormatFault::Unknown),
+    }
+}
+
+/// The format that times are written by, of that name: `rfc3339`, `rfc2822`, `iso8601`, `unix`, `unix-ms`, `unix-us` or
+/// `unix-ns`; or the one that the text describes, in brackets where it has a `[`, else as strftime has it where it has a
+/// `%`.
+pub fn find_writing(name: &[u8]) -> Result<Writing, FormatFault<'_>>
+    ensures { MatchResult result (λ writing. spec.MeansWriting name.now writing)
+        (λ fault. spec.IsWritingFault name.now (spec.fault_of fault)) }
+{
+    match find_named(name) {
+        Some(writing) => Ok(writing),
+        None => Ok(Writing::Described(find_description(name)?)),
     }
 }

@@ -3,6 +3,7 @@ ghost use Rattle.std.specs.Prelude.{Some};
 ghost use Rattle.time_restamping.specs.Reason.{seen, reason_text};
 
 use std::fmt;
+use time_formatting::Unformattable;
 use time_values::error::Parse;
 use time_writing::Unwritable;
 
@@ -17,6 +18,8 @@ pub enum Reason {
     OutOfRange,
     /// The format that is asked for has no text for it.
     Unwritable(Unwritable),
+    /// The description that is asked for has no text for it.
+    Unformattable(Unformattable),
     /// The line has no place for a time.
     Missing,
 }
@@ -32,6 +35,7 @@ impl fmt::Display for Reason {
             }
             Reason::OutOfRange => write!(f, "the time has no date at that offset"),
             Reason::Unwritable(why) => write!(f, "{why}"),
+            Reason::Unformattable(why) => write!(f, "{why}"),
             Reason::Missing => write!(f, "the line has no place for a time"),
         }
     }

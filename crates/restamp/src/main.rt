@@ -57,7 +57,9 @@ fn tell_unwritten(rt: &HostRuntime, failure: Option<ErrorKind>) -> io::Result<()
     }
 }
 
-// Answers the files, and gives the exit status.
+// Answers the files, and gives the exit status. It stands in line, so that the loop over lines has what the options ask for
+// in its own frame.
+#[inline(always)]
 fn answer(
     rt: &HostRuntime,
     request: &Request<'_>,

@@ -12,7 +12,6 @@ use Rattle.time_restamping.specs.Naming.{Means, MeansWriting, meaning_of, way_of
 use Rattle.time_restamping.specs.declared.naming.FormatFault as declared_fault
 use Rattle.time_restamping.specs.Reason.{Reason, seen}
 use Rattle.time_restamping.specs.declared.reason.Reason as declared
-use Rattle.time_restamping.specs.declared.form.Form.{Form}
 use Rattle.time_restamping.specs.declared.job.Job.{Job}
 use Rattle.time_restamping.specs.declared.reading.Defaults.{Defaults}
 use Rattle.time_restamping.specs.declared.reading.Reading.{Reading}
@@ -26,6 +25,7 @@ use Rattle.time_commanding.specs.Fault as fault
 use Rattle.time_commanding.specs.Fault.{Fault}
 use Rattle.time_commanding.specs.Values.{delimiter_of, digits_of, shows_of, IsNumber, IsPositive, IsOffsetRecord, IsYeared, IsZone, IsMomentText}
 use Rattle.time_commanding.specs.declared.request.Request.{Request}
+use Rattle.time_commanding.specs.declared.style.Style.{Style}
 
 -- a place in a line, without where its texts lie in memory, or any place
 pub data Where : Type 0 where
@@ -108,10 +108,10 @@ abbrev pub zone_of : Options → List ℕ
 zone_of o = if o.utc then codes "utc" else o.zone.now
 
 -- How a time is written.
-pub record IsForm (Y : ℕ) (o : Options) (form : Form) : Type 0 where
-  pub writing : MeansWriting o.to.now form.writing
-  pub digits : digits_of o.digits.now ≡ Some form.digits
-  pub zone : IsZone Y (zone_of o) (Some form.offset)
+pub record IsStyle (Y : ℕ) (o : Options) (style : Style) : Type 0 where
+  pub writing : MeansWriting o.to.now style.writing
+  pub digits : digits_of o.digits.now ≡ Some style.digits
+  pub zone : IsZone Y (zone_of o) (Some style.offset)
 
 -- the bound that a text's moment is
 abbrev pub bound_of : List ℕ → Result OffsetDateTime Reason → Result (Option OffsetDateTime) (List ℕ × Reason)
@@ -153,7 +153,7 @@ pub record Asks (Y : ℕ) (o : Options) (is_terminal : Bool) (r : Request) : Typ
   pub first : Means (way_of o.from.now) (meaning_of r.first)
   pub others : AddsMeant (other_names o) [] r.others.items
   pub defaults : AreDefaults Y o r.first r.others.items r.defaults
-  pub form : IsForm Y o r.form
+  pub style : IsStyle Y o r.style
   pub since : IsBound Y r.first r.others.items r.defaults (text_behind o.since) (Ok r.since)
   pub until : IsBound Y r.first r.others.items r.defaults (text_behind o.until) (Ok r.until)
   pub settings : AreSettings o r.settings
@@ -198,7 +198,9 @@ pub record IsJobOf (r : Request) (job : Job) : Type 0 where
   pub first : job.first.now ≡ r.first
   pub others : job.others.now ≡ r.others.items
   pub defaults : job.defaults ≡ r.defaults
-  pub form : job.form.now ≡ r.form
+  pub writing : job.form.writing.now ≡ r.style.writing
+  pub digits : job.form.digits ≡ r.style.digits
+  pub offset : job.form.offset ≡ r.style.offset
   pub since : job.since ≡ r.since
   pub until : job.until ≡ r.until
   pub asks_for_times : job.asks_for_times ≡ r.strict

@@ -6,8 +6,10 @@ mod fault;
 mod pointing;
 mod request;
 mod rewriting;
+mod style;
 mod values;
 
 pub use fault::Fault;
 pub use request::Request;
 pub use rewriting::{Restamping, serve};
+pub use style::Style;

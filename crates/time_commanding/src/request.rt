@@ -8,17 +8,15 @@ ghost use Rattle.time_commanding.specs.Request as spec;
 
 use crate::bounds::find_moment;
 use crate::fault::Fault;
+use crate::style::{Style, find_style};
 use crate::values::{
-    find_delimiter, find_digits, find_number, find_offset_record, find_positive, find_shows,
-    find_yeared, find_zone,
+    find_delimiter, find_number, find_offset_record, find_positive, find_shows, find_yeared,
 };
 use std::alloc::Global;
 use time_cutting::{Fields, Place};
 use time_options::Options;
 use time_record::Parsed;
-use time_restamping::{
-    Defaults, Form, FormatFault, Job, Reading, Reason, find_reading, find_writing,
-};
+use time_restamping::{Defaults, Form, FormatFault, Job, Reading, Reason, find_reading};
 use time_rewriting::{Output, Reports, Settings};
 use time_values::OffsetDateTime;
 
@@ -34,7 +32,7 @@ pub struct Request<'a> {
     /// What stands for what a time leaves out.
     pub defaults: Defaults,
     /// How it is written.
-    pub form: Form,
+    pub style: Style,
     /// Drops lines whose time is before.
     pub since: Option<OffsetDateTime>,
     /// Drops lines whose time isn't before.
@@ -159,36 +157,6 @@ fn find_parts<'a>(options: &Options<'_, 'a>) -> Result<Parsed, Fault<'a>>
     }
 }
 
-// The zone that is given.
-fn zone_of<'a>(options: &Options<'_, 'a>) -> &'a str
-    ensures { result.now ≡ spec.zone_of options.now }
-{
-    if options.utc { "utc" } else { options.zone }
-}
-
-// How a time is written.
-fn find_form<'a>(options: &Options<'_, 'a>) -> Result<Form, Fault<'a>>
-    ensures { MatchResult result (λ form. spec.IsForm greatest_year options.now form)
-        (λ fault. spec.IsFault greatest_year options.now (told fault)) }
-{
-    let writing = match find_writing(options.to.as_bytes()) {
-        Ok(writing) => writing,
-        Err(why) => return Err(Fault::To(options.to, why)),
-    };
-    let zone = zone_of(options);
-    let Some(offset) = find_zone(zone) else {
-        return Err(Fault::Zone(zone));
-    };
-    let Some(digits) = find_digits(options.digits) else {
-        return Err(Fault::Digits(options.digits));
-    };
-    Ok(Form {
-        writing,
-        digits,
-        offset,
-    })
-}
-
 // The parts alone.
 fn only_parts(parts: Parsed) -> Defaults
     ensures { result ≡ spec.only_parts parts }
@@ -295,7 +263,7 @@ impl<'a> Request<'a> {
             Ok(defaults) => defaults,
             Err(fault) => return Err(fault),
         };
-        let form = find_form(options)?;
+        let style = find_style(options)?;
         let settings = find_settings(options)?;
         let Some(shows_lines) = find_shows(options.color, is_terminal) else {
             return Err(Fault::Color(options.color));
@@ -313,7 +281,7 @@ impl<'a> Request<'a> {
             first,
             others,
             defaults,
-            form,
+            style,
             since,
             until,
             settings,
@@ -331,7 +299,11 @@ impl<'a> Request<'a> {
             first: &self.first,
             others: self.others.as_slice(),
             defaults: self.defaults,
-            form: &self.form,
+            form: Form {
+                writing: &self.style.writing,
+                digits: self.style.digits,
+                offset: self.style.offset,
+            },
             since: self.since,
             until: self.until,
             asks_for_times: self.strict,

@@ -173,12 +173,12 @@ one_in_turn format formats is_open text defaults a b p q =
 
 one_put_by : (kept : Bool) (job : Job) (start : ℕ) (said : Said) (a b : Verdict)
     → MatchBool kept
-    ((text : Result Items Reason) × IsWritten greatest_year job.form.now said.moment text × (a ≡ verdict_of start said text)) (a ≡ dropped)
+    ((text : Result Items Reason) × IsWritten greatest_year job.form said.moment text × (a ≡ verdict_of start said text)) (a ≡ dropped)
     → MatchBool kept
-    ((text : Result Items Reason) × IsWritten greatest_year job.form.now said.moment text × (b ≡ verdict_of start said text)) (b ≡ dropped)
+    ((text : Result Items Reason) × IsWritten greatest_year job.form said.moment text × (b ≡ verdict_of start said text)) (b ≡ dropped)
     → a ≡ b
 one_put_by true job start said a b p q =
-    p.2 ∙ ap (verdict_of start said) (one_written job.form.now said.moment p.0 q.0 p.1 q.1) ∙ sym q.2
+    p.2 ∙ ap (verdict_of start said) (one_written job.form said.moment p.0 q.0 p.1 q.1) ∙ sym q.2
 one_put_by false job start said a b p q = p ∙ sym q
 
 one_put : (job : Job) (start : ℕ) (said : Said) (a b : Verdict)

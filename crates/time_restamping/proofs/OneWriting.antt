@@ -16,13 +16,15 @@ use Rattle.time_values.proofs.SameLemmas.{same_moment}
 use Rattle.time_writing.specs.Texts.{Writes, WritesSuch, IsMailText, mail_text}
 use Rattle.time_writing.specs.declared.fraction.FractionDigits.{FractionDigits}
 use Rattle.time_writing.specs.declared.unwritable.Unwritable.{Unwritable}
-use Rattle.time_restamping.specs.Form.{IsShown, IsCounted, IsWrittenBy, IsWritten, unit_of, written}
+use Rattle.time_restamping.specs.Form.{IsShown, IsCounted, IsNamedText, IsWrittenBy, IsWritten, unit_of, written}
 use Rattle.time_restamping.specs.Reason.{Reason, out_of_range}
 use Rattle.time_restamping.specs.declared.form.Form.{Form}
 use Rattle.time_restamping.specs.declared.form.Unit.{Unit as Unit_}
 use Rattle.time_restamping.specs.declared.form.Unit.TheVariants.{Seconds, Milliseconds, Microseconds, Nanoseconds}
+use Rattle.time_restamping.specs.declared.form.Named.{Named as Named_}
+use Rattle.time_restamping.specs.declared.form.Named.TheVariants.{Rfc3339, Rfc2822, Iso8601, Count}
 use Rattle.time_restamping.specs.declared.form.Writing.{Writing}
-use Rattle.time_restamping.specs.declared.form.Writing.TheVariants.{Rfc3339, Rfc2822, Iso8601, Count, Described}
+use Rattle.time_restamping.specs.declared.form.Writing.TheVariants.{Named, Described}
 
 -- what the clock of a moment shows
 clock_is : (v : OffsetDateTime)
@@ -88,23 +90,27 @@ one_count unit v (Ok s) (Err e) p q = absurd (q.1 p.0)
 one_count unit v (Err e) (Ok t) p q = absurd (p.1 q.0)
 one_count unit v (Err e) (Err f) p q = ap Err (p.0 ∙ sym q.0)
 
+one_named : (named : Named_) (digits : FractionDigits) (v : OffsetDateTime) (a b : Result Items Reason)
+    → IsNamedText greatest_year named digits v a → IsNamedText greatest_year named digits v b → a ≡ b
+one_named Rfc3339 digits v a b p q = p.2 ∙ ap written (one_text _ _ p.0 q.0 p.1 q.1) ∙ sym q.2
+one_named Rfc2822 digits v a b p q = p.2 ∙ ap written (one_mail _ v p.0 q.0 p.1 q.1) ∙ sym q.2
+one_named Iso8601 digits v a b p q = p.2 ∙ ap written (one_text _ _ p.0 q.0 p.1 q.1) ∙ sym q.2
+one_named (Count unit) digits v a b p q = one_count unit v a b p q
+
 one_by : (writing : Writing) (digits : FractionDigits) (v : OffsetDateTime) (a b : Result Items Reason)
     → IsWrittenBy greatest_year writing digits v a → IsWrittenBy greatest_year writing digits v b → a ≡ b
-one_by Rfc3339 digits v a b p q = p.2 ∙ ap written (one_text _ _ p.0 q.0 p.1 q.1) ∙ sym q.2
-one_by Rfc2822 digits v a b p q = p.2 ∙ ap written (one_mail _ v p.0 q.0 p.1 q.1) ∙ sym q.2
-one_by Iso8601 digits v a b p q = p.2 ∙ ap written (one_text _ _ p.0 q.0 p.1 q.1) ∙ sym q.2
-one_by (Count unit) digits v a b p q = one_count unit v a b p q
+one_by (Named named) digits v a b p q = one_named named digits v a b p q
 one_by (Described d) digits v a b p q = p ∙ sym q
 
 one_at : (form : Form) (shown other : Option OffsetDateTime) (a b : Result Items Reason) → shown ≡ other
-    → MatchOption shown (a ≡ Err out_of_range) (λ w. IsWrittenBy greatest_year form.writing form.digits w a)
-    → MatchOption other (b ≡ Err out_of_range) (λ w. IsWrittenBy greatest_year form.writing form.digits w b) → a ≡ b
+    → MatchOption shown (a ≡ Err out_of_range) (λ w. IsWrittenBy greatest_year form.writing.now form.digits w a)
+    → MatchOption other (b ≡ Err out_of_range) (λ w. IsWrittenBy greatest_year form.writing.now form.digits w b) → a ≡ b
 one_at form None None a b e p q = p ∙ sym q
 one_at form None (Some w) a b e p q = absurd cc
 one_at form (Some v) None a b e p q = absurd cc
 one_at form (Some v) (Some w) a b e p q =
     let same : v ≡ w = cc in
-    one_by form.writing form.digits w a b (subst (λ x. IsWrittenBy greatest_year form.writing form.digits x a) same p) q
+    one_by form.writing.now form.digits w a b (subst (λ x. IsWrittenBy greatest_year form.writing.now form.digits x a) same p) q
 
 pub one_written : (form : Form) (v : OffsetDateTime) (a b : Result Items Reason)
     → IsWritten greatest_year form v a → IsWritten greatest_year form v b → a ≡ b

@@ -16,10 +16,12 @@ use Rattle.time_writing.specs.declared.fraction.FractionDigits.{FractionDigits}
 use Rattle.time_writing.specs.declared.unwritable.Unwritable.{Unwritable}
 use Rattle.time_restamping.specs.Reason.{Reason, unwritable, unformattable, out_of_range}
 use Rattle.time_restamping.specs.declared.form.Form.{Form}
+use Rattle.time_restamping.specs.declared.form.Named.{Named as Named_}
+use Rattle.time_restamping.specs.declared.form.Named.TheVariants.{Rfc3339, Rfc2822, Iso8601, Count}
 use Rattle.time_restamping.specs.declared.form.Unit.{Unit as Unit_}
 use Rattle.time_restamping.specs.declared.form.Unit.TheVariants.{Seconds, Milliseconds, Microseconds, Nanoseconds}
 use Rattle.time_restamping.specs.declared.form.Writing.{Writing}
-use Rattle.time_restamping.specs.declared.form.Writing.TheVariants.{Rfc3339, Rfc2822, Iso8601, Count, Described}
+use Rattle.time_restamping.specs.declared.form.Writing.TheVariants.{Named, Described}
 
 -- a text, or that there is none
 abbrev pub written : Result Items Unwritable → Result Items Reason
@@ -52,21 +54,29 @@ IsCounted Y unit v (Ok text) =
     × ((z : ℤ) × IsWhole (unit_of unit) (offset_instant Y v) z × (text.items ≡ signed_decimal z))
 IsCounted Y unit v (Err e) = (e ≡ out_of_range) × (¬ IsInstant Y (offset_instant Y v))
 
--- the text of a moment by a format, or the first reason why it has none
-abbrev pub IsWrittenBy : ℕ → Writing → FractionDigits → OffsetDateTime → Result Items Reason → Type 0
-IsWrittenBy Y Rfc3339 digits v result =
+-- the text of a moment by a named format, or the first reason why it has none
+abbrev pub IsNamedText : ℕ → Named_ → FractionDigits → OffsetDateTime → Result Items Reason → Type 0
+IsNamedText Y Rfc3339 digits v result =
     (text : Result Items Unwritable)
     × Writes (unwritable_3339 v) (moment_text (count_of digits (Times.nanosecond (offset_time v))) v) text
     × (result ≡ written text)
-IsWrittenBy Y Rfc2822 digits v result =
+IsNamedText Y Rfc2822 digits v result =
     (text : Result Items Unwritable) × WritesSuch (unwritable_2822 v) (IsMailText v) text × (result ≡ written text)
-IsWrittenBy Y Iso8601 digits v result =
+IsNamedText Y Iso8601 digits v result =
     (text : Result Items Unwritable) × Writes (unwritable_3339 v) (moment_text 9 v) text × (result ≡ written text)
-IsWrittenBy Y (Count unit) digits v result = IsCounted Y unit v result
+IsNamedText Y (Count unit) digits v result = IsCounted Y unit v result
+
+-- the text of a moment by a format, or the first reason why it has none
+abbrev pub IsWrittenBy : ℕ → Writing → FractionDigits → OffsetDateTime → Result Items Reason → Type 0
+IsWrittenBy Y (Named named) digits v result = IsNamedText Y named digits v result
 IsWrittenBy Y (Described d) digits v result = result ≡ described (text_of Y v (shape d))
 
--- the same at the offset that is asked for
+-- the same at an offset
+abbrev pub IsWrittenAt : ℕ → Writing → FractionDigits → Option UtcOffset → OffsetDateTime → Result Items Reason → Type 0
+IsWrittenAt Y writing digits offset v result =
+    (shown : Option OffsetDateTime) × IsShown Y offset v shown
+    × MatchOption shown (result ≡ Err out_of_range) (λ w. IsWrittenBy Y writing digits w result)
+
+-- the same in the form that is asked for
 abbrev pub IsWritten : ℕ → Form → OffsetDateTime → Result Items Reason → Type 0
-IsWritten Y form v result =
-    (shown : Option OffsetDateTime) × IsShown Y form.offset v shown
-    × MatchOption shown (result ≡ Err out_of_range) (λ w. IsWrittenBy Y form.writing form.digits w result)
+IsWritten Y form v result = IsWrittenAt Y form.writing.now form.digits form.offset v result

@@ -43,10 +43,15 @@ abbrev pub verdict_of : ℕ → Said → Result Items Reason → Verdict
 verdict_of start said (Ok text) = rewritten start said.length text.items
 verdict_of start said (Err e) = refused (start + 1) e
 
+-- the verdict where the moment is written anew
+abbrev pub IsWrittenOver : ℕ → Job → ℕ → Said → Verdict → Type 0
+IsWrittenOver Y job start said verdict =
+    (text : Result Items Reason) × IsWritten Y job.form said.moment text × (verdict ≡ verdict_of start said text)
+
+-- the same where it lies within the bounds
 abbrev pub IsPut : ℕ → Job → ℕ → Said → Verdict → Type 0
-IsPut Y job start said verdict = MatchBool (is_kept Y job said.moment)
-    ((text : Result Items Reason) × IsWritten Y job.form.now said.moment text × (verdict ≡ verdict_of start said text))
-    (verdict ≡ dropped)
+IsPut Y job start said verdict =
+    MatchBool (is_kept Y job said.moment) (IsWrittenOver Y job start said verdict) (verdict ≡ dropped)
 
 -- the verdict on a line that has no place for a time
 abbrev pub missed : Job → Verdict

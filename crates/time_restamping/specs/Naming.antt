@@ -10,6 +10,8 @@ use Rattle.time_descriptions.specs.Strftime.{DescribesStrftime, IsRefusedStrftim
 use Rattle.time_descriptions.specs.declared.description.Description.{Description}
 use Rattle.time_restamping.specs.Described.{tree_of}
 use Rattle.time_restamping.specs.declared.form.Unit.TheVariants.{Seconds, Milliseconds, Microseconds, Nanoseconds}
+use Rattle.time_restamping.specs.declared.form.Named.{Named}
+use Rattle.time_restamping.specs.declared.form.Named.TheVariants as named
 use Rattle.time_restamping.specs.declared.form.Writing.{Writing}
 use Rattle.time_restamping.specs.declared.form.Writing.TheVariants as writing
 use Rattle.time_restamping.specs.declared.naming.FormatFault.{FormatFault}
@@ -120,22 +122,22 @@ IsFault (strftime text) f = (r : Refusal) × IsRefusedStrftime MOST_STEPS text r
 IsFault unknown f = f ≡ unnamed
 
 -- the format of that name that times are written by
-abbrev pub writing_named : List ℕ → Option Writing
+abbrev pub writing_named : List ℕ → Option Named
 writing_named name =
-    if bytes_eq name (codes "rfc3339") then Some writing.Rfc3339 else
-    if bytes_eq name (codes "rfc2822") then Some writing.Rfc2822 else
-    if bytes_eq name (codes "iso8601") then Some writing.Iso8601 else
-    if bytes_eq name (codes "unix") then Some (writing.Count Seconds) else
-    if bytes_eq name (codes "unix-ms") then Some (writing.Count Milliseconds) else
-    if bytes_eq name (codes "unix-us") then Some (writing.Count Microseconds) else
-    if bytes_eq name (codes "unix-ns") then Some (writing.Count Nanoseconds) else None
+    if bytes_eq name (codes "rfc3339") then Some named.Rfc3339 else
+    if bytes_eq name (codes "rfc2822") then Some named.Rfc2822 else
+    if bytes_eq name (codes "iso8601") then Some named.Iso8601 else
+    if bytes_eq name (codes "unix") then Some (named.Count Seconds) else
+    if bytes_eq name (codes "unix-ms") then Some (named.Count Milliseconds) else
+    if bytes_eq name (codes "unix-us") then Some (named.Count Microseconds) else
+    if bytes_eq name (codes "unix-ns") then Some (named.Count Nanoseconds) else None
 
 -- A text means a format that times are written by: the one of that name, or else what it describes.
 abbrev pub MeansWriting : List ℕ → Writing → Type 0
 MeansWriting name result =
     MatchOption (writing_named name)
     ((d : Description MOST_STEPS) × Means (described_way name) (as_tree (shape d)) × (result ≡ writing.Described d))
-    (λ named. result ≡ named)
+    (λ n. result ≡ writing.Named n)
 
 -- why a text means none: it is no such name, and no description
 abbrev pub IsWritingFault : List ℕ → Fault → Type 0

@@ -8,6 +8,7 @@ ghost use Rattle.time_restamping.specs.Form as spec;
 ghost use Rattle.time_values.specs.Instants.{IsInstant, IsWhole};
 ghost use Rattle.time_values.specs.Moments.{nanoseconds, offset_instant};
 ghost use Rattle.time_restamping.specs.declared.form.Unit.TheVariants.{Milliseconds, Microseconds, Nanoseconds};
+ghost use Rattle.time_restamping.specs.declared.form.Writing.TheVariants as writing;
 ghost use Rattle.time_restamping.specs.Reason.{out_of_range, seen, seen_written};
 
 use crate::reading::MOST_STEPS;
@@ -35,9 +36,9 @@ pub enum Unit {
     Nanoseconds,
 }
 
-/// The format that a time is written by.
-#[derive(Drop)]
-pub enum Writing {
+/// A format that has a name.
+#[derive(Clone, Copy, Debug, PartialEq, Eq)]
+pub enum Named {
     /// RFC 3339.
     Rfc3339,
     /// A mail date, RFC 2822, which has no fraction.
@@ -46,15 +47,22 @@ pub enum Writing {
     Iso8601,
     /// A decimal number of units.
     Count(Unit),
+}
+
+/// The format that a time is written by.
+#[derive(Drop)]
+pub enum Writing {
+    /// One that has a name.
+    Named(Named),
     /// By a description.
     Described(Description<MOST_STEPS>),
 }
 
 /// All that says how a time is written.
-#[derive(Drop)]
-pub struct Form {
+#[derive(Clone, Copy)]
+pub struct Form<'a> {
     /// The format.
-    pub writing: Writing,
+    pub writing: &'a Writing,
     /// How many digits of a fraction RFC 3339 has.
     pub digits: FractionDigits,
     /// The offset at which the time is shown, or `None` for its own.
@@ -178,9 +186,28 @@ fn write_count(moment: OffsetDateTime, unit: Unit) -> Result<Text, Reason>
     }
 }
 
-// The text of the moment by a description, or why it has none. It isn't inlined, so that it takes no place beside the
-// texts of the named formats.
-#[inline(never)]
+/// The text of the moment by a named format, shown at the offset if one is given, or why it has none.
+#[inline(always)]
+pub(crate) fn write_named(
+    moment: OffsetDateTime,
+    named: Named,
+    digits: FractionDigits,
+    offset: Option<UtcOffset>,
+) -> Result<Text, Reason>
+    ensures { spec.IsWrittenAt greatest_year (writing.Named named) digits offset moment (seen_written result) }
+{
+    let Some(moment) = shown(moment, offset) else {
+        return Err(Reason::OutOfRange);
+    };
+    match named {
+        Named::Rfc3339 => written(text_3339(moment, digits)),
+        Named::Rfc2822 => written(text_2822(moment)),
+        Named::Iso8601 => written(text_8601(moment)),
+        Named::Count(unit) => write_count(moment, unit),
+    }
+}
+
+// Its text by a description, or why it has none.
 fn write_described(
     moment: OffsetDateTime,
     description: &Description<MOST_STEPS>,
@@ -194,18 +221,14 @@ fn write_described(
 }
 
 /// The text of the moment, or why it has none.
-#[inline(always)]
-pub fn write_moment(moment: OffsetDateTime, form: &Form) -> Result<Text, Reason>
-    ensures { spec.IsWritten greatest_year form.now moment (seen_written result) }
+pub fn write_moment(moment: OffsetDateTime, form: Form<'_>) -> Result<Text, Reason>
+    ensures { spec.IsWritten greatest_year form.entry moment (seen_written result) }
 {
-    let Some(moment) = shown(moment, form.offset) else {
-        return Err(Reason::OutOfRange);
-    };
-    match &form.writing {
-        Writing::Rfc3339 => written(text_3339(moment, form.digits)),
-        Writing::Rfc2822 => written(text_2822(moment)),
-        Writing::Iso8601 => written(text_8601(moment)),
-        Writing::Count(unit) => write_count(moment, *unit),
-        Writing::Described(description) => write_described(moment, description),
+    match form.writing {
+        Writing::Named(named) => write_named(moment, *named, form.digits, form.offset),
+        Writing::Described(description) => match shown(moment, form.offset) {
+            Some(moment) => write_described(moment, description),
+            None => Err(Reason::OutOfRange),
+        },
     }
 }

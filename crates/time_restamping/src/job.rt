@@ -5,7 +5,7 @@ ghost use Rattle.time_restamping.specs.Job as spec;
 ghost use Rattle.time_restamping.specs.Reading.{Says};
 ghost use Rattle.time_restamping.specs.Reason.{seen, seen_read};
 
-use crate::form::{Form, write_moment};
+use crate::form::{Form, Writing, write_moment, write_named};
 use crate::reading::{Defaults, Reading, Said, read_further, read_in_turn, read_once};
 use crate::reason::Reason;
 use std::cmp::Ordering;
@@ -28,7 +28,7 @@ pub struct Job<'a> {
     /// What stands for what a time leaves out.
     pub defaults: Defaults,
     /// How it is written.
-    pub form: &'a Form,
+    pub form: Form<'a>,
     /// Drops lines whose time is before.
     pub since: Option<OffsetDateTime>,
     /// Drops lines whose time isn't before.
@@ -92,6 +92,30 @@ impl Job<'_> {
         if !self.keeps(said.moment) {
             return Verdict::Dropped;
         }
+        let Writing::Named(named) = self.form.writing else {
+            return self.put_kept(start, said);
+        };
+        match write_named(said.moment, *named, self.form.digits, self.form.offset) {
+            Ok(text) => Verdict::Rewritten {
+                start,
+                length: said.length,
+                text,
+            },
+            Err(reason) => Verdict::Refused {
+                column: start + 1,
+                reason,
+            },
+        }
+    }
+
+    // The same of any format, for a moment that is kept. It isn't inlined, so that its texts take no place beside those that
+    // are written in line.
+    #[inline(never)]
+    fn put_kept(&self, start: usize, said: Said) -> Verdict
+        requires { start + 1 < 2 ^ 64 }
+        ensures put { spec.IsWrittenOver greatest_year self.now start said (spec.seen_verdict result) }
+        ensures within { spec.IsWithin (start + said.length) (spec.seen_verdict result) }
+    {
         match write_moment(said.moment, self.form) {
             Ok(text) => Verdict::Rewritten {
                 start,

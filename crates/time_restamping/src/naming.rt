@@ -6,7 +6,7 @@ ghost use Rattle.time_descriptions.specs.Strftime.{DescribesStrftime};
 ghost use Rattle.time_restamping.specs.Naming as spec;
 
 use crate::described::Described;
-use crate::form::{Unit, Writing};
+use crate::form::{Named, Unit, Writing};
 use crate::reading::{MOST_STEPS, Reading};
 use std::fmt;
 use time_descriptions::{Description, InvalidFormatDescription, parse_borrowed, parse_strftime};
@@ -136,23 +136,23 @@ pub fn find_reading(name: &[u8]) -> Result<Reading, FormatFault<'_>>
 }
 
 // The format of that name that times are written by.
-fn find_named(name: &[u8]) -> Option<Writing>
+fn find_named(name: &[u8]) -> Option<Named>
     ensures { result ≡ spec.writing_named name.now }
 {
     if name == b"rfc3339".as_slice() {
-        Some(Writing::Rfc3339)
+        Some(Named::Rfc3339)
     } else if name == b"rfc2822".as_slice() {
-        Some(Writing::Rfc2822)
+        Some(Named::Rfc2822)
     } else if name == b"iso8601".as_slice() {
-        Some(Writing::Iso8601)
+        Some(Named::Iso8601)
     } else if name == b"unix".as_slice() {
-        Some(Writing::Count(Unit::Seconds))
+        Some(Named::Count(Unit::Seconds))
     } else if name == b"unix-ms".as_slice() {
-        Some(Writing::Count(Unit::Milliseconds))
+        Some(Named::Count(Unit::Milliseconds))
     } else if name == b"unix-us".as_slice() {
-        Some(Writing::Count(Unit::Microseconds))
+        Some(Named::Count(Unit::Microseconds))
     } else if name == b"unix-ns".as_slice() {
-        Some(Writing::Count(Unit::Nanoseconds))
+        Some(Named::Count(Unit::Nanoseconds))
     } else {
         None
     }
@@ -178,7 +178,7 @@ pub fn find_writing(name: &[u8]) -> Result<Writing, FormatFault<'_>>
         (λ fault. spec.IsWritingFault name.now (spec.fault_of fault)) }
 {
     match find_named(name) {
-        Some(writing) => Ok(writing),
+        Some(named) => Ok(Writing::Named(named)),
         None => Ok(Writing::Described(find_description(name)?)),
     }
 }

@@ -71,7 +71,7 @@ one_read (reading.Counted d) is_open text defaults a b p q =
     one_read_by is_open over_record (Description.Reads greatest_year (tree_of d))
     (Description.Refuses greatest_year (tree_of d)) (tree_exact greatest_year (tree_of d)) tt text defaults a b p q
 
-one_says : (format : Reading) (is_open : Bool) (text : List ℕ) (defaults : Option Record) (a b : Result Said Reason)
+pub one_says : (format : Reading) (is_open : Bool) (text : List ℕ) (defaults : Option Record) (a b : Result Said Reason)
     → Says greatest_year format is_open text defaults a → Says greatest_year format is_open text defaults b → a ≡ b
 one_says format is_open text defaults a b p q =
     p.2 ∙ ap (guarded format text) (one_read format is_open text defaults p.0 q.0 p.1 q.1) ∙ sym q.2

@@ -1,5 +1,5 @@
 -- A time that was written is read back, and written again as it was.
-use Rattle.std.proofs.Common.{◌≡◌, ℕ, Bool, true, false, List, length, sym, ap, subst, refl, arith, ◌∙◌, None, Some, Ok, Err}
+use Rattle.std.proofs.Common.{◌≡◌, ℕ, Bool, true, false, List, length, sym, ap, subst, refl, arith, None, Some, Ok, Err}
 use Rattle.std.specs.Prelude.{Option, Result, MatchOption, MatchBool, IsOkAnd, slice_range}
 use Rattle.std.proofs.lemmas.Int.{ints}
 use Rattle.time_values.specs.Moments.{offset_date, offset_time, offset_of, offset_instant}
@@ -18,16 +18,16 @@ use Rattle.time_readers.specs.Direct.{RefusesRfc3339}
 use Rattle.time_parsing.specs.Outcome.{IsMomentOutcome, direct, over_record}
 use Rattle.time_parsing.specs.Iso8601 as Iso8601
 use Rattle.time_parsing.specs.Rfc3339 as Rfc3339
-use Rattle.time_parsing.specs.Written.{kept, IsCut}
+use Rattle.time_parsing.specs.Written.{IsCut, kept}
 use Rattle.time_parsing.proofs.IsoBack.{iso_read_back}
 use Rattle.time_parsing.proofs.MailBack.{mail_read_back}
-use Rattle.time_parsing.proofs.WrittenBack.{read_back, nine-keeps}
+use Rattle.time_parsing.proofs.WrittenBack.{read_back, auto-keeps, nine-keeps}
 use Rattle.time_cutting.specs.Cuts.{span_of, is_open}
 use Rattle.time_cutting.specs.declared.cuts.Place.{Place}
 use Rattle.time_cutting.specs.declared.fields.Span.{Span}
 use Rattle.time_restamping.specs.Form.{IsShown, IsNamedText, IsWrittenBy, IsWritten, written}
 use Rattle.time_restamping.specs.Job.{Verdict, IsPut, IsJudged, IsJudgedAt, IsJudgedAnywhere, IsJudgedPart, is_before, is_kept, missed, rewritten, dropped}
-use Rattle.time_restamping.specs.Laws.{ReadsAll, IsReadable, ReadsRewrittenBack, WritesSameText, ChangesNothing}
+use Rattle.time_restamping.specs.Laws.{HasDigits, AutoHasAll, ReadsAll, IsReadable, ReadsRewrittenBack, WritesSameText, ChangesNothing}
 use Rattle.time_restamping.specs.Reading.{Says, IsReadInTurn, said}
 use Rattle.time_restamping.specs.Reason.{Reason, out_of_range}
 use Rattle.time_restamping.specs.declared.form.Form.{Form}
@@ -54,7 +54,7 @@ text_is (Some why) such text (Err other) p e = absurd cc
 abbrev nanosecond_of : OffsetDateTime → ℕ
 nanosecond_of v = Times.nanosecond (offset_time v)
 
-whole : (k : ℕ) (v : OffsetDateTime) → kept k (nanosecond_of v) ≡ nanosecond_of v → IsCut k v v
+whole : (k : ℕ) (v : OffsetDateTime) → HasDigits k v → IsCut k v v
 whole k v keeps = record { date = refl; clock = (refl, refl, refl, sym keeps); offset = refl }
 
 -- what a text says that a named format writes
@@ -67,7 +67,7 @@ named_back : (named : Named_) (digits : FractionDigits) (v : OffsetDateTime) (te
 named_back Rfc3339 digits v text format defaults all p =
     let k = count_of digits (nanosecond_of v) in
     let is = text_is (unwritable_3339 v) (λ b. b ≡ moment_text k v) text p.0 p.1 p.2 in
-    let back = read_back digits v v is.0 (whole k v (all.1 (nanosecond_of v) (offset_time v).nanosecond_in)) in
+    let back = read_back digits v v is.0 (whole k v all.1) in
     subst (λ (f : Reading). SaysAll f defaults v text.items) (sym all.0) (
       Ok (said v (length text.items)),
       (
@@ -80,7 +80,7 @@ named_back Rfc3339 digits v text format defaults all p =
     )
 named_back Rfc2822 digits v text format defaults all p =
     let is = text_is (unwritable_2822 v) (IsMailText v) text p.0 p.1 p.2 in
-    let back = mail_read_back v v text.items is.0 (whole 0 v (ap (kept 0) all.1 ∙ sym all.1)) is.1 in
+    let back = mail_read_back v v text.items is.0 (whole 0 v all.1) is.1 in
     subst (λ (f : Reading). SaysAll f defaults v text.items) (sym all.0)
     (Ok (said v (length text.items)), (Ok v, back.0, refl), refl)
 named_back Iso8601 digits v text format defaults all p =
@@ -128,8 +128,9 @@ same_nanosecond v w e =
 all_shown : (format : Reading) (defaults : Option Record) (writing : Writing) (digits : FractionDigits) (v w : OffsetDateTime)
     → nanosecond_of w ≡ nanosecond_of v → ReadsAll format defaults writing digits v
     → ReadsAll format defaults writing digits w
-all_shown format defaults (Named Rfc3339) digits v w e all = all
-all_shown format defaults (Named Rfc2822) digits v w e all = (all.0, e ∙ all.1)
+all_shown format defaults (Named Rfc3339) digits v w e all =
+    (all.0, subst (λ n. kept (count_of digits n) n ≡ n) (sym e) all.1)
+all_shown format defaults (Named Rfc2822) digits v w e all = (all.0, subst (λ n. kept 0 n ≡ n) (sym e) all.1)
 all_shown format defaults (Named Iso8601) digits v w e all = all
 all_shown format defaults (Named (Count unit)) digits v w e all = all
 all_shown format defaults (Described d) digits v w e all = all
@@ -166,6 +167,9 @@ back : (format : Reading) (defaults : Option Record) (form : Form) (v : OffsetDa
 back format defaults form v bytes (all, (text, p, e)) =
     subst (λ (b : List ℕ). (w : OffsetDateTime) × IsBack format defaults form v b w) (sym e)
     (shown_back format defaults form v text p.0 all p.1 p.2)
+
+pub auto_has_all : AutoHasAll
+auto_has_all v = auto-keeps (nanosecond_of v) (offset_time v).nanosecond_in
 
 pub reads_rewritten_back : ReadsRewrittenBack greatest_year
 reads_rewritten_back format defaults form v bytes read is says =

@@ -5,8 +5,9 @@ use Rattle.time_values.specs.Shown.{Items}
 use Rattle.time_values.specs.Times as Times
 use Rattle.time_values.specs.declared.offset_date_time.OffsetDateTime.{OffsetDateTime}
 use Rattle.time_writing.specs.declared.fraction.FractionDigits.{FractionDigits}
+use Rattle.time_writing.specs.declared.fraction.FractionDigits.TheVariants.{Auto}
 use Rattle.time_record.specs.Record.{Record}
-use Rattle.time_parsing.specs.Written.{KeepsAll}
+use Rattle.time_parsing.specs.Written.{kept, written}
 use Rattle.time_cutting.specs.Cuts.{span_of, is_open}
 use Rattle.time_cutting.specs.declared.cuts.Place.{Place}
 use Rattle.time_cutting.specs.declared.fields.Span.{Span}
@@ -28,12 +29,19 @@ abbrev pub OneVerdict : ℕ → Type 0
 OneVerdict Y = (job : Job) (line : List ℕ) (verdict other : Verdict)
     → IsJudged Y job line verdict → IsJudged Y job line other → verdict ≡ other
 
--- The format reads all that is written of a moment: it is the one that writes it, and no digit of a fraction that isn't
--- 0 is cut off. ISO 8601 does so without defaults.
+-- The first k digits of the moment's fraction are all that aren't 0.
+abbrev pub HasDigits : ℕ → OffsetDateTime → Type 0
+HasDigits k v = kept k (Times.nanosecond (offset_time v)) ≡ Times.nanosecond (offset_time v)
+
+-- as many digits as it has
+abbrev pub AutoHasAll : Type 0
+AutoHasAll = (v : OffsetDateTime) → HasDigits (written Auto v) v
+
+-- The format reads all that is written of a moment: it is the one that writes it, and each digit that isn't 0 is
+-- written. Of ISO 8601 it does so without defaults.
 abbrev pub ReadsAll : Reading → Option Record → Writing → FractionDigits → OffsetDateTime → Type 0
-ReadsAll format defaults (Named Rfc3339) digits v = (format ≡ reading.Rfc3339) × KeepsAll digits
-ReadsAll format defaults (Named Rfc2822) digits v =
-    (format ≡ reading.Rfc2822) × (Times.nanosecond (offset_time v) ≡ 0)
+ReadsAll format defaults (Named Rfc3339) digits v = (format ≡ reading.Rfc3339) × HasDigits (written digits v) v
+ReadsAll format defaults (Named Rfc2822) digits v = (format ≡ reading.Rfc2822) × HasDigits 0 v
 ReadsAll format defaults (Named Iso8601) digits v = (format ≡ reading.Iso8601) × (defaults ≡ None)
 ReadsAll format defaults (Named (Count unit)) digits v = ⊥
 ReadsAll format defaults (Described d) digits v = ⊥

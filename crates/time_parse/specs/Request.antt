@@ -1,8 +1,9 @@
 -- What the format and target of the arguments ask for. `Y` is the greatest year.
 use Rattle.std.specs.Prelude.{◌≡◌, ◌⊎◌, ◌==◌, ℕ, List, None, Bool, if◌then◌else◌}
 use Rattle.std.specs.List.{list_any}
+use Rattle.time_components.specs.Steps.{steps_shape}
 use Rattle.time_components.specs.Tree.{Tree}
-use Rattle.time_descriptions.specs.Description.{IsRefused, shape, version_of}
+use Rattle.time_descriptions.specs.Description.{IsRefused, version_of}
 use Rattle.time_descriptions.specs.Grammar.{Describes, by_option}
 use Rattle.time_descriptions.specs.Refusal.{Refusal}
 use Rattle.time_descriptions.specs.Strftime.{DescribesStrftime, IsRefusedStrftime}
@@ -26,7 +27,7 @@ pub data Meaning : Type 0 where
 
 abbrev pub meaning_of : Chosen → Meaning
 meaning_of (chosen.Named format) = named format
-meaning_of (chosen.Described description) = described (shape description)
+meaning_of (chosen.Described steps) = described (steps_shape steps)
 
 -- the number of a version
 abbrev pub number_of : Version → ℕ

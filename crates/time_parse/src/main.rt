@@ -4,6 +4,7 @@
 #![tactic(auto)]
 
 mod arguments;
+mod described;
 mod fault;
 mod laws;
 mod place;

@@ -208,7 +208,7 @@ fn write_chosen_place<W: Write>(
 {
     match chosen {
         Chosen::Named(format) => write_named_place(*format, target, text, out),
-        Chosen::Described(description) => write_place(description, target, text, out),
+        Chosen::Described(described) => write_place(described.description(), target, text, out),
     }
 }
 

@@ -9,6 +9,7 @@ ghost use Rattle.time_answers.specs.Formats.{target_named};
 ghost use Rattle.time_parse.specs.Fault.{reason_of};
 ghost use Rattle.time_parse.specs.Request.{IsAnswer, IsFault, IsFaultBy, IsFaulty, Means, MeansTree, meaning_of, number_of, writing_of};
 
+use crate::described::Described;
 use crate::fault::Fault;
 use std::io::Write;
 use time_answers::formats::{Format, Target, find_format, find_target};
@@ -46,7 +47,7 @@ pub enum Chosen {
     /// One that has a name.
     Named(Format),
     /// One that is described.
-    Described(Description<MOST_STEPS>),
+    Described(Described),
 }
 
 /// A format, and the target of its texts.
@@ -95,7 +96,7 @@ fn bracketed(version: Version, format: &[u8]) -> Result<Chosen, Fault<'_>>
         (λ fault. IsFaulty (IsRefused MOST_STEPS (version_of (number_of version)) format.now) format.now (reason_of fault)) }
 {
     match read_brackets(version, format) {
-        Ok(description) => Ok(Chosen::Described(description)),
+        Ok(description) => Ok(Chosen::Described(Described::new(description))),
         Err(error) => Err(Fault::Description { format, error }),
     }
 }
@@ -107,7 +108,7 @@ fn lettered(format: &[u8]) -> Result<Chosen, Fault<'_>>
         (λ fault. IsFaulty (IsRefusedStrftime MOST_STEPS format.now) format.now (reason_of fault)) }
 {
     match parse_strftime::<MOST_STEPS>(format) {
-        Ok(description) => Ok(Chosen::Described(description)),
+        Ok(description) => Ok(Chosen::Described(Described::new(description))),
         Err(error) => Err(Fault::Description { format, error }),
     }
 }
@@ -156,7 +157,10 @@ impl Answering for Request {
     fn write_answer<W: Write>(&self, line: &[u8], out: &mut W) -> Result<(), Unwritten> {
         match &self.chosen {
             Chosen::Named(format) => write_parsed(*format, self.target, line, out),
-            Chosen::Described(description) => write_value(description, self.target, line, out),
+            Chosen::Described(described) => match described.prepared() {
+                Some(prepared) => write_value(prepared, self.target, line, out),
+                None => write_value(described.description(), self.target, line, out),
+            },
         }
     }
 }

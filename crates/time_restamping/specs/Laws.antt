@@ -29,16 +29,16 @@ abbrev pub OneVerdict : ℕ → Type 0
 OneVerdict Y = (job : Job) (line : List ℕ) (verdict other : Verdict)
     → IsJudged Y job line verdict → IsJudged Y job line other → verdict ≡ other
 
--- The first k digits of the moment's fraction are all that aren't 0.
+-- Each digit of the moment's fraction after the first k is 0.
 abbrev pub HasDigits : ℕ → OffsetDateTime → Type 0
 HasDigits k v = kept k (Times.nanosecond (offset_time v)) ≡ Times.nanosecond (offset_time v)
 
--- as many digits as it has
+-- That holds of as many as `Auto` writes.
 abbrev pub AutoHasAll : Type 0
 AutoHasAll = (v : OffsetDateTime) → HasDigits (written Auto v) v
 
--- The format reads all that is written of a moment: it is the one that writes it, and each digit that isn't 0 is
--- written. Of ISO 8601 it does so without defaults.
+-- The format reads all of a moment that is written so: it is the one that writes it, and each digit that isn't 0 is
+-- written. ISO 8601 does so without defaults.
 abbrev pub ReadsAll : Reading → Option Record → Writing → FractionDigits → OffsetDateTime → Type 0
 ReadsAll format defaults (Named Rfc3339) digits v = (format ≡ reading.Rfc3339) × HasDigits (written digits v) v
 ReadsAll format defaults (Named Rfc2822) digits v = (format ≡ reading.Rfc2822) × HasDigits 0 v

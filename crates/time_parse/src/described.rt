@@ -47,7 +47,7 @@ impl Described {
         &self.description
     }
 
-    /// What is prepared of it.
+    /// What is prepared of it, which is a part of the value and no second way of reading.
     #[inline(always)]
     pub fn prepared(&self) -> Option<&Prepared<MOST_STEPS>>
         ensures { IfSome result (λ p. steps_shape p.now ≡ steps_shape self.now) }

@@ -27,15 +27,22 @@ sign_of true = Negative
 sign_of false = Positive
 
 -- behind a sign, or alone
-pub sign_spelled : (below wanted mandatory : Bool) (behind alone : Form ℕ) (Behind Alone : List ℕ → Type 0) (digits rest : List ℕ) (n : ℕ)
+sign_spelled : (below wanted mandatory : Bool) (behind alone : Form ℕ) (Behind Alone : List ℕ → Type 0) (digits rest : List ℕ) (n : ℕ)
     → (wanted ≡ false → mandatory ≡ false) → (Behind rest → behind digits rest n) → (below ≡ false → wanted ≡ false → Alone rest → alone digits rest n)
     → SignedStops (sign_text below wanted) Behind Alone rest → IsSigned mandatory behind alone (sign_text below wanted ++ digits) rest (sign_of below, n)
 sign_spelled true wanted mandatory behind alone Behind Alone digits rest n free front whole stops = inl (digits, refl, front stops)
 sign_spelled false true mandatory behind alone Behind Alone digits rest n free front whole stops = inl (digits, refl, front stops)
 sign_spelled false false mandatory behind alone Behind Alone digits rest n free front whole stops = inr (free refl, refl, whole refl refl stops)
 
+-- a number that has one form behind a sign and alone
+pub same_spelled : (below mandatory : Bool) (form : Form ℕ) (digits rest : List ℕ) (n : ℕ) → form digits rest n
+    → IsSigned mandatory form form (sign_text below mandatory ++ digits) rest (sign_of below, n)
+same_spelled true mandatory form digits rest n run = inl (digits, refl, run)
+same_spelled false true form digits rest n run = inl (digits, refl, run)
+same_spelled false false form digits rest n run = inr (refl, refl, run)
+
 -- what is asked in both cases
-pub either_stops : (sign : List ℕ) (Stop : List ℕ → Type 0) (rest : List ℕ) → Stop rest → SignedStops sign Stop Stop rest
+either_stops : (sign : List ℕ) (Stop : List ℕ → Type 0) (rest : List ℕ) → Stop rest → SignedStops sign Stop Stop rest
 either_stops [] Stop rest stops = stops
 either_stops (c ∷ sign) Stop rest stops = stops
 
@@ -117,11 +124,10 @@ two_of_ten : (p : Padding) (n : ℕ) → 10 ≤ n → n < 100 → padded p 2 n �
 unfolding fixed
 two_of_ten p n many below = filled_other (filler p) ((48 + n / 10 % 10) ∷ (48 + n % 10) ∷ []) (omega arith) (λ e. omega (arith, e))
 
-two_alone : (text rest : List ℕ) (n : ℕ) → IsDigitRun 2 2 text rest n → IsDigitRun 1 2 text rest n
-two_alone text rest n run = run_padded padding.None 2 2 text rest n (omega arith) run
-
 bare_run : (p : Padding) (n : ℕ) (rest : List ℕ) → n < 100 → BareStops p n rest → IsDigitRun 1 2 (century_digits p n) rest n
-bare_run padding.Zero n rest below stops = rw (lt-ltb n 100 below) (two_alone (padded padding.Zero 2 n) rest n (padded_run padding.Zero 2 2 n rest (omega arith) (omega arith) below (inl (refl, tt))))
+bare_run padding.Zero n rest below stops =
+    let run = padded_run padding.Zero 2 2 n rest (omega arith) (omega arith) below (inl (refl, tt)) in
+    rw (lt-ltb n 100 below) (run_padded padding.None 2 2 (padded padding.Zero 2 n) rest n (omega arith) run)
 bare_run padding.None n rest below stops = narrow_run padding.None 2 n rest (omega arith) below stops
 bare_run padding.Space n rest below stops =
     rw (lt-ltb n 100 below, two_of_ten padding.Space n stops below) (fixed_run 1 2 2 n rest (omega arith) (omega arith) below (inl refl))
@@ -155,11 +161,9 @@ pub offset_hour_spelled : (mandatory : Bool) (p : Padding) (o : UtcOffset) (rest
     → SaysOffsetHour mandatory p (sign_text (is_behind o) mandatory ++ padded p 2 (unsigned_abs o.hours)) rest (flagged o.hours (is_behind o))
 offset_hour_spelled mandatory p o rest stops =
     let below = is_behind o in
-    let n = unsigned_abs o.hours in
-    let run : PaddedStops p rest → IsPaddedRun p 2 2 (padded p 2 n) rest n =
-    λ ends. padded_run p 2 2 n rest (omega arith) (omega arith) (omega (arith, abs_within 25 o.hours o.hours_in)) (inl (refl, ends)) in (
+    let n = unsigned_abs o.hours in (
       (sign_of below, n),
       ap (λ z. flagged z below) (signed-hours o.hours o.minutes o.seconds o.one_sign.0 o.one_sign.1) ∙ flagged_is below n,
-      sign_spelled below mandatory mandatory (IsPaddedRun p 2 2) (IsPaddedRun p 2 2) (PaddedStops p) (PaddedStops p) (padded p 2 n) rest n
-          (λ free. free) run (λ above free. run) (either_stops (sign_text below mandatory) (PaddedStops p) rest stops),
+      same_spelled below mandatory (IsPaddedRun p 2 2) (padded p 2 n) rest n
+          (padded_run p 2 2 n rest (omega arith) (omega arith) (omega (arith, abs_within 25 o.hours o.hours_in)) (inl (refl, stops))),
     )

@@ -1,5 +1,5 @@
 -- What is written of a component is read as what it says.
-use Rattle.std.proofs.Common.{◌≡◌, ℕ, ◌*◌, ◌^◌, ◌<◌, ◌≤◌, Bool, true, false, List, [], take, Ok, Result, inl, refl, ap, subst, sym, arith, ℤ, unsigned_abs}
+use Rattle.std.proofs.Common.{◌≡◌, ℕ, ◌-◌, ◌^◌, ◌<◌, ◌≤◌, Bool, true, false, List, [], take, Ok, Result, inl, refl, ap, subst, sym, arith, ℤ, unsigned_abs}
 use Rattle.std.specs.Prelude.{nat_le}
 use Rattle.std.proofs.lemmas.Bool.Decides.{nat_tests}
 use Rattle.std.specs.Str.{str_to_ascii_lowercase}
@@ -22,14 +22,14 @@ use Rattle.time_values.proofs.OffsetLemmas.{abs_within}
 use Rattle.time_formatting.specs.Components.{count_of, half_of, hour_12, weekday_of}
 use Rattle.time_formatting.specs.Laws.{ComponentSpelled}
 use Rattle.time_formatting.specs.Numbers.{count_text, padded}
-use Rattle.time_formatting.specs.Values.{PaddedStops, century_value, kept, last_two, units_value}
-use Rattle.time_formatting.specs.Years.{in_standard_range, iso_week, iso_year}
+use Rattle.time_formatting.specs.Values.{CenturyStops, PaddedStops, YearStops, century_value, kept, last_two, units_value}
+use Rattle.time_formatting.specs.Years.{century, full_year, in_standard_range, iso_week, iso_year}
 use Rattle.time_formatting.specs.declared.unformattable.Unformattable.{Unformattable}
 use Rattle.time_formatting.proofs.Bounds.{day_below, iso_week_below, iso_year_below, ordinal_below, weekdays_below, year_below}
 use Rattle.time_formatting.proofs.DigitRuns.{padded_run}
 use Rattle.time_formatting.proofs.FractionTexts.{fraction_spelled}
 use Rattle.time_formatting.proofs.SignedTexts.{century_extended, century_standard, offset_hour_spelled, year_extended, year_standard}
-use Rattle.time_formatting.proofs.TimestampTexts.{instant_size, timestamp_spelled}
+use Rattle.time_formatting.proofs.TimestampTexts.{timestamp_spelled}
 
 -- a text is that one
 abbrev IsText : Result (List ℕ) Unformattable → List ℕ → Type 0
@@ -53,12 +53,46 @@ named true name text is = sym (same_text name text is)
 named false name text is = ap str_to_ascii_lowercase (sym (same_text name text is))
 
 -- a year of the standard range
-standard_by : (y : ℤ) (a text : List ℕ) (b : Bool) → nat_le (unsigned_abs y) 9999 ≡ b → IsText (in_standard_range y a) text → (unsigned_abs y < 10 ^ 4) × (a ≡ text)
-standard_by y a text true few is = ((let small : unsigned_abs y ≤ 9999 = grind (arith, nat_tests) in omega (arith, small)), same_text a text (rw few at is))
+standard_by : (y : ℤ) (a text : List ℕ) (b : Bool) → nat_le (unsigned_abs y) 9999 ≡ b → IsText (in_standard_range y a) text
+    → (unsigned_abs y < 10 ^ 4) × (a ≡ text)
+standard_by y a text true few is = (let small : unsigned_abs y < 10 ^ 4 = grind (arith, nat_tests) in small, same_text a text (rw few at is))
 standard_by y a text false many is = let none = rw many at is in absurd (cc)
 
 standard : (y : ℤ) (a text : List ℕ) → IsText (in_standard_range y a) text → (unsigned_abs y < 10 ^ 4) × (a ≡ text)
 standard y a text = standard_by y a text (nat_le (unsigned_abs y) 9999) refl
+
+-- years and centuries
+module _ (mandatory : Bool) (p : Padding) (y : ℤ) (text rest : List ℕ) where
+  extended_year : unsigned_abs y < 10 ^ 6 → YearStops mandatory p y rest → IsText (Ok (full_year mandatory p y)) text
+      → SaysYear mandatory p 6 text rest (signed y)
+  extended_year below stops is =
+      subst (λ t. SaysYear mandatory p 6 t rest (signed y)) (same_text (full_year mandatory p y) text is) (year_extended mandatory p y rest below stops)
+
+  standard_year : PaddedStops p rest → IsText (in_standard_range y (full_year mandatory p y)) text → SaysYear mandatory p 4 text rest (signed y)
+  standard_year stops is =
+      let both = standard y (full_year mandatory p y) text is in
+      subst (λ t. SaysYear mandatory p 4 t rest (signed y)) both.1 (year_standard mandatory p y rest both.0 stops)
+
+  extended_century : unsigned_abs y < 10 ^ 6 → CenturyStops NoDigitFirst mandatory p y rest → IsText (Ok (century mandatory p y)) text
+      → SaysCentury mandatory p 4 text rest (century_value y)
+  extended_century below stops is =
+      subst (λ t. SaysCentury mandatory p 4 t rest (century_value y)) (same_text (century mandatory p y) text is)
+      (century_extended mandatory p y rest below stops)
+
+  standard_century : CenturyStops (PaddedStops p) mandatory p y rest → IsText (in_standard_range y (century mandatory p y)) text
+      → SaysCentury mandatory p 2 text rest (century_value y)
+  standard_century stops is =
+      let both = standard y (century mandatory p y) text is in
+      subst (λ t. SaysCentury mandatory p 2 t rest (century_value y)) both.1 (century_standard mandatory p y rest both.0 stops)
+
+-- units of 10 ^ k nanoseconds
+timestamp : (k : ℕ) (mandatory : Bool) (v : OffsetDateTime) (text rest : List ℕ) → k ≤ 9 → NoDigitFirst rest
+    → IsText (Ok (count_text (10 ^ k) mandatory (offset_instant greatest_year v))) text
+    → SaysTimestamp (10 ^ k) mandatory (23 - k) text rest (units_value (10 ^ k) (offset_instant greatest_year v))
+timestamp k mandatory v text rest few none is =
+    let z = offset_instant greatest_year v in
+    subst (λ t. SaysTimestamp (10 ^ k) mandatory (23 - k) t rest (units_value (10 ^ k) z)) (same_text (count_text (10 ^ k) mandatory z) text is)
+    (timestamp_spelled k mandatory v rest few none)
 
 ends : (trailing : TrailingInput) → EndsBy trailing []
 ends Prohibit = refl
@@ -66,15 +100,6 @@ ends Discard = tt
 
 hour_12_below : (h : ℕ) → hour_12 h < 100
 hour_12_below h = grind (arith, nat_tests)
-
--- an instant in units of which 10 ^ most are more than enough
-stamp : (unit most : ℕ) (mandatory : Bool) (v : OffsetDateTime) (text rest : List ℕ) → 1 ≤ most → 10 ^ most ≤ 10 ^ 64 → 0 < unit
-    → unit ≤ 1_000_000_000 → 10 ^ most * unit ≡ 10 ^ 23 → IsText (Ok (count_text unit mandatory (offset_instant greatest_year v))) text
-    → NoDigitFirst rest → SaysTimestamp unit mandatory most text rest (units_value unit (offset_instant greatest_year v))
-stamp unit most mandatory v text rest some wide unit_some unit_small size is none =
-    let z = offset_instant greatest_year v in
-    subst (λ t. SaysTimestamp unit mandatory most t rest (units_value unit z)) (same_text (count_text unit mandatory z) text is)
-    (timestamp_spelled unit most mandatory z rest some wide unit_some (omega (arith, size, unit_small, instant_size v)) none)
 
 pub component_spelled : ComponentSpelled greatest_year
 component_spelled v (component.Day m) whole text rest is stops =
@@ -106,37 +131,21 @@ component_spelled v (component.WeekNumberMonday m) whole text rest is stops =
     let n = Dates.weekdays_so_far greatest_year 0 v.date in
     (n, refl, pair_run m.padding n text rest (weekdays_below 0 v.date (omega arith)) stops is)
 component_spelled v (component.CalendarYearFullExtendedRange m) whole text rest is stops =
-    let y = Dates.year v.date in
-    subst (λ t. SaysYear m.sign_is_mandatory m.padding 6 t rest (signed y)) (same_text _ text is)
-    (year_extended m.sign_is_mandatory m.padding y rest (year_below v.date) stops)
+    extended_year m.sign_is_mandatory m.padding v.date.year text rest (year_below v.date) stops is
 component_spelled v (component.CalendarYearFullStandardRange m) whole text rest is stops =
-    let y = Dates.year v.date in let both = standard y _ text is in
-    subst (λ t. SaysYear m.sign_is_mandatory m.padding 4 t rest (signed y)) both.1
-    (year_standard m.sign_is_mandatory m.padding y rest both.0 stops)
+    standard_year m.sign_is_mandatory m.padding v.date.year text rest stops is
 component_spelled v (component.IsoYearFullExtendedRange m) whole text rest is stops =
-    let y = iso_year greatest_year v.date in
-    subst (λ t. SaysYear m.sign_is_mandatory m.padding 6 t rest (signed y)) (same_text _ text is)
-    (year_extended m.sign_is_mandatory m.padding y rest (iso_year_below v.date) stops)
+    extended_year m.sign_is_mandatory m.padding (iso_year greatest_year v.date) text rest (iso_year_below v.date) stops is
 component_spelled v (component.IsoYearFullStandardRange m) whole text rest is stops =
-    let y = iso_year greatest_year v.date in let both = standard y _ text is in
-    subst (λ t. SaysYear m.sign_is_mandatory m.padding 4 t rest (signed y)) both.1
-    (year_standard m.sign_is_mandatory m.padding y rest both.0 stops)
+    standard_year m.sign_is_mandatory m.padding (iso_year greatest_year v.date) text rest stops is
 component_spelled v (component.CalendarYearCenturyExtendedRange m) whole text rest is stops =
-    let y = Dates.year v.date in
-    subst (λ t. SaysCentury m.sign_is_mandatory m.padding 4 t rest (century_value y)) (same_text _ text is)
-    (century_extended m.sign_is_mandatory m.padding y rest (year_below v.date) stops)
+    extended_century m.sign_is_mandatory m.padding v.date.year text rest (year_below v.date) stops is
 component_spelled v (component.CalendarYearCenturyStandardRange m) whole text rest is stops =
-    let y = Dates.year v.date in let both = standard y _ text is in
-    subst (λ t. SaysCentury m.sign_is_mandatory m.padding 2 t rest (century_value y)) both.1
-    (century_standard m.sign_is_mandatory m.padding y rest both.0 stops)
+    standard_century m.sign_is_mandatory m.padding v.date.year text rest stops is
 component_spelled v (component.IsoYearCenturyExtendedRange m) whole text rest is stops =
-    let y = iso_year greatest_year v.date in
-    subst (λ t. SaysCentury m.sign_is_mandatory m.padding 4 t rest (century_value y)) (same_text _ text is)
-    (century_extended m.sign_is_mandatory m.padding y rest (iso_year_below v.date) stops)
+    extended_century m.sign_is_mandatory m.padding (iso_year greatest_year v.date) text rest (iso_year_below v.date) stops is
 component_spelled v (component.IsoYearCenturyStandardRange m) whole text rest is stops =
-    let y = iso_year greatest_year v.date in let both = standard y _ text is in
-    subst (λ t. SaysCentury m.sign_is_mandatory m.padding 2 t rest (century_value y)) both.1
-    (century_standard m.sign_is_mandatory m.padding y rest both.0 stops)
+    standard_century m.sign_is_mandatory m.padding (iso_year greatest_year v.date) text rest stops is
 component_spelled v (component.CalendarYearLastTwo m) whole text rest is stops =
     let n = last_two (Dates.year v.date) in (n, refl, pair_run m.padding n text rest (omega arith) stops is)
 component_spelled v (component.IsoYearLastTwo m) whole text rest is stops =
@@ -168,9 +177,9 @@ component_spelled v (component.OffsetSecond m) whole text rest is stops =
     let n = unsigned_abs v.offset.seconds in let few = abs_within 59 v.offset.seconds v.offset.seconds_in in
     (n, refl, pair_run m.padding n text rest (omega (arith, few)) stops is)
 component_spelled v (component.Ignore m) whole text rest is stops = absurd (cc)
-component_spelled v (component.UnixTimestampSecond m) whole text rest is stops = stamp 1_000_000_000 14 m.sign_is_mandatory v text rest (omega arith) (omega arith) (omega arith) (omega arith) refl is stops
-component_spelled v (component.UnixTimestampMillisecond m) whole text rest is stops = stamp 1_000_000 17 m.sign_is_mandatory v text rest (omega arith) (omega arith) (omega arith) (omega arith) refl is stops
-component_spelled v (component.UnixTimestampMicrosecond m) whole text rest is stops = stamp 1000 20 m.sign_is_mandatory v text rest (omega arith) (omega arith) (omega arith) (omega arith) refl is stops
-component_spelled v (component.UnixTimestampNanosecond m) whole text rest is stops = stamp 1 23 m.sign_is_mandatory v text rest (omega arith) (omega arith) (omega arith) (omega arith) refl is stops
+component_spelled v (component.UnixTimestampSecond m) whole text rest is stops = timestamp 9 m.sign_is_mandatory v text rest (omega arith) stops is
+component_spelled v (component.UnixTimestampMillisecond m) whole text rest is stops = timestamp 6 m.sign_is_mandatory v text rest (omega arith) stops is
+component_spelled v (component.UnixTimestampMicrosecond m) whole text rest is stops = timestamp 3 m.sign_is_mandatory v text rest (omega arith) stops is
+component_spelled v (component.UnixTimestampNanosecond m) whole text rest is stops = timestamp 0 m.sign_is_mandatory v text rest (omega arith) stops is
 component_spelled v (component.End m) whole text rest is stops =
     (refl, stops, subst (EndsBy m.trailing_input) (same_text [] text is) (ends m.trailing_input))

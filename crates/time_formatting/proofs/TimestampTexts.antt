@@ -1,22 +1,24 @@
 -- What is written of an instant is read as its whole units.
-use Rattle.std.proofs.Common.{◌≡◌, ℕ, ◌+◌, ◌*◌, ◌/◌, ◌%◌, ◌^◌, ◌<◌, ◌≤◌, Bool, List, [], ◌∷◌, ◌++◌, length, inr, refl, arith, ℤ, pos, negsuc, ◌≤ℤ◌, neg_ℤ, unsigned_abs}
+use Rattle.std.proofs.Common.{◌≡◌, ℕ, ◌+◌, ◌*◌, ◌/◌, ◌%◌, ◌^◌, ◌<◌, ◌≤◌, Bool, List, [], ◌∷◌, ◌++◌, length, inr, refl, ap, sym, ◌-◌, ◌∙◌, arith, ℤ, pos, negsuc, neg_ℤ, unsigned_abs}
 use Rattle.std.specs.Fmt.{decimal}
 use Rattle.std.specs.Prelude.{int_lt}
 use Rattle.std.proofs.lemmas.Fmt.{decimal_by_steps_wide, length-decimal-le_wide}
 use Rattle.std.proofs.lemmas.Int.{ints}
 use Rattle.std.proofs.lemmas.List.{length-append}
-use Rattle.std.proofs.lemmas.Nat.{le-div}
+use Rattle.std.proofs.lemmas.Nat.{le-div, pow-add}
 use Rattle.std.proofs.Math.Nat.{add-mul, div-lt_iff_lt-mul, div-mul-le_self}
 use Rattle.time_components.specs.Spelling.{SaysTimestamp, scaled_value}
 use Rattle.time_digits.specs.Digits.{AllDigits, IsDigitRun, NoDigitFirst, digits_value}
-use Rattle.time_digits.proofs.Runs.{AllDigits-push, digits_value-push}
+use Rattle.time_digits.proofs.Runs.{AllDigits-push, digits_value-push, pow-mono}
+use Rattle.time_values.specs.Calendar.{IsBetween}
 use Rattle.time_values.specs.Moments.{offset_instant}
 use Rattle.time_values.specs.Range.{greatest_year}
 use Rattle.time_values.specs.declared.offset_date_time.OffsetDateTime.{OffsetDateTime}
 use Rattle.time_values.proofs.InstantLemmas.{clock_nanos_range, first_instant_is, instant_is, last_instant_is}
-use Rattle.time_formatting.specs.Numbers.{count_text, sign_text, whole}
+use Rattle.time_values.proofs.OffsetLemmas.{abs_within}
+use Rattle.time_formatting.specs.Numbers.{count_text, whole}
 use Rattle.time_formatting.specs.Values.{units_value}
-use Rattle.time_formatting.proofs.SignedTexts.{either_stops, not_below, sign_of, sign_spelled}
+use Rattle.time_formatting.proofs.SignedTexts.{not_below, same_spelled, sign_of}
 
 -- the digits of a decimal number
 record IsNumeral (n : ℕ) (text : List ℕ) : Type 0 where
@@ -58,25 +60,30 @@ whole_below unit k (negsuc n) some below =
     let most : (n + unit) / unit < k = (div-lt_iff_lt-mul some).1 (omega (arith, below)) in
     omega (arith, least, most)
 
-pub timestamp_spelled : (unit most : ℕ) (mandatory : Bool) (z : ℤ) (rest : List ℕ) → 1 ≤ most → 10 ^ most ≤ 10 ^ 64 → 0 < unit
-    → unsigned_abs z + unit < 10 ^ most * unit → NoDigitFirst rest → SaysTimestamp unit mandatory most (count_text unit mandatory z) rest (units_value unit z)
-timestamp_spelled unit most mandatory z rest some wide unit_some size none =
-    let below = whole_below unit (10 ^ most) z unit_some size in
-    let small : unsigned_abs (whole unit z) < 10 ^ 64 = omega (arith, below, wide) in
-    let n = unsigned_abs (whole unit z) in
-    let run : NoDigitFirst rest → IsDigitRun 1 most (decimal n) rest n = decimal_run most n rest some below small in (
-      (sign_of (int_lt z (pos 0)), n),
-      units_are unit z,
-      sign_spelled (int_lt z (pos 0)) mandatory mandatory (IsDigitRun 1 most) (IsDigitRun 1 most) NoDigitFirst NoDigitFirst (decimal n) rest n
-          (λ free. free) run (λ above free. run) (either_stops (sign_text (int_lt z (pos 0)) mandatory) NoDigitFirst rest none),
+-- an instant has 23 digits at most
+near_size : (z : ℤ) → IsBetween (neg_ℤ (pos 31_700_000_000_000_000_000_000)) (pos 31_700_000_000_000_000_000_000) z → unsigned_abs z + 10 ^ 9 < 10 ^ 23
+near_size z near = omega (arith, abs_within 31_700_000_000_000_000_000_000 z near)
+
+instant_size : (v : OffsetDateTime) → unsigned_abs (offset_instant greatest_year v) + 10 ^ 9 < 10 ^ 23
+instant_size v =
+    let is = instant_is v.date v.time v.offset in
+    let clock = clock_nanos_range v.date v.time in
+    near_size (offset_instant greatest_year v) (
+      omega (arith, ints, is, clock, first_instant_is, v.offset.hours_in, v.offset.minutes_in, v.offset.seconds_in),
+      omega (arith, ints, is, clock, last_instant_is, v.offset.hours_in, v.offset.minutes_in, v.offset.seconds_in),
     )
 
-near_size : (z : ℤ) → z ≤ℤ pos 31_700_000_000_000_000_000_000 → neg_ℤ (pos 31_700_000_000_000_000_000_000) ≤ℤ z → unsigned_abs z + 1_000_000_000 < 10 ^ 23
-near_size (pos n) high low = omega (arith, ints, high)
-near_size (negsuc n) high low = omega (arith, ints, low)
-
-pub instant_size : (v : OffsetDateTime) → unsigned_abs (offset_instant greatest_year v) + 1_000_000_000 < 10 ^ 23
-instant_size v =
-    near_size (offset_instant greatest_year v)
-    (omega (arith, ints, instant_is v.date v.time v.offset, clock_nanos_range v.date v.time, last_instant_is, v.offset.hours_in, v.offset.minutes_in, v.offset.seconds_in))
-    (omega (arith, ints, instant_is v.date v.time v.offset, clock_nanos_range v.date v.time, first_instant_is, v.offset.hours_in, v.offset.minutes_in, v.offset.seconds_in))
+-- so many units of 10 ^ k nanoseconds
+pub timestamp_spelled : (k : ℕ) (mandatory : Bool) (v : OffsetDateTime) (rest : List ℕ) → k ≤ 9 → NoDigitFirst rest
+    → SaysTimestamp (10 ^ k) mandatory (23 - k) (count_text (10 ^ k) mandatory (offset_instant greatest_year v)) rest
+    (units_value (10 ^ k) (offset_instant greatest_year v))
+timestamp_spelled k mandatory v rest few none =
+    let z = offset_instant greatest_year v in
+    let n = unsigned_abs (whole (10 ^ k) z) in
+    let all : 10 ^ (23 - k) * 10 ^ k ≡ 10 ^ 23 = let sum : 23 - k + k ≡ 23 = omega arith in sym (pow-add 10 (23 - k) k) ∙ ap (λ i. 10 ^ i) sum in
+    let below = whole_below (10 ^ k) (10 ^ (23 - k)) z (omega (arith, pow-mono 0 k)) (omega (arith, all, instant_size v, pow-mono k 9 few)) in
+    let small : n < 10 ^ 64 = omega (arith, below, pow-mono (23 - k) 64) in (
+      (sign_of (int_lt z (pos 0)), n),
+      units_are (10 ^ k) z,
+      same_spelled (int_lt z (pos 0)) mandatory (IsDigitRun 1 (23 - k)) (decimal n) rest n (decimal_run (23 - k) n rest (omega arith) below small none),
+    )

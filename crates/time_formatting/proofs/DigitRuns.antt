@@ -142,12 +142,13 @@ padded_run padding.None k most n rest some within below ends =
     (elim ends [ inl both ↦ inr both.1 | inr none ↦ inr none ]))
 padded_run padding.Space k most n rest some within below ends =
     let long = fixed-length k n in
-    let s = stripped (fixed k n) (omega (arith, long)) (fixed-digits k n) in record {
+    let s = stripped (fixed k n) (omega (arith, long)) (fixed-digits k n) in
+    let all = s.long in record {
       spaces = s.zeros;
       digits = s.left;
       cut = s.spaced;
-      few = omega (arith, s.long, s.some, long);
+      few = omega (arith, all, s.some, long);
       all = inr (no_space s.left rest s.some s.all);
-      run = left_run (k - s.zeros) (most - s.zeros) n (fixed k n) rest s (sym (fixed-value k n below)) (omega (arith, s.long, long)) (omega (arith, s.long, long))
-          (elim ends [ inl both ↦ inl (omega (arith, s.long, long, both.0)) | inr none ↦ inr none ]);
+      run = left_run (k - s.zeros) (most - s.zeros) n (fixed k n) rest s (sym (fixed-value k n below)) (omega (arith, all, long)) (omega (arith, all, long))
+          (elim ends [ inl both ↦ inl (omega (arith, all, long, both.0)) | inr none ↦ inr none ]);
     }

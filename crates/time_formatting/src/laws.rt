@@ -2,8 +2,8 @@
 ghost use Rattle.time_formatting.specs.Laws.{ComponentSpelled};
 ghost use Rattle.time_values.specs.Range.{greatest_year};
 
-/// The text that is written of a component, before each rest that may stand behind it, is spelled so for the readers, and
-/// says what the component says of the moment.
+/// The text that is written of a component, before each rest that may stand behind it, is spelled so for the readers,
+/// and says what the component says of the moment.
 pub fn law_component_spelled()
     ensures { ComponentSpelled greatest_year }
 {}

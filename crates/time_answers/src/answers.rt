@@ -5,17 +5,13 @@ ghost use Rattle.time_values.specs.Range.{greatest_year};
 ghost use Rattle.time_values.specs.Refusal.{refusal_of};
 ghost use Rattle.time_values.specs.Texts.{refusal_text};
 ghost use Rattle.time_parsing.specs.Outcome.{seen};
-ghost use Rattle.time_answers.specs.Formats as formats;
-ghost use Rattle.time_answers.specs.Output.{IsAnswerFor, IsDescribed, IsParsed, Writes};
+ghost use Rattle.time_answers.specs.Output.{IsAnswerFor, Writes};
 ghost use Rattle.time_answers.specs.Values.{printed};
 
-use crate::formats::{
-    Format, Target, clock_items, compound, date_items, first, fraction_items, local_items,
-    second_items, unix,
-};
+use crate::formats::Target;
 use crate::layout::Layout;
 use std::io::Write;
-use time_parsing::{Iso8601, Parsable, Rfc2822, Rfc3339};
+use time_parsing::Parsable;
 use time_record::Parsed;
 use time_values::error::Parse;
 
@@ -79,63 +75,5 @@ pub fn write_value<F: Parsable, W: Write>(
             )
         }
         Target::Timestamp => write_outcome(format.parse_timestamp(text, None), out),
-    }
-}
-
-// Writes the outcome of the text by a description of a date.
-#[inline(always)]
-fn write_ymd<W: Write>(target: Target, text: &[u8], out: &mut W) -> Result<(), Unwritten>
-    ensures { OnOk result (Writes (IsDescribed greatest_year formats.ymd target text.now)
-        (W.contents out.old) (W.contents out.new)) }
-{
-    let items = date_items();
-    write_value(&compound(&items), target, text, out)
-}
-
-// Writes the outcome of the text by a description of a time on a clock of 12 hours.
-#[inline(always)]
-fn write_clock<W: Write>(target: Target, text: &[u8], out: &mut W) -> Result<(), Unwritten>
-    ensures { OnOk result (Writes (IsDescribed greatest_year formats.clock target text.now)
-        (W.contents out.old) (W.contents out.new)) }
-{
-    let fraction = fraction_items();
-    let fraction = compound(&fraction);
-    let seconds = second_items(&fraction);
-    let seconds = compound(&seconds);
-    let items = clock_items(&seconds);
-    write_value(&compound(&items), target, text, out)
-}
-
-// Writes the outcome of the text by a description of a date, time and offset, or of a year and its day.
-#[inline(always)]
-fn write_local<W: Write>(target: Target, text: &[u8], out: &mut W) -> Result<(), Unwritten>
-    ensures { OnOk result (Writes (IsDescribed greatest_year formats.local target text.now)
-        (W.contents out.old) (W.contents out.new)) }
-{
-    let items = local_items();
-    let (date_time, ordinal) = items.split_at(15);
-    let lists = [compound(date_time), compound(ordinal)];
-    write_value(&first(&lists), target, text, out)
-}
-
-/// Writes the outcome of the text by a format that has a name.
-#[inline(always)]
-pub fn write_parsed<W: Write>(
-    format: Format,
-    target: Target,
-    text: &[u8],
-    out: &mut W,
-) -> Result<(), Unwritten>
-    ensures { OnOk result (Writes (IsParsed greatest_year format target text.now)
-        (W.contents out.old) (W.contents out.new)) }
-{
-    match format {
-        Format::Rfc3339 => write_value(&Rfc3339, target, text, out),
-        Format::Rfc2822 => write_value(&Rfc2822, target, text, out),
-        Format::Iso8601 => write_value(&Iso8601, target, text, out),
-        Format::Ymd => write_ymd(target, text, out),
-        Format::Clock => write_clock(target, text, out),
-        Format::Unix => write_value(&unix(), target, text, out),
-        Format::Local => write_local(target, text, out),
     }
 }

@@ -5,8 +5,10 @@ mod answers;
 mod cuts;
 pub mod formats;
 mod layout;
+mod named;
 mod serving;
 mod waiting;
 
-pub use answers::{Unwritten, write_parsed, write_value};
+pub use answers::{Unwritten, write_value};
+pub use named::Named;
 pub use serving::{Answering, Stop, run, serve};

@@ -12,7 +12,7 @@ mod fast;
 use crate::cuts::cut_tab;
 use std::io::Write;
 use time_answers::formats::{Format, Target, find_format, find_target};
-use time_answers::{Answering, Unwritten, write_parsed};
+use time_answers::{Answering, Named, Unwritten};
 
 // What a line asks for: a format, a target and a text; or else what is wrong with it.
 type Request<'a> = Result<(Format, Target, &'a [u8]), &'static [u8]>;
@@ -42,8 +42,19 @@ fn cut_request(line: &[u8]) -> Request<'_>
 }
 
 /// Answers lines, of which each is a format, TAB, a target, TAB and a text.
-#[derive(Clone, Copy)]
-pub struct Fields;
+#[derive(Drop)]
+pub struct Fields {
+    named: Named,
+}
+
+impl Fields {
+    /// What answers lines, with the descriptions that they may name prepared.
+    pub fn new() -> Fields {
+        Fields {
+            named: Named::new(),
+        }
+    }
+}
 
 impl Answering for Fields {
     ghost is_answer = { λ _. IsAnswer greatest_year };
@@ -62,6 +73,6 @@ impl Answering for Fields {
                 }
             },
         };
-        write_parsed(format, target, text, out)
+        self.named.write_parsed(format, target, text, out)
     }
 }

@@ -17,7 +17,7 @@ use time_answers::Stop;
 pub fn run<W: Write>(input: &[u8], out: &mut W) -> io::Result<()>
     ensures { OnOk result (WritesAnswers greatest_year (W.contents out.old) (W.contents out.new) input.now) }
 {
-    time_answers::run(&Fields, input, out)
+    time_answers::run(&Fields::new(), input, out)
 }
 
 /// Reads the input to its end, with 4294967296 reads at most, and writes the answer to each of its
@@ -45,5 +45,5 @@ pub(crate) fn serve_in<R: Read, W: Write, A: Allocator>(
     ensures unread { result ≡ Err Stop.Unread → out.new ≡ out.old }
     ensures memory { result ≡ Err Stop.Memory → out.new ≡ out.old }
 {
-    time_answers::serve(&Fields, alloc, input, out)
+    time_answers::serve(&Fields::new(), alloc, input, out)
 }

@@ -26,7 +26,7 @@ pub data Meaning : Type 0 where
   described : Tree → Meaning
 
 abbrev pub meaning_of : Chosen → Meaning
-meaning_of (chosen.Named format) = named format
+meaning_of (chosen.Named format all) = named format
 meaning_of (chosen.Described steps) = described (steps_shape steps)
 
 -- the number of a version

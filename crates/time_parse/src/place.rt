@@ -207,7 +207,7 @@ fn write_chosen_place<W: Write>(
         (W.contents out.old) (W.contents out.new)) }
 {
     match chosen {
-        Chosen::Named(format) => write_named_place(*format, target, text, out),
+        Chosen::Named(format, _) => write_named_place(*format, target, text, out),
         Chosen::Described(described) => write_place(described.description(), target, text, out),
     }
 }

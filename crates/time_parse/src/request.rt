@@ -13,7 +13,7 @@ use crate::described::Described;
 use crate::fault::Fault;
 use std::io::Write;
 use time_answers::formats::{Format, Target, find_format, find_target};
-use time_answers::{Answering, Unwritten, write_parsed, write_value};
+use time_answers::{Answering, Named, Unwritten, write_value};
 use time_descriptions::{Description, InvalidFormatDescription, parse_borrowed, parse_strftime};
 
 // The most steps that a description may have. One of so many bytes has room.
@@ -44,8 +44,8 @@ pub enum Writing {
 /// The format that reads a text.
 #[derive(Drop)]
 pub enum Chosen {
-    /// One that has a name.
-    Named(Format),
+    /// One that has a name, and those that have one.
+    Named(Format, Named),
     /// One that is described.
     Described(Described),
 }
@@ -120,7 +120,7 @@ fn choose(version: Version, format: &[u8]) -> Result<Chosen, Fault<'_>>
         (λ fault. IsFaultBy (writing_of format.now) version format.now (reason_of fault)) }
 {
     match find_writing(format) {
-        Writing::Name(named) => Ok(Chosen::Named(named)),
+        Writing::Name(format) => Ok(Chosen::Named(format, Named::new())),
         Writing::Brackets => bracketed(version, format),
         Writing::Strftime => lettered(format),
         Writing::Unknown => Err(Fault::UnknownFormat { name: format }),
@@ -156,7 +156,7 @@ impl Answering for Request {
     #[inline(always)]
     fn write_answer<W: Write>(&self, line: &[u8], out: &mut W) -> Result<(), Unwritten> {
         match &self.chosen {
-            Chosen::Named(format) => write_parsed(*format, self.target, line, out),
+            Chosen::Named(format, named) => named.write_parsed(*format, self.target, line, out),
             Chosen::Described(described) => match described.prepared() {
                 Some(prepared) => write_value(prepared, self.target, line, out),
                 None => write_value(described.description(), self.target, line, out),

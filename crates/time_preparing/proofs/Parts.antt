@@ -6,7 +6,7 @@ use Rattle.time_digits.specs.Cuts.{Cut}
 use Rattle.time_components.specs.Spelling.{Spells, Value, flagged, number, signed}
 use Rattle.time_components.specs.Tree.{Tree, Trees, component, literal, optional, sequence, more, none}
 use Rattle.time_components.specs.declared.format_description.Component.{Component}
-use Rattle.time_components.specs.declared.format_description.Component.TheVariants.{CalendarYearFullExtendedRange, Day, Hour24, Minute, Second, Subsecond, OffsetHour, OffsetMinute}
+use Rattle.time_components.specs.declared.format_description.Component.TheVariants.{CalendarYearFullExtendedRange, CalendarYearFullStandardRange, Day, Hour24, Minute, Second, Subsecond, OffsetHour, OffsetMinute}
 use Rattle.time_components.specs.declared.modifier.Day.{Day as Day'}
 use Rattle.time_record.specs.Components.{put_value}
 use Rattle.time_record.specs.Reading.{Reads, ReadsAll}
@@ -15,7 +15,7 @@ use Rattle.time_record.specs.WalkFast.{MayRead}
 use Rattle.time_record.proofs.ComponentLemmas.{reads_literal}
 use Rattle.time_preparing.specs.Walk.{fraction_tree, leaves, MayReadAll, seconds_tree}
 use Rattle.time_preparing.specs.Forms.{bytes_of, offset_parts}
-use Rattle.time_preparing.specs.declared.forms.TheConstants.{YEAR, HOUR, MINUTE, SECOND, SUBSECOND, OFFSET_HOUR, OFFSET_MINUTE}
+use Rattle.time_preparing.specs.declared.forms.TheConstants.{YEAR, STANDARD_YEAR, HOUR, MINUTE, SECOND, SUBSECOND, OFFSET_HOUR, OFFSET_MINUTE}
 
 module _ (Y : ℕ) where
   -- nothing is left to read
@@ -107,6 +107,10 @@ module _ (Y : ℕ) where
   pub put_year : (y : ℤ) (r : Record) → nat_le (unsigned_abs y) Y ≡ true →
       put_value Y (CalendarYearFullExtendedRange YEAR) (signed y) r ≡ Some (record r { year = Some y })
   put_year y r within = rw within refl
+
+  pub put_standard_year : (y : ℤ) (r : Record) → nat_le (unsigned_abs y) Y ≡ true →
+      put_value Y (CalendarYearFullStandardRange STANDARD_YEAR) (signed y) r ≡ Some (record r { year = Some y })
+  put_standard_year y r within = rw within refl
 
   pub put_day : (m : Day') (b rest : List ℕ) (n : ℕ) (r : Record) → Cut (Spells false (Day m)) b rest (number n) → n ≤ 31 →
       put_value Y (Day m) (number n) r ≡ Some (record r { day = Some n })

@@ -30,7 +30,7 @@ use Rattle.time_preparing.specs.Whole.{dated, IsLed, IsOf, IsWholeSecond, Leads,
 use Rattle.time_preparing.specs.declared.forms.InMoment.{InMoment}
 use Rattle.time_preparing.specs.declared.forms.OffsetNumbers.{OffsetNumbers}
 use Rattle.time_preparing.specs.declared.forms.Dated.{Dated}
-use Rattle.time_preparing.specs.declared.forms.Dated.TheVariants.{YearFirst, DayFirst}
+use Rattle.time_preparing.specs.declared.forms.Dated.TheVariants.{YearFirst, StandardYearFirst, DayFirst}
 use Rattle.time_preparing.specs.declared.whole.Whole.{Whole}
 use Rattle.time_preparing.specs.declared.whole.Whole.TheVariants as whole
 use Rattle.time_preparing.proofs.Parts.{byte_read}
@@ -139,6 +139,7 @@ plain_joined (step.Group g len ∷ xs) ys p q = absurd p
 
 plain_date_form : (form : Dated) → AllPlain (dated_parts form)
 plain_date_form (YearFirst b) = tt
+plain_date_form (StandardYearFirst b) = tt
 plain_date_form (DayFirst b) = tt
 
 plain_offset : (b : Option ℕ) → AllPlain (offset_parts b)

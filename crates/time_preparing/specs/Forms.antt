@@ -1,23 +1,31 @@
 -- The steps of forms whose parts stand at fixed places, and the records that their numbers make.
 use Rattle.std.specs.Prelude.{ℕ, List, [], ◌∷◌, ◌++◌, Option, None, Some}
 use Rattle.std.specs.Int.NonZero.{non_zero_u8_get}
-use Rattle.time_components.specs.declared.format_description.Component.TheVariants.{CalendarYearFullExtendedRange, MonthNumerical, MonthShort, Day, Hour24, Minute, Second, OffsetHour, OffsetMinute}
+use Rattle.time_components.specs.declared.format_description.Component.{Component}
+use Rattle.time_components.specs.declared.format_description.Component.TheVariants.{CalendarYearFullExtendedRange, CalendarYearFullStandardRange, MonthNumerical, MonthShort, Day, Hour24, Minute, Second, OffsetHour, OffsetMinute}
 use Rattle.time_components.specs.declared.step.Step.{Step}
 use Rattle.time_components.specs.declared.step.Step.TheVariants as step
 use Rattle.time_record.specs.Record.{Record}
 use Rattle.time_preparing.specs.declared.forms.Dated.{Dated}
-use Rattle.time_preparing.specs.declared.forms.Dated.TheVariants.{YearFirst, DayFirst}
+use Rattle.time_preparing.specs.declared.forms.Dated.TheVariants.{YearFirst, StandardYearFirst, DayFirst}
 use Rattle.time_preparing.specs.declared.forms.DateNumbers.{DateNumbers}
 use Rattle.time_preparing.specs.declared.forms.ClockNumbers.{ClockNumbers}
 use Rattle.time_preparing.specs.declared.forms.OffsetNumbers.{OffsetNumbers}
-use Rattle.time_preparing.specs.declared.forms.TheConstants.{YEAR, MONTH, MONTH_NAME, DAY, HOUR, MINUTE, SECOND, OFFSET_HOUR, OFFSET_MINUTE}
+use Rattle.time_preparing.specs.declared.forms.TheConstants.{YEAR, STANDARD_YEAR, MONTH, MONTH_NAME, DAY, HOUR, MINUTE, SECOND, OFFSET_HOUR, OFFSET_MINUTE}
 
--- a year, a month and a day, with this byte between them
-abbrev pub date_parts : ℕ → List Step
-date_parts b =
-    step.Component (CalendarYearFullExtendedRange YEAR) ∷ step.Literal b
-    ∷ step.Component (MonthNumerical MONTH) ∷ step.Literal b
+-- a year by this component, a month and a day, with this byte between them
+abbrev pub year_first_parts : Component → ℕ → List Step
+year_first_parts year b =
+    step.Component year ∷ step.Literal b ∷ step.Component (MonthNumerical MONTH) ∷ step.Literal b
     ∷ step.Component (Day DAY) ∷ []
+
+-- a year, a month and a day
+abbrev pub date_parts : ℕ → List Step
+date_parts b = year_first_parts (CalendarYearFullExtendedRange YEAR) b
+
+-- the same with a year of four digits at most
+abbrev pub standard_date_parts : ℕ → List Step
+standard_date_parts b = year_first_parts (CalendarYearFullStandardRange STANDARD_YEAR) b
 
 -- a day, the short name of a month and a year
 abbrev pub day_first_parts : ℕ → List Step
@@ -28,6 +36,7 @@ day_first_parts b =
 
 abbrev pub dated_parts : Dated → List Step
 dated_parts (YearFirst b) = date_parts b
+dated_parts (StandardYearFirst b) = standard_date_parts b
 dated_parts (DayFirst b) = day_first_parts b
 
 -- an hour, a minute and a second

@@ -1,6 +1,6 @@
 //! Forms of dates, times and offsets whose parts stand at fixed places, and the steps that each is written by.
 ghost use Rattle.std.specs.Prelude.{◌≡◌, IsTrue, Some, None};
-ghost use Rattle.time_preparing.specs.Forms.{date_parts, day_first_parts, offset_parts, time_parts};
+ghost use Rattle.time_preparing.specs.Forms.{date_parts, day_first_parts, offset_parts, standard_date_parts, time_parts, year_first_parts};
 
 pub(crate) mod fast;
 
@@ -13,6 +13,8 @@ use time_values::Month;
 pub(crate) enum Dated {
     /// A year of four digits, a month and a day, as `2021-03-04`.
     YearFirst(u8),
+    /// The same by a description that takes no year of more digits.
+    StandardYearFirst(u8),
     /// A day, the short name of a month and a year of four digits, as `04/Mar/2021`.
     DayFirst(u8),
 }
@@ -62,6 +64,12 @@ pub(crate) const YEAR: modifier::CalendarYearFullExtendedRange =
         sign_is_mandatory: false,
     };
 
+pub(crate) const STANDARD_YEAR: modifier::CalendarYearFullStandardRange =
+    modifier::CalendarYearFullStandardRange {
+        padding: Padding::Zero,
+        sign_is_mandatory: false,
+    };
+
 pub(crate) const MONTH: modifier::MonthNumerical = modifier::MonthNumerical {
     padding: Padding::Zero,
 };
@@ -103,17 +111,34 @@ pub(crate) const OFFSET_MINUTE: modifier::OffsetMinute = modifier::OffsetMinute 
     padding: Padding::Zero,
 };
 
-/// The steps of a date whose year stands first.
-pub(crate) fn date_steps(between: u8) -> [Step; 5]
-    ensures { result ≡ date_parts between }
+// The steps of a date whose year, which this component reads, stands first.
+fn year_first_steps(year: Component, between: u8) -> [Step; 5]
+    ensures { result ≡ year_first_parts year between }
 {
     [
-        Step::Component(Component::CalendarYearFullExtendedRange(YEAR)),
+        Step::Component(year),
         Step::Literal(between),
         Step::Component(Component::MonthNumerical(MONTH)),
         Step::Literal(between),
         Step::Component(Component::Day(DAY)),
     ]
+}
+
+/// The steps of a date whose year stands first.
+pub(crate) fn date_steps(between: u8) -> [Step; 5]
+    ensures { result ≡ date_parts between }
+{
+    year_first_steps(Component::CalendarYearFullExtendedRange(YEAR), between)
+}
+
+/// The same with a year of four digits at most.
+pub(crate) fn standard_date_steps(between: u8) -> [Step; 5]
+    ensures { result ≡ standard_date_parts between }
+{
+    year_first_steps(
+        Component::CalendarYearFullStandardRange(STANDARD_YEAR),
+        between,
+    )
 }
 
 /// The steps of a date whose day stands first.
@@ -214,6 +239,9 @@ fn is_same_component(component: &Component, other: &Component) -> bool
     match other {
         Component::CalendarYearFullExtendedRange(year) => {
             is_variant!(component, CalendarYearFullExtendedRange, year)
+        }
+        Component::CalendarYearFullStandardRange(year) => {
+            is_variant!(component, CalendarYearFullStandardRange, year)
         }
         Component::MonthNumerical(month) => is_variant!(component, MonthNumerical, month),
         Component::MonthShort(month) => is_variant!(component, MonthShort, month),

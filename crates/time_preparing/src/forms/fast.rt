@@ -12,7 +12,7 @@ ghost use Rattle.time_components.specs.Spelling.{Says, Spells, month as month_, 
 ghost use Rattle.time_components.specs.declared.format_description.Component.TheVariants as component;
 ghost use Rattle.time_record.specs.Record.{Record};
 ghost use Rattle.time_record.specs.Reading.{ReadsAll};
-ghost use Rattle.time_preparing.specs.Forms.{bytes_of, date_parts, day_first_parts, dated_parts, offset_parts, time_parts, with_clock, with_date, with_offset};
+ghost use Rattle.time_preparing.specs.Forms.{bytes_of, date_parts, day_first_parts, dated_parts, offset_parts, standard_date_parts, time_parts, with_clock, with_date, with_offset};
 ghost use Rattle.time_preparing.specs.Walk.{leaves};
 
 use super::{
@@ -62,13 +62,16 @@ fn spaced_digit(input: &[u8]) -> Option<ParsedItem<'_, u8>>
     }
 }
 
-/// Reads a year of four digits. `None`: not this form.
+/// Reads a year of four digits, which is one in either range. `None`: not this form.
 #[inline(always)]
 pub(crate) fn year(
     input: &[u8],
     modifiers: modifier::CalendarYearFullExtendedRange,
 ) -> Option<ParsedItem<'_, i32>>
     ensures cut { IfSome result (λ found. Cut (Spells false (component.CalendarYearFullExtendedRange modifiers))
+        input.now found.0.now (signed found.1)) }
+    ensures standard { IfSome result (λ found. Cut (Spells false (component.CalendarYearFullStandardRange
+        (record { padding = modifiers.padding; sign_is_mandatory = modifiers.sign_is_mandatory })))
         input.now found.0.now (signed found.1)) }
     ensures within { IfSome result (λ found. nat_le (unsigned_abs found.1) greatest_year ≡ true) }
     ensures fits { IfSome result (λ found. FitsSigned w32 found.1) }
@@ -157,15 +160,19 @@ pub(crate) fn date<'a>(form: &Dated, input: &'a [u8]) -> Option<(DateNumbers, &'
         input.now r f.1.now (with_date f.0 r)) }
 {
     match form {
-        Dated::YearFirst(between) => year_first(input, *between),
+        Dated::YearFirst(between) | Dated::StandardYearFirst(between) => {
+            year_first(input, *between)
+        }
         Dated::DayFirst(between) => day_first(input, *between),
     }
 }
 
-/// Reads a date of ten bytes. `None`: not this form.
+/// Reads a date of ten bytes, by a year of either range. `None`: not this form.
 #[inline(always)]
 pub(crate) fn year_first(input: &[u8], between: u8) -> Option<(DateNumbers, &[u8])>
-    ensures { IfSome result (λ f. (r : Record) → ReadsAll greatest_year (leaves (date_parts between))
+    ensures extended { IfSome result (λ f. (r : Record) → ReadsAll greatest_year (leaves (date_parts between))
+        input.now r f.1.now (with_date f.0 r)) }
+    ensures standard { IfSome result (λ f. (r : Record) → ReadsAll greatest_year (leaves (standard_date_parts between))
         input.now r f.1.now (with_date f.0 r)) }
 {
     let year = year(input, YEAR)?;

@@ -16,7 +16,7 @@ ghost use Rattle.time_preparing.specs.Walk.{fraction_tree, MayReadAll, seconds_t
 use crate::forms::SECOND;
 use crate::forms::fast::{self, after};
 use std::num::NonZero;
-use time_components::component::fast::subsecond;
+use time_components::component::fast::{ordinal as three_digits, subsecond};
 use time_components::component::parse_period;
 use time_components::{Component, Period, SubsecondDigits, modifier};
 use time_record::Parsed;
@@ -41,6 +41,10 @@ pub(super) fn component<'a>(
         Component::Period(modifiers) => period(parsed, input, modifiers),
         Component::Second(modifiers) => second(parsed, input, modifiers),
         Component::OffsetMinute(modifiers) => offset_minute(parsed, input, modifiers),
+        Component::CalendarYearFullStandardRange(modifiers) => {
+            standard_year(parsed, input, modifiers)
+        }
+        Component::Ordinal(modifiers) => ordinal(parsed, input, modifiers),
         _ => parsed.parse_component(input, *component).ok(),
     }
 }
@@ -57,6 +61,40 @@ pub(super) fn year<'a>(
 {
     let found = fast::year(input, modifiers)?;
     parsed.set_year(found.1)?;
+    Some(found.0)
+}
+
+// Reads a year of four digits, by a description that takes no year of more.
+#[inline(always)]
+fn standard_year<'a>(
+    parsed: &mut Parsed,
+    input: &'a [u8],
+    modifiers: modifier::CalendarYearFullStandardRange,
+) -> Option<&'a [u8]>
+    ensures { MayRead greatest_year (component_tree false (components.CalendarYearFullStandardRange modifiers))
+        input.now parsed.old result parsed.new }
+{
+    let in_either_range = modifier::CalendarYearFullExtendedRange {
+        padding: modifiers.padding,
+        sign_is_mandatory: modifiers.sign_is_mandatory,
+    };
+    let found = fast::year(input, in_either_range)?;
+    parsed.set_year(found.1)?;
+    Some(found.0)
+}
+
+// Reads a day of the year of three digits.
+#[inline(always)]
+fn ordinal<'a>(
+    parsed: &mut Parsed,
+    input: &'a [u8],
+    modifiers: modifier::Ordinal,
+) -> Option<&'a [u8]>
+    ensures { MayRead greatest_year (component_tree false (components.Ordinal modifiers))
+        input.now parsed.old result parsed.new }
+{
+    let found = three_digits(input, modifiers.padding)?;
+    parsed.set_ordinal(found.1)?;
     Some(found.0)
 }
 

@@ -16,7 +16,8 @@ ghost use Rattle.time_components.specs.declared.step.Step.TheVariants as step_;
 use super::Whole;
 use crate::forms::fast::{self, after, after_byte, clock, offset};
 use crate::forms::{
-    Dated, InMoment, are_same, date_steps, day_first_steps, offset_steps, parted_steps, time_steps,
+    Dated, InMoment, are_same, date_steps, day_first_steps, offset_steps, parted_steps,
+    standard_date_steps, time_steps,
 };
 use time_components::{Group, Step};
 use time_values::{Date, OffsetDateTime, PlainDateTime, Time, UtcOffset};
@@ -144,6 +145,9 @@ fn dated_form(steps: &[Step]) -> Option<Dated>
     };
     if are_same(steps, &date_steps(*between)) {
         return Some(Dated::YearFirst(*between));
+    }
+    if are_same(steps, &standard_date_steps(*between)) {
+        return Some(Dated::StandardYearFirst(*between));
     }
     if are_same(steps, &day_first_steps(*between)) {
         return Some(Dated::DayFirst(*between));

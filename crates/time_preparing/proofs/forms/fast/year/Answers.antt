@@ -16,6 +16,15 @@ returns-clause-cut c =
     let run = full_run c.args.modifiers.padding 4 4 year.0 c.in_ok-year.year.0.now value (omega arith) refl year.2 in
     (year.0, year.1, ((Positive, value), ap signed same, inr (c.if-modifiers.false, refl, run)))
 
+pub returns-clause-standard : goal.returns-clause-standard
+returns-clause-standard c =
+    let year = c.in_ok-year.ensures in
+    let value = c.in_ok-year.year.1 in
+    let below : value < 10 ^ 4 = IsDigitRun-below 4 4 year.0 c.in_ok-year.year.0.now value year.2 in
+    let same : to_z w32 value ≡ pos value = omega (arith, ints) in
+    let run = full_run c.args.modifiers.padding 4 4 year.0 c.in_ok-year.year.0.now value (omega arith) refl year.2 in
+    (year.0, year.1, ((Positive, value), ap signed same, inr (c.if-modifiers.false, refl, run)))
+
 pub returns-clause-fits : goal.returns-clause-fits
 returns-clause-fits c =
     let year = c.in_ok-year.ensures in

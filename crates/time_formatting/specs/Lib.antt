@@ -4,4 +4,5 @@ pub mod Numbers
 pub mod Steps
 pub mod Texts
 pub mod Unformattable
+pub mod Values
 pub mod Years

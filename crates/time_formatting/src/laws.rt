@@ -1,8 +1,9 @@
 //! Laws of the definitions: each function does nothing, and its contract is the law.
-ghost use Rattle.time_formatting.specs.Laws.{PairSpelled};
+ghost use Rattle.time_formatting.specs.Laws.{ComponentSpelled};
+ghost use Rattle.time_values.specs.Range.{greatest_year};
 
-/// A number that is written in two places is read as that number under the same padding, where a number without a padding
-/// has no digit after it.
-pub fn law_pair_spelled()
-    ensures { PairSpelled }
+/// The text that is written of a component, before each rest that may stand behind it, is spelled so for the readers,
+/// and says what the component says of the moment.
+pub fn law_component_spelled()
+    ensures { ComponentSpelled greatest_year }
 {}

@@ -76,8 +76,8 @@ clock t = record {
 }
 
 -- The record has the numbers of the offset.
-abbrev pub HasOffset : Record → UtcOffset → Type 0
-HasOffset r o =
+abbrev pub HasOffsetParts : Record → UtcOffset → Type 0
+HasOffsetParts r o =
     (r.offset_hour ≡ Some (Offsets.hours o))
     × (offset_part r r.offset_minute ≡ Offsets.minutes o) × (offset_seconds_of r ≡ Offsets.seconds o)
 
@@ -85,7 +85,7 @@ HasOffset r o =
 pub record HasAll (r : Record) (v : OffsetDateTime) : Type 0 where
   pub date : HasDate r (offset_date v)
   pub time : clock_of r ≡ Some (clock (offset_time v))
-  pub offset : HasOffset r (offset_of v)
+  pub offset : HasOffsetParts r (offset_of v)
   pub no_count : r.unix_timestamp_nanos ≡ None
 
 -- The sign of an offset and the sizes of its parts tell them.

@@ -4,3 +4,7 @@ pub mod OneWriting
 pub mod OneVerdict
 pub mod WrittenAgain
 pub mod Offsets
+pub mod DescribedBack
+pub mod Telling
+pub mod SameTree
+pub mod CommonBack

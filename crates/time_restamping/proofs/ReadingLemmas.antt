@@ -39,7 +39,7 @@ on_false : (b : Bool) (P Q : Type 0) → b ≡ false → Q → MatchBool b P Q
 on_false true P Q e q = absurd cc
 on_false false P Q e q = q
 
-on_none : {V : Type 0} (o : Option V) (P : Type 0) (Q : V → Type 0) → o ≡ None → P → MatchOption o P Q
+pub on_none : {V : Type 0} (o : Option V) (P : Type 0) (Q : V → Type 0) → o ≡ None → P → MatchOption o P Q
 on_none None P Q e p = p
 on_none (Some v) P Q e p = absurd cc
 

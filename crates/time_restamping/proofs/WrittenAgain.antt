@@ -1,14 +1,13 @@
 -- A time that was written is read back, and written again as it was.
-use Rattle.std.proofs.Common.{◌≡◌, ℕ, Bool, true, false, List, length, sym, ap, subst, refl, arith, None, Some, Ok, Err}
+use Rattle.std.proofs.Common.{◌≡◌, ℕ, Bool, true, false, List, length, sym, ap, subst, refl, None, Some, Ok, Err}
 use Rattle.std.specs.Prelude.{Option, Result, MatchOption, MatchBool, IsOkAnd, slice_range}
-use Rattle.std.proofs.lemmas.Int.{ints}
-use Rattle.time_values.specs.Moments.{offset_date, offset_time, offset_of, offset_instant}
+use Rattle.time_values.specs.Moments.{offset_time, offset_instant}
 use Rattle.time_values.specs.Range.{greatest_year}
 use Rattle.time_values.specs.Shown.{Items}
 use Rattle.time_values.specs.Times as Times
 use Rattle.time_values.specs.declared.offset_date_time.OffsetDateTime.{OffsetDateTime}
 use Rattle.time_values.specs.declared.utc_offset.UtcOffset.{UtcOffset}
-use Rattle.time_values.proofs.InstantLemmas.{instant_is, clock_nanos_is}
+use Rattle.time_descriptions.specs.Description.{shape}
 use Rattle.time_writing.specs.Texts.{WritesSuch, IsMailText, moment_text, count_of, unwritable_3339, unwritable_2822}
 use Rattle.time_writing.specs.declared.fraction.FractionDigits.{FractionDigits}
 use Rattle.time_writing.specs.declared.fraction.FractionDigits.TheVariants.{Exactly}
@@ -39,7 +38,8 @@ use Rattle.time_restamping.specs.declared.job.Job.{Job}
 use Rattle.time_restamping.specs.declared.reading.Reading.{Reading}
 use Rattle.time_restamping.specs.declared.reading.Said.{Said}
 use Rattle.time_restamping.proofs.OneVerdict.{one_says, one_verdict}
-use Rattle.time_restamping.proofs.OneWriting.{one_written}
+use Rattle.time_restamping.proofs.OneWriting.{one_shown, one_written}
+use Rattle.time_restamping.proofs.DescribedBack.{SaysAll, described_back}
 
 -- a moment that has a text, and the text
 text_is : (reason : Option Unwritable) (such : List ℕ → Type 0) (text : Items) (result : Result Items Unwritable)
@@ -57,12 +57,8 @@ nanosecond_of v = Times.nanosecond (offset_time v)
 whole : (k : ℕ) (v : OffsetDateTime) → HasDigits k v → IsCut k v v
 whole k v keeps = record { date = refl; clock = (refl, refl, refl, sym keeps); offset = refl }
 
--- what a text says that a named format writes
-abbrev SaysAll : Reading → Option Record → OffsetDateTime → List ℕ → Type 0
-SaysAll format defaults v bytes = Says greatest_year format false bytes defaults (Ok (said v (length bytes)))
-
 named_back : (named : Named_) (digits : FractionDigits) (v : OffsetDateTime) (text : Items) (format : Reading)
-    (defaults : Option Record) → ReadsAll format defaults (Named named) digits v
+    (defaults : Option Record) → ReadsAll greatest_year format defaults (Named named) digits v
     → IsNamedText greatest_year named digits v (Ok text) → SaysAll format defaults v text.items
 named_back Rfc3339 digits v text format defaults all p =
     let k = count_of digits (nanosecond_of v) in
@@ -100,12 +96,12 @@ named_back Iso8601 digits v text format defaults all p =
 named_back (Count unit) digits v text format defaults all p = absurd all
 
 by_back : (writing : Writing) (digits : FractionDigits) (v : OffsetDateTime) (text : Items) (format : Reading)
-    (defaults : Option Record) → ReadsAll format defaults writing digits v
+    (defaults : Option Record) → ReadsAll greatest_year format defaults writing digits v
     → IsWrittenBy greatest_year writing digits v (Ok text) → SaysAll format defaults v text.items
 by_back (Named named) digits v text format defaults all p = named_back named digits v text format defaults all p
-by_back (Described d) digits v text format defaults all p = absurd all
+by_back (Described d) digits v text format defaults all p = described_back format defaults (shape d) v text all p
 
--- a moment that is shown at an offset keeps its instant, its nanosecond and all that is read, and is shown there as it is
+-- a moment that is shown at an offset keeps its instant, and is shown there as it is
 shown_instant : (offset : Option UtcOffset) (v w : OffsetDateTime) → IsShown greatest_year offset v (Some w)
     → offset_instant greatest_year w ≡ offset_instant greatest_year v
 shown_instant None v w p = let same : w ≡ v = cc in ap (offset_instant greatest_year) same
@@ -116,25 +112,6 @@ shown_again : (offset : Option UtcOffset) (v w : OffsetDateTime) → IsShown gre
 shown_again None v w p = refl
 shown_again (Some o) v w p = (refl, p.1)
 
-same_nanosecond : (v w : OffsetDateTime) → offset_instant greatest_year w ≡ offset_instant greatest_year v
-    → nanosecond_of w ≡ nanosecond_of v
-same_nanosecond v w e =
-    let a = instant_is (offset_date v) (offset_time v) (offset_of v) in
-    let b = instant_is (offset_date w) (offset_time w) (offset_of w) in
-    let c = clock_nanos_is (offset_date v) (offset_time v) in
-    let d = clock_nanos_is (offset_date w) (offset_time w) in
-    omega (arith, ints, a, b, c, d, e, (offset_time v).nanosecond_in, (offset_time w).nanosecond_in)
-
-all_shown : (format : Reading) (defaults : Option Record) (writing : Writing) (digits : FractionDigits) (v w : OffsetDateTime)
-    → nanosecond_of w ≡ nanosecond_of v → ReadsAll format defaults writing digits v
-    → ReadsAll format defaults writing digits w
-all_shown format defaults (Named Rfc3339) digits v w e all =
-    (all.0, subst (λ n. kept (count_of digits n) n ≡ n) (sym e) all.1)
-all_shown format defaults (Named Rfc2822) digits v w e all = (all.0, subst (λ n. kept 0 n ≡ n) (sym e) all.1)
-all_shown format defaults (Named Iso8601) digits v w e all = all
-all_shown format defaults (Named (Count unit)) digits v w e all = all
-all_shown format defaults (Described d) digits v w e all = all
-
 -- the moment as it is shown: it is what the text says, and is written as the text again
 record IsBack (format : Reading) (defaults : Option Record) (form : Form) (v : OffsetDateTime) (bytes : List ℕ)
     (w : OffsetDateTime) : Type 0 where
@@ -144,29 +121,22 @@ record IsBack (format : Reading) (defaults : Option Record) (form : Form) (v : O
   again : IsWritten greatest_year form w (Ok text)
   same : bytes ≡ text.items
 
-shown_back : (format : Reading) (defaults : Option Record) (form : Form) (v : OffsetDateTime) (text : Items)
-    (shown : Option OffsetDateTime) → ReadsAll format defaults form.writing.now form.digits v
-    → IsShown greatest_year form.offset v shown
-    → MatchOption shown (Ok text ≡ Err out_of_range) (λ w. IsWrittenBy greatest_year form.writing.now form.digits w (Ok text))
-    → (w : OffsetDateTime) × IsBack format defaults form v text.items w
-shown_back format defaults form v text None all p q = absurd cc
-shown_back format defaults form v text (Some w) all p q =
-    let still = all_shown format defaults form.writing.now form.digits v w (same_nanosecond v w (shown_instant form.offset v w p)) all in (
-      w,
-      record {
-        shown = p;
-        says = by_back form.writing.now form.digits w text format defaults still q;
-        text = text;
-        again = (Some w, shown_again form.offset v w p, q);
-        same = refl;
-      },
-    )
-
 back : (format : Reading) (defaults : Option Record) (form : Form) (v : OffsetDateTime) (bytes : List ℕ)
     → IsReadable greatest_year format defaults form v bytes → (w : OffsetDateTime) × IsBack format defaults form v bytes w
-back format defaults form v bytes (all, (text, p, e)) =
-    subst (λ (b : List ℕ). (w : OffsetDateTime) × IsBack format defaults form v b w) (sym e)
-    (shown_back format defaults form v text p.0 all p.1 p.2)
+back format defaults form v bytes ((w, shown, all), (text, (other, p, q), e)) =
+    let there = subst (λ (s : Option OffsetDateTime). MatchOption s (Ok text ≡ Err out_of_range)
+    (λ u. IsWrittenBy greatest_year form.writing.now form.digits u (Ok text)))
+    (one_shown form.offset v other (Some w) p shown) q in
+    let says = by_back form.writing.now form.digits w text format defaults all there in (
+      w,
+      record {
+        shown = shown;
+        says = subst (λ (b : List ℕ). SaysAll format defaults w b) (sym e) says;
+        text = text;
+        again = (Some w, shown_again form.offset v w shown, there);
+        same = e;
+      },
+    )
 
 pub auto_has_all : AutoHasAll
 auto_has_all v = auto-keeps (nanosecond_of v) (offset_time v).nanosecond_in

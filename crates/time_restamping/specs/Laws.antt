@@ -1,9 +1,14 @@
 -- Laws of what becomes of a line.
-use Rattle.std.specs.Prelude.{◌≡◌, ℕ, false, MatchBool, List, length, slice_range, Option, None, Some, Result, Ok, IsOkAnd}
-use Rattle.time_values.specs.Moments.{offset_time}
+use Rattle.std.specs.Prelude.{◌≡◌, ℕ, pos, codes, false, MatchBool, List, length, slice_range, Option, None, Some, Result, Ok, IsOkAnd}
+use Rattle.time_values.specs.Moments.{offset_of, offset_time}
+use Rattle.time_values.specs.Offsets as Offsets
 use Rattle.time_values.specs.Shown.{Items}
 use Rattle.time_values.specs.Times as Times
 use Rattle.time_values.specs.declared.offset_date_time.OffsetDateTime.{OffsetDateTime}
+use Rattle.time_values.specs.declared.utc_offset.UtcOffset.{UtcOffset}
+use Rattle.time_components.specs.Tree.{Tree}
+use Rattle.time_descriptions.specs.Description.{shape}
+use Rattle.time_descriptions.specs.declared.description.Description.{Description}
 use Rattle.time_writing.specs.declared.fraction.FractionDigits.{FractionDigits}
 use Rattle.time_writing.specs.declared.fraction.FractionDigits.TheVariants.{Auto}
 use Rattle.time_record.specs.Record.{Record}
@@ -11,10 +16,15 @@ use Rattle.time_parsing.specs.Written.{kept, written}
 use Rattle.time_cutting.specs.Cuts.{span_of, is_open}
 use Rattle.time_cutting.specs.declared.cuts.Place.{Place}
 use Rattle.time_cutting.specs.declared.fields.Span.{Span}
+use Rattle.time_restamping.specs.Described.{tree_of}
 use Rattle.time_restamping.specs.Form.{IsShown, IsWritten}
 use Rattle.time_restamping.specs.Job.{Verdict, rewritten, dropped, is_kept, IsJudged}
+use Rattle.time_restamping.specs.Naming.{way_of, common_text, meaning_of, Means, MeansWriting}
+use Rattle.time_restamping.specs.ReadBack.{pieces, AllStop, SaysMoment, ReadsTree}
 use Rattle.time_restamping.specs.Reading.{Says}
 use Rattle.time_restamping.specs.Reason.{Reason}
+use Rattle.time_restamping.specs.Told.{with_all_told, HasAll, SignTells}
+use Rattle.time_restamping.specs.declared.described.Described.{Described as Described_}
 use Rattle.time_restamping.specs.declared.form.Form.{Form}
 use Rattle.time_restamping.specs.declared.form.Named.TheVariants.{Rfc3339, Rfc2822, Iso8601, Count}
 use Rattle.time_restamping.specs.declared.form.Writing.{Writing}
@@ -22,6 +32,7 @@ use Rattle.time_restamping.specs.declared.form.Writing.TheVariants.{Named, Descr
 use Rattle.time_restamping.specs.declared.job.Job.{Job}
 use Rattle.time_restamping.specs.declared.reading.Reading.{Reading}
 use Rattle.time_restamping.specs.declared.reading.Reading.TheVariants as reading
+use Rattle.time_restamping.specs.declared.reading.TheConstants.{MOST_STEPS}
 use Rattle.time_restamping.specs.declared.reading.Said.{Said}
 
 -- A line has one verdict.
@@ -37,19 +48,20 @@ HasDigits k v = kept k (Times.nanosecond (offset_time v)) ≡ Times.nanosecond (
 abbrev pub AutoHasAll : Type 0
 AutoHasAll = (v : OffsetDateTime) → HasDigits (written Auto v) v
 
--- The format reads all of a moment that is written so: it is the one that writes it, and each digit that isn't 0 is
--- written. ISO 8601 does so without defaults.
-abbrev pub ReadsAll : Reading → Option Record → Writing → FractionDigits → OffsetDateTime → Type 0
-ReadsAll format defaults (Named Rfc3339) digits v = (format ≡ reading.Rfc3339) × HasDigits (written digits v) v
-ReadsAll format defaults (Named Rfc2822) digits v = (format ≡ reading.Rfc2822) × HasDigits 0 v
-ReadsAll format defaults (Named Iso8601) digits v = (format ≡ reading.Iso8601) × (defaults ≡ None)
-ReadsAll format defaults (Named (Count unit)) digits v = ⊥
-ReadsAll format defaults (Described d) digits v = ⊥
+-- The format reads all of a moment that is written so. A named one is the one that writes it, and each digit that isn't
+-- 0 is written; ISO 8601 does so without defaults. A description reads what is written by its tree.
+abbrev pub ReadsAll : ℕ → Reading → Option Record → Writing → FractionDigits → OffsetDateTime → Type 0
+ReadsAll Y format defaults (Named Rfc3339) digits v = (format ≡ reading.Rfc3339) × HasDigits (written digits v) v
+ReadsAll Y format defaults (Named Rfc2822) digits v = (format ≡ reading.Rfc2822) × HasDigits 0 v
+ReadsAll Y format defaults (Named Iso8601) digits v = (format ≡ reading.Iso8601) × (defaults ≡ None)
+ReadsAll Y format defaults (Named (Count unit)) digits v = ⊥
+ReadsAll Y format defaults (Described d) digits v = ReadsTree Y format defaults (shape d) v
 
--- The text is that of the moment in a form, and a format reads all of it.
+-- The text is that of the moment in a form, and a format reads all of it, as it is shown there.
 abbrev pub IsReadable : ℕ → Reading → Option Record → Form → OffsetDateTime → List ℕ → Type 0
 IsReadable Y format defaults form v bytes =
-    ReadsAll format defaults form.writing.now form.digits v
+    ((w : OffsetDateTime) × IsShown Y form.offset v (Some w)
+    × ReadsAll Y format defaults form.writing.now form.digits w)
     × ((text : Items) × IsWritten Y form v (Ok text) × (bytes ≡ text.items))
 
 -- Such a text says that moment, shown at the offset of its form, with all its bytes.
@@ -77,3 +89,31 @@ ChangesNothing Y =
     → slice_range line span.start span.stop ≡ bytes
     → IsReadable Y job.first.now job.defaults.parts job.form v bytes → IsJudged Y job line verdict
     → MatchBool (is_kept Y job v) (verdict ≡ rewritten span.start (length bytes) bytes) (verdict ≡ dropped)
+
+-- A tree says all of a moment over a record that has all of it with what the tree's components tell, where each
+-- component's text is read whole.
+abbrev pub SaysAllTold : ℕ → Type 0
+SaysAllTold Y =
+    (v : OffsetDateTime) (tree : Tree) (before after : Record)
+    → AllStop Y v (pieces tree) → with_all_told Y v (pieces tree) before ≡ Some after → HasAll after v
+    → SaysMoment Y tree before v
+
+-- The sign of each offset and the sizes of its parts tell them.
+abbrev pub SignsTell : Type 0
+SignsTell = (o : UtcOffset) → SignTells o
+
+-- A text that means a format to read by, and describes one to write by, means one tree.
+abbrev pub OneTree : Type 0
+OneTree =
+    (text : List ℕ) (format : Reading) (d : Description MOST_STEPS)
+    → Means (way_of text) (meaning_of format) → MeansWriting text (Described d)
+    → (e : Described_) × (format ≡ reading.Described e) × (tree_of e ≡ shape d)
+
+-- A moment with no fraction, and with an offset of whole minutes, that is written as access logs have it, by a
+-- description, is read back by the format of that name, whatever the defaults.
+abbrev pub CommonReadsBack : ℕ → Type 0
+CommonReadsBack Y =
+    (v : OffsetDateTime) (format : Reading) (defaults : Option Record) (d : Description MOST_STEPS)
+    → Means (way_of (codes "common")) (meaning_of format) → MeansWriting common_text (Described d)
+    → Times.nanosecond (offset_time v) ≡ 0 → Offsets.seconds (offset_of v) ≡ pos 0
+    → ReadsTree Y format defaults (shape d) v

@@ -4,4 +4,6 @@ pub mod Reading
 pub mod Form
 pub mod Naming
 pub mod Job
+pub mod ReadBack
+pub mod Told
 pub mod Laws

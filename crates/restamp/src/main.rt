@@ -137,14 +137,33 @@ fn follow(rt: &HostRuntime, matches: &ArgMatches<'_>) -> io::Result<u8> {
     }
 }
 
-fn main(rt: HostRuntime) -> io::Result<ExitCode> {
-    let words: Vec<String> = env::args(&rt)?.collect(rt.alloc())?;
+// Does what the words of the command line ask for, and gives the exit status.
+fn run(rt: &HostRuntime) -> io::Result<u8> {
+    let words: Vec<String> = env::args(rt)?.collect(rt.alloc())?;
     let command = make_command(rt.alloc())?;
     match command.try_get_matches_from(words.as_slice()) {
-        Ok(matches) => Ok(ExitCode::from(follow(&rt, &matches)?)),
+        Ok(matches) => follow(rt, &matches),
         Err(error) => {
-            error.print(&rt)?;
-            Ok(ExitCode::from(if error.use_stderr() { 2 } else { 0 }))
+            error.print(rt)?;
+            Ok(if error.use_stderr() { 2 } else { 0 })
+        }
+    }
+}
+
+// Tells why the program couldn't go on, unless the reader of its output has gone. Where standard error is what failed,
+// nothing is told.
+fn tell_failed(rt: &HostRuntime, error: io::Error) {
+    if error.kind() != ErrorKind::BrokenPipe {
+        eprintln!(rt; "restamp: {error}").unwrap_or(());
+    }
+}
+
+fn main(rt: HostRuntime) -> ExitCode {
+    match run(&rt) {
+        Ok(status) => ExitCode::from(status),
+        Err(error) => {
+            tell_failed(&rt, error);
+            ExitCode::from(2)
         }
     }
 }

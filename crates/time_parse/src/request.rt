@@ -16,7 +16,7 @@ use time_answers::formats::{Format, Target, find_format, find_target};
 use time_answers::{Answering, Named, Unwritten, write_value};
 use time_descriptions::{Description, InvalidFormatDescription, parse_borrowed, parse_strftime};
 
-// The most steps that a description may have. One of so many bytes has room.
+// The most steps that a description may have. One in brackets of so many bytes has room.
 pub(crate) const MOST_STEPS: usize = 1024;
 
 /// The version of a description in brackets.

@@ -4,7 +4,6 @@ pub mod HeldRows
 pub mod HeldSteps
 pub mod InPlace
 pub mod IsoInPlace
-pub mod IsoWhole
 pub mod Instants
 pub mod Laid
 pub mod MailInPlace

@@ -8,7 +8,7 @@ ghost use Rattle.time_ffi.specs.Described.{Checks, IsDescribed};
 use crate::status::{TOO_LONG, UNKNOWN_SYNTAX};
 use time_descriptions::{Description, InvalidFormatDescription, parse_borrowed, parse_strftime};
 
-/// The most steps that a description may have. One of so many bytes has room.
+/// The most steps that a description may have. One in brackets of so many bytes has room.
 pub const MOST_STEPS: usize = 64;
 
 /// How a description is written.

@@ -13,7 +13,7 @@ pub mod MailBack
 pub mod KeptReadings
 pub mod KeptIsoTexts
 pub mod IsoParts
-mod IsoWhole
+pub mod IsoWhole
 mod IsoForm
 pub mod IsoBack
 pub mod UtcBack

@@ -14,7 +14,7 @@ ghost use Rattle.time_parsing.specs.IsoSteps as steps;
 ghost use Rattle.time_parsing.specs.Outcome.{IsOutcome, begun, over_record, seen};
 ghost use Rattle.time_parsing.specs.Rfc3339.{without_offset_sign};
 
-mod fast;
+pub mod fast;
 
 use crate::Parsable;
 use crate::parsable::{begin, moment_before, value_before};

@@ -9,7 +9,7 @@ macro_rules! put {
 }
 
 mod description;
-mod iso8601;
+pub mod iso8601;
 pub mod laws;
 mod parsable;
 mod rfc2822;

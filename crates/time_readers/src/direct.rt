@@ -18,7 +18,7 @@ use time_values::{Date, Month, OffsetDateTime, Time, UtcOffset};
 
 /// What a text says of a moment.
 ///
-/// No call takes it or answers it. It is public since the laws of parses say what both paths make of it.
+/// No parse answers it. It is public since the laws of parses say what both paths make of it.
 #[derive(Clone, Copy, Debug)]
 pub struct Said {
     /// The year, 0 to 9999.
@@ -82,9 +82,9 @@ pub fn rfc2822(input: &[u8]) -> Result<OffsetDateTime, Parse>
     }
 }
 
-// What the numbers of RFC 3339 say.
+/// What the numbers of RFC 3339 say. A fraction that doesn't stand is 0.
 #[inline(always)]
-fn said_rfc3339(numbers: rfc3339::Numbers) -> Said
+pub fn said_rfc3339(numbers: rfc3339::Numbers) -> Said
     requires hour { numbers.offset_hour ≤ 23 }
     requires minute { numbers.offset_minute ≤ 59 }
     ensures { result ≡ said_rfc3339 numbers }
@@ -112,9 +112,9 @@ fn signed(is_negative: bool, value: u8) -> i8
     if is_negative { -value } else { value }
 }
 
-// What the numbers of a mail date say.
+/// What the numbers of a mail date say. A second that doesn't stand is 0.
 #[inline(always)]
-fn said_rfc2822(numbers: rfc2822::Numbers) -> Said
+pub fn said_rfc2822(numbers: rfc2822::Numbers) -> Said
     ensures { result ≡ said_rfc2822 numbers }
 {
     Said {

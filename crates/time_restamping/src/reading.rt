@@ -17,7 +17,7 @@ use time_record::Parsed;
 use time_values::OffsetDateTime;
 use time_values::error::Parse;
 
-/// The most steps that a description may have. One of so many bytes has room.
+/// The most steps that a description may have. One in brackets of so many bytes has room.
 pub const MOST_STEPS: usize = 256;
 
 /// A format that a time is read by.

@@ -4,15 +4,14 @@
 pub(super) mod iso8601;
 pub(super) mod rfc2822;
 
-ghost use Rattle.std.specs.Prelude.{◌≡◌, ◌<◌, ◌≤◌, IfSome, IsTrue, Ok, None, [], ◌∷◌, false, map, pos, unwrap_or};
+ghost use Rattle.std.specs.Prelude.{◌≡◌, ◌<◌, ◌≤◌, IfSome, IsTrue, Ok, None, [], ◌∷◌, false, map, pos};
 ghost use Rattle.time_values.specs.Offsets.{HasOffset, offset_refusal};
 ghost use Rattle.time_values.specs.Range.{greatest_year};
 ghost use Rattle.time_values.specs.Refusal.{Constructs};
-ghost use Rattle.time_values.specs.Sign.{signed_by};
 ghost use Rattle.time_values.specs.Times.{HasClock, time_refusal};
 ghost use Rattle.time_digits.specs.Cuts.{Cut};
 ghost use Rattle.time_readers.specs.Block.{AllWithin, pair_at};
-ghost use Rattle.time_readers.specs.Direct.{HasDate, IsMade, RefusesRfc3339, date_refusal, said_rfc3339};
+ghost use Rattle.time_readers.specs.Direct.{HasDate, IsMade, RefusesRfc3339, date_refusal};
 ghost use Rattle.time_readers.specs.Places.{Stand};
 ghost use Rattle.time_readers.specs.Rfc3339.{Asks, nothing_read, offset_places};
 ghost use Rattle.time_readers.specs.Rfc3339Fast.{to_second_places};
@@ -24,7 +23,7 @@ ghost use Rattle.time_ffi.specs.Handed.{of_moment};
 use std::num::NonZero;
 use std::simd::prelude::*;
 use time_readers::combinator::fraction;
-use time_readers::direct::Said;
+use time_readers::direct::{Said, said_rfc3339};
 use time_readers::rfc3339::Numbers;
 use time_values::{Date, Month, OffsetDateTime, Time, UtcOffset};
 
@@ -154,36 +153,6 @@ fn offset(numbers: Numbers, rest: &[u8]) -> Option<Numbers>
     })
 }
 
-// The number with its sign.
-#[inline(always)]
-fn signed(is_negative: bool, value: u8) -> i8
-    requires { value ≤ 59 }
-    ensures { result ≡ signed_by is_negative (pos value) }
-{
-    let value = value as i8;
-    if is_negative { -value } else { value }
-}
-
-// What the numbers say.
-#[inline(always)]
-fn said(numbers: Numbers) -> Said
-    requires hour { numbers.offset_hour ≤ 23 }
-    requires minute { numbers.offset_minute ≤ 59 }
-    ensures { result ≡ said_rfc3339 numbers }
-{
-    Said {
-        year: numbers.year,
-        month: numbers.month,
-        day: numbers.day,
-        hour: numbers.hour,
-        minute: numbers.minute,
-        second: numbers.second,
-        nanosecond: numbers.subsecond.unwrap_or(0),
-        offset_hour: signed(numbers.offset_is_negative, numbers.offset_hour),
-        offset_minute: signed(numbers.offset_is_negative, numbers.offset_minute),
-    }
-}
-
 // The offset that is said. That of UTC is a constant. `None`: there is none.
 #[inline(always)]
 fn offset_of(said: Said) -> Option<UtcOffset>
@@ -241,5 +210,5 @@ pub(super) fn moment(text: &[u8]) -> Option<OffsetDateTime>
 {
     let (numbers, rest) = to_second(text)?;
     let (numbers, rest) = subsecond(numbers, rest)?;
-    made(said(offset(numbers, rest)?))
+    made(said_rfc3339(offset(numbers, rest)?))
 }

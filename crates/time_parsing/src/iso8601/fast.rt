@@ -47,9 +47,10 @@ pub(super) fn moment(input: &[u8]) -> Option<OffsetDateTime>
     Some(OffsetDateTime::new_in_offset(plain.date(), plain.time(), offset))
 }
 
-// The date and time of these numbers, unless they say no date of the calendar or a leap second. `None`: not this form.
+/// The date and time of these numbers. `None`: not this form, as where they say no date of the calendar, or a leap
+/// second.
 #[inline(always)]
-fn date_time_of(date: DateNumbers, time: TimeNumbers) -> Option<PlainDateTime>
+pub fn date_time_of(date: DateNumbers, time: TimeNumbers) -> Option<PlainDateTime>
     ensures { IfSome result (λ p. (iso_date date ≡ date_said (plain_date p)) × (time ≡ time_said (plain_time p))) }
 {
     let DateNumbers::Calendar(year, month, day) = date else {
@@ -87,9 +88,9 @@ fn parts(input: &[u8]) -> Option<DateAndTime<'_>>
     }
 }
 
-// The offset that is all of the bytes. `None`: not this form.
+/// The offset of ISO 8601 that is all of the bytes. `None`: not this form.
 #[inline(always)]
-fn offset_to_the_end(input: &[u8], kind: ExtendedKind) -> Option<UtcOffset>
+pub fn offset_to_the_end(input: &[u8], kind: ExtendedKind) -> Option<UtcOffset>
     ensures { IfSome result (λ o. (n : OffsetNumbers_) × (offset_text kind input.now ≡ Some ([], n)) × IsOffsetSaid n o) }
 {
     let found = offset(input, kind)?;

@@ -2,28 +2,25 @@
 //!
 //! Each reader answers what the library's reader does, or `None`: not this form.
 ghost use Rattle.std.specs.Prelude.{◌≡◌, ◌≢◌, ◌+◌, ◌*◌, pos, List, ℕ, [], IfSome, IsTrue, Ok, Some, None, true};
-ghost use Rattle.time_values.specs.Moments.{plain_date, plain_time};
 ghost use Rattle.time_values.specs.Range.{greatest_year};
 ghost use Rattle.time_values.specs.declared.month.Month.{Month as Month_};
 ghost use Rattle.time_digits.specs.Digits.{IsDigit};
 ghost use Rattle.time_readers.specs.IsoDates.{calendar, date_text, iso_date};
 ghost use Rattle.time_readers.specs.IsoFast as spec;
-ghost use Rattle.time_readers.specs.IsoOffsets.{offset_text};
 ghost use Rattle.time_readers.specs.IsoPieces.{months, numbered, point};
 ghost use Rattle.time_readers.specs.IsoTimes.{time_text};
 ghost use Rattle.time_readers.specs.declared.iso8601.ExtendedKind.TheVariants.{Basic, Extended};
-ghost use Rattle.time_readers.specs.declared.iso8601.OffsetNumbers.{OffsetNumbers as OffsetNumbers_};
 ghost use Rattle.time_record.specs.Record.{empty};
 ghost use Rattle.time_record.specs.Resolution.{IsPlain};
 ghost use Rattle.time_parsing.specs.Iso8601.{Reads, Refuses};
-ghost use Rattle.time_parsing.specs.IsoFast.{IsOffsetSaid, date_said, time_said};
 ghost use Rattle.time_parsing.specs.Outcome.{IsOutcome, over_record};
 ghost use Rattle.time_ffi.specs.Handed.{of_moment};
 ghost use Rattle.time_ffi.specs.IsoFronts.{IsFront};
 
 use std::num::NonZero;
-use time_readers::iso8601::{DateNumbers, ExtendedKind, OffsetNumbers, TimeNumbers, offset};
-use time_values::{Date, Month, OffsetDateTime, PlainDateTime, Time, UtcOffset};
+use time_parsing::iso8601::fast::{date_time_of, offset_to_the_end};
+use time_readers::iso8601::{DateNumbers, ExtendedKind, TimeNumbers};
+use time_values::{Month, OffsetDateTime, PlainDateTime};
 
 // The date and the time with which a text begins, what follows them, and whether they have separators.
 #[derive(Clone, Copy)]
@@ -232,45 +229,6 @@ fn basic(text: &[u8]) -> Option<Front<'_>>
         rest: time.1,
         kind: ExtendedKind::Basic,
     })
-}
-
-// The date and time of these numbers, unless they say no date of the calendar or a leap second. `None`: not this form.
-#[inline(always)]
-fn date_time_of(date: DateNumbers, time: TimeNumbers) -> Option<PlainDateTime>
-    ensures { IfSome result (λ p. (iso_date date ≡ date_said (plain_date p)) × (time ≡ time_said (plain_time p))) }
-{
-    let DateNumbers::Calendar(year, month, day) = date else {
-        return None;
-    };
-    let date = Date::from_calendar_date(year, month, day.get());
-    let time = Time::from_hms_nano(time.hour, time.minute, time.second, time.subsecond);
-    match (date, time) {
-        (Ok(date), Ok(time)) => Some(PlainDateTime::new(date, time)),
-        _ => None,
-    }
-}
-
-// The offset of these numbers. `None`: not this form.
-#[inline(always)]
-fn offset_of(numbers: OffsetNumbers) -> Option<UtcOffset>
-    ensures { IfSome result (IsOffsetSaid numbers) }
-{
-    match numbers {
-        OffsetNumbers::Zulu => Some(UtcOffset::UTC),
-        OffsetNumbers::Numeric(hour, minute) => UtcOffset::from_hms(hour, minute, 0).ok(),
-    }
-}
-
-// The offset that is all of the bytes. `None`: not this form.
-#[inline(always)]
-fn offset_to_the_end(bytes: &[u8], kind: ExtendedKind) -> Option<UtcOffset>
-    ensures { IfSome result (λ o. (n : OffsetNumbers_) × (offset_text kind bytes.now ≡ Some ([], n)) × IsOffsetSaid n o) }
-{
-    let found = offset(bytes, kind)?;
-    if !found.0.is_empty() {
-        return None;
-    }
-    offset_of(found.1)
 }
 
 // The moment of a text with that front, after which its offset stands. `None`: not this form.

@@ -6,7 +6,7 @@ ghost use Rattle.time_values.specs.Range.{greatest_year};
 ghost use Rattle.time_values.specs.Sign.{signed_by};
 ghost use Rattle.time_digits.specs.Bytes.{is_negative};
 ghost use Rattle.time_readers.specs.Block.{AllWithin, pair_at};
-ghost use Rattle.time_readers.specs.Direct.{RefusesRfc2822, said_rfc2822};
+ghost use Rattle.time_readers.specs.Direct.{RefusesRfc2822};
 ghost use Rattle.time_readers.specs.Places.{Stand};
 ghost use Rattle.time_readers.specs.Rfc2822.{Asks, day_places, offset_places, to_offset_places};
 ghost use Rattle.time_parsing.specs.Outcome.{direct};
@@ -18,7 +18,7 @@ use std::simd::prelude::*;
 use time_readers::Sign;
 use time_readers::combinator::{one_or_two_digits, sign};
 use time_readers::component::fast::{month_name, weekday_name};
-use time_readers::direct::Said;
+use time_readers::direct::said_rfc2822;
 use time_readers::rfc2822::Numbers;
 use time_values::{Month, OffsetDateTime};
 
@@ -138,24 +138,6 @@ fn offset(text: &[u8], numbers: &mut Numbers) -> Option<()>
     Some(())
 }
 
-// What the numbers say.
-#[inline(always)]
-fn said(numbers: Numbers) -> Said
-    ensures { result ≡ said_rfc2822 numbers }
-{
-    Said {
-        year: numbers.year,
-        month: numbers.month.number(),
-        day: numbers.day,
-        hour: numbers.hour,
-        minute: numbers.minute,
-        second: numbers.second.unwrap_or(0),
-        nanosecond: 0,
-        offset_hour: numbers.offset_hour,
-        offset_minute: numbers.offset_minute,
-    }
-}
-
 // A whole moment. `None`: not this form.
 #[inline(always)]
 pub(in crate::moments) fn moment(text: &[u8]) -> Option<OffsetDateTime>
@@ -170,5 +152,5 @@ pub(in crate::moments) fn moment(text: &[u8]) -> Option<OffsetDateTime>
     let rest = to_day(text, &mut numbers)?;
     let rest = to_offset(rest, &mut numbers)?;
     offset(rest, &mut numbers)?;
-    made(said(numbers))
+    made(said_rfc2822(numbers))
 }

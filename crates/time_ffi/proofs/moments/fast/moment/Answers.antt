@@ -9,4 +9,4 @@ returns c =
     let all = c.in_ok-offset in
     let stands = whole_stands text front.rest.now middle.rest.now front.numbers middle.numbers all.field-0
     front.ensures.stands middle.ensures all.ensures.stands in
-    outcome_of text all.field-0 c.made.result stands all.ensures.minute (rw c.said.ensures at c.made.ensures)
+    outcome_of text all.field-0 c.made.result stands all.ensures.minute (rw c.said_rfc3339.ensures at c.made.ensures)

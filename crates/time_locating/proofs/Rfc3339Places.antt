@@ -1,5 +1,5 @@
 -- How many bytes the places of RFC 3339 take.
-use Rattle.std.proofs.Common.{◌≡◌, ℕ, ◌+◌, ◌≤◌, List, [], ◌∷◌, ◌++◌, length, take, drop, refl, ap, sym, ◌∙◌, subst, inl, inr, arith, true, false, Bool, Option, Some, None, length-append}
+use Rattle.std.proofs.Common.{◌≡◌, ℕ, ◌+◌, ◌≤◌, List, [], ◌∷◌, ◌++◌, length, take, drop, refl, ap, sym, ◌∙◌, subst, inl, inr, arith, true, false, Bool, Option, Some, None, IfSome, length-append}
 use Rattle.time_digits.specs.Bytes.{IsByteIgnoringCase}
 use Rattle.time_digits.specs.Cuts.{Cut, NoCut}
 use Rattle.time_digits.specs.Digits.{AllDigits, IsDigitRun, NoDigitFirst}
@@ -36,124 +36,71 @@ before bytes p s =
     stands-before (Asks true) rank places nothing_read bytes p
     (refl, (refl, (refl, (refl, (refl, (refl, (refl, (refl, (refl, (refl, (refl, (refl, (refl, (refl, (refl, tt))))))))))))))) s
 
--- the texts of places take so many bytes, which are none of those whose length varies
-abbrev Takes : Place → ℕ → Type 0
-Takes Year n = n ≡ 4
-Takes YearDash n = n ≡ 1
-Takes Month n = n ≡ 2
-Takes MonthDash n = n ≡ 1
-Takes Day n = n ≡ 2
-Takes Separator n = n ≡ 1
-Takes Hour n = n ≡ 2
-Takes HourColon n = n ≡ 1
-Takes Minute n = n ≡ 2
-Takes MinuteColon n = n ≡ 1
-Takes Second n = n ≡ 2
-Takes _ n = ⊥
+-- how many bytes the text of a place takes; `None`: their number varies
+abbrev width : Place → Option ℕ
+width Year = Some 4
+width YearDash = Some 1
+width Month = Some 2
+width MonthDash = Some 1
+width Day = Some 2
+width Separator = Some 1
+width Hour = Some 2
+width HourColon = Some 1
+width Minute = Some 2
+width MinuteColon = Some 1
+width Second = Some 2
+width _ = None
 
-abbrev pub TakeAll : List Place → ℕ → Type 0
-TakeAll [] n = n ≡ 0
-TakeAll (p ∷ ps) n = (k m : ℕ) × Takes p k × TakeAll ps m × (n ≡ k + m)
+abbrev both : Option ℕ → Option ℕ → Option ℕ
+both (Some k) (Some m) = Some (k + m)
+both _ _ = None
+
+abbrev pub widths : List Place → Option ℕ
+widths [] = Some 0
+widths (p ∷ ps) = both (width p) (widths ps)
 
 pub run_length : (n : ℕ) (text after : List ℕ) (v : ℕ) → IsDigitRun n n text after v → length text ≡ n
 run_length n text after v run = omega (arith, run.enough, run.within)
 
-asks-take : (p : Place) (k : ℕ) (n m : Numbers) (text after : List ℕ) → Takes p k → Asks true p n text after m → length text ≡ k
-asks-take Year k n m text after t a = run_length 4 text after a.0 a.1 ∙ sym t
-asks-take YearDash k n m text after t a = ap length a.0 ∙ sym t
-asks-take Month k n m text after t a = run_length 2 text after a.0 a.1.0 ∙ sym t
-asks-take MonthDash k n m text after t a = ap length a.0 ∙ sym t
-asks-take Day k n m text after t a = run_length 2 text after a.0 a.1.0 ∙ sym t
-asks-take Separator k n m text after t a = a.0 ∙ sym t
-asks-take Hour k n m text after t a = run_length 2 text after a.0 a.1.0 ∙ sym t
-asks-take HourColon k n m text after t a = ap length a.0 ∙ sym t
-asks-take Minute k n m text after t a = run_length 2 text after a.0 a.1.0 ∙ sym t
-asks-take MinuteColon k n m text after t a = ap length a.0 ∙ sym t
-asks-take Second k n m text after t a = run_length 2 text after a.0 a.1.0 ∙ sym t
-asks-take Subsecond k n m text after t a = absurd t
-asks-take OffsetHour k n m text after t a = absurd t
-asks-take OffsetColon k n m text after t a = absurd t
-asks-take OffsetMinute k n m text after t a = absurd t
+asks-width : (p : Place) (n m : Numbers) (text after : List ℕ) → Asks true p n text after m → IfSome (width p) (λ k. length text ≡ k)
+asks-width Year n m text after a = run_length 4 text after a.0 a.1
+asks-width YearDash n m text after a = ap length a.0
+asks-width Month n m text after a = run_length 2 text after a.0 a.1.0
+asks-width MonthDash n m text after a = ap length a.0
+asks-width Day n m text after a = run_length 2 text after a.0 a.1.0
+asks-width Separator n m text after a = a.0
+asks-width Hour n m text after a = run_length 2 text after a.0 a.1.0
+asks-width HourColon n m text after a = ap length a.0
+asks-width Minute n m text after a = run_length 2 text after a.0 a.1.0
+asks-width MinuteColon n m text after a = ap length a.0
+asks-width Second n m text after a = run_length 2 text after a.0 a.1.0
+asks-width Subsecond n m text after a = tt
+asks-width OffsetHour n m text after a = tt
+asks-width OffsetColon n m text after a = tt
+asks-width OffsetMinute n m text after a = tt
 
-stand-take : (ps : List Place) (k : ℕ) (n m : Numbers) (bytes rest : List ℕ) → TakeAll ps k → Stand (Asks true) ps n bytes rest m
+parted : (a b : Option ℕ) (k : ℕ) → both a b ≡ Some k → (x y : ℕ) × (a ≡ Some x) × (b ≡ Some y) × (k ≡ x + y)
+parted None b k is = cc
+parted (Some x) None k is = cc
+parted (Some x) (Some y) k is = (x, y, refl, refl, cc)
+
+stand-widths : (ps : List Place) (k : ℕ) (n m : Numbers) (bytes rest : List ℕ) → widths ps ≡ Some k → Stand (Asks true) ps n bytes rest m
     → k + length rest ≡ length bytes
 unfolding Stand
-stand-take [] k n m bytes rest t s = let same = ap length s.0 in omega (arith, t)
-stand-take (p ∷ ps) k n m bytes rest t s =
-    let text = asks-take p t.0 n s.1 s.2.0 s.0 t.2 s.2.2 in
-    let others = stand-take ps t.1 s.1 m s.0 rest t.3 s.3 in
+stand-widths [] k n m bytes rest is s = let same = ap length s.0 in let none : 0 ≡ k = cc in omega arith
+stand-widths (p ∷ ps) k n m bytes rest is s =
+    let parts = parted (width p) (widths ps) k is in
+    let text = subst (λ w. IfSome w (λ x. length s.2.0 ≡ x)) parts.2 (asks-width p n s.1 s.2.0 s.0 s.2.2) in
+    let others = stand-widths ps parts.1 s.1 m s.0 rest parts.3 s.3 in
     let cut = ap length s.2.1 ∙ length-append s.2.0 s.0 in
-    omega (arith, t.4)
+    omega (arith, parts.4)
 
 -- the place that doesn't stand begins after so many bytes
-pub fixed : (bytes : List ℕ) (p q : Place) (k : ℕ) → p ≡ q → TakeAll (take (rank q) places) k → (s : FailsAt true bytes p)
+pub fixed : (bytes : List ℕ) (p q : Place) (k : ℕ) → p ≡ q → widths (take (rank q) places) ≡ Some k → (s : FailsAt true bytes p)
     → k + length s.mid ≡ length bytes
-fixed bytes p q k is t s =
-    let all = subst (λ x. TakeAll (take (rank x) places) k) (sym is) t in
-    stand-take (take (rank p) places) k nothing_read s.numbers bytes s.mid all (before bytes p s)
-
-to_second : TakeAll (take 11 places) 19
-to_second = (
-  4,
-  15,
-  refl,
-  (
-    1,
-    14,
-    refl,
-    (
-      2,
-      12,
-      refl,
-      (
-        1,
-        11,
-        refl,
-        (
-          2,
-          9,
-          refl,
-          (
-            1,
-            8,
-            refl,
-            (
-              2,
-              6,
-              refl,
-              (
-                1,
-                5,
-                refl,
-                (
-                  2,
-                  3,
-                  refl,
-                  (
-                    1,
-                    2,
-                    refl,
-                    (2, 0, refl, refl, refl),
-                    refl,
-                  ),
-                  refl,
-                ),
-                refl,
-              ),
-              refl,
-            ),
-            refl,
-          ),
-          refl,
-        ),
-        refl,
-      ),
-      refl,
-    ),
-    refl,
-  ),
-  refl,
-)
+fixed bytes p q k is all s =
+    stand-widths (take (rank p) places) k nothing_read s.numbers bytes s.mid (ap (λ x. widths (take (rank x) places)) is ∙ all)
+    (before bytes p s)
 
 -- how many bytes a fraction takes
 abbrev pub IsFractionLength : List ℕ → ℕ → Type 0
@@ -197,7 +144,7 @@ unfolding Stand
 after_second n m bytes mid s =
     let parts = Stand-split (Asks true) (take 11 places) (Subsecond ∷ []) nothing_read m bytes mid s in
     let ends = Stand-ends (Asks true) (take 11 places) nothing_read parts.1.0 bytes parts.0 parts.1.1 in
-    let long = stand-take (take 11 places) 19 nothing_read parts.1.0 bytes parts.0 to_second parts.1.1 in
+    let long = stand-widths (take 11 places) 19 nothing_read parts.1.0 bytes parts.0 refl parts.1.1 in
     let sub = parts.1.2 in
     let cut = sub.2 in
     let after : sub.0 ≡ mid = sym sub.3.0 in

@@ -1,5 +1,3 @@
--- No public contract rests on this file.
---
 -- What values say in the words of a text of ISO 8601, which the short forms need.
 use Rattle.std.specs.Prelude.{pos, Ok}
 use Rattle.time_values.specs.Dates as Dates

@@ -9,281 +9,37 @@ pub returns-in-Year : goal.returns-in-Year
 returns-in-Year c stop = fixed c.args.input.now c.args.place place.Year 0 c.in-Year.is refl stop
 
 pub returns-in-YearDash : goal.returns-in-YearDash
-returns-in-YearDash c stop = fixed c.args.input.now c.args.place place.YearDash 4 c.in-YearDash.is (4, 0, refl, refl, refl) stop
+returns-in-YearDash c stop = fixed c.args.input.now c.args.place place.YearDash 4 c.in-YearDash.is refl stop
 
 pub returns-in-Month : goal.returns-in-Month
-returns-in-Month c stop = fixed c.args.input.now c.args.place place.Month 5 c.in-Month.is (4, 1, refl, (1, 0, refl, refl, refl), refl) stop
+returns-in-Month c stop = fixed c.args.input.now c.args.place place.Month 5 c.in-Month.is refl stop
 
 pub returns-in-MonthDash : goal.returns-in-MonthDash
-returns-in-MonthDash c stop =
-    fixed c.args.input.now c.args.place place.MonthDash 7 c.in-MonthDash.is (4, 3, refl, (1, 2, refl, (2, 0, refl, refl, refl), refl), refl)
-    stop
+returns-in-MonthDash c stop = fixed c.args.input.now c.args.place place.MonthDash 7 c.in-MonthDash.is refl stop
 
 pub returns-in-Day : goal.returns-in-Day
-returns-in-Day c stop =
-    fixed c.args.input.now c.args.place place.Day 8 c.in-Day.is (
-      4,
-      4,
-      refl,
-      (
-        1,
-        3,
-        refl,
-        (2, 1, refl, (1, 0, refl, refl, refl), refl),
-        refl,
-      ),
-      refl,
-    ) stop
+returns-in-Day c stop = fixed c.args.input.now c.args.place place.Day 8 c.in-Day.is refl stop
 
 pub returns-in-Separator : goal.returns-in-Separator
-returns-in-Separator c stop =
-    fixed c.args.input.now c.args.place place.Separator 10 c.in-Separator.is (
-      4,
-      6,
-      refl,
-      (
-        1,
-        5,
-        refl,
-        (
-          2,
-          3,
-          refl,
-          (
-            1,
-            2,
-            refl,
-            (
-              2,
-              0,
-              refl,
-              refl,
-              refl,
-            ),
-            refl,
-          ),
-          refl,
-        ),
-        refl,
-      ),
-      refl,
-    ) stop
+returns-in-Separator c stop = fixed c.args.input.now c.args.place place.Separator 10 c.in-Separator.is refl stop
 
 pub returns-in-Hour : goal.returns-in-Hour
-returns-in-Hour c stop =
-    fixed c.args.input.now c.args.place place.Hour 11 c.in-Hour.is (
-      4,
-      7,
-      refl,
-      (
-        1,
-        6,
-        refl,
-        (
-          2,
-          4,
-          refl,
-          (
-            1,
-            3,
-            refl,
-            (
-              2,
-              1,
-              refl,
-              (
-                1,
-                0,
-                refl,
-                refl,
-                refl,
-              ),
-              refl,
-            ),
-            refl,
-          ),
-          refl,
-        ),
-        refl,
-      ),
-      refl,
-    ) stop
+returns-in-Hour c stop = fixed c.args.input.now c.args.place place.Hour 11 c.in-Hour.is refl stop
 
 pub returns-in-HourColon : goal.returns-in-HourColon
-returns-in-HourColon c stop =
-    fixed c.args.input.now c.args.place place.HourColon 13 c.in-HourColon.is (
-      4,
-      9,
-      refl,
-      (
-        1,
-        8,
-        refl,
-        (
-          2,
-          6,
-          refl,
-          (
-            1,
-            5,
-            refl,
-            (
-              2,
-              3,
-              refl,
-              (1, 2, refl, (2, 0, refl, refl, refl), refl),
-              refl,
-            ),
-            refl,
-          ),
-          refl,
-        ),
-        refl,
-      ),
-      refl,
-    ) stop
+returns-in-HourColon c stop = fixed c.args.input.now c.args.place place.HourColon 13 c.in-HourColon.is refl stop
 
 pub returns-in-Minute : goal.returns-in-Minute
-returns-in-Minute c stop =
-    fixed c.args.input.now c.args.place place.Minute 14 c.in-Minute.is (
-      4,
-      10,
-      refl,
-      (
-        1,
-        9,
-        refl,
-        (
-          2,
-          7,
-          refl,
-          (
-            1,
-            6,
-            refl,
-            (
-              2,
-              4,
-              refl,
-              (
-                1,
-                3,
-                refl,
-                (2, 1, refl, (1, 0, refl, refl, refl), refl),
-                refl,
-              ),
-              refl,
-            ),
-            refl,
-          ),
-          refl,
-        ),
-        refl,
-      ),
-      refl,
-    ) stop
+returns-in-Minute c stop = fixed c.args.input.now c.args.place place.Minute 14 c.in-Minute.is refl stop
 
 pub returns-in-MinuteColon : goal.returns-in-MinuteColon
-returns-in-MinuteColon c stop =
-    fixed c.args.input.now c.args.place place.MinuteColon 16 c.in-MinuteColon.is (
-      4,
-      12,
-      refl,
-      (
-        1,
-        11,
-        refl,
-        (
-          2,
-          9,
-          refl,
-          (
-            1,
-            8,
-            refl,
-            (
-              2,
-              6,
-              refl,
-              (1, 5, refl, (2, 3, refl, (1, 2, refl, (2, 0, refl, refl, refl), refl), refl), refl),
-              refl,
-            ),
-            refl,
-          ),
-          refl,
-        ),
-        refl,
-      ),
-      refl,
-    ) stop
+returns-in-MinuteColon c stop = fixed c.args.input.now c.args.place place.MinuteColon 16 c.in-MinuteColon.is refl stop
 
 pub returns-in-Second : goal.returns-in-Second
-returns-in-Second c stop =
-    fixed c.args.input.now c.args.place place.Second 17 c.in-Second.is (
-      4,
-      13,
-      refl,
-      (
-        1,
-        12,
-        refl,
-        (
-          2,
-          10,
-          refl,
-          (
-            1,
-            9,
-            refl,
-            (
-              2,
-              7,
-              refl,
-              (1, 6, refl, (2, 4, refl, (1, 3, refl, (2, 1, refl, (1, 0, refl, refl, refl), refl), refl), refl), refl),
-              refl,
-            ),
-            refl,
-          ),
-          refl,
-        ),
-        refl,
-      ),
-      refl,
-    ) stop
+returns-in-Second c stop = fixed c.args.input.now c.args.place place.Second 17 c.in-Second.is refl stop
 
 pub returns-in-Subsecond : goal.returns-in-Subsecond
-returns-in-Subsecond c stop =
-    fixed c.args.input.now c.args.place place.Subsecond 19 c.in-Subsecond.is (
-      4,
-      15,
-      refl,
-      (
-        1,
-        14,
-        refl,
-        (
-          2,
-          12,
-          refl,
-          (
-            1,
-            11,
-            refl,
-            (
-              2,
-              9,
-              refl,
-              (1, 8, refl, (2, 6, refl, (1, 5, refl, (2, 3, refl, (1, 2, refl, (2, 0, refl, refl, refl), refl), refl), refl), refl), refl),
-              refl,
-            ),
-            refl,
-          ),
-          refl,
-        ),
-        refl,
-      ),
-      refl,
-    ) stop
+returns-in-Subsecond c stop = fixed c.args.input.now c.args.place place.Subsecond 19 c.in-Subsecond.is refl stop
 
 pub returns : goal.returns
 returns c stop =

@@ -1,5 +1,5 @@
 //! The answer to files.
-ghost use Rattle.std.specs.Prelude.{OnOk, map};
+ghost use Rattle.std.specs.Prelude.{◌≢◌, IfErr, OnOk, map};
 ghost use Rattle.time_values.specs.Range.{greatest_year};
 ghost use Rattle.time_rewriting.specs.Files.{DidFiles};
 ghost use Rattle.time_rewriting.specs.Streams.{state_of};
@@ -73,8 +73,8 @@ impl Rewriting for Restamping<'_> {
 
 /// Answers all lines of the files as it is asked for, one after the other.
 ///
-/// A file that can't be opened or read to its end is told to the log, and the others are answered. The work stops at a
-/// failed write, and under `--strict` at the first refused line, unless it is to go on.
+/// A file that can't be opened or read to its end is told to the log, and the others are answered, so that the answer is
+/// never [`Stop::Unread`]. The work stops at a failed write, and under `--strict` at the first refused line, unless it is to go on.
 pub fn serve<W: Write, L: Write, O: Opening>(
     request: &Request<'_>,
     names: &[&[u8]],
@@ -82,11 +82,12 @@ pub fn serve<W: Write, L: Write, O: Opening>(
     stream: &mut Stream<W, L>,
     block: &mut Block,
 ) -> Result<(), Stop>
-    ensures { (job : Job_) × IsJobOf request.now job
+    ensures ok { (job : Job_) × IsJobOf request.now job
         × OnOk result (DidFiles (IsFate greatest_year job) (IsReason greatest_year job request.now.shows_lines)
         request.now.settings
         (O.bytes_of opening.now) (state_of W.contents L.contents stream.old) (state_of W.contents L.contents stream.new)
         (map (λ name. name.now) names.now)) }
+    ensures unread { IfErr result (λ stop. stop ≢ Stop.Unread) }
 {
     let rewriting = Restamping {
         job: request.job(),

@@ -1,5 +1,5 @@
 //! Answers several files, one after the other.
-ghost use Rattle.std.specs.Prelude.{◌≡◌, ℕ, List, IfOk, OnOk, map, Option};
+ghost use Rattle.std.specs.Prelude.{◌≡◌, ◌≢◌, ℕ, List, IfErr, IfOk, OnOk, map, Option};
 ghost use Rattle.time_rewriting.specs.Answers.{job_of};
 ghost use Rattle.time_rewriting.specs.Files.{DidFile, DidFiles};
 ghost use Rattle.time_rewriting.specs.Held.{WentOn};
@@ -55,9 +55,10 @@ impl<W: Write, L: Write> Stream<W, L> {
         opening: &O,
         block: &mut Block,
     ) -> Result<(), Stop>
-        ensures { OnOk result
+        ensures ok { OnOk result
             (DidFile (job_of (T.is_fate rewriting.now) (T.is_reason rewriting.now) name.now settings) (O.bytes_of opening.now name.now)
             (state_of W.contents L.contents self.old) (state_of W.contents L.contents self.new)) }
+        ensures unread { IfErr result (λ stop. stop ≢ Stop.Unread) }
     {
         match self.serve_file(rewriting, settings, name, opening, block) {
             Ok(()) | Err(Stop::Unread) => Ok(()),
@@ -67,8 +68,8 @@ impl<W: Write, L: Write> Stream<W, L> {
 
     /// Answers all lines of the files, one after the other, over one tally: in each they are counted from 1.
     ///
-    /// A file that can't be opened or read to its end is told to the log, and the others are answered. The work stops at a
-    /// failed write, and where it is strict at the first refused line.
+    /// A file that can't be opened or read to its end is told to the log, and the others are answered, so that the answer
+    /// is never [`Stop::Unread`]. The work stops at a failed write, and where it is strict at the first refused line.
     pub fn serve_files<T: Rewriting, O: Opening>(
         &mut self,
         rewriting: &T,
@@ -77,8 +78,9 @@ impl<W: Write, L: Write> Stream<W, L> {
         opening: &O,
         block: &mut Block,
     ) -> Result<(), Stop>
-        ensures { OnOk result (DidFiles (T.is_fate rewriting.now) (T.is_reason rewriting.now) settings (O.bytes_of opening.now)
+        ensures ok { OnOk result (DidFiles (T.is_fate rewriting.now) (T.is_reason rewriting.now) settings (O.bytes_of opening.now)
             (state_of W.contents L.contents self.old) (state_of W.contents L.contents self.new) (map (λ name. name.now) names.now)) }
+        ensures unread { IfErr result (λ stop. stop ≢ Stop.Unread) }
     {
         for name in names {
             self.serve_next(rewriting, settings, name, opening, block)?;

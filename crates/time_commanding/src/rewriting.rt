@@ -1,7 +1,7 @@
 //! The answer to files.
-ghost use Rattle.std.specs.Prelude.{◌≢◌, IfErr, OnOk, map};
+ghost use Rattle.std.specs.Prelude.{◌≡◌, ◌≢◌, IfErr, OnOk, map};
 ghost use Rattle.time_values.specs.Range.{greatest_year};
-ghost use Rattle.time_rewriting.specs.Files.{DidFiles};
+ghost use Rattle.time_rewriting.specs.Files.{DidFiles, StoppedIn};
 ghost use Rattle.time_rewriting.specs.Streams.{state_of};
 ghost use Rattle.time_restamping.specs.declared.job.Job.{Job as Job_};
 ghost use Rattle.time_commanding.specs.Request.{IsJobOf};
@@ -74,7 +74,9 @@ impl Rewriting for Restamping<'_> {
 /// Answers all lines of the files as it is asked for, one after the other.
 ///
 /// A file that can't be opened or read to its end is told to the log, and the others are answered, so that the answer is
-/// never [`Stop::Unread`]. The work stops at a failed write, and under `--strict` at the first refused line, unless it is to go on.
+/// never [`Stop::Unread`]. The work stops at a failed write, and under `--strict` at the first refused line, unless it is
+/// to go on: the files and lines before that one are answered. After a failed write nothing is known of how much was
+/// written.
 pub fn serve<W: Write, L: Write, O: Opening>(
     request: &Request<'_>,
     names: &[&[u8]],
@@ -88,6 +90,11 @@ pub fn serve<W: Write, L: Write, O: Opening>(
         (O.bytes_of opening.now) (state_of W.contents L.contents stream.old) (state_of W.contents L.contents stream.new)
         (map (λ name. name.now) names.now)) }
     ensures unread { IfErr result (λ stop. stop ≢ Stop.Unread) }
+    ensures refused { (job : Job_) × IsJobOf request.now job
+        × IfErr result (λ stop. stop ≡ Stop.Refused →
+        StoppedIn (IsFate greatest_year job) (IsReason greatest_year job request.now.shows_lines) request.now.settings
+        (O.bytes_of opening.now) (state_of W.contents L.contents stream.old) (state_of W.contents L.contents stream.new)
+        (map (λ name. name.now) names.now)) }
 {
     let rewriting = Restamping {
         job: request.job(),

@@ -26,7 +26,7 @@ use Rattle.time_parsing.specs.exact.Rfc3339Laws.{rfc3339_exact}
 use Rattle.time_parsing.proofs.OneOutcome.{one_moment_outcome, one_front}
 use Rattle.time_restamping.specs.Job.{Verdict, IsPut, IsJudgedAt, IsJudgedAnywhere, SaysNear, SaysNoneBefore, IsFirst, is_kept, missed, verdict_of, refused, dropped}
 use Rattle.time_restamping.specs.Laws.{OneVerdict}
-use Rattle.time_restamping.specs.Reading.{IsReadBy, IsRead, Says, Undated, undated, is_after, year_after, IsReadInYear, AreYearsTried, IsDated, AreTried, IsReadInTurn, all_of, front_of, guarded}
+use Rattle.time_restamping.specs.Reading.{IsReadBy, IsRead, Says, Undated, undated, is_after, year_after, IsReadInYear, AreYearsTried, IsDated, AreTried, IsReadInTurn, all_of, front_of, bare_where, guarded}
 use Rattle.time_restamping.specs.Described.{tree_of}
 use Rattle.time_restamping.specs.Reason.{Reason}
 use Rattle.time_restamping.specs.declared.job.Job.{Job}
@@ -56,8 +56,9 @@ one_read reading.Rfc3339 is_open text defaults a b p q =
     one_read_by is_open (direct (RefusesRfc3339 greatest_year)) (Rfc3339.Reads greatest_year) (Rfc3339.Refuses greatest_year)
     (rfc3339_exact greatest_year) rfc3339_exact_path text None a b p q
 one_read reading.Rfc2822 is_open text defaults a b p q =
-    one_read_by is_open (direct (RefusesRfc2822 greatest_year)) (Rfc2822.Reads greatest_year) (Rfc2822.Refuses greatest_year)
-    (rfc2822_exact greatest_year) rfc2822_exact_path text None a b p q
+    p.2 ∙ ap (bare_where is_open text)
+    (one_read_by is_open (direct (RefusesRfc2822 greatest_year)) (Rfc2822.Reads greatest_year) (Rfc2822.Refuses greatest_year)
+    (rfc2822_exact greatest_year) rfc2822_exact_path text None p.0 q.0 p.1 q.1) ∙ sym q.2
 one_read reading.Iso8601 is_open text defaults a b p q =
     one_read_by is_open over_record (Iso8601.Reads greatest_year) (Iso8601.Refuses greatest_year)
     (iso8601_exact greatest_year) tt text defaults a b p q

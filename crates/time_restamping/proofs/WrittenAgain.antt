@@ -78,7 +78,7 @@ named_back Rfc2822 digits v text format defaults all p =
     let is = text_is (unwritable_2822 v) (IsMailText v) text p.0 p.1 p.2 in
     let back = mail_read_back v v text.items is.0 (whole 0 v all.1) is.1 in
     subst (λ (f : Reading). SaysAll f defaults v text.items) (sym all.0)
-    (Ok (said v (length text.items)), (Ok v, back.0, refl), refl)
+    (Ok (said v (length text.items)), (Ok (said v (length text.items)), (Ok v, back.0, refl), refl), refl)
 named_back Iso8601 digits v text format defaults all p =
     let is = text_is (unwritable_3339 v) (λ b. b ≡ moment_text 9 v) text p.0 p.1 p.2 in
     let back = iso_read_back (Exactly 9) v v is.0 (whole 9 v (nine-keeps (nanosecond_of v) (offset_time v).nanosecond_in)) in
@@ -144,8 +144,8 @@ auto_has_all v = auto-keeps (nanosecond_of v) (offset_time v).nanosecond_in
 pub reads_rewritten_back : ReadsRewrittenBack greatest_year
 reads_rewritten_back format defaults form v bytes read is says =
     let it = back format defaults form v bytes is in
-    subst (λ (r : Result Said Reason). IsOkAnd r (λ s. IsShown greatest_year form.offset v (Some s.moment) × (s.length ≡ length bytes)))
-    (one_says format false bytes defaults (Ok (said it.0 (length bytes))) read it.1.says says) (it.1.shown, refl)
+    subst (λ (r : Result Said Reason). IsOkAnd r (λ s. IsShown greatest_year form.offset v (Some s.moment) × (s.start ≡ 0) × (s.length ≡ length bytes)))
+    (one_says format false bytes defaults (Ok (said it.0 (length bytes))) read it.1.says says) (it.1.shown, refl, refl)
 
 pub writes_same_text : WritesSameText greatest_year
 writes_same_text format defaults form v bytes said_ again is says next =

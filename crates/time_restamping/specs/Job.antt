@@ -38,10 +38,10 @@ is_before Y v (Some bound) otherwise = int_lt (offset_instant Y v) (offset_insta
 abbrev pub is_kept : ℕ → Job → OffsetDateTime → Bool
 is_kept Y job v = not (is_before Y v job.since false) && is_before Y v job.until true
 
--- the verdict on a line of which so many bytes from a place on say a moment
+-- the verdict on a line of which some bytes say a moment, in a part from a place on
 abbrev pub verdict_of : ℕ → Said → Result Items Reason → Verdict
-verdict_of start said (Ok text) = rewritten start said.length text.items
-verdict_of start said (Err e) = refused (start + 1) e
+verdict_of start said (Ok text) = rewritten (start + said.start) said.length text.items
+verdict_of start said (Err e) = refused (start + said.start + 1) e
 
 -- the verdict where the moment is written anew
 abbrev pub IsWrittenOver : ℕ → Job → ℕ → Said → Verdict → Type 0

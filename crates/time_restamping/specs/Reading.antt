@@ -1,6 +1,7 @@
 -- How a time is read. `Y` is the greatest year.
-use Rattle.std.specs.Prelude.{◌≡◌, ℕ, zero, suc, ◌-◌, ℤ, pos, ◌+ℤ◌, ◌-ℤ◌, int_lt, Bool, true, false, MatchBool, ◌&&◌, ◌==◌, List, [], ◌∷◌, length, take, slice_index, if◌then◌else◌, Option, None, Some, MatchOption, Result, Ok, Err, MatchResult}
-use Rattle.std.specs.List.{list_any}
+use Rattle.std.specs.Prelude.{◌≡◌, ℕ, zero, suc, ◌-◌, ℤ, pos, ◌+ℤ◌, ◌-ℤ◌, int_lt, Bool, true, false, MatchBool, ◌&&◌, ◌==◌, List, [], ◌∷◌, length, take, drop, slice_index, if◌then◌else◌, Option, None, Some, MatchOption, Result, Ok, Err, MatchResult}
+use Rattle.std.specs.Char.{is_ascii_whitespace}
+use Rattle.std.specs.List.{list_any, prefix_len, suffix_len}
 use Rattle.time_values.specs.Dates as Dates
 use Rattle.time_values.specs.Moments.{offset_date, offset_instant}
 use Rattle.time_values.specs.Refusal.{Refusal, refusal_of}
@@ -23,9 +24,9 @@ use Rattle.time_restamping.specs.declared.reading.Said.{Said}
 use Rattle.time_restamping.specs.declared.reading.Defaults.{Defaults}
 use Rattle.time_restamping.specs.declared.reading.Undated as declared
 
--- a moment that so many bytes say
+-- a moment that so many bytes at the front of a text say
 abbrev pub said : OffsetDateTime → ℕ → Said
-said v n = record { moment = v; length = n }
+said v n = record { moment = v; start = 0; length = n }
 
 -- a result, with its refusal without where its text lies in memory
 abbrev pub seen_said : Result Said Parse → Result Said Refusal
@@ -52,13 +53,41 @@ IsReadBy Y false path reads refuses text defaults result =
     (outcome : Result OffsetDateTime Refusal)
     × IsMomentOutcome Y path reads refuses text defaults outcome × (result ≡ all_of text outcome)
 
+-- how many bytes stand before the blanks at the end
+abbrev pub before_blanks : List ℕ → ℕ
+before_blanks text = length text - suffix_len is_ascii_whitespace text
+
+-- a moment that a text says, without the blanks at both ends of it
+abbrev pub said_bare : OffsetDateTime → List ℕ → Said
+said_bare v text = record {
+  moment = v;
+  start = prefix_len is_ascii_whitespace text;
+  length = before_blanks (drop (prefix_len is_ascii_whitespace text) text);
+}
+
+-- what is said by the front of a text, without the blanks at both ends of that front
+abbrev pub bare : List ℕ → Said → Said
+bare text s = said_bare s.moment (take s.length text)
+
+-- the same of a result, where it is open
+abbrev pub bare_where : Bool → List ℕ → Result Said Refusal → Result Said Refusal
+bare_where true text (Ok s) = Ok (bare text s)
+bare_where true text (Err e) = Err e
+bare_where false text result = result
+
+-- The same by RFC 2822. It has blanks before a date and after it, and where it is open they don't count.
+abbrev pub IsReadMail : ℕ → Bool → List ℕ → Result Said Refusal → Type 0
+IsReadMail Y is_open text result =
+    (padded : Result Said Refusal)
+    × IsReadBy Y is_open (direct (RefusesRfc2822 Y)) (Rfc2822.Reads Y) (Rfc2822.Refuses Y) text None padded
+    × (result ≡ bare_where is_open text padded)
+
 -- The same by any of the formats. A text of RFC 3339, of RFC 2822 or of a complete description says all of a moment, so
 -- that defaults don't count.
 abbrev pub IsRead : ℕ → Reading → Bool → List ℕ → Option Record → Result Said Refusal → Type 0
 IsRead Y reading.Rfc3339 is_open text defaults =
     IsReadBy Y is_open (direct (RefusesRfc3339 Y)) (Rfc3339.Reads Y) (Rfc3339.Refuses Y) text None
-IsRead Y reading.Rfc2822 is_open text defaults =
-    IsReadBy Y is_open (direct (RefusesRfc2822 Y)) (Rfc2822.Reads Y) (Rfc2822.Refuses Y) text None
+IsRead Y reading.Rfc2822 is_open text defaults = IsReadMail Y is_open text
 IsRead Y reading.Iso8601 is_open text defaults =
     IsReadBy Y is_open over_record (Iso8601.Reads Y) (Iso8601.Refuses Y) text defaults
 IsRead Y (reading.Described d) is_open text defaults =

@@ -3,7 +3,7 @@ ghost use Rattle.std.specs.Prelude.{◌≡◌, ◌≤◌, ◌<◌, ◌+◌, ◌^
 ghost use Rattle.time_values.specs.Range.{greatest_year};
 ghost use Rattle.time_restamping.specs.Job as spec;
 ghost use Rattle.time_restamping.specs.Reading.{Says};
-ghost use Rattle.time_restamping.specs.Reason.{seen, seen_read};
+ghost use Rattle.time_restamping.specs.Reason.{seen, seen_read, seen_written};
 
 use crate::form::{Form, Writing, write_moment, write_named};
 use crate::reading::{Defaults, Reading, Said, read_further, read_in_turn, read_once};
@@ -73,6 +73,28 @@ fn is_before(moment: OffsetDateTime, bound: Option<OffsetDateTime>, otherwise: b
     }
 }
 
+impl Said {
+    // The verdict on a line that says a moment so in a part from that place on, by what is written of it.
+    #[inline(always)]
+    fn replaced_by(self, start: usize, written: Result<Text, Reason>) -> Verdict
+        requires { start + self.start + 1 < 2 ^ 64 }
+        ensures verdict { spec.seen_verdict result ≡ spec.verdict_of start self (seen_written written) }
+        ensures within { spec.IsWithin (start + self.start + self.length) (spec.seen_verdict result) }
+    {
+        match written {
+            Ok(text) => Verdict::Rewritten {
+                start: start + self.start,
+                length: self.length,
+                text,
+            },
+            Err(reason) => Verdict::Refused {
+                column: start + self.start + 1,
+                reason,
+            },
+        }
+    }
+}
+
 impl Job<'_> {
     // Whether the moment lies within the bounds.
     #[inline(always)]
@@ -82,12 +104,12 @@ impl Job<'_> {
         !is_before(moment, self.since, false) && is_before(moment, self.until, true)
     }
 
-    // The verdict on a line of which some bytes say a moment.
+    // The verdict on a line of which some bytes say a moment, in a part from that place on.
     #[inline(always)]
     fn put(&self, start: usize, said: Said) -> Verdict
-        requires { start + 1 < 2 ^ 64 }
+        requires { start + said.start + 1 < 2 ^ 64 }
         ensures put { spec.IsPut greatest_year self.now start said (spec.seen_verdict result) }
-        ensures within { spec.IsWithin (start + said.length) (spec.seen_verdict result) }
+        ensures within { spec.IsWithin (start + said.start + said.length) (spec.seen_verdict result) }
     {
         if !self.keeps(said.moment) {
             return Verdict::Dropped;
@@ -95,38 +117,21 @@ impl Job<'_> {
         let Writing::Named(named) = self.form.writing else {
             return self.put_kept(start, said);
         };
-        match write_named(said.moment, *named, self.form.digits, self.form.offset) {
-            Ok(text) => Verdict::Rewritten {
-                start,
-                length: said.length,
-                text,
-            },
-            Err(reason) => Verdict::Refused {
-                column: start + 1,
-                reason,
-            },
-        }
+        said.replaced_by(
+            start,
+            write_named(said.moment, *named, self.form.digits, self.form.offset),
+        )
     }
 
     // The same of any format, for a moment that is kept. It isn't inlined, so that its texts take no place beside those that
     // are written in line.
     #[inline(never)]
     fn put_kept(&self, start: usize, said: Said) -> Verdict
-        requires { start + 1 < 2 ^ 64 }
+        requires { start + said.start + 1 < 2 ^ 64 }
         ensures put { spec.IsWrittenOver greatest_year self.now start said (spec.seen_verdict result) }
-        ensures within { spec.IsWithin (start + said.length) (spec.seen_verdict result) }
+        ensures within { spec.IsWithin (start + said.start + said.length) (spec.seen_verdict result) }
     {
-        match write_moment(said.moment, self.form) {
-            Ok(text) => Verdict::Rewritten {
-                start,
-                length: said.length,
-                text,
-            },
-            Err(reason) => Verdict::Refused {
-                column: start + 1,
-                reason,
-            },
-        }
+        said.replaced_by(start, write_moment(said.moment, self.form))
     }
 
     // The verdict on a line that has no place for a time.
@@ -163,7 +168,7 @@ impl Job<'_> {
     // so that what is read by the others takes no place beside what is read by the first.
     #[inline(never)]
     fn judge_further(&self, start: usize, is_open: bool, text: &[u8], reason: Reason) -> Verdict
-        requires start { start + 1 < 2 ^ 64 }
+        requires start { start + length text.now + 1 < 2 ^ 64 }
         requires says { Says greatest_year self.now.first.now is_open text.now self.now.defaults.parts (Err (seen reason)) }
         ensures verdict { spec.IsJudgedPart greatest_year self.now is_open start text.now (spec.seen_verdict result) }
         ensures within { spec.IsWithin (start + length text.now) (spec.seen_verdict result) }
@@ -187,7 +192,7 @@ impl Job<'_> {
     // What a front of the text says, of which so many bytes count.
     fn read_near(&self, text: &[u8]) -> Result<Said, Reason>
         ensures said { spec.SaysNear greatest_year self.now text.now (seen_read result) }
-        ensures within { IfOk result (λ said. said.length ≤ length text.now) }
+        ensures within { IfOk result (λ said. said.start + said.length ≤ length text.now) }
     {
         let near = &text[..REACH.min(text.len())];
         read_in_turn(self.first, self.others, true, near, &self.defaults)
@@ -196,7 +201,7 @@ impl Job<'_> {
     // The first place of the line from which on a front says a moment, and what it says.
     fn find_first(&self, line: &[u8]) -> Option<(usize, Said)>
         ensures first { spec.IsFirst greatest_year self.now line.now result }
-        ensures within { IfSome result (λ found. found.0 + found.1.length ≤ length line.now) }
+        ensures within { IfSome result (λ found. found.0 + found.1.start + found.1.length ≤ length line.now) }
     {
         for start in 0..line.len() {
             if let Ok(said) = self.read_near(&line[start..]) {
@@ -220,7 +225,8 @@ impl Job<'_> {
     /// The verdict on a line, which has no LF. A time that is refused leaves the line as it is.
     ///
     /// Where no place is given the time begins at the first byte from which on a format reads one, of which at most
-    /// [`REACH`] bytes count. A line with no such byte has no place for a time.
+    /// [`REACH`] bytes count. A line with no such byte has no place for a time. The blanks around a mail date stay where it
+    /// isn't told where the time ends.
     #[inline(always)]
     pub fn judge(&self, line: &[u8]) -> Verdict
         ensures verdict { spec.IsJudged greatest_year self.now line.now (spec.seen_verdict result) }

@@ -51,6 +51,8 @@ pub struct Defaults {
 pub struct Said {
     /// The moment.
     pub moment: OffsetDateTime,
+    /// How many bytes of the text stand before those that say it.
+    pub start: usize,
     /// How many bytes say it.
     pub length: usize,
 }
@@ -79,20 +81,49 @@ fn read_by<F: Parsable>(
 ) -> Result<Said, Parse>
     ensures said { spec.IsReadBy greatest_year is_open (F.path format.now) (F.reads format.now) (F.refuses format.now) text.now
         defaults (spec.seen_said result) }
-    ensures within { IfOk result (λ said. said.length ≤ length text.now) }
+    ensures within { IfOk result (λ said. said.start + said.length ≤ length text.now) }
 {
     if is_open {
         let (moment, rest) = format.parse_front(text, defaults)?;
         return Ok(Said {
             moment,
+            start: 0,
             length: text.len().saturating_sub(rest.len()),
         });
     }
     let moment = format.parse_offset_date_time(text, defaults)?;
     Ok(Said {
         moment,
+        start: 0,
         length: text.len(),
     })
+}
+
+// The same without the blanks at both ends of its bytes.
+fn bare(said: Said, text: &[u8]) -> Said
+    requires { said.length ≤ length text.now }
+    ensures said { result ≡ spec.bare text.now said }
+    ensures within { result.start + result.length ≤ length text.now }
+{
+    let front = text[..said.length].trim_ascii_start();
+    Said {
+        moment: said.moment,
+        start: said.length.saturating_sub(front.len()),
+        length: front.trim_ascii_end().len(),
+    }
+}
+
+// The same by RFC 2822, which has blanks before a date and after it: where it is open they stay around it.
+#[inline(always)]
+fn read_mail(is_open: bool, text: &[u8]) -> Result<Said, Parse>
+    ensures said { spec.IsReadMail greatest_year is_open text.now (spec.seen_said result) }
+    ensures within { IfOk result (λ said. said.start + said.length ≤ length text.now) }
+{
+    let said = read_by(&Rfc2822, is_open, text, None)?;
+    if is_open {
+        return Ok(bare(said, text));
+    }
+    Ok(said)
 }
 
 // The same by a description.
@@ -105,7 +136,7 @@ fn read_described(
 ) -> Result<Said, Parse>
     ensures said { spec.IsReadBy greatest_year is_open over_record (Reads greatest_year (tree_of described.now))
         (Refuses greatest_year (tree_of described.now)) text.now defaults (spec.seen_said result) }
-    ensures within { IfOk result (λ said. said.length ≤ length text.now) }
+    ensures within { IfOk result (λ said. said.start + said.length ≤ length text.now) }
 {
     match described {
         Described::Prepared(prepared) => read_by(prepared, is_open, text, defaults),
@@ -122,11 +153,11 @@ fn read_plain(
     defaults: &Option<Parsed>,
 ) -> Result<Said, Parse>
     ensures said { spec.IsRead greatest_year reading.now is_open text.now defaults.now (spec.seen_said result) }
-    ensures within { IfOk result (λ said. said.length ≤ length text.now) }
+    ensures within { IfOk result (λ said. said.start + said.length ≤ length text.now) }
 {
     match reading {
         Reading::Rfc3339 => read_by(&Rfc3339, is_open, text, None),
-        Reading::Rfc2822 => read_by(&Rfc2822, is_open, text, None),
+        Reading::Rfc2822 => read_mail(is_open, text),
         Reading::Iso8601 => read_by(&Iso8601, is_open, text, *defaults),
         Reading::Described(described) => read_described(described, is_open, text, *defaults),
         Reading::Complete(described) => read_described(described, is_open, text, None),
@@ -150,7 +181,7 @@ pub(crate) fn read_once(
     defaults: &Option<Parsed>,
 ) -> Result<Said, Reason>
     ensures said { spec.Says greatest_year reading.now is_open text.now defaults.now (seen_read result) }
-    ensures within { IfOk result (λ said. said.length ≤ length text.now) }
+    ensures within { IfOk result (λ said. said.start + said.length ≤ length text.now) }
 {
     let said = match read_plain(reading, is_open, text, defaults) {
         Ok(said) => said,
@@ -171,7 +202,7 @@ pub fn read(
     defaults: &Option<Parsed>,
 ) -> Result<Said, Reason>
     ensures said { spec.Says greatest_year reading.now is_open text.now defaults.now (seen_read result) }
-    ensures within { IfOk result (λ said. said.length ≤ length text.now) }
+    ensures within { IfOk result (λ said. said.start + said.length ≤ length text.now) }
 {
     read_once(reading, is_open, text, defaults)
 }
@@ -197,7 +228,7 @@ impl Undated<'_> {
     // What the text says in that year.
     fn read_in_year(&self, year: i32) -> Option<Result<Said, Reason>>
         ensures said { spec.IsReadInYear greatest_year (spec.seen_undated self.now) year (option_map seen_read result) }
-        ensures within { IfSome result (λ read. IfOk read (λ said. said.length ≤ length self.now.text.now)) }
+        ensures within { IfSome result (λ read. IfOk read (λ said. said.start + said.length ≤ length self.now.text.now)) }
     {
         let dated = self.parts.with_year(year)?;
         Some(read(self.reading, self.is_open, self.text, &Some(dated)))
@@ -208,7 +239,7 @@ impl Undated<'_> {
     fn read_years(&self, year: i32, count: u8, reason: Reason) -> Result<Said, Reason>
         requires { neg_ℤ (pos 2_000_000) ≤ℤ (year -ℤ pos count) }
         ensures said { spec.AreYearsTried greatest_year (spec.seen_undated self.now) count year (seen reason) (seen_read result) }
-        ensures within { IfOk result (λ said. said.length ≤ length self.now.text.now) }
+        ensures within { IfOk result (λ said. said.start + said.length ≤ length self.now.text.now) }
     {
         if count == 0 {
             return Err(reason);
@@ -247,7 +278,7 @@ fn read_undated(
 ) -> Result<Said, Reason>
     requires { spec.Says greatest_year reading.now is_open text.now defaults.now.parts (Err (seen reason)) }
     ensures said { spec.IsDated greatest_year reading.now is_open text.now defaults.now (seen_read result) }
-    ensures within { IfOk result (λ said. said.length ≤ length text.now) }
+    ensures within { IfOk result (λ said. said.start + said.length ≤ length text.now) }
 {
     let Some(latest) = defaults.latest else {
         return Err(reason);
@@ -272,7 +303,7 @@ pub fn read_dated(
     defaults: &Defaults,
 ) -> Result<Said, Reason>
     ensures said { spec.IsDated greatest_year reading.now is_open text.now defaults.now (seen_read result) }
-    ensures within { IfOk result (λ said. said.length ≤ length text.now) }
+    ensures within { IfOk result (λ said. said.start + said.length ≤ length text.now) }
 {
     match read(reading, is_open, text, &defaults.parts) {
         Ok(said) => Ok(said),
@@ -289,7 +320,7 @@ fn read_others(
     reason: Reason,
 ) -> Result<Said, Reason>
     ensures said { spec.AreTried greatest_year readings.now is_open text.now defaults.now (seen reason) (seen_read result) }
-    ensures within { IfOk result (λ said. said.length ≤ length text.now) }
+    ensures within { IfOk result (λ said. said.start + said.length ≤ length text.now) }
 {
     for reading in readings {
         if let Ok(said) = read_dated(reading, is_open, text, defaults) {
@@ -310,7 +341,7 @@ pub(crate) fn read_further(
 ) -> Result<Said, Reason>
     requires { spec.Says greatest_year first.now is_open text.now defaults.now.parts (Err (seen reason)) }
     ensures said { spec.IsReadInTurn greatest_year first.now others.now is_open text.now defaults.now (seen_read result) }
-    ensures within { IfOk result (λ said. said.length ≤ length text.now) }
+    ensures within { IfOk result (λ said. said.start + said.length ≤ length text.now) }
 {
     match read_undated(first, is_open, text, defaults, reason) {
         Ok(said) => Ok(said),
@@ -328,7 +359,7 @@ pub fn read_in_turn(
     defaults: &Defaults,
 ) -> Result<Said, Reason>
     ensures said { spec.IsReadInTurn greatest_year first.now others.now is_open text.now defaults.now (seen_read result) }
-    ensures within { IfOk result (λ said. said.length ≤ length text.now) }
+    ensures within { IfOk result (λ said. said.start + said.length ≤ length text.now) }
 {
     match read(first, is_open, text, &defaults.parts) {
         Ok(said) => Ok(said),

@@ -3,7 +3,7 @@ use Rattle.std.specs.Prelude.{◌≡◌, ◌⊎◌, ℕ, List, [], ◌∷◌, Op
 use Rattle.time_rewriting.specs.declared.fate.Fate.{Fate}
 use Rattle.time_rewriting.specs.declared.settings.Settings.{Settings}
 use Rattle.time_rewriting.specs.Answers.{Job, job_of, State, DidAll}
-use Rattle.time_rewriting.specs.Streams.{Fails, DidSome}
+use Rattle.time_rewriting.specs.Streams.{Fails, DidSome, DidBefore}
 
 -- From the one state to the other a file that has those bytes, where they are known, was answered: all its lines, or
 -- those that were read until a read failed, or none where it was not opened.
@@ -21,3 +21,14 @@ DidFiles is_fate is_reason settings bytes_of before after (name ∷ names) =
     (between : State)
     × DidFile (job_of is_fate is_reason name settings) (bytes_of name) before between
     × DidFiles is_fate is_reason settings bytes_of between after names
+
+-- The work stopped at the first refused line of one of the files of those names, whose bytes are those where they are
+-- known: the files before it were answered, and of it all lines before that one.
+abbrev pub StoppedIn : (List ℕ → Fate → Type 0) → (List ℕ → ℕ → List ℕ → Type 0) → Settings → (List ℕ → Option (List ℕ))
+    → State → State → List (List ℕ) → Type 0
+StoppedIn is_fate is_reason settings bytes_of before after [] = ⊥
+StoppedIn is_fate is_reason settings bytes_of before after (name ∷ names) =
+    IfSome (bytes_of name) (DidBefore (job_of is_fate is_reason name settings) before after)
+    ⊎ ((between : State)
+    × DidFile (job_of is_fate is_reason name settings) (bytes_of name) before between
+    × StoppedIn is_fate is_reason settings bytes_of between after names)

@@ -1,9 +1,9 @@
 //! Answers several files, one after the other.
-ghost use Rattle.std.specs.Prelude.{◌≡◌, ◌≢◌, ℕ, List, IfErr, IfOk, OnOk, map, Option};
+ghost use Rattle.std.specs.Prelude.{◌≡◌, ◌≢◌, ℕ, List, IfErr, IfOk, IfSome, OnOk, map, Option};
 ghost use Rattle.time_rewriting.specs.Answers.{job_of};
-ghost use Rattle.time_rewriting.specs.Files.{DidFile, DidFiles};
+ghost use Rattle.time_rewriting.specs.Files.{DidFile, DidFiles, StoppedIn};
 ghost use Rattle.time_rewriting.specs.Held.{WentOn};
-ghost use Rattle.time_rewriting.specs.Streams.{state_of};
+ghost use Rattle.time_rewriting.specs.Streams.{state_of, DidBefore};
 
 use crate::block::Block;
 use crate::rewriting::Rewriting;
@@ -36,9 +36,12 @@ impl<W: Write, L: Write> Stream<W, L> {
         opening: &O,
         block: &mut Block,
     ) -> Result<(), Stop>
-        ensures { WentOn result
+        ensures file { WentOn result
             (DidFile (job_of (T.is_fate rewriting.now) (T.is_reason rewriting.now) name.now settings) (O.bytes_of opening.now name.now)
             (state_of W.contents L.contents self.old) (state_of W.contents L.contents self.new)) }
+        ensures refused { IfErr result (λ stop. stop ≡ Stop.Refused → IfSome (O.bytes_of opening.now name.now)
+            (DidBefore (job_of (T.is_fate rewriting.now) (T.is_reason rewriting.now) name.now settings)
+            (state_of W.contents L.contents self.old) (state_of W.contents L.contents self.new))) }
     {
         match opening.open(name) {
             Ok(mut input) => self.serve(rewriting, settings, name, &mut input, block),
@@ -59,6 +62,9 @@ impl<W: Write, L: Write> Stream<W, L> {
             (DidFile (job_of (T.is_fate rewriting.now) (T.is_reason rewriting.now) name.now settings) (O.bytes_of opening.now name.now)
             (state_of W.contents L.contents self.old) (state_of W.contents L.contents self.new)) }
         ensures unread { IfErr result (λ stop. stop ≢ Stop.Unread) }
+        ensures refused { IfErr result (λ stop. stop ≡ Stop.Refused → IfSome (O.bytes_of opening.now name.now)
+            (DidBefore (job_of (T.is_fate rewriting.now) (T.is_reason rewriting.now) name.now settings)
+            (state_of W.contents L.contents self.old) (state_of W.contents L.contents self.new))) }
     {
         match self.serve_file(rewriting, settings, name, opening, block) {
             Ok(()) | Err(Stop::Unread) => Ok(()),
@@ -69,7 +75,8 @@ impl<W: Write, L: Write> Stream<W, L> {
     /// Answers all lines of the files, one after the other, over one tally: in each they are counted from 1.
     ///
     /// A file that can't be opened or read to its end is told to the log, and the others are answered, so that the answer
-    /// is never [`Stop::Unread`]. The work stops at a failed write, and where it is strict at the first refused line.
+    /// is never [`Stop::Unread`]. The work stops at a failed write, and where it is strict at the first refused line: the
+    /// files and lines before that one are answered. After a failed write nothing is known of how much was written.
     pub fn serve_files<T: Rewriting, O: Opening>(
         &mut self,
         rewriting: &T,
@@ -81,6 +88,9 @@ impl<W: Write, L: Write> Stream<W, L> {
         ensures ok { OnOk result (DidFiles (T.is_fate rewriting.now) (T.is_reason rewriting.now) settings (O.bytes_of opening.now)
             (state_of W.contents L.contents self.old) (state_of W.contents L.contents self.new) (map (λ name. name.now) names.now)) }
         ensures unread { IfErr result (λ stop. stop ≢ Stop.Unread) }
+        ensures refused { IfErr result (λ stop. stop ≡ Stop.Refused →
+            StoppedIn (T.is_fate rewriting.now) (T.is_reason rewriting.now) settings (O.bytes_of opening.now)
+            (state_of W.contents L.contents self.old) (state_of W.contents L.contents self.new) (map (λ name. name.now) names.now)) }
     {
         for name in names {
             self.serve_next(rewriting, settings, name, opening, block)?;

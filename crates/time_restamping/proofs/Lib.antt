@@ -1,5 +1,6 @@
 pub mod Counts
 pub mod ReadingLemmas
+pub mod BareLemmas
 pub mod OneWriting
 pub mod OneVerdict
 pub mod WrittenAgain

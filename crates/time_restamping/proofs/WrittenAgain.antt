@@ -1,5 +1,5 @@
 -- A time that was written is read back, and written again as it was.
-use Rattle.std.proofs.Common.{◌≡◌, ℕ, Bool, true, false, List, length, sym, ap, subst, refl, None, Some, Ok, Err}
+use Rattle.std.proofs.Common.{◌≡◌, ℕ, ◌+◌, Bool, true, false, List, length, sym, ap, subst, refl, arith, None, Some, Ok, Err}
 use Rattle.std.specs.Prelude.{Option, Result, MatchOption, MatchBool, IsOkAnd, slice_range}
 use Rattle.time_values.specs.Moments.{offset_time, offset_instant}
 use Rattle.time_values.specs.Range.{greatest_year}
@@ -177,7 +177,11 @@ put_back : (job : Job) (kept : Bool) (start : ℕ) (w : OffsetDateTime) (bytes :
     → IsWritten greatest_year job.form w (Ok text) → bytes ≡ text.items → is_kept greatest_year job w ≡ kept
     → (verdict : Verdict) × IsPut greatest_year job start (said w (length bytes)) verdict × Kept job kept start bytes verdict
 put_back job true start w bytes text again same e =
-    (rewritten start (length bytes) text.items, rw e (Ok text, again, refl), ap (rewritten start (length bytes)) (sym same))
+    let none : start ≡ start + 0 = omega arith in (
+      rewritten start (length bytes) text.items,
+      rw e (Ok text, again, ap (λ (n : ℕ). rewritten n (length bytes) text.items) none),
+      ap (rewritten start (length bytes)) (sym same),
+    )
 put_back job false start w bytes text again same e = (dropped, rw e refl, refl)
 
 -- the first format reads it

@@ -70,7 +70,8 @@ ReadsRewrittenBack Y =
     (format : Reading) (defaults : Option Record) (form : Form) (v : OffsetDateTime) (bytes : List ℕ)
     (read : Result Said Reason)
     → IsReadable Y format defaults form v bytes → Says Y format false bytes defaults read
-    → IsOkAnd read (λ said. IsShown Y form.offset v (Some said.moment) × (said.start ≡ 0) × (said.length ≡ length bytes))
+    → IsOkAnd read
+    (λ said. IsShown Y form.offset v (Some said.moment) × (said.start ≡ 0) × (said.length ≡ length bytes))
 
 -- What such a text says has that text in the form.
 abbrev pub WritesSameText : ℕ → Type 0

@@ -10,7 +10,3 @@ onto_first b (line ∷ lines) = (b ∷ line) ∷ lines
 abbrev pub lines_of : List ℕ → List (List ℕ)
 lines_of [] = []
 lines_of (b ∷ bytes) = if b == 10 then [] ∷ lines_of bytes else onto_first b (lines_of bytes)
-
--- bytes that a program holds
-pub record Items : Type 0 where
-  pub items : List ℕ

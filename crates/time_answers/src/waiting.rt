@@ -1,7 +1,7 @@
 //! Bytes that wait for one write.
 ghost use Rattle.std.specs.Io.KnownBytes.{Keeps, append_known};
 ghost use Rattle.std.specs.Prelude.{◌≡◌, ◌+◌, ◌<◌, ◌≤◌, ◌↔◌, [], ◌++◌, length, take, OnOk, Some, IsTrue, false};
-ghost use Rattle.time_answers.specs.Lines.{Items};
+ghost use Rattle.time_values.specs.Shown.{Items};
 ghost use Rattle.time_answers.specs.declared.waiting.TheConstants.{MOST, LONGEST};
 
 use std::io;

@@ -17,7 +17,8 @@ use Rattle.time_components.specs.declared.format_description.Period.TheVariants.
 use Rattle.time_digits.specs.Bytes.{sign_byte}
 use Rattle.time_digits.specs.Cuts.{Form, AtMostOneCut}
 use Rattle.time_digits.specs.Digits.{IsPaddedRun, digits_value, fraction_nanoseconds}
-use Rattle.time_components.specs.Names.{IsNamed, month_name, weekday_name, period_name}
+use Rattle.time_values.specs.Names.{month_name, weekday_name}
+use Rattle.time_components.specs.Names.{IsNamed, period_name}
 use Rattle.time_components.specs.Spelling.{Value, Says, SaysYear, SaysCentury, SaysTimestamp, IsSigned, Spells, IsPositiveRun, IsNameOf, IsShortOf, IsNumberOf, IsDigitOf, IsFractionRun, least_digits, most_digits, first_digit, days_from_sunday, number, month, weekday, period, positive, signed_value, flagged_value, scaled_value}
 use Rattle.time_digits.proofs.CutLemmas.{IsUnique, IsUnique-cut}
 use Rattle.time_components.proofs.NameLemmas.{IsNamed-length, IsNamed-parts, same_front}

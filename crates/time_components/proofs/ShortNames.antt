@@ -9,7 +9,8 @@ use Rattle.std.specs.Str.{str_to_ascii_lowercase, bytes_eq}
 use Rattle.time_values.specs.declared.month.Month.{Month}
 use Rattle.time_values.specs.declared.weekday.Weekday.{Weekday}
 use Rattle.time_digits.specs.Cuts.{Form, Cut, NoCut}
-use Rattle.time_components.specs.Names.{IsNamed, month_name, weekday_name}
+use Rattle.time_values.specs.Names.{month_name, weekday_name}
+use Rattle.time_components.specs.Names.{IsNamed}
 use Rattle.time_components.specs.ShortNames.{is_title_case, IsTitleCase, letters_of, IsEnding}
 use Rattle.time_components.specs.Spelling.{Value, Says, IsNameOf, IsShortOf, month, weekday}
 use Rattle.time_digits.proofs.CutLemmas.{IsUnique}

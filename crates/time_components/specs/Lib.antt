@@ -1,6 +1,7 @@
 pub mod Laws
 pub mod Letters
 pub mod Names
+pub mod Nodes
 pub mod Shape
 pub mod ShortNames
 pub mod Spelling

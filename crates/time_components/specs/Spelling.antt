@@ -18,7 +18,8 @@ use Rattle.time_components.specs.declared.modifier.TrailingInput.TheVariants.{Pr
 use Rattle.time_digits.specs.Bytes.{sign_byte, is_negative}
 use Rattle.time_digits.specs.Cuts.{Form}
 use Rattle.time_digits.specs.Digits.{IsDigitRun, IsPaddedRun, digits_value, fraction_nanoseconds}
-use Rattle.time_components.specs.Names.{month_name, weekday_name, period_name, IsNamed}
+use Rattle.time_values.specs.Names.{month_name, weekday_name}
+use Rattle.time_components.specs.Names.{period_name, IsNamed}
 
 -- what a component's text says
 pub data Value : Type 0 where

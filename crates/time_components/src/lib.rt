@@ -5,6 +5,7 @@
 
 pub mod component;
 pub mod format_description;
+mod inspect;
 pub mod laws;
 pub mod modifier;
 mod step;
@@ -13,6 +14,7 @@ pub use format_description::{
     BorrowedFormatItem, Component, FormatDescriptionV3, FormatDescriptionV3Inner, OwnedFormatItem,
     Period,
 };
+pub use inspect::{Inspect, Node};
 pub use modifier::{SubsecondDigits, TrailingInput};
 pub use step::{Group, Step};
 pub use time_digits::{Integer, Padding, ParsedItem, Sign, combinator};

@@ -4,9 +4,9 @@ ghost use Rattle.time_descriptions.specs.Description as description;
 ghost use Rattle.time_describing.specs.Texts.{IsNoText, IsTextOf};
 
 use crate::described::is_described;
-use crate::inspect::Inspect;
 use crate::text::DescriptionText;
 use crate::writing::put_item;
+use time_components::Inspect;
 use time_descriptions::{Description, parse_borrowed};
 
 /// Why an item has no text.

@@ -6,8 +6,7 @@ ghost use Rattle.time_descriptions.specs.Grammar as grammar;
 ghost use Rattle.time_descriptions.specs.declared.version.Version.TheVariants as versions;
 ghost use Rattle.time_describing.specs.Described as described;
 
-use crate::inspect::{Inspect, Node};
-use time_components::Component;
+use time_components::{Component, Inspect, Node};
 
 // How many lists may stand inside one another.
 const MOST_LISTS: usize = 8;
@@ -69,7 +68,8 @@ fn is_item<I: Inspect>(depth: usize, nested: bool, item: &I) -> bool
 {
     match item.node() {
         Node::Literal(bytes) => is_literal(nested, bytes),
-        Node::Component(component) => has_words(component),
+        Node::Component(component) => has_words(*component),
+        Node::WholeComponent(_) => false,
         Node::List(_) => false,
         Node::Optional(inner) => depth > 0 && is_list(depth - 1, inner),
         Node::First(lists) => depth > 0 && is_choice(depth - 1, lists),
@@ -134,7 +134,7 @@ fn are_items<I: Inspect>(depth: usize, nested: bool, items: &[I]) -> bool
 /// One does where the item is a list, of items that are a component; a literal; an optional list; or a choice of one list
 /// or more. A literal is one byte that is written after a backslash, `[`, `\` or `]`; or else it is bytes without those
 /// (outside all lists `]` is one of them), at least one, and then no other such literal follows it. Eight lists may stand
-/// inside one another.
+/// inside one another. None describes a component of version 3, which has to end between characters.
 pub fn is_described<I: Inspect>(item: &I) -> bool
     ensures { result ≡ described.is_described (I.shape item.now) }
 {

@@ -4,12 +4,10 @@
 mod component;
 mod describe;
 mod described;
-mod inspect;
 pub mod laws;
 mod text;
 mod writing;
 
 pub use describe::{NoText, description_of, text_of};
 pub use described::is_described;
-pub use inspect::{Inspect, Node};
 pub use text::DescriptionText;

@@ -6,8 +6,8 @@ ghost use Rattle.time_descriptions.specs.Writing.{lists_text, tree_text, trees_t
 ghost use Rattle.time_describing.specs.Puts.{list_text, Puts};
 
 use crate::component::put_component;
-use crate::inspect::{Inspect, Node};
 use crate::text::{DescriptionText, Full};
+use time_components::{Inspect, Node};
 
 // Puts a literal, with a backslash before a byte that is none by itself.
 fn put_literal<const N: usize>(bytes: &[u8], text: &mut DescriptionText<N>) -> Result<(), Full>
@@ -29,7 +29,9 @@ pub(crate) fn put_item<const N: usize, I: Inspect>(
 {
     match item.node() {
         Node::Literal(bytes) => put_literal(bytes, text),
-        Node::Component(component) => put_component(component, text),
+        Node::Component(component) | Node::WholeComponent(component) => put_component(
+            *component, text,
+        ),
         Node::List(items) => put_items(items, text),
         Node::Optional(item) => put_optional(item, text),
         Node::First(items) => put_first(items, text),

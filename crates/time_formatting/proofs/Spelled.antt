@@ -3,7 +3,8 @@ use Rattle.std.proofs.Common.{◌≡◌, ℕ, ◌-◌, ◌^◌, ◌<◌, ◌≤�
 use Rattle.std.specs.Prelude.{nat_le}
 use Rattle.std.proofs.lemmas.Bool.Decides.{nat_tests}
 use Rattle.std.specs.Str.{str_to_ascii_lowercase}
-use Rattle.time_components.specs.Names.{IsNamed, month_name, period_name, weekday_name}
+use Rattle.time_values.specs.Names.{month_name, weekday_name}
+use Rattle.time_components.specs.Names.{IsNamed, period_name}
 use Rattle.time_components.specs.Spelling.{EndsBy, IsFractionRun, SaysCentury, SaysOffsetHour, SaysTimestamp, SaysYear, flagged, least_digits, most_digits, signed}
 use Rattle.time_components.specs.declared.format_description.Component.TheVariants as component
 use Rattle.time_components.specs.declared.modifier.TrailingInput.{TrailingInput}

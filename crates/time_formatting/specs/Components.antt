@@ -1,6 +1,7 @@
 -- What is written of each component of a moment. `Y` is the greatest year.
 use Rattle.std.specs.Prelude.{ℕ, ◌+◌, ◌%◌, max, unsigned_abs, List, [], ◌∷◌, ◌++◌, take, ◌==◌, nat_lt, if◌then◌else◌, Option, Some, None, Result, Ok, Err}
-use Rattle.time_components.specs.Names.{month_name, period_name, weekday_name}
+use Rattle.time_values.specs.Names.{month_name, weekday_name}
+use Rattle.time_components.specs.Names.{period_name}
 use Rattle.time_components.specs.Spelling.{days_from_sunday, first_digit, least_digits}
 use Rattle.time_components.specs.declared.format_description.Component.{Component}
 use Rattle.time_components.specs.declared.format_description.Component.TheVariants as component
@@ -15,10 +16,9 @@ use Rattle.time_values.specs.Month.{month_number}
 use Rattle.time_values.specs.Offsets as Offsets
 use Rattle.time_values.specs.Shown.{fixed, is_behind, significant}
 use Rattle.time_values.specs.Times as Times
-use Rattle.time_values.specs.Weekday.{days_from_monday}
+use Rattle.time_values.specs.Weekday.{days_from_monday, weekday_at}
 use Rattle.time_values.specs.declared.offset_date_time.OffsetDateTime.{OffsetDateTime}
 use Rattle.time_values.specs.declared.weekday.Weekday.{Weekday}
-use Rattle.time_values.specs.declared.weekday.Weekday.TheVariants.{Monday, Tuesday, Wednesday, Thursday, Friday, Saturday, Sunday}
 use Rattle.time_formatting.specs.Numbers.{count_text, padded, sign_text}
 use Rattle.time_formatting.specs.Years.{century, full_year, in_standard_range, iso_week, iso_year}
 use Rattle.time_formatting.specs.declared.unformattable.Unformattable.{Unformattable}
@@ -31,12 +31,6 @@ hour_12 h = if h % 12 == 0 then 12 else h % 12
 -- the half of the day
 abbrev pub half_of : ℕ → Period
 half_of h = if nat_lt h 12 then Am else Pm
-
--- the weekday so many days after Monday
-abbrev pub weekday_at : ℕ → Weekday
-weekday_at n =
-    if n == 0 then Monday else if n == 1 then Tuesday else if n == 2 then Wednesday else
-    if n == 3 then Thursday else if n == 4 then Friday else if n == 5 then Saturday else Sunday
 
 -- the weekday of the date
 unfoldable pub weekday_of : ℕ → OffsetDateTime → Weekday

@@ -5,46 +5,8 @@ ghost use Rattle.time_values.specs.Range.{greatest_year};
 ghost use Rattle.time_formatting.specs.Components.{half_of, name_of, weekday_of};
 
 use time_components::Component;
-use time_values::{Month, OffsetDateTime, Weekday};
-
-// The name of a month.
-fn month_name(month: Month) -> &'static [u8]
-    ensures name { result.now ≡ names.month_name month }
-    ensures least { 3 ≤ length result.now }
-    ensures most { length result.now ≤ 9 }
-{
-    match month {
-        Month::January => b"January",
-        Month::February => b"February",
-        Month::March => b"March",
-        Month::April => b"April",
-        Month::May => b"May",
-        Month::June => b"June",
-        Month::July => b"July",
-        Month::August => b"August",
-        Month::September => b"September",
-        Month::October => b"October",
-        Month::November => b"November",
-        Month::December => b"December",
-    }
-}
-
-// The name of a weekday.
-fn weekday_name(weekday: Weekday) -> &'static [u8]
-    ensures name { result.now ≡ names.weekday_name weekday }
-    ensures least { 3 ≤ length result.now }
-    ensures most { length result.now ≤ 9 }
-{
-    match weekday {
-        Weekday::Monday => b"Monday",
-        Weekday::Tuesday => b"Tuesday",
-        Weekday::Wednesday => b"Wednesday",
-        Weekday::Thursday => b"Thursday",
-        Weekday::Friday => b"Friday",
-        Weekday::Saturday => b"Saturday",
-        Weekday::Sunday => b"Sunday",
-    }
-}
+use time_values::names::{month_name, weekday_name};
+use time_values::{OffsetDateTime, Weekday};
 
 // The letters of the half of the day.
 fn period_name(hour: u8, is_uppercase: bool) -> &'static [u8]
@@ -72,10 +34,10 @@ pub(crate) fn name(value: &OffsetDateTime, component: Component) -> Option<&'sta
     ensures most { IfSome result (λ n. length n.now ≤ 9) }
 {
     match component {
-        Component::MonthShort(_) => Some(&month_name(value.date().month())[..3]),
-        Component::MonthLong(_) => Some(month_name(value.date().month())),
-        Component::WeekdayShort(_) => Some(&weekday_name(weekday(value))[..3]),
-        Component::WeekdayLong(_) => Some(weekday_name(weekday(value))),
+        Component::MonthShort(_) => Some(&month_name(value.date().month()).as_bytes()[..3]),
+        Component::MonthLong(_) => Some(month_name(value.date().month()).as_bytes()),
+        Component::WeekdayShort(_) => Some(&weekday_name(weekday(value)).as_bytes()[..3]),
+        Component::WeekdayLong(_) => Some(weekday_name(weekday(value)).as_bytes()),
         Component::Period(m) => Some(period_name(value.time().hour(), m.is_uppercase)),
         _ => None,
     }

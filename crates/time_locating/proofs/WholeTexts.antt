@@ -2,8 +2,7 @@
 use Rattle.std.proofs.Common.{◌≡◌, ◌≤◌, ℕ, zero, suc, pos, Bool, true, false, refl, arith, List, [], Option, Some, None, IfSome}
 use Rattle.std.specs.Prelude.{◌++◌, ◌∷◌, if◌then◌else◌, unsigned_abs, nat_le}
 use Rattle.std.proofs.lemmas.Bool.{le-leb}
-use Rattle.time_values.proofs.NumberLemmas.{month_at}
-use Rattle.time_values.specs.Month.{month_number}
+use Rattle.time_values.specs.Month.{month_at, month_number}
 use Rattle.time_values.specs.Range.{greatest_year}
 use Rattle.time_values.specs.Sign.{signed_by}
 use Rattle.time_values.specs.declared.month.Month.{Month}

@@ -7,7 +7,6 @@ pub mod Located
 pub mod MailPlaces
 pub mod Marks
 pub mod Misses
-pub mod Nodes
 pub mod Rfc2822
 pub mod Rfc3339
 pub mod Shown

@@ -12,15 +12,14 @@ ghost use Rattle.time_locating.specs.Misses.{LocatesTree, all_bytes, first_byte}
 ghost use Rattle.time_locating.specs.exact.MarkLaws.{tree_exact_mark};
 ghost use Rattle.time_locating.specs.exact.MissLaws.{tree_exact_place};
 
-use crate::inspect::Inspect;
 use crate::mark::index_of;
-use crate::place::{begin, place};
+use crate::place::place;
 use crate::walk::steps::walk_list;
 use crate::walk::{walk, walk_all};
 use crate::{Locate, Located};
-use time_components::{BorrowedFormatItem, FormatDescriptionV3, OwnedFormatItem};
+use time_components::{BorrowedFormatItem, FormatDescriptionV3, Inspect, OwnedFormatItem};
 use time_descriptions::Description;
-use time_parsing::Items;
+use time_parsing::{Items, begin};
 use time_record::Parsed;
 
 // Where a text is refused by an item.
@@ -176,16 +175,16 @@ impl<const N: usize> Locate for Description<N> {
     ghost exact_mark = { λ s. tree_exact_mark greatest_year (shape s) };
 }
 
-impl<'i, 'b> Locate for Items<'i, BorrowedFormatItem<'b>> {
-    ghost locates = { λ s. LocatesTree greatest_year all_bytes (sequence (trees (map borrowed_shape s.0.now))) };
+impl<'i, I: Inspect> Locate for Items<'i, I> {
+    ghost locates = { λ s. LocatesTree greatest_year all_bytes (sequence (trees (map I.Inspect.shape s.0.now))) };
 
     fn locate<'a>(&'a self, input: &[u8], defaults: Option<Parsed>) -> Option<Located<'a>> {
         locate_items(self.0, input, defaults)
     }
 
-    ghost exact_place = { λ s. tree_exact_place greatest_year all_bytes (sequence (trees (map borrowed_shape s.0.now))) };
+    ghost exact_place = { λ s. tree_exact_place greatest_year all_bytes (sequence (trees (map I.Inspect.shape s.0.now))) };
 
-    ghost marks = { λ s. MarksTree greatest_year (sequence (trees (map borrowed_shape s.0.now))) };
+    ghost marks = { λ s. MarksTree greatest_year (sequence (trees (map I.Inspect.shape s.0.now))) };
 
     fn locate_component(
         &self,
@@ -196,28 +195,5 @@ impl<'i, 'b> Locate for Items<'i, BorrowedFormatItem<'b>> {
         locate_in_items(self.0, input, defaults, name)
     }
 
-    ghost exact_mark = { λ s. tree_exact_mark greatest_year (sequence (trees (map borrowed_shape s.0.now))) };
-}
-
-impl<'i> Locate for Items<'i, OwnedFormatItem> {
-    ghost locates = { λ s. LocatesTree greatest_year all_bytes (sequence (trees (map owned_shape s.0.now))) };
-
-    fn locate<'a>(&'a self, input: &[u8], defaults: Option<Parsed>) -> Option<Located<'a>> {
-        locate_items(self.0, input, defaults)
-    }
-
-    ghost exact_place = { λ s. tree_exact_place greatest_year all_bytes (sequence (trees (map owned_shape s.0.now))) };
-
-    ghost marks = { λ s. MarksTree greatest_year (sequence (trees (map owned_shape s.0.now))) };
-
-    fn locate_component(
-        &self,
-        input: &[u8],
-        defaults: Option<Parsed>,
-        name: &str,
-    ) -> Option<usize> {
-        locate_in_items(self.0, input, defaults, name)
-    }
-
-    ghost exact_mark = { λ s. tree_exact_mark greatest_year (sequence (trees (map owned_shape s.0.now))) };
+    ghost exact_mark = { λ s. tree_exact_mark greatest_year (sequence (trees (map I.Inspect.shape s.0.now))) };
 }

@@ -18,9 +18,9 @@ use crate::iso8601::marks::text_mark;
 use crate::iso8601::pieces::{expected_at, past, past_byte};
 use crate::mark::index_of;
 use crate::miss::{Miss, further};
-use crate::place::{begin, place};
+use crate::place::place;
 use crate::{Expected, Locate, Located};
-use time_parsing::{Iso8601, Parsable};
+use time_parsing::{Iso8601, Parsable, begin};
 use time_readers::iso8601::{DateNumbers, ExtendedKind, date, time};
 use time_record::Parsed;
 

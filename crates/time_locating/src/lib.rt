@@ -2,7 +2,6 @@
 #![tactic(auto)]
 
 mod description;
-mod inspect;
 mod iso8601;
 pub mod laws;
 mod locate;

@@ -6,23 +6,11 @@ ghost use Rattle.time_components.specs.Tree.{Tree};
 ghost use Rattle.time_record.specs.Attempts.{Attempts};
 ghost use Rattle.time_record.specs.Reading.{Reads};
 ghost use Rattle.time_record.specs.Record.{Record};
-ghost use Rattle.time_parsing.specs.Outcome.{begun};
 ghost use Rattle.time_locating.specs.Located.{IsLocated, place_in, seen_miss, seen_place};
 ghost use Rattle.time_locating.specs.Misses.{IsFurthest, LocatesTree, Misses, Telling, place_after};
 
 use crate::miss::{Miss, further};
 use crate::{Expected, Located};
-use time_record::Parsed;
-
-/// The record that a reading begins with.
-pub(crate) fn begin(defaults: Option<Parsed>) -> Parsed
-    ensures { result ≡ begun defaults }
-{
-    match defaults {
-        Some(known) => known,
-        None => Parsed::new(),
-    }
-}
 
 /// The place of a text, by what is left unread of it, or `None` where nothing is read, and the furthest of its misses.
 pub(crate) fn place<'d>(

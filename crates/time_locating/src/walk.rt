@@ -12,10 +12,9 @@ ghost use Rattle.time_locating.specs.Marks.{MarksTree};
 ghost use Rattle.time_locating.specs.Misses.{IsFurthest, Misses, MissesAll, MissesFirst, all_bytes};
 
 use crate::Expected;
-use crate::inspect::{Inspect, Node};
 use crate::mark::mark_of;
 use crate::miss::{Miss, further, wanted_of};
-use time_components::{Component, FormatDescriptionV3Inner};
+use time_components::{Component, FormatDescriptionV3Inner, Inspect, Node};
 use time_record::Parsed;
 
 /// Reads an item in front of the input over the record, and answers what it leaves unread. Beside it stand the

@@ -1,6 +1,5 @@
 -- A mail date that was written has the form of RFC 2822.
-use Rattle.std.proofs.Common.{◌≡◌, ◌≤◌, ◌<◌, ◌^◌, ℕ, pos, List, [], ◌∷◌, ◌++◌, get_or, take, false, true, Some, None, refl, inl, inr, arith}
-use Rattle.std.specs.Str.{str_to_ascii_lowercase}
+use Rattle.std.proofs.Common.{◌≡◌, ◌≤◌, ◌<◌, ◌^◌, ℕ, pos, List, [], ◌∷◌, ◌++◌, get_or, false, true, Some, None, refl, inl, inr, arith}
 use Rattle.time_values.specs.Sign.{signed_by}
 use Rattle.time_values.specs.declared.month.Month.{Month}
 use Rattle.time_values.specs.declared.month.Month.TheVariants.{January, February, March, April, May, June, July, August, September, October, November, December}
@@ -10,7 +9,6 @@ use Rattle.time_digits.specs.Bytes.{sign_byte, is_negative}
 use Rattle.time_digits.specs.Digits.{IsDigitRun}
 use Rattle.time_readers.specs.MailBlanks.{fws, cfws, opt_cfws, opt_cfws_colon_opt_cfws}
 use Rattle.time_readers.specs.MailZones.{zone_literal}
-use Rattle.time_components.specs.Names.{month_name, weekday_name}
 use Rattle.time_readers.specs.Places.{Stand}
 use Rattle.time_readers.specs.Rfc2822.{Asks, HasForm, nothing_read, time_places, offset_places}
 use Rattle.time_digits.specs.declared.Sign.{Sign}
@@ -63,30 +61,6 @@ year-plain n rest = omega arith
 sign-plain : (sign : Sign) (rest : List ℕ) → IsPlain (sign_byte sign ∷ rest)
 sign-plain Negative rest = omega arith
 sign-plain Positive rest = omega arith
-
--- a name in its own letters
-weekday-named : (w : Weekday) → str_to_ascii_lowercase (short_weekday w) ≡ str_to_ascii_lowercase (take 3 (weekday_name w))
-weekday-named Monday = refl
-weekday-named Tuesday = refl
-weekday-named Wednesday = refl
-weekday-named Thursday = refl
-weekday-named Friday = refl
-weekday-named Saturday = refl
-weekday-named Sunday = refl
-
-month-named : (m : Month) → str_to_ascii_lowercase (short_month m) ≡ str_to_ascii_lowercase (take 3 (month_name m))
-month-named January = refl
-month-named February = refl
-month-named March = refl
-month-named April = refl
-month-named May = refl
-month-named June = refl
-month-named July = refl
-month-named August = refl
-month-named September = refl
-month-named October = refl
-month-named November = refl
-month-named December = refl
 
 -- no blank, one, and a colon, before such a text
 none-at : (text : List ℕ) → IsPlain text → opt_cfws text ≡ Some text
@@ -197,12 +171,12 @@ module _ (w : Weekday) (d : ℕ) (month : Month) (y h mi s : ℕ) (sign : Sign) 
       pub mail_form : d < 10 ^ 2 → y < 10 ^ 4 → 1900 ≤ y → HasForm false mail_bytes [] mail_numbers
       mail_form day year late =
           Stand-text (Asks false) WeekdayName _ nothing_read named _ (short_weekday w ++ (44 ∷ 32 ∷ [])) _ []
-          (Some w, ([], short_weekday w, 32 ∷ [], refl, none-at _ (letters-plain w _), weekday-named w, one-at _ (digits-plain d _)), refl)
+          (Some w, ([], short_weekday w, 32 ∷ [], refl, none-at _ (letters-plain w _), refl, one-at _ (digits-plain d _)), refl)
           (Stand-text (Asks false) Day _ named (record named { day = d }) _ (fixed 2 d) _ [] (d, day-run d _ day, tt, refl)
           (Stand-text (Asks false) DayBlanks _ (record named { day = d }) (record named { day = d }) _ (32 ∷ []) _ []
           (blank-at _ (month-plain month _), refl)
           (Stand-text (Asks false) MonthName _ (record named { day = d }) (record named { day = d; month = month }) _ (short_month month) _ []
-          (month, month-named month, refl)
+          (month, refl, refl)
           (Stand-text (Asks false) MonthBlanks _ (record named { day = d; month = month }) (record named { day = d; month = month }) _ (32 ∷ []) _ []
           (blank-at _ (year-plain y _), refl)
           (Stand-text (Asks false) Year _ (record named { day = d; month = month }) dated _ (fixed 4 y) _ []

@@ -18,7 +18,7 @@ mod target;
 
 pub use description::Items;
 pub use iso8601::Iso8601;
-pub use parsable::Parsable;
+pub use parsable::{Parsable, begin, value_before};
 pub use rfc2822::Rfc2822;
 pub use rfc3339::Rfc3339;
 pub use target::Target;

@@ -148,10 +148,11 @@ pub trait Parsable {
     ghost exact_path: { (s : Self) → IsExactPath greatest_year (path s) (reads s) (refuses s) };
 }
 
-/// The record that a parse begins with. It is made before the defaults are looked at, since a choice between two
-/// records is made piece by piece.
+/// The record that a parse begins with: the defaults, or an empty one.
+///
+/// An empty one is made before the defaults are looked at, since a choice between two records is made piece by piece.
 #[inline(always)]
-pub(crate) fn begin(defaults: Option<Parsed>) -> Parsed
+pub fn begin(defaults: Option<Parsed>) -> Parsed
     ensures { result ≡ begun defaults }
 {
     let mut record = Parsed::new();
@@ -164,7 +165,7 @@ pub(crate) fn begin(defaults: Option<Parsed>) -> Parsed
 /// The value of a record that was read up to this rest. Where bytes remain it refuses as
 /// [`ParseFromDescription::UnexpectedTrailingCharacters`].
 #[inline(always)]
-pub(crate) fn value_before<V: TryFrom<Parsed, Error = TryFromParsed> + Drop>(
+pub fn value_before<V: TryFrom<Parsed, Error = TryFromParsed> + Drop>(
     rest: &[u8],
     parsed: &Parsed,
 ) -> Result<V, Parse>

@@ -1,10 +1,9 @@
 //! The format of RFC 3339, section 5.6.
-ghost use Rattle.std.specs.Prelude.{◌≡◌, ◌<◌, ◌≤◌, Some, pos, unsigned_abs};
+ghost use Rattle.std.specs.Prelude.{◌≡◌, ◌<◌, ◌≤◌, Some};
 ghost use Rattle.std.specs.Option.{ForSome};
 ghost use Rattle.std.specs.Int.{IsInRange};
 ghost use Rattle.time_values.specs.Month.{month_number};
 ghost use Rattle.time_values.specs.Range.{greatest_year};
-ghost use Rattle.time_values.specs.Sign.{signed_by};
 ghost use Rattle.time_values.specs.declared.month.Month.{Month as Month_};
 ghost use Rattle.time_record.specs.Record.{put_all};
 ghost use Rattle.time_readers.specs.Direct.{RefusesRfc3339};
@@ -18,6 +17,7 @@ use time_readers::direct;
 use time_readers::rfc3339::{Numbers, place_fault, read};
 use time_record::Parsed;
 use time_values::error::Parse;
+use time_values::sign::signed;
 use time_values::{Month, OffsetDateTime};
 
 /// The format of RFC 3339, as `1985-04-12T23:20:50.52Z`.
@@ -30,17 +30,6 @@ use time_values::{Month, OffsetDateTime};
 /// calendar refuses, as out of range; of an offset's minute above 59 it refuses `minutes` so, where it stands.
 #[derive(Clone, Copy, Debug, PartialEq, Eq)]
 pub struct Rfc3339;
-
-// The number with the sign that stood before it.
-#[inline]
-fn with_sign(is_negative: bool, value: u8) -> i8
-    requires { value ≤ 59 }
-    ensures value { result ≡ signed_by is_negative (pos value) }
-    ensures size { unsigned_abs result ≡ value }
-{
-    let value = value as i8;
-    if is_negative { -value } else { value }
-}
 
 // The month of a number from 1 to 12.
 #[inline(always)]
@@ -101,8 +90,8 @@ fn put_offset(numbers: Numbers, parsed: &mut Parsed)
 {
     let is_negative = numbers.offset_is_negative;
     parsed.forget_offset_sign();
-    put!(parsed.set_offset_hour(with_sign(is_negative, numbers.offset_hour)));
-    put!(parsed.set_offset_minute_signed(with_sign(is_negative, numbers.offset_minute)));
+    put!(parsed.set_offset_hour(signed(is_negative, numbers.offset_hour)));
+    put!(parsed.set_offset_minute_signed(signed(is_negative, numbers.offset_minute)));
     if numbers.is_utc {
         put!(parsed.set_offset_second_signed(0));
     }

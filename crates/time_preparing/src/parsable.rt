@@ -16,39 +16,10 @@ mod fast;
 
 use crate::Prepared;
 use std::convert::TryFrom;
-use time_parsing::Parsable;
+use time_parsing::{Parsable, begin, value_before};
 use time_record::Parsed;
-use time_values::error::{Parse, ParseFromDescription, TryFromParsed};
+use time_values::error::{Parse, TryFromParsed};
 use time_values::{Date, OffsetDateTime, PlainDateTime, Time};
-
-// The record that a parse begins with: the defaults, or an empty one.
-#[inline(always)]
-fn begin(defaults: Option<Parsed>) -> Parsed
-    ensures { result ≡ begun defaults }
-{
-    let mut record = Parsed::new();
-    if let Some(defaults) = defaults {
-        record = defaults;
-    }
-    record
-}
-
-// The value of a record that was read up to this rest. Where bytes remain it refuses as `UnexpectedTrailingCharacters`.
-#[inline(always)]
-fn value_before<V: TryFrom<Parsed, Error = TryFromParsed> + Drop>(
-    rest: &[u8],
-    parsed: &Parsed,
-) -> Result<V, Parse>
-    ensures { MatchResult (seen result)
-        (λ v. (rest.now ≡ []) × V.try_from_gives parsed.now (Ok v))
-        (λ e. ((rest.now ≢ []) × (e ≡ trailing))
-        ⊎ ((rest.now ≡ []) × ((f : TryFromParsed_) × V.try_from_gives parsed.now (Err f) × (e ≡ refusal_of_parsed f)))) }
-{
-    if !rest.is_empty() {
-        return Err(ParseFromDescription::UnexpectedTrailingCharacters.into());
-    }
-    Ok(V::try_from(*parsed)?)
-}
 
 // The value of the whole input, read over a record that begins with the defaults.
 #[inline(never)]
@@ -65,10 +36,7 @@ fn over_record<const N: usize, V: TryFrom<Parsed, Error = TryFromParsed> + Drop>
         ⊎ ((r : Record) × Reads greatest_year (steps_shape format.now) input.now (begun defaults.now) [] r
         × ((f : TryFromParsed_) × V.try_from_gives r (Err f) × (e ≡ refusal_of_parsed f)))) }
 {
-    let mut parsed = Parsed::new();
-    if let Some(known) = defaults {
-        parsed = *known;
-    }
+    let mut parsed = begin(*defaults);
     match format.walk_into(input, &mut parsed) {
         Ok(rest) => value_before::<V>(rest, &parsed),
         Err(fault) => Err(fault.into()),

@@ -10,6 +10,7 @@ use Rattle.time_values.specs.declared.time.Time.{Time}
 use Rattle.time_values.specs.declared.utc_offset.UtcOffset.{UtcOffset}
 use Rattle.time_values.specs.declared.month.Month.{Month}
 use Rattle.time_values.specs.Refusal.{Refusal, range, Constructs, refusal_of_range, refusal_of}
+use Rattle.time_values.proofs.RefusalLemmas.{Constructs-Err, Constructs-Ok}
 use Rattle.time_values.specs.Moments.{offset_date, offset_time, offset_of}
 use Rattle.time_values.specs.Offsets.{HasOffset, offset_refusal}
 use Rattle.time_values.specs.Times.{HasClock, time_refusal}
@@ -21,21 +22,10 @@ use Rattle.time_values.specs.declared.error.Parse.{Parse}
 use Rattle.time_readers.specs.declared.direct.Said.{Said}
 use Rattle.time_values.specs.declared.error.ComponentRange.{ComponentRange}
 
--- it refuses nothing where it answers a value
-pub accepted : {A : Type 0} (o : Option Refusal) (P : A → Type 0) (v : A) → Constructs o P (Ok v) → (o ≡ None) × P v
-accepted None P v h = (refl, h)
-accepted (Some r) P v h = absurd h
-
--- and else what its error says
-pub refused : {A : Type 0} (o : Option Refusal) (P : A → Type 0) (e : ComponentRange)
-    → Constructs o P (Err e) → o ≡ Some (refusal_of_range e)
-refused None P e h = absurd h
-refused (Some r) P e h = ap Some (sym h)
-
 -- the error of the month is the error of the date
 pub month_refused : (Y : ℕ) (s : Said) (e : ComponentRange) → Constructs (month_refusal s.month) (λ m. month_number m ≡ s.month) (Err e)
     → Constructs (date_refusal Y s) (HasDate s) (Err e)
-month_refused Y s e h = rw (refused (month_refusal s.month) (λ m. month_number m ≡ s.month) e h) refl
+month_refused Y s e h = rw (Constructs-Err (month_refusal s.month) (λ m. month_number m ≡ s.month) e h) refl
 
 parts_said : (s : Said) (m : Month) (o : Option Refusal) (r : Result Date ComponentRange) → month_number m ≡ s.month
     → Constructs o (Dates.HasParts (pos s.year) m s.day) r → Constructs o (HasDate s) r
@@ -50,7 +40,7 @@ pub date_made : (Y : ℕ) (s : Said) (y : ℤ) (m : Month) (r : Result Date Comp
     → Constructs (calendar_date_refusal Y y (month_number m) s.day) (Dates.HasParts y m s.day) r
     → Constructs (date_refusal Y s) (HasDate s) r
 date_made Y s y m r year month made =
-    let h = accepted (month_refusal s.month) (λ m. month_number m ≡ s.month) m month in
+    let h = Constructs-Ok (month_refusal s.month) (λ m. month_number m ≡ s.month) m month in
     let refusal = λ (n : ℕ). calendar_date_refusal Y (pos s.year) n s.day in
     let parts = subst (λ y. Constructs (calendar_date_refusal Y y (month_number m) s.day) (Dates.HasParts y m s.day) r) year made in
     rw h.0 (parts_said s m (refusal s.month) r h.1 (subst (λ n. Constructs (refusal n) (Dates.HasParts (pos s.year) m s.day) r) h.1 parts))
@@ -58,7 +48,7 @@ date_made Y s y m r year month made =
 -- the first part that is refused is what the moment is refused for
 pub date_first : (Y : ℕ) (s : Said) (e : ComponentRange) → Constructs (date_refusal Y s) (HasDate s) (Err e)
     → first_refusal Y s ≡ Some (refusal_of_range e)
-date_first Y s e date = rw (refused (date_refusal Y s) (HasDate s) e date) refl
+date_first Y s e date = rw (Constructs-Err (date_refusal Y s) (HasDate s) e date) refl
 
 pub clock_first : (Y : ℕ) (s : Said) (d : Date) (e : ComponentRange) → Constructs (date_refusal Y s) (HasDate s) (Ok d)
     → Constructs (time_refusal s.hour s.minute (shown_second s) (shown_nanosecond s))
@@ -68,8 +58,8 @@ clock_first Y s d e date clock =
     let second = shown_second s in
     let nanosecond = shown_nanosecond s in
     rw (
-      (accepted (date_refusal Y s) (HasDate s) d date).0,
-      refused (time_refusal s.hour s.minute second nanosecond) (HasClock s.hour s.minute second nanosecond) e clock,
+      (Constructs-Ok (date_refusal Y s) (HasDate s) d date).0,
+      Constructs-Err (time_refusal s.hour s.minute second nanosecond) (HasClock s.hour s.minute second nanosecond) e clock,
     ) refl
 
 pub offset_first : (Y : ℕ) (s : Said) (d : Date) (t : Time) (e : ComponentRange) → Constructs (date_refusal Y s) (HasDate s) (Ok d)
@@ -83,9 +73,9 @@ offset_first Y s d t e date clock offset =
     let hours = s.offset_hour in
     let minutes = s.offset_minute in
     rw (
-      (accepted (date_refusal Y s) (HasDate s) d date).0,
-      (accepted (time_refusal s.hour s.minute second nanosecond) (HasClock s.hour s.minute second nanosecond) t clock).0,
-      refused (offset_refusal hours minutes (pos 0)) (HasOffset hours minutes (pos 0)) e offset,
+      (Constructs-Ok (date_refusal Y s) (HasDate s) d date).0,
+      (Constructs-Ok (time_refusal s.hour s.minute second nanosecond) (HasClock s.hour s.minute second nanosecond) t clock).0,
+      Constructs-Err (offset_refusal hours minutes (pos 0)) (HasOffset hours minutes (pos 0)) e offset,
     ) refl
 
 -- a moment of accepted parts is the one that is said
@@ -102,9 +92,9 @@ of_parts Y s d t o v is_date is_time is_offset date clock offset =
     let nanosecond = shown_nanosecond s in
     let hours = s.offset_hour in
     let minutes = s.offset_minute in
-    let has_date = accepted (date_refusal Y s) (HasDate s) d date in
-    let has_clock = accepted (time_refusal s.hour s.minute second nanosecond) (HasClock s.hour s.minute second nanosecond) t clock in
-    let has_offset = accepted (offset_refusal hours minutes (pos 0)) (HasOffset hours minutes (pos 0)) o offset in (
+    let has_date = Constructs-Ok (date_refusal Y s) (HasDate s) d date in
+    let has_clock = Constructs-Ok (time_refusal s.hour s.minute second nanosecond) (HasClock s.hour s.minute second nanosecond) t clock in
+    let has_offset = Constructs-Ok (offset_refusal hours minutes (pos 0)) (HasOffset hours minutes (pos 0)) o offset in (
       rw (has_date.0, has_clock.0, has_offset.0) refl,
       record {
         date = subst (HasDate s) (sym is_date) has_date.1;

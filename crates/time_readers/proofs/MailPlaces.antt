@@ -5,7 +5,7 @@ use Rattle.time_values.specs.declared.weekday.Weekday.{Weekday}
 use Rattle.time_digits.specs.Cuts.{Form, Cut, NoCut}
 use Rattle.time_digits.specs.Digits.{IsDigitRun}
 use Rattle.time_digits.specs.Bytes.{IsByte}
-use Rattle.time_components.specs.Names.{weekday_name}
+use Rattle.time_values.specs.Names.{weekday_name}
 use Rattle.time_readers.specs.PlaceAnswers.{Reads}
 use Rattle.time_readers.specs.Readers.{Reader, IsRead}
 use Rattle.time_readers.specs.MailBlanks.{fws, cfws, opt_cfws, opt_cfws_colon_opt_cfws}

@@ -12,6 +12,7 @@ use Rattle.time_readers.specs.Rfc2822.{Asks, HasForm, IsZone, IsSignedHour, IsOf
 use Rattle.time_digits.proofs.Runs.{IsDigitRun-below}
 use Rattle.time_readers.proofs.KeptNumbers.{Alone, Ignores, said, said_after}
 use Rattle.time_readers.proofs.MailZones.{zone-near}
+use Rattle.time_readers.proofs.ToSecond.{within}
 
 -- the numbers n with what place p may say taken from m
 abbrev pub with_place : Place → Numbers → Numbers → Numbers
@@ -69,16 +70,12 @@ signed-abs true (suc v) = refl
 signed_within : (check_ranges b : Bool) (most v : ℕ) → IsWithin check_ranges 0 most v → IsWithin check_ranges 0 most (unsigned_abs (signed_by b (pos v)))
 signed_within check_ranges b most v is = subst (IsWithin check_ranges 0 most) (sym (signed-abs b v)) is
 
-small_within : (check_ranges : Bool) (least most v : ℕ) → least ≤ v → v ≤ most → IsWithin check_ranges least most v
-small_within true least most v low high = (low, high)
-small_within false least most v low high = tt
-
 hour_within : (check_ranges : Bool) (n m : Numbers) (text after : List ℕ) → IsZone n text after m ⊎ IsSignedHour check_ranges n text after m
     → IsWithin check_ranges 0 25 (unsigned_abs m.offset_hour)
 hour_within check_ranges n m text after (inl zone) =
     let near = zone-near (text ++ after) zone.0 after zone.1 in
     let same : m.offset_hour ≡ zone.0 = ap (λ x. x.offset_hour) zone.2 in
-    subst (λ v. IsWithin check_ranges 0 25 (unsigned_abs v)) (sym same) (small_within check_ranges 0 25 (unsigned_abs zone.0) (omega arith) (omega arith))
+    subst (λ v. IsWithin check_ranges 0 25 (unsigned_abs v)) (sym same) (within check_ranges 0 25 (unsigned_abs zone.0) (omega arith) (omega arith))
 hour_within check_ranges n m text after (inr signed) =
     let same : m.offset_hour ≡ signed_by (is_negative signed.sign) (pos signed.hour) = ap (λ x. x.offset_hour) signed.says in
     subst (λ v. IsWithin check_ranges 0 25 (unsigned_abs v)) (sym same)
@@ -88,7 +85,7 @@ minute_within : (check_ranges : Bool) (sign : Option Sign) (n m : Numbers) (text
     → IsOffsetMinute check_ranges sign n text after m → IsWithin check_ranges 0 59 (unsigned_abs m.offset_minute)
 minute_within check_ranges None n m text after none a =
     let same : m.offset_minute ≡ pos 0 = ap (λ x. x.offset_minute) a.1 ∙ none in
-    subst (λ v. IsWithin check_ranges 0 59 (unsigned_abs v)) (sym same) (small_within check_ranges 0 59 0 (omega arith) (omega arith))
+    subst (λ v. IsWithin check_ranges 0 59 (unsigned_abs v)) (sym same) (within check_ranges 0 59 0 (omega arith) (omega arith))
 minute_within check_ranges (Some sign) n m text after none a =
     let same : m.offset_minute ≡ signed_by (is_negative sign) (pos a.0) = ap (λ x. x.offset_minute) a.2 in
     subst (λ v. IsWithin check_ranges 0 59 (unsigned_abs v)) (sym same) (signed_within check_ranges (is_negative sign) 59 a.0 a.1.1)

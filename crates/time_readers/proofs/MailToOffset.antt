@@ -7,7 +7,7 @@ use Rattle.time_digits.proofs.CutLemmas.{take-drop}
 use Rattle.time_digits.specs.Digits.{IsDigit}
 use Rattle.time_readers.specs.Block.{AllWithin, pair_at}
 use Rattle.time_readers.specs.MailBlanks.{fws, cfws, opt_cfws_colon_opt_cfws}
-use Rattle.time_components.specs.Names.{month_name}
+use Rattle.time_values.specs.Names.{month_name}
 use Rattle.time_readers.specs.Places.{Stand}
 use Rattle.time_readers.specs.Ranges.{IsWithin}
 use Rattle.time_readers.specs.Rfc2822.{Asks, to_offset_places}

@@ -5,7 +5,7 @@ use Rattle.time_readers.specs.Readers.{Reader, IsRead}
 use Rattle.time_readers.specs.MailBlanks.{opt_cfws, opt_cfws_colon_opt_cfws, cfws}
 use Rattle.time_readers.specs.MailZones.{zone_literal}
 use Rattle.time_components.specs.Spelling.{IsShortOf, month, weekday}
-use Rattle.time_components.specs.Names.{month_name}
+use Rattle.time_values.specs.Names.{month_name}
 use Rattle.time_readers.specs.Rfc2822.{Asks, year_blanks, IsShortWeekday, IsWeekdayPart, IsYear, IsSecond, IsZone, IsSignedHour, IsOffsetMinute, year_of_two}
 use Rattle.time_digits.specs.Bytes.{sign_byte, is_negative}
 use Rattle.time_values.specs.Sign.{signed_by}

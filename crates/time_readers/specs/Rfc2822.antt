@@ -8,7 +8,7 @@ use Rattle.time_values.specs.declared.weekday.Weekday.{Weekday}
 use Rattle.time_digits.specs.Cuts.{Form, NoCut}
 use Rattle.time_digits.specs.Digits.{IsDigitRun}
 use Rattle.time_digits.specs.Bytes.{sign_byte, is_negative}
-use Rattle.time_components.specs.Names.{month_name, weekday_name}
+use Rattle.time_values.specs.Names.{month_name, weekday_name}
 use Rattle.time_components.specs.Spelling.{IsShortOf}
 use Rattle.time_readers.specs.Places.{Format, Stand, StopsAt}
 use Rattle.time_readers.specs.Ranges.{IsWithin, IsTwoDigits}

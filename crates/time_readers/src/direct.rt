@@ -7,13 +7,13 @@ ghost use Rattle.time_values.specs.Month.{month_number, month_refusal};
 ghost use Rattle.time_values.specs.Offsets.{HasOffset, offset_refusal};
 ghost use Rattle.time_values.specs.Range.{greatest_year};
 ghost use Rattle.time_values.specs.Refusal.{Constructs, refusal_of, refusal_of_range};
-ghost use Rattle.time_values.specs.Sign.{signed_by};
 ghost use Rattle.time_values.specs.Times.{HasClock, time_refusal};
 ghost use Rattle.time_readers.specs.Direct.{shown_second, shown_nanosecond, date_refusal, first_refusal, HasDate, IsMoment, LeapSecondMayStand, said_rfc3339, said_rfc2822, IsMade, IsNotMade, IsRefusedAfter, DirectRfc3339, DirectRfc2822};
 
 use crate::{rfc2822, rfc3339};
 use std::num::NonZero;
 use time_values::error::{ComponentRange, Parse, ParseFromDescription, TryFromParsed};
+use time_values::sign::signed;
 use time_values::{Date, Month, OffsetDateTime, Time, UtcOffset};
 
 /// What a text says of a moment.
@@ -100,16 +100,6 @@ pub fn said_rfc3339(numbers: rfc3339::Numbers) -> Said
         offset_hour: signed(numbers.offset_is_negative, numbers.offset_hour),
         offset_minute: signed(numbers.offset_is_negative, numbers.offset_minute),
     }
-}
-
-// The number with its sign.
-#[inline(always)]
-fn signed(is_negative: bool, value: u8) -> i8
-    requires { value ≤ 59 }
-    ensures { result ≡ signed_by is_negative (pos value) }
-{
-    let value = value as i8;
-    if is_negative { -value } else { value }
 }
 
 /// What the numbers of a mail date say. A second that doesn't stand is 0.

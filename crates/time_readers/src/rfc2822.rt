@@ -82,8 +82,8 @@ pub struct Numbers {
 }
 
 impl Numbers {
-    // Before any place is read.
-    const NONE: Numbers = Numbers {
+    /// What is said before any place is read.
+    pub const NONE: Numbers = Numbers {
         weekday: None,
         day: 0,
         month: Month::January,

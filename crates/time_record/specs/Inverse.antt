@@ -7,9 +7,8 @@ use Rattle.std.proofs.lemmas.List.{drop_more, drop_all}
 use Rattle.std.proofs.lemmas.Nat.{mod-pow-add, shr-shr}
 use Rattle.std.proofs.lemmas.Nat.Bits.{bit_at-lt}
 use Rattle.time_values.specs.Instants.{first_instant, last_instant}
-use Rattle.time_values.specs.Month.{month_number}
-use Rattle.time_values.specs.Weekday.{days_from_monday}
-use Rattle.time_values.proofs.NumberLemmas.{month_at, weekday_at}
+use Rattle.time_values.specs.Month.{month_at, month_number}
+use Rattle.time_values.specs.Weekday.{days_from_monday, weekday_at}
 use Rattle.time_record.specs.Record.{Record}
 use Rattle.time_record.specs.Cells.{bit, value_at, option_at, is_one, bool_cell, month_in, month_cell, weekday_in, weekday_cell, build, IsSound, or_zero, from_bits, bits_of, mask_of, bytes_of, shorts_of, words_of}
 

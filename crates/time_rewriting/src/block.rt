@@ -2,7 +2,7 @@
 ghost use Rattle.std.specs.Io.KnownBytes.{Consumes, Keeps, IsAtEnd};
 ghost use Rattle.std.specs.IoError.{error_kind};
 ghost use Rattle.std.specs.Prelude.{◌≡◌, ◌≢◌, ◌+◌, ◌-◌, ◌<◌, ◌≤◌, ℕ, List, [], ◌++◌, length, take, drop, MatchResult, IsTrue, false};
-ghost use Rattle.time_rewriting.specs.Lines.{Items};
+ghost use Rattle.time_values.specs.Shown.{Items};
 ghost use Rattle.time_rewriting.specs.declared.block.TheConstants.{LIMIT};
 
 use std::io;

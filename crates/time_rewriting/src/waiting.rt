@@ -1,7 +1,7 @@
 //! Bytes that wait for one write.
 ghost use Rattle.std.specs.Io.KnownBytes.{Appends, append_known};
 ghost use Rattle.std.specs.Prelude.{◌≡◌, ◌≤◌, [], ◌++◌, take, OnOk};
-ghost use Rattle.time_rewriting.specs.Lines.{Items};
+ghost use Rattle.time_values.specs.Shown.{Items};
 ghost use Rattle.time_rewriting.specs.declared.waiting.TheConstants.{MOST};
 
 use std::io::Write;

@@ -1,28 +1,12 @@
 -- Months and weekdays are fixed by their numbers.
-use Rattle.std.proofs.Common.{◌≡◌, ℕ, zero, suc, ◌<◌, refl, sym, ap, ◌∙◌, rules}
+use Rattle.std.proofs.Common.{◌≡◌, ◌<◌, refl, sym, ap, ◌∙◌, rules}
 use Rattle.std.specs.Int.{IsInRange}
 use Rattle.time_values.specs.declared.month.Month.{Month}
 use Rattle.time_values.specs.declared.month.Month.TheVariants.{January, February, March, April, May, June, July, August, September, October, November, December}
 use Rattle.time_values.specs.declared.weekday.Weekday.{Weekday}
 use Rattle.time_values.specs.declared.weekday.Weekday.TheVariants.{Monday, Tuesday, Wednesday, Thursday, Friday, Saturday, Sunday}
-use Rattle.time_values.specs.Month.{month_number}
-use Rattle.time_values.specs.Weekday.{days_from_monday}
-
--- the month of a number
-abbrev pub month_at : ℕ → Month
-month_at zero = January
-month_at (suc zero) = January
-month_at (suc (suc zero)) = February
-month_at (suc (suc (suc zero))) = March
-month_at (suc (suc (suc (suc zero)))) = April
-month_at (suc (suc (suc (suc (suc zero))))) = May
-month_at (suc (suc (suc (suc (suc (suc zero)))))) = June
-month_at (suc (suc (suc (suc (suc (suc (suc zero))))))) = July
-month_at (suc (suc (suc (suc (suc (suc (suc (suc zero)))))))) = August
-month_at (suc (suc (suc (suc (suc (suc (suc (suc (suc zero))))))))) = September
-month_at (suc (suc (suc (suc (suc (suc (suc (suc (suc (suc zero)))))))))) = October
-month_at (suc (suc (suc (suc (suc (suc (suc (suc (suc (suc (suc zero))))))))))) = November
-month_at _ = December
+use Rattle.time_values.specs.Month.{month_at, month_number}
+use Rattle.time_values.specs.Weekday.{days_from_monday, weekday_at}
 
 pub month_at-month_number : (m : Month) → month_at (month_number m) ≡ m
 month_at-month_number January = refl
@@ -55,16 +39,6 @@ month_number_in September = search rules
 month_number_in October = search rules
 month_number_in November = search rules
 month_number_in December = search rules
-
--- the weekday that many days after Monday
-abbrev pub weekday_at : ℕ → Weekday
-weekday_at zero = Monday
-weekday_at (suc zero) = Tuesday
-weekday_at (suc (suc zero)) = Wednesday
-weekday_at (suc (suc (suc zero))) = Thursday
-weekday_at (suc (suc (suc (suc zero)))) = Friday
-weekday_at (suc (suc (suc (suc (suc zero))))) = Saturday
-weekday_at _ = Sunday
 
 pub weekday_at-days_from_monday : (w : Weekday) → weekday_at (days_from_monday w) ≡ w
 weekday_at-days_from_monday Monday = refl

@@ -10,6 +10,7 @@ pub mod MovedClocks
 pub mod Lengths
 pub mod March
 pub mod Month
+pub mod Names
 pub mod Offsets
 pub mod Range
 pub mod Refusal

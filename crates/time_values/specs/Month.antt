@@ -1,5 +1,5 @@
 -- The numbers of the months.
-use Rattle.std.specs.Prelude.{ℕ, nat_le, if◌then◌else◌, Option, Some, None, codes, false}
+use Rattle.std.specs.Prelude.{ℕ, zero, suc, nat_le, if◌then◌else◌, Option, Some, None, codes, false}
 use Rattle.time_values.specs.declared.month.Month.{Month}
 use Rattle.time_values.specs.declared.month.Month.TheVariants.{January, February, March, April, May, June, July, August, September, October, November, December}
 use Rattle.time_values.specs.Refusal.{Refusal, range}
@@ -18,6 +18,22 @@ month_number September = 9
 month_number October = 10
 month_number November = 11
 month_number December = 12
+
+-- and back; of any other number it is one of them
+abbrev pub month_at : ℕ → Month
+month_at zero = January
+month_at (suc zero) = January
+month_at (suc (suc zero)) = February
+month_at (suc (suc (suc zero))) = March
+month_at (suc (suc (suc (suc zero)))) = April
+month_at (suc (suc (suc (suc (suc zero))))) = May
+month_at (suc (suc (suc (suc (suc (suc zero)))))) = June
+month_at (suc (suc (suc (suc (suc (suc (suc zero))))))) = July
+month_at (suc (suc (suc (suc (suc (suc (suc (suc zero)))))))) = August
+month_at (suc (suc (suc (suc (suc (suc (suc (suc (suc zero))))))))) = September
+month_at (suc (suc (suc (suc (suc (suc (suc (suc (suc (suc zero)))))))))) = October
+month_at (suc (suc (suc (suc (suc (suc (suc (suc (suc (suc (suc zero))))))))))) = November
+month_at _ = December
 
 -- the refusal of a number, from 1 on, that is no month's
 abbrev pub month_refusal : ℕ → Option Refusal

@@ -6,15 +6,11 @@ use Rattle.time_values.specs.Month.{month_number}
 use Rattle.time_values.specs.Offsets as Offsets
 use Rattle.time_values.specs.Times as Times
 use Rattle.time_values.specs.declared.date.Date.{Date}
-use Rattle.time_values.specs.declared.month.Month.{Month}
-use Rattle.time_values.specs.declared.month.Month.TheVariants.{January, February, March, April, May, June, July, August, September, October, November, December}
 use Rattle.time_values.specs.declared.offset_date_time.OffsetDateTime.{OffsetDateTime}
 use Rattle.time_values.specs.declared.plain_date_time.PlainDateTime.{PlainDateTime}
 use Rattle.time_values.specs.declared.time.Time.{Time}
 use Rattle.time_values.specs.declared.utc_date_time.UtcDateTime.{UtcDateTime}
 use Rattle.time_values.specs.declared.utc_offset.UtcOffset.{UtcOffset}
-use Rattle.time_values.specs.declared.weekday.Weekday.{Weekday}
-use Rattle.time_values.specs.declared.weekday.Weekday.TheVariants.{Monday, Tuesday, Wednesday, Thursday, Friday, Saturday, Sunday}
 
 -- the bytes that a text holds
 pub record Items : Type 0 where
@@ -84,27 +80,3 @@ moment_shown v =
 
 abbrev pub utc_shown : UtcDateTime → List ℕ
 utc_shown u = date_shown (utc_date u) ++ codes " " ++ time_shown (utc_time u) ++ codes " +00"
-
--- names
-abbrev pub month_shown : Month → List ℕ
-month_shown January = codes "January"
-month_shown February = codes "February"
-month_shown March = codes "March"
-month_shown April = codes "April"
-month_shown May = codes "May"
-month_shown June = codes "June"
-month_shown July = codes "July"
-month_shown August = codes "August"
-month_shown September = codes "September"
-month_shown October = codes "October"
-month_shown November = codes "November"
-month_shown December = codes "December"
-
-abbrev pub weekday_shown : Weekday → List ℕ
-weekday_shown Monday = codes "Monday"
-weekday_shown Tuesday = codes "Tuesday"
-weekday_shown Wednesday = codes "Wednesday"
-weekday_shown Thursday = codes "Thursday"
-weekday_shown Friday = codes "Friday"
-weekday_shown Saturday = codes "Saturday"
-weekday_shown Sunday = codes "Sunday"

@@ -1,9 +1,10 @@
 -- Texts of moments by RFC 3339, section 5.6, by RFC 2822, section 3.3, and by ISO 8601.
-use Rattle.std.specs.Prelude.{◌≡◌, ℕ, min, pos, neg_ℤ, int_lt, unsigned_abs, List, ◌∷◌, ◌++◌, codes, Bool, ◌||◌, ◌&&◌, if◌then◌else◌, Option, None, Some, Result, Err, IsOkAnd, MatchOption}
+use Rattle.std.specs.Prelude.{◌≡◌, ℕ, min, pos, neg_ℤ, int_lt, unsigned_abs, List, ◌∷◌, ◌++◌, codes, take, Bool, ◌||◌, ◌&&◌, if◌then◌else◌, Option, None, Some, Result, Err, IsOkAnd, MatchOption}
 use Rattle.std.specs.Ordering.{int_eq}
 use Rattle.time_values.specs.Dates as Dates
 use Rattle.time_values.specs.Moments.{offset_date, offset_time, offset_of}
 use Rattle.time_values.specs.Month.{month_number}
+use Rattle.time_values.specs.Names.{month_name, weekday_name}
 use Rattle.time_values.specs.Offsets as Offsets
 use Rattle.time_values.specs.Shown.{Items, fixed, significant, fraction_shown}
 use Rattle.time_values.specs.Times as Times
@@ -11,9 +12,7 @@ use Rattle.time_values.specs.Range.{greatest_year}
 use Rattle.time_values.specs.Weekday.{days_from_monday}
 use Rattle.time_values.specs.declared.date.Date.{Date}
 use Rattle.time_values.specs.declared.month.Month.{Month}
-use Rattle.time_values.specs.declared.month.Month.TheVariants.{January, February, March, April, May, June, July, August, September, October, November, December}
 use Rattle.time_values.specs.declared.weekday.Weekday.{Weekday}
-use Rattle.time_values.specs.declared.weekday.Weekday.TheVariants.{Monday, Tuesday, Wednesday, Thursday, Friday, Saturday, Sunday}
 use Rattle.time_values.specs.declared.time.Time.{Time}
 use Rattle.time_values.specs.declared.utc_offset.UtcOffset.{UtcOffset}
 use Rattle.time_values.specs.declared.offset_date_time.OffsetDateTime.{OffsetDateTime}
@@ -87,29 +86,12 @@ unwritable_3339 v =
     then Some OffsetHour else
     if int_eq (Offsets.seconds (offset_of v)) (pos 0) then None else Some OffsetSecond
 
--- the three letters of a weekday, and of a month
+-- the first three letters of a weekday's name, and of a month's
 abbrev pub short_weekday : Weekday → List ℕ
-short_weekday Monday = codes "Mon"
-short_weekday Tuesday = codes "Tue"
-short_weekday Wednesday = codes "Wed"
-short_weekday Thursday = codes "Thu"
-short_weekday Friday = codes "Fri"
-short_weekday Saturday = codes "Sat"
-short_weekday Sunday = codes "Sun"
+short_weekday w = take 3 (weekday_name w)
 
 abbrev pub short_month : Month → List ℕ
-short_month January = codes "Jan"
-short_month February = codes "Feb"
-short_month March = codes "Mar"
-short_month April = codes "Apr"
-short_month May = codes "May"
-short_month June = codes "Jun"
-short_month July = codes "Jul"
-short_month August = codes "Aug"
-short_month September = codes "Sep"
-short_month October = codes "Oct"
-short_month November = codes "Nov"
-short_month December = codes "Dec"
+short_month m = take 3 (month_name m)
 
 -- `Mon, DD Mon YYYY HH:MM:SS +HHMM` with that weekday
 abbrev pub mail_text : Weekday → OffsetDateTime → List ℕ

@@ -1,13 +1,14 @@
 //! Names of months and weekdays.
 ghost use Rattle.std.specs.Prelude.{◌≡◌, ◌↔◌, drop, IsTrue};
 ghost use Rattle.time_digits.specs.Cuts.{Finds};
-ghost use Rattle.time_components.specs.Names.{IsNamed, month_name, weekday_name};
+ghost use Rattle.time_values.specs.Names.{month_name, weekday_name};
+ghost use Rattle.time_components.specs.Names.{IsNamed};
 ghost use Rattle.time_components.specs.ShortNames as ShortNames;
 ghost use Rattle.time_components.specs.ShortNames.{IsTitleCase, IsWithLetters, IsEnding};
 ghost use Rattle.time_components.specs.Spelling.{IsShortOf, Says, month, weekday};
 
 use crate::ParsedItem;
-use time_values::{Month, Weekday};
+use time_values::{Month, Weekday, names};
 
 // Reads the first three letters of a month's name.
 #[inline(always)]
@@ -101,32 +102,14 @@ fn weekday_of(letters: [u8; 3]) -> Option<Weekday>
 pub(super) fn month_ending(month: Month) -> &'static [u8]
     ensures { result.now ≡ drop 3 (month_name month) }
 {
-    match month {
-        Month::January => b"uary",
-        Month::February => b"ruary",
-        Month::March => b"ch",
-        Month::April => b"il",
-        Month::May => b"",
-        Month::June => b"e",
-        Month::July => b"y",
-        Month::August => b"ust",
-        Month::September => b"tember",
-        Month::October => b"ober",
-        Month::November | Month::December => b"ember",
-    }
+    &names::month_name(month).as_bytes()[3..]
 }
 
 // What follows the first three letters of the weekday's name.
 pub(super) fn weekday_ending(weekday: Weekday) -> &'static [u8]
     ensures { result.now ≡ drop 3 (weekday_name weekday) }
 {
-    match weekday {
-        Weekday::Tuesday => b"sday",
-        Weekday::Wednesday => b"nesday",
-        Weekday::Thursday => b"rsday",
-        Weekday::Saturday => b"urday",
-        Weekday::Monday | Weekday::Friday | Weekday::Sunday => b"day",
-    }
+    &names::weekday_name(weekday).as_bytes()[3..]
 }
 
 // Reads the ending of a name.

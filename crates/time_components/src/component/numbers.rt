@@ -216,10 +216,8 @@ pub(super) fn signed_hour(sign: Sign, hour: u8) -> (i8, bool)
     ensures number { result.0 ≡ signed_by (is_negative sign) (pos hour) }
     ensures minus { result.1 ≡ is_negative sign }
 {
-    match sign {
-        Sign::Negative => (-(hour as i8), true),
-        Sign::Positive => (hour as i8, false),
-    }
+    let is_negative = sign.is_negative();
+    (time_values::sign::signed(is_negative, hour), is_negative)
 }
 
 fn signed_nanoseconds(sign: Sign, nanoseconds: u128) -> i128

@@ -1,5 +1,5 @@
 -- Entries that are all in their ranges, put into a record one after another.
-use Rattle.std.specs.Prelude.{◌≡◌, ℕ, List, [], ◌∷◌, ◌++◌, Option, None, Some, IfSome, ◌≤◌, Bool, true, false, if◌then◌else◌, refl}
+use Rattle.std.specs.Prelude.{◌≡◌, ℕ, List, [], ◌∷◌, ◌++◌, Some, refl}
 use Rattle.time_record.specs.Record.{Record, Entry, InRange, put_all, put_here}
 
 -- the record with the entries put one after another

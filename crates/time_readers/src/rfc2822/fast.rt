@@ -16,6 +16,7 @@ use crate::ranges::is_in_range;
 use crate::rfc2822::{Numbers, grammar};
 use crate::{ParsedItem, block, component};
 use std::simd::prelude::*;
+use time_values::sign::signed;
 
 // The least and the greatest byte at each of the first sixteen places, as of ` Jan 2021 03:04:`.
 const LEAST: [u8; 16] = *b" A\x00\x00 0000 00:00:";
@@ -149,13 +150,13 @@ pub(super) fn offset<'a, const CHECK_RANGES: bool>(
         (numbers.new ≡ numbers.old)
         (λ rest. Stand (Asks CHECK_RANGES) offset_places numbers.old input.now rest.now numbers.new) }
 {
-    let signed = sign(input)?;
+    let found = sign(input)?;
     let [
         a @ b'0'..=b'9',
         b @ b'0'..=b'9',
         c @ b'0'..=b'9',
         d @ b'0'..=b'9',
-    ] = signed.0
+    ] = found.0
     else {
         return None;
     };
@@ -164,8 +165,8 @@ pub(super) fn offset<'a, const CHECK_RANGES: bool>(
     if !is_in_range::<CHECK_RANGES>(hour, 0, 25) || !is_in_range::<CHECK_RANGES>(minute, 0, 59) {
         return None;
     }
-    numbers.offset_sign = Some(signed.1);
-    numbers.offset_hour = grammar::signed(signed.1, hour);
-    numbers.offset_minute = grammar::signed(signed.1, minute);
+    numbers.offset_sign = Some(found.1);
+    numbers.offset_hour = signed(found.1.is_negative(), hour);
+    numbers.offset_minute = signed(found.1.is_negative(), minute);
     Some(&[])
 }

@@ -1,8 +1,6 @@
 //! The places of a mail date, one after another: what each has to be, and what it says.
-ghost use Rattle.std.specs.Prelude.{◌≡◌, ◌≤◌, false, option_map, pos};
+ghost use Rattle.std.specs.Prelude.{◌≡◌, false, option_map};
 ghost use Rattle.std.specs.Option.{option_copied};
-ghost use Rattle.time_values.specs.Sign.{signed_by};
-ghost use Rattle.time_digits.specs.Bytes.{is_negative};
 ghost use Rattle.time_readers.specs.MailBlanks as spec;
 ghost use Rattle.time_readers.specs.PlaceAnswers.{Reads, Walks};
 ghost use Rattle.time_readers.specs.Rfc2822 as Rfc2822;
@@ -17,7 +15,8 @@ use crate::combinator::{ascii_char, four_digits, one_or_two_digits, sign, two_di
 use crate::component::{parse_month_short, parse_weekday_short};
 use crate::ranges::{is_in_range, two_digits_in};
 use crate::rfc2822::{Numbers, Place, cfws, fws, opt_cfws, opt_cfws_colon_opt_cfws, zone_literal};
-use crate::{ParsedItem, Sign, modifier};
+use crate::{ParsedItem, modifier};
+use time_values::sign::signed;
 
 // Blanks, and then nothing or a weekday's name, a comma and blanks.
 #[inline(always)]
@@ -229,7 +228,7 @@ fn offset_hour<'a, const CHECK_RANGES: bool>(
     };
     let found = two_digits_in::<CHECK_RANGES>(first.0, 0, 25)?;
     numbers.offset_sign = Some(first.1);
-    numbers.offset_hour = signed(first.1, found.1);
+    numbers.offset_hour = signed(first.1.is_negative(), found.1);
     Some(found.0)
 }
 
@@ -245,7 +244,7 @@ fn offset_minute<'a, const CHECK_RANGES: bool>(
         return Some(input);
     };
     let found = two_digits_in::<CHECK_RANGES>(input, 0, 59)?;
-    numbers.offset_minute = signed(sign, found.1);
+    numbers.offset_minute = signed(sign.is_negative(), found.1);
     Some(found.0)
 }
 
@@ -256,17 +255,4 @@ fn end_blanks(input: &[u8]) -> Option<&[u8]>
 {
     let rest = opt_cfws(input);
     Some(rest.0)
-}
-
-// The number with its sign.
-#[inline(always)]
-pub(super) fn signed(sign: Sign, value: u8) -> i8
-    requires { value ≤ 99 }
-    ensures { result ≡ signed_by (is_negative sign) (pos value) }
-{
-    let value = value as i8;
-    match sign {
-        Sign::Negative => -value,
-        Sign::Positive => value,
-    }
 }

@@ -8,9 +8,8 @@ ghost use Rattle.time_record.specs.Record.{Record};
 
 use super::steps::further_byte;
 use crate::Parsed;
-use crate::format_item::{Inspect, Node};
 use crate::parsed::fast;
-use time_components::Step;
+use time_components::{Inspect, Node, Step};
 
 /// Reads an item that has nothing inside it, and answers the rest that the walk would. `None`: not this form, and the
 /// record is as it was.

@@ -61,6 +61,10 @@ pub is_item-returns-in-Component : goal.is_item-returns-in-Component
 unfolding is_item
 is_item-returns-in-Component g t c = rw c.in-Component.ensures c.has_words.ensures
 
+pub is_item-returns-in-WholeComponent : goal.is_item-returns-in-WholeComponent
+unfolding is_item
+is_item-returns-in-WholeComponent g t c = rw c.in-WholeComponent.ensures refl
+
 pub is_item-returns-in-List : goal.is_item-returns-in-List
 unfolding is_item
 is_item-returns-in-List g t c = rw c.in-List.ensures refl

@@ -3,8 +3,6 @@
 //! Each reader answers what the library's reader does, or `None`: not this form.
 ghost use Rattle.std.specs.Prelude.{◌≡◌, ◌<◌, ◌≤◌, IfSome, IsTrue, Ok, ◌∷◌, [], false, map, pos, unwrap_or};
 ghost use Rattle.time_values.specs.Range.{greatest_year};
-ghost use Rattle.time_values.specs.Sign.{signed_by};
-ghost use Rattle.time_digits.specs.Bytes.{is_negative};
 ghost use Rattle.time_readers.specs.Block.{AllWithin, pair_at};
 ghost use Rattle.time_readers.specs.Direct.{RefusesRfc2822};
 ghost use Rattle.time_readers.specs.Places.{Stand};
@@ -15,32 +13,17 @@ ghost use Rattle.time_ffi.specs.Handed.{of_moment};
 
 use super::{is_within, made};
 use std::simd::prelude::*;
-use time_readers::Sign;
 use time_readers::combinator::{one_or_two_digits, sign};
 use time_readers::component::fast::{month_name, weekday_name};
 use time_readers::direct::said_rfc2822;
 use time_readers::rfc2822::Numbers;
-use time_values::{Month, OffsetDateTime};
+use time_values::OffsetDateTime;
+use time_values::sign::signed;
 
 // The least and the greatest byte at each of the sixteen places after the day, as of ` Jan 2021 03:04:`.
 const LEAST: [u8; 16] = *b" A\x00\x00 0000 00:00:";
 
 const GREATEST: [u8; 16] = *b" \xff\xff\xff 9999 29:59:";
-
-// Before any place is read.
-const NOTHING_READ: Numbers = Numbers {
-    weekday: None,
-    day: 0,
-    month: Month::January,
-    year: 0,
-    year_is_full: false,
-    hour: 0,
-    minute: 0,
-    second: None,
-    offset_sign: None,
-    offset_hour: 0,
-    offset_minute: 0,
-};
 
 // The numbers that the pairs of digits say.
 #[inline(always)]
@@ -103,19 +86,6 @@ fn to_offset<'a>(text: &'a [u8], numbers: &mut Numbers) -> Option<&'a [u8]>
     Some(&rest[3..])
 }
 
-// The number with its sign.
-#[inline(always)]
-fn signed(sign: Sign, value: u8) -> i8
-    requires { value ≤ 99 }
-    ensures { result ≡ signed_by (is_negative sign) (pos value) }
-{
-    let value = value as i8;
-    match sign {
-        Sign::Negative => -value,
-        Sign::Positive => value,
-    }
-}
-
 // The places of a sign and four digits with which the text ends. `None`: not this form.
 #[inline(always)]
 fn offset(text: &[u8], numbers: &mut Numbers) -> Option<()>
@@ -133,8 +103,8 @@ fn offset(text: &[u8], numbers: &mut Numbers) -> Option<()>
         return None;
     };
     numbers.offset_sign = Some(found.1);
-    numbers.offset_hour = signed(found.1, (*a - b'0') * 10 + (*b - b'0'));
-    numbers.offset_minute = signed(found.1, (*c - b'0') * 10 + (*d - b'0'));
+    numbers.offset_hour = signed(found.1.is_negative(), (*a - b'0') * 10 + (*b - b'0'));
+    numbers.offset_minute = signed(found.1.is_negative(), (*c - b'0') * 10 + (*d - b'0'));
     Some(())
 }
 
@@ -148,7 +118,7 @@ pub(in crate::moments) fn moment(text: &[u8]) -> Option<OffsetDateTime>
     if text.len() < 30 {
         return None;
     }
-    let mut numbers = NOTHING_READ;
+    let mut numbers = Numbers::NONE;
     let rest = to_day(text, &mut numbers)?;
     let rest = to_offset(rest, &mut numbers)?;
     offset(rest, &mut numbers)?;

@@ -1,13 +1,13 @@
 //! The offset of an ISO 8601 text, as `Z`, `+05`, `-0530` or `-05:30`.
-ghost use Rattle.std.specs.Prelude.{◌≡◌, ◌≤◌, IfSome};
+ghost use Rattle.std.specs.Prelude.{◌≤◌, IfSome};
 ghost use Rattle.time_readers.specs.IsoAnswers.{Gives};
 ghost use Rattle.time_readers.specs.IsoGrammar as pieces;
 ghost use Rattle.time_readers.specs.IsoOffsets.{offset_text};
-ghost use Rattle.time_readers.specs.IsoPieces.{with_sign};
 
+use crate::ParsedItem;
 use crate::iso8601::grammar::pieces::{byte, sign, two_digits, up_to};
 use crate::iso8601::{ExtendedKind, OffsetNumbers};
-use crate::{ParsedItem, Sign};
+use time_values::sign::signed;
 
 /// Reads the offset of a text of that kind: `Z`, or a sign and two digits of 0 to 25, and a minute.
 ///
@@ -21,27 +21,15 @@ pub fn offset(input: &[u8], kind: ExtendedKind) -> Option<ParsedItem<'_, OffsetN
     if let Some(after) = byte::<b'Z'>(input) {
         return Some(ParsedItem(after, OffsetNumbers::Zulu));
     }
-    let signed = sign(input)?;
-    let hour = up_to::<25>(signed.0)?;
+    let found = sign(input)?;
+    let hour = up_to::<25>(found.0)?;
     let minute = offset_minute(hour.0, kind)?;
+    let is_negative = found.1.is_negative();
     let numbers = OffsetNumbers::Numeric(
-        offset_part(signed.1, hour.1),
-        offset_part(signed.1, minute.1),
+        signed(is_negative, hour.1),
+        signed(is_negative, minute.1),
     );
     Some(ParsedItem(minute.0, numbers))
-}
-
-// A part of an offset with its sign.
-#[inline(always)]
-fn offset_part(sign: Sign, number: u8) -> i8
-    requires { number ≤ 59 }
-    ensures { result ≡ with_sign sign number }
-{
-    let value = number as i8;
-    match sign {
-        Sign::Negative => -value,
-        Sign::Positive => value,
-    }
 }
 
 // The minute of an offset, 0 where none stands.

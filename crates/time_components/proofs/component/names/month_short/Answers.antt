@@ -1,4 +1,4 @@
-use Rattle.time_components.specs.Names.{month_name}
+use Rattle.time_values.specs.Names.{month_name}
 use Rattle.time_components.specs.Spelling.{month}
 use Rattle.time_components.proofs.ShortNames.{months_titled, no_letters, no_short, is_short}
 use Rattle.time_components.proofs.component.names.month_short.Goals as goal

@@ -1,4 +1,4 @@
-use Rattle.time_components.specs.Names.{weekday_name}
+use Rattle.time_values.specs.Names.{weekday_name}
 use Rattle.time_components.specs.Spelling.{weekday}
 use Rattle.time_components.proofs.ShortNames.{weekdays_titled, no_letters, no_short, is_short}
 use Rattle.time_components.proofs.component.names.weekday_short.Goals as goal

@@ -1,7 +1,8 @@
-use Rattle.std.proofs.Common.{◌≡◌, ◌∷◌, [], ◌++◌, drop, None, Some, refl, ap, sym, ◌∙◌, inl, inr, rules, w8, SFits}
+use Rattle.std.proofs.Common.{◌≡◌, pos, ◌∷◌, [], ◌++◌, drop, None, Some, refl, ap, sym, ◌∙◌, inl, inr, rules, w8, SFits}
 use Rattle.std.proofs.lemmas.Int.{to_z-of_z}
 use Rattle.std.proofs.lemmas.Option.{none-some}
 use Rattle.time_digits.specs.Bytes.{sign_byte}
+use Rattle.time_values.specs.Sign.{signed_by}
 use Rattle.time_readers.specs.MailZones.{zone_literal}
 use Rattle.time_readers.proofs.MailOffset.{no_zone}
 use Rattle.time_readers.proofs.MailPlaces.{Reads-none, two_digits-below}
@@ -43,6 +44,7 @@ returns g c =
     let s = c.in-Some.first.1 in
     let rest = c.in_ok-found.found.0.now in
     let fits : SFits w8 c.signed-numbers.result = search rules in
+    let hour = c.signed-numbers.ensures.value ∙ ap (λ b. signed_by b (pos c.in_ok-found.found.1)) c.is_negative.ensures in
     let cut : c.args.input.now ≡ (sign_byte s ∷ found.0) ++ rest =
     first.1 ∙ ap (λ t. t ++ c.in-Some.first.0.now) first.2 ∙ ap (λ r. sign_byte s ∷ r) found.1 in (
       sign_byte s ∷ found.0,
@@ -54,6 +56,6 @@ returns g c =
         hour = c.in_ok-found.found.1;
         cut = refl;
         run = found.2;
-        says = ap (λ h. record c.args.numbers.now { offset_sign = Some s; offset_hour = h }) (to_z-of_z w8 _ fits ∙ c.signed-numbers.ensures);
+        says = ap (λ h. record c.args.numbers.now { offset_sign = Some s; offset_hour = h }) (to_z-of_z w8 _ fits ∙ hour);
       }),
     )

@@ -1,5 +1,5 @@
 use Rattle.std.proofs.Common.{arith, ap, ◌∙◌, take}
-use Rattle.time_rewriting.specs.Lines.{Items}
+use Rattle.time_values.specs.Shown.{Items}
 use Rattle.time_rewriting.proofs.BlockLemmas.{kept_last}
 use Rattle.time_rewriting.proofs.block.Block.keep_last.Goals as goal
 

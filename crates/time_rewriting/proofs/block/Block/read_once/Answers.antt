@@ -1,6 +1,6 @@
 use Rattle.std.proofs.Common.{ap, length, take, arith}
 use Rattle.std.proofs.lemmas.List.{length-take-le}
-use Rattle.time_rewriting.specs.Lines.{Items}
+use Rattle.time_values.specs.Shown.{Items}
 use Rattle.time_rewriting.proofs.BlockLemmas.{filled}
 use Rattle.time_rewriting.proofs.block.Block.read_once.Goals as goal
 

@@ -1,18 +1,20 @@
 //! What an item of a description is.
-ghost use Rattle.std.specs.Prelude.{◌≡◌, ⊤};
-ghost use Rattle.time_components.specs.Shape.{borrowed_shape, owned_shape};
+ghost use Rattle.std.specs.Prelude.{◌≡◌};
+ghost use Rattle.time_components.specs.Shape.{borrowed_shape, owned_shape, v3_shape};
 ghost use Rattle.time_components.specs.Tree.{Tree};
-ghost use Rattle.time_describing.specs.Nodes.{node_tree};
+ghost use Rattle.time_components.specs.Nodes.{node_tree};
 
-use std::alloc::AllocError;
-use time_components::{BorrowedFormatItem, Component, OwnedFormatItem};
+use crate::{BorrowedFormatItem, Component, FormatDescriptionV3Inner, OwnedFormatItem};
 
 /// What an item is, in terms of other items of its type.
+#[derive_where(Clone, Copy)]
 pub enum Node<'a, I> {
     /// Bytes that stand as they are.
     Literal(&'a [u8]),
     /// A component.
-    Component(Component),
+    Component(&'a Component),
+    /// A component; an `Ignore` has to end between characters.
+    WholeComponent(&'a Component),
     /// Items one after the other.
     List(&'a [I]),
     /// An item that may be missing.
@@ -20,18 +22,6 @@ pub enum Node<'a, I> {
     /// The first item that reads.
     First(&'a [I]),
 }
-
-impl<I> Clone for Node<'_, I> {
-    ghost is_clone = { λ node copy. copy ≡ node };
-
-    ghost is_infallible = { λ _. ⊤ };
-
-    fn clone(&self) -> Result<Self, AllocError> {
-        Ok(*self)
-    }
-}
-
-impl<I> Copy for Node<'_, I> {}
 
 /// An item that says what it is.
 pub trait Inspect {
@@ -46,11 +36,12 @@ pub trait Inspect {
 impl Inspect for BorrowedFormatItem<'_> {
     ghost shape = { borrowed_shape };
 
+    #[inline(always)]
     fn node(&self) -> Node<'_, Self> {
         match self {
             BorrowedFormatItem::Literal(text) => Node::Literal(text),
             BorrowedFormatItem::StringLiteral(text) => Node::Literal(text.as_bytes()),
-            BorrowedFormatItem::Component(component) => Node::Component(*component),
+            BorrowedFormatItem::Component(component) => Node::Component(component),
             BorrowedFormatItem::Compound(items) => Node::List(items),
             BorrowedFormatItem::Optional(item) => Node::Optional(item),
             BorrowedFormatItem::First(items) => Node::First(items),
@@ -61,14 +52,34 @@ impl Inspect for BorrowedFormatItem<'_> {
 impl Inspect for OwnedFormatItem {
     ghost shape = { owned_shape };
 
+    #[inline(always)]
     fn node(&self) -> Node<'_, Self> {
         match self {
             OwnedFormatItem::Literal(text) => Node::Literal(text),
             OwnedFormatItem::StringLiteral(text) => Node::Literal(text.as_bytes()),
-            OwnedFormatItem::Component(component) => Node::Component(*component),
+            OwnedFormatItem::Component(component) => Node::Component(component),
             OwnedFormatItem::Compound(items) => Node::List(items),
             OwnedFormatItem::Optional(item) => Node::Optional(item),
             OwnedFormatItem::First(items) => Node::First(items),
+        }
+    }
+}
+
+impl Inspect for FormatDescriptionV3Inner<'_> {
+    ghost shape = { v3_shape };
+
+    #[inline(always)]
+    fn node(&self) -> Node<'_, Self> {
+        match *self {
+            FormatDescriptionV3Inner::Component(ref component) => Node::WholeComponent(component),
+            FormatDescriptionV3Inner::BorrowedLiteral(text) => Node::Literal(text.as_bytes()),
+            FormatDescriptionV3Inner::BorrowedCompound(items) => Node::List(items),
+            FormatDescriptionV3Inner::BorrowedOptional { item, .. } => Node::Optional(item),
+            FormatDescriptionV3Inner::BorrowedFirst(items) => Node::First(items),
+            FormatDescriptionV3Inner::OwnedLiteral(ref text) => Node::Literal(text.as_bytes()),
+            FormatDescriptionV3Inner::OwnedCompound(ref items) => Node::List(items),
+            FormatDescriptionV3Inner::OwnedOptional { ref item, .. } => Node::Optional(item),
+            FormatDescriptionV3Inner::OwnedFirst(ref items) => Node::First(items),
         }
     }
 }

@@ -1,8 +1,8 @@
 -- What an item is, in terms of other items of its type.
 use Rattle.std.specs.Prelude.{true, false, map}
 use Rattle.time_components.specs.Tree.{Tree, literal, component, sequence, optional, first_of, trees}
-use Rattle.time_locating.specs.declared.inspect.Node.{Node}
-use Rattle.time_locating.specs.declared.inspect.Node.TheVariants as node
+use Rattle.time_components.specs.declared.inspect.Node.{Node}
+use Rattle.time_components.specs.declared.inspect.Node.TheVariants as node
 
 -- the tree of a node, by the trees of the items in it
 abbrev pub node_tree : {I : Type 0} → (I → Tree) → Node I → Tree

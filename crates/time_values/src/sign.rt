@@ -1,0 +1,14 @@
+//! Numbers with a sign.
+ghost use Rattle.std.specs.Prelude.{◌≡◌, ◌≤◌, pos, unsigned_abs};
+ghost use Rattle.time_values.specs.Sign.{signed_by};
+
+/// The number, turned where a minus stands before it. It is at most 99, as two digits are.
+#[inline(always)]
+pub fn signed(is_negative: bool, number: u8) -> i8
+    requires { number ≤ 99 }
+    ensures value { result ≡ signed_by is_negative (pos number) }
+    ensures size { unsigned_abs result ≡ number }
+{
+    let number = number as i8;
+    if is_negative { -number } else { number }
+}

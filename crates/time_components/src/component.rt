@@ -16,7 +16,7 @@ mod numbers;
 
 use crate::{Padding, ParsedItem, Period, SubsecondDigits, TrailingInput, modifier};
 use fractions::{fraction, long_fraction};
-use letters::{weekday_digit, weekday_from_monday};
+use letters::weekday_digit;
 use names::{ending_of, month_ending, weekday_ending};
 use numbers::{century, offset_part, timestamp, two_digits, two_places};
 use std::num::NonZero;
@@ -355,7 +355,7 @@ pub fn parse_weekday_sunday(
 {
     let modifier::WeekdaySunday { one_indexed } = modifiers;
     let digit = weekday_digit(input, one_indexed)?;
-    Some(ParsedItem(digit.0, weekday_from_monday((digit.1 + 6) % 7)))
+    Some(ParsedItem(digit.0, Weekday::from_days_from_monday((digit.1 + 6) % 7)))
 }
 
 /// Reads the number of a weekday, counted from Monday: one digit of `0` to `6`, or of `1` to `7`
@@ -369,7 +369,7 @@ pub fn parse_weekday_monday(
 {
     let modifier::WeekdayMonday { one_indexed } = modifiers;
     let digit = weekday_digit(input, one_indexed)?;
-    Some(ParsedItem(digit.0, weekday_from_monday(digit.1)))
+    Some(ParsedItem(digit.0, Weekday::from_days_from_monday(digit.1)))
 }
 
 /// Reads the day of the year, in three places, 1 to 999. `None` where none stands.

@@ -249,10 +249,10 @@ impl Debug for FormatDescriptionV3Inner<'_> {
     fn fmt<W: fmt::Write>(&self, f: &mut fmt::Formatter<W>) -> fmt::Result {
         match *self {
             FormatDescriptionV3Inner::Component(ref component) => {
-                write_v3_field("Component", component, f)
+                write_field("Component", component, f)
             }
             FormatDescriptionV3Inner::BorrowedLiteral(ref text) => {
-                write_v3_field("BorrowedLiteral", text, f)
+                write_field("BorrowedLiteral", text, f)
             }
             FormatDescriptionV3Inner::BorrowedCompound(items) => {
                 write_v3_list("BorrowedCompound", items, f)
@@ -264,7 +264,7 @@ impl Debug for FormatDescriptionV3Inner<'_> {
                 write_v3_list("BorrowedFirst", items, f)
             }
             FormatDescriptionV3Inner::OwnedLiteral(ref text) => {
-                write_v3_field("OwnedLiteral", text, f)
+                write_field("OwnedLiteral", text, f)
             }
             FormatDescriptionV3Inner::OwnedCompound(ref items) => {
                 write_v3_list("OwnedCompound", items.as_slice(), f)
@@ -277,15 +277,6 @@ impl Debug for FormatDescriptionV3Inner<'_> {
             }
         }
     }
-}
-
-// Writes a variant that holds no item, as a derived `Debug` would.
-fn write_v3_field<T: Debug, W: fmt::Write>(
-    name: &str,
-    value: &T,
-    f: &mut fmt::Formatter<W>,
-) -> fmt::Result {
-    write!(f, "{name}({value:?})")
 }
 
 // Writes a variant that holds a list of items, as a derived `Debug` would.

@@ -170,13 +170,9 @@ fn time_over<'a>(
         (λ p. spec.time_over greatest_year needs_t kind input.now parsed.old
         ≡ Some (record { rest = p.0.now; value = parsed.new; kind = p.1 })) }
 {
-    match time(input, kind, needs_t) {
-        Some(found) => match put_time(found.value, parsed) {
-            Some(()) => Some((found.rest, found.kind)),
-            None => None,
-        },
-        None => None,
-    }
+    let found = time(input, kind, needs_t)?;
+    put_time(found.value, parsed)?;
+    Some((found.rest, found.kind))
 }
 
 // Reads an offset of that kind over the record, and answers the rest.
@@ -186,13 +182,9 @@ fn offset_over<'a>(input: &'a [u8], parsed: &mut Parsed, kind: ExtendedKind) -> 
         ((spec.offset_over greatest_year kind input.now parsed.old ≡ None) × (parsed.new ≡ parsed.old))
         (λ rest. spec.offset_over greatest_year kind input.now parsed.old ≡ Some (rest.now, parsed.new)) }
 {
-    match offset(input, kind) {
-        Some(found) => match put_offset(found.1, parsed) {
-            Some(()) => Some(found.0),
-            None => None,
-        },
-        None => None,
-    }
+    let found = offset(input, kind)?;
+    put_offset(found.1, parsed)?;
+    Some(found.0)
 }
 
 // Reads an offset after a time, or nothing, and answers the rest.

@@ -31,21 +31,6 @@ use time_values::{Month, OffsetDateTime};
 #[derive(Clone, Copy, Debug, PartialEq, Eq)]
 pub struct Rfc3339;
 
-// The month of a number from 1 to 12.
-#[inline(always)]
-fn month(number: u8) -> Month
-    requires { IsInRange 1 12 number }
-    ensures { month_number result ≡ number }
-{
-    match NonZero::<u8>::new(number) {
-        Some(number) => match Month::from_number(number) {
-            Ok(month) => month,
-            Err(_) => unreachable!(),
-        },
-        None => unreachable!(),
-    }
-}
-
 // Puts year, month and day.
 #[inline(always)]
 fn put_date(numbers: Numbers, parsed: &mut Parsed)
@@ -55,7 +40,7 @@ fn put_date(numbers: Numbers, parsed: &mut Parsed)
     ensures { (m : Month_) × (month_number m ≡ numbers.month)
         × (put_all greatest_year (date_entries numbers m) parsed.old ≡ Some parsed.new) }
 {
-    let month = month(numbers.month);
+    let month = Month::at(numbers.month);
     let Some(day) = NonZero::<u8>::new(numbers.day) else {
         unreachable!()
     };

@@ -63,29 +63,19 @@ impl Month {
     pub fn from_number(number: NonZero<u8>) -> Result<Month, ComponentRange>
         ensures { Constructs (month_refusal number.value) (λ m. month_number m ≡ number.value) result }
     {
-        match number.get() {
-            1 => Ok(Month::January),
-            2 => Ok(Month::February),
-            3 => Ok(Month::March),
-            4 => Ok(Month::April),
-            5 => Ok(Month::May),
-            6 => Ok(Month::June),
-            7 => Ok(Month::July),
-            8 => Ok(Month::August),
-            9 => Ok(Month::September),
-            10 => Ok(Month::October),
-            11 => Ok(Month::November),
-            12 => Ok(Month::December),
-            _ => Err(ComponentRange {
+        let number = number.get();
+        if number > 12 {
+            return Err(ComponentRange {
                 name: "month",
                 conditional: false,
-            }),
+            });
         }
+        Ok(Month::at(number))
     }
 
-    // The month of a number that is one.
+    /// The month of a number that is one: 1 for January to 12 for December.
     #[inline]
-    pub(crate) fn at(number: u8) -> Month
+    pub fn at(number: u8) -> Month
         requires low { 1 ≤ number }
         requires high { number ≤ 12 }
         ensures { month_number result ≡ number }

@@ -139,14 +139,12 @@ impl OffsetDateTime {
         ensures none { IfNone result (¬ (Instants.IsInstant greatest_year
             (shown_at (offset_instant greatest_year self) offset))) }
     {
-        match clock_with(self.date, self.time, self.offset, offset) {
-            Some(clock) => Some(OffsetDateTime {
-                date: clock.date(),
-                time: clock.time(),
-                offset,
-            }),
-            None => None,
-        }
+        let clock = clock_with(self.date, self.time, self.offset, offset)?;
+        Some(OffsetDateTime {
+            date: clock.date(),
+            time: clock.time(),
+            offset,
+        })
     }
 
     /// The same moment on a clock with that offset, which must show a date there: ask

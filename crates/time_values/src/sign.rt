@@ -2,10 +2,10 @@
 ghost use Rattle.std.specs.Prelude.{◌≡◌, ◌≤◌, pos, unsigned_abs};
 ghost use Rattle.time_values.specs.Sign.{signed_by};
 
-/// The number, turned where a minus stands before it. It is at most 99, as two digits are.
+/// The number, turned where a minus stands before it. It is at most 127.
 #[inline(always)]
 pub fn signed(is_negative: bool, number: u8) -> i8
-    requires { number ≤ 99 }
+    requires { number ≤ 127 }
     ensures value { result ≡ signed_by is_negative (pos number) }
     ensures size { unsigned_abs result ≡ number }
 {

@@ -17,9 +17,9 @@ pub enum Weekday {
 }
 
 impl Weekday {
-    // The weekday that many days after Monday.
+    /// The weekday that many days after Monday: 0 for Monday to 6 for Sunday.
     #[inline]
-    pub(crate) fn from_days_from_monday(days: u8) -> Weekday
+    pub fn from_days_from_monday(days: u8) -> Weekday
         requires { days < 7 }
         ensures { days_from_monday result ≡ days }
     {

@@ -1,6 +1,5 @@
 //! Single digits and pairs of letters.
-ghost use Rattle.std.specs.Prelude.{◌≡◌, ◌≢◌, ◌<◌, ◌≤◌, MatchOption};
-ghost use Rattle.time_values.specs.Weekday.{days_from_monday};
+ghost use Rattle.std.specs.Prelude.{◌≡◌, ◌≢◌, ◌≤◌, MatchOption};
 ghost use Rattle.time_digits.specs.Cuts.{Finds};
 ghost use Rattle.time_components.specs.Letters as Letters;
 ghost use Rattle.time_components.specs.Letters.{IsDayDigit, IsLetters};
@@ -9,7 +8,6 @@ ghost use Rattle.time_components.specs.Spelling.{IsNameOf, Says};
 ghost use Rattle.time_components.specs.Names.{period_name};
 
 use crate::{ParsedItem, Period, modifier};
-use time_values::Weekday;
 
 // Reads one digit of `0` to `6`, or of `1` to `7` where it is one-indexed, as 0 to 6.
 #[inline]
@@ -33,23 +31,6 @@ fn first_digit(one_indexed: bool) -> u8
     ensures most { result ≤ 49 }
 {
     if one_indexed { b'1' } else { b'0' }
-}
-
-// The weekday so many days after Monday.
-#[inline]
-pub(super) fn weekday_from_monday(days: u8) -> Weekday
-    requires { days < 7 }
-    ensures { days_from_monday result ≡ days }
-{
-    match days {
-        0 => Weekday::Monday,
-        1 => Weekday::Tuesday,
-        2 => Weekday::Wednesday,
-        3 => Weekday::Thursday,
-        4 => Weekday::Friday,
-        5 => Weekday::Saturday,
-        _ => Weekday::Sunday,
-    }
 }
 
 // Reads two bytes: as they stand where the case matters, and otherwise as small letters.

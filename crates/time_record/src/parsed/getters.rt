@@ -102,7 +102,7 @@ impl Parsed {
     pub fn month(&self) -> Option<Month>
         ensures { result ≡ self.now.month }
     {
-        Some(month_of(self.byte(MONTH)?))
+        Some(Month::at(self.byte(MONTH)? as u8))
     }
 
     /// The week of the year, where week 1 begins on the first Sunday, from 0 to 53.
@@ -138,7 +138,7 @@ impl Parsed {
     pub fn weekday(&self) -> Option<Weekday>
         ensures { result ≡ self.now.weekday }
     {
-        Some(weekday_of(self.byte(WEEKDAY)?))
+        Some(Weekday::from_days_from_monday(self.byte(WEEKDAY)? as u8))
     }
 
     /// The day of the year, from 1 to 366.
@@ -289,47 +289,5 @@ impl Parsed {
         ensures in_range { IfSome result (λ v. InRange greatest_year (unix_timestamp_nanos_is v)) }
     {
         self.stamp()
-    }
-}
-
-// The month of its number, 1 to 12.
-#[inline]
-fn month_of(number: i8) -> Month
-    requires low { pos 1 ≤ℤ number }
-    requires high { number ≤ℤ pos 12 }
-    ensures { result ≡ month_in number }
-{
-    match number {
-        1 => Month::January,
-        2 => Month::February,
-        3 => Month::March,
-        4 => Month::April,
-        5 => Month::May,
-        6 => Month::June,
-        7 => Month::July,
-        8 => Month::August,
-        9 => Month::September,
-        10 => Month::October,
-        11 => Month::November,
-        12 => Month::December,
-        _ => unreachable!(),
-    }
-}
-
-// The weekday of its number, 0 for Monday to 6 for Sunday.
-#[inline]
-fn weekday_of(number: i8) -> Weekday
-    requires low { pos 0 ≤ℤ number }
-    requires high { number ≤ℤ pos 6 }
-    ensures { result ≡ weekday_in number }
-{
-    match number {
-        0 => Weekday::Monday,
-        1 => Weekday::Tuesday,
-        2 => Weekday::Wednesday,
-        3 => Weekday::Thursday,
-        4 => Weekday::Friday,
-        5 => Weekday::Saturday,
-        _ => Weekday::Sunday,
     }
 }

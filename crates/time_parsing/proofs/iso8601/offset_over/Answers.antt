@@ -2,14 +2,15 @@ use Rattle.std.proofs.Common.{refl}
 use Rattle.time_parsing.specs.Iso8601.{offset_over}
 use Rattle.time_parsing.proofs.iso8601.offset_over.Goals as goal
 
-pub returns-in-Some-put_offset : goal.returns-in-Some-put_offset
+pub returns-in_err-found : goal.returns-in_err-found
 unfolding offset_over
-returns-in-Some-put_offset c = rw (c.in-Some.ensures, c.in-Some-put_offset.ensures) refl
+returns-in_err-found c = rw c.from_residual.ensures (rw c.in_err-found.ensures refl, refl)
 
-pub returns-in-None-put_offset : goal.returns-in-None-put_offset
+pub returns-in_err-put_offset : goal.returns-in_err-put_offset
 unfolding offset_over
-returns-in-None-put_offset c = (rw (c.in-Some.ensures, c.in-None-put_offset.ensures.0) refl, c.in-None-put_offset.ensures.1)
+returns-in_err-put_offset c =
+    rw c.from_residual-in_err-put_offset.ensures (rw (c.in_ok-found.ensures, c.in_err-put_offset.ensures.0) refl, c.in_err-put_offset.ensures.1)
 
-pub returns-in-None : goal.returns-in-None
+pub returns : goal.returns
 unfolding offset_over
-returns-in-None c = (rw c.in-None.ensures refl, refl)
+returns c = rw (c.in_ok-found.ensures, c.in_ok-put_offset.ensures) refl

@@ -50,10 +50,7 @@ pub fn month(input: &[u8]) -> Option<ParsedItem<'_, Month>>
     ensures { Gives (spec.month input.now) result }
 {
     let number = two_digits(input)?;
-    let Some(positive) = NonZero::<u8>::new(number.1) else {
-        return None;
-    };
-    match Month::from_number(positive) {
+    match Month::from_number(NonZero::<u8>::new(number.1)?) {
         Ok(month) => Some(ParsedItem(number.0, month)),
         Err(_) => None,
     }
@@ -66,10 +63,7 @@ pub fn week(input: &[u8]) -> Option<ParsedItem<'_, NonZero<u8>>>
     ensures { GivesAs non_zero_u8_get (spec.positive 2 input.now) result }
 {
     let number = two_digits(input)?;
-    match NonZero::<u8>::new(number.1) {
-        Some(value) => Some(ParsedItem(number.0, value)),
-        None => None,
-    }
+    Some(ParsedItem(number.0, NonZero::<u8>::new(number.1)?))
 }
 
 /// Reads a day of the month: two digits, but not `00`.
@@ -87,10 +81,7 @@ pub fn dayk(input: &[u8]) -> Option<ParsedItem<'_, Weekday>>
     ensures { Gives (spec.weekday input.now) result }
 {
     let number = one_digit(input)?;
-    match numbered_weekday(number.1) {
-        Some(weekday) => Some(ParsedItem(number.0, weekday)),
-        None => None,
-    }
+    Some(ParsedItem(number.0, numbered_weekday(number.1)?))
 }
 
 // The weekday of a number, 1 for Monday.
@@ -116,10 +107,7 @@ pub fn dayo(input: &[u8]) -> Option<ParsedItem<'_, NonZero<u16>>>
     ensures { GivesAs non_zero_u16_get (spec.positive 3 input.now) result }
 {
     let number = exactly::<3>(input)?;
-    match NonZero::<u16>::new(number.1 as u16) {
-        Some(value) => Some(ParsedItem(number.0, value)),
-        None => None,
-    }
+    Some(ParsedItem(number.0, NonZero::<u16>::new(number.1 as u16)?))
 }
 
 /// Reads an hour: two digits of any value.

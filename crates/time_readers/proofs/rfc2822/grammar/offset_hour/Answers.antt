@@ -1,4 +1,4 @@
-use Rattle.std.proofs.Common.{◌≡◌, pos, ◌∷◌, [], ◌++◌, drop, None, Some, refl, ap, sym, ◌∙◌, inl, inr, rules, w8, SFits}
+use Rattle.std.proofs.Common.{◌≡◌, pos, ◌∷◌, [], ◌++◌, drop, None, Some, refl, ap, sym, ◌∙◌, inl, inr, arith, rules, w8, SFits}
 use Rattle.std.proofs.lemmas.Int.{to_z-of_z}
 use Rattle.std.proofs.lemmas.Option.{none-some}
 use Rattle.time_digits.specs.Bytes.{sign_byte}
@@ -24,7 +24,7 @@ returns-in_default g c =
     (cut.0, cut.1, inl (hours, cut.2, ap (λ h. record c.args.numbers.now { offset_sign = None; offset_hour = h }) (to_z-of_z w8 hours fits)))
 
 pub signed-numbers-requires : goal.signed-numbers-requires
-signed-numbers-requires g c = two_digits-below _ 0 25 _ _ _ c.in_ok-found.ensures
+signed-numbers-requires g c = omega (arith, two_digits-below _ 0 25 _ _ _ c.in_ok-found.ensures)
 
 pub returns-in_err-found : goal.returns-in_err-found
 returns-in_err-found g c =

@@ -152,18 +152,8 @@ pub fn representation_named(component: ComponentName, name: &[u8]) -> Option<Rep
         ComponentName::Weekday => look_up(&WEEKDAYS, name),
         ComponentName::WeekNumber => look_up(&WEEKS, name),
         ComponentName::Year => look_up(&YEARS, name),
-        ComponentName::Day
-        | ComponentName::Minute
-        | ComponentName::OffsetMinute
-        | ComponentName::OffsetSecond
-        | ComponentName::Ordinal
-        | ComponentName::Second => None,
-        ComponentName::End
-        | ComponentName::Ignore
-        | ComponentName::OffsetHour
-        | ComponentName::Period
-        | ComponentName::Subsecond
-        | ComponentName::UnixTimestamp => None,
+        // The others have one form alone.
+        _ => None,
     }
 }
 

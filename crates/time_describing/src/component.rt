@@ -104,24 +104,11 @@ fn sign_text(sign_is_mandatory: bool) -> &'static str
     }
 }
 
-fn case_sensitive_text(case_sensitive: bool) -> &'static str
-    ensures { result.now ≡ writing.case_sensitive_text case_sensitive }
+// A modifier that is written where the flag isn't set.
+fn where_false(modifier: &'static str, is_set: bool) -> &'static str
+    ensures { result.now ≡ writing.where_false modifier.now is_set }
 {
-    if case_sensitive {
-        ""
-    } else {
-        " case_sensitive:false"
-    }
-}
-
-fn one_indexed_text(one_indexed: bool) -> &'static str
-    ensures { result.now ≡ writing.one_indexed_text one_indexed }
-{
-    if one_indexed {
-        ""
-    } else {
-        " one_indexed:false"
-    }
+    if is_set { "" } else { modifier }
 }
 
 fn digits_text(digits: SubsecondDigits) -> &'static str
@@ -156,8 +143,8 @@ fn modifier_part(component: Component) -> &'static str
 {
     of_names!(component, m:
         MonthShort | MonthLong | WeekdayShort | WeekdayLong | Period =>
-            case_sensitive_text(m.case_sensitive),
-        WeekdaySunday | WeekdayMonday => one_indexed_text(m.one_indexed),
+            where_false(" case_sensitive:false", m.case_sensitive),
+        WeekdaySunday | WeekdayMonday => where_false(" one_indexed:false", m.one_indexed),
         CalendarYearFullExtendedRange | CalendarYearFullStandardRange
         | IsoYearFullExtendedRange | IsoYearFullStandardRange
         | CalendarYearCenturyExtendedRange | CalendarYearCenturyStandardRange

@@ -58,36 +58,30 @@ fn name_part(component: Component) -> &'static str
     }
 }
 
+// What the modifiers say of a component that has one of the names, or else the last value.
+macro_rules! of_names {
+    ($component:ident, $modifiers:ident: $($($name:ident)|+ => $value:expr,)+ _ => $other:expr) => {
+        match $component {
+            $($(Component::$name($modifiers) => $value,)+)+
+            _ => $other,
+        }
+    };
+}
+
 // What fills the number up, which of a component without a number is nothing to write.
 fn padding_of(component: Component) -> Padding
     ensures { writing.padding_text result ≡ parts.padding_part component }
 {
-    match component {
-        Component::Day(m) => m.padding,
-        Component::MonthNumerical(m) => m.padding,
-        Component::Ordinal(m) => m.padding,
-        Component::WeekNumberIso(m) => m.padding,
-        Component::WeekNumberSunday(m) => m.padding,
-        Component::WeekNumberMonday(m) => m.padding,
-        Component::CalendarYearFullExtendedRange(m) => m.padding,
-        Component::CalendarYearFullStandardRange(m) => m.padding,
-        Component::IsoYearFullExtendedRange(m) => m.padding,
-        Component::IsoYearFullStandardRange(m) => m.padding,
-        Component::CalendarYearCenturyExtendedRange(m) => m.padding,
-        Component::CalendarYearCenturyStandardRange(m) => m.padding,
-        Component::IsoYearCenturyExtendedRange(m) => m.padding,
-        Component::IsoYearCenturyStandardRange(m) => m.padding,
-        Component::CalendarYearLastTwo(m) => m.padding,
-        Component::IsoYearLastTwo(m) => m.padding,
-        Component::Hour12(m) => m.padding,
-        Component::Hour24(m) => m.padding,
-        Component::Minute(m) => m.padding,
-        Component::Second(m) => m.padding,
-        Component::OffsetHour(m) => m.padding,
-        Component::OffsetMinute(m) => m.padding,
-        Component::OffsetSecond(m) => m.padding,
-        _ => Padding::Zero,
-    }
+    of_names!(component, m:
+        Day | MonthNumerical | Ordinal | WeekNumberIso | WeekNumberSunday | WeekNumberMonday
+        | CalendarYearFullExtendedRange | CalendarYearFullStandardRange
+        | IsoYearFullExtendedRange | IsoYearFullStandardRange
+        | CalendarYearCenturyExtendedRange | CalendarYearCenturyStandardRange
+        | IsoYearCenturyExtendedRange | IsoYearCenturyStandardRange
+        | CalendarYearLastTwo | IsoYearLastTwo
+        | Hour12 | Hour24 | Minute | Second | OffsetHour | OffsetMinute | OffsetSecond => m.padding,
+        _ => Padding::Zero
+    )
 }
 
 fn padding_text(padding: Padding) -> &'static str
@@ -110,24 +104,11 @@ fn sign_text(sign_is_mandatory: bool) -> &'static str
     }
 }
 
-fn case_sensitive_text(case_sensitive: bool) -> &'static str
-    ensures { result.now ≡ writing.case_sensitive_text case_sensitive }
+// A modifier that is written where the flag isn't set.
+fn where_false(modifier: &'static str, is_set: bool) -> &'static str
+    ensures { result.now ≡ writing.where_false modifier.now is_set }
 {
-    if case_sensitive {
-        ""
-    } else {
-        " case_sensitive:false"
-    }
-}
-
-fn one_indexed_text(one_indexed: bool) -> &'static str
-    ensures { result.now ≡ writing.one_indexed_text one_indexed }
-{
-    if one_indexed {
-        ""
-    } else {
-        " one_indexed:false"
-    }
+    if is_set { "" } else { modifier }
 }
 
 fn digits_text(digits: SubsecondDigits) -> &'static str
@@ -160,31 +141,20 @@ fn trailing_input_text(trailing_input: TrailingInput) -> &'static str
 fn modifier_part(component: Component) -> &'static str
     ensures { result.now ≡ parts.modifier_part component }
 {
-    match component {
-        Component::MonthShort(m) => case_sensitive_text(m.case_sensitive),
-        Component::MonthLong(m) => case_sensitive_text(m.case_sensitive),
-        Component::WeekdayShort(m) => case_sensitive_text(m.case_sensitive),
-        Component::WeekdayLong(m) => case_sensitive_text(m.case_sensitive),
-        Component::WeekdaySunday(m) => one_indexed_text(m.one_indexed),
-        Component::WeekdayMonday(m) => one_indexed_text(m.one_indexed),
-        Component::CalendarYearFullExtendedRange(m) => sign_text(m.sign_is_mandatory),
-        Component::CalendarYearFullStandardRange(m) => sign_text(m.sign_is_mandatory),
-        Component::IsoYearFullExtendedRange(m) => sign_text(m.sign_is_mandatory),
-        Component::IsoYearFullStandardRange(m) => sign_text(m.sign_is_mandatory),
-        Component::CalendarYearCenturyExtendedRange(m) => sign_text(m.sign_is_mandatory),
-        Component::CalendarYearCenturyStandardRange(m) => sign_text(m.sign_is_mandatory),
-        Component::IsoYearCenturyExtendedRange(m) => sign_text(m.sign_is_mandatory),
-        Component::IsoYearCenturyStandardRange(m) => sign_text(m.sign_is_mandatory),
-        Component::Period(m) => case_sensitive_text(m.case_sensitive),
-        Component::Subsecond(m) => digits_text(m.digits),
-        Component::OffsetHour(m) => sign_text(m.sign_is_mandatory),
-        Component::UnixTimestampSecond(m) => sign_text(m.sign_is_mandatory),
-        Component::UnixTimestampMillisecond(m) => sign_text(m.sign_is_mandatory),
-        Component::UnixTimestampMicrosecond(m) => sign_text(m.sign_is_mandatory),
-        Component::UnixTimestampNanosecond(m) => sign_text(m.sign_is_mandatory),
-        Component::End(m) => trailing_input_text(m.trailing_input),
-        _ => "",
-    }
+    of_names!(component, m:
+        MonthShort | MonthLong | WeekdayShort | WeekdayLong | Period =>
+            where_false(" case_sensitive:false", m.case_sensitive),
+        WeekdaySunday | WeekdayMonday => where_false(" one_indexed:false", m.one_indexed),
+        CalendarYearFullExtendedRange | CalendarYearFullStandardRange
+        | IsoYearFullExtendedRange | IsoYearFullStandardRange
+        | CalendarYearCenturyExtendedRange | CalendarYearCenturyStandardRange
+        | IsoYearCenturyExtendedRange | IsoYearCenturyStandardRange | OffsetHour
+        | UnixTimestampSecond | UnixTimestampMillisecond
+        | UnixTimestampMicrosecond | UnixTimestampNanosecond => sign_text(m.sign_is_mandatory),
+        Subsecond => digits_text(m.digits),
+        End => trailing_input_text(m.trailing_input),
+        _ => ""
+    )
 }
 
 // Puts the digits of a count.

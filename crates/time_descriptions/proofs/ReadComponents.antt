@@ -95,18 +95,8 @@ modifier_fits n text left =
     (λ k. value_fits n k value)
 
 with_fits : (m : Modifiers) (x : Modifier) → FitsAll m → FitsModifier x → FitsAll (chosen.with_modifier m x)
-with_fits m (made.Base value) p q = p
-with_fits m (made.Case value) p q = p
-with_fits m (made.CaseSensitive value) p q = p
 with_fits m (made.Count value) p q = q
-with_fits m (made.Digits value) p q = p
-with_fits m (made.OneIndexed value) p q = p
-with_fits m (made.Padding value) p q = p
-with_fits m (made.Precision value) p q = p
-with_fits m (made.Range value) p q = p
-with_fits m (made.Representation value) p q = p
-with_fits m (made.Sign value) p q = p
-with_fits m (made.TrailingInput value) p q = p
+with_fits m x p q = p
 
 abbrev FitsRead : Modifiers × List ℕ → Type 0
 FitsRead x = FitsAll x.0
@@ -129,15 +119,13 @@ modifiers_fit n (suc most) values text p =
 
 full_year_fits : (b c : Bool) (m : Modifiers) → Fits (chosen.full_year b c m)
 full_year_fits false false m = tt
-full_year_fits false true m = tt
 full_year_fits true false m = tt
-full_year_fits true true m = tt
+full_year_fits b c m = tt
 
 century_fits : (b c : Bool) (m : Modifiers) → Fits (chosen.century b c m)
 century_fits false false m = tt
-century_fits false true m = tt
 century_fits true false m = tt
-century_fits true true m = tt
+century_fits b c m = tt
 
 last_two_fits : (b : Bool) (m : Modifiers) → Fits (chosen.last_two b m)
 last_two_fits false m = tt
@@ -150,18 +138,14 @@ year_fits _ m = full_year_fits m.is_iso_week m.is_extended m
 
 month_fits : (r : Representation) (m : Modifiers) → Fits (chosen.month_as r m)
 month_fits form.Long m = tt
-month_fits form.Short m = tt
 month_fits _ m = tt
 
 weekday_fits : (r : Representation) (m : Modifiers) → Fits (chosen.weekday_as r m)
 weekday_fits form.Short m = tt
-weekday_fits form.Sunday m = tt
-weekday_fits form.Monday m = tt
 weekday_fits _ m = tt
 
 week_number_fits : (r : Representation) (m : Modifiers) → Fits (chosen.week_number_as r m)
 week_number_fits form.Sunday m = tt
-week_number_fits form.Monday m = tt
 week_number_fits _ m = tt
 
 hour_fits : (r : Representation) (m : Modifiers) → Fits (chosen.hour_as r m)
@@ -170,9 +154,7 @@ hour_fits _ m = tt
 
 timestamp_fits : (p : Precision) (m : Modifiers) → Fits (chosen.unix_timestamp_as p m)
 timestamp_fits precision.Second m = tt
-timestamp_fits precision.Millisecond m = tt
-timestamp_fits precision.Microsecond m = tt
-timestamp_fits precision.Nanosecond m = tt
+timestamp_fits p m = tt
 
 component_fits : (n : ComponentName) (m : Modifiers) → FitsAll m → IfSome (chosen.component_of n m) Fits
 unfolding chosen.component_of
@@ -183,16 +165,7 @@ component_fits name.UnixTimestamp m p = timestamp_fits m.precision m
 component_fits name.Weekday m p = weekday_fits m.representation m
 component_fits name.WeekNumber m p = week_number_fits m.representation m
 component_fits name.Year m p = year_fits m.representation m
-component_fits name.Day m p = tt
-component_fits name.End m p = tt
-component_fits name.Minute m p = tt
-component_fits name.OffsetHour m p = tt
-component_fits name.OffsetMinute m p = tt
-component_fits name.OffsetSecond m p = tt
-component_fits name.Ordinal m p = tt
-component_fits name.Period m p = tt
-component_fits name.Second m p = tt
-component_fits name.Subsecond m p = tt
+component_fits n m p = tt
 
 abbrev pub Named : Component × List ℕ → Type 0
 Named x = Fits x.0

@@ -4,180 +4,47 @@ ghost use Rattle.time_descriptions.specs.Leaves.{Sees};
 ghost use Rattle.time_descriptions.specs.Letters as letters;
 ghost use Rattle.time_descriptions.specs.Letters.{row_of};
 
+use crate::modifiers::component;
 use crate::step::Step;
-use time_components::{Component, Padding, modifier};
+use time_components::{Component, Padding};
+
+// A letter, and the component of that name with these modifiers.
+macro_rules! row {
+    ($letter:literal, $($component:tt)*) => {
+        ($letter, component!($($component)*))
+    };
+}
 
 // The letters of one component each.
 const COMPONENTS: [(u8, Component); 28] = [
-    (
-        b'a',
-        Component::WeekdayShort(modifier::WeekdayShort {
-            case_sensitive: true,
-        }),
-    ),
-    (
-        b'A',
-        Component::WeekdayLong(modifier::WeekdayLong {
-            case_sensitive: true,
-        }),
-    ),
-    (
-        b'b',
-        Component::MonthShort(modifier::MonthShort {
-            case_sensitive: true,
-        }),
-    ),
-    (
-        b'h',
-        Component::MonthShort(modifier::MonthShort {
-            case_sensitive: true,
-        }),
-    ),
-    (
-        b'B',
-        Component::MonthLong(modifier::MonthLong {
-            case_sensitive: true,
-        }),
-    ),
-    (
-        b'C',
-        Component::CalendarYearCenturyExtendedRange(modifier::CalendarYearCenturyExtendedRange {
-            padding: Padding::Zero,
-            sign_is_mandatory: false,
-        }),
-    ),
-    (
-        b'g',
-        Component::IsoYearLastTwo(modifier::IsoYearLastTwo {
-            padding: Padding::Zero,
-        }),
-    ),
-    (
-        b'G',
-        Component::IsoYearFullExtendedRange(modifier::IsoYearFullExtendedRange {
-            padding: Padding::Zero,
-            sign_is_mandatory: false,
-        }),
-    ),
-    (
-        b'y',
-        Component::CalendarYearLastTwo(modifier::CalendarYearLastTwo {
-            padding: Padding::Zero,
-        }),
-    ),
-    (
-        b'Y',
-        Component::CalendarYearFullExtendedRange(modifier::CalendarYearFullExtendedRange {
-            padding: Padding::Zero,
-            sign_is_mandatory: false,
-        }),
-    ),
-    (
-        b'd',
-        Component::Day(modifier::Day {
-            padding: Padding::Zero,
-        }),
-    ),
-    (
-        b'e',
-        Component::Day(modifier::Day {
-            padding: Padding::Space,
-        }),
-    ),
-    (
-        b'j',
-        Component::Ordinal(modifier::Ordinal {
-            padding: Padding::Zero,
-        }),
-    ),
-    (
-        b'H',
-        Component::Hour24(modifier::Hour24 {
-            padding: Padding::Zero,
-        }),
-    ),
-    (
-        b'k',
-        Component::Hour24(modifier::Hour24 {
-            padding: Padding::Space,
-        }),
-    ),
-    (
-        b'I',
-        Component::Hour12(modifier::Hour12 {
-            padding: Padding::Zero,
-        }),
-    ),
-    (
-        b'l',
-        Component::Hour12(modifier::Hour12 {
-            padding: Padding::Space,
-        }),
-    ),
-    (
-        b'm',
-        Component::MonthNumerical(modifier::MonthNumerical {
-            padding: Padding::Zero,
-        }),
-    ),
-    (
-        b'M',
-        Component::Minute(modifier::Minute {
-            padding: Padding::Zero,
-        }),
-    ),
-    (
-        b'S',
-        Component::Second(modifier::Second {
-            padding: Padding::Zero,
-        }),
-    ),
-    (
-        b'p',
-        Component::Period(modifier::Period {
-            is_uppercase: true,
-            case_sensitive: true,
-        }),
-    ),
-    (
-        b'P',
-        Component::Period(modifier::Period {
-            is_uppercase: false,
-            case_sensitive: true,
-        }),
-    ),
-    (
-        b's',
-        Component::UnixTimestampSecond(modifier::UnixTimestampSecond {
-            sign_is_mandatory: false,
-        }),
-    ),
-    (
-        b'u',
-        Component::WeekdayMonday(modifier::WeekdayMonday { one_indexed: true }),
-    ),
-    (
-        b'w',
-        Component::WeekdaySunday(modifier::WeekdaySunday { one_indexed: false }),
-    ),
-    (
-        b'U',
-        Component::WeekNumberSunday(modifier::WeekNumberSunday {
-            padding: Padding::Zero,
-        }),
-    ),
-    (
-        b'V',
-        Component::WeekNumberIso(modifier::WeekNumberIso {
-            padding: Padding::Zero,
-        }),
-    ),
-    (
-        b'W',
-        Component::WeekNumberMonday(modifier::WeekNumberMonday {
-            padding: Padding::Zero,
-        }),
-    ),
+    row!(b'a', WeekdayShort, case_sensitive: true),
+    row!(b'A', WeekdayLong, case_sensitive: true),
+    row!(b'b', MonthShort, case_sensitive: true),
+    row!(b'h', MonthShort, case_sensitive: true),
+    row!(b'B', MonthLong, case_sensitive: true),
+    row!(b'C', CalendarYearCenturyExtendedRange, padding: Padding::Zero, sign_is_mandatory: false),
+    row!(b'g', IsoYearLastTwo, padding: Padding::Zero),
+    row!(b'G', IsoYearFullExtendedRange, padding: Padding::Zero, sign_is_mandatory: false),
+    row!(b'y', CalendarYearLastTwo, padding: Padding::Zero),
+    row!(b'Y', CalendarYearFullExtendedRange, padding: Padding::Zero, sign_is_mandatory: false),
+    row!(b'd', Day, padding: Padding::Zero),
+    row!(b'e', Day, padding: Padding::Space),
+    row!(b'j', Ordinal, padding: Padding::Zero),
+    row!(b'H', Hour24, padding: Padding::Zero),
+    row!(b'k', Hour24, padding: Padding::Space),
+    row!(b'I', Hour12, padding: Padding::Zero),
+    row!(b'l', Hour12, padding: Padding::Space),
+    row!(b'm', MonthNumerical, padding: Padding::Zero),
+    row!(b'M', Minute, padding: Padding::Zero),
+    row!(b'S', Second, padding: Padding::Zero),
+    row!(b'p', Period, is_uppercase: true, case_sensitive: true),
+    row!(b'P', Period, is_uppercase: false, case_sensitive: true),
+    row!(b's', UnixTimestampSecond, sign_is_mandatory: false),
+    row!(b'u', WeekdayMonday, one_indexed: true),
+    row!(b'w', WeekdaySunday, one_indexed: false),
+    row!(b'U', WeekNumberSunday, padding: Padding::Zero),
+    row!(b'V', WeekNumberIso, padding: Padding::Zero),
+    row!(b'W', WeekNumberMonday, padding: Padding::Zero),
 ];
 
 // The other letters but `z`, with the bytes that they stand for. A byte that is a component's letter stands for the

@@ -6,6 +6,15 @@ use crate::names::ComponentName;
 use crate::values::{Modifier, Precision, Representation};
 use time_components::{Component, Padding, SubsecondDigits, TrailingInput, modifier};
 
+// The component of that name with these modifiers.
+macro_rules! component {
+    ($name:ident, $($modifiers:tt)*) => {
+        time_components::Component::$name(time_components::modifier::$name { $($modifiers)* })
+    };
+}
+
+pub(crate) use component;
+
 /// The values of a component's modifiers.
 #[derive(Clone, Copy)]
 pub struct Modifiers {
@@ -81,26 +90,10 @@ fn full_year(modifiers: Modifiers) -> Component
     let padding = modifiers.padding;
     let sign_is_mandatory = modifiers.sign_is_mandatory;
     match (modifiers.is_iso_week, modifiers.is_extended) {
-        (false, true) => {
-            Component::CalendarYearFullExtendedRange(modifier::CalendarYearFullExtendedRange {
-                padding,
-                sign_is_mandatory,
-            })
-        }
-        (false, false) => {
-            Component::CalendarYearFullStandardRange(modifier::CalendarYearFullStandardRange {
-                padding,
-                sign_is_mandatory,
-            })
-        }
-        (true, true) => Component::IsoYearFullExtendedRange(modifier::IsoYearFullExtendedRange {
-            padding,
-            sign_is_mandatory,
-        }),
-        (true, false) => Component::IsoYearFullStandardRange(modifier::IsoYearFullStandardRange {
-            padding,
-            sign_is_mandatory,
-        }),
+        (false, true) => component!(CalendarYearFullExtendedRange, padding, sign_is_mandatory),
+        (false, false) => component!(CalendarYearFullStandardRange, padding, sign_is_mandatory),
+        (true, true) => component!(IsoYearFullExtendedRange, padding, sign_is_mandatory),
+        (true, false) => component!(IsoYearFullStandardRange, padding, sign_is_mandatory),
     }
 }
 
@@ -111,34 +104,10 @@ fn century(modifiers: Modifiers) -> Component
     let padding = modifiers.padding;
     let sign_is_mandatory = modifiers.sign_is_mandatory;
     match (modifiers.is_iso_week, modifiers.is_extended) {
-        (false, true) => {
-            Component::CalendarYearCenturyExtendedRange(
-                modifier::CalendarYearCenturyExtendedRange {
-                    padding,
-                    sign_is_mandatory,
-                },
-            )
-        }
-        (false, false) => {
-            Component::CalendarYearCenturyStandardRange(
-                modifier::CalendarYearCenturyStandardRange {
-                    padding,
-                    sign_is_mandatory,
-                },
-            )
-        }
-        (true, true) => Component::IsoYearCenturyExtendedRange(
-            modifier::IsoYearCenturyExtendedRange {
-                padding,
-                sign_is_mandatory,
-            },
-        ),
-        (true, false) => Component::IsoYearCenturyStandardRange(
-            modifier::IsoYearCenturyStandardRange {
-                padding,
-                sign_is_mandatory,
-            },
-        ),
+        (false, true) => component!(CalendarYearCenturyExtendedRange, padding, sign_is_mandatory),
+        (false, false) => component!(CalendarYearCenturyStandardRange, padding, sign_is_mandatory),
+        (true, true) => component!(IsoYearCenturyExtendedRange, padding, sign_is_mandatory),
+        (true, false) => component!(IsoYearCenturyStandardRange, padding, sign_is_mandatory),
     }
 }
 
@@ -149,12 +118,8 @@ fn year(modifiers: Modifiers) -> Component
     let padding = modifiers.padding;
     match modifiers.representation {
         Representation::Century => century(modifiers),
-        Representation::LastTwo if modifiers.is_iso_week => {
-            Component::IsoYearLastTwo(modifier::IsoYearLastTwo { padding })
-        }
-        Representation::LastTwo => {
-            Component::CalendarYearLastTwo(modifier::CalendarYearLastTwo { padding })
-        }
+        Representation::LastTwo if modifiers.is_iso_week => component!(IsoYearLastTwo, padding),
+        Representation::LastTwo => component!(CalendarYearLastTwo, padding),
         _ => full_year(modifiers),
     }
 }
@@ -165,11 +130,9 @@ fn month(modifiers: Modifiers) -> Component
 {
     let case_sensitive = modifiers.case_sensitive;
     match modifiers.representation {
-        Representation::Long => Component::MonthLong(modifier::MonthLong { case_sensitive }),
-        Representation::Short => Component::MonthShort(modifier::MonthShort { case_sensitive }),
-        _ => Component::MonthNumerical(modifier::MonthNumerical {
-            padding: modifiers.padding,
-        }),
+        Representation::Long => component!(MonthLong, case_sensitive),
+        Representation::Short => component!(MonthShort, case_sensitive),
+        _ => component!(MonthNumerical, padding: modifiers.padding),
     }
 }
 
@@ -180,10 +143,10 @@ fn weekday(modifiers: Modifiers) -> Component
     let case_sensitive = modifiers.case_sensitive;
     let one_indexed = modifiers.one_indexed;
     match modifiers.representation {
-        Representation::Short => Component::WeekdayShort(modifier::WeekdayShort { case_sensitive }),
-        Representation::Sunday => Component::WeekdaySunday(modifier::WeekdaySunday { one_indexed }),
-        Representation::Monday => Component::WeekdayMonday(modifier::WeekdayMonday { one_indexed }),
-        _ => Component::WeekdayLong(modifier::WeekdayLong { case_sensitive }),
+        Representation::Short => component!(WeekdayShort, case_sensitive),
+        Representation::Sunday => component!(WeekdaySunday, one_indexed),
+        Representation::Monday => component!(WeekdayMonday, one_indexed),
+        _ => component!(WeekdayLong, case_sensitive),
     }
 }
 
@@ -193,13 +156,9 @@ fn week_number(modifiers: Modifiers) -> Component
 {
     let padding = modifiers.padding;
     match modifiers.representation {
-        Representation::Sunday => Component::WeekNumberSunday(modifier::WeekNumberSunday {
-            padding,
-        }),
-        Representation::Monday => Component::WeekNumberMonday(modifier::WeekNumberMonday {
-            padding,
-        }),
-        _ => Component::WeekNumberIso(modifier::WeekNumberIso { padding }),
+        Representation::Sunday => component!(WeekNumberSunday, padding),
+        Representation::Monday => component!(WeekNumberMonday, padding),
+        _ => component!(WeekNumberIso, padding),
     }
 }
 
@@ -209,24 +168,10 @@ fn unix_timestamp(modifiers: Modifiers) -> Component
 {
     let sign_is_mandatory = modifiers.sign_is_mandatory;
     match modifiers.precision {
-        Precision::Second => {
-            Component::UnixTimestampSecond(modifier::UnixTimestampSecond { sign_is_mandatory })
-        }
-        Precision::Millisecond => {
-            Component::UnixTimestampMillisecond(modifier::UnixTimestampMillisecond {
-                sign_is_mandatory,
-            })
-        }
-        Precision::Microsecond => {
-            Component::UnixTimestampMicrosecond(modifier::UnixTimestampMicrosecond {
-                sign_is_mandatory,
-            })
-        }
-        Precision::Nanosecond => {
-            Component::UnixTimestampNanosecond(modifier::UnixTimestampNanosecond {
-                sign_is_mandatory,
-            })
-        }
+        Precision::Second => component!(UnixTimestampSecond, sign_is_mandatory),
+        Precision::Millisecond => component!(UnixTimestampMillisecond, sign_is_mandatory),
+        Precision::Microsecond => component!(UnixTimestampMicrosecond, sign_is_mandatory),
+        Precision::Nanosecond => component!(UnixTimestampNanosecond, sign_is_mandatory),
     }
 }
 
@@ -236,8 +181,8 @@ fn hour(modifiers: Modifiers) -> Component
 {
     let padding = modifiers.padding;
     match modifiers.representation {
-        Representation::Twelve => Component::Hour12(modifier::Hour12 { padding }),
-        _ => Component::Hour24(modifier::Hour24 { padding }),
+        Representation::Twelve => component!(Hour12, padding),
+        _ => component!(Hour24, padding),
     }
 }
 
@@ -248,29 +193,24 @@ pub fn component_of(name: ComponentName, modifiers: Modifiers) -> Option<Compone
 {
     let padding = modifiers.padding;
     Some(match name {
-        ComponentName::Day => Component::Day(modifier::Day { padding }),
-        ComponentName::End => Component::End(modifier::End {
-            trailing_input: modifiers.trailing_input,
-        }),
+        ComponentName::Day => component!(Day, padding),
+        ComponentName::End => component!(End, trailing_input: modifiers.trailing_input),
         ComponentName::Hour => hour(modifiers),
         ComponentName::Ignore => Component::Ignore(modifiers.count?),
-        ComponentName::Minute => Component::Minute(modifier::Minute { padding }),
+        ComponentName::Minute => component!(Minute, padding),
         ComponentName::Month => month(modifiers),
-        ComponentName::OffsetHour => Component::OffsetHour(modifier::OffsetHour {
-            padding,
-            sign_is_mandatory: modifiers.sign_is_mandatory,
-        }),
-        ComponentName::OffsetMinute => Component::OffsetMinute(modifier::OffsetMinute { padding }),
-        ComponentName::OffsetSecond => Component::OffsetSecond(modifier::OffsetSecond { padding }),
-        ComponentName::Ordinal => Component::Ordinal(modifier::Ordinal { padding }),
-        ComponentName::Period => Component::Period(modifier::Period {
+        ComponentName::OffsetHour =>
+            component!(OffsetHour, padding, sign_is_mandatory: modifiers.sign_is_mandatory),
+        ComponentName::OffsetMinute => component!(OffsetMinute, padding),
+        ComponentName::OffsetSecond => component!(OffsetSecond, padding),
+        ComponentName::Ordinal => component!(Ordinal, padding),
+        ComponentName::Period => component!(
+            Period,
             is_uppercase: modifiers.is_uppercase,
-            case_sensitive: modifiers.case_sensitive,
-        }),
-        ComponentName::Second => Component::Second(modifier::Second { padding }),
-        ComponentName::Subsecond => Component::Subsecond(modifier::Subsecond {
-            digits: modifiers.digits,
-        }),
+            case_sensitive: modifiers.case_sensitive
+        ),
+        ComponentName::Second => component!(Second, padding),
+        ComponentName::Subsecond => component!(Subsecond, digits: modifiers.digits),
         ComponentName::UnixTimestamp => unix_timestamp(modifiers),
         ComponentName::Weekday => weekday(modifiers),
         ComponentName::WeekNumber => week_number(modifiers),

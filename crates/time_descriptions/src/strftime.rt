@@ -16,9 +16,10 @@ use crate::error::InvalidFormatDescription;
 use crate::fault::{Fault, Unsupported};
 use crate::items::push;
 use crate::letters::{component_of_letter, shorthand, step_of_byte};
+use crate::modifiers::component;
 use crate::step::Step;
 use arrayvec::ArrayVec;
-use time_components::{Component, Padding, modifier};
+use time_components::{Component, Padding};
 
 /// What a byte or a conversion stands for.
 #[derive(Clone, Copy)]
@@ -185,19 +186,10 @@ fn push_offset<const N: usize>(steps: &mut ArrayVec<Step, N>) -> Result<(), Faul
     ensures room { OnOk result (length steps.old.items ≤ N → length steps.new.items ≤ N) }
     ensures err { IfErr result (λ e. (e ≡ fault.NoRoom) × (N < length steps.old.items + 2)) }
 {
-    push(
-        steps,
-        Step::Component(Component::OffsetHour(modifier::OffsetHour {
-            padding: Padding::Zero,
-            sign_is_mandatory: true,
-        })),
-    )?;
-    push(
-        steps,
-        Step::Component(Component::OffsetMinute(modifier::OffsetMinute {
-            padding: Padding::Zero,
-        })),
-    )
+    let hours = component!(OffsetHour, padding: Padding::Zero, sign_is_mandatory: true);
+    push(steps, Step::Component(hours))?;
+    let minutes = component!(OffsetMinute, padding: Padding::Zero);
+    push(steps, Step::Component(minutes))
 }
 
 // The steps of a part, if there is room.

@@ -152,93 +152,30 @@ pub fn representation_named(component: ComponentName, name: &[u8]) -> Option<Rep
         ComponentName::Weekday => look_up(&WEEKDAYS, name),
         ComponentName::WeekNumber => look_up(&WEEKS, name),
         ComponentName::Year => look_up(&YEARS, name),
-        ComponentName::Day
-        | ComponentName::Minute
-        | ComponentName::OffsetMinute
-        | ComponentName::OffsetSecond
-        | ComponentName::Ordinal
-        | ComponentName::Second => None,
-        ComponentName::End
-        | ComponentName::Ignore
-        | ComponentName::OffsetHour
-        | ComponentName::Period
-        | ComponentName::Subsecond
-        | ComponentName::UnixTimestamp => None,
+        // The others have one form alone.
+        _ => None,
     }
 }
 
-fn base(name: &[u8]) -> Option<bool>
-    ensures { result ≡ look_up values.bases name.now }
-{
-    look_up(&BASES, name)
-}
-
-fn case(name: &[u8]) -> Option<bool>
-    ensures { result ≡ look_up values.cases name.now }
-{
-    look_up(&CASES, name)
-}
-
-fn boolean(name: &[u8]) -> Option<bool>
-    ensures { result ≡ look_up values.bools name.now }
-{
-    look_up(&BOOLS, name)
-}
-
-fn range(name: &[u8]) -> Option<bool>
-    ensures { result ≡ look_up values.ranges name.now }
-{
-    look_up(&RANGES, name)
-}
-
-fn sign(name: &[u8]) -> Option<bool>
-    ensures { result ≡ look_up values.signs name.now }
-{
-    look_up(&SIGNS, name)
-}
-
-fn padding(name: &[u8]) -> Option<Padding>
-    ensures { result ≡ look_up values.paddings name.now }
-{
-    look_up(&PADDINGS, name)
-}
-
-fn precision_named(name: &[u8]) -> Option<Precision>
-    ensures { result ≡ look_up values.precisions name.now }
-{
-    look_up(&PRECISIONS, name)
-}
-
-fn trailing_input(name: &[u8]) -> Option<TrailingInput>
-    ensures { result ≡ look_up values.trailing_inputs name.now }
-{
-    look_up(&TRAILING_INPUTS, name)
-}
-
-fn digits(name: &[u8]) -> Option<SubsecondDigits>
-    ensures { result ≡ look_up values.digits name.now }
-{
-    look_up(&DIGITS, name)
-}
-
 /// The value of a modifier.
+#[tactic(auto, unfolding(crate::specs::Values::bools, crate::specs::Values::cases, crate::specs::Values::paddings, crate::specs::Values::trailing_inputs))]
 pub fn modifier_value(component: ComponentName, key: ModifierKey, value: &[u8]) -> Option<Modifier>
     ensures { result ≡ values.modifier_value component key value.now }
 {
     match key {
-        ModifierKey::Base => Some(Modifier::Base(base(value)?)),
-        ModifierKey::Case => Some(Modifier::Case(case(value)?)),
-        ModifierKey::CaseSensitive => Some(Modifier::CaseSensitive(boolean(value)?)),
-        ModifierKey::Count => Some(Modifier::Count(ignore_count(value)?)),
-        ModifierKey::Digits => Some(Modifier::Digits(digits(value)?)),
-        ModifierKey::OneIndexed => Some(Modifier::OneIndexed(boolean(value)?)),
-        ModifierKey::Padding => Some(Modifier::Padding(padding(value)?)),
-        ModifierKey::Precision => Some(Modifier::Precision(precision_named(value)?)),
-        ModifierKey::Range => Some(Modifier::Range(range(value)?)),
-        ModifierKey::Representation => Some(Modifier::Representation(representation_named(
-            component, value,
-        )?)),
-        ModifierKey::Sign => Some(Modifier::Sign(sign(value)?)),
-        ModifierKey::TrailingInput => Some(Modifier::TrailingInput(trailing_input(value)?)),
+        ModifierKey::Base => look_up(&BASES, value).map(Modifier::Base),
+        ModifierKey::Case => look_up(&CASES, value).map(Modifier::Case),
+        ModifierKey::CaseSensitive => look_up(&BOOLS, value).map(Modifier::CaseSensitive),
+        ModifierKey::Count => ignore_count(value).map(Modifier::Count),
+        ModifierKey::Digits => look_up(&DIGITS, value).map(Modifier::Digits),
+        ModifierKey::OneIndexed => look_up(&BOOLS, value).map(Modifier::OneIndexed),
+        ModifierKey::Padding => look_up(&PADDINGS, value).map(Modifier::Padding),
+        ModifierKey::Precision => look_up(&PRECISIONS, value).map(Modifier::Precision),
+        ModifierKey::Range => look_up(&RANGES, value).map(Modifier::Range),
+        ModifierKey::Representation => representation_named(component, value).map(
+            Modifier::Representation,
+        ),
+        ModifierKey::Sign => look_up(&SIGNS, value).map(Modifier::Sign),
+        ModifierKey::TrailingInput => look_up(&TRAILING_INPUTS, value).map(Modifier::TrailingInput),
     }
 }

@@ -1,5 +1,5 @@
 //! Years and centuries.
-ghost use Rattle.std.specs.Prelude.{◌≡◌, ◌+◌, ◌≤◌, ◌<◌, ◌++◌, length, nat_le, option_map, unsigned_abs};
+ghost use Rattle.std.specs.Prelude.{◌≡◌, ◌+◌, ◌≤◌, ◌<◌, ◌++◌, length, option_map};
 ghost use Rattle.time_values.specs.Calendar.{IsYear};
 ghost use Rattle.time_values.specs.Moments.{offset_date};
 ghost use Rattle.time_values.specs.Range.{greatest_year};
@@ -62,43 +62,30 @@ fn century(sign_is_mandatory: bool, padding: Padding, year: i32) -> Text
     text
 }
 
-// Whether a year has four digits at most.
-fn is_standard(year: i32) -> bool
-    ensures { result ≡ nat_le (unsigned_abs year) 9999 }
+// The text of a year, if that has four digits at most, or why there is none.
+fn in_standard_range(year: i32, text: Text) -> Result<Text, Unformattable>
+    ensures { bytes_of result ≡ years.in_standard_range year text.items }
 {
-    year.unsigned_abs() <= 9999
-}
-
-// A year of four digits at most, or why there is no text.
-fn standard_full(
-    sign_is_mandatory: bool,
-    padding: Padding,
-    year: i32,
-) -> Result<Text, Unformattable>
-    requires { IsYear greatest_year year }
-    ensures { bytes_of result ≡ years.in_standard_range year (years.full_year sign_is_mandatory padding year) }
-{
-    if is_standard(year) {
-        Ok(full(sign_is_mandatory, padding, year))
+    if year.unsigned_abs() <= 9999 {
+        Ok(text)
     } else {
         Err(Unformattable::Year)
     }
 }
 
-// Such a year without its last two digits, or why there is no text.
-fn standard_century(
-    sign_is_mandatory: bool,
-    padding: Padding,
-    year: i32,
-) -> Result<Text, Unformattable>
-    requires { IsYear greatest_year year }
-    ensures { bytes_of result ≡ years.in_standard_range year (years.century sign_is_mandatory padding year) }
-{
-    if is_standard(year) {
-        Ok(century(sign_is_mandatory, padding, year))
-    } else {
-        Err(Unformattable::Year)
-    }
+// The text of a component's year, as the function writes it.
+macro_rules! extended {
+    ($text:ident, $modifiers:ident, $year:expr) => {
+        Ok($text($modifiers.sign_is_mandatory, $modifiers.padding, $year))
+    };
+}
+
+// The same, if the year has four digits at most, or why there is no text.
+macro_rules! standard {
+    ($text:ident, $modifiers:ident, $year:expr) => {{
+        let year = $year;
+        in_standard_range(year, $text($modifiers.sign_is_mandatory, $modifiers.padding, year))
+    }};
 }
 
 /// The year of the date's ISO week.
@@ -126,30 +113,13 @@ pub(crate) fn year_text(
     ensures { option_map bytes_of result ≡ components.year_of greatest_year value.now component }
 {
     let year = value.date().year();
-    let text = match component {
-        Component::CalendarYearFullExtendedRange(m) => Ok(full(
-            m.sign_is_mandatory,
-            m.padding,
-            year,
-        )),
-        Component::CalendarYearFullStandardRange(m) => standard_full(
-            m.sign_is_mandatory,
-            m.padding,
-            year,
-        ),
-        Component::IsoYearFullExtendedRange(m) => Ok(full(
-            m.sign_is_mandatory,
-            m.padding,
-            iso_year(value),
-        )),
-        Component::IsoYearFullStandardRange(m) => standard_full(
-            m.sign_is_mandatory,
-            m.padding,
-            iso_year(value),
-        ),
+    Some(match component {
+        Component::CalendarYearFullExtendedRange(m) => extended!(full, m, year),
+        Component::CalendarYearFullStandardRange(m) => standard!(full, m, year),
+        Component::IsoYearFullExtendedRange(m) => extended!(full, m, iso_year(value)),
+        Component::IsoYearFullStandardRange(m) => standard!(full, m, iso_year(value)),
         _ => return None,
-    };
-    Some(text)
+    })
 }
 
 /// The text of a component that is a year without its last two digits, or `None` where it is none.
@@ -160,28 +130,11 @@ pub(crate) fn century_text(
     ensures { option_map bytes_of result ≡ components.century_of greatest_year value.now component }
 {
     let year = value.date().year();
-    let text = match component {
-        Component::CalendarYearCenturyExtendedRange(m) => Ok(century(
-            m.sign_is_mandatory,
-            m.padding,
-            year,
-        )),
-        Component::CalendarYearCenturyStandardRange(m) => standard_century(
-            m.sign_is_mandatory,
-            m.padding,
-            year,
-        ),
-        Component::IsoYearCenturyExtendedRange(m) => Ok(century(
-            m.sign_is_mandatory,
-            m.padding,
-            iso_year(value),
-        )),
-        Component::IsoYearCenturyStandardRange(m) => standard_century(
-            m.sign_is_mandatory,
-            m.padding,
-            iso_year(value),
-        ),
+    Some(match component {
+        Component::CalendarYearCenturyExtendedRange(m) => extended!(century, m, year),
+        Component::CalendarYearCenturyStandardRange(m) => standard!(century, m, year),
+        Component::IsoYearCenturyExtendedRange(m) => extended!(century, m, iso_year(value)),
+        Component::IsoYearCenturyStandardRange(m) => standard!(century, m, iso_year(value)),
         _ => return None,
-    };
-    Some(text)
+    })
 }

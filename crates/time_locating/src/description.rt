@@ -36,20 +36,6 @@ fn locate_item<'d, I: Inspect>(
     place(unread, missed, input)
 }
 
-// Where a text is refused by items one after the other.
-fn locate_items<'d, I: Inspect>(
-    items: &'d [I],
-    input: &[u8],
-    defaults: Option<Parsed>,
-) -> Option<Located<'d>>
-    ensures { IsLocated (Reads greatest_year (sequence (trees (map I.shape items.now))))
-        (LocatesTree greatest_year all_bytes (sequence (trees (map I.shape items.now)))) input.now (begun defaults) result }
-{
-    let mut parsed = begin(defaults);
-    let (unread, missed, _) = walk_all(items, &mut parsed, input, "");
-    place(unread, missed, input)
-}
-
 // Where the last component of this name begins that an item reads.
 fn locate_in_item<I: Inspect>(
     item: &I,
@@ -61,21 +47,6 @@ fn locate_in_item<I: Inspect>(
 {
     let mut parsed = begin(defaults);
     let (_, _, mark) = walk(item, &mut parsed, input, name);
-    index_of(mark, input)
-}
-
-// Where the last component of this name begins that items one after the other read.
-fn locate_in_items<I: Inspect>(
-    items: &[I],
-    input: &[u8],
-    defaults: Option<Parsed>,
-    name: &str,
-) -> Option<usize>
-    ensures { IsMarked (MarksTree greatest_year (sequence (trees (map I.shape items.now)))) name.now input.now
-        (begun defaults) result }
-{
-    let mut parsed = begin(defaults);
-    let (_, _, mark) = walk_all(items, &mut parsed, input, name);
     index_of(mark, input)
 }
 
@@ -179,7 +150,9 @@ impl<'i, I: Inspect> Locate for Items<'i, I> {
     ghost locates = { λ s. LocatesTree greatest_year all_bytes (sequence (trees (map I.Inspect.shape s.0.now))) };
 
     fn locate<'a>(&'a self, input: &[u8], defaults: Option<Parsed>) -> Option<Located<'a>> {
-        locate_items(self.0, input, defaults)
+        let mut parsed = begin(defaults);
+        let (unread, missed, _) = walk_all(self.0, &mut parsed, input, "");
+        place(unread, missed, input)
     }
 
     ghost exact_place = { λ s. tree_exact_place greatest_year all_bytes (sequence (trees (map I.Inspect.shape s.0.now))) };
@@ -192,7 +165,9 @@ impl<'i, I: Inspect> Locate for Items<'i, I> {
         defaults: Option<Parsed>,
         name: &str,
     ) -> Option<usize> {
-        locate_in_items(self.0, input, defaults, name)
+        let mut parsed = begin(defaults);
+        let (_, _, mark) = walk_all(self.0, &mut parsed, input, name);
+        index_of(mark, input)
     }
 
     ghost exact_mark = { λ s. tree_exact_mark greatest_year (sequence (trees (map I.Inspect.shape s.0.now))) };

@@ -17,7 +17,7 @@ ghost use Rattle.time_locating.specs.Misses.{furthest};
 use crate::iso8601::marks::text_mark;
 use crate::iso8601::pieces::{expected_at, past, past_byte};
 use crate::mark::index_of;
-use crate::miss::{Miss, further};
+use crate::miss::{Miss, further, missed_at};
 use crate::place::place;
 use crate::{Expected, Locate, Located};
 use time_parsing::{Iso8601, Parsable, begin};
@@ -169,12 +169,7 @@ fn row_missed(row: &[Piece], input: &[u8]) -> Option<Miss<'static>>
     for piece in row {
         match past(*piece, rest) {
             Some(after) => rest = after,
-            None => {
-                return Some(Miss {
-                    left: rest.len(),
-                    expected: expected_at(*piece),
-                });
-            }
+            None => return missed_at(expected_at(*piece), rest),
         }
     }
     None
@@ -232,10 +227,7 @@ fn letter_missed(needs_t: bool, kind: ExtendedKind, input: &[u8]) -> Option<Miss
 {
     match past_byte::<b'T'>(input) {
         Some(after) => time_missed(kind, after),
-        None if needs_t => Some(Miss {
-            left: input.len(),
-            expected: Expected::Literal(b"T"),
-        }),
+        None if needs_t => missed_at(Expected::Literal(b"T"), input),
         None => time_missed(kind, input),
     }
 }

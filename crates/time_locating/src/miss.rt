@@ -1,5 +1,5 @@
 //! Leaves of a description that read nothing.
-ghost use Rattle.std.specs.Prelude.{◌≡◌};
+ghost use Rattle.std.specs.Prelude.{◌≡◌, Some, length};
 ghost use Rattle.time_values.specs.Refusal.{refusal_of_description};
 ghost use Rattle.time_locating.specs.Located.{seen_miss, wants};
 ghost use Rattle.time_locating.specs.Misses as spec;
@@ -14,6 +14,17 @@ pub(crate) struct Miss<'a> {
     pub(crate) left: usize,
     /// What it wanted.
     pub(crate) expected: Expected<'a>,
+}
+
+/// What is expected in front of these bytes and reads nothing.
+#[inline]
+pub(crate) fn missed_at<'a>(expected: Expected<'a>, input: &[u8]) -> Option<Miss<'a>>
+    ensures { seen_miss result ≡ Some (spec.missed (length input.now) (wants expected.entry)) }
+{
+    Some(Miss {
+        left: input.len(),
+        expected,
+    })
 }
 
 /// The first miss, but the second where it leaves fewer bytes.

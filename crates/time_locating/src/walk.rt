@@ -13,7 +13,7 @@ ghost use Rattle.time_locating.specs.Misses.{IsFurthest, Misses, MissesAll, Miss
 
 use crate::Expected;
 use crate::mark::mark_of;
-use crate::miss::{Miss, further, wanted_of};
+use crate::miss::{Miss, further, missed_at, wanted_of};
 use time_components::{Component, FormatDescriptionV3Inner, Inspect, Node};
 use time_record::Parsed;
 
@@ -115,14 +115,7 @@ fn literal<'a, 'd>(
 {
     match Parsed::parse_literal(input, text) {
         Ok(rest) => (Some(rest), None, None),
-        Err(_) => (
-            None,
-            Some(Miss {
-                left: input.len(),
-                expected: Expected::Literal(text),
-            }),
-            None,
-        ),
+        Err(_) => (None, missed_at(Expected::Literal(text), input), None),
     }
 }
 
@@ -140,14 +133,7 @@ fn read_component<'a>(
 {
     match parsed.parse_component(input, component) {
         Ok(rest) => (Some(rest), None, mark_of(component, name, input)),
-        Err(fault) => (
-            None,
-            Some(Miss {
-                left: input.len(),
-                expected: wanted_of(fault),
-            }),
-            None,
-        ),
+        Err(fault) => (None, missed_at(wanted_of(fault), input), None),
     }
 }
 
@@ -165,13 +151,6 @@ fn read_whole_component<'a>(
 {
     match parsed.parse_v3(input, &FormatDescriptionV3Inner::Component(component)) {
         Ok(rest) => (Some(rest), None, mark_of(component, name, input)),
-        Err(fault) => (
-            None,
-            Some(Miss {
-                left: input.len(),
-                expected: wanted_of(fault),
-            }),
-            None,
-        ),
+        Err(fault) => (None, missed_at(wanted_of(fault), input), None),
     }
 }

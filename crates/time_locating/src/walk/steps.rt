@@ -14,7 +14,7 @@ ghost use Rattle.time_locating.specs.StepRows.{IsSplit};
 
 use super::read_component;
 use crate::Expected;
-use crate::miss::{Miss, further};
+use crate::miss::{Miss, further, missed_at};
 use std::slice;
 use time_components::{Group, Step};
 use time_record::Parsed;
@@ -149,10 +149,7 @@ fn literal<'a, 'd>(
         Ok(rest) => (Some(rest), None, None),
         Err(_) => (
             None,
-            Some(Miss {
-                left: input.len(),
-                expected: Expected::Literal(slice::from_ref(byte)),
-            }),
+            missed_at(Expected::Literal(slice::from_ref(byte)), input),
             None,
         ),
     }

@@ -7,7 +7,7 @@ pub returns-in-Ok-clause-misses : goal.returns-in-Ok-clause-misses
 returns-in-Ok-clause-misses c = component_reads _ _ _ _ false _ _ _ c.in-Ok.ensures
 
 pub returns-in-Err-clause-misses : goal.returns-in-Err-clause-misses
-returns-in-Err-clause-misses c = rw c.wanted_of.ensures (component_misses _ _ _ _ false _ _ c.in-Err.ensures.0)
+returns-in-Err-clause-misses c = rw (c.missed_at.ensures, c.wanted_of.ensures) (component_misses _ _ _ _ false _ _ c.in-Err.ensures.0)
 
 pub returns-in-Ok-clause-marks : goal.returns-in-Ok-clause-marks
 returns-in-Ok-clause-marks c = component_marks _ _ _ _ false _ _ _ _ c.in-Ok.ensures c.mark_of.ensures

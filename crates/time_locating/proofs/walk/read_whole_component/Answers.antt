@@ -16,7 +16,7 @@ pub returns-clause-misses : goal.returns-clause-misses
 returns-clause-misses c =
     let refused = subst (λ t. Refuses greatest_year t c.args.input.now c.args.parsed.now (refusal_of_description c.in-Err.fault))
     (v3_component c.args.component) c.in-Err.ensures.0 in
-    rw c.wanted_of.ensures (component_misses _ _ _ _ true _ _ refused)
+    rw (c.missed_at.ensures, c.wanted_of.ensures) (component_misses _ _ _ _ true _ _ refused)
 
 pub returns-in-Ok-clause-marks : goal.returns-in-Ok-clause-marks
 returns-in-Ok-clause-marks c =

@@ -13,7 +13,7 @@ returns-in-Err-clause-reads c text is = record { unread = alone_unread _ _ _ is 
 
 pub returns-in-Err-clause-misses : goal.returns-in-Err-clause-misses
 returns-in-Err-clause-misses c text is =
-    rw c.from_ref.ensures.value (literal_misses _ _ _ _ _ (alone_unread _ _ _ is _ _ c.in-Err.ensures.0.unread))
+    rw (c.missed_at.ensures, c.from_ref.ensures.value) (literal_misses _ _ _ _ _ (alone_unread _ _ _ is _ _ c.in-Err.ensures.0.unread))
 
 pub returns-in-Ok-clause-marks : goal.returns-in-Ok-clause-marks
 returns-in-Ok-clause-marks c name text is = literal_marks _ name _ _ _ _ _ (alone_reads _ _ _ is _ _ _ _ c.in-Ok.ensures)

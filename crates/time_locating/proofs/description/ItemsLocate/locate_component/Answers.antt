@@ -1,5 +1,5 @@
 use Rattle.std.proofs.Common.{sym}
-use Rattle.time_locating.proofs.description.locate_in_items.Goals as goal
+use Rattle.time_locating.proofs.description.ItemsLocate.locate_component.Goals as goal
 
 pub returns : goal.returns
 returns g c =

@@ -1,6 +1,6 @@
 use Rattle.std.proofs.Common.{sym}
 use Rattle.time_locating.specs.Misses.{Misses, all_bytes}
-use Rattle.time_locating.proofs.description.locate_items.Goals as goal
+use Rattle.time_locating.proofs.description.ItemsLocate.locate.Goals as goal
 
 pub returns : goal.returns
 unfolding Misses

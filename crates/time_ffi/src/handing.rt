@@ -130,13 +130,9 @@ pub fn hand_read<V: Target, P: From<V> + Copy>(
     ensures { HandsRead (IsHanded P.from_gives) V.outcome (Described.syntax_of syntax) description.now text.now
         result out.old out.new }
 {
-    match syntax_of(syntax) {
-        Some(syntax) => match read_description(syntax, description) {
-            Ok(description) => hand::<V, P, Description<MOST_STEPS>>(&description, text, out),
-            Err(error) => fault_status(error),
-        },
-        None => UNKNOWN_SYNTAX,
-    }
+    by_description!(syntax, description, found => {
+        hand::<V, P, Description<MOST_STEPS>>(&found, text, out)
+    })
 }
 
 /// Hands over the nanoseconds of the moment of a text by a description in the syntax of that number.
@@ -144,13 +140,7 @@ pub fn count_read(syntax: u32, description: &[u8], text: &[u8], out: &mut Nanose
     ensures { HandsRead IsCountHanded of_moment (Described.syntax_of syntax) description.now text.now
         result out.old out.new }
 {
-    match syntax_of(syntax) {
-        Some(syntax) => match read_description(syntax, description) {
-            Ok(description) => count(&description, text, out),
-            Err(error) => fault_status(error),
-        },
-        None => UNKNOWN_SYNTAX,
-    }
+    by_description!(syntax, description, found => count(&found, text, out))
 }
 
 /// Hands over the parts of a text by a description in the syntax of that number.
@@ -158,11 +148,5 @@ pub fn parts_read(syntax: u32, description: &[u8], text: &[u8], out: &mut Parts)
     ensures { HandsRead ArePartsHanded of_record (Described.syntax_of syntax) description.now text.now
         result out.old out.new }
 {
-    match syntax_of(syntax) {
-        Some(syntax) => match read_description(syntax, description) {
-            Ok(description) => parts(&description, text, out),
-            Err(error) => fault_status(error),
-        },
-        None => UNKNOWN_SYNTAX,
-    }
+    by_description!(syntax, description, found => parts(&found, text, out))
 }

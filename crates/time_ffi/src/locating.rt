@@ -77,11 +77,5 @@ pub fn locate_by(format: u32, text: &[u8], out: &mut Place) -> u32
 pub fn locate_read(syntax: u32, description: &[u8], text: &[u8], out: &mut Place) -> u32
     ensures { HandsReadPlace (Described.syntax_of syntax) description.now text.now result out.old out.new }
 {
-    match syntax_of(syntax) {
-        Some(syntax) => match read_description(syntax, description) {
-            Ok(description) => locate(&description, text, out),
-            Err(error) => fault_status(error),
-        },
-        None => UNKNOWN_SYNTAX,
-    }
+    by_description!(syntax, description, found => locate(&found, text, out))
 }

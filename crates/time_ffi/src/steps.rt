@@ -156,39 +156,13 @@ macro_rules! signed {
     };
 }
 
-// A number of units since 1970, with a sign.
-macro_rules! stamped {
-    (step $name:ident, $held:ident, $padding:ident, $flag:ident) => {
-        Step::Component(Component::$name(modifier::$name {
-            sign_is_mandatory: $flag,
-        }))
+// What is asked for by yes or no alone: a sign, that letters have their case, or that days count from 1.
+macro_rules! flagged {
+    (step $name:ident, $held:ident, $padding:ident, $flag:ident, $asked:ident) => {
+        Step::Component(Component::$name(modifier::$name { $asked: $flag }))
     };
-    (held $kind:literal, $modifiers:ident) => {
-        chosen($kind, 0, $modifiers.sign_is_mandatory)
-    };
-}
-
-// A name, in which letters may have any case or not.
-macro_rules! cased {
-    (step $name:ident, $held:ident, $padding:ident, $flag:ident) => {
-        Step::Component(Component::$name(modifier::$name {
-            case_sensitive: $flag,
-        }))
-    };
-    (held $kind:literal, $modifiers:ident) => {
-        chosen($kind, 0, $modifiers.case_sensitive)
-    };
-}
-
-// A day of the week by its number.
-macro_rules! counted {
-    (step $name:ident, $held:ident, $padding:ident, $flag:ident) => {
-        Step::Component(Component::$name(modifier::$name {
-            one_indexed: $flag,
-        }))
-    };
-    (held $kind:literal, $modifiers:ident) => {
-        chosen($kind, 0, $modifiers.one_indexed)
+    (held $kind:literal, $modifiers:ident, $asked:ident) => {
+        chosen($kind, 0, $modifiers.$asked)
     };
 }
 
@@ -251,14 +225,14 @@ macro_rules! components {
     ($of_each:ident $($given:ident)+) => {
         $of_each! { $($given)+;
             5 Day padded,
-            6 MonthShort cased,
-            7 MonthLong cased,
+            6 MonthShort flagged(case_sensitive),
+            7 MonthLong flagged(case_sensitive),
             8 MonthNumerical padded,
             9 Ordinal padded,
-            10 WeekdayShort cased,
-            11 WeekdayLong cased,
-            12 WeekdaySunday counted,
-            13 WeekdayMonday counted,
+            10 WeekdayShort flagged(case_sensitive),
+            11 WeekdayLong flagged(case_sensitive),
+            12 WeekdaySunday flagged(one_indexed),
+            13 WeekdayMonday flagged(one_indexed),
             14 WeekNumberIso padded,
             15 WeekNumberSunday padded,
             16 WeekNumberMonday padded,
@@ -282,10 +256,10 @@ macro_rules! components {
             34 OffsetMinute padded,
             35 OffsetSecond padded,
             36 Ignore skipped,
-            37 UnixTimestampSecond stamped,
-            38 UnixTimestampMillisecond stamped,
-            39 UnixTimestampMicrosecond stamped,
-            40 UnixTimestampNanosecond stamped,
+            37 UnixTimestampSecond flagged(sign_is_mandatory),
+            38 UnixTimestampMillisecond flagged(sign_is_mandatory),
+            39 UnixTimestampMicrosecond flagged(sign_is_mandatory),
+            40 UnixTimestampNanosecond flagged(sign_is_mandatory),
             41 End ended
         }
     };
@@ -293,14 +267,14 @@ macro_rules! components {
 
 // The step of what is held.
 macro_rules! step_of_each {
-    ($held:ident $padding:ident $flag:ident; $($kind:literal $name:ident $form:ident),+) => {
+    ($held:ident $padding:ident $flag:ident; $($kind:literal $name:ident $form:ident $(($asked:ident))?),+) => {
         match $held.kind {
             0 => Step::Literal($held.choice),
             1 => Step::More($held.choice),
             2 => Step::Group(Group::Optional, $held.len),
             3 => Step::Group(Group::First, $held.len),
             4 => Step::Group(Group::List, $held.len),
-            $($kind => $form!(step $name, $held, $padding, $flag),)+
+            $($kind => $form!(step $name, $held, $padding, $flag $(, $asked)?),)+
             _ => Step::Literal(0),
         }
     };
@@ -308,9 +282,9 @@ macro_rules! step_of_each {
 
 // What is held of a component.
 macro_rules! held_of_each {
-    ($component:ident; $($kind:literal $name:ident $form:ident),+) => {
+    ($component:ident; $($kind:literal $name:ident $form:ident $(($asked:ident))?),+) => {
         match $component {
-            $(Component::$name(modifiers) => $form!(held $kind, modifiers),)+
+            $(Component::$name(modifiers) => $form!(held $kind, modifiers $(, $asked)?),)+
         }
     };
 }

@@ -1,5 +1,5 @@
 -- The date of ISO 8601: its three forms and their faults.
-use Rattle.std.specs.Prelude.{ℕ, ℤ, List, codes, Bool, true, false, Option, Some, None, option_map, Result, Ok, Err}
+use Rattle.std.specs.Prelude.{◌≡◌, ◌≢◌, ◌+◌, ◌*◌, ℕ, ℤ, pos, List, codes, Bool, true, false, Option, Some, None, option_map, Result, Ok, Err}
 use Rattle.time_values.specs.Refusal.{Refusal, literal, component}
 use Rattle.time_values.specs.declared.month.Month.{Month}
 use Rattle.time_values.specs.declared.weekday.Weekday.{Weekday}
@@ -7,8 +7,9 @@ use Rattle.time_readers.specs.declared.iso8601.ExtendedKind.{ExtendedKind}
 use Rattle.time_readers.specs.declared.iso8601.ExtendedKind.TheVariants.{Basic, Extended}
 use Rattle.time_readers.specs.declared.iso8601.DateNumbers.{DateNumbers}
 use Rattle.time_readers.specs.declared.iso8601.DateNumbers.TheVariants as numbers
+use Rattle.time_readers.specs.declared.iso8601.fast.dates.CalendarDigits.{CalendarDigits}
 use Rattle.time_readers.specs.IsoAnswers.{Found}
-use Rattle.time_readers.specs.IsoPieces.{year, month, weekday, positive, byte}
+use Rattle.time_readers.specs.IsoPieces.{year, month, months, numbered, weekday, positive, byte}
 
 -- what a date says
 pub data IsoDate : Type 0 where
@@ -82,3 +83,13 @@ abbrev pub iso_date : DateNumbers → IsoDate
 iso_date (numbers.Calendar y m d) = calendar y m d.value
 iso_date (numbers.Ordinal y d) = ordinal y d.value
 iso_date (numbers.Week y w d) = week y w.value d
+
+-- the text begins with the date of these digits, if they say a month and a day
+abbrev pub AreCalendarDigits : List ℕ → CalendarDigits → Type 0
+AreCalendarDigits text d =
+    (m : Month) → numbered months d.month ≡ Some m → d.day ≢ 0
+    → date_text text ≡ Ok (record {
+      rest = d.rest.now;
+      value = calendar (pos (d.century * 100 + d.in_century)) m d.day;
+      kind = d.kind;
+    })

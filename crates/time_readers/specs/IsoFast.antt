@@ -1,28 +1,16 @@
 -- No public contract rests on this file.
 --
 -- What the short forms of ISO 8601 are.
-use Rattle.std.specs.Prelude.{◌≡◌, ◌≢◌, ◌≤◌, ℕ, ◌+◌, ◌*◌, ◌-◌, pos, List, true, Some, Ok}
-use Rattle.time_values.specs.declared.month.Month.{Month}
-use Rattle.time_readers.specs.IsoDates.{calendar, date_text}
-use Rattle.time_readers.specs.IsoPieces.{Number, number, numbered, months}
+use Rattle.std.specs.Prelude.{◌≡◌, ◌≤◌, ℕ, ◌+◌, ◌*◌, ◌-◌, List, true, Some}
+use Rattle.time_readers.specs.IsoDates.{AreCalendarDigits}
+use Rattle.time_readers.specs.IsoPieces.{Number, number}
 use Rattle.time_readers.specs.IsoTimes.{time_text, says, any_second}
 use Rattle.time_readers.specs.IsoGrammar.{hour_and_minute}
-use Rattle.time_readers.specs.declared.iso8601.fast.dates.CalendarDigits.{CalendarDigits}
 use Rattle.time_readers.specs.declared.iso8601.fast.dates_and_times.FirstSixteen.{FirstSixteen}
 
 -- the number of two digits
 abbrev pub two_digits : ℕ → ℕ → ℕ
 two_digits tens ones = (tens - 48) * 10 + (ones - 48)
-
--- the text begins with the date of these digits, if they say a month and a day
-abbrev pub AreCalendarDigits : List ℕ → CalendarDigits → Type 0
-AreCalendarDigits text d =
-    (m : Month) → numbered months d.month ≡ Some m → d.day ≢ 0
-    → date_text text ≡ Ok (record {
-      rest = d.rest.now;
-      value = calendar (pos (d.century * 100 + d.in_century)) m d.day;
-      kind = d.kind;
-    })
 
 -- the number says such a second, and so many nanoseconds of it
 abbrev pub SaysSecond : Number → ℕ → ℕ → Type 0

@@ -12,7 +12,7 @@ ghost use Rattle.time_readers.specs.IsoDatesAndTimes.{GivesDateAndTime};
 ghost use Rattle.time_readers.specs.IsoKinds.{not_basic, is_extended, basic_where_unknown, extended_where_unknown};
 ghost use Rattle.time_readers.specs.IsoTimes.{time_text};
 
-mod fast;
+pub mod fast;
 mod grammar;
 
 pub use grammar::fractions::{floor_fraction, round_fraction};

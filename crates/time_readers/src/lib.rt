@@ -4,7 +4,7 @@
 //! of `time_digits`.
 #![tactic(auto)]
 
-mod block;
+pub mod block;
 pub mod direct;
 pub mod iso8601;
 pub mod laws;

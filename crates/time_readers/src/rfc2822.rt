@@ -11,7 +11,7 @@ ghost use Rattle.time_readers.specs.PlaceAnswers.{Reads, Walks};
 ghost use Rattle.time_readers.specs.Rfc2822.{Asks, day_places, to_offset_places, offset_places, HasForm, FailsAt, fault};
 ghost use Rattle.time_readers.specs.declared.rfc2822.Place.TheVariants as place;
 
-mod fast;
+pub mod fast;
 mod grammar;
 
 use crate::{ParsedItem, Sign};

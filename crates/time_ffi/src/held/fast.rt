@@ -42,6 +42,15 @@ fn only_byte<'a>(byte: u8, behind: &[HeldStep], input: &'a [u8]) -> Option<&'a [
     }
 }
 
+// Puts what is read into the record, and answers the rest. `None`: it is refused, and the record is unchanged.
+macro_rules! put {
+    ($found:expr, $parsed:ident.$set:ident) => {{
+        let found = $found?;
+        $parsed.$set(found.1)?;
+        Some(found.0)
+    }};
+}
+
 // Reads one of the commonest components, with no call. `None`: not this form, and the record is
 // unchanged.
 #[inline(always)]
@@ -49,31 +58,14 @@ fn read_common<'a>(component: Component, parsed: &mut Parsed, input: &'a [u8]) -
     ensures { MayRead greatest_year (tree.component false component) input.now parsed.old result parsed.new }
 {
     match component {
-        Component::Hour24(modifiers) => {
-            let hour = parse_hour_24(input, modifiers)?;
-            parsed.set_hour_24(hour.1)?;
-            Some(hour.0)
-        }
-        Component::Minute(modifiers) => {
-            let minute = parse_minute(input, modifiers)?;
-            parsed.set_minute(minute.1)?;
-            Some(minute.0)
-        }
-        Component::Second(modifiers) => {
-            let second = parse_second(input, modifiers)?;
-            parsed.set_second(second.1)?;
-            Some(second.0)
-        }
-        Component::MonthNumerical(modifiers) => {
-            let month = parse_month_numerical(input, modifiers)?;
-            parsed.set_month(month.1)?;
-            Some(month.0)
-        }
-        Component::Day(modifiers) => {
-            let day = parse_day(input, modifiers)?;
-            parsed.set_day(day.1)?;
-            Some(day.0)
-        }
+        Component::Hour24(modifiers) => put!(parse_hour_24(input, modifiers), parsed.set_hour_24),
+        Component::Minute(modifiers) => put!(parse_minute(input, modifiers), parsed.set_minute),
+        Component::Second(modifiers) => put!(parse_second(input, modifiers), parsed.set_second),
+        Component::MonthNumerical(modifiers) => put!(
+            parse_month_numerical(input, modifiers),
+            parsed.set_month
+        ),
+        Component::Day(modifiers) => put!(parse_day(input, modifiers), parsed.set_day),
         _ => None,
     }
 }

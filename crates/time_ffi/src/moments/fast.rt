@@ -4,97 +4,26 @@
 pub(super) mod iso8601;
 pub(super) mod rfc2822;
 
-ghost use Rattle.std.specs.Prelude.{◌≡◌, ◌<◌, ◌≤◌, IfSome, IsTrue, Ok, None, [], ◌∷◌, false, map, pos};
+ghost use Rattle.std.specs.Prelude.{◌≡◌, ◌<◌, ◌≤◌, IfSome, Ok, None, [], false, pos};
 ghost use Rattle.time_values.specs.Offsets.{HasOffset, offset_refusal};
 ghost use Rattle.time_values.specs.Range.{greatest_year};
 ghost use Rattle.time_values.specs.Refusal.{Constructs};
 ghost use Rattle.time_values.specs.Times.{HasClock, time_refusal};
 ghost use Rattle.time_digits.specs.Cuts.{Cut};
-ghost use Rattle.time_readers.specs.Block.{AllWithin, pair_at};
 ghost use Rattle.time_readers.specs.Direct.{HasDate, IsMade, RefusesRfc3339, date_refusal};
 ghost use Rattle.time_readers.specs.Places.{Stand};
-ghost use Rattle.time_readers.specs.Rfc3339.{Asks, nothing_read, offset_places};
-ghost use Rattle.time_readers.specs.Rfc3339Fast.{to_second_places};
+ghost use Rattle.time_readers.specs.Rfc3339.{Asks, offset_places};
 ghost use Rattle.time_readers.specs.declared.rfc3339.Place.TheVariants as place;
 ghost use Rattle.time_parsing.specs.Outcome.{direct};
 ghost use Rattle.time_parsing.specs.Rfc3339.{Reads, Refuses};
 ghost use Rattle.time_ffi.specs.Handed.{of_moment};
 
 use std::num::NonZero;
-use std::simd::prelude::*;
 use time_readers::combinator::fraction;
 use time_readers::direct::{Said, said_rfc3339};
 use time_readers::rfc3339::Numbers;
+use time_readers::rfc3339::fast::to_second;
 use time_values::{Date, Month, OffsetDateTime, Time, UtcOffset};
-
-// The least and the greatest byte at each of the first sixteen places, as of `2021-01-02T03:04`.
-const LEAST: [u8; 16] = *b"0000-00-00\x0000:00";
-
-const GREATEST: [u8; 16] = *b"9999-19-39\xff29:59";
-
-// Whether each byte lies between the least and the greatest of its place.
-#[inline(always)]
-fn is_within(bytes: &[u8; 16], least: [u8; 16], greatest: [u8; 16]) -> bool
-    ensures { IsTrue result → AllWithin least greatest bytes.now }
-{
-    let bytes = u8x16::from_slice(bytes);
-    let above = bytes.simd_ge(u8x16::from_array(least));
-    let below = bytes.simd_le(u8x16::from_array(greatest));
-    (above & below).all()
-}
-
-// The numbers that the pairs of digits say.
-#[inline(always)]
-fn pairs(bytes: &[u8; 16]) -> [u8; 8]
-    ensures { AllWithin LEAST GREATEST bytes.now
-        → result ≡ map (pair_at bytes.now) (0 ∷ 2 ∷ 5 ∷ 8 ∷ 11 ∷ 14 ∷ 14 ∷ 14 ∷ []) }
-{
-    let digits = u8x16::from_slice(bytes) - u8x16::splat(b'0');
-    let tens: u8x8 = digits.swizzle([0, 2, 5, 8, 11, 14, 14, 14]);
-    let ones: u8x8 = digits.swizzle([1, 3, 6, 9, 12, 15, 15, 15]);
-    (tens * u8x8::splat(10) + ones).to_array()
-}
-
-// The places up to the second, which isn't 60. `None`: not this form.
-#[inline(always)]
-fn to_second(text: &[u8]) -> Option<(Numbers, &[u8])>
-    ensures stands { IfSome result (λ found. Stand (Asks false) to_second_places nothing_read text.now found.1.now found.0) }
-    ensures second { IfSome result (λ found. found.0.second < 60) }
-    ensures subsecond { IfSome result (λ found. found.0.subsecond ≡ None) }
-    ensures utc { IfSome result (λ found. found.0.is_utc ≡ false) }
-    ensures hour { IfSome result (λ found. found.0.offset_hour ≡ 0) }
-    ensures minute { IfSome result (λ found. found.0.offset_minute ≡ 0) }
-{
-    // One test of the length for all of the text.
-    if text.len() < 20 {
-        return None;
-    }
-    let (first, rest) = text.split_first_chunk::<16>()?;
-    let [b':', tens @ b'0'..=b'5', ones @ b'0'..=b'9', rest @ ..] = rest else {
-        return None;
-    };
-    if !is_within(first, LEAST, GREATEST) {
-        return None;
-    }
-    let [century, in_century, month, day, hour, minute, _, _] = pairs(first);
-    if month == 0 {
-        return None;
-    }
-    let numbers = Numbers {
-        year: u16::from(century) * 100 + u16::from(in_century),
-        month,
-        day,
-        hour,
-        minute,
-        second: (*tens - b'0') * 10 + (*ones - b'0'),
-        subsecond: None,
-        is_utc: false,
-        offset_is_negative: false,
-        offset_hour: 0,
-        offset_minute: 0,
-    };
-    Some((numbers, rest))
-}
 
 // The place of the fraction. `None`: not this form.
 #[inline(always)]
@@ -208,7 +137,12 @@ pub(super) fn moment(text: &[u8]) -> Option<OffsetDateTime>
     ensures { IfSome result (λ v. of_moment (direct (RefusesRfc3339 greatest_year)) (Reads greatest_year)
         (Refuses greatest_year) text.now (Ok v)) }
 {
-    let (numbers, rest) = to_second(text)?;
+    // One test of the length for all of the text.
+    if text.len() < 20 {
+        return None;
+    }
+    let mut numbers = Numbers::NONE;
+    let rest = to_second::<false>(text, &mut numbers)?;
     let (numbers, rest) = subsecond(numbers, rest)?;
     made(said_rfc3339(offset(numbers, rest)?))
 }

@@ -7,5 +7,6 @@ mod dates_and_times;
 mod times;
 
 pub(super) use dates::date;
+pub use dates::{CalendarDigits, basic_date, date_of, extended_date};
 pub(super) use dates_and_times::{basic_date_and_time, extended_date_and_time};
 pub(super) use times::time;

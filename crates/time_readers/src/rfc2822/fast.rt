@@ -2,7 +2,7 @@
 //!
 //! Each reader answers what the plain reader of the same name answers, or `None`: not this form. No blank and no
 //! comment begins with a byte above `(`.
-ghost use Rattle.std.specs.Prelude.{IfSome, MatchOption, Some, ◌≡◌, ◌∷◌, [], map, false};
+ghost use Rattle.std.specs.Prelude.{IfSome, MatchOption, Some, ◌≡◌, ◌<◌, ◌∷◌, [], map, false, unwrap_or};
 ghost use Rattle.time_readers.specs.Block.{AllWithin, pair_at};
 ghost use Rattle.time_digits.specs.Cuts.{Cut};
 ghost use Rattle.time_readers.specs.MailBlanks as spec;
@@ -73,10 +73,10 @@ pub(super) fn opt_cfws_colon_opt_cfws(input: &[u8]) -> Option<ParsedItem<'_, ()>
     }
 }
 
-// A weekday's name with a capital and two small letters, a comma and one space. `None`: not this form, and the numbers
-// are as they were.
+/// A weekday's name with a capital and two small letters, a comma and one space. `None`: not this form, and the numbers
+/// are as they were.
 #[inline(always)]
-pub(super) fn weekday_name<'a>(input: &'a [u8], numbers: &mut Numbers) -> Option<&'a [u8]>
+pub fn weekday_name<'a>(input: &'a [u8], numbers: &mut Numbers) -> Option<&'a [u8]>
     ensures { MatchOption result
         (numbers.new ≡ numbers.old)
         (λ rest. Cut (Asks false place.WeekdayName numbers.old) input.now rest.now numbers.new) }
@@ -100,16 +100,18 @@ fn pairs(bytes: &[u8; 16]) -> [u8; 4]
     (tens * u8x4::splat(10) + ones).to_array()
 }
 
-// The places from the blanks after the day to those after the second, where each of these is one space: nineteen bytes,
-// of which the first sixteen are tested together. `None`: not this form, and the numbers are as they were.
+/// The places from the blanks after the day to those after the second, where each of these is one space: nineteen bytes,
+/// of which the first sixteen are tested together. `None`: not this form, and the numbers are as they were. A second of
+/// 60 is none of them.
 #[inline(always)]
-pub(super) fn to_offset<'a, const CHECK_RANGES: bool>(
+pub fn to_offset<'a, const CHECK_RANGES: bool>(
     text: &'a [u8],
     numbers: &mut Numbers,
 ) -> Option<&'a [u8]>
-    ensures { MatchOption result
+    ensures stands { MatchOption result
         (numbers.new ≡ numbers.old)
         (λ rest. Stand (Asks CHECK_RANGES) to_offset_places numbers.old text.now rest.now numbers.new) }
+    ensures second { IfSome result (λ _. unwrap_or numbers.new.second 0 < 60) }
 {
     let (first, rest) = text.split_first_chunk::<16>()?;
     if !block::is_within(first, LEAST, GREATEST) {
@@ -140,15 +142,17 @@ pub(super) fn to_offset<'a, const CHECK_RANGES: bool>(
     Some(&rest[3..])
 }
 
-// A sign and four digits, after which nothing follows. `None`: not this form, and the numbers are as they were.
+/// A sign and four digits, after which nothing follows. `None`: not this form, and the numbers are as they were.
 #[inline(always)]
-pub(super) fn offset<'a, const CHECK_RANGES: bool>(
+pub fn offset<'a, const CHECK_RANGES: bool>(
     input: &'a [u8],
     numbers: &mut Numbers,
 ) -> Option<&'a [u8]>
-    ensures { MatchOption result
+    ensures stands { MatchOption result
         (numbers.new ≡ numbers.old)
         (λ rest. Stand (Asks CHECK_RANGES) offset_places numbers.old input.now rest.now numbers.new) }
+    ensures end { IfSome result (λ rest. rest.now ≡ []) }
+    ensures second { numbers.new.second ≡ numbers.old.second }
 {
     let found = sign(input)?;
     let [

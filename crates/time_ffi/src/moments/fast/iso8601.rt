@@ -1,13 +1,9 @@
 //! The commonest texts of ISO 8601: a date of the calendar, a time up to the second, and an offset or none.
 //!
 //! Each reader answers what the library's reader does, or `None`: not this form.
-ghost use Rattle.std.specs.Prelude.{◌≡◌, ◌≢◌, ◌+◌, ◌*◌, pos, List, ℕ, [], IfSome, IsTrue, Ok, Some, None, true};
+ghost use Rattle.std.specs.Prelude.{◌≡◌, List, ℕ, IfSome, IsTrue, Ok, Some, None, true};
 ghost use Rattle.time_values.specs.Range.{greatest_year};
-ghost use Rattle.time_values.specs.declared.month.Month.{Month as Month_};
-ghost use Rattle.time_digits.specs.Digits.{IsDigit};
-ghost use Rattle.time_readers.specs.IsoDates.{calendar, date_text, iso_date};
-ghost use Rattle.time_readers.specs.IsoFast as spec;
-ghost use Rattle.time_readers.specs.IsoPieces.{months, numbered, point};
+ghost use Rattle.time_readers.specs.IsoPieces.{point};
 ghost use Rattle.time_readers.specs.IsoTimes.{time_text};
 ghost use Rattle.time_readers.specs.declared.iso8601.ExtendedKind.TheVariants.{Basic, Extended};
 ghost use Rattle.time_record.specs.Record.{empty};
@@ -17,10 +13,11 @@ ghost use Rattle.time_parsing.specs.Outcome.{IsOutcome, over_record};
 ghost use Rattle.time_ffi.specs.Handed.{of_moment};
 ghost use Rattle.time_ffi.specs.IsoFronts.{IsFront};
 
-use std::num::NonZero;
 use time_parsing::iso8601::fast::{date_time_of, offset_to_the_end};
+use time_readers::block::two_digits;
+use time_readers::iso8601::fast::{basic_date, date_of, extended_date};
 use time_readers::iso8601::{DateNumbers, ExtendedKind, TimeNumbers};
-use time_values::{Month, OffsetDateTime, PlainDateTime};
+use time_values::{OffsetDateTime, PlainDateTime};
 
 // The date and the time with which a text begins, what follows them, and whether they have separators.
 #[derive(Clone, Copy)]
@@ -29,92 +26,6 @@ struct Front<'a> {
     time: TimeNumbers,
     rest: &'a [u8],
     kind: ExtendedKind,
-}
-
-// The number of two digits.
-#[inline(always)]
-fn two_digits(tens: u8, ones: u8) -> u8
-    requires tens { IsDigit tens }
-    requires ones { IsDigit ones }
-    ensures { result ≡ spec.two_digits tens ones }
-{
-    (tens - b'0') * 10 + (ones - b'0')
-}
-
-// The date of these numbers. `None`: no month has that number, or the day is 0.
-#[inline(always)]
-fn date_of(century: u8, in_century: u8, month: u8, day: u8) -> Option<DateNumbers>
-    ensures { IfSome result (λ d. (m : Month_) × (numbered months month ≡ Some m) × (day ≢ 0)
-        × (iso_date d ≡ calendar (pos (century * 100 + in_century)) m day)) }
-{
-    let year = u16::from(century) * 100 + u16::from(in_century);
-    let (Some(month), Some(day)) = (NonZero::<u8>::new(month), NonZero::<u8>::new(day)) else {
-        return None;
-    };
-    match Month::from_number(month) {
-        Ok(month) => Some(DateNumbers::Calendar(i32::from(year), month, day)),
-        Err(_) => None,
-    }
-}
-
-// A date with separators. `None`: not this form.
-#[inline(always)]
-fn extended_date(text: &[u8]) -> Option<(DateNumbers, &[u8])>
-    ensures { IfSome result (λ p. date_text text.now
-        ≡ Ok (record { rest = p.1.now; value = iso_date p.0; kind = Extended })) }
-{
-    let [
-        y0 @ b'0'..=b'9',
-        y1 @ b'0'..=b'9',
-        y2 @ b'0'..=b'9',
-        y3 @ b'0'..=b'9',
-        b'-',
-        m0 @ b'0'..=b'9',
-        m1 @ b'0'..=b'9',
-        b'-',
-        d0 @ b'0'..=b'9',
-        d1 @ b'0'..=b'9',
-        after @ ..,
-    ] = text
-    else {
-        return None;
-    };
-    let date = date_of(
-        two_digits(*y0, *y1),
-        two_digits(*y2, *y3),
-        two_digits(*m0, *m1),
-        two_digits(*d0, *d1),
-    )?;
-    Some((date, after))
-}
-
-// A date without separators. `None`: not this form.
-#[inline(always)]
-fn basic_date(text: &[u8]) -> Option<(DateNumbers, &[u8])>
-    ensures { IfSome result (λ p. date_text text.now
-        ≡ Ok (record { rest = p.1.now; value = iso_date p.0; kind = Basic })) }
-{
-    let [
-        y0 @ b'0'..=b'9',
-        y1 @ b'0'..=b'9',
-        y2 @ b'0'..=b'9',
-        y3 @ b'0'..=b'9',
-        m0 @ b'0'..=b'9',
-        m1 @ b'0'..=b'9',
-        d0 @ b'0'..=b'9',
-        d1 @ b'0'..=b'9',
-        rest @ ..,
-    ] = text
-    else {
-        return None;
-    };
-    let date = date_of(
-        two_digits(*y0, *y1),
-        two_digits(*y2, *y3),
-        two_digits(*m0, *m1),
-        two_digits(*d0, *d1),
-    )?;
-    Some((date, rest))
 }
 
 // Whether nothing stands there, or what an offset begins with, and so no fraction.
@@ -203,10 +114,11 @@ fn extended(text: &[u8]) -> Option<Front<'_>>
     if text.len() < 19 || !has_no_fraction(&text[19..]) {
         return None;
     }
-    let date = extended_date(text)?;
-    let time = extended_time(date.1)?;
+    let digits = extended_date(text)?;
+    let date = date_of(digits)?;
+    let time = extended_time(digits.rest)?;
     Some(Front {
-        date: date.0,
+        date,
         time: time.0,
         rest: time.1,
         kind: ExtendedKind::Extended,
@@ -221,10 +133,11 @@ fn basic(text: &[u8]) -> Option<Front<'_>>
     if text.len() < 15 || !has_no_fraction(&text[15..]) {
         return None;
     }
-    let date = basic_date(text)?;
-    let time = basic_time(date.1)?;
+    let digits = basic_date(text)?;
+    let date = date_of(digits)?;
+    let time = basic_time(digits.rest)?;
     Some(Front {
-        date: date.0,
+        date,
         time: time.0,
         rest: time.1,
         kind: ExtendedKind::Basic,

@@ -1,25 +1,29 @@
 //! A date of the calendar whose year has four digits, by one pattern.
-ghost use Rattle.std.specs.Prelude.{◌≡◌, ◌≢◌, ◌+◌, ◌*◌, pos, IfSome, Ok, Some};
-ghost use Rattle.time_values.specs.declared.month.Month.{Month as Month_};
+ghost use Rattle.std.specs.Prelude.{◌≡◌, ℕ, List, IfSome, Ok};
 ghost use Rattle.time_readers.specs.IsoAnswers.{GivesPartOrFault};
-ghost use Rattle.time_readers.specs.IsoDates.{calendar, date_text, iso_date};
-ghost use Rattle.time_readers.specs.IsoFast as spec;
-ghost use Rattle.time_readers.specs.IsoPieces.{numbered, months};
+ghost use Rattle.time_readers.specs.IsoDates.{AreCalendarDigits, date_text, iso_date};
+ghost use Rattle.time_readers.specs.declared.iso8601.ExtendedKind.TheVariants.{Basic, Extended};
 
 use crate::block::two_digits;
 use crate::iso8601::{DateNumbers, ExtendedKind, Part};
 use std::num::NonZero;
 use time_values::Month;
 
-// The digits of a date of the calendar, by two, what follows the date, and its kind.
+/// The digits of a date of the calendar, by two, what follows the date, and its kind.
 #[derive(Clone, Copy)]
-pub(super) struct CalendarDigits<'a> {
-    pub(super) century: u8,
-    pub(super) in_century: u8,
-    pub(super) month: u8,
-    pub(super) day: u8,
-    pub(super) rest: &'a [u8],
-    pub(super) kind: ExtendedKind,
+pub struct CalendarDigits<'a> {
+    /// The first two digits of the year.
+    pub century: u8,
+    /// The last two digits of the year.
+    pub in_century: u8,
+    /// The digits of the month.
+    pub month: u8,
+    /// The digits of the day.
+    pub day: u8,
+    /// What follows the date.
+    pub rest: &'a [u8],
+    /// Whether the date has separators.
+    pub kind: ExtendedKind,
 }
 
 // A date of the calendar whose year has four digits. `None`: not this form.
@@ -33,15 +37,16 @@ pub(in crate::iso8601) fn date(input: &[u8]) -> Option<Part<'_, DateNumbers>>
     };
     Some(Part {
         rest: digits.rest,
-        value: date_of(digits.century, digits.in_century, digits.month, digits.day)?,
+        value: date_of(digits)?,
         kind: digits.kind,
     })
 }
 
-// A date with separators. `None`: not this form.
+/// The digits of a date with separators. `None`: not this form.
 #[inline(always)]
-fn extended_date(input: &[u8]) -> Option<CalendarDigits<'_>>
-    ensures { IfSome result (spec.AreCalendarDigits input.now) }
+pub fn extended_date(input: &[u8]) -> Option<CalendarDigits<'_>>
+    ensures digits { IfSome result (AreCalendarDigits input.now) }
+    ensures kind { IfSome result (λ d. d.kind ≡ Extended) }
 {
     let [
         y0 @ b'0'..=b'9',
@@ -69,10 +74,11 @@ fn extended_date(input: &[u8]) -> Option<CalendarDigits<'_>>
     })
 }
 
-// A date without separators. `None`: not this form.
+/// The digits of a date without separators. `None`: not this form.
 #[inline(always)]
-fn basic_date(input: &[u8]) -> Option<CalendarDigits<'_>>
-    ensures { IfSome result (spec.AreCalendarDigits input.now) }
+pub fn basic_date(input: &[u8]) -> Option<CalendarDigits<'_>>
+    ensures digits { IfSome result (AreCalendarDigits input.now) }
+    ensures kind { IfSome result (λ d. d.kind ≡ Basic) }
 {
     let [
         y0 @ b'0'..=b'9',
@@ -98,12 +104,19 @@ fn basic_date(input: &[u8]) -> Option<CalendarDigits<'_>>
     })
 }
 
-// The date of these numbers. `None`: no month has that number, or the day is 0.
+/// The date of these digits. `None`: no month has that number, or the day is 0.
 #[inline(always)]
-pub(super) fn date_of(century: u8, in_century: u8, month: u8, day: u8) -> Option<DateNumbers>
-    ensures { IfSome result (λ d. (m : Month_) × (numbered months month ≡ Some m) × (day ≢ 0)
-        × (iso_date d ≡ calendar (pos (century * 100 + in_century)) m day)) }
+pub fn date_of(digits: CalendarDigits<'_>) -> Option<DateNumbers>
+    ensures { (text : List ℕ) → AreCalendarDigits text digits.entry → IfSome result (λ d. date_text text
+        ≡ Ok (record { rest = digits.entry.rest.now; value = iso_date d; kind = digits.entry.kind })) }
 {
+    let CalendarDigits {
+        century,
+        in_century,
+        month,
+        day,
+        ..
+    } = digits;
     let year = u16::from(century) * 100 + u16::from(in_century);
     let (Some(month), Some(day)) = (NonZero::<u8>::new(month), NonZero::<u8>::new(day)) else {
         return None;

@@ -131,7 +131,7 @@ fn date_and_time_of(first: FirstSixteen<'_>) -> Option<DateAndTime<'_>>
         return None;
     }
     let digits = first.date;
-    let date = date_of(digits.century, digits.in_century, digits.month, digits.day)?;
+    let date = date_of(digits)?;
     let second = second(first.after)?;
     Some(DateAndTime {
         date: Part {

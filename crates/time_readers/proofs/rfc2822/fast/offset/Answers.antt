@@ -3,8 +3,8 @@ use Rattle.time_digits.specs.Digits.{AllDigits}
 use Rattle.time_readers.proofs.MailOffset.{last_offset_stands}
 use Rattle.time_readers.proofs.rfc2822.fast.offset.Goals as goal
 
-pub returns : goal.returns
-returns g c =
+pub returns-clause-stands : goal.returns-clause-stands
+returns-clause-stands g c =
     let rest = c.in_ok-found.found.0.now in
     let found = c.in_ok-found.ensures in
     let cut = found.1 ∙ ap (λ t. t ++ rest) found.2 in

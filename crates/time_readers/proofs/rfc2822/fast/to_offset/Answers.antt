@@ -6,15 +6,15 @@ use Rattle.time_readers.specs.declared.rfc2822.fast.TheConstants.{LEAST, GREATES
 use Rattle.time_readers.proofs.MailToOffset.{to_offset_lists}
 use Rattle.time_readers.proofs.rfc2822.fast.to_offset.Goals as goal
 
-pub returns-in_err-first : goal.returns-in_err-first
-returns-in_err-first g c = rw c.from_residual.ensures refl
+pub returns-in_err-first-clause-stands : goal.returns-in_err-first-clause-stands
+returns-in_err-first-clause-stands g c = rw c.from_residual.ensures refl
 
 -- what two bytes from `0` to `5` and from `0` to `9` say
 up_to_59 : (tens ones value : ℕ) → tens ≤ 53 → ones ≤ 57 → value ≡ (tens - 48) * 10 + (ones - 48) → value ≤ 60
 up_to_59 tens ones value p q e = omega (arith, p, q, e)
 
-pub returns : goal.returns
-returns g c =
+pub returns-clause-stands : goal.returns-clause-stands
+returns-clause-stands g c =
     let text = c.args.text.now in
     let first = c.in_ok-first.first.now in
     let rest = c.in_ok-first.rest.now in

@@ -8,5 +8,5 @@ returns c =
     let second = c.to_offset.new.numbers in
     let third = c.offset.new.numbers in
     let stands = whole_stands text c.in_ok-rest.rest.now c.in_ok-rest-2.rest.now first second third
-    c.in_ok-rest.ensures c.in_ok-rest-2.ensures.stands c.in_ok-offset.ensures.stands in
+    c.in_ok-rest.ensures c.in_ok-rest-2.ensures.stands (rw c.in_ok-offset.ensures.end at c.in_ok-offset.ensures.stands) in
     outcome_of text third c.made.result stands (rw c.said_rfc2822.ensures at c.made.ensures)

@@ -6,8 +6,8 @@ use Rattle.time_digits.proofs.CutLemmas.{take-drop}
 use Rattle.time_readers.proofs.IsoCalendarDates.{basic_date, first_eight}
 use Rattle.time_readers.proofs.iso8601.fast.dates.basic_date.Goals as goal
 
-pub returns : goal.returns
-returns c m month some =
+pub returns-clause-digits : goal.returns-clause-digits
+returns-clause-digits c m month some =
     let s = c.args.input.now in
     let d : AllDigits (get_or s 0 0 ∷ get_or s 1 0 ∷ get_or s 2 0 ∷ get_or s 3 0
     ∷ get_or s 4 0 ∷ get_or s 5 0 ∷ get_or s 6 0 ∷ get_or s 7 0 ∷ []) = search rules in

@@ -6,8 +6,8 @@ use Rattle.time_digits.proofs.CutLemmas.{take-drop}
 use Rattle.time_readers.proofs.IsoCalendarDates.{extended_date, first_ten}
 use Rattle.time_readers.proofs.iso8601.fast.dates.extended_date.Goals as goal
 
-pub returns : goal.returns
-returns c m month some =
+pub returns-clause-digits : goal.returns-clause-digits
+returns-clause-digits c m month some =
     let s = c.args.input.now in
     let long = c.in-48-to-57.len_at_least in
     let d : AllDigits (get_or s 0 0 ∷ get_or s 1 0 ∷ get_or s 2 0 ∷ get_or s 3 0

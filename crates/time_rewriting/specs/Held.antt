@@ -1,7 +1,7 @@
 -- No public contract rests on this file.
 --
 -- What a step of a stream does.
-use Rattle.std.specs.Prelude.{◌≡◌, ℕ, List, [], ◌∷◌, ◌++◌, Option, Result, Ok, Err}
+use Rattle.std.specs.Prelude.{◌≡◌, ℕ, List, [], ◌∷◌, ◌++◌, Option}
 use Rattle.std.specs.Io.KnownBytes.{Appends, Keeps, append_known}
 use Rattle.time_rewriting.specs.declared.fate.Rest.{Rest}
 use Rattle.time_rewriting.specs.declared.fate.Rest.TheVariants.{Absent, Passing, Dropping}
@@ -46,13 +46,6 @@ abbrev pub FailedBy : Stop → Type 0 → Type 0
 FailedBy Unread fact = fact
 FailedBy Unwritten fact = Unit {0}
 FailedBy Refused fact = ⊥
-
--- The work goes on with the next file, and the fact holds.
-abbrev pub WentOn : Result (Unit {0}) Stop → Type 0 → Type 0
-WentOn (Ok done) fact = fact
-WentOn (Err Unread) fact = fact
-WentOn (Err Unwritten) fact = Unit {0}
-WentOn (Err Refused) fact = Unit {0}
 
 -- Bytes came of a line whose front was answered, which doesn't end in them.
 abbrev pub GoesOn : Option (List ℕ) → Option (List ℕ) → Rest → List ℕ → Type 0

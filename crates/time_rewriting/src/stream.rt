@@ -143,10 +143,7 @@ impl<W: Write, L: Write> Stream<W, L> {
         ensures none { OnOk result (self.new.waiting.items ≡ []) }
     {
         self.waiting.write_all_to(&mut self.out)?;
-        match self.log.flush() {
-            Ok(()) => Ok(()),
-            Err(_) => Err(Unwritten),
-        }
+        self.log.flush().map_err(|_| Unwritten)
     }
 
     // Puts what goes out for the front of a line.

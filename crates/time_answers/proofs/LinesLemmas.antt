@@ -1,5 +1,6 @@
 -- A text, cut at its first LF.
-use Rattle.std.proofs.Common.{◌≡◌, ℕ, zero, suc, ◌+◌, ◌-◌, ◌<◌, List, [], ◌∷◌, ◌++◌, length, get_or, take, drop, refl, ap, arith, add-one, ◌∙◌, None, Some, append_assoc, append-nil, sym, subst, Result, Ok, Err, OnOk}
+use Rattle.std.proofs.Common.{◌≡◌, ℕ, zero, suc, ◌+◌, ◌-◌, ◌<◌, List, [], ◌∷◌, ◌++◌, length, get_or, take, drop, ap, arith, add-one, ◌∙◌, append-nil, sym, subst, Result, Ok, Err, OnOk}
+use Rattle.std.proofs.KnownBytes.{Appends-trans, Consumes-trans, Consumes-whole}
 use Rattle.std.specs.Prelude.{Option}
 use Rattle.std.specs.Prelude.{IfSome}
 use Rattle.std.specs.Io.KnownBytes.{Appends, Consumes, IsAtEnd}
@@ -53,21 +54,13 @@ lines_of-found xs n first here =
 pub lines_of-none : (xs : List ℕ) → 0 < length xs → Nowhere (Passes (is_byte 10) xs) 0 (length xs) → lines_of xs ≡ xs ∷ []
 lines_of-none xs h nowhere = lines_of-whole xs h (λ k below is. nowhere k (omega arith) below (passes 10 xs k is))
 
-pub Appends-more : (a b c : Option (List ℕ)) (x y : List ℕ) → Appends a b x → Appends b c y → Appends a c (x ++ y)
-Appends-more None b c x y p q = tt
-Appends-more (Some s) None c x y p q = absurd p
-Appends-more (Some s) (Some t) None x y p q = absurd q
-Appends-more (Some s) (Some t) (Some u) x y p q = rw (q, p) (append_assoc s x y)
-
 -- what was read before the end is all that there was
 pub Consumes-end : (a b c : Option (List ℕ)) (xs : List ℕ) → Consumes a b xs → Consumes b c [] → IsAtEnd c → IfSome a (λ bytes. xs ≡ bytes)
-Consumes-end None b c xs p q e = tt
-Consumes-end (Some s) None c xs p q e = absurd p
-Consumes-end (Some s) (Some t) None xs p q e = absurd q
-Consumes-end (Some s) (Some t) (Some u) xs p q e = sym (p ∙ ap (λ k. xs ++ k) (q ∙ e) ∙ append-nil xs)
+Consumes-end a b c xs p q e =
+    Consumes-whole a c (xs ++ []) (λ (bytes : List ℕ). xs ≡ bytes) (Consumes-trans a b c xs [] p q) e (sym (append-nil xs))
 
 -- one write more
 pub Appends-then : {E : Type 0} (r : Result (Unit {0}) E) (a b c : Option (List ℕ)) (x y z : List ℕ)
     → Appends a b x → OnOk r (Appends b c y) → x ++ y ≡ z → OnOk r (Appends a c z)
-Appends-then (Ok u) a b c x y z p q e = subst (Appends a c) e (Appends-more a b c x y p q)
+Appends-then (Ok u) a b c x y z p q e = subst (Appends a c) e (Appends-trans a b c x y p q)
 Appends-then (Err f) a b c x y z p q e = tt

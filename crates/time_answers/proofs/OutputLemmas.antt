@@ -1,11 +1,11 @@
 -- Answers, line by line.
 use Rattle.std.proofs.Common.{◌≡◌, ℕ, List, [], ◌∷◌, ◌++◌, refl, sym, ap, ◌∙◌, subst, append_assoc, append-nil, Option, None, Some, Result, Ok, Err, OnOk}
+use Rattle.std.proofs.KnownBytes.{Appends-trans}
 use Rattle.std.specs.Io.KnownBytes.{Appends, Keeps, append_known}
 use Rattle.time_components.specs.Tree.{Tree}
 use Rattle.time_answers.specs.declared.formats.Target.{Target}
 use Rattle.time_answers.specs.Output.{IsDescribed, AreAnswers, Writes}
 use Rattle.time_answers.specs.Pieces.{WithLineFeed}
-use Rattle.time_answers.proofs.LinesLemmas.{Appends-more}
 
 -- an answered line more is written
 pub AreAnswers-more : (P : List ℕ → List ℕ → Type 0) (lines others all : List (List ℕ)) (line written more : List ℕ)
@@ -24,7 +24,7 @@ AreAnswers-more P lines others all line written more cut answered before text af
 -- LF is written behind a text
 pub Writes-line_feed : {E : Type 0} (r : Result (Unit {0}) E) (P : List ℕ → Type 0) (a b c : Option (List ℕ))
     → Writes P a b → OnOk r (Appends b c (10 ∷ [])) → OnOk r (Writes (WithLineFeed P) a c)
-Writes-line_feed (Ok u) P a b c w more = (w.0 ++ 10 ∷ [], (w.0, w.1, refl), Appends-more a b c w.0 (10 ∷ []) w.2 more)
+Writes-line_feed (Ok u) P a b c w more = (w.0 ++ 10 ∷ [], (w.0, w.1, refl), Appends-trans a b c w.0 (10 ∷ []) w.2 more)
 Writes-line_feed (Err e) P a b c w more = tt
 
 -- the outcome of a text by a tree is the one by an equal tree; `Y` is the greatest year
@@ -49,10 +49,6 @@ Writes-waiting (Ok u) P (Some s) None c waiting none w kept is = absurd w.2
 Writes-waiting (Ok u) P (Some s) (Some t) None waiting none w kept is = absurd kept
 Writes-waiting (Ok u) P (Some s) (Some t) (Some v) waiting none w kept is =
     (w.0, w.1, sym (append-nil v) ∙ ap (λ x. v ++ x) (sym is) ∙ kept ∙ w.2)
-
-pub Keeps-same : (a : Option (List ℕ)) → Keeps a a
-Keeps-same None = tt
-Keeps-same (Some s) = refl
 
 -- what is put behind what waits, after a write of what waited or none
 pub Appends-waiting : (a b c : Option (List ℕ)) (x y z written more : List ℕ) → Appends a (append_known b x) written

@@ -1,5 +1,5 @@
 -- What is written for a text, and for an input of several lines. `Y` is the greatest year.
-use Rattle.std.specs.Prelude.{◌≡◌, ℕ, List, [], ◌∷◌, ◌++◌, codes, Option, None, Result}
+use Rattle.std.specs.Prelude.{◌≡◌, ℕ, List, [], ◌∷◌, ◌++◌, Option, None, Result}
 use Rattle.std.specs.Io.KnownBytes.{Appends}
 use Rattle.time_values.specs.Refusal.{Refusal}
 use Rattle.time_components.specs.Tree.{Tree}

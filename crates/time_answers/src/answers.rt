@@ -25,10 +25,7 @@ pub struct Unwritten;
 fn write_error<W: Write>(error: Parse, out: &mut W) -> Result<(), Unwritten>
     ensures { OnOk result (Appends (W.contents out.old) (W.contents out.new) (codes "error: " ++ refusal_text (refusal_of error))) }
 {
-    match write!(out, "error: {error}") {
-        Ok(()) => Ok(()),
-        Err(_) => Err(Unwritten),
-    }
+    write!(out, "error: {error}").map_err(|_| Unwritten)
 }
 
 // Writes a value, or the error of its parse.

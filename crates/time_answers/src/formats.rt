@@ -49,52 +49,44 @@ pub enum Target {
     Timestamp,
 }
 
+// The value beside the first of these names that the bytes are, if there is one.
+macro_rules! value_named {
+    ($bytes:expr, $($name:literal => $value:expr),+) => {
+        $(if $bytes == $name.as_slice() { Some($value) } else)+ { None }
+    };
+}
+
 /// The format of that name, if there is one.
 pub fn find_format(name: &[u8]) -> Option<Format>
     ensures { result ≡ formats.format_named name.now }
 {
-    if name == b"rfc3339".as_slice() {
-        Some(Format::Rfc3339)
-    } else if name == b"rfc2822".as_slice() {
-        Some(Format::Rfc2822)
-    } else if name == b"iso8601".as_slice() {
-        Some(Format::Iso8601)
-    } else if name == b"ymd".as_slice() {
-        Some(Format::Ymd)
-    } else if name == b"clock".as_slice() {
-        Some(Format::Clock)
-    } else if name == b"unix".as_slice() {
-        Some(Format::Unix)
-    } else if name == b"local".as_slice() {
-        Some(Format::Local)
-    } else {
-        None
-    }
+    value_named!(
+        name,
+        b"rfc3339" => Format::Rfc3339,
+        b"rfc2822" => Format::Rfc2822,
+        b"iso8601" => Format::Iso8601,
+        b"ymd" => Format::Ymd,
+        b"clock" => Format::Clock,
+        b"unix" => Format::Unix,
+        b"local" => Format::Local
+    )
 }
 
 /// The target of that name, if there is one.
 pub fn find_target(name: &[u8]) -> Option<Target>
     ensures { result ≡ formats.target_named name.now }
 {
-    if name == b"date".as_slice() {
-        Some(Target::Date)
-    } else if name == b"time".as_slice() {
-        Some(Target::Time)
-    } else if name == b"offset".as_slice() {
-        Some(Target::Offset)
-    } else if name == b"plain".as_slice() {
-        Some(Target::Plain)
-    } else if name == b"utc".as_slice() {
-        Some(Target::Utc)
-    } else if name == b"datetime".as_slice() {
-        Some(Target::DateTime)
-    } else if name == b"staged".as_slice() {
-        Some(Target::Staged)
-    } else if name == b"timestamp".as_slice() {
-        Some(Target::Timestamp)
-    } else {
-        None
-    }
+    value_named!(
+        name,
+        b"date" => Target::Date,
+        b"time" => Target::Time,
+        b"offset" => Target::Offset,
+        b"plain" => Target::Plain,
+        b"utc" => Target::Utc,
+        b"datetime" => Target::DateTime,
+        b"staged" => Target::Staged,
+        b"timestamp" => Target::Timestamp
+    )
 }
 
 // A component that a description reads.

@@ -53,7 +53,7 @@ fn add_line<A: Answering>(
     waiting: &mut Waiting,
 ) -> Result<(), Unwritten>
     ensures { OnOk result (Writes (WithLineFeed (A.is_answer answering.now line.now))
-        (Some waiting.old.bytes.items) (Some waiting.new.bytes.items)) }
+        (Some waiting.old.items) (Some waiting.new.items)) }
 {
     let Ok(()) = answering.write_answer(line, waiting) else {
         return Err(Unwritten);
@@ -124,8 +124,5 @@ pub fn serve<S: Answering, R: Read, W: Write, A: Allocator>(
     ensures memory { result ≡ Err Stop.Memory → out.new ≡ out.old }
 {
     let text = read_all(alloc, input)?;
-    match run(answering, text.as_slice(), out) {
-        Ok(()) => Ok(()),
-        Err(_) => Err(Stop::Unwritten),
-    }
+    run(answering, text.as_slice(), out).map_err(|_| Stop::Unwritten)
 }

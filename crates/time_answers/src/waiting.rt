@@ -14,27 +14,27 @@ const MOST: usize = 65536;
 // More bytes than any answer has, with its LF.
 const LONGEST: usize = 128;
 
-// Bytes in an array, of which the first `len` count. To forget them costs nothing.
+/// Bytes that wait to be written. It allocates nothing, and refuses what doesn't fit. To forget them costs nothing.
 #[derive(Drop)]
-struct Held {
+pub struct Waiting {
     array: [u8; MOST],
     len: usize,
 }
 
-impl Model for Held {
+impl Model for Waiting {
     ghost Value = { Items };
 
-    ghost view = { λ v. record { items = take v.len v.array } };
+    ghost view = { λ w. record { items = take w.len w.array } };
 
-    ghost invariant = { λ v. v.len ≤ MOST };
+    ghost invariant = { λ w. w.len ≤ MOST };
 }
 
-impl Held {
-    // None.
-    fn new() -> Held
+impl Waiting {
+    /// Nothing waits.
+    pub fn new() -> Waiting
         ensures { result.items ≡ [] }
     {
-        Held {
+        Waiting {
             array: [0; MOST],
             len: 0,
         }
@@ -48,14 +48,7 @@ impl Held {
         MOST - self.len
     }
 
-    // The bytes.
-    fn as_slice(&self) -> &[u8]
-        ensures { result.now ≡ self.now.items }
-    {
-        &self.array[..self.len]
-    }
-
-    // Puts all of these behind them, or answers `false` where they don't fit.
+    // Puts all of these behind what waits, or answers `false` where they don't fit.
     #[inline(always)]
     fn append(&mut self, bytes: &[u8]) -> bool
         ensures all { IsTrue result → self.new.items ≡ self.old.items ++ bytes.now }
@@ -70,53 +63,31 @@ impl Held {
         true
     }
 
-    // Forgets them.
-    fn clear(&mut self)
-        ensures { self.new.items ≡ [] }
-    {
-        self.len = 0;
-    }
-}
-
-/// Bytes that wait to be written. It allocates nothing, and refuses what doesn't fit.
-#[derive(Drop)]
-pub struct Waiting {
-    bytes: Held,
-}
-
-impl Waiting {
-    /// Nothing waits.
-    pub fn new() -> Waiting
-        ensures { result.bytes.items ≡ [] }
-    {
-        Waiting { bytes: Held::new() }
-    }
-
     /// Writes what waits, and leaves nothing waiting.
     pub fn write_all_to<W: Write>(&mut self, out: &mut W) -> io::Result<()>
-        ensures moved { OnOk result (Keeps (append_known (W.contents out.old) self.old.bytes.items)
-            (append_known (W.contents out.new) self.new.bytes.items)) }
-        ensures none { OnOk result (self.new.bytes.items ≡ []) }
+        ensures moved { OnOk result (Keeps (append_known (W.contents out.old) self.old.items)
+            (append_known (W.contents out.new) self.new.items)) }
+        ensures none { OnOk result (self.new.items ≡ []) }
     {
-        out.write_all(self.bytes.as_slice())?;
-        self.bytes.clear();
+        out.write_all(&self.array[..self.len])?;
+        self.len = 0;
         Ok(())
     }
 
     /// Whether an answer may not fit after what waits.
     #[inline(always)]
     pub fn is_nearly_full(&self) -> bool
-        ensures { IsTrue result ↔ (MOST < length self.now.bytes.items + LONGEST) }
+        ensures { IsTrue result ↔ (MOST < length self.now.items + LONGEST) }
     {
-        self.bytes.room() < LONGEST
+        self.room() < LONGEST
     }
 }
 
 impl Write for Waiting {
-    ghost contents = { λ w. Some w.bytes.items };
+    ghost contents = { λ w. Some w.items };
 
     fn write(&mut self, buf: &[u8]) -> io::Result<usize> {
-        if !self.bytes.append(buf) {
+        if !self.append(buf) {
             return Err(io::Error::from(ErrorKind::WriteZero));
         }
         Ok(buf.len())
@@ -128,7 +99,7 @@ impl Write for Waiting {
 
     #[inline(always)]
     fn write_all(&mut self, buf: &[u8]) -> io::Result<()> {
-        if self.bytes.append(buf) {
+        if self.append(buf) {
             Ok(())
         } else {
             Err(io::Error::from(ErrorKind::WriteZero))

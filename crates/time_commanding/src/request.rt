@@ -68,10 +68,7 @@ fn find_field<'a>(options: &Options<'_, 'a>, number: &'a str) -> Result<Place<'a
     ensures { MatchResult result (λ place. spec.IsFieldPlace options.now (Some number.now) (spec.seen_place (Some place)))
         (λ fault. text_behind options.now.field ≡ Some number.now → spec.IsFault greatest_year options.now (told fault)) }
 {
-    let fields = match find_fields(options) {
-        Ok(fields) => fields,
-        Err(fault) => return Err(fault),
-    };
+    let fields = find_fields(options)?;
     match find_positive(number) {
         Some(number) => Ok(Place::Field(fields, number)),
         None => Err(Fault::Field(number)),
@@ -98,10 +95,7 @@ fn find_place<'a>(options: &Options<'_, 'a>) -> Result<Option<Place<'a>>, Fault<
     let Some(number) = options.field else {
         return Ok(Some(Place::Whole));
     };
-    match find_field(options, number) {
-        Ok(place) => Ok(Some(place)),
-        Err(fault) => Err(fault),
-    }
+    Ok(Some(find_field(options, number)?))
 }
 
 // Adds the formats of those names. One that is none is handed back, with its fault; nothing is where memory is short.

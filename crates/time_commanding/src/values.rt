@@ -5,7 +5,7 @@ ghost use Rattle.time_components.specs.Shape.{borrowed_shape};
 ghost use Rattle.time_components.specs.Tree.{sequence, trees};
 ghost use Rattle.time_commanding.specs.Values as spec;
 
-use time_components::{BorrowedFormatItem, Component, Padding, modifier};
+use time_components::{BorrowedFormatItem, Padding, item};
 use time_parsing::Parsable;
 use time_record::Parsed;
 use time_values::UtcOffset;
@@ -15,10 +15,7 @@ use time_writing::FractionDigits;
 pub fn find_number(text: &str) -> Option<u64>
     ensures { spec.IsNumber text.now result }
 {
-    match text.parse::<u64>() {
-        Ok(number) => Some(number),
-        Err(_) => None,
-    }
+    text.parse::<u64>().ok()
 }
 
 /// A number from 1.
@@ -36,20 +33,14 @@ pub fn find_positive(text: &str) -> Option<usize>
 fn find_signed(text: &str) -> Option<i32>
     ensures { spec.IsSigned text.now result }
 {
-    match text.parse::<i32>() {
-        Ok(number) => Some(number),
-        Err(_) => None,
-    }
+    text.parse::<i32>().ok()
 }
 
 /// The parts with a year.
 pub fn find_yeared(text: &str, parts: Parsed) -> Option<Parsed>
     ensures { spec.IsYeared greatest_year text.now parts result }
 {
-    match find_signed(text) {
-        Some(year) => parts.with_year(year),
-        None => None,
-    }
+    parts.with_year(find_signed(text)?)
 }
 
 /// The byte that ends a field; `\t` is TAB.
@@ -82,16 +73,12 @@ pub fn find_digits(text: &str) -> Option<FractionDigits>
 pub fn find_shows(text: &str, is_terminal: bool) -> Option<bool>
     ensures { result ≡ spec.shows_of text.now is_terminal }
 {
-    if text == "auto" {
-        return Some(is_terminal);
+    match text {
+        "auto" => Some(is_terminal),
+        "always" => Some(true),
+        "never" => Some(false),
+        _ => None,
     }
-    if text == "always" {
-        return Some(true);
-    }
-    if text == "never" {
-        return Some(false);
-    }
-    None
 }
 
 // The items of an offset such as `+05:30`.
@@ -99,14 +86,14 @@ fn offset_items() -> [BorrowedFormatItem<'static>; 3]
     ensures { map borrowed_shape result ≡ spec.offset_parts }
 {
     [
-        BorrowedFormatItem::Component(Component::OffsetHour(modifier::OffsetHour {
+        item!(OffsetHour {
             padding: Padding::Zero,
-            sign_is_mandatory: true,
-        })),
-        BorrowedFormatItem::StringLiteral(":"),
-        BorrowedFormatItem::Component(Component::OffsetMinute(modifier::OffsetMinute {
-            padding: Padding::Zero,
-        })),
+            sign_is_mandatory: true
+        }),
+        item!(":"),
+        item!(OffsetMinute {
+            padding: Padding::Zero
+        }),
     ]
 }
 
@@ -139,10 +126,7 @@ pub fn find_zone(text: &str) -> Option<Option<UtcOffset>>
     if text == "utc" {
         return Some(Some(UtcOffset::UTC));
     }
-    match find_offset(text) {
-        Some(offset) => Some(Some(offset)),
-        None => None,
-    }
+    Some(Some(find_offset(text)?))
 }
 
 // A record of the offset alone.
@@ -160,8 +144,5 @@ fn record_of(offset: UtcOffset) -> Option<Parsed>
 pub fn find_offset_record(text: &str) -> Option<Parsed>
     ensures { spec.IsOffsetRecord greatest_year text.now result }
 {
-    match find_offset(text) {
-        Some(offset) => record_of(offset),
-        None => None,
-    }
+    record_of(find_offset(text)?)
 }

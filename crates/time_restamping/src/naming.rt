@@ -64,33 +64,34 @@ fn described_way(name: &[u8]) -> Way<'_>
     }
 }
 
+// The value beside the first of these names that the bytes are, or else the last one.
+macro_rules! value_named {
+    ($bytes:expr, $($name:literal => $value:expr,)+ _ => $otherwise:expr) => {
+        $(if $bytes == $name.as_slice() { $value } else)+ { $otherwise }
+    };
+}
+
 // How the format is named.
 fn find_way(name: &[u8]) -> Way<'_>
     ensures { spec.seen_way result ≡ spec.way_of name.now }
 {
-    if name == b"rfc3339".as_slice() {
-        Way::Rfc3339
-    } else if name == b"rfc2822".as_slice() {
-        Way::Rfc2822
-    } else if name == b"iso8601".as_slice() {
-        Way::Iso8601
-    } else if name == b"unix".as_slice() {
-        Way::Counted(b"[unix_timestamp][optional [.[subsecond]]]")
-    } else if name == b"unix-ms".as_slice() {
-        Way::Brackets(b"[unix_timestamp precision:millisecond]")
-    } else if name == b"unix-us".as_slice() {
-        Way::Brackets(b"[unix_timestamp precision:microsecond]")
-    } else if name == b"unix-ns".as_slice() {
-        Way::Brackets(b"[unix_timestamp precision:nanosecond]")
-    } else if name == b"common".as_slice() {
-        Way::Complete(
+    value_named!(
+        name,
+        b"rfc3339" => Way::Rfc3339,
+        b"rfc2822" => Way::Rfc2822,
+        b"iso8601" => Way::Iso8601,
+        b"unix" => Way::Counted(b"[unix_timestamp][optional [.[subsecond]]]"),
+        b"unix-ms" => Way::Brackets(b"[unix_timestamp precision:millisecond]"),
+        b"unix-us" => Way::Brackets(b"[unix_timestamp precision:microsecond]"),
+        b"unix-ns" => Way::Brackets(b"[unix_timestamp precision:nanosecond]"),
+        b"common" => Way::Complete(
             b"[day]/[month repr:short]/[year]:[hour]:[minute]:[second] [offset_hour sign:mandatory][offset_minute]",
-        )
-    } else if name == b"syslog".as_slice() {
-        Way::Brackets(b"[month repr:short] [day padding:space] [hour]:[minute]:[second]")
-    } else {
-        described_way(name)
-    }
+        ),
+        b"syslog" => Way::Brackets(
+            b"[month repr:short] [day padding:space] [hour]:[minute]:[second]",
+        ),
+        _ => described_way(name)
+    )
 }
 
 // What the text describes in brackets.
@@ -98,10 +99,7 @@ fn bracketed(text: &[u8]) -> Result<Description<MOST_STEPS>, FormatFault<'_>>
     ensures { MatchResult result (λ description. Describes (version_of 2) text.now (shape description))
         (λ fault. spec.IsFault (spec.brackets text.now) (spec.fault_of fault)) }
 {
-    match parse_borrowed::<2, MOST_STEPS>(text) {
-        Ok(description) => Ok(description),
-        Err(error) => Err(FormatFault::Description(error)),
-    }
+    parse_borrowed::<2, MOST_STEPS>(text).map_err(FormatFault::Description)
 }
 
 // What the text describes as strftime has it.
@@ -109,10 +107,7 @@ fn lettered(text: &[u8]) -> Result<Description<MOST_STEPS>, FormatFault<'_>>
     ensures { MatchResult result (λ description. DescribesStrftime text.now (shape description))
         (λ fault. spec.IsFault (spec.strftime text.now) (spec.fault_of fault)) }
 {
-    match parse_strftime::<MOST_STEPS>(text) {
-        Ok(description) => Ok(description),
-        Err(error) => Err(FormatFault::Description(error)),
-    }
+    parse_strftime::<MOST_STEPS>(text).map_err(FormatFault::Description)
 }
 
 /// The format of that name: `rfc3339`, `rfc2822`, `iso8601`, `common`, `syslog`, `unix`, `unix-ms`, `unix-us` or
@@ -139,23 +134,17 @@ pub fn find_reading(name: &[u8]) -> Result<Reading, FormatFault<'_>>
 fn find_named(name: &[u8]) -> Option<Named>
     ensures { result ≡ spec.writing_named name.now }
 {
-    if name == b"rfc3339".as_slice() {
-        Some(Named::Rfc3339)
-    } else if name == b"rfc2822".as_slice() {
-        Some(Named::Rfc2822)
-    } else if name == b"iso8601".as_slice() {
-        Some(Named::Iso8601)
-    } else if name == b"unix".as_slice() {
-        Some(Named::Count(Unit::Seconds))
-    } else if name == b"unix-ms".as_slice() {
-        Some(Named::Count(Unit::Milliseconds))
-    } else if name == b"unix-us".as_slice() {
-        Some(Named::Count(Unit::Microseconds))
-    } else if name == b"unix-ns".as_slice() {
-        Some(Named::Count(Unit::Nanoseconds))
-    } else {
-        None
-    }
+    value_named!(
+        name,
+        b"rfc3339" => Some(Named::Rfc3339),
+        b"rfc2822" => Some(Named::Rfc2822),
+        b"iso8601" => Some(Named::Iso8601),
+        b"unix" => Some(Named::Count(Unit::Seconds)),
+        b"unix-ms" => Some(Named::Count(Unit::Milliseconds)),
+        b"unix-us" => Some(Named::Count(Unit::Microseconds)),
+        b"unix-ns" => Some(Named::Count(Unit::Nanoseconds)),
+        _ => None
+    )
 }
 
 // What the text describes, in brackets or as strftime has it.

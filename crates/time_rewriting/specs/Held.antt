@@ -1,17 +1,23 @@
 -- No public contract rests on this file.
 --
 -- What a step of a stream does.
-use Rattle.std.specs.Prelude.{◌≡◌, ℕ, List, [], ◌∷◌, ◌++◌, Option, Result, Ok, Err}
+use Rattle.std.specs.Prelude.{◌≡◌, ℕ, List, [], ◌∷◌, ◌++◌, Option}
 use Rattle.std.specs.Io.KnownBytes.{Appends, Keeps, append_known}
+use Rattle.time_rewriting.specs.declared.fate.Fate.{Fate}
 use Rattle.time_rewriting.specs.declared.fate.Rest.{Rest}
 use Rattle.time_rewriting.specs.declared.fate.Rest.TheVariants.{Absent, Passing, Dropping}
+use Rattle.time_rewriting.specs.declared.settings.File.{File}
 use Rattle.time_rewriting.specs.declared.stop.Stop.{Stop}
 use Rattle.time_rewriting.specs.declared.stop.Stop.TheVariants.{Unread, Unwritten, Refused}
 use Rattle.time_rewriting.specs.declared.stream.Stream.{Stream}
 use Rattle.time_rewriting.specs.Fates.{passed}
 use Rattle.time_rewriting.specs.Lines.{HasNoLf, lines_of}
-use Rattle.time_rewriting.specs.Answers.{Job, State, state}
+use Rattle.time_rewriting.specs.Answers.{Job, job_of, State, state}
 use Rattle.time_rewriting.specs.Streams.{Answered, Stopped}
+
+-- the job of those relations at a file
+abbrev pub job_at : (List ℕ → Fate → Type 0) → (List ℕ → ℕ → List ℕ → Type 0) → File → Job
+job_at is_fate is_reason file = job_of is_fate is_reason file.name.now file.settings
 
 -- what a stream's writer gets once what waits is written
 abbrev pub held_out : {W L : Type 0} → (W → Option (List ℕ)) → Stream W L → Option (List ℕ)
@@ -46,13 +52,6 @@ abbrev pub FailedBy : Stop → Type 0 → Type 0
 FailedBy Unread fact = fact
 FailedBy Unwritten fact = Unit {0}
 FailedBy Refused fact = ⊥
-
--- The work goes on with the next file, and the fact holds.
-abbrev pub WentOn : Result (Unit {0}) Stop → Type 0 → Type 0
-WentOn (Ok done) fact = fact
-WentOn (Err Unread) fact = fact
-WentOn (Err Unwritten) fact = Unit {0}
-WentOn (Err Refused) fact = Unit {0}
 
 -- Bytes came of a line whose front was answered, which doesn't end in them.
 abbrev pub GoesOn : Option (List ℕ) → Option (List ℕ) → Rest → List ℕ → Type 0

@@ -1,59 +1,20 @@
 //! Bytes that were read and are not answered yet.
 ghost use Rattle.std.specs.Io.KnownBytes.{Consumes, Keeps, IsAtEnd};
 ghost use Rattle.std.specs.IoError.{error_kind};
-ghost use Rattle.std.specs.Prelude.{◌≡◌, ◌≢◌, ◌+◌, ◌-◌, ◌<◌, ◌≤◌, ℕ, List, [], ◌++◌, length, take, drop, MatchResult, IsTrue, false};
-ghost use Rattle.time_values.specs.Shown.{Items};
+ghost use Rattle.std.specs.Prelude.{◌≡◌, ◌≢◌, ◌-◌, ◌<◌, ◌≤◌, ℕ, List, [], ◌++◌, length, drop, MatchResult, false};
 ghost use Rattle.time_rewriting.specs.declared.block.TheConstants.{LIMIT};
 
+use crate::held::Held;
 use std::io;
 use std::io::{ErrorKind, Read};
-use std::marker::Model;
 
 /// By how many bytes a line is answered. Its time has to end within them.
 pub const LIMIT: usize = 262144;
 
 /// Bytes that were read and are not answered yet: at most [`LIMIT`].
-#[derive(Drop)]
-pub struct Block {
-    array: [u8; LIMIT],
-    len: usize,
-}
+pub type Block = Held<LIMIT>;
 
-impl Model for Block {
-    ghost Value = { Items };
-
-    ghost view = { λ b. record { items = take b.len b.array } };
-
-    ghost invariant = { λ b. b.len ≤ LIMIT };
-}
-
-impl Block {
-    /// None.
-    pub fn new() -> Block
-        ensures { result.items ≡ [] }
-    {
-        Block {
-            array: [0; LIMIT],
-            len: 0,
-        }
-    }
-
-    /// Whether no byte is held.
-    pub fn is_empty(&self) -> bool
-        ensures empty { IsTrue result → length self.now.items ≡ 0 }
-        ensures some { result ≡ false → 0 < length self.now.items }
-    {
-        self.len == 0
-    }
-
-    /// The bytes.
-    pub fn as_slice(&self) -> &[u8]
-        ensures bytes { result.now ≡ self.now.items }
-        ensures room { length result.now ≤ LIMIT }
-    {
-        &self.array[..self.len]
-    }
-
+impl Held<LIMIT> {
     // Reads once after what is held. 0 is the end.
     fn read_once<R: Read>(&mut self, input: &mut R) -> io::Result<usize>
         requires { length self.old.items < LIMIT }
@@ -98,12 +59,5 @@ impl Block {
     {
         self.array.copy_within(self.len - n..self.len, 0);
         self.len = n;
-    }
-
-    /// Forgets them.
-    pub fn clear(&mut self)
-        ensures { self.new.items ≡ [] }
-    {
-        self.len = 0;
     }
 }

@@ -2,7 +2,6 @@
 ghost use Rattle.std.specs.Prelude.{◌≡◌, ◌≢◌, ℕ, List, IfErr, IfOk, IfSome, OnOk, map, Option};
 ghost use Rattle.time_rewriting.specs.Answers.{job_of};
 ghost use Rattle.time_rewriting.specs.Files.{DidFile, DidFiles, StoppedIn};
-ghost use Rattle.time_rewriting.specs.Held.{WentOn};
 ghost use Rattle.time_rewriting.specs.Streams.{state_of, DidBefore};
 
 use crate::block::Block;
@@ -27,29 +26,7 @@ pub trait Opening {
 }
 
 impl<W: Write, L: Write> Stream<W, L> {
-    // Opens a file, and answers all its lines.
-    fn serve_file<T: Rewriting, O: Opening>(
-        &mut self,
-        rewriting: &T,
-        settings: Settings,
-        name: &[u8],
-        opening: &O,
-        block: &mut Block,
-    ) -> Result<(), Stop>
-        ensures file { WentOn result
-            (DidFile (job_of (T.is_fate rewriting.now) (T.is_reason rewriting.now) name.now settings) (O.bytes_of opening.now name.now)
-            (state_of W.contents L.contents self.old) (state_of W.contents L.contents self.new)) }
-        ensures refused { IfErr result (λ stop. stop ≡ Stop.Refused → IfSome (O.bytes_of opening.now name.now)
-            (DidBefore (job_of (T.is_fate rewriting.now) (T.is_reason rewriting.now) name.now settings)
-            (state_of W.contents L.contents self.old) (state_of W.contents L.contents self.new))) }
-    {
-        match opening.open(name) {
-            Ok(mut input) => self.serve(rewriting, settings, name, &mut input, block),
-            Err(e) => Err(self.fail(&File { name, settings }, &e)),
-        }
-    }
-
-    // The same. A file that was not read to its end stops nothing.
+    // Opens a file, and answers all its lines. One that was not read to its end stops nothing.
     fn serve_next<T: Rewriting, O: Opening>(
         &mut self,
         rewriting: &T,
@@ -66,7 +43,11 @@ impl<W: Write, L: Write> Stream<W, L> {
             (DidBefore (job_of (T.is_fate rewriting.now) (T.is_reason rewriting.now) name.now settings)
             (state_of W.contents L.contents self.old) (state_of W.contents L.contents self.new))) }
     {
-        match self.serve_file(rewriting, settings, name, opening, block) {
+        let served = match opening.open(name) {
+            Ok(mut input) => self.serve(rewriting, settings, name, &mut input, block),
+            Err(e) => Err(self.fail(&File { name, settings }, &e)),
+        };
+        match served {
             Ok(()) | Err(Stop::Unread) => Ok(()),
             Err(stop) => Err(stop),
         }

@@ -5,6 +5,7 @@ mod block;
 mod ending;
 mod fate;
 mod files;
+mod held;
 mod laws;
 mod lines;
 mod message;

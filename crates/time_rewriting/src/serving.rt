@@ -2,7 +2,7 @@
 ghost use Rattle.std.specs.Prelude.{◌≡◌, ◌≤◌, IfOk, IfErr, IfSome, MatchOption, [], OnOk, length, ℕ, List};
 ghost use Rattle.time_rewriting.specs.Answers.{Did, DidAll, State, job_of};
 ghost use Rattle.time_rewriting.specs.Fates.{HasFront};
-ghost use Rattle.time_rewriting.specs.Held.{held_out, held_state, Continues, Stops, StoppedBy, GoesOn, Ends};
+ghost use Rattle.time_rewriting.specs.Held.{held_out, held_state, job_at, Continues, Stops, StoppedBy, GoesOn, Ends};
 ghost use Rattle.time_rewriting.specs.Lines.{HasNoLf, EndsWith, lines_of};
 ghost use Rattle.time_rewriting.specs.Streams.{state_of, IsHeld, Served, Stopped, Fails, DidSome, DidBefore};
 ghost use Rattle.time_rewriting.specs.declared.block.TheConstants.{LIMIT};
@@ -55,11 +55,11 @@ impl<W: Write, L: Write> Stream<W, L> {
     ) -> Result<&'a [u8], Stop>
         requires { length bytes.now ≤ LIMIT }
         ensures ok { IfOk result (λ left. HasNoLf left.now × EndsWith bytes.now left.now
-            × Continues (job_of (T.is_fate rewriting.now) (T.is_reason rewriting.now) file.now.name.now file.now.settings)
+            × Continues (job_at (T.is_fate rewriting.now) (T.is_reason rewriting.now) file.now)
             (held_state W.contents L.contents self.old) (held_state W.contents L.contents self.new)
             Rest.Absent bytes.now Rest.Absent left.now) }
         ensures err { IfErr result (λ stop. StoppedBy stop
-            (Stops (job_of (T.is_fate rewriting.now) (T.is_reason rewriting.now) file.now.name.now file.now.settings)
+            (Stops (job_at (T.is_fate rewriting.now) (T.is_reason rewriting.now) file.now)
             (held_state W.contents L.contents self.old) (held_state W.contents L.contents self.new) Rest.Absent bytes.now)) }
     {
         let mut left = bytes;
@@ -82,13 +82,13 @@ impl<W: Write, L: Write> Stream<W, L> {
         rest: &mut Rest,
     ) -> Result<(), Stop>
         ensures held { OnOk result
-            (IsHeld (job_of (T.is_fate rewriting.now) (T.is_reason rewriting.now) file.now.name.now file.now.settings) rest.new block.new.items) }
+            (IsHeld (job_at (T.is_fate rewriting.now) (T.is_reason rewriting.now) file.now) rest.new block.new.items) }
         ensures ok { OnOk result
-            (Continues (job_of (T.is_fate rewriting.now) (T.is_reason rewriting.now) file.now.name.now file.now.settings)
+            (Continues (job_at (T.is_fate rewriting.now) (T.is_reason rewriting.now) file.now)
             (held_state W.contents L.contents self.old) (held_state W.contents L.contents self.new)
             rest.old block.old.items rest.new block.new.items) }
         ensures err { IfErr result (λ stop. StoppedBy stop
-            (Stops (job_of (T.is_fate rewriting.now) (T.is_reason rewriting.now) file.now.name.now file.now.settings)
+            (Stops (job_at (T.is_fate rewriting.now) (T.is_reason rewriting.now) file.now)
             (held_state W.contents L.contents self.old) (held_state W.contents L.contents self.new) rest.old block.old.items)) }
     {
         let Ok(ended) = self.end_line(block.as_slice(), rest) else {
@@ -120,13 +120,13 @@ impl<W: Write, L: Write> Stream<W, L> {
         requires { self.old.waiting.items ≡ [] }
         ensures none { OnOk result (self.new.waiting.items ≡ []) }
         ensures held { OnOk result
-            (IsHeld (job_of (T.is_fate rewriting.now) (T.is_reason rewriting.now) file.now.name.now file.now.settings) rest.new block.new.items) }
+            (IsHeld (job_at (T.is_fate rewriting.now) (T.is_reason rewriting.now) file.now) rest.new block.new.items) }
         ensures ok { OnOk result
-            (Continues (job_of (T.is_fate rewriting.now) (T.is_reason rewriting.now) file.now.name.now file.now.settings)
+            (Continues (job_at (T.is_fate rewriting.now) (T.is_reason rewriting.now) file.now)
             (state_of W.contents L.contents self.old) (state_of W.contents L.contents self.new)
             rest.old block.old.items rest.new block.new.items) }
         ensures err { IfErr result (λ stop. StoppedBy stop
-            (Stops (job_of (T.is_fate rewriting.now) (T.is_reason rewriting.now) file.now.name.now file.now.settings)
+            (Stops (job_at (T.is_fate rewriting.now) (T.is_reason rewriting.now) file.now)
             (state_of W.contents L.contents self.old) (state_of W.contents L.contents self.new) rest.old block.old.items)) }
     {
         let answered = self.answer_block(rewriting, file, block, rest);
@@ -146,10 +146,10 @@ impl<W: Write, L: Write> Stream<W, L> {
         requires none { self.old.waiting.items ≡ [] }
         requires begun { HasNoLf block.now.items }
         ensures ok { OnOk result ((fates : List Fate)
-            × Did (job_of (T.is_fate rewriting.now) (T.is_reason rewriting.now) file.now.name.now file.now.settings)
+            × Did (job_at (T.is_fate rewriting.now) (T.is_reason rewriting.now) file.now)
             (state_of W.contents L.contents self.old) (state_of W.contents L.contents self.new) (lines_of block.now.items) fates) }
         ensures err { IfErr result (λ stop. StoppedBy stop
-            (Stopped (job_of (T.is_fate rewriting.now) (T.is_reason rewriting.now) file.now.name.now file.now.settings)
+            (Stopped (job_at (T.is_fate rewriting.now) (T.is_reason rewriting.now) file.now)
             (state_of W.contents L.contents self.old) (state_of W.contents L.contents self.new) (lines_of block.now.items))) }
     {
         if block.is_empty() {
@@ -176,14 +176,14 @@ impl<W: Write, L: Write> Stream<W, L> {
         requires waiting { self.old.waiting.items ≡ [] }
         requires block { block.old.items ≡ [] }
         ensures ok { OnOk result (IfSome (R.remaining input.old) (λ bytes. (fates : List Fate)
-            × Did (job_of (T.is_fate rewriting.now) (T.is_reason rewriting.now) file.now.name.now file.now.settings)
+            × Did (job_at (T.is_fate rewriting.now) (T.is_reason rewriting.now) file.now)
             (state_of W.contents L.contents self.old) (state_of W.contents L.contents self.new) (lines_of bytes) fates)) }
         ensures unread { IfErr result (λ stop. stop ≡ Stop.Unread → (answered : State) × (rest : Rest) × (held : List ℕ)
-            × Served (job_of (T.is_fate rewriting.now) (T.is_reason rewriting.now) file.now.name.now file.now.settings) (R.remaining input.old) (R.remaining input.new)
+            × Served (job_at (T.is_fate rewriting.now) (T.is_reason rewriting.now) file.now) (R.remaining input.old) (R.remaining input.new)
             (state_of W.contents L.contents self.old) answered rest held
             × Fails file.now.name.now answered (state_of W.contents L.contents self.new)) }
         ensures refused { IfErr result (λ stop. stop ≡ Stop.Refused → IfSome (R.remaining input.old) (λ bytes.
-            Stopped (job_of (T.is_fate rewriting.now) (T.is_reason rewriting.now) file.now.name.now file.now.settings)
+            Stopped (job_at (T.is_fate rewriting.now) (T.is_reason rewriting.now) file.now)
             (state_of W.contents L.contents self.old) (state_of W.contents L.contents self.new) (lines_of bytes))) }
     {
         let mut rest = Rest::Absent;

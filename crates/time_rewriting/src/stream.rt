@@ -1,9 +1,9 @@
 //! Where answers go.
 ghost use Rattle.std.specs.Io.KnownBytes.{Appends};
 ghost use Rattle.std.specs.Prelude.{◌≡◌, ◌≤◌, ℕ, List, IfOk, IfErr, [], ◌∷◌, OnOk, length, IsTrue, false};
-ghost use Rattle.time_rewriting.specs.Answers.{Did, IsNaming, IsReport, Closes, job_of};
+ghost use Rattle.time_rewriting.specs.Answers.{Did, IsNaming, IsReport, Closes};
 ghost use Rattle.time_rewriting.specs.Fates.{IsWithin, front_text, passed, rest_of, nothing_counted};
-ghost use Rattle.time_rewriting.specs.Held.{held_out, held_state, Settles, StoppedBy, FailedBy};
+ghost use Rattle.time_rewriting.specs.Held.{held_out, held_state, job_at, Settles, StoppedBy, FailedBy};
 ghost use Rattle.time_rewriting.specs.Lines.{unended};
 ghost use Rattle.time_rewriting.specs.Reports.{more_text, unread_text};
 ghost use Rattle.time_rewriting.specs.Streams.{RefusedAt, Fails, state_of};
@@ -143,10 +143,7 @@ impl<W: Write, L: Write> Stream<W, L> {
         ensures none { OnOk result (self.new.waiting.items ≡ []) }
     {
         self.waiting.write_all_to(&mut self.out)?;
-        match self.log.flush() {
-            Ok(()) => Ok(()),
-            Err(_) => Err(Unwritten),
-        }
+        self.log.flush().map_err(|_| Unwritten)
     }
 
     // Puts what goes out for the front of a line.
@@ -183,7 +180,7 @@ impl<W: Write, L: Write> Stream<W, L> {
     ) -> io::Result<()>
         requires { T.is_fate rewriting.now front.now Fate.Refused }
         ensures reported { OnOk result ((report : List ℕ)
-            × IsNaming (job_of (T.is_fate rewriting.now) (T.is_reason rewriting.now) file.now.name.now file.now.settings) self.old.tally front.now report
+            × IsNaming (job_at (T.is_fate rewriting.now) (T.is_reason rewriting.now) file.now) self.old.tally front.now report
             × Appends (L.contents self.old.log) (L.contents self.new.log) report) }
         ensures out { self.new.out ≡ self.old.out }
         ensures waiting { self.new.waiting ≡ self.old.waiting }
@@ -206,7 +203,7 @@ impl<W: Write, L: Write> Stream<W, L> {
     ) -> Result<(), Unwritten>
         requires { T.is_fate rewriting.now front.now fate.now }
         ensures reported { OnOk result ((report : List ℕ)
-            × IsReport (job_of (T.is_fate rewriting.now) (T.is_reason rewriting.now) file.now.name.now file.now.settings) self.old.tally front.now fate.now report
+            × IsReport (job_at (T.is_fate rewriting.now) (T.is_reason rewriting.now) file.now) self.old.tally front.now fate.now report
             × Appends (L.contents self.old.log) (L.contents self.new.log) report) }
         ensures out { self.new.out ≡ self.old.out }
         ensures waiting { self.new.waiting ≡ self.old.waiting }
@@ -231,11 +228,11 @@ impl<W: Write, L: Write> Stream<W, L> {
     ) -> Result<Rest, Stop>
         requires { length front.now ≤ LIMIT }
         ensures ok { IfOk result (λ rest. (fate : Fate) × (rest_of file.now.settings.output fate ≡ rest)
-            × Did (job_of (T.is_fate rewriting.now) (T.is_reason rewriting.now) file.now.name.now file.now.settings)
+            × Did (job_at (T.is_fate rewriting.now) (T.is_reason rewriting.now) file.now)
             (held_state W.contents L.contents self.old) (held_state W.contents L.contents self.new)
             (unended front.now ∷ []) (fate ∷ [])) }
         ensures err { IfErr result (λ stop. StoppedBy stop
-            (RefusedAt (job_of (T.is_fate rewriting.now) (T.is_reason rewriting.now) file.now.name.now file.now.settings)
+            (RefusedAt (job_at (T.is_fate rewriting.now) (T.is_reason rewriting.now) file.now)
             (held_state W.contents L.contents self.old) (held_state W.contents L.contents self.new) front.now)) }
     {
         let fate = rewriting.fate(front);

@@ -1,11 +1,9 @@
 //! Bytes that wait for one write.
 ghost use Rattle.std.specs.Io.KnownBytes.{Appends, append_known};
-ghost use Rattle.std.specs.Prelude.{◌≡◌, ◌≤◌, [], ◌++◌, take, OnOk};
-ghost use Rattle.time_values.specs.Shown.{Items};
-ghost use Rattle.time_rewriting.specs.declared.waiting.TheConstants.{MOST};
+ghost use Rattle.std.specs.Prelude.{◌≡◌, [], OnOk};
 
+use crate::held::Held;
 use std::io::Write;
-use std::marker::Model;
 
 /// A write failed. The reason is left out, since an error of 96 bytes would be handed on for each line.
 #[derive(Clone, Copy)]
@@ -15,31 +13,9 @@ pub struct Unwritten;
 const MOST: usize = 65536;
 
 /// Bytes that wait for one write.
-#[derive(Drop)]
-pub struct Waiting {
-    array: [u8; MOST],
-    len: usize,
-}
+pub type Waiting = Held<MOST>;
 
-impl Model for Waiting {
-    ghost Value = { Items };
-
-    ghost view = { λ w. record { items = take w.len w.array } };
-
-    ghost invariant = { λ w. w.len ≤ MOST };
-}
-
-impl Waiting {
-    /// None.
-    pub fn new() -> Waiting
-        ensures { result.items ≡ [] }
-    {
-        Waiting {
-            array: [0; MOST],
-            len: 0,
-        }
-    }
-
+impl Held<MOST> {
     /// Writes what waits.
     pub fn write_all_to<W: Write>(&mut self, out: &mut W) -> Result<(), Unwritten>
         ensures written { OnOk result (Appends (W.contents out.old) (W.contents out.new) self.old.items) }
@@ -80,16 +56,6 @@ impl Waiting {
             (append_known (W.contents out.new) self.new.items) bytes.now) }
     {
         self.write_all_to(out)?;
-        match out.write_all(bytes) {
-            Ok(()) => Ok(()),
-            Err(_) => Err(Unwritten),
-        }
-    }
-
-    /// Forgets them.
-    pub fn clear(&mut self)
-        ensures { self.new.items ≡ [] }
-    {
-        self.len = 0;
+        out.write_all(bytes).map_err(|_| Unwritten)
     }
 }

@@ -1,9 +1,10 @@
 use Rattle.std.proofs.Common.{◌≡◌, ◌++◌, [], refl, subst, sym, append-nil, arith}
+use Rattle.std.proofs.KnownBytes.{Keeps-refl}
 use Rattle.std.specs.Io.KnownBytes.{Keeps, append_known}
 use Rattle.std.proofs.lemmas.Grind.{common_steps}
 use Rattle.time_answers.specs.Lines.{lines_of}
 use Rattle.time_answers.specs.Output.{AreAnswers}
-use Rattle.time_answers.proofs.OutputLemmas.{AreAnswers-more, Appends-waiting, Writes-waiting, append_known-none, Keeps-same}
+use Rattle.time_answers.proofs.OutputLemmas.{AreAnswers-more, Appends-waiting, Writes-waiting, append_known-none}
 use Rattle.time_answers.proofs.serving.run.Goals as goal
 use Rattle.time_answers.proofs.serving.run.Goals.{then-is_nearly_full+in_ok-write_all_to, else-is_nearly_full}
 
@@ -15,10 +16,10 @@ loop-rest-preserved g c =
     let so_far = c.loop-rest.invariant in
     let more = c.in-Ok.ensures in
     let kept
-    : Keeps (append_known (g.W.Write.contents c.loop-rest.out) c.loop-rest.waiting.bytes.items)
-    (append_known (g.W.Write.contents c.if-is_nearly_full.out) c.if-is_nearly_full.waiting.bytes.items) = elim c.if-is_nearly_full.branch [
+    : Keeps (append_known (g.W.Write.contents c.loop-rest.out) c.loop-rest.waiting.items)
+    (append_known (g.W.Write.contents c.if-is_nearly_full.out) c.if-is_nearly_full.waiting.items) = elim c.if-is_nearly_full.branch [
       | then-is_nearly_full+in_ok-write_all_to w ↦ rw (w.out-is, w.waiting-is) w.in_ok-write_all_to.ensures.moved
-      | else-is_nearly_full w ↦ rw (w.out-is, w.waiting-is) (Keeps-same _)
+      | else-is_nearly_full w ↦ rw (w.out-is, w.waiting-is) (Keeps-refl _)
     ] in (
       so_far.0 ++ more.0,
       Appends-waiting _ _ _ _ _ _ _ _ so_far.1 kept more.2,

@@ -7,7 +7,7 @@ use Rattle.time_answers.proofs.serving.run.Given as goal
 
 abbrev pub invariant-loop-rest : goal.invariant-loop-rest
 invariant-loop-rest g l = (written : List ℕ)
-    × Appends (g.W.Write.contents l.initial.out) (append_known (g.W.Write.contents l.out) l.waiting.bytes.items) written
+    × Appends (g.W.Write.contents l.initial.out) (append_known (g.W.Write.contents l.out) l.waiting.items) written
     × ((others : List ℕ) → AreAnswers (g.A.Answering.is_answer l.answering) (lines_of l.rest) others
     → AreAnswers (g.A.Answering.is_answer l.answering) (lines_of l.initial.rest) (written ++ others))
 

@@ -1,7 +1,7 @@
 use Rattle.std.proofs.Common.{lit<, Err, rules, [], ◌≡◌, refl, sym, ap, arith, ◌∙◌, length, drop, ◌-◌, ℕ, List}
 use Rattle.time_rewriting.specs.declared.fate.Rest.TheVariants.{Absent}
-use Rattle.time_rewriting.specs.Answers.{State, job_of}
-use Rattle.time_rewriting.specs.Held.{held_state, held_out}
+use Rattle.time_rewriting.specs.Answers.{State}
+use Rattle.time_rewriting.specs.Held.{held_state, held_out, job_at}
 use Rattle.time_rewriting.proofs.AnsweredLemmas.{Continues-then, Continues-same, Answered-begun, Ends-held, GoesOn-held}
 use Rattle.time_rewriting.proofs.LinesLemmas.{EndsWith-then, left_of, left_fills}
 use Rattle.time_rewriting.proofs.ServedLemmas.{IsHeld-left}
@@ -10,9 +10,7 @@ use Rattle.time_rewriting.proofs.stream.Stream.answer_block.Goals as goal
 
 pub returns-in_default-ended-clause-ok : goal.returns-in_default-ended-clause-ok
 returns-in_default-ended-clause-ok g c =
-    let job =
-    job_of (g.T.Rewriting.is_fate c.args.rewriting.now) (g.T.Rewriting.is_reason c.args.rewriting.now)
-    c.args.file.now.name.now c.args.file.now.settings in
+    let job = job_at (g.T.Rewriting.is_fate c.args.rewriting.now) (g.T.Rewriting.is_reason c.args.rewriting.now) c.args.file.now in
     let cut = rw c.in_default-ended.is at c.in-Ok.ensures.line in
     let old : State = held_state g.W.Write.contents g.L.Write.contents c.args.self.now in
     Continues-same job old _ _ _ _ _ _ _ _
@@ -22,9 +20,7 @@ returns-in_default-ended-clause-ok g c =
 
 pub returns-then-n-lt-LIMIT-clause-held : goal.returns-then-n-lt-LIMIT-clause-held
 returns-then-n-lt-LIMIT-clause-held g c =
-    let job =
-    job_of (g.T.Rewriting.is_fate c.args.rewriting.now) (g.T.Rewriting.is_reason c.args.rewriting.now)
-    c.args.file.now.name.now c.args.file.now.settings in
+    let job = job_at (g.T.Rewriting.is_fate c.args.rewriting.now) (g.T.Rewriting.is_reason c.args.rewriting.now) c.args.file.now in
     let cut = rw c.in-Some.is at c.in-Ok.ensures.line in
     let lines = c.in_ok-left.ensures.ok in
     IsHeld-left job _ c.in_ok-left.left.now _ cut.0 lines.0 c.if-n-lt-LIMIT.true
@@ -33,9 +29,7 @@ returns-then-n-lt-LIMIT-clause-held g c =
 
 pub returns-then-n-lt-LIMIT-clause-ok : goal.returns-then-n-lt-LIMIT-clause-ok
 returns-then-n-lt-LIMIT-clause-ok g c =
-    let job =
-    job_of (g.T.Rewriting.is_fate c.args.rewriting.now) (g.T.Rewriting.is_reason c.args.rewriting.now)
-    c.args.file.now.name.now c.args.file.now.settings in
+    let job = job_at (g.T.Rewriting.is_fate c.args.rewriting.now) (g.T.Rewriting.is_reason c.args.rewriting.now) c.args.file.now in
     let cut = rw c.in-Some.is at c.in-Ok.ensures.line in
     let lines = c.in_ok-left.ensures.ok in
     let bytes = c.as_slice.ensures.bytes in
@@ -50,9 +44,7 @@ returns-then-n-lt-LIMIT-clause-ok g c =
 
 pub returns-clause-ok : goal.returns-clause-ok
 returns-clause-ok g c =
-    let job =
-    job_of (g.T.Rewriting.is_fate c.args.rewriting.now) (g.T.Rewriting.is_reason c.args.rewriting.now)
-    c.args.file.now.name.now c.args.file.now.settings in
+    let job = job_at (g.T.Rewriting.is_fate c.args.rewriting.now) (g.T.Rewriting.is_reason c.args.rewriting.now) c.args.file.now in
     let cut = rw c.in-Some.is at c.in-Ok.ensures.line in
     let lines = c.in_ok-left.ensures.ok in
     let begun = c.in_ok-rest.ensures.ok in
@@ -67,9 +59,7 @@ returns-clause-ok g c =
 
 pub returns-in_err-left-clause-err : goal.returns-in_err-left-clause-err
 returns-in_err-left-clause-err g c =
-    let job =
-    job_of (g.T.Rewriting.is_fate c.args.rewriting.now) (g.T.Rewriting.is_reason c.args.rewriting.now)
-    c.args.file.now.name.now c.args.file.now.settings in
+    let job = job_at (g.T.Rewriting.is_fate c.args.rewriting.now) (g.T.Rewriting.is_reason c.args.rewriting.now) c.args.file.now in
     let cut = rw c.in-Some.is at c.in-Ok.ensures.line in
     let old : State = held_state g.W.Write.contents g.L.Write.contents c.args.self.now in
     let handed : c.from_residual.result ≡ Err c.in_err-left.field-0.0 = search rules in
@@ -83,9 +73,7 @@ returns-in_err-left-clause-err g c =
 
 pub returns-in_err-rest-clause-err : goal.returns-in_err-rest-clause-err
 returns-in_err-rest-clause-err g c =
-    let job =
-    job_of (g.T.Rewriting.is_fate c.args.rewriting.now) (g.T.Rewriting.is_reason c.args.rewriting.now)
-    c.args.file.now.name.now c.args.file.now.settings in
+    let job = job_at (g.T.Rewriting.is_fate c.args.rewriting.now) (g.T.Rewriting.is_reason c.args.rewriting.now) c.args.file.now in
     let cut = rw c.in-Some.is at c.in-Ok.ensures.line in
     let lines = c.in_ok-left.ensures.ok in
     let left = c.in_ok-left.left.now in

@@ -1,6 +1,7 @@
 use Rattle.std.proofs.Common.{◌≡◌, Err, rules, sym, ap, subst}
 use Rattle.time_rewriting.specs.declared.fate.Rest.TheVariants.{Absent}
-use Rattle.time_rewriting.specs.Answers.{State, job_of}
+use Rattle.time_rewriting.specs.Answers.{State}
+use Rattle.time_rewriting.specs.Held.{job_at}
 use Rattle.time_rewriting.specs.Streams.{Answered}
 use Rattle.time_rewriting.proofs.AnsweredLemmas.{Answered-line}
 use Rattle.time_rewriting.proofs.DidLemmas.{same_state}
@@ -12,9 +13,7 @@ pub loop-line-preserved : goal.loop-line-preserved
 loop-line-preserved g c =
     let line = c.in-Some.line.now in
     let begun = c.in_ok-rest.ensures.ok in
-    let job =
-    job_of (g.T.Rewriting.is_fate c.args.rewriting.now) (g.T.Rewriting.is_reason c.args.rewriting.now)
-    c.args.file.now.name.now c.args.file.now.settings in (
+    let job = job_at (g.T.Rewriting.is_fate c.args.rewriting.now) (g.T.Rewriting.is_reason c.args.rewriting.now) c.args.file.now in (
       EndsWith-line c.args.bytes.now c.loop-line.left.now line c.in-Some.after.now c.loop-line.invariant.0 c.in-Some.ensures.0,
       λ before read p.
           subst (λ (s : State). Answered job before s read Absent c.in-Some.after.now)
@@ -25,9 +24,7 @@ loop-line-preserved g c =
 
 pub returns-in_err-rest-clause-err : goal.returns-in_err-rest-clause-err
 returns-in_err-rest-clause-err g c =
-    let job =
-    job_of (g.T.Rewriting.is_fate c.args.rewriting.now) (g.T.Rewriting.is_reason c.args.rewriting.now)
-    c.args.file.now.name.now c.args.file.now.settings in
+    let job = job_at (g.T.Rewriting.is_fate c.args.rewriting.now) (g.T.Rewriting.is_reason c.args.rewriting.now) c.args.file.now in
     let line = c.in-Some.line.now in
     let left = c.loop-line.left.now in
     let handed : c.from_residual.result ≡ Err c.in_err-rest.field-0.0 = search rules in

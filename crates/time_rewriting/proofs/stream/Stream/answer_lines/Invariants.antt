@@ -1,7 +1,6 @@
 -- All lines before what is left were answered, where what waits counts as written.
 use Rattle.std.proofs.Common.{length}
-use Rattle.time_rewriting.specs.Answers.{job_of}
-use Rattle.time_rewriting.specs.Held.{Continues, held_state}
+use Rattle.time_rewriting.specs.Held.{Continues, held_state, job_at}
 use Rattle.time_rewriting.specs.Lines.{EndsWith}
 use Rattle.time_rewriting.specs.declared.fate.Rest.TheVariants.{Absent}
 use Rattle.time_rewriting.proofs.stream.Stream.answer_lines.Given as goal
@@ -9,7 +8,7 @@ use Rattle.time_rewriting.proofs.stream.Stream.answer_lines.Given as goal
 abbrev pub invariant-loop-line : goal.invariant-loop-line
 invariant-loop-line g l =
     EndsWith l.bytes l.left
-    × Continues (job_of (g.T.Rewriting.is_fate l.rewriting) (g.T.Rewriting.is_reason l.rewriting) l.file.name.now l.file.settings)
+    × Continues (job_at (g.T.Rewriting.is_fate l.rewriting) (g.T.Rewriting.is_reason l.rewriting) l.file)
     (held_state g.W.Write.contents g.L.Write.contents l.initial.self) (held_state g.W.Write.contents g.L.Write.contents l.self)
     Absent l.bytes Absent l.left
 

@@ -1,14 +1,13 @@
 use Rattle.std.proofs.Common.{refl, sym, rules}
 use Rattle.time_rewriting.proofs.DidLemmas.{Did-begun}
-use Rattle.time_rewriting.specs.Answers.{job_of}
-use Rattle.time_rewriting.specs.Held.{held_state}
+use Rattle.time_rewriting.specs.Held.{held_state, job_at}
 use Rattle.time_rewriting.proofs.stream.Stream.begin.Goals as goal
 
 pub returns-clause-ok : goal.returns-clause-ok
 returns-clause-ok g c = (
   c.fate-fate.result,
   sym c.of.ensures,
-  Did-begun (job_of _ _ c.args.file.now.name.now c.args.file.now.settings) (held_state g.W.Write.contents g.L.Write.contents c.args.self.now)
+  Did-begun (job_at _ _ c.args.file.now) (held_state g.W.Write.contents g.L.Write.contents c.args.self.now)
       (held_state g.W.Write.contents g.L.Write.contents c.put_front.new.self) c.args.front.now _ c.in-Ok.ensures.reported.0 c.requires
       c.fate-fate.ensures.fate (c.if-stops_at.ensures.goes_on refl) (search rules) (search rules) (search rules) (search rules),
 )

@@ -1,15 +1,15 @@
 use Rattle.time_rewriting.proofs.AnsweredLemmas.{Continues-settled, held-none}
 use Rattle.time_rewriting.proofs.StoppedLemmas.{Stops-settled}
-use Rattle.time_rewriting.specs.Answers.{job_of}
+use Rattle.time_rewriting.specs.Held.{job_at}
 use Rattle.time_rewriting.proofs.stream.Stream.feed.Goals as goal
 
 pub returns-clause-ok : goal.returns-clause-ok
 returns-clause-ok g c =
-    Continues-settled c.answer_block-answered.result (job_of _ _ c.args.file.now.name.now c.args.file.now.settings) _ _ _ _ _ _ _ _
+    Continues-settled c.answer_block-answered.result (job_at _ _ c.args.file.now) _ _ _ _ _ _ _ _
     (held-none _ _ _ _ c.requires)
     c.answer_block-answered.ensures.ok c.in-Ok.ensures.written
 
 pub returns-clause-err : goal.returns-clause-err
 returns-clause-err g c =
-    Stops-settled c.answer_block-answered.result (job_of _ _ c.args.file.now.name.now c.args.file.now.settings) _ _ _ _ _ _ (held-none _ _ _ _ c.requires)
+    Stops-settled c.answer_block-answered.result (job_at _ _ c.args.file.now) _ _ _ _ _ _ (held-none _ _ _ _ c.requires)
     c.answer_block-answered.ensures.err c.in-Ok.ensures.written

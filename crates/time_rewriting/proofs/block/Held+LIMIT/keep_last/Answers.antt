@@ -1,7 +1,7 @@
 use Rattle.std.proofs.Common.{arith, ap, ◌∙◌, take}
 use Rattle.time_values.specs.Shown.{Items}
 use Rattle.time_rewriting.proofs.BlockLemmas.{kept_last}
-use Rattle.time_rewriting.proofs.block.Block.keep_last.Goals as goal
+use Rattle.time_rewriting.proofs.block.Held+LIMIT.keep_last.Goals as goal
 
 pub returns : goal.returns
 returns c =

@@ -2,7 +2,7 @@ use Rattle.std.proofs.Common.{ap, length, take, arith}
 use Rattle.std.proofs.lemmas.List.{length-take-le}
 use Rattle.time_values.specs.Shown.{Items}
 use Rattle.time_rewriting.proofs.BlockLemmas.{filled}
-use Rattle.time_rewriting.proofs.block.Block.read_once.Goals as goal
+use Rattle.time_rewriting.proofs.block.Held+LIMIT.read_once.Goals as goal
 
 pub returns : goal.returns
 returns g c = (

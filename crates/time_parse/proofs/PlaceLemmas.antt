@@ -1,7 +1,9 @@
 -- What is written of a place, part by part.
-use Rattle.std.proofs.Common.{◌≡◌, ◌∙◌, ℕ, ◌+◌, ◌<◌, List, [], ◌∷◌, ◌++◌, length, map, take, get_or, append-nil, add-one, Option, Some, None, Result, Ok, Err, OnOk, refl, sym, ap, subst, inl, inr}
+use Rattle.std.proofs.Common.{◌≡◌, ◌∙◌, ℕ, ◌+◌, ◌<◌, List, [], ◌∷◌, ◌++◌, length, map, take, get_or, add-one, Option, Some, None, Result, Ok, Err, OnOk, refl, sym, ap, subst, inl, inr}
+use Rattle.std.proofs.KnownBytes.{Appends-trans}
 use Rattle.std.specs.Io.KnownBytes.{Appends}
 use Rattle.std.proofs.Math.Seq.{take-suc}
+use Rattle.std.proofs.lemmas.List.{map-append}
 use Rattle.time_values.specs.Range.{greatest_year}
 use Rattle.time_components.specs.Tree.{Tree}
 use Rattle.time_record.specs.Record.{empty}
@@ -12,24 +14,15 @@ use Rattle.time_locating.specs.Misses.{all_bytes}
 use Rattle.time_locating.specs.declared.located.Located.{Located}
 use Rattle.time_answers.specs.Output.{Writes}
 use Rattle.time_answers.specs.declared.formats.Target.{Target}
-use Rattle.time_answers.proofs.LinesLemmas.{Appends-more}
 use Rattle.time_parse.specs.Place.{IsErrorPlace, IsPlace, IsRefusalFor, IsTreePlace, expected_text, index_text, place_text}
 use Rattle.time_parse.specs.Fault.{shown}
-
-pub Appends-none : (a : Option (List ℕ)) → Appends a a []
-Appends-none None = tt
-Appends-none (Some s) = sym (append-nil s)
-
-map-append : (f : ℕ → ℕ) (x y : List ℕ) → map f (x ++ y) ≡ map f x ++ map f y
-map-append f [] y = refl
-map-append f (c ∷ x) y = ap (λ s. f c ∷ s) (map-append f x y)
 
 -- a byte more is shown
 pub shown_more : (a b c : Option (List ℕ)) (bytes : List ℕ) (i d : ℕ) → i < length bytes → Appends a b (map shown (take i bytes))
     → Appends b c (shown (get_or bytes i d) ∷ []) → Appends a c (map shown (take (i + 1) bytes))
 shown_more a b c bytes i d h before more =
     let all = ap (λ s. map shown s) (take-suc bytes i d h) ∙ map-append shown (take i bytes) (get_or bytes i d ∷ []) in
-    rw add-one (subst (Appends a c) (sym all) (Appends-more a b c (map shown (take i bytes)) (shown (get_or bytes i d) ∷ []) before more))
+    rw add-one (subst (Appends a c) (sym all) (Appends-trans a b c (map shown (take i bytes)) (shown (get_or bytes i d) ∷ []) before more))
 
 -- the place of a text by a tree is the one by an equal tree
 pub Writes-tree : {E : Type 0} (r : Result (Unit {0}) E) (tree same : Tree) (target : Target) (bytes : List ℕ) (a b : Option (List ℕ))
@@ -48,7 +41,7 @@ module _ {E : Type 0} (target : Target) (path : Path) (reads : Reading) (refuses
   place_written (Ok u) at a b c front h before after is = (
     front ++ expected_text (wants at.expected),
     inl (at, h, is),
-    Appends-more a b c front (expected_text (wants at.expected)) before after,
+    Appends-trans a b c front (expected_text (wants at.expected)) before after,
   )
   place_written (Err e) at a b c front h before after is = tt
 
@@ -72,5 +65,5 @@ pub both_written : {E : Type 0} (r : Result (Unit {0}) E) (P Q : List ℕ → Ty
     → OnOk r (Writes Q b c)
     → OnOk r (Writes (λ t. (o : List ℕ) × (p : List ℕ) × P o × Q p × (t ≡ o ++ p)) a c)
 both_written (Ok u) P Q a b c before after =
-    (before.0 ++ after.0, (before.0, after.0, before.1, after.1, refl), Appends-more a b c before.0 after.0 before.2 after.2)
+    (before.0 ++ after.0, (before.0, after.0, before.1, after.1, refl), Appends-trans a b c before.0 after.0 before.2 after.2)
 both_written (Err e) P Q a b c before after = tt

@@ -72,10 +72,7 @@ impl<'a> Fault<'a> {
         match *self {
             Self::UnknownFormat { name } => Some((name, 0)),
             Self::UnknownTarget { name } => Some((name, 0)),
-            Self::Description { format, error } => match index_of(error) {
-                Some(index) => Some((format, index)),
-                None => None,
-            },
+            Self::Description { format, error } => Some((format, index_of(error)?)),
         }
     }
 }

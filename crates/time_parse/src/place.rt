@@ -60,10 +60,7 @@ fn write_expected<W: Write>(expected: Expected<'_>, out: &mut W) -> Result<(), U
             b"'"
         }
     };
-    match out.write_all(told) {
-        Ok(()) => Ok(()),
-        Err(_) => Err(Unwritten),
-    }
+    out.write_all(told).map_err(|_| Unwritten)
 }
 
 // The error of a parse.
@@ -100,10 +97,7 @@ fn write_index<W: Write>(index: Option<usize>, out: &mut W) -> Result<(), Unwrit
     let Some(index) = index else {
         return Ok(());
     };
-    match write!(out, " at {index}") {
-        Ok(()) => Ok(()),
-        Err(_) => Err(Unwritten),
-    }
+    write!(out, " at {index}").map_err(|_| Unwritten)
 }
 
 // Writes where the text goes wrong of which this is the error, or nothing.

@@ -1,5 +1,6 @@
 use Rattle.std.proofs.Common.{[], refl}
-use Rattle.time_parse.proofs.PlaceLemmas.{Appends-none, error_written}
+use Rattle.std.proofs.KnownBytes.{Appends-nil}
+use Rattle.time_parse.proofs.PlaceLemmas.{error_written}
 use Rattle.time_parse.proofs.place.write_error_place.Goals as goal
 
 pub returns-in-Some : goal.returns-in-Some
@@ -9,4 +10,4 @@ returns-in-Some g c =
     (g.F.Locate.marks c.args.format.now) c.args.text.now _ c.locate_error.result _ _ c.locate_error.ensures c.write_index.ensures)
 
 pub returns-in-None : goal.returns-in-None
-returns-in-None g c = rw c.in-None.is ([], refl, Appends-none _)
+returns-in-None g c = rw c.in-None.is ([], refl, Appends-nil _)

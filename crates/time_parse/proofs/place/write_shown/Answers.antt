@@ -1,8 +1,9 @@
-use Rattle.time_parse.proofs.PlaceLemmas.{Appends-none, shown_more}
+use Rattle.std.proofs.KnownBytes.{Appends-nil}
+use Rattle.time_parse.proofs.PlaceLemmas.{shown_more}
 use Rattle.time_parse.proofs.place.write_shown.Goals as goal
 
 pub loop-byte-init : goal.loop-byte-init
-loop-byte-init g c = Appends-none _
+loop-byte-init g c = Appends-nil _
 
 pub loop-byte-preserved : goal.loop-byte-preserved
 loop-byte-preserved g c =

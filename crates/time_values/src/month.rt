@@ -63,14 +63,13 @@ impl Month {
     pub fn from_number(number: NonZero<u8>) -> Result<Month, ComponentRange>
         ensures { Constructs (month_refusal number.value) (λ m. month_number m ≡ number.value) result }
     {
-        let number = number.get();
-        if number > 12 {
-            return Err(ComponentRange {
+        match number.get() {
+            number @ 1..=12 => Ok(Month::at(number)),
+            _ => Err(ComponentRange {
                 name: "month",
                 conditional: false,
-            });
+            }),
         }
-        Ok(Month::at(number))
     }
 
     /// The month of a number that is one: 1 for January to 12 for December.
@@ -92,7 +91,8 @@ impl Month {
             9 => Month::September,
             10 => Month::October,
             11 => Month::November,
-            _ => Month::December,
+            12 => Month::December,
+            _ => unreachable!(),
         }
     }
 

@@ -47,27 +47,37 @@ ending after t = (refl, refl)
 
 -- what is written of a component reads back as it
 pub component_back : (c : Component) → Fits c → (after : List ℕ) → Back c after
-unfolding bracketed modifier modifiers group_word component_of component_names modifier_keys look_up paddings representations bases ranges signs bools cases precisions digits trailing_inputs
+unfolding bracketed modifier modifiers group_word component_of component_names modifier_keys look_up paddings representations bases ranges
+    signs bools cases precisions digits trailing_inputs
 component_back (component.Day m) f after = by_padding (λ p. component.Day (record { padding = p })) after (refl, refl) (refl, refl) (refl, refl) m.padding
-component_back (component.MonthNumerical m) f after = by_padding (λ p. component.MonthNumerical (record { padding = p })) after (refl, refl) (refl, refl) (refl, refl) m.padding
-component_back (component.Ordinal m) f after = by_padding (λ p. component.Ordinal (record { padding = p })) after (refl, refl) (refl, refl) (refl, refl) m.padding
-component_back (component.WeekNumberIso m) f after = by_padding (λ p. component.WeekNumberIso (record { padding = p })) after (refl, refl) (refl, refl) (refl, refl) m.padding
-component_back (component.WeekNumberSunday m) f after = by_padding (λ p. component.WeekNumberSunday (record { padding = p })) after (refl, refl) (refl, refl) (refl, refl) m.padding
-component_back (component.WeekNumberMonday m) f after = by_padding (λ p. component.WeekNumberMonday (record { padding = p })) after (refl, refl) (refl, refl) (refl, refl) m.padding
-component_back (component.CalendarYearLastTwo m) f after = by_padding (λ p. component.CalendarYearLastTwo (record { padding = p })) after (refl, refl) (refl, refl) (refl, refl) m.padding
-component_back (component.IsoYearLastTwo m) f after = by_padding (λ p. component.IsoYearLastTwo (record { padding = p })) after (refl, refl) (refl, refl) (refl, refl) m.padding
+component_back (component.MonthNumerical m) f after =
+    by_padding (λ p. component.MonthNumerical (record { padding = p })) after (refl, refl) (refl, refl) (refl, refl) m.padding
+component_back (component.Ordinal m) f after =
+    by_padding (λ p. component.Ordinal (record { padding = p })) after (refl, refl) (refl, refl) (refl, refl) m.padding
+component_back (component.WeekNumberIso m) f after =
+    by_padding (λ p. component.WeekNumberIso (record { padding = p })) after (refl, refl) (refl, refl) (refl, refl) m.padding
+component_back (component.WeekNumberSunday m) f after =
+    by_padding (λ p. component.WeekNumberSunday (record { padding = p })) after (refl, refl) (refl, refl) (refl, refl) m.padding
+component_back (component.WeekNumberMonday m) f after =
+    by_padding (λ p. component.WeekNumberMonday (record { padding = p })) after (refl, refl) (refl, refl) (refl, refl) m.padding
+component_back (component.CalendarYearLastTwo m) f after =
+    by_padding (λ p. component.CalendarYearLastTwo (record { padding = p })) after (refl, refl) (refl, refl) (refl, refl) m.padding
+component_back (component.IsoYearLastTwo m) f after =
+    by_padding (λ p. component.IsoYearLastTwo (record { padding = p })) after (refl, refl) (refl, refl) (refl, refl) m.padding
 component_back (component.Hour12 m) f after = by_padding (λ p. component.Hour12 (record { padding = p })) after (refl, refl) (refl, refl) (refl, refl) m.padding
 component_back (component.Hour24 m) f after = by_padding (λ p. component.Hour24 (record { padding = p })) after (refl, refl) (refl, refl) (refl, refl) m.padding
 component_back (component.Minute m) f after = by_padding (λ p. component.Minute (record { padding = p })) after (refl, refl) (refl, refl) (refl, refl) m.padding
 component_back (component.Second m) f after = by_padding (λ p. component.Second (record { padding = p })) after (refl, refl) (refl, refl) (refl, refl) m.padding
-component_back (component.OffsetMinute m) f after = by_padding (λ p. component.OffsetMinute (record { padding = p })) after (refl, refl) (refl, refl) (refl, refl) m.padding
-component_back (component.OffsetSecond m) f after = by_padding (λ p. component.OffsetSecond (record { padding = p })) after (refl, refl) (refl, refl) (refl, refl) m.padding
+component_back (component.OffsetMinute m) f after =
+    by_padding (λ p. component.OffsetMinute (record { padding = p })) after (refl, refl) (refl, refl) (refl, refl) m.padding
+component_back (component.OffsetSecond m) f after =
+    by_padding (λ p. component.OffsetSecond (record { padding = p })) after (refl, refl) (refl, refl) (refl, refl) m.padding
 component_back (component.CalendarYearFullExtendedRange m) f after =
-    by_padding_and_flag (λ p b. component.CalendarYearFullExtendedRange (record { padding = p; sign_is_mandatory = b })) after (refl, refl) (refl, refl) (refl, refl)
-    (refl, refl) (refl, refl) (refl, refl) m.padding m.sign_is_mandatory
+    by_padding_and_flag (λ p b. component.CalendarYearFullExtendedRange (record { padding = p; sign_is_mandatory = b })) after
+    (refl, refl) (refl, refl) (refl, refl) (refl, refl) (refl, refl) (refl, refl) m.padding m.sign_is_mandatory
 component_back (component.CalendarYearFullStandardRange m) f after =
-    by_padding_and_flag (λ p b. component.CalendarYearFullStandardRange (record { padding = p; sign_is_mandatory = b })) after (refl, refl) (refl, refl) (refl, refl)
-    (refl, refl) (refl, refl) (refl, refl) m.padding m.sign_is_mandatory
+    by_padding_and_flag (λ p b. component.CalendarYearFullStandardRange (record { padding = p; sign_is_mandatory = b })) after
+    (refl, refl) (refl, refl) (refl, refl) (refl, refl) (refl, refl) (refl, refl) m.padding m.sign_is_mandatory
 component_back (component.IsoYearFullExtendedRange m) f after =
     by_padding_and_flag (λ p b. component.IsoYearFullExtendedRange (record { padding = p; sign_is_mandatory = b })) after (refl, refl) (refl, refl) (refl, refl)
     (refl, refl) (refl, refl) (refl, refl) m.padding m.sign_is_mandatory
@@ -75,30 +85,40 @@ component_back (component.IsoYearFullStandardRange m) f after =
     by_padding_and_flag (λ p b. component.IsoYearFullStandardRange (record { padding = p; sign_is_mandatory = b })) after (refl, refl) (refl, refl) (refl, refl)
     (refl, refl) (refl, refl) (refl, refl) m.padding m.sign_is_mandatory
 component_back (component.CalendarYearCenturyExtendedRange m) f after =
-    by_padding_and_flag (λ p b. component.CalendarYearCenturyExtendedRange (record { padding = p; sign_is_mandatory = b })) after (refl, refl) (refl, refl) (refl, refl)
-    (refl, refl) (refl, refl) (refl, refl) m.padding m.sign_is_mandatory
+    by_padding_and_flag (λ p b. component.CalendarYearCenturyExtendedRange (record { padding = p; sign_is_mandatory = b })) after
+    (refl, refl) (refl, refl) (refl, refl) (refl, refl) (refl, refl) (refl, refl) m.padding m.sign_is_mandatory
 component_back (component.CalendarYearCenturyStandardRange m) f after =
-    by_padding_and_flag (λ p b. component.CalendarYearCenturyStandardRange (record { padding = p; sign_is_mandatory = b })) after (refl, refl) (refl, refl) (refl, refl)
-    (refl, refl) (refl, refl) (refl, refl) m.padding m.sign_is_mandatory
+    by_padding_and_flag (λ p b. component.CalendarYearCenturyStandardRange (record { padding = p; sign_is_mandatory = b })) after
+    (refl, refl) (refl, refl) (refl, refl) (refl, refl) (refl, refl) (refl, refl) m.padding m.sign_is_mandatory
 component_back (component.IsoYearCenturyExtendedRange m) f after =
-    by_padding_and_flag (λ p b. component.IsoYearCenturyExtendedRange (record { padding = p; sign_is_mandatory = b })) after (refl, refl) (refl, refl) (refl, refl)
-    (refl, refl) (refl, refl) (refl, refl) m.padding m.sign_is_mandatory
+    by_padding_and_flag (λ p b. component.IsoYearCenturyExtendedRange (record { padding = p; sign_is_mandatory = b })) after
+    (refl, refl) (refl, refl) (refl, refl) (refl, refl) (refl, refl) (refl, refl) m.padding m.sign_is_mandatory
 component_back (component.IsoYearCenturyStandardRange m) f after =
-    by_padding_and_flag (λ p b. component.IsoYearCenturyStandardRange (record { padding = p; sign_is_mandatory = b })) after (refl, refl) (refl, refl) (refl, refl)
-    (refl, refl) (refl, refl) (refl, refl) m.padding m.sign_is_mandatory
+    by_padding_and_flag (λ p b. component.IsoYearCenturyStandardRange (record { padding = p; sign_is_mandatory = b })) after
+    (refl, refl) (refl, refl) (refl, refl) (refl, refl) (refl, refl) (refl, refl) m.padding m.sign_is_mandatory
 component_back (component.OffsetHour m) f after =
     by_padding_and_flag (λ p b. component.OffsetHour (record { padding = p; sign_is_mandatory = b })) after (refl, refl) (refl, refl) (refl, refl)
     (refl, refl) (refl, refl) (refl, refl) m.padding m.sign_is_mandatory
-component_back (component.MonthShort m) f after = by_flag (λ b. component.MonthShort (record { case_sensitive = b })) after (refl, refl) (refl, refl) m.case_sensitive
-component_back (component.MonthLong m) f after = by_flag (λ b. component.MonthLong (record { case_sensitive = b })) after (refl, refl) (refl, refl) m.case_sensitive
-component_back (component.WeekdayShort m) f after = by_flag (λ b. component.WeekdayShort (record { case_sensitive = b })) after (refl, refl) (refl, refl) m.case_sensitive
-component_back (component.WeekdayLong m) f after = by_flag (λ b. component.WeekdayLong (record { case_sensitive = b })) after (refl, refl) (refl, refl) m.case_sensitive
-component_back (component.WeekdaySunday m) f after = by_flag (λ b. component.WeekdaySunday (record { one_indexed = b })) after (refl, refl) (refl, refl) m.one_indexed
-component_back (component.WeekdayMonday m) f after = by_flag (λ b. component.WeekdayMonday (record { one_indexed = b })) after (refl, refl) (refl, refl) m.one_indexed
-component_back (component.UnixTimestampSecond m) f after = by_flag (λ b. component.UnixTimestampSecond (record { sign_is_mandatory = b })) after (refl, refl) (refl, refl) m.sign_is_mandatory
-component_back (component.UnixTimestampMillisecond m) f after = by_flag (λ b. component.UnixTimestampMillisecond (record { sign_is_mandatory = b })) after (refl, refl) (refl, refl) m.sign_is_mandatory
-component_back (component.UnixTimestampMicrosecond m) f after = by_flag (λ b. component.UnixTimestampMicrosecond (record { sign_is_mandatory = b })) after (refl, refl) (refl, refl) m.sign_is_mandatory
-component_back (component.UnixTimestampNanosecond m) f after = by_flag (λ b. component.UnixTimestampNanosecond (record { sign_is_mandatory = b })) after (refl, refl) (refl, refl) m.sign_is_mandatory
+component_back (component.MonthShort m) f after =
+    by_flag (λ b. component.MonthShort (record { case_sensitive = b })) after (refl, refl) (refl, refl) m.case_sensitive
+component_back (component.MonthLong m) f after =
+    by_flag (λ b. component.MonthLong (record { case_sensitive = b })) after (refl, refl) (refl, refl) m.case_sensitive
+component_back (component.WeekdayShort m) f after =
+    by_flag (λ b. component.WeekdayShort (record { case_sensitive = b })) after (refl, refl) (refl, refl) m.case_sensitive
+component_back (component.WeekdayLong m) f after =
+    by_flag (λ b. component.WeekdayLong (record { case_sensitive = b })) after (refl, refl) (refl, refl) m.case_sensitive
+component_back (component.WeekdaySunday m) f after =
+    by_flag (λ b. component.WeekdaySunday (record { one_indexed = b })) after (refl, refl) (refl, refl) m.one_indexed
+component_back (component.WeekdayMonday m) f after =
+    by_flag (λ b. component.WeekdayMonday (record { one_indexed = b })) after (refl, refl) (refl, refl) m.one_indexed
+component_back (component.UnixTimestampSecond m) f after =
+    by_flag (λ b. component.UnixTimestampSecond (record { sign_is_mandatory = b })) after (refl, refl) (refl, refl) m.sign_is_mandatory
+component_back (component.UnixTimestampMillisecond m) f after =
+    by_flag (λ b. component.UnixTimestampMillisecond (record { sign_is_mandatory = b })) after (refl, refl) (refl, refl) m.sign_is_mandatory
+component_back (component.UnixTimestampMicrosecond m) f after =
+    by_flag (λ b. component.UnixTimestampMicrosecond (record { sign_is_mandatory = b })) after (refl, refl) (refl, refl) m.sign_is_mandatory
+component_back (component.UnixTimestampNanosecond m) f after =
+    by_flag (λ b. component.UnixTimestampNanosecond (record { sign_is_mandatory = b })) after (refl, refl) (refl, refl) m.sign_is_mandatory
 component_back (component.Period m) f after = by_flag (λ s. component.Period (record { is_uppercase = m.is_uppercase; case_sensitive = s })) after
     (by_flag (λ u. component.Period (record { is_uppercase = u; case_sensitive = true })) after (refl, refl) (refl, refl) m.is_uppercase)
     (by_flag (λ u. component.Period (record { is_uppercase = u; case_sensitive = false })) after (refl, refl) (refl, refl) m.is_uppercase) m.case_sensitive

@@ -23,7 +23,8 @@ returns-in-Digits c = rw c.in-Digits.is (made modifier.Digits c.look_up-in-Digit
 
 pub returns-in-Precision : goal.returns-in-Precision
 unfolding precisions
-returns-in-Precision c = rw c.in-Precision.is (made modifier.Precision c.look_up-in-Precision.ensures c.map-in-Precision.result c.map-in-Precision.ensures.cases)
+returns-in-Precision c =
+    rw c.in-Precision.is (made modifier.Precision c.look_up-in-Precision.ensures c.map-in-Precision.result c.map-in-Precision.ensures.cases)
 
 pub returns-in-Range : goal.returns-in-Range
 unfolding ranges

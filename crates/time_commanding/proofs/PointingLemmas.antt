@@ -1,5 +1,5 @@
 -- The part of a line that is shown, and what a log got of it in several writes.
-use Rattle.std.proofs.Common.{◌≡◌, ℕ, ◌-◌, ◌≤◌, min, List, [], ◌∷◌, ◌++◌, codes, true, length, take, drop, ap, subst, arith, append_assoc, length-drop, ◌∙◌, Option}
+use Rattle.std.proofs.Common.{◌≡◌, ℕ, ◌-◌, min, List, [], ◌∷◌, ◌++◌, codes, true, length, take, drop, ap, subst, arith, append_assoc, length-drop, ◌∙◌, Option}
 use Rattle.std.proofs.KnownBytes.{Appends-trans}
 use Rattle.std.proofs.lemmas.List.{take_all, take_min, drop_min}
 use Rattle.std.specs.Fmt.{decimal}

@@ -1,5 +1,5 @@
 -- A refused line as a terminal shows it.
-use Rattle.std.specs.Prelude.{ℕ, ◌+◌, ◌-◌, Bool, true, false, ◌&&◌, nat_le, min, List, ◌∷◌, ◌++◌, codes, map, take, drop, replicate, if◌then◌else◌}
+use Rattle.std.specs.Prelude.{ℕ, ◌-◌, Bool, true, false, ◌&&◌, nat_le, min, List, ◌∷◌, ◌++◌, codes, map, take, drop, replicate, if◌then◌else◌}
 
 -- a byte, or a dot for one that doesn't print
 abbrev pub shown_byte : ℕ → ℕ

@@ -11,7 +11,7 @@ use Rattle.time_components.specs.Tree.{Tree, literal, component, sequence, trees
 use Rattle.time_components.specs.declared.format_description.Component.TheVariants as kind
 use Rattle.time_parsing.specs.Outcome.{IsOutcome}
 use Rattle.time_record.specs.Reading.{Reads, Refuses}
-use Rattle.time_record.specs.Record.{Record, Entry, empty, put, put_all, year_is, offset_hour_is, offset_minute_is, offset_second_is}
+use Rattle.time_record.specs.Record.{Record, empty, put, put_all, year_is, offset_hour_is, offset_minute_is, offset_second_is}
 use Rattle.time_record.specs.Resolution.{IsOffset}
 use Rattle.time_restamping.specs.Reading.{Says, IsReadInTurn}
 use Rattle.time_restamping.specs.Reason.{Reason, seen}

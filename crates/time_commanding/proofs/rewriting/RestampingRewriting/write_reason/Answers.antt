@@ -3,7 +3,7 @@ use Rattle.time_rewriting.proofs.ReportLemmas.{OnOk-map}
 use Rattle.time_restamping.specs.Reason.{seen, reason_text}
 use Rattle.time_commanding.specs.Pointing.{told_reason}
 use Rattle.time_commanding.proofs.PointingLemmas.{Appends-told}
-use Rattle.time_restamping.specs.Job.{without, rewritten, dropped}
+use Rattle.time_restamping.specs.Job.{without, dropped}
 use Rattle.time_rewriting.specs.declared.fate.Fate.TheVariants.{Refused}
 use Rattle.time_commanding.proofs.FateLemmas.{fate_of-verdict}
 use Rattle.time_commanding.proofs.rewriting.RestampingRewriting.write_reason.Goals as goal

@@ -16,7 +16,7 @@ mod fast;
 
 use crate::Prepared;
 use std::convert::TryFrom;
-use time_parsing::{Parsable, begin, value_before};
+use time_parsing::{Parsable, value_before};
 use time_record::Parsed;
 use time_values::error::{Parse, TryFromParsed};
 use time_values::{Date, OffsetDateTime, PlainDateTime, Time};
@@ -36,7 +36,11 @@ fn over_record<const N: usize, V: TryFrom<Parsed, Error = TryFromParsed> + Drop>
         ⊎ ((r : Record) × Reads greatest_year (steps_shape format.now) input.now (begun defaults.now) [] r
         × ((f : TryFromParsed_) × V.try_from_gives r (Err f) × (e ≡ refusal_of_parsed f)))) }
 {
-    let mut parsed = begin(*defaults);
+    // `begin` would copy what may be there before it looks.
+    let mut parsed = Parsed::new();
+    if let Some(known) = defaults {
+        parsed = *known;
+    }
     match format.walk_into(input, &mut parsed) {
         Ok(rest) => value_before::<V>(rest, &parsed),
         Err(fault) => Err(fault.into()),

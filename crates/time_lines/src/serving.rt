@@ -5,7 +5,7 @@ ghost use Rattle.time_answers.specs.declared.serving.Stop.TheVariants as Stop;
 ghost use Rattle.time_lines.specs.Output.{WritesAnswers};
 
 use crate::answers::Fields;
-use std::alloc::Allocator;
+use std::alloc::{Allocator, Global};
 use std::io;
 use std::io::{Read, Write};
 use time_answers::Stop;
@@ -25,7 +25,17 @@ pub fn run<W: Write>(input: &[u8], out: &mut W) -> io::Result<()>
 ///
 /// A failed read is not tried again, not even an interrupted one. After [`Stop::Unread`] or
 /// [`Stop::Memory`] nothing was written.
-pub fn serve<R: Read, W: Write, A: Allocator>(
+pub fn serve<R: Read, W: Write>(alloc: Global, input: &mut R, out: &mut W) -> Result<(), Stop>
+    ensures ok { OnOk result (IfSome (R.remaining input.old)
+        (λ bytes. WritesAnswers greatest_year (W.contents out.old) (W.contents out.new) bytes)) }
+    ensures unread { result ≡ Err Stop.Unread → out.new ≡ out.old }
+    ensures memory { result ≡ Err Stop.Memory → out.new ≡ out.old }
+{
+    serve_in(alloc, input, out)
+}
+
+// The same with any allocator.
+pub(crate) fn serve_in<R: Read, W: Write, A: Allocator>(
     alloc: A,
     input: &mut R,
     out: &mut W,

@@ -1,5 +1,5 @@
 //! Lines and their answers, and what becomes of a read, a write or a growth that fails.
-use crate::serving::{run, serve};
+use crate::serving::{run, serve, serve_in};
 use linked_list_allocator::LocalHeap;
 use std::alloc::{AllocError, Global};
 use std::io;
@@ -220,7 +220,7 @@ fn served(alloc: Global, mut source: Source<'_>, output: &[u8], fails_at: usize)
     page.told(answer)
 }
 
-/// What `serve` tells where it has so many bytes of memory.
+/// What `serve_in` tells where it has so many bytes of memory.
 fn served_within(
     alloc: Global,
     size: usize,
@@ -233,7 +233,7 @@ fn served_within(
         writes: 0,
         fails_at: NEVER,
     };
-    let answer = serve(&heap, &mut source, &mut page);
+    let answer = serve_in(&heap, &mut source, &mut page);
     page.told(answer)
 }
 

@@ -26,6 +26,10 @@ cut_by line s = record { before = take s.start line; time = slice_range line s.s
 abbrev pub body_length : List ℕ → ℕ
 body_length line = if slice_index line (length line - 1) == 13 then length line - 1 else length line
 
+-- a line without a CR at its end
+abbrev pub body_of : List ℕ → List ℕ
+body_of line = take (body_length line) line
+
 -- from after the first `begin` up to the next `close`
 abbrev pub between_of : List ℕ → List ℕ → List ℕ → Option Span
 between_of begin close line =
@@ -37,19 +41,20 @@ between_of begin close line =
 abbrev pub after_of : List ℕ → List ℕ → Option Span
 after_of key line = option_map (λ n. span (n + length key) (length line)) (place_of key line)
 
--- the part of a line that is its time, or begins with it
+-- the part of a line that is its time, or begins with it; no CR at its end is in it, but for what stands between two
+-- texts
 abbrev pub span_of : Place → List ℕ → Option Span
 span_of Whole line = Some (span 0 (body_length line))
-span_of Front line = Some (span 0 (length line))
-span_of (Field kind n) line = if n == 0 then None else nth_field kind (n - 1) (take (body_length line) line)
+span_of Front line = Some (span 0 (body_length line))
+span_of (Field kind n) line = if n == 0 then None else nth_field kind (n - 1) (body_of line)
 span_of (Between begin close) line = between_of begin.now close.now line
-span_of (After key) line = after_of key.now line
+span_of (After key) line = after_of key.now (body_of line)
 
 -- a line, cut at its time, where it has a place for one
 abbrev pub located : Place → List ℕ → Option Cut
 located place line = option_map (cut_by line) (span_of place line)
 
--- whether the time ends where its format does, so that its part goes on to the end of the line
+-- whether the time ends where its format does, so that its part goes on to the end of the line, or to a CR there
 abbrev pub is_open : Place → Bool
 is_open Whole = false
 is_open Front = true

@@ -1,14 +1,14 @@
 //! Cuts a line at its time.
 ghost use Rattle.std.specs.Prelude.{◌≡◌, ◌≤◌, ◌++◌, length, take, IfSome};
 ghost use Rattle.std.specs.Option.{option_map};
-ghost use Rattle.time_cutting.specs.Cuts.{seen, cut_by, body_length, span_of, located, is_open};
+ghost use Rattle.time_cutting.specs.Cuts.{seen, cut_by, body_length, body_of, after_of, span_of, located, is_open};
 ghost use Rattle.time_cutting.specs.Fields.{IsPart};
 
 use crate::fields::{Fields, Span, nth_field};
 use crate::texts::find_text;
 
-/// Where the time stands in a line, which has no LF. A CR at the line's end belongs to what comes after a time that
-/// ends where something else says so than its format.
+/// Where the time stands in a line, which has no LF. A CR at the line's end is no part of the time, but for what stands
+/// between two texts.
 #[derive(Clone, Copy, Debug)]
 pub enum Place<'a> {
     /// The line is the time.
@@ -24,7 +24,8 @@ pub enum Place<'a> {
 }
 
 impl Place<'_> {
-    /// Whether the time ends where its format does, so that the cut has all that comes after its beginning as `time`.
+    /// Whether the time ends where its format does, so that the cut has all that comes after its beginning as `time`, up to
+    /// a CR at the end of the line.
     pub fn is_open(self) -> bool
         ensures { result ≡ is_open self.entry }
     {
@@ -59,6 +60,15 @@ fn body_length(line: &[u8]) -> usize
     }
 }
 
+/// The line without a CR at its end.
+#[inline(always)]
+pub fn body_of(line: &[u8]) -> &[u8]
+    ensures value { result.now ≡ body_of line.now }
+    ensures within { length result.now ≤ length line.now }
+{
+    &line[..body_length(line)]
+}
+
 // From after the first `begin` up to the next `close`.
 fn find_between(begin: &[u8], close: &[u8], line: &[u8]) -> Option<Span>
     ensures value { result ≡ span_of (Place.Between begin.entry close.entry) line.now }
@@ -74,7 +84,7 @@ fn find_between(begin: &[u8], close: &[u8], line: &[u8]) -> Option<Span>
 
 // From after the first `key` to the end.
 fn find_after(key: &[u8], line: &[u8]) -> Option<Span>
-    ensures value { result ≡ span_of (Place.After key.entry) line.now }
+    ensures value { result ≡ after_of key.now line.now }
     ensures within { IfSome result (IsPart (length line.now)) }
 {
     let start = find_text(key, line)? + key.len();
@@ -92,18 +102,14 @@ pub fn find_span(place: Place<'_>, line: &[u8]) -> Option<Span>
     ensures within { IfSome result (IsPart (length line.now)) }
 {
     match place {
-        Place::Whole => Some(Span {
+        Place::Whole | Place::Front => Some(Span {
             start: 0,
             stop: body_length(line),
         }),
-        Place::Front => Some(Span {
-            start: 0,
-            stop: line.len(),
-        }),
         Place::Field(_, 0) => None,
-        Place::Field(kind, number) => nth_field(kind, number - 1, &line[..body_length(line)]),
+        Place::Field(kind, number) => nth_field(kind, number - 1, body_of(line)),
         Place::Between(begin, close) => find_between(begin, close, line),
-        Place::After(key) => find_after(key, line),
+        Place::After(key) => find_after(key, body_of(line)),
     }
 }
 

@@ -5,5 +5,5 @@ mod cuts;
 mod fields;
 mod texts;
 
-pub use cuts::{Cut, Place, find_span, find_time};
+pub use cuts::{Cut, Place, body_of, find_span, find_time};
 pub use fields::{Fields, Span};

@@ -10,12 +10,14 @@ type Row = (
     &'static [u8],
 );
 
-static FOUND: [Row; 22] = [
+static FOUND: [Row; 28] = [
     (Place::Whole, b"now", b"", b"now", b""),
     (Place::Whole, b"now\r", b"", b"now", b"\r"),
     (Place::Whole, b"", b"", b"", b""),
     (Place::Whole, b"\r\r", b"", b"\r", b"\r"),
-    (Place::Front, b"now x\r", b"", b"now x\r", b""),
+    (Place::Front, b"now x", b"", b"now x", b""),
+    (Place::Front, b"now x\r", b"", b"now x", b"\r"),
+    (Place::Front, b"\r\r", b"", b"\r", b"\r"),
     (
         Place::Field(Fields::Delimited(b','), 1),
         b"a,b,c",
@@ -103,8 +105,19 @@ static FOUND: [Row; 22] = [
         b"</t>",
     ),
     (Place::Between(b"", b"|"), b"a|b", b"", b"a", b"|b"),
+    // What is between two texts ends with the second one.
+    (Place::Between(b"[", b"\r"), b"[a\r", b"[", b"a", b"\r"),
+    (Place::Between(b"[", b"]"), b"[a\r]\r", b"[", b"a\r", b"]\r"),
     (Place::After(b"Date: "), b"Date: a", b"Date: ", b"a", b""),
+    (
+        Place::After(b"Date: "),
+        b"Date: a\r",
+        b"Date: ",
+        b"a",
+        b"\r",
+    ),
     (Place::After(b"t="), b"at=t=b", b"at=", b"t=b", b""),
+    (Place::After(b"\r"), b"a\rb\r", b"a\r", b"b", b"\r"),
 ];
 
 // Whether the place cuts the line into those parts.
@@ -123,7 +136,7 @@ fn found(rt: HostRuntime) {
 }
 
 // A place that a line lacks: the reasons are too few fields, no such text, a quote that isn't closed, and text after one.
-static MISSING: [(Place<'static>, &[u8]); 12] = [
+static MISSING: [(Place<'static>, &[u8]); 13] = [
     (Place::Field(Fields::Delimited(b','), 0), b"a"),
     (Place::Field(Fields::Delimited(b','), 2), b"a"),
     (Place::Field(Fields::Delimited(b','), 2), b""),
@@ -136,6 +149,7 @@ static MISSING: [(Place<'static>, &[u8]); 12] = [
     (Place::Between(b"[", b"]"), b"] [a"),
     (Place::Between(b"||", b"||"), b"|| a |"),
     (Place::After(b"Date:"), b"date: a"),
+    (Place::After(b"Date:\r"), b"Date:\r"),
 ];
 
 #[test]

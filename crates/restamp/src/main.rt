@@ -5,6 +5,7 @@ mod completions;
 mod opening;
 mod output;
 mod progress;
+mod words;
 
 use clap::ArgMatches;
 use completions::completions_of;
@@ -18,6 +19,7 @@ use std::{env, io};
 use time_commanding::{Fault, Request, serve};
 use time_options::{Options, make_command};
 use time_rewriting::{Block, Stop, Stream, status};
+use words::words_of;
 
 // The names of the files, or that of standard input where none is given.
 fn names_of<'m>(
@@ -139,7 +141,9 @@ fn follow(rt: &HostRuntime, matches: &ArgMatches<'_>) -> io::Result<u8> {
 
 // Does what the words of the command line ask for, and gives the exit status.
 fn run(rt: &HostRuntime) -> io::Result<u8> {
-    let words: Vec<String> = env::args(rt)?.collect(rt.alloc())?;
+    let Some(words) = words_of(rt)? else {
+        return Ok(2);
+    };
     let command = make_command(rt.alloc())?;
     match command.try_get_matches_from(words.as_slice()) {
         Ok(matches) => follow(rt, &matches),

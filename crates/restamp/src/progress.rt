@@ -1,19 +1,21 @@
 //! How far a long file was read, on standard error.
-ghost use Rattle.std.specs.Prelude.{◌≡◌, ◌≤◌, ◌+◌, ◌-◌, ◌^◌, ◌↔◌, min, length, drop, IsTrue, ℕ, Some, string_bytes};
+ghost use Rattle.std.specs.Prelude.{◌≡◌, ◌≤◌, ◌+◌, ◌-◌, ◌^◌, ◌↔◌, min, length, IsTrue, IfSome, Some, string_bytes};
 ghost use Rattle.std.specs.Time.{instant_nanos};
+ghost use Rattle.time_rewriting.specs.Names.{shown_name};
 ghost use Rattle.restamp.specs.Progress as spec;
 
 use std::alloc::Global;
 use std::cell::Cell;
 use std::fmt;
 use std::time::{Clock, Duration, Instant};
+use time_rewriting::write_name;
 
 /// How many milliseconds old a line is at least when the next is told.
 const INTERVAL: u64 = 500;
 
 const MEBIBYTE: u64 = 1048576;
 
-/// How many bytes of a name there may be in the line of a terminal, which has 80 columns.
+/// How many bytes may show a name in the line of a terminal, which has 80 columns.
 const MOST: usize = 40;
 
 /// How it is told.
@@ -27,21 +29,38 @@ pub(crate) enum Telling {
     OneLine,
 }
 
-// A name, or of one that is longer the end, of at most 40 bytes.
-fn end_of(name: &str) -> &str
-    ensures whole { length name.now ≤ 40 → result.now ≡ name.now }
+// A text, or of one that is longer the end, of at most 40 bytes.
+fn end_of(text: &str) -> &str
+    ensures end { spec.IsEnd text.now result.now }
     ensures bound { length result.now ≤ 40 }
-    ensures end { (i : ℕ) × (result.now ≡ drop i name.now) }
 {
-    if name.len() <= MOST {
-        return name;
+    &text[text.ceil_char_boundary(text.len().saturating_sub(MOST))..]
+}
+
+// A name with its control bytes as `\x` and two digits; `None` where there is no memory.
+fn shown_name(alloc: Global, name: &str) -> Option<String>
+    ensures { IfSome result (λ shown. string_bytes shown ≡ shown_name name.now) }
+{
+    let mut shown = Vec::new(alloc);
+    write_name(name.as_bytes(), &mut shown).ok()?;
+    String::from_utf8(shown).ok()
+}
+
+// What is told of a name.
+fn told_name(alloc: Global, telling: Telling, name: &str) -> Option<String>
+    ensures { IfSome result (λ told. spec.IsTold telling name.now (string_bytes told)) }
+{
+    let shown = shown_name(alloc, name)?;
+    match telling {
+        Telling::OneLine => String::from_str(alloc, end_of(shown.as_str())).ok(),
+        Telling::Nothing | Telling::Lines => Some(shown),
     }
-    &name[name.ceil_char_boundary(name.len() - MOST)..]
 }
 
 /// How far a file was read, and when that was told.
 #[derive(Drop)]
 pub(crate) struct Meter {
+    // What is told of the file's name.
     name: String,
     size: Option<u64>,
     read: u64,
@@ -125,13 +144,11 @@ impl<'a, R: Clock + Eprint> Progress<'a, R> {
     }
 
     /// The meter of a file that begins, or `None` where there is no memory or no clock.
-    pub(crate) fn begin(&self, alloc: Global, name: &str, size: Option<u64>) -> Option<Meter> {
-        let shown = match self.telling {
-            Telling::OneLine => end_of(name),
-            _ => name,
-        };
+    pub(crate) fn begin(&self, alloc: Global, name: &str, size: Option<u64>) -> Option<Meter>
+        ensures { IfSome result (λ meter. spec.IsTold self.now.telling name.now (string_bytes meter.name)) }
+    {
         Some(Meter {
-            name: String::from_str(alloc, shown).ok()?,
+            name: told_name(alloc, self.telling, name)?,
             size,
             read: 0,
             told: 0,

@@ -1,6 +1,7 @@
 pub mod BlockLemmas
 pub mod LinesLemmas
 pub mod DidLemmas
+pub mod NameLemmas
 pub mod ReportLemmas
 pub mod AnsweredLemmas
 pub mod StoppedLemmas

@@ -1,5 +1,6 @@
 pub mod Lines
 pub mod Fates
+pub mod Names
 pub mod Reports
 pub mod Answers
 pub mod Streams

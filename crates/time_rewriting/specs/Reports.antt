@@ -2,6 +2,7 @@
 use Rattle.std.specs.Prelude.{Bool, false, ℕ, ◌-◌, List, [], ◌∷◌, ◌++◌, codes, nat_le, ◌==◌, if◌then◌else◌}
 use Rattle.std.specs.Fmt.{decimal}
 use Rattle.time_rewriting.specs.Fates.{reason_text}
+use Rattle.time_rewriting.specs.Names.{shown_name}
 use Rattle.time_rewriting.specs.declared.fate.Fate.{Fate}
 use Rattle.time_rewriting.specs.declared.fate.Fate.TheVariants.{Without, Rewritten, Dropped, Refused}
 use Rattle.time_rewriting.specs.declared.settings.Reports.{Reports}
@@ -24,15 +25,15 @@ unnamed (First most) t = t.refused_here - most
 -- the report of a line of that file and number
 abbrev pub report_of : List ℕ → ℕ → ℕ → List ℕ → List ℕ
 report_of name line column reason =
-    name ++ (codes ":" ++ (decimal line ++ (codes ":" ++ (reason_text column reason ++ 10 ∷ []))))
+    shown_name name ++ (codes ":" ++ (decimal line ++ (codes ":" ++ (reason_text column reason ++ 10 ∷ []))))
 
 -- the line on the log that n more lines of the file were refused, if there are any
 abbrev pub more_text : List ℕ → ℕ → List ℕ
 more_text name n =
     if n == 0 then [] else
-    if n == 1 then name ++ (codes ": 1 more line was refused" ++ 10 ∷ []) else
-    name ++ (codes ": " ++ (decimal n ++ (codes " more lines were refused" ++ 10 ∷ [])))
+    if n == 1 then shown_name name ++ (codes ": 1 more line was refused" ++ 10 ∷ []) else
+    shown_name name ++ (codes ": " ++ (decimal n ++ (codes " more lines were refused" ++ 10 ∷ [])))
 
 -- the line on the log that the file was not read, and why
 abbrev pub unread_text : List ℕ → List ℕ → List ℕ
-unread_text name why = name ++ (codes ": " ++ (why ++ 10 ∷ []))
+unread_text name why = shown_name name ++ (codes ": " ++ (why ++ 10 ∷ []))

@@ -11,6 +11,7 @@ ghost use Rattle.time_rewriting.specs.declared.block.TheConstants.{LIMIT};
 
 use crate::fate::{Fate, Rest};
 use crate::message::Message;
+use crate::names::write_name;
 use crate::rewriting::Rewriting;
 use crate::settings::{File, Output};
 use crate::stop::Stop;
@@ -96,7 +97,7 @@ impl<W: Write, L: Write> Stream<W, L> {
         if n == 0 {
             return Ok(());
         }
-        self.log.write_all(name)?;
+        write_name(name, &mut self.log)?;
         if n == 1 {
             self.log.write_all(b": 1 more line was refused\n")
         } else {
@@ -120,7 +121,7 @@ impl<W: Write, L: Write> Stream<W, L> {
         ensures out { self.new.out ≡ self.old.out }
         ensures tally { self.new.tally ≡ self.old.tally }
     {
-        self.log.write_all(name)?;
+        write_name(name, &mut self.log)?;
         self.log.write_all(b": ")?;
         self.log.write_all(Message::of(error).as_slice())?;
         self.log.write_all(b"\n")
@@ -186,7 +187,7 @@ impl<W: Write, L: Write> Stream<W, L> {
         ensures waiting { self.new.waiting ≡ self.old.waiting }
         ensures tally { self.new.tally ≡ self.old.tally }
     {
-        self.log.write_all(file.name)?;
+        write_name(file.name, &mut self.log)?;
         write!(self.log, ":{}:", self.tally.line)?;
         rewriting.write_reason(front, &mut self.log)?;
         self.log.write_all(b"\n")

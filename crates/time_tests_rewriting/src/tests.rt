@@ -9,6 +9,7 @@ mod failures;
 mod files;
 mod lines;
 mod long_lines;
+mod names;
 mod reports;
 
 /// By the first byte of a line: `@` gives way to `now`, `#` drops it, `!` is refused, and `=` puts `now` after the front.

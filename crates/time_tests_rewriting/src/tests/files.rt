@@ -27,7 +27,7 @@ impl Opening for Shelf {
     }
 }
 
-const NAMES: [&[u8]; 4] = [b"a", b"none", b"half", b"b"];
+const NAMES: [&[u8]; 4] = [b"a", b"no\x1bne", b"half", b"b"];
 
 const COUNTS: Tally = Tally {
     line: 2,
@@ -46,7 +46,7 @@ fn several_files(rt: HostRuntime) {
     let ended = stream.serve_files(&Marks, ALL, &NAMES, &Shelf, &mut Block::new());
     let got = Answer::new(stream, ended);
     let out = b"now1\n!2\nnow5\n3\n!4";
-    let log = b"a:2:1: bad\nnone: entity not found\nhalf: no read\nb:2:1: bad\n";
+    let log = b"a:2:1: bad\nno\\x1bne: entity not found\nhalf: no read\nb:2:1: bad\n";
     assert!(rt; got.is(Ok(()), out, log));
     assert!(rt; got.tally == COUNTS && status(&got.tally, None, false) == 2);
 }

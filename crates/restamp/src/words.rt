@@ -1,0 +1,65 @@
+//! The words of the command line.
+ghost use Rattle.std.specs.Io.KnownBytes.{Appends};
+ghost use Rattle.std.specs.Prelude.{OnOk};
+ghost use Rattle.restamp.specs.Words.{unread_text};
+
+use std::env::{Env, FillError};
+use std::io::{ErrorKind, Write};
+use std::{env, io};
+use time_rewriting::write_shown;
+
+// How many bytes of a word there is room for, at first and then. Linux takes no word of more.
+static ROOM: [usize; 2] = [4096, 131072];
+
+// The bytes of the word of that number; `None` after the last, where there is no memory, and of a longer one.
+fn bytes_of(rt: &HostRuntime, number: usize) -> Option<Vec<u8>> {
+    let mut bytes = Vec::new(rt.alloc());
+    for room in &ROOM {
+        bytes.resize(*room, 0).ok()?;
+        match rt.arg(number, bytes.as_mut_slice()) {
+            Ok(n) => {
+                bytes.truncate(n);
+                return Some(bytes);
+            }
+            Err(FillError::TooLong) => {}
+            Err(FillError::NotPresent) => return None,
+        }
+    }
+    None
+}
+
+// Tells that the word of that number isn't UTF-8.
+fn write_unread<L: Write>(number: usize, word: &[u8], log: &mut L) -> io::Result<()>
+    ensures { OnOk result (Appends (L.contents log.old) (L.contents log.new) (unread_text number word.now)) }
+{
+    write!(log, "restamp: argument {number} is not UTF-8: '")?;
+    write_shown(true, word, log)?;
+    log.write_all(b"'\n")
+}
+
+// Tells which of the words isn't UTF-8: the first. Nothing is told where it can't be read again.
+fn tell_unread(rt: &HostRuntime) -> io::Result<()> {
+    for number in 0..usize::MAX {
+        let Some(word) = bytes_of(rt, number) else {
+            return Ok(());
+        };
+        if std::str::from_utf8(word.as_slice()).is_err() {
+            let mut text = Vec::new(rt.alloc());
+            write_unread(number, word.as_slice(), &mut text)?;
+            return rt.stderr().write_all(text.as_slice());
+        }
+    }
+    Ok(())
+}
+
+/// The words, the name of the program first; `None` where one isn't UTF-8, which is told then.
+pub(crate) fn words_of(rt: &HostRuntime) -> io::Result<Option<Vec<String>>> {
+    match env::args(rt) {
+        Ok(words) => Ok(Some(words.collect(rt.alloc())?)),
+        Err(error) if error.kind() == ErrorKind::InvalidData => {
+            tell_unread(rt)?;
+            Ok(None)
+        }
+        Err(error) => Err(error),
+    }
+}

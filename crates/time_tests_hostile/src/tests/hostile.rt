@@ -14,6 +14,7 @@ macro_rules! second_of_january {
 
 mod changed_bytes;
 mod comments;
+mod deep_comments;
 mod digits;
 mod stale_defaults;
 mod trees;

@@ -1,6 +1,7 @@
 //! Texts of the two RFC formats with each byte replaced by each other, and cut at each place.
 use super::super::parts;
 use std::alloc::{AllocError, Global};
+use std::ops::Range;
 use time_parsing::{Parsable, Rfc2822, Rfc3339};
 use time_record::Parsed;
 use time_tests_fields::same;
@@ -29,14 +30,6 @@ static MAIL_DATES: [&[u8]; 8] = [
     b"02 Jan 1899 03:04 +0000",
     b"1 Jan 99 00:00 Z",
 ];
-
-// With a comment of 31 levels, which is read.
-const LEVELS_31: &[u8] =
-    b"02 ((((((((((((((((((((((((((((((())))))))))))))))))))))))))))))) Jan 2021 03:04 +0000";
-
-// With a comment of 32 levels, which is refused.
-const LEVELS_32: &[u8] =
-    b"02 (((((((((((((((((((((((((((((((()))))))))))))))))))))))))))))))) Jan 2021 03:04 +0000";
 
 // Without defaults and over an empty record the text has one moment, with one date, time and offset, or none.
 fn has_one_moment<F: Parsable>(format: &F, text: &[u8]) -> bool {
@@ -95,49 +88,70 @@ fn is_right_with_each_byte<F: Parsable>(format: &F, text: &mut [u8], place: usiz
     all_right
 }
 
+// It holds of the text with each byte at each of these places, and of the text cut there.
+pub(super) fn is_right_if_changed_at<F: Parsable>(
+    alloc: Global,
+    format: &F,
+    text: &[u8],
+    places: Range<usize>,
+) -> Result<bool, AllocError> {
+    let mut changed = Vec::new(alloc);
+    changed.extend_from_slice(text)?;
+    let mut all_right = is_right(format, text);
+    for place in places {
+        if let Some(front) = text.get(..place) {
+            all_right = all_right
+                && is_right(format, front)
+                && is_right_with_each_byte(format, &mut changed, place);
+        }
+    }
+    Ok(all_right)
+}
+
 // It holds of the text with each byte at each place, and of the text cut there.
 fn is_right_if_changed<F: Parsable>(
     alloc: Global,
     format: &F,
     text: &[u8],
 ) -> Result<bool, AllocError> {
-    let mut changed = Vec::new(alloc);
-    changed.extend_from_slice(text)?;
-    let mut all_right = is_right(format, text);
-    for place in 0..text.len() {
-        all_right = all_right
-            && is_right(format, &text[..place])
-            && is_right_with_each_byte(format, &mut changed, place);
+    is_right_if_changed_at(alloc, format, text, 0..text.len())
+}
+
+// It holds of each of the texts.
+fn all_are_right_if_changed<F: Parsable>(alloc: Global, format: &F, texts: &[&[u8]]) -> bool {
+    let mut all_right = true;
+    for text in texts {
+        all_right = all_right && is_right_if_changed(alloc, format, text) == Ok(true);
     }
-    Ok(all_right)
+    all_right
 }
 
 #[test]
 fn changed_bytes(rt: HostRuntime) {
-    for text in &STAMPS {
-        assert!(rt;
-            is_right_if_changed(rt.alloc(), &Rfc3339, text) == Ok(true),
-            "{text:?}"
-        );
-    }
+    assert!(rt; all_are_right_if_changed(rt.alloc(), &Rfc3339, &STAMPS[..5]));
+}
+
+#[test]
+fn changed_bytes_of_more_stamps(rt: HostRuntime) {
+    assert!(rt; all_are_right_if_changed(rt.alloc(), &Rfc3339, &STAMPS[5..]));
 }
 
 #[test]
 fn changed_bytes_of_mail_dates(rt: HostRuntime) {
-    for text in &MAIL_DATES {
-        assert!(rt;
-            is_right_if_changed(rt.alloc(), &Rfc2822, text) == Ok(true),
-            "{text:?}"
-        );
-    }
+    assert!(rt; all_are_right_if_changed(rt.alloc(), &Rfc2822, &MAIL_DATES[..2]));
 }
 
 #[test]
-fn changed_bytes_of_deep_comments(rt: HostRuntime) {
-    assert!(rt; is_right_if_changed(rt.alloc(), &Rfc2822, LEVELS_31) == Ok(true));
+fn changed_bytes_of_mail_dates_with_signs(rt: HostRuntime) {
+    assert!(rt; all_are_right_if_changed(rt.alloc(), &Rfc2822, &MAIL_DATES[2..4]));
 }
 
 #[test]
-fn changed_bytes_of_deeper_comments(rt: HostRuntime) {
-    assert!(rt; is_right_if_changed(rt.alloc(), &Rfc2822, LEVELS_32) == Ok(true));
+fn changed_bytes_of_mail_dates_with_blanks(rt: HostRuntime) {
+    assert!(rt; all_are_right_if_changed(rt.alloc(), &Rfc2822, &MAIL_DATES[4..6]));
+}
+
+#[test]
+fn changed_bytes_of_short_mail_dates(rt: HostRuntime) {
+    assert!(rt; all_are_right_if_changed(rt.alloc(), &Rfc2822, &MAIL_DATES[6..]));
 }

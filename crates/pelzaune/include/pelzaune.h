@@ -174,8 +174,8 @@ pelzaune_status pelzaune_described_parts(const pelzaune_description *description
 
 /* Where a text goes wrong. */
 typedef struct pelzaune_place {
-    size_t index; /* of what can't be read; the length where the text is too short */
-    uint8_t byte; /* the first byte of the literal that was expected there, and 0 where it was none */
+    size_t index; /* at which what was expected should stand; the length where the text is too short */
+    uint8_t byte; /* the byte of a literal that was expected there, and 0 where it was none */
 } pelzaune_place;
 
 /* Tells where a text that can't be read goes wrong, for a message to who wrote it. PELZAUNE_OK says that the whole text is

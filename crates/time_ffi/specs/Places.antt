@@ -34,7 +34,7 @@ abbrev pub first_of : List ℕ → ℕ
 first_of [] = 0
 first_of (b ∷ text) = b
 
--- the first byte of a literal that was expected
+-- the byte of a literal that was expected: the first of what is told
 abbrev pub wanted_byte : Wanted → ℕ
 wanted_byte (these_bytes text) = first_of text
 wanted_byte (named name) = 0

@@ -15,9 +15,9 @@ use time_values::error::ParseFromDescription;
 #[repr(C)]
 #[derive(Clone, Copy)]
 pub struct Place {
-    /// The index in the text of what can't be read. It is the length where the text is too short.
+    /// The index in the text at which what was expected should stand. It is the length where the text is too short.
     pub index: usize,
-    /// The first byte of the literal that was expected there, and 0 where it was none.
+    /// The byte of a literal that was expected there, and 0 where it was none.
     pub byte: u8,
 }
 

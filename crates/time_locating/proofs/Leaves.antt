@@ -10,17 +10,18 @@ use Rattle.time_components.specs.Tree.{Tree, Trees, literal, component, sequence
 use Rattle.time_record.specs.Attempts.{Attempts}
 use Rattle.time_record.specs.Reading.{IsFault, NoReading, Reads, ReadsAll, Refuses}
 use Rattle.time_record.specs.Record.{Record}
-use Rattle.time_locating.specs.Misses.{IsFurthest, Misses, Telling, missed, these_bytes, wanted_of}
+use Rattle.time_locating.specs.Misses.{IsFurthest, Miss, Misses, Telling, furthest, literal_misses, missed, wanted_of}
+use Rattle.time_locating.proofs.Literals.{literal-there}
 
 module _ (Y : ℕ) (told : Telling) (b : List ℕ) (r : Record) where
   pub literal_reads : (text rest : List ℕ) (q : Record) → Reads Y (literal text) b r rest q → IsFurthest (Misses Y told (literal text) b r) None
-  unfolding Misses
-  literal_reads text rest q h = ([], inl ((rest, q, h), refl), refl)
+  unfolding Misses Reads
+  literal_reads text rest q h = ([], sym (ap (literal_misses told text) h.0 ∙ literal-there told text rest), refl)
 
-  pub literal_misses : (text : List ℕ) → NoReading Y (literal text) b r →
-      IsFurthest (Misses Y told (literal text) b r) (Some (missed (length b) (these_bytes (told text))))
+  pub literal_misses-furthest : (text : List ℕ) (miss : Option Miss) → miss ≡ furthest (literal_misses told text b) →
+      IsFurthest (Misses Y told (literal text) b r) miss
   unfolding Misses
-  literal_misses text h = (missed (length b) (these_bytes (told text)) ∷ [], inr (h, refl), refl)
+  literal_misses-furthest text miss is = (literal_misses told text b, refl, is)
 
   pub component_reads : (w : Bool) (c : Component) (rest : List ℕ) (q : Record) → Reads Y (component w c) b r rest q →
       IsFurthest (Misses Y told (component w c) b r) None

@@ -1,5 +1,6 @@
 pub mod Furthest
 pub mod Leaves
+pub mod Literals
 pub mod MissLemmas
 pub mod PlaceLemmas
 pub mod TurnSteps

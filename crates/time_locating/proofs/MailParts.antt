@@ -1,18 +1,24 @@
 -- What is left after the places of a mail date.
-use Rattle.std.proofs.Common.{◌≡◌, ℕ, zero, suc, ◌+◌, ◌<◌, List, [], ◌∷◌, ◌++◌, length, drop, refl, ap, sym, ◌∙◌, subst, arith, true, false, Bool, Option, Some, is_some}
+use Rattle.std.proofs.Common.{◌≡◌, ℕ, zero, suc, ◌+◌, ◌<◌, ◌≤◌, List, [], ◌∷◌, ◌++◌, length, length-append, length-drop, drop, refl, ap, sym, ◌∙◌, subst, arith, true, false, Bool, Option, None, Some, is_some, unwrap_or}
 use Rattle.time_values.specs.declared.weekday.Weekday.{Weekday}
 use Rattle.time_digits.specs.Cuts.{Cut}
 use Rattle.time_digits.specs.Digits.{IsDigitRun}
 use Rattle.time_digits.proofs.CutLemmas.{IsUnique-cut}
 use Rattle.time_digits.proofs.Runs.{IsDigitRun-one}
+use Rattle.time_readers.specs.MailBlanks.{opt_cfws, opt_cfws_colon_opt_cfws}
 use Rattle.time_readers.specs.Places.{Stand}
+use Rattle.time_readers.specs.Readers.{Reader}
 use Rattle.time_readers.specs.Rfc2822.{Asks, FailsAt, IsWeekdayPart, IsYear, nothing_read, places}
 use Rattle.time_readers.specs.declared.rfc2822.Numbers.{Numbers}
 use Rattle.time_readers.specs.declared.rfc2822.Place.{Place}
 use Rattle.time_readers.specs.declared.rfc2822.Place.TheVariants.{WeekdayName, Day, DayBlanks, MonthName, MonthBlanks, Year, YearBlanks, Hour, HourColon, Minute, Second, TimeBlanks, OffsetHour, OffsetMinute, EndBlanks}
+use Rattle.time_readers.proofs.MailBlanks.{colon-leaves, opt_cfws-leaves}
 use Rattle.time_readers.proofs.OneMailDate.{MailAsks-unique}
+use Rattle.time_readers.proofs.Repeats.{Leaves}
 use Rattle.time_locating.specs.MailPlaces.{Agrees, rank}
 use Rattle.time_locating.specs.declared.rfc2822.Passed.{Passed}
+use Rattle.time_locating.specs.Rfc2822.{past, wanted_from}
+use Rattle.time_locating.proofs.PlaceMarks.{IsWithin}
 use Rattle.time_locating.proofs.RankedPlaces.{RankedFrom, rank-before}
 
 pub day_same : (s x y : List ℕ) (v w : ℕ) → Cut (IsDigitRun 1 2) s x v → Cut (IsDigitRun 1 2) s y w → x ≡ y
@@ -41,6 +47,20 @@ kept n m k passed is year sign h = (
   ap (λ (x : Numbers). x.year_is_full) is ∙ year ∙ h.0,
   ap (λ (x : Numbers). is_some x.offset_sign) is ∙ sign ∙ h.1,
 )
+
+past_answer : (p : Reader) → Leaves p → (b : List ℕ) (o : Option (List ℕ)) → p b ≡ o → length (unwrap_or o b) ≤ length b
+past_answer p leaves b None is = omega arith
+past_answer p leaves b (Some rest) is = let text = leaves b rest is in omega (arith, ap length text.1, length-append text.0 rest)
+
+past-within : (p : Reader) → Leaves p → (b : List ℕ) → length (past p b) ≤ length b
+past-within p leaves b = past_answer p leaves b (p b) refl
+
+-- what is wanted at a place begins in what is left there
+pub wanted_from-within : IsWithin wanted_from
+wanted_from-within WeekdayName b = omega (arith, past-within opt_cfws opt_cfws-leaves b, length-drop 3 (past opt_cfws b))
+wanted_from-within HourColon b = past-within opt_cfws opt_cfws-leaves b
+wanted_from-within Second b = past-within opt_cfws_colon_opt_cfws colon-leaves b
+wanted_from-within _ b = omega arith
 
 pub rank-below : (p : Place) → rank p < 15
 rank-below WeekdayName = omega arith

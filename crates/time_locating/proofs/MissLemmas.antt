@@ -10,9 +10,10 @@ use Rattle.time_record.specs.Components.{component_fault}
 use Rattle.time_record.specs.Reading.{IsFault, IsFaultAll, NoReading, Reads, ReadsAll, ReadsSome}
 use Rattle.time_record.specs.Record.{Record}
 use Rattle.time_record.proofs.Unique.{Reads-unique}
+use Rattle.time_locating.proofs.Literals.{literal_cases}
 use Rattle.time_locating.proofs.Places.{no_furthest}
 use Rattle.time_locating.specs.Laws.{FurthestLeavesFewest, OwnMissFirst, refusal_by}
-use Rattle.time_locating.specs.Misses.{Miss, Misses, MissesAll, MissesFirst, Telling, further, further_of, furthest, wanted_by}
+use Rattle.time_locating.specs.Misses.{Miss, Misses, MissesAll, MissesFirst, Telling, further, further_of, furthest, missed, these_bytes, wanted_by}
 
 -- the first of some misses tells that refusal
 abbrev BeginsWith : List Miss → Refusal → Type 0
@@ -34,8 +35,11 @@ mutual
 
   own : (Y : ℕ) (told : Telling) (t : Tree) (b : List ℕ) (r : Record) (e : Refusal) (ms : List Miss) → NoReading Y t b r →
       IsFault Y t b r e → Misses Y told t b r ms → BeginsWith ms e
-  own Y told (literal x) b r e ms unread f (inl h) = absurd (unread h.0.0 h.0.1 h.0.2)
-  own Y told (literal x) b r e ms unread f (inr h) = (_, [], h.1, sym f)
+  own Y told (literal x) b r e ms unread f h =
+      elim (literal_cases told x b) [
+        | inl there ↦ absurd (unread there.0.0 r (there.0.1, refl))
+        | inr m ↦ (missed m.left (these_bytes m.wanted), [], h ∙ m.is, sym f)
+      ]
   own Y told (component w c) b r e ms unread f (inl h) = absurd (unread h.0.0 h.0.1 h.0.2)
   own Y told (component w c) b r e ms unread f (inr h) = (_, [], h.1, told_component c ∙ sym f)
   own Y told (sequence ts) b r e ms unread f h = own-all Y told ts b r e ms f h

@@ -5,7 +5,7 @@ use Rattle.time_values.specs.Refusal.{Refusal}
 use Rattle.time_digits.specs.Cuts.{Cut}
 use Rattle.time_readers.specs.Places.{Format, Stand}
 use Rattle.time_record.specs.Record.{Record}
-use Rattle.time_locating.specs.ByPlaces.{MarksPlaces, MarksText, is_place_of}
+use Rattle.time_locating.specs.ByPlaces.{Beginning, MarksPlaces, MarksText, is_place_of}
 use Rattle.time_locating.specs.Located.{IsMarked}
 
 -- what a place leaves, as it is answered, where P agrees with what is known before and after it
@@ -13,7 +13,7 @@ abbrev pub LeftAfter : {P N S : Type 0} → Format P N → (N → S → Type 0) 
 LeftAfter {P} {N} A Agrees p b known found after =
     (n m : N) (mid : List ℕ) → Agrees n known → Cut (A p n) b mid m → (found ≡ Some mid) × Agrees m after
 
-module _ {P N S : Type 0} (A : Format P N) (fault : P → Refusal) (name : List ℕ) (Agrees : N → S → Type 0)
+module _ {P N S : Type 0} (A : Format P N) (wanted_from : Beginning P) (fault : P → Refusal) (name : List ℕ) (Agrees : N → S → Type 0)
     (all : List P) (start : N) (bytes : List ℕ) where
   -- These places are left, which stand, and their mark is the one of all.
   pub record Left (left : List P) (b : List ℕ) (known : S) : Type 0 where
@@ -22,7 +22,7 @@ module _ {P N S : Type 0} (A : Format P N) (fault : P → Refusal) (name : List 
     pub last : N
     pub stand : Stand A left numbers b end last
     pub agrees : Agrees numbers known
-    pub marks : (mark : Option ℕ) → MarksPlaces A fault name left numbers b mark → MarksPlaces A fault name all start bytes mark
+    pub marks : (mark : Option ℕ) → MarksPlaces A wanted_from fault name left numbers b mark → MarksPlaces A wanted_from fault name all start bytes mark
 
   pub Left-start : (end : List ℕ) (last : N) (known : S) → Stand A all start bytes end last → Agrees start known → Left all bytes known
   Left-start end last known s h = record {
@@ -38,7 +38,8 @@ module _ {P N S : Type 0} (A : Format P N) (fault : P → Refusal) (name : List 
   pub record Next (later : List P) (p : P) (b : List ℕ) (found : Option (List ℕ)) (after : S) : Type 0 where
     pub mid : List ℕ
     pub is : found ≡ Some mid
-    pub here : is_place_of name (fault p) b mid ≡ true → MarksPlaces A fault name all start bytes (Some (length b))
+    pub here : is_place_of name (fault p) b mid ≡ true
+        → MarksPlaces A wanted_from fault name all start bytes (Some (length (wanted_from p b)))
     pub past : is_place_of name (fault p) b mid ≡ false → Left later mid after
 
   Left-next : (p : P) (later : List P) (b : List ℕ) (known : S) → Left (p ∷ later) b known → (found : Option (List ℕ)) (after : S)
@@ -50,7 +51,7 @@ module _ {P N S : Type 0} (A : Format P N) (fault : P → Refusal) (name : List 
       record {
         mid = s.0;
         is = answer.0;
-        here = λ yes. f.marks (Some (length b)) (s.0, s.1, s.2, inl (yes, refl));
+        here = λ yes. f.marks (Some (length (wanted_from p b))) (s.0, s.1, s.2, inl (yes, refl));
         past = λ no. record {
           numbers = s.1;
           end = f.end;
@@ -69,16 +70,21 @@ module _ {P N S : Type 0} (A : Format P N) (fault : P → Refusal) (name : List 
       rw add-one (Left-next (get_or all i p) (drop (suc i) all) b known here found after step)
 
   -- none is left
-  pub Left-end : (left : List P) (b : List ℕ) (known : S) → left ≡ [] → Left left b known → MarksPlaces A fault name all start bytes None
+  pub Left-end : (left : List P) (b : List ℕ) (known : S) → left ≡ [] → Left left b known → MarksPlaces A wanted_from fault name all start bytes None
   unfolding MarksPlaces
-  Left-end left b known is f = f.marks None (subst (λ (ps : List P). MarksPlaces A fault name ps f.numbers b None) (sym is) refl)
+  Left-end left b known is f = f.marks None (subst (λ (ps : List P). MarksPlaces A wanted_from fault name ps f.numbers b None) (sym is) refl)
 
-module _ {P N : Type 0} (A : Format P N) (fault : P → Refusal) (name : List ℕ) where
+-- that which is wanted at a place begins in what is left there
+abbrev pub IsWithin : {P : Type 0} → Beginning P → Type 0
+IsWithin {P} wanted_from = (p : P) (b : List ℕ) → length (wanted_from p b) ≤ length b
+
+module _ {P N : Type 0} (A : Format P N) (wanted_from : Beginning P) (within : IsWithin wanted_from) (fault : P → Refusal) (name : List ℕ) where
   -- no mark leaves more bytes than there are
-  MarksPlaces-within : (ps : List P) (n : N) (b : List ℕ) (left : ℕ) → MarksPlaces A fault name ps n b (Some left) → left ≤ length b
+  MarksPlaces-within : (ps : List P) (n : N) (b : List ℕ) (left : ℕ) → MarksPlaces A wanted_from fault name ps n b (Some left) → left ≤ length b
   unfolding MarksPlaces
   MarksPlaces-within [] n b left h = let clash : Some left ≡ None = h in cc
-  MarksPlaces-within (p ∷ ps) n b left (mid, m, cut, inl h) = let same : left ≡ length b = cc in omega arith
+  MarksPlaces-within (p ∷ ps) n b left (mid, m, cut, inl h) =
+      let same : left ≡ length (wanted_from p b) = cc in omega (arith, within p b)
   MarksPlaces-within (p ∷ ps) n b left (mid, m, cut, inr h) =
       let later = MarksPlaces-within ps m mid left h.1 in
       omega (arith, ap length cut.1, length-append cut.0 mid)
@@ -86,8 +92,8 @@ module _ {P N : Type 0} (A : Format P N) (fault : P → Refusal) (name : List �
   module _ (ps : List P) (start : N) (bytes : List ℕ) (r : Record) where
     -- the index of a mark
     pub places_marked : (rest : List ℕ) (n : N) (mark : Option ℕ) → Stand A ps start bytes rest n
-        → MarksPlaces A fault name ps start bytes mark
-        → IsMarked (λ o b q x. MarksText A fault ps start o b x) name bytes r (option_map (λ left. length bytes - left) mark)
+        → MarksPlaces A wanted_from fault name ps start bytes mark
+        → IsMarked (λ o b q x. MarksText A wanted_from fault ps start o b x) name bytes r (option_map (λ left. length bytes - left) mark)
     places_marked rest n None s h = inr ((rest, n, s), h)
     places_marked rest n (Some left) s h =
         (left, inr ((rest, n, s), h), omega (arith, MarksPlaces-within ps start bytes left h))

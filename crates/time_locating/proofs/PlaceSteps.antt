@@ -1,10 +1,10 @@
 -- The place of a text by the places of a format, from what is answered.
-use Rattle.std.proofs.Common.{◌≡◌, ℕ, ◌+◌, ◌-◌, ◌≤◌, List, [], ◌∷◌, length, Option, Some, None, refl, ap, ◌∙◌, inl, inr, arith, length-append}
-use Rattle.time_readers.specs.Places.{Format, Stand, StopsAt}
+use Rattle.std.proofs.Common.{◌≡◌, ℕ, ◌-◌, ◌≤◌, List, [], ◌∷◌, length, Option, Some, None, refl, ap, ◌∙◌, inr, arith, length-append}
+use Rattle.time_readers.specs.Places.{Format, Stand}
 use Rattle.time_readers.proofs.Walking.{Stand-ends}
 use Rattle.time_record.specs.Record.{Record}
 use Rattle.time_parsing.specs.Outcome.{Reading}
-use Rattle.time_locating.specs.ByPlaces.{LocatesPlace}
+use Rattle.time_locating.specs.ByPlaces.{Beginning, LocatesPlace}
 use Rattle.time_locating.specs.Located.{IsLocated, end_of, seen_place, wants}
 use Rattle.time_locating.specs.Misses.{Miss, Wanted, missed, the_end}
 use Rattle.time_locating.specs.declared.located.Located.{Located}
@@ -17,17 +17,12 @@ module _ {P N : Type 0} (A : Format P N) (ps : List P) (start : N) where
       let sum = ap length ends.1 ∙ length-append ends.0 rest in
       omega arith
 
-  module _ (wanted_at : P → Wanted) (reads : Reading) (begin : Record) (bytes : List ℕ) where
-    -- a place doesn't stand
-    pub stops-located : (p : P) (stop : StopsAt A ps start bytes p) (at : Located) → at.index + length stop.mid ≡ length bytes
-        → wants at.expected ≡ wanted_at p → IsLocated reads (λ b r m. LocatesPlace A ps start wanted_at b m) bytes begin (Some at)
-    stops-located p stop at index wanted = (missed (length stop.mid) (wanted_at p), inl (p, stop, refl), index, wanted)
-
+  module _ (wanted_from : Beginning P) (wanted_at : P → Wanted) (reads : Reading) (begin : Record) (bytes : List ℕ) where
     -- all places stand
     pub stands-located : (rest : List ℕ) (n : N) (result : Option Located) → Stand A ps start bytes rest n
         → ((r : Record) → Stand A ps start bytes [] n → (q : Record) × reads bytes r [] q)
         → seen_place result ≡ end_of (length bytes) rest
-        → IsLocated reads (λ b r m. LocatesPlace A ps start wanted_at b m) bytes begin result
+        → IsLocated reads (λ b r m. LocatesPlace A ps start wanted_from wanted_at b m) bytes begin result
     stands-located [] n None s whole is = whole begin s
     stands-located [] n (Some at) s whole is = let clash : Some (missed at.index (wants at.expected)) ≡ None = is in cc
     stands-located (b ∷ rest) n None s whole is =

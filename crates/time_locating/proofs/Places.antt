@@ -9,6 +9,7 @@ use Rattle.time_locating.specs.Located.{IsLocated, place_in, seen_place, wants}
 use Rattle.time_locating.specs.Misses.{IsFurthest, LocatesTree, Miss, Misses, MissesAll, MissesFirst, MissesText, Telling, further, furthest, missed, the_end}
 use Rattle.time_locating.specs.declared.located.Located.{Located}
 use Rattle.time_locating.proofs.Furthest.{LeavesUpTo, further-leaves, furthest-append}
+use Rattle.time_locating.proofs.Literals.{literal_cases}
 
 front_empty : (xs ys : List Miss) → xs ++ ys ≡ [] → xs ≡ []
 front_empty [] ys is = refl
@@ -31,8 +32,11 @@ module _ (Y : ℕ) (told : Telling) where
 
     -- a tree that reads nothing misses something
     Misses-some : (t : Tree) (b : List ℕ) (r : Record) (ms : List Miss) → NoReading Y t b r → Misses Y told t b r ms → ms ≡ [] → ⊥
-    Misses-some (literal x) b r ms unread (inl h) is = unread h.0.0 h.0.1 h.0.2
-    Misses-some (literal x) b r ms unread (inr h) is = let clash = sym h.1 ∙ is in cc
+    Misses-some (literal x) b r ms unread h is =
+        elim (literal_cases told x b) [
+          | inl there ↦ unread there.0.0 r (there.0.1, refl)
+          | inr m ↦ let clash = sym m.is ∙ sym h ∙ is in cc
+        ]
     Misses-some (component w c) b r ms unread (inl h) is = unread h.0.0 h.0.1 h.0.2
     Misses-some (component w c) b r ms unread (inr h) is = let clash = sym h.1 ∙ is in cc
     Misses-some (sequence ts) b r ms unread h is = MissesAll-some ts b r ms unread h is
@@ -54,8 +58,8 @@ module _ (Y : ℕ) (told : Telling) where
 
     -- no miss leaves more than there is
     Misses-within : (t : Tree) (b : List ℕ) (r : Record) (ms : List Miss) → Misses Y told t b r ms → LeavesUpTo (length b) (furthest ms)
-    Misses-within (literal x) b r ms (inl h) = rw h.1 tt
-    Misses-within (literal x) b r ms (inr h) = rw h.1 (omega arith)
+    Misses-within (literal x) b r ms h =
+        elim (literal_cases told x b) [ inl there ↦ rw (h, there.1) tt | inr m ↦ rw (h, m.is) m.within ]
     Misses-within (component w c) b r ms (inl h) = rw h.1 tt
     Misses-within (component w c) b r ms (inr h) = rw h.1 (omega arith)
     Misses-within (sequence ts) b r ms h = MissesAll-within ts b r ms h

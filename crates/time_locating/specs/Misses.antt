@@ -1,8 +1,9 @@
 -- What the reading of a tree misses, and where. `Y` is the greatest year.
 --
--- A miss is a leaf that is begun and reads nothing. A list of misses begins with the one that the refusal of its tree
--- names: of trees in turn the later come before the earlier, and of alternatives the earlier before the later.
-use Rattle.std.specs.Prelude.{◌≡◌, ◌≢◌, ℕ, ◌⊎◌, List, [], ◌∷◌, ◌++◌, length, Option, Some, None, nat_lt, if◌then◌else◌}
+-- A miss is a leaf that is begun and reads nothing: a component where it begins, and a literal at its first byte that
+-- isn't there. A list of misses begins with the one that the refusal of its tree names: of trees in turn the later come
+-- before the earlier, and of alternatives the earlier before the later.
+use Rattle.std.specs.Prelude.{◌≡◌, ◌≢◌, ◌==◌, ℕ, ◌⊎◌, List, [], ◌∷◌, ◌++◌, length, Option, Some, None, nat_lt, if◌then◌else◌}
 use Rattle.time_values.specs.Refusal.{Refusal, component as of_component}
 use Rattle.time_components.specs.declared.format_description.Component.{Component}
 use Rattle.time_components.specs.Tree.{Tree, Trees, literal, component, sequence, optional, first_of, none, more}
@@ -16,7 +17,7 @@ pub data Wanted : Type 0 where
   named : List ℕ → Wanted
   the_end : Wanted
 
--- how many bytes were left where nothing was read, and what was wanted there
+-- how many bytes were left where what was wanted isn't there
 pub record Miss : Type 0 where
   pub left : ℕ
   pub wanted : Wanted
@@ -33,7 +34,7 @@ wanted_of _ = the_end
 abbrev pub wanted_by : Component → Wanted
 wanted_by c = wanted_of (component_fault c)
 
--- which bytes of a literal are told
+-- which bytes are told of what is left of a literal
 abbrev pub Telling : Type 0
 Telling = List ℕ → List ℕ
 
@@ -45,7 +46,15 @@ abbrev pub first_byte : Telling
 first_byte [] = []
 first_byte (b ∷ text) = b ∷ []
 
--- a leaf that reads is no miss, and one that reads nothing is one
+-- A literal with which the bytes begin is no miss. Any other is missed at its first byte that isn't there.
+abbrev pub literal_misses : Telling → List ℕ → List ℕ → List Miss
+literal_misses told [] bytes = []
+literal_misses told (t ∷ text) [] = missed 0 (these_bytes (told (t ∷ text))) ∷ []
+literal_misses told (t ∷ text) (b ∷ bytes) =
+    if b == t then literal_misses told text bytes
+    else missed (length (b ∷ bytes)) (these_bytes (told (t ∷ text))) ∷ []
+
+-- a component that reads is no miss, and one that reads nothing is one
 abbrev pub MissesLeaf : ℕ → Tree → Wanted → List ℕ → Record → List Miss → Type 0
 MissesLeaf Y t wanted bytes r ms =
     (((rest : List ℕ) × (q : Record) × Reads Y t bytes r rest q) × (ms ≡ []))
@@ -54,7 +63,7 @@ MissesLeaf Y t wanted bytes r ms =
 unfoldable mutual
   -- These are the misses, where the tree is read from the bytes over the record, or seen to read nothing.
   pub Misses : ℕ → Telling → Tree → List ℕ → Record → List Miss → Type 0
-  Misses Y told (literal t) bytes r ms = MissesLeaf Y (literal t) (these_bytes (told t)) bytes r ms
+  Misses Y told (literal t) bytes r ms = ms ≡ literal_misses told t bytes
   Misses Y told (component whole c) bytes r ms = MissesLeaf Y (component whole c) (wanted_by c) bytes r ms
   Misses Y told (sequence ts) bytes r ms = MissesAll Y told ts bytes r ms
   Misses Y told (optional t) bytes r ms = Misses Y told t bytes r ms

@@ -1,9 +1,11 @@
 -- The place of a text that RFC 2822 refuses.
-use Rattle.std.specs.Prelude.{true, codes}
+use Rattle.std.specs.Prelude.{ℕ, List, drop, true, codes, unwrap_or}
+use Rattle.time_readers.specs.MailBlanks.{opt_cfws, opt_cfws_colon_opt_cfws}
+use Rattle.time_readers.specs.Readers.{Reader}
 use Rattle.time_readers.specs.Rfc2822.{Asks, places, nothing_read, fault}
 use Rattle.time_readers.specs.declared.rfc2822.Place.{Place}
-use Rattle.time_readers.specs.declared.rfc2822.Place.TheVariants.{WeekdayName, DayBlanks, MonthBlanks, YearBlanks, HourColon, TimeBlanks}
-use Rattle.time_locating.specs.ByPlaces.{LocatesPlace, MarksText}
+use Rattle.time_readers.specs.declared.rfc2822.Place.TheVariants.{WeekdayName, DayBlanks, MonthBlanks, YearBlanks, HourColon, Second, TimeBlanks}
+use Rattle.time_locating.specs.ByPlaces.{Beginning, LocatesPlace, MarksText}
 use Rattle.time_locating.specs.Located.{Locating, Marking}
 use Rattle.time_locating.specs.Misses.{Wanted, these_bytes, wanted_of}
 
@@ -18,12 +20,25 @@ wanted_at HourColon = these_bytes (codes ":")
 wanted_at TimeBlanks = these_bytes (codes " ")
 wanted_at p = wanted_of (fault p)
 
+-- what a reader leaves, which is all where it reads nothing
+abbrev pub past : Reader → List ℕ → List ℕ
+past reader bytes = unwrap_or (reader bytes) bytes
+
+-- Where that begins which is wanted at a place: the comma after the blanks and the three letters of a weekday, the
+-- hour's colon after its blanks, and a second after its colon and the blanks beside it. All else begins where its place
+-- does.
+abbrev pub wanted_from : Beginning Place
+wanted_from WeekdayName bytes = drop 3 (past opt_cfws bytes)
+wanted_from HourColon bytes = past opt_cfws bytes
+wanted_from Second bytes = past opt_cfws_colon_opt_cfws bytes
+wanted_from p bytes = bytes
+
 -- The first of the fifteen places that doesn't have its form or whose number is out of its range, whatever the record;
 -- or else the end.
 abbrev pub Locates : Locating
-Locates bytes r m = LocatesPlace (Asks true) places nothing_read wanted_at bytes m
+Locates bytes r m = LocatesPlace (Asks true) places nothing_read wanted_from wanted_at bytes m
 
--- The text of the place of that name, whatever the record: after a zone name an offset has no minute, and a text may
--- have no second.
+-- Where the component of that name begins, whatever the record: after a zone name an offset has no minute, and a text
+-- may have no second.
 abbrev pub Marks : Marking
-Marks name bytes r mark = MarksText (Asks true) fault places nothing_read name bytes mark
+Marks name bytes r mark = MarksText (Asks true) wanted_from fault places nothing_read name bytes mark

@@ -3,7 +3,7 @@ use Rattle.std.specs.Prelude.{true, codes}
 use Rattle.time_readers.specs.Rfc3339.{Asks, places, nothing_read, fault}
 use Rattle.time_readers.specs.declared.rfc3339.Place.{Place}
 use Rattle.time_readers.specs.declared.rfc3339.Place.TheVariants.{YearDash, MonthDash, HourColon, MinuteColon, OffsetColon}
-use Rattle.time_locating.specs.ByPlaces.{LocatesPlace, MarksText}
+use Rattle.time_locating.specs.ByPlaces.{LocatesPlace, MarksText, at_once}
 use Rattle.time_locating.specs.Located.{Locating, Marking}
 use Rattle.time_locating.specs.Misses.{Wanted, these_bytes, wanted_of}
 
@@ -19,9 +19,9 @@ wanted_at p = wanted_of (fault p)
 -- The first of the fifteen places that doesn't have its form or whose number is out of its range, whatever the record;
 -- or else the end.
 abbrev pub Locates : Locating
-Locates bytes r m = LocatesPlace (Asks true) places nothing_read wanted_at bytes m
+Locates bytes r m = LocatesPlace (Asks true) places nothing_read at_once wanted_at bytes m
 
 -- The text of the place of that name, whatever the record: after `Z` an offset has no minute, and a second may have no
 -- fraction.
 abbrev pub Marks : Marking
-Marks name bytes r mark = MarksText (Asks true) fault places nothing_read name bytes mark
+Marks name bytes r mark = MarksText (Asks true) at_once fault places nothing_read name bytes mark

@@ -19,9 +19,10 @@ pub trait Locate: Parsable {
     /// Where a text is refused that is read over the defaults: the index of the byte that no reading gets past, and what
     /// was expected there. `None` where the whole text is read, also where no value is made of what it says.
     ///
-    /// A leaf of the format, a literal or a component, is missed where it is tried and reads nothing. The end of the text
-    /// is missed where the format reads a front of it. The place is the miss that leaves the fewest bytes, and of those
-    /// at one index the one that the refusal of the parse names, or else the first.
+    /// A leaf of the format, a literal or a component, is missed where it is tried and reads nothing: a component where it
+    /// begins, and a literal at its first byte that isn't there. The end of the text is missed where the format reads a
+    /// front of it. The place is the miss that leaves the fewest bytes, and of those at one index the one that the refusal
+    /// of the parse names, or else the first.
     fn locate<'a>(&'a self, input: &[u8], defaults: Option<Parsed>) -> Option<Located<'a>>
         ensures { IsLocated (Self.reads self.now) (locates self.now) input.now (begun defaults) result };
 

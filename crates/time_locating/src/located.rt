@@ -9,7 +9,8 @@ use std::fmt;
 /// What was expected where a text is refused.
 #[derive(Clone, Copy, Debug, PartialEq, Eq)]
 pub enum Expected<'a> {
-    /// These bytes. Of a literal of a `Description`, which keeps each byte by itself, it is the first.
+    /// These bytes: what is left of a literal from its first byte on that isn't there. Of a literal of a `Description`,
+    /// which keeps each byte by itself, it is that byte alone.
     Literal(&'a [u8]),
     /// The component of this name.
     Component(&'static str),
@@ -34,7 +35,8 @@ impl fmt::Display for Expected<'_> {
 /// Where a text is refused.
 #[derive(Clone, Copy, Debug, PartialEq, Eq)]
 pub struct Located<'a> {
-    /// The index in the text at which that begins which can't be read. It is the length where the text is too short.
+    /// The index in the text at which what is expected should stand: a component, or of a literal its first byte that isn't
+    /// there. It is the length where the text is too short.
     pub index: usize,
     /// What was expected there.
     pub expected: Expected<'a>,

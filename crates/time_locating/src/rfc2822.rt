@@ -11,6 +11,7 @@ ghost use Rattle.time_readers.specs.declared.rfc2822.Place.TheVariants as place;
 ghost use Rattle.time_locating.specs.ByPlaces.{MarksPlaces};
 ghost use Rattle.time_locating.specs.MailPlaces.{Agrees, rank};
 ghost use Rattle.time_locating.specs.Located.{wants};
+ghost use Rattle.time_locating.specs.Rfc2822 as spec;
 ghost use Rattle.time_locating.specs.Rfc2822.{wanted_at};
 
 use crate::located::{after_all, past_bytes};
@@ -25,6 +26,9 @@ use time_readers::rfc2822::{
 };
 use time_readers::{ParsedItem, modifier};
 use time_record::Parsed;
+
+// How many letters of a weekday's name stand.
+const WEEKDAY_LETTERS: usize = 3;
 
 // The places in order.
 const PLACES: [Place; 15] = [
@@ -56,6 +60,18 @@ fn expected_at(place: Place) -> Expected<'static>
         }
         Place::HourColon => Expected::Literal(b":"),
         _ => wanted_of(place_fault(place)),
+    }
+}
+
+// Of what is left where a place begins: what is left where that should begin which is expected at it.
+fn wanted_from(place: Place, input: &[u8]) -> &[u8]
+    ensures { result.now ≡ spec.wanted_from place input.now }
+{
+    match place {
+        Place::WeekdayName => opt_cfws(input).0.get(WEEKDAY_LETTERS..).unwrap_or(&[]),
+        Place::HourColon => opt_cfws(input).0,
+        Place::Second => past_blanks(opt_cfws_colon_opt_cfws(input)).unwrap_or(input),
+        _ => input,
     }
 }
 
@@ -189,10 +205,10 @@ fn rest_before<'a>(place: Place, input: &'a [u8]) -> Option<&'a [u8]>
     Some(rest)
 }
 
-// How many bytes are left where the place of this name begins, if it has a text, where all places stand.
+// How many bytes are left where the text of this name begins, where all places stand.
 fn mark_of_place(input: &[u8], name: &str) -> Option<usize>
     ensures { (rest : List ℕ) (n : Numbers) → HasForm true input.now rest n
-        → MarksPlaces (Asks true) fault name.now places nothing_read input.now result }
+        → MarksPlaces (Asks true) spec.wanted_from fault name.now places nothing_read input.now result }
 {
     let mut rest = input;
     let mut passed = Passed {
@@ -202,7 +218,7 @@ fn mark_of_place(input: &[u8], name: &str) -> Option<usize>
     for place in &PLACES {
         let after = past(*place, rest, &mut passed)?;
         if is_place_of(place_fault(*place), name, rest, after) {
-            return Some(rest.len());
+            return Some(wanted_from(*place, rest).len());
         }
         rest = after;
     }
@@ -220,7 +236,7 @@ impl Locate for Rfc2822 {
             Err(place) => {
                 let rest = rest_before(place, input)?;
                 Some(Located {
-                    index: input.len() - rest.len(),
+                    index: input.len() - wanted_from(place, rest).len(),
                     expected: expected_at(place),
                 })
             }

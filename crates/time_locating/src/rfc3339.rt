@@ -6,7 +6,7 @@ ghost use Rattle.time_readers.specs.Rfc3339.{Asks, FailsAt, HasForm, IsSubsecond
 ghost use Rattle.time_readers.specs.declared.rfc3339.Numbers.{Numbers};
 ghost use Rattle.time_readers.specs.declared.rfc3339.Place.TheVariants as place;
 ghost use Rattle.time_values.specs.Range.{greatest_year};
-ghost use Rattle.time_locating.specs.ByPlaces.{MarksPlaces};
+ghost use Rattle.time_locating.specs.ByPlaces.{MarksPlaces, at_once};
 ghost use Rattle.time_locating.specs.Located.{wants};
 ghost use Rattle.time_locating.specs.Rfc3339.{wanted_at};
 
@@ -133,7 +133,7 @@ fn past<'a>(place: Place, input: &'a [u8], is_utc: &mut bool) -> Option<&'a [u8]
 // How many bytes are left where the place of this name begins, if it has a text, where all places stand.
 fn mark_of_place(input: &[u8], name: &str) -> Option<usize>
     ensures { (rest : List ℕ) (n : Numbers) → HasForm true input.now rest n
-        → MarksPlaces (Asks true) fault name.now places nothing_read input.now result }
+        → MarksPlaces (Asks true) at_once fault name.now places nothing_read input.now result }
 {
     let mut rest = input;
     let mut is_utc = false;

@@ -11,14 +11,13 @@ ghost use Rattle.time_locating.specs.Located.{seen_miss};
 ghost use Rattle.time_locating.specs.Marks.{MarksTree};
 ghost use Rattle.time_locating.specs.Misses.{IsFurthest, Misses, MissesAll, MissesFirst, all_bytes};
 
-use crate::Expected;
 use crate::mark::mark_of;
-use crate::miss::{Miss, further, missed_at, wanted_of};
+use crate::miss::{Miss, further, missed_at, missed_in, wanted_of};
 use time_components::{Component, FormatDescriptionV3Inner, Inspect, Node};
 use time_record::Parsed;
 
 /// Reads an item in front of the input over the record, and answers what it leaves unread. Beside it stand the
-/// furthest of the leaves that were begun and read nothing, and how many bytes are left where the last component of
+/// furthest of the bytes and components that weren't there, and how many bytes are left where the last component of
 /// this name begins that is read. An item that reads nothing leaves the record as it was.
 #[cycle(items)]
 pub(crate) fn walk<'a, 'd, I: Inspect>(
@@ -115,7 +114,7 @@ fn literal<'a, 'd>(
 {
     match Parsed::parse_literal(input, text) {
         Ok(rest) => (Some(rest), None, None),
-        Err(_) => (None, missed_at(Expected::Literal(text), input), None),
+        Err(_) => (None, missed_in(text, input), None),
     }
 }
 

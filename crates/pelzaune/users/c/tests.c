@@ -200,6 +200,10 @@ static void test_places(void)
     EXPECT(pelzaune_locate(PELZAUNE_RFC3339, TEXT("2021-01-02T03:04:05Zx"), &p) == PELZAUNE_TRAILING && p.index == 20 && p.byte == 0);
     EXPECT(pelzaune_locate(PELZAUNE_RFC3339, NULL, 0, &p) == PELZAUNE_INVALID_COMPONENT + 256 * 1 && p.index == 0);
     EXPECT(pelzaune_locate(PELZAUNE_RFC2822, TEXT("02 Jan 2021 03:04:05 +0607 x"), &p) == PELZAUNE_TRAILING && p.byte == 0);
+    EXPECT(pelzaune_locate(PELZAUNE_RFC2822, TEXT("Sat 02 Jan 2021 03:04 +0607"), &p) == PELZAUNE_INVALID_LITERAL && p.index == 3 && p.byte == ',');
+    EXPECT(pelzaune_locate(PELZAUNE_RFC2822, TEXT("02 Jan 2021 03:04: +0607"), &p) == PELZAUNE_INVALID_COMPONENT + 256 * 10 && p.index == 19);
+    EXPECT(pelzaune_read_locate(PELZAUNE_BRACKETS_2, DESCRIPTION("[year]-W[day]"), TEXT("2021-w02"), &p) == PELZAUNE_INVALID_LITERAL && p.index == 5
+        && p.byte == 'W');
     EXPECT(pelzaune_read_locate(PELZAUNE_BRACKETS_2, YMD, TEXT("2021-13-02"), &p) == PELZAUNE_INVALID_COMPONENT + 256 * 2 && p.index == 5);
     EXPECT(pelzaune_read_locate(PELZAUNE_BRACKETS_1, YMD, TEXT("2021-13"), &p) == PELZAUNE_INVALID_COMPONENT + 256 * 2 && p.index == 5);
     EXPECT(pelzaune_read_locate(PELZAUNE_STRFTIME, LOG, TEXT("02/Jan-2021:03:04:05 -0030"), &p) == PELZAUNE_INVALID_LITERAL && p.index == 6

@@ -20,7 +20,7 @@ mutual
 
   pub Misses-one : (Y : ℕ) (told : Telling) (t : Tree) (b : List ℕ) (r : Record) (ms ns : List Miss)
       → Misses Y told t b r ms → Misses Y told t b r ns → ms ≡ ns
-  Misses-one Y told (literal x) b r ms ns h k = MissesLeaf-one Y (literal x) _ b r ms ns h k
+  Misses-one Y told (literal x) b r ms ns h k = h ∙ sym k
   Misses-one Y told (component w c) b r ms ns h k = MissesLeaf-one Y (component w c) _ b r ms ns h k
   Misses-one Y told (sequence ts) b r ms ns h k = MissesAll-one Y told ts b r ms ns h k
   Misses-one Y told (optional t) b r ms ns h k = Misses-one Y told t b r ms ns h k

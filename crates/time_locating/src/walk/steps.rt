@@ -8,7 +8,7 @@ ghost use Rattle.time_components.specs.Tree.{Tree, first_of, more, none};
 ghost use Rattle.time_record.specs.Attempts.{Attempts};
 ghost use Rattle.time_locating.specs.Located.{seen_miss};
 ghost use Rattle.time_locating.specs.Marks.{MarksTree};
-ghost use Rattle.time_locating.specs.Misses.{IsFurthest, Misses, MissesFirst, first_byte};
+ghost use Rattle.time_locating.specs.Misses.{IsFurthest, Misses, MissesFirst, first_byte, furthest, literal_misses};
 ghost use Rattle.time_locating.specs.StepRows as spec;
 ghost use Rattle.time_locating.specs.StepRows.{IsSplit};
 
@@ -101,7 +101,7 @@ fn walk_item<'a, 'd>(
         return (Some(input), None, None);
     };
     match step {
-        Step::Literal(byte) | Step::More(byte) => literal(byte, item, parsed, input),
+        Step::Literal(byte) | Step::More(byte) => literal(byte, inside, item, parsed, input),
         Step::Component(component) => read_component(*component, parsed, input, name),
         Step::Group(group, _) => walk_group(*group, inside, parsed, input, name),
     }
@@ -131,28 +131,49 @@ fn walk_group<'a, 'd>(
     }
 }
 
-// Reads the steps of a literal that begins with this byte.
+// Reads the item of a literal's steps: this byte, and those inside.
 fn literal<'a, 'd>(
     byte: &'d u8,
+    inside: &'d [Step],
     item: &[Step],
     parsed: &mut Parsed,
     input: &'a [u8],
 ) -> (Option<&'a [u8]>, Option<Miss<'d>>, Option<usize>)
-    ensures reads { (text : List ℕ) → steps_trees item.now ≡ more (tree.literal (byte.now ∷ text)) none
-        → Attempts greatest_year (tree.literal (byte.now ∷ text)) input.now parsed.old result.0 parsed.new }
-    ensures misses { (text : List ℕ) → steps_trees item.now ≡ more (tree.literal (byte.now ∷ text)) none
-        → IsFurthest (Misses greatest_year first_byte (tree.literal (byte.now ∷ text)) input.now parsed.old) (seen_miss result.1) }
-    ensures marks { (name text : List ℕ) → steps_trees item.now ≡ more (tree.literal (byte.now ∷ text)) none
-        → MarksTree greatest_year (tree.literal (byte.now ∷ text)) name input.now parsed.old result.2 }
+    ensures reads { let text = byte.now ∷ steps_.further inside.now in
+        steps_trees item.now ≡ more (tree.literal text) none
+        → Attempts greatest_year (tree.literal text) input.now parsed.old result.0 parsed.new }
+    ensures misses { let text = byte.now ∷ steps_.further inside.now in
+        steps_trees item.now ≡ more (tree.literal text) none
+        → IsFurthest (Misses greatest_year first_byte (tree.literal text) input.now parsed.old) (seen_miss result.1) }
+    ensures marks { (name : List ℕ) → let text = byte.now ∷ steps_.further inside.now in
+        steps_trees item.now ≡ more (tree.literal text) none
+        → MarksTree greatest_year (tree.literal text) name input.now parsed.old result.2 }
 {
     match parsed.parse_steps(input, item) {
         Ok(rest) => (Some(rest), None, None),
-        Err(_) => (
-            None,
-            missed_at(Expected::Literal(slice::from_ref(byte)), input),
-            None,
-        ),
+        Err(_) => (None, missed_in(byte, inside, input), None),
     }
+}
+
+// What is missed of a literal: its first byte that isn't there, of this one and the further ones in front of the steps.
+fn missed_in<'d>(byte: &'d u8, steps: &'d [Step], input: &[u8]) -> Option<Miss<'d>>
+    ensures { seen_miss result ≡ furthest (literal_misses first_byte (byte.now ∷ steps_.further steps.now) input.now) }
+{
+    let mut wanted = byte;
+    let mut left = steps;
+    let mut rest = input;
+    while let [first, unread @ ..] = rest {
+        if first != wanted {
+            break;
+        }
+        let [Step::More(byte), behind @ ..] = left else {
+            return None;
+        };
+        wanted = byte;
+        left = behind;
+        rest = unread;
+    }
+    missed_at(Expected::Literal(slice::from_ref(wanted)), rest)
 }
 
 // The steps of the first item, and those after it. This is no second way of reading.

@@ -1,5 +1,5 @@
 //! Where components begin in texts that are read. The index is that of the component's first byte, of an offset's hour
-//! that of its sign, and of a second of RFC 2822 that of what stands before its colon.
+//! that of its sign, and of a second of RFC 2822 that of its first digit, after its colon.
 use super::description_of;
 use super::parts::{DAY, HOUR, MINUTE, MONTH, YEAR};
 use std::process::Abort;
@@ -49,24 +49,24 @@ static RFC3339: [Mark<'static>; 25] = [
 static RFC2822: [Mark<'static>; 20] = [
     (b"31 Nov 2021 00:00 GMT", "day", Some(0)),
     (b"Sat, 30 Feb 2021 03:04:05 +0607", "day", Some(5)),
-    (b"Sat, 2 Jan 2021 12:00:60 +0000", "second", Some(21)),
+    (b"Sat, 2 Jan 2021 12:00:60 +0000", "second", Some(22)),
     (b"Sat, 02 Jan 2021 03:04:05 +0607", "day", Some(5)),
     (b"Sat, 02 Jan 2021 03:04:05 +0607", "month", Some(8)),
     (b"Sat, 02 Jan 2021 03:04:05 +0607", "year", Some(12)),
     (b"Sat, 02 Jan 2021 03:04:05 +0607", "hour", Some(17)),
     (b"Sat, 02 Jan 2021 03:04:05 +0607", "minute", Some(20)),
-    (b"Sat, 02 Jan 2021 03:04:05 +0607", "second", Some(22)),
+    (b"Sat, 02 Jan 2021 03:04:05 +0607", "second", Some(23)),
     (b"Sat, 02 Jan 2021 03:04:05 +0607", "offset hour", Some(26)),
     (
         b"Sat, 02 Jan 2021 03:04:05 +0607",
         "offset minute",
         Some(29),
     ),
-    // The blanks before a place are a place of their own, and those before a second's colon are the second's.
+    // The blanks before a component aren't its own, and a second's colon isn't either.
     (b"2  Jan 21 03 : 04 : 05  EST", "month", Some(3)),
     (b"2  Jan 21 03 : 04 : 05  EST", "year", Some(7)),
     (b"2  Jan 21 03 : 04 : 05  EST", "minute", Some(15)),
-    (b"2  Jan 21 03 : 04 : 05  EST", "second", Some(17)),
+    (b"2  Jan 21 03 : 04 : 05  EST", "second", Some(20)),
     (b"2  Jan 21 03 : 04 : 05  EST", "offset hour", Some(24)),
     // A zone name has no minute, no second stands, and no refusal names the weekday.
     (b"2 Jan 21 03:04 EST", "offset minute", None),

@@ -37,7 +37,7 @@ const CLOCK: [Item; 3] = [Part(HOUR), item!(":"), Part(MINUTE)];
 const DAY_ITEMS: [Item; 2] = [Part(DAY), item!(".")];
 
 // By the first of `noon`, of an hour, `:` and a minute, and of a day and `.`.
-static CHOICE_ROWS: [Row<'static>; 14] = [
+static CHOICE_ROWS: [Row<'static>; 15] = [
     (b"12:60", 3, Component("minute")),
     (b"12:5", 3, Component("minute")),
     (b"12:", 3, Component("minute")),
@@ -50,8 +50,9 @@ static CHOICE_ROWS: [Row<'static>; 14] = [
     (b"12.x", 3, End),
     (b"12:30x", 5, End),
     (b"noon!", 4, End),
-    (b"night", 0, Literal(b"noon")),
-    (b"noo", 0, Literal(b"noon")),
+    (b"night", 1, Literal(b"oon")),
+    (b"noo", 3, Literal(b"n")),
+    (b"no:on", 2, Literal(b"on")),
     (b"32.", 0, Literal(b"noon")),
     (b"", 0, Literal(b"noon")),
 ];
@@ -63,6 +64,17 @@ static SHORTER_ROWS: [Row<'static>; 4] = [
     (b"12x", 2, End),
     (b"12:30:", 5, End),
     (b"24", 0, Component("hour")),
+];
+
+/// By the first of `noon`, `nine` and `ni`: of those missed at one byte the first.
+pub static WORD_ROWS: [Row<'static>; 6] = [
+    (b"nose", 2, Literal(b"on")),
+    (b"nin", 3, Literal(b"e")),
+    (b"name", 1, Literal(b"oon")),
+    (b"moon", 0, Literal(b"noon")),
+    (b"noon!", 4, End),
+    // `ni` reads, and `!` remains where `nine` is missed too: the end comes first.
+    (b"ni!", 2, End),
 ];
 
 const IN_BRACKETS: [Item; 3] = [item!("("), Part(DAY), item!(")")];
@@ -86,8 +98,10 @@ static ENDS_ROWS: [Row<'static>; 1] = [(b"23x", 2, End)];
 // Bytes that are no text are told as they stand.
 const BYTES: [Item; 2] = [BorrowedFormatItem::Literal(&[0xff, 0x00]), Part(DAY)];
 
-static BYTES_ROWS: [Row<'static>; 2] = [
-    (&[0xff, 0x01], 0, Literal(&[0xff, 0x00])),
+static BYTES_ROWS: [Row<'static>; 4] = [
+    (&[0xff, 0x01], 1, Literal(&[0x00])),
+    (&[0xff], 1, Literal(&[0x00])),
+    (&[0x00, 0xff], 0, Literal(&[0xff, 0x00])),
     (&[0xff, 0x00, 0xff], 2, Component("day")),
 ];
 
@@ -186,6 +200,12 @@ fn choices(rt: HostRuntime) {
     let items = [item!("noon"), clock, day];
     assert_located(&rt, &First(&items), &CHOICE_ROWS, &[b"noon"]);
     assert_located(&rt, &First(&[]), &NO_ROWS, &[b""]);
+}
+
+#[test]
+fn words(rt: HostRuntime) {
+    let words = [item!("noon"), item!("nine"), item!("ni")];
+    assert_located(&rt, &First(&words), &WORD_ROWS, &[b"noon", b"nine", b"ni"]);
 }
 
 #[test]

@@ -1,5 +1,6 @@
 //! Descriptions that own their items, and those of version 3.
 use super::components::{Mark, assert_marks};
+use super::items::WORD_ROWS;
 use super::parts::{DAY, HOUR, SKIP};
 use super::{Row, assert_located};
 use std::alloc::{AllocError, Global};
@@ -7,13 +8,21 @@ use std::test::Fail;
 use time_components::{
     BorrowedFormatItem, FormatDescriptionV3, FormatDescriptionV3Inner, OwnedFormatItem,
 };
-use time_locating::Expected::{Component, End};
+use time_locating::Expected::{Component, End, Literal};
 
 static DASH_AND_DAY: [Mark<'static>; 2] = [(b"-30", "day", Some(1)), (b"-32", "day", None)];
 
 static ONE_DAY: [Mark<'static>; 2] = [(b"30", "day", Some(0)), (b"30", "hour", None)];
 
 static HOUR_AND_LETTER: [Row<'static>; 2] = [(b"23m", 2, End), (b"24h", 0, Component("hour"))];
+
+// By `-W` and a day.
+static LETTER_AND_DAY: [Row<'static>; 4] = [
+    (b"-w23", 1, Literal(b"W")),
+    (b"-", 1, Literal(b"W")),
+    (b"W23", 0, Literal(b"-W")),
+    (b"-W32", 2, Component("day")),
+];
 
 // In a description of version 3 a skipped byte ends between characters: `\xc3\xa9` is the one of U+00E9.
 static SKIPPED_TEXT: [Row<'static>; 2] = [(b"\xc3\xa9", 0, Component("ignore")), (b"ab", 1, End)];
@@ -27,6 +36,24 @@ fn dash_and_day(alloc: Global) -> Result<OwnedFormatItem, AllocError> {
     items.push_reserved(OwnedFormatItem::Literal(dash));
     items.push_reserved(OwnedFormatItem::Component(DAY));
     Ok(OwnedFormatItem::Compound(items))
+}
+
+// `-W` and a day.
+fn letter_and_day(alloc: Global) -> Result<OwnedFormatItem, AllocError> {
+    let letter = b"-W".to_vec(alloc)?;
+    let mut items = Vec::with_capacity(alloc, 2)?;
+    items.push_reserved(OwnedFormatItem::Literal(letter));
+    items.push_reserved(OwnedFormatItem::Component(DAY));
+    Ok(OwnedFormatItem::Compound(items))
+}
+
+// The first of `noon`, `nine` and `ni`.
+fn words(alloc: Global) -> Result<OwnedFormatItem, AllocError> {
+    let mut items = Vec::with_capacity(alloc, 3)?;
+    for word in [b"noon".as_slice(), b"nine", b"ni"] {
+        items.push(OwnedFormatItem::Literal(word.to_vec(alloc)?))?;
+    }
+    Ok(OwnedFormatItem::First(items))
 }
 
 // An hour and then perhaps `h`.
@@ -44,6 +71,13 @@ fn owned(rt: HostRuntime) -> Result<(), Fail> {
     assert_marks(&rt, &dash_and_day(rt.alloc())?, &DASH_AND_DAY);
     let description = hour_and_letter(rt.alloc())?;
     assert_located(&rt, &description, &HOUR_AND_LETTER, &[b"23h"]);
+    assert_located(
+        &rt,
+        &letter_and_day(rt.alloc())?,
+        &LETTER_AND_DAY,
+        &[b"-W31"],
+    );
+    assert_located(&rt, &words(rt.alloc())?, &WORD_ROWS, &[b"noon", b"ni"]);
     Ok(())
 }
 
@@ -59,4 +93,21 @@ fn version_3(rt: HostRuntime) {
     assert_located(&rt, &skip, &SKIPPED_TEXT, &[]);
     let borrowed = BorrowedFormatItem::Component(SKIP);
     assert_located(&rt, &borrowed, &SKIPPED_BYTE, &[]);
+    let letter_and_day = [
+        FormatDescriptionV3Inner::BorrowedLiteral("-W"),
+        FormatDescriptionV3Inner::Component(DAY),
+    ];
+    let description = FormatDescriptionV3 {
+        inner: FormatDescriptionV3Inner::BorrowedCompound(&letter_and_day),
+    };
+    assert_located(&rt, &description, &LETTER_AND_DAY, &[b"-W31"]);
+    let words = [
+        FormatDescriptionV3Inner::BorrowedLiteral("noon"),
+        FormatDescriptionV3Inner::BorrowedLiteral("nine"),
+        FormatDescriptionV3Inner::BorrowedLiteral("ni"),
+    ];
+    let description = FormatDescriptionV3 {
+        inner: FormatDescriptionV3Inner::BorrowedFirst(&words),
+    };
+    assert_located(&rt, &description, &WORD_ROWS, &[b"noon", b"nine"]);
 }

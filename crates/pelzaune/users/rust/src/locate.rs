@@ -6,9 +6,9 @@ use std::fmt;
 /// Where a text that can't be read goes wrong. It prints as the library says what was expected there.
 #[derive(Clone, Copy, Debug, PartialEq, Eq, Hash)]
 pub struct Place {
-    /// The index of the byte that can't be read. It is the length where the text is too short.
+    /// The index at which what was expected should stand. It is the length where the text is too short.
     pub index: usize,
-    /// The first byte of the literal that was expected there, if it was one.
+    /// The byte of a literal that was expected there, if it was one.
     pub byte: Option<u8>,
     status: u32,
 }

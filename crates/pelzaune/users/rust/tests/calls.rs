@@ -88,6 +88,11 @@ fn places() {
     let place = locate("2021-13", Format::Described(&ymd)).unwrap();
     assert_eq!((place.index, place.byte, place.kind()), (4, Some(b'/'), Kind::InvalidLiteral));
     assert_eq!(locate("2021/12", Format::Described(&ymd)), None);
+    let week = Description::brackets("[year]-W[day]").unwrap();
+    let place = locate("2021-w02", Format::Described(&week)).unwrap();
+    assert_eq!((place.index, place.byte, place.kind()), (5, Some(b'W'), Kind::InvalidLiteral));
+    let place = locate("Sat 02 Jan 2021 03:04 +0607", Format::Rfc2822).unwrap();
+    assert_eq!((place.index, place.byte, place.kind()), (3, Some(b','), Kind::InvalidLiteral));
     let place = locate("2021-01-02T03:04:05Zx", Format::Rfc3339).unwrap();
     assert_eq!((place.index, place.byte, place.kind()), (20, None, Kind::Trailing));
 }

@@ -1,5 +1,5 @@
 use Rattle.std.proofs.Common.{refl}
-use Rattle.time_locating.proofs.Leaves.{literal_misses, literal_reads}
+use Rattle.time_locating.proofs.Leaves.{literal_misses-furthest, literal_reads}
 use Rattle.time_locating.proofs.MarkSteps.{literal_marks, marks_unread}
 use Rattle.time_locating.proofs.walk.literal.Goals as goal
 
@@ -10,7 +10,7 @@ pub returns-in-Err-clause-reads : goal.returns-in-Err-clause-reads
 returns-in-Err-clause-reads c = λ r. record { unread = (c.in-Err.ensures r).0.unread; same = refl }
 
 pub returns-in-Err-clause-misses : goal.returns-in-Err-clause-misses
-returns-in-Err-clause-misses c = rw c.missed_at.ensures (λ r. literal_misses _ _ _ r _ (c.in-Err.ensures r).0.unread)
+returns-in-Err-clause-misses c = λ r. literal_misses-furthest _ _ _ r _ _ c.missed_in.ensures
 
 pub returns-in-Ok-clause-marks : goal.returns-in-Ok-clause-marks
 returns-in-Ok-clause-marks c = λ r name. literal_marks _ name _ r _ _ _ (c.in-Ok.ensures r)

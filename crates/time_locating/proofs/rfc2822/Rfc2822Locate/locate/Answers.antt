@@ -1,4 +1,4 @@
-use Rattle.std.proofs.Common.{ℕ, ◌≤◌, List, [], true, length, refl, inl, ap, arith}
+use Rattle.std.proofs.Common.{◌≡◌, ℕ, ◌≤◌, List, [], true, Some, length, refl, inl, ap, ◌∙◌, arith}
 use Rattle.std.proofs.lemmas.Option.{none-some, same_Some}
 use Rattle.time_values.specs.Range.{greatest_year}
 use Rattle.time_readers.specs.Rfc2822.{Asks, FailsAt, nothing_read, places}
@@ -6,7 +6,8 @@ use Rattle.time_readers.specs.declared.rfc2822.Place.{Place}
 use Rattle.time_parsing.specs.Outcome.{begun}
 use Rattle.time_parsing.specs.Rfc2822.{Reads}
 use Rattle.time_locating.specs.Misses.{missed}
-use Rattle.time_locating.specs.Rfc2822.{wanted_at}
+use Rattle.time_locating.specs.Rfc2822.{wanted_at, wanted_from}
+use Rattle.time_locating.proofs.MailParts.{wanted_from-within}
 use Rattle.time_locating.proofs.PlaceSteps.{left-within, stands-located}
 use Rattle.time_locating.proofs.WholeTexts.{mail_reads_form}
 use Rattle.time_locating.proofs.rfc2822.Rfc2822Locate.locate.Goals as goal
@@ -17,26 +18,34 @@ after_all-requires c =
 
 pub returns-in-Ok : goal.returns-in-Ok
 returns-in-Ok c =
-    stands-located (Asks true) places nothing_read wanted_at (Reads greatest_year) (begun c.args._defaults) c.args.input.now c.in-Ok.found.0.now c.in-Ok.found.1
-    c.after_all.result c.in-Ok.ensures (λ r form. mail_reads_form c.args.input.now [] c.in-Ok.found.1 r form) c.after_all.ensures
+    stands-located (Asks true) places nothing_read wanted_from wanted_at (Reads greatest_year) (begun c.args._defaults)
+    c.args.input.now c.in-Ok.found.0.now c.in-Ok.found.1 c.after_all.result c.in-Ok.ensures
+    (λ r form. mail_reads_form c.args.input.now [] c.in-Ok.found.1 r form) c.after_all.ensures
 
 pub returns-in_err-rest-in-Err : goal.returns-in_err-rest-in-Err
 returns-in_err-rest-in-Err c = absurd (none-some c.in-Err.ensures.mid (c.in_err-rest-in-Err.ensures c.in-Err.ensures))
 
-within : (bytes : List ℕ) (p : Place) (s : FailsAt true bytes p) → length s.mid ≤ length bytes
-within bytes p s = left-within (Asks true) s.before nothing_read bytes s.mid s.numbers s.stand
+within : (bytes : List ℕ) (p : Place) (s : FailsAt true bytes p) → length (wanted_from p s.mid) ≤ length bytes
+within bytes p s =
+    let all = left-within (Asks true) s.before nothing_read bytes s.mid s.numbers s.stand in
+    omega (arith, wanted_from-within p s.mid)
+
+-- what is answered is where what is wanted should begin
+same_rest : (p : Place) (bytes rest from : List ℕ) (s : FailsAt true bytes p) → Some rest ≡ Some s.mid → from ≡ wanted_from p rest
+    → length from ≡ length (wanted_from p s.mid)
+same_rest p bytes rest from s is e = ap length e ∙ ap (λ b. length (wanted_from p b)) (same_Some rest s.mid is)
 
 pub overflow_sub-result : goal.overflow_sub-result
 overflow_sub-result c =
     let stop = c.in-Err.ensures in
-    let same = ap length (same_Some c.in_ok-rest-in-Err.rest.now stop.mid (c.in_ok-rest-in-Err.ensures stop)) in
+    let same = same_rest c.in-Err.place c.args.input.now c.in_ok-rest-in-Err.rest.now _ stop (c.in_ok-rest-in-Err.ensures stop) c.wanted_from.ensures in
     omega (arith, within c.args.input.now c.in-Err.place stop)
 
 pub returns-in_ok-rest-in-Err : goal.returns-in_ok-rest-in-Err
 returns-in_ok-rest-in-Err c =
     let stop = c.in-Err.ensures in
-    let same = ap length (same_Some c.in_ok-rest-in-Err.rest.now stop.mid (c.in_ok-rest-in-Err.ensures stop)) in (
-      missed (length stop.mid) (wanted_at c.in-Err.place),
+    let same = same_rest c.in-Err.place c.args.input.now c.in_ok-rest-in-Err.rest.now _ stop (c.in_ok-rest-in-Err.ensures stop) c.wanted_from.ensures in (
+      missed (length (wanted_from c.in-Err.place stop.mid)) (wanted_at c.in-Err.place),
       inl (c.in-Err.place, stop, refl),
       omega (arith, within c.args.input.now c.in-Err.place stop),
       c.expected_at.ensures,

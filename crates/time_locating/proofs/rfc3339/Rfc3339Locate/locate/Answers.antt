@@ -3,6 +3,7 @@ use Rattle.time_values.specs.Range.{greatest_year}
 use Rattle.time_readers.specs.Rfc3339.{Asks, nothing_read, places}
 use Rattle.time_parsing.specs.Outcome.{begun}
 use Rattle.time_parsing.specs.Rfc3339.{Reads}
+use Rattle.time_locating.specs.ByPlaces.{at_once}
 use Rattle.time_locating.specs.Misses.{missed}
 use Rattle.time_locating.specs.Rfc3339.{wanted_at}
 use Rattle.time_locating.proofs.PlaceSteps.{left-within, stands-located}
@@ -15,8 +16,8 @@ after_all-requires c =
 
 pub returns-in-Ok : goal.returns-in-Ok
 returns-in-Ok c =
-    stands-located (Asks true) places nothing_read wanted_at (Reads greatest_year) (begun c.args._defaults) c.args.input.now c.in-Ok.found.0.now c.in-Ok.found.1
-    c.after_all.result c.in-Ok.ensures (λ r form. reads_form c.args.input.now [] c.in-Ok.found.1 r form) c.after_all.ensures
+    stands-located (Asks true) places nothing_read at_once wanted_at (Reads greatest_year) (begun c.args._defaults) c.args.input.now
+    c.in-Ok.found.0.now c.in-Ok.found.1 c.after_all.result c.in-Ok.ensures (λ r form. reads_form c.args.input.now [] c.in-Ok.found.1 r form) c.after_all.ensures
 
 pub returns-in-Err : goal.returns-in-Err
 returns-in-Err c =

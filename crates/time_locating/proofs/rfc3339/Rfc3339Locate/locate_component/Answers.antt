@@ -1,6 +1,7 @@
-use Rattle.std.proofs.Common.{inl, refl, true}
+use Rattle.std.proofs.Common.{inl, refl, true, arith}
 use Rattle.time_parsing.specs.Outcome.{begun}
 use Rattle.time_readers.specs.Rfc3339.{Asks, fault, nothing_read, places}
+use Rattle.time_locating.specs.ByPlaces.{at_once}
 use Rattle.time_locating.proofs.PlaceMarks.{places_marked}
 use Rattle.time_locating.proofs.rfc3339.Rfc3339Locate.locate_component.Goals as goal
 
@@ -8,8 +9,8 @@ pub returns-in-Ok : goal.returns-in-Ok
 returns-in-Ok c =
     let form = c.in-Ok.ensures in
     rw c.index_of.ensures.text
-    (places_marked (Asks true) fault c.args.name.now places nothing_read c.args.input.now (begun c.args._defaults) _ _ c.mark_of_place.result
-    form (c.mark_of_place.ensures _ _ form))
+    (places_marked (Asks true) at_once (λ p b. omega arith) fault c.args.name.now places nothing_read c.args.input.now (begun c.args._defaults)
+    _ _ c.mark_of_place.result form (c.mark_of_place.ensures _ _ form))
 
 pub returns-in-Err : goal.returns-in-Err
 returns-in-Err c = inl ((c.in-Err.field-0, c.in-Err.ensures), refl)

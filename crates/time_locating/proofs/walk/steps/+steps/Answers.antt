@@ -1,5 +1,5 @@
 use Rattle.std.proofs.Common.{◌≡◌, get_or, refl, ap, sym, subst, ◌∙◌, arith, false}
-use Rattle.time_components.specs.Steps.{further, steps_trees, tree_at}
+use Rattle.time_components.specs.Steps.{steps_trees, tree_at}
 use Rattle.time_components.specs.Tree.{component, more, none}
 use Rattle.time_record.proofs.StepRows.{behind_first}
 use Rattle.time_locating.specs.Misses.{Misses}
@@ -141,17 +141,17 @@ walk_item-returns-in-Group-clause-marks t c tree is =
 pub walk_item-returns-in-Literal-clause-reads : goal.walk_item-returns-in-Literal-clause-reads
 walk_item-returns-in-Literal-clause-reads t c tree is =
     let one = literal_tree c.args.item.now _ c.in-Literal.byte tree c.in-len1-up.len_at_least c.step-item.is is c.in-Literal.is in
-    rw one (c.literal.ensures.reads (further (behind_first c.args.item.now)) (is ∙ ap (λ u. more u none) one))
+    rw one (c.literal.ensures.reads (is ∙ ap (λ u. more u none) one))
 
 pub walk_item-returns-in-Literal-clause-misses : goal.walk_item-returns-in-Literal-clause-misses
 walk_item-returns-in-Literal-clause-misses t c tree is =
     let one = literal_tree c.args.item.now _ c.in-Literal.byte tree c.in-len1-up.len_at_least c.step-item.is is c.in-Literal.is in
-    rw one (c.literal.ensures.misses (further (behind_first c.args.item.now)) (is ∙ ap (λ u. more u none) one))
+    rw one (c.literal.ensures.misses (is ∙ ap (λ u. more u none) one))
 
 pub walk_item-returns-in-Literal-clause-marks : goal.walk_item-returns-in-Literal-clause-marks
 walk_item-returns-in-Literal-clause-marks t c tree is =
     let one = literal_tree c.args.item.now _ c.in-Literal.byte tree c.in-len1-up.len_at_least c.step-item.is is c.in-Literal.is in
-    rw one (c.literal.ensures.marks c.args.name.now (further (behind_first c.args.item.now)) (is ∙ ap (λ u. more u none) one))
+    rw one (c.literal.ensures.marks c.args.name.now (is ∙ ap (λ u. more u none) one))
 
 pub walk_list-returns-in-None-clause-reads : goal.walk_list-returns-in-None-clause-reads
 walk_list-returns-in-None-clause-reads t c =

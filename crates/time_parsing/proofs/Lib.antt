@@ -18,3 +18,5 @@ mod IsoForm
 pub mod IsoBack
 pub mod UtcBack
 pub mod OneWrittenText
+pub mod CanonicalBack
+mod ByElements

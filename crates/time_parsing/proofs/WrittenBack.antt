@@ -78,7 +78,7 @@ module _ (k : ℕ) (few : k ≤ 9) (v w : OffsetDateTime) (cut : IsCut k v w)
     (hours : IsBetween (neg_ℤ (pos 23)) (pos 23) (Offsets.hours (offset_of v)))
     (whole : Offsets.seconds (offset_of v) ≡ pos 0) where
   -- the text of the moment with that offset
-  abbrev with_offset : List ℕ → List ℕ
+  abbrev pub with_offset : List ℕ → List ℕ
   with_offset offset =
       bytes (unsigned_abs (Dates.year (offset_date v))) (month_number (Dates.month (offset_date v))) (Dates.day (offset_date v))
       (Times.hour (offset_time v)) (Times.minute (offset_time v)) (Times.second (offset_time v))
@@ -119,7 +119,7 @@ module _ (k : ℕ) (few : k ≤ 9) (v w : OffsetDateTime) (cut : IsCut k v w)
         offset_minute = sym parts.1 j;
       })
 
-  numeric-back : IsDirectRfc3339 greatest_year (with_offset (numeric_text (offset_of v))) w
+  pub numeric-back : IsDirectRfc3339 greatest_year (with_offset (numeric_text (offset_of v))) w
   numeric-back =
       let o = offset_of v in
       let sign = sign_of (is_behind o) in

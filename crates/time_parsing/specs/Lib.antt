@@ -1,3 +1,4 @@
+pub mod Canonical
 pub mod Iso8601
 pub mod IsoFast
 pub mod IsoSteps

@@ -3,6 +3,7 @@ ghost use Rattle.time_values.specs.Range.{greatest_year};
 ghost use Rattle.time_record.specs.Resolution.{IsDated, IsTimed, IsOffset, IsPlain, IsUtcMoment, IsMoment, IsTimestamp};
 ghost use Rattle.time_descriptions.specs.Description.{shape};
 ghost use Rattle.time_readers.specs.Direct.{IsDirectRfc3339, IsDirectRfc2822, RefusesRfc3339, RefusesRfc2822};
+ghost use Rattle.time_parsing.specs.Canonical.{ReadsCanonicalBack};
 ghost use Rattle.time_parsing.specs.Iso8601 as Iso8601;
 ghost use Rattle.time_parsing.specs.KeptReadings.{KeepsReadings, KeepsRecords, KeepsTexts};
 ghost use Rattle.time_parsing.specs.OneWritten.{OneMailText, OneExtendedText, OneBasicText, ExtendedOrBasic};
@@ -16,6 +17,7 @@ ghost use Rattle.time_parsing.specs.TreeLaws.{JoinedReads, JoinedRefuses, Joined
 ghost use Rattle.time_writing.specs.declared.fraction.FractionDigits.TheVariants.{Auto, Exactly};
 
 use crate::Parsable;
+pub use crate::canonical::text_3339;
 use time_descriptions::Description;
 use time_record::AnyFormatItem;
 
@@ -86,12 +88,15 @@ pub fn law_suffix()
 
 /// The text that [`text_3339`](time_writing::text_3339) writes of a moment is read back by [`Rfc3339`](crate::Rfc3339) as
 /// that moment but for the digits that aren't written, without defaults, directly and over a record. As many digits as
-/// the fraction has, and nine, keep all of it.
+/// the fraction has, and nine, keep all of it. The canonical text, which [`text_3339`] of this module writes, is read back
+/// as the whole moment.
 pub fn law_read_back()
     ensures text { ReadsBack greatest_year (direct (RefusesRfc3339 greatest_year)) (Rfc3339.Reads greatest_year)
         (Rfc3339.Refuses greatest_year) }
     ensures auto { KeepsAll Auto }
     ensures nine { KeepsAll (Exactly 9) }
+    ensures canonical { ReadsCanonicalBack greatest_year (direct (RefusesRfc3339 greatest_year))
+        (Rfc3339.Reads greatest_year) (Rfc3339.Refuses greatest_year) }
 {}
 
 /// Moments with one text of RFC 3339 are one but for the digits that aren't written, and where as many are written as

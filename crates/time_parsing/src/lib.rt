@@ -8,6 +8,7 @@ macro_rules! put {
     };
 }
 
+mod canonical;
 mod description;
 pub mod iso8601;
 pub mod laws;

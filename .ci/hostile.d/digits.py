@@ -1,0 +1,37 @@
+"""Runs of digits in bytes. A reader answers what it read and where it ended, or None."""
+
+
+def run(text, at, least, most):
+    """From `least` to `most` digits, as many as stand there."""
+    end = at
+    while end < len(text) and end - at < most and text[end] in b"0123456789":
+        end += 1
+    return (int(text[at:end]), end) if end - at >= least else None
+
+
+def two(text, at):
+    return run(text, at, 2, 2)
+
+
+def padded(text, at, least, most, padding):
+    """A number under a padding: of zeros, of spaces in place of zeros, or none."""
+    if padding == "none":
+        return run(text, at, 1, most)
+    begin = at
+    while padding == "space" and at < len(text) and at - begin < least - 1 and text[at] == 32:
+        at += 1
+    return run(text, at, least - (at - begin), most - (at - begin))
+
+
+def signed(text, at):
+    """A sign, if one stands there."""
+    return (text[at:at + 1], at + 1) if text[at:at + 1] in (b"+", b"-") else (b"", at)
+
+
+def named(text, at, names, exact):
+    """The number of the first name that stands there, in its own case or in any."""
+    for number, name in enumerate(names):
+        part = text[at:at + len(name)]
+        if part == name.encode() or not exact and part.lower() == name.lower().encode():
+            return number, at + len(name)
+    return None

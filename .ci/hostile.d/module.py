@@ -1,0 +1,195 @@
+"""Tries of the Python module: the same texts, by its calls and as columns, and moments that it writes.
+
+A process of its own imports the module and answers, so that it may end in any way.
+"""
+import datetime
+import json
+import os
+import sys
+
+import agreeing
+import descriptions
+import texts
+import writing
+from formats import FORMATS, ByTree, outcome
+from programs import Cases, run
+from records import resolve
+from rules import NOT_YET
+from values import Refused, instant
+
+NUMBERS = {"rfc3339": 1, "rfc2822": 2, "iso8601": 3}
+CALLS = ["parse", "parse_date", "parse_time", "parse_parts", "unix_ns"]
+NO_COUNT = -2**63
+LARGEST_DESCRIPTION = 64
+WORKER = """
+import json, sys, pelzaune
+for line in sys.stdin:
+    call, given, form = json.loads(line)
+    try:
+        if call == "format_datetime":
+            answer = pelzaune.format_datetime(__import__("datetime").datetime.fromisoformat(given), form)
+        else:
+            form = form if isinstance(form, int) else bytes.fromhex(form)
+            answer = getattr(pelzaune, call)(bytes.fromhex(given), form)
+            answer = answer.tolist() if call == "column" else answer if call == "unix_ns" else repr(answer)
+    except (pelzaune.ParseError, pelzaune.FormatError) as error:
+        answer = [type(error).__name__, str(error), error.component, getattr(error, "index", None)]
+    print(json.dumps(answer), flush=True)
+"""
+
+
+class Told(Exception):
+    """An error that the module raises, which isn't a refusal of the text."""
+
+
+def zone_of(offset):
+    if abs(offset) >= 86_400:
+        raise Told("offset hour is out of the range of datetime", "offset hour")
+    return datetime.timezone(datetime.timedelta(seconds=offset)) if offset else datetime.timezone.utc
+
+
+def python_date(date):
+    if not 1 <= date[0] <= 9999:
+        raise Told("year is out of the range 1 to 9999 of datetime", "year")
+    return datetime.date(*date)
+
+
+def python_time(time):
+    return datetime.time(*time[:3], time[3] // 1000)
+
+
+def combined(date, time, zone):
+    return datetime.datetime.combine(python_date(date), python_time(time), zone)
+
+
+def parse(form, text):
+    try:
+        date, time, offset = outcome(form, "datetime", text)
+    except Refused as fault:
+        if fault.kind != "missing":
+            raise
+        try:
+            date, time = outcome(form, "plain", text)
+        except Refused:
+            raise fault from None
+        return combined(date, time, None)
+    zone = zone_of(offset)
+    return combined(date, time, zone)
+
+
+def parse_parts(form, text):
+    at, record = form.read(text, {})
+    if at < len(text):
+        raise Refused("trailing")
+    found = []
+    for target in ("date", "time", "offset"):
+        try:
+            found.append(resolve(record, target))
+        except Refused as fault:
+            if fault.kind != "missing":
+                raise
+            found.append(None)
+    date, time, offset = found
+    return (None if date is None else python_date(date), None if time is None else python_time(time),
+            None if offset is None else zone_of(offset))
+
+
+def answer(call, form, text):
+    """What a call answers, as the worker tells it."""
+    try:
+        if call == "parse":
+            return repr(parse(form, text))
+        if call == "parse_parts":
+            return repr(parse_parts(form, text))
+        if call == "parse_date":
+            return repr(python_date(outcome(form, "date", text)))
+        if call == "parse_time":
+            return repr(python_time(outcome(form, "time", text)))
+        if call == "unix_ns":
+            return instant(outcome(form, "datetime", text))
+        lines = text.split(b"\n")
+        return [count(form, line) for line in (lines if lines[-1] else lines[:-1])]
+    except Told as error:
+        return ["ParseError", *error.args, None]
+    except Refused as fault:
+        place = form.place(text, {})
+        return ["ParseError", fault.text(), fault.name, place and place[0]]
+
+
+def count(form, line):
+    try:
+        found = instant(outcome(form, "datetime", line))
+    except Refused:
+        return NO_COUNT
+    return found if -2**63 <= found < 2**63 else NO_COUNT
+
+
+def written(value, name):
+    """What `format_datetime` answers."""
+    moment = ((value.year, value.month, value.day), (value.hour, value.minute, value.second, value.microsecond * 1000),
+              int(value.utcoffset().total_seconds()))
+    try:
+        return writing.of_form(name, "auto", None, moment).decode()
+    except writing.Unwritable as why:
+        part = str(why).split()[1].replace("_", " ")
+        return ["FormatError", f"the '{part}' component has no text in that format", part, None]
+
+
+def random_form(rng):
+    """A format, as a name or the bytes of a description, its reader, and a maker of texts."""
+    name = rng.choice(list(NUMBERS))
+    if rng.random() < 0.6:
+        made = {"rfc3339": texts.rfc3339, "rfc2822": texts.rfc2822, "iso8601": texts.iso8601}[name]
+        return NUMBERS[name], FORMATS[name], made
+    while True:
+        syntax, text, tree = descriptions.random_description(rng, LARGEST_DESCRIPTION)
+        # One with a `%` is of strftime, and any other in brackets of version 2.
+        if syntax == "strftime" and steps(tree) <= LARGEST_DESCRIPTION or syntax == "v2" and b"%" not in text:
+            return text.hex(), ByTree(tree), lambda rng: texts.spelled(rng, tree, texts.random_moment(rng, -3, 10_002))
+
+
+def steps(tree):
+    kind, inside = tree
+    return len(inside) if kind == "literal" else 1 if kind == "component" else sum(map(steps, inside))
+
+
+def ask(rng):
+    """A call, as it is sent, and what it answers."""
+    if rng.random() < 0.1:
+        value, name = agreeing.random_value(rng), rng.choice(list(NUMBERS))
+        if rng.random() < 0.3:
+            value = value.replace(year=rng.randint(1890, 1910), tzinfo=zone_of(rng.randint(-86_399, 86_399)))
+        return ["format_datetime", value.isoformat(), NUMBERS[name]], written(value, name)
+    sent, form, made = random_form(rng)
+    if rng.random() < 0.1:
+        text = b"\n".join(texts.some_text(rng, made(rng)) for _ in range(rng.randint(0, 5))) + rng.choice([b"", b"\n"])
+        return ["column", text.hex(), sent], answer("column", form, text)
+    call, text = rng.choice(CALLS), texts.some_text(rng, made(rng))
+    wanted = answer(call, form, text)
+    if form is FORMATS["rfc2822"] and "mail places" in NOT_YET and isinstance(wanted, list):
+        wanted[3] = any  # its index isn't compared
+    return [call, text.hex(), sent], wanted
+
+
+def snippet(sent):
+    call, text, form = sent
+    if call == "format_datetime":
+        return f"pelzaune.format_datetime(datetime.datetime.fromisoformat({text!r}), {form})"
+    return f"pelzaune.{call}({bytes.fromhex(text)!r}, {form if isinstance(form, int) else bytes.fromhex(form)!r})"
+
+
+def calls(rng, tally, command, number=300):
+    """A round of the Python module in that folder."""
+    asked = [ask(rng) for _ in range(number)]
+    if isinstance(tally, Cases):
+        return
+    out, log, status = run([sys.executable, "-c", WORKER], "".join(f"{json.dumps(it[0])}\n" for it in asked).encode(),
+                           env={**os.environ, "PYTHONPATH": os.path.abspath(command[0])})
+    got = [json.loads(it) for it in out.splitlines()]
+    if status or len(got) != number:
+        last = snippet(asked[min(len(got), number - 1)][0])
+        tally.differ("python", f"{last}\n    ends with {status} and {log[-500:].decode(errors='replace')}")
+    for (sent, wanted), found in zip(asked, got):
+        if isinstance(wanted, list) and any in wanted and isinstance(found, list):
+            wanted, found = wanted[:3], found[:3]
+        tally.same("python", found, wanted, lambda sent=sent: snippet(sent))

@@ -1,0 +1,109 @@
+"""Formats of `restamp`, random texts by them, and what they lack to say a moment."""
+import descriptions
+import texts
+import writing
+from formats import FORMATS, ByTree, part, several
+from records import has
+from stamping import YEAR_PARTS, Reading
+
+CLOCK = part("hour"), ":", part("minute"), ":", part("second")
+COMMON = several(part("day"), "/", part("month", repr="short"), "/", part("year"), ":", *CLOCK, " ",
+                 part("offset_hour", sign="mandatory"), part("offset_minute"))
+SYSLOG = several(part("month", repr="short"), " ", part("day", padding="space"), " ", *CLOCK)
+UNIX = several(part("unix_timestamp"), ("optional", several(".", part("subsecond"))))
+TREES = {"common": COMMON, "syslog": SYSLOG, "unix": UNIX,
+         **{f"unix-{it[0]}s": part("unix_timestamp", precision=it[1])
+            for it in (("m", "millisecond"), ("u", "microsecond"), ("n", "nanosecond"))}}
+NAMED = {**{name: Reading(name, FORMATS[name]) for name in ("rfc3339", "rfc2822", "iso8601")},
+         **{name: Reading(name, ByTree(tree), name == "unix") for name, tree in TREES.items()}}
+MADE = {"rfc3339": texts.rfc3339, "rfc2822": texts.rfc2822, "iso8601": texts.iso8601}
+
+
+def parts_of(tree):
+    """The parts of the components that every text of a tree has."""
+    kind, inside = tree
+    if kind == "list":
+        return {it for item in inside for it in parts_of(item)}
+    if kind == "first" and inside:
+        return set.intersection(*map(parts_of, inside))
+    if kind != "component":
+        return set()
+    said, name = inside.said, inside.name
+    iso = "iso_" if said.get("base") == "iso_week" else ""
+    return {{"year": iso + {"full": "year", "century": "century", "last_two": "last_two"}.get(said.get("repr"), ""),
+             "hour": f"hour_{said.get('repr')}", "week_number": f"{said.get('repr')}_week", "period": "is_pm",
+             "unix_timestamp": "timestamp"}.get(name, name)}
+
+
+def groups_in(tree):
+    kind, inside = tree
+    return kind in ("optional", "first") or kind == "list" and any(groups_in(it) for it in inside)
+
+
+def always_says(tree, wanted):
+    """Whether each text of a tree says one of some parts."""
+    kind, inside = tree
+    if kind == "list":
+        return any(always_says(it, wanted) for it in inside)
+    if kind == "first":
+        return bool(inside) and all(always_says(it, wanted) for it in inside)
+    return kind == "component" and bool(parts_of(tree) & wanted)
+
+
+def lacks_year(reading):
+    """Whether a format has texts without a year, which another stands for. A date of ISO 8601 has its year."""
+    return isinstance(reading.form, ByTree) and not always_says(reading.form.tree, {*YEAR_PARTS, "timestamp"})
+
+
+def lacks_offset(reading):
+    """Whether a format has texts without an offset, which another stands for."""
+    if isinstance(reading.form, ByTree):
+        return not always_says(reading.form.tree, {"offset_hour", "timestamp"})
+    return reading.word == "iso8601"
+
+
+def says_moment(tree, has_year):
+    """Whether each text of a tree says a moment, where a year may be given, and a missing offset always is."""
+    parts = parts_of(tree)
+    if "timestamp" in parts:
+        return True
+    if has_year and not parts & set(YEAR_PARTS):
+        parts.add("year")
+    year, iso = (f"{it}year" in parts or {f"{it}century", f"{it}last_two"} <= parts for it in ("", "iso_"))
+    week = "weekday" in parts and parts & {"sunday_week", "monday_week"}
+    day = "ordinal" in parts or {"month", "day"} <= parts or week
+    hour = "hour_24" in parts or {"hour_12", "is_pm"} <= parts
+    clock = [it in parts for it in ("minute", "second", "subsecond")]
+    date = year and day or iso and has(parts, "iso_week", "weekday")
+    return bool(date and hour and clock == sorted(clock, reverse=True))
+
+
+def described(rng, has_year):
+    """A description whose texts all say a moment, which has few steps and no name."""
+    while True:
+        syntax, text, tree = descriptions.random_description(rng, says_all=True)
+        if syntax != "v1" and says_moment(tree, has_year):
+            return Reading(text.decode(), ByTree(tree))
+
+
+def speechless(rng):
+    """A description of which no text says a moment, whatever year is given."""
+    while True:
+        syntax, text, tree = descriptions.random_description(rng)
+        if syntax != "v1" and not groups_in(tree) and not says_moment(tree, True):
+            return Reading(text.decode(), ByTree(tree))
+
+
+def text_by(rng, reading, moment):
+    """A text of a format, which says the moment where it is easily said."""
+    name = reading.word
+    if name in MADE:
+        if rng.random() < 0.5:
+            return MADE[name](rng)
+        try:
+            return (writing.of_2822(moment) if name == "rfc2822" else writing.of_3339(moment, "auto")).encode()
+        except writing.Unwritable:
+            return MADE[name](rng)
+    if name == "unix" and rng.random() < 0.3:
+        return f"{rng.randint(-10**6, 2 * 10**9)}{texts.fraction(rng)}".encode()
+    return texts.spelled(rng, reading.form.tree, moment)

@@ -1,0 +1,101 @@
+"""Descriptions as trees, which are read as their documentation says.
+
+A tree is ("literal", bytes), ("component", Component), ("list", trees), ("optional", tree) or ("first", trees).
+"""
+import components
+from rules import NOT_YET
+from values import Refused
+
+
+class Walk:
+    """What was seen while a text was read by a tree.
+
+    `reading` is where it ended, with the record, or None. `fault` is why there is none. `misses` are the leaves that
+    were begun and read nothing, each as the index and what was wanted there, in the order in which the first that goes
+    furthest is told: of trees in turn the later come first. `marks` are the components that were read, with the index
+    where each began, the last one first.
+    """
+
+    def __init__(self, reading, fault=None, misses=(), marks=()):
+        self.reading, self.fault, self.misses, self.marks = reading, fault, list(misses), list(marks)
+
+
+def literal(text, at, record, wanted):
+    same = 0
+    while same < len(wanted) and text[at + same:at + same + 1] == wanted[same:same + 1]:
+        same += 1
+    if same == len(wanted):
+        return Walk((at + same, record))
+    same = 0 if "literal places" in NOT_YET else same
+    return Walk(None, Refused("literal"), [(at + same, wanted[same:same + 1])])
+
+
+def component(text, at, record, wanted):
+    found = components.read(wanted, text, at, record)
+    if found:
+        return Walk(found, marks=[(wanted, at)])
+    return Walk(None, wanted.refused(), [(at, None if wanted.name == "end" else wanted.called)])
+
+
+def in_turn(text, at, record, trees):
+    whole = Walk((at, record))
+    for tree in trees:
+        here = walk(tree, text, *whole.reading)
+        whole.misses = here.misses + whole.misses
+        whole.marks = here.marks + whole.marks
+        whole.reading, whole.fault = here.reading, here.fault
+        if here.reading is None:
+            whole.marks = []
+            break
+    return whole
+
+
+def first_of(text, at, record, trees):
+    misses, fault = [], None
+    for tree in trees:
+        here = walk(tree, text, at, record)
+        misses += here.misses
+        if here.reading:
+            return Walk(here.reading, None, misses, here.marks)
+        fault = fault or here.fault
+    return Walk(None, fault, misses) if trees else Walk((at, record))
+
+
+def walk(tree, text, at, record):
+    kind, inside = tree
+    if kind == "literal":
+        return literal(text, at, record, inside)
+    if kind == "component":
+        return component(text, at, record, inside)
+    if kind == "list":
+        return in_turn(text, at, record, inside)
+    if kind == "first":
+        return first_of(text, at, record, inside)
+    here = walk(inside, text, at, record)
+    return here if here.reading else Walk((at, record), None, here.misses)
+
+
+def furthest(misses):
+    """The first of those that go furthest."""
+    return max(misses, key=lambda it: it[0], default=None)
+
+
+def place_of(tree, text, record):
+    """Where a text that isn't read whole goes wrong, and what was wanted there (bytes, a name, or None for the end)."""
+    seen = walk(tree, text, 0, record)
+    if seen.reading is None:
+        return furthest(seen.misses)
+    if seen.reading[0] == len(text):
+        return None
+    return furthest([(seen.reading[0], None), *seen.misses])
+
+
+def is_called(part, name):
+    """Whether a range of that name is told of the component. Of an ISO week the date's refusal has another name."""
+    return part.called == name or name == "week" and part.name == "week_number" and part.repr == "iso"
+
+
+def mark_of(tree, text, record, name):
+    """Where the last component of a name begins, in the front of a text that the tree reads; or None."""
+    marks = walk(tree, text, 0, record).marks
+    return next((at for part, at in marks if is_called(part, name)), None)

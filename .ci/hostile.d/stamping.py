@@ -112,7 +112,7 @@ def is_word(line, at):
 def anywhere(job, line):
     """The first byte from which on a format reads a time, which neither begins nor ends inside a word or number."""
     words = "words" not in NOT_YET
-    line = line if "carriage returns" in NOT_YET else cutting.body(line)
+    line = cutting.body(line) if words else line
     for at in range(len(line)):
         if words and is_word(line, at):
             continue

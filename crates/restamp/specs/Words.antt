@@ -1,3 +1,5 @@
+-- No public contract rests on this file.
+--
 -- The words of the command line.
 use Rattle.std.specs.Prelude.{ℕ, List, [], ◌∷◌, ◌++◌, codes, true}
 use Rattle.std.specs.Fmt.{decimal}

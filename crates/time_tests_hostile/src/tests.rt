@@ -1,5 +1,5 @@
 mod callers;
-mod counted;
+mod counted_and_laws;
 mod hostile;
 mod parts;
 mod readme;

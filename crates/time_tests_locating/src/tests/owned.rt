@@ -93,21 +93,4 @@ fn version_3(rt: HostRuntime) {
     assert_located(&rt, &skip, &SKIPPED_TEXT, &[]);
     let borrowed = BorrowedFormatItem::Component(SKIP);
     assert_located(&rt, &borrowed, &SKIPPED_BYTE, &[]);
-    let letter_and_day = [
-        FormatDescriptionV3Inner::BorrowedLiteral("-W"),
-        FormatDescriptionV3Inner::Component(DAY),
-    ];
-    let description = FormatDescriptionV3 {
-        inner: FormatDescriptionV3Inner::BorrowedCompound(&letter_and_day),
-    };
-    assert_located(&rt, &description, &LETTER_AND_DAY, &[b"-W31"]);
-    let words = [
-        FormatDescriptionV3Inner::BorrowedLiteral("noon"),
-        FormatDescriptionV3Inner::BorrowedLiteral("nine"),
-        FormatDescriptionV3Inner::BorrowedLiteral("ni"),
-    ];
-    let description = FormatDescriptionV3 {
-        inner: FormatDescriptionV3Inner::BorrowedFirst(&words),
-    };
-    assert_located(&rt, &description, &WORD_ROWS, &[b"noon", b"nine"]);
 }

@@ -117,9 +117,10 @@ static PyObject *parse_parts(GIVEN)
     for (int k = 0; k < 3; k++)
         if (each[k] != PELZAUNE_OK && each[k] != PELZAUNE_INSUFFICIENT) return refuse(each[k], &asked);
     PyObject *date = p.date_status ? Py_NewRef(Py_None) : date_of(&p.date);
-    PyObject *time = p.time_status ? Py_NewRef(Py_None) : time_of(&p.time);
-    PyObject *zone = p.offset_status ? Py_NewRef(Py_None) : zone_of(p.offset);
-    PyObject *parts = date && time && zone ? PyTuple_Pack(3, date, time, zone) : NULL;
+    /* After an error that is raised nothing more is asked of Python. */
+    PyObject *time = !date ? NULL : p.time_status ? Py_NewRef(Py_None) : time_of(&p.time);
+    PyObject *zone = !time ? NULL : p.offset_status ? Py_NewRef(Py_None) : zone_of(p.offset);
+    PyObject *parts = zone ? PyTuple_Pack(3, date, time, zone) : NULL;
     Py_XDECREF(date);
     Py_XDECREF(time);
     Py_XDECREF(zone);
@@ -229,7 +230,7 @@ static int add_names(PyObject *made)
 {
     parse_error = add_error(made, "ParseError", PyExc_ValueError,
         "Why a text has no value. `component` is the name of the component that is wrong, and `index` that of the byte that\n"
-        "can't be read; or None. A part that the calendar refuses, and a text of ISO 8601, have no index.",
+        "can't be read; or None. A part that the calendar refuses has no index.",
         Py_BuildValue("{s:O,s:O}", "component", Py_None, "index", Py_None));
     description_error = !parse_error ? NULL : add_error(made, "DescriptionError", parse_error,
         "Why a text is no description. `index` is that of its first fault, or None where it is too long.",

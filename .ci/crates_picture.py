@@ -19,8 +19,8 @@ BOXES = {
     "time_formatting": (1, 2, 3.25, "moments by descriptions"),
     "time_parsing": (2, 3, 1, "a text's value, or its error"),
     "time_describing": (2, 3, 2, "the text of a description"),
-    "time_preparing": (2, 4, 1, "a description for many texts"),
-    "time_locating": (2, 4, 0, "where a text goes wrong"),
+    "time_preparing": (2, 4, 0, "a description for many texts"),
+    "time_locating": (2, 4, 1, "where a text goes wrong"),
     "programs": (3, 5, 0, "texts parsed line by line", "time_answers", "time_lines", "time_parse"),
     "restamp": (3, 5, 2.15, "times rewritten in lines", "time_cutting, time_restamping,", "time_rewriting, time_options,", "time_commanding, restamp"),
     "C": (3, 5, 1.1, "C, Rust, Python and SQL", "time_ffi", "pelzaune"),
@@ -33,8 +33,8 @@ LINES = [
     ("time_components", "time_descriptions", None), ("time_components", "time_formatting", None),
     ("time_writing", "time_formatting", None), ("time_writing", "time_parsing", 3.0),
     ("time_readers", "time_parsing", None), ("time_record", "time_parsing", None), ("time_descriptions", "time_parsing", None),
-    ("time_descriptions", "time_describing", None), ("time_parsing", "time_preparing", None), ("time_parsing", "time_locating", None),
-    ("time_locating", "programs", None), ("time_preparing", "programs", None), ("time_preparing", "restamp", None),
+    ("time_descriptions", "time_describing", None), ("time_parsing", "time_preparing", None), ("time_preparing", "time_locating", None),
+    ("time_locating", "programs", None), ("time_locating", "restamp", None),
     ("time_formatting", "restamp", 3.0), ("programs", "C", None),
 ]
 WIDE, HIGH, STEP, PITCH, LEFT, SMALL = 204, 30, 244, 112, 30, 6.1

@@ -2,7 +2,6 @@
 
 A CR that ends the line is no part of a time.
 """
-from rules import NOT_YET
 
 
 def body(line):
@@ -61,14 +60,11 @@ def span(place, line):
     """The part of a line that is its time, or begins with it; of `anywhere` there is none to tell."""
     kind, *said = place
     inside = body(line)
-    open_end = len(line) if "carriage returns" in NOT_YET else len(inside)
-    if kind == "whole":
+    if kind in ("whole", "front"):
         return 0, len(inside)
-    if kind == "front":
-        return 0, open_end
     if kind == "after":
-        at = line[:open_end].find(said[0])
-        return None if at < 0 else (at + len(said[0]), open_end)
+        at = inside.find(said[0])
+        return None if at < 0 else (at + len(said[0]), len(inside))
     if kind == "between":
         at = line.find(said[0])
         end = -1 if at < 0 else line.find(said[1], at + len(said[0]))

@@ -5,7 +5,6 @@ from descriptions import random_description
 from formats import FORMATS, ByTree, answer, expected, line_answer
 from programs import Cases, answers, piped, run
 from records import TARGETS
-from rules import NOT_YET
 
 MOST_STEPS = 1024
 MADE = {"rfc3339": texts.rfc3339, "rfc2822": texts.rfc2822, "iso8601": texts.iso8601}
@@ -30,7 +29,7 @@ def lines(rng, tally, command, count=400):
 
 def by_names(rng, tally, command, count=60):
     name, target = rng.choice(list(FORMATS)), rng.choice(TARGETS)
-    tells = rng.random() < 0.7 and not (name == "rfc2822" and "mail places" in NOT_YET)
+    tells = rng.random() < 0.7
     sent = [named_text(rng, name) for _ in range(count)]
     words = [*(["--place"] if tells else []), name, target]
     answers(tally, "time_parse", [*command, *words], sent, [answer(FORMATS[name], target, it, tells) for it in sent])

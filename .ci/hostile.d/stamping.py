@@ -2,17 +2,18 @@
 import cutting
 import writing
 from formats import FORMATS, ByPlaces, outcome, value_place
-from records import resolve
-from rules import NOT_YET
+from records import has, resolve, year_of
 from values import Refused, instant
 
 REACH = 256
 LIMIT = 262_144
+FRONT = LIMIT + REACH
 LATEST_TRIES = 10
 SPACES = b" \t\n\x0c\r"
 YEAR_PARTS = [f"{kind}{part}" for kind in ("", "iso_") for part in ("year", "century", "last_two")]
 NO_PLACE = "the line has no place for a time"
 TWO_WAYS = "a fraction after a minus is read in two ways"
+TOO_FAR = f"the time goes on past byte {LIMIT} of its line"
 
 
 class Reading:
@@ -41,14 +42,8 @@ def completed(record, parts):
 
 def front(form, text, parts):
     """The moment that a front of a text says, and where that ends."""
-    if isinstance(form, ByPlaces):
-        at, record = form.read(text, {})
-    elif "only what is missing" in NOT_YET:
-        at, record = form.read(text, parts)
-    else:
-        at, record = form.read(text, {})
-        record = completed(record, parts)
-    return at, record
+    at, record = form.read(text, {})
+    return at, record if isinstance(form, ByPlaces) else completed(record, parts)
 
 
 def said(reading, is_open, text, parts):
@@ -81,10 +76,11 @@ def dated(reading, is_open, text, job):
         last = reason
     first = job.latest[0][0] + 1
     for year in range(first, first - LATEST_TRIES, -1):
-        if abs(year) > 999_999:
-            continue
+        parts = {it: job.parts[it] for it in job.parts if it != "year"}
+        if abs(year) <= 999_999:
+            parts["year"] = year
         try:
-            found = said(reading, is_open, text, {**job.parts, "year": year})
+            found = said(reading, is_open, text, parts)
         except Reason as reason:
             last = reason
             continue
@@ -111,17 +107,16 @@ def is_word(line, at):
 
 def anywhere(job, line):
     """The first byte from which on a format reads a time, which neither begins nor ends inside a word or number."""
-    words = "words" not in NOT_YET
-    line = cutting.body(line) if words else line
+    line = cutting.body(line)
     for at in range(len(line)):
-        if words and is_word(line, at):
+        if is_word(line, at):
             continue
         for reading in job.readings:
             try:
                 moment, begin, end = dated(reading, True, line[at:at + REACH], job)
             except Reason:
                 continue
-            if not words or not is_word(line, at + end):
+            if not is_word(line, at + end):
                 return moment, at + begin, at + end
     return None
 
@@ -129,18 +124,34 @@ def anywhere(job, line):
 def wrong_place(job, text, fault):
     """Where a refused text goes wrong by the first format, and what was expected there; or None."""
     form = job.readings[0].form
-    parts = {} if isinstance(form, ByPlaces) or "only what is missing" not in NOT_YET else job.parts
     is_read = False
     try:
-        is_read = front(form, text, parts)[0] is not None
+        is_read = form.read(text, {})[0] is not None
     except Refused:
         pass
     if not (is_read and cutting.is_open(job.place)):
-        place = form.place(text, parts)
+        place = form.place(text, {})
         if place:
             return place[0], ": " + escaped(place[1])
-    at = value_place(form, text, parts, fault)
+    at = value_place(form, text, {}, fault)
     return None if at is None else (at, "")
+
+
+def lacking(job, text):
+    """What a text says nothing of that the first format reads: of a day, its year, an hour, its half, and so on."""
+    parts = {**job.parts, "year": job.latest[0][0]} if job.latest else job.parts
+    record = front(job.readings[0].form, text, parts)[1]
+    counted = "sunday_week" in record or "monday_week" in record
+    names_day = has(record, "month", "day") or "ordinal" in record or "weekday" in record and counted
+    names_week_day = has(record, "iso_week", "weekday")
+    if not (names_day or names_week_day):
+        return "day"
+    if not (names_day and year_of(record, "") is not None or names_week_day and year_of(record, "iso_") is not None):
+        says_part = any(it in record for it in YEAR_PARTS)
+        return "whole year for its day" if says_part else "year; --year or --latest gives one"
+    if "hour_24" not in record and not has(record, "hour_12", "is_pm"):
+        return "half of the day" if "hour_12" in record else "hour"
+    return next((it for it in ("minute", "second") if it not in record), "offset")
 
 
 def escaped(wanted):
@@ -166,14 +177,10 @@ class Job:
     def judge(self, line):
         """("without",), ("dropped",), ("rewritten", begin, end, text) or ("refused", column, reason), of which what is
         None isn't compared."""
-        front = line[:LIMIT]
+        front = line[:FRONT]
         if front not in self.judged:
             self.judged[front] = self.verdict(front)
-        fate = self.judged[front]
-        # A time that goes on past what is read of a longer line is left as it is.
-        if len(line) > LIMIT and fate[0] == "rewritten" and fate[2] == LIMIT and "long lines" not in NOT_YET:
-            return "refused", None, None
-        return fate
+        return self.judged[front]
 
     def verdict(self, line):
         if self.place[0] == "anywhere":
@@ -191,6 +198,8 @@ class Job:
 
     def put(self, start, found):
         moment, begin, end = found
+        if start + end > LIMIT:
+            return "refused", start + begin + 1, TOO_FAR
         at = instant(moment)
         if self.since and at < instant(self.since) or self.until and at >= instant(self.until):
             return ("dropped",)
@@ -201,12 +210,12 @@ class Job:
         return "rewritten", start + begin, start + end, text
 
     def refusal(self, start, text, reason):
-        if "columns" in NOT_YET or not reason.fault:
+        if not reason.fault:
             return "refused", start + 1, reason.text
         place = wrong_place(self, text, reason.fault)
         column = start + (place[0] if place else 0) + 1
-        if reason.fault.kind == "missing" and "words for what is missing" not in NOT_YET:
-            return "refused", column, None  # the words for it aren't compared
+        if reason.fault.kind == "missing":
+            return "refused", column, f"it says no {lacking(self, text)}"
         return "refused", column, reason.text + (place[1] if place else "")
 
 
@@ -257,11 +266,11 @@ class Expected:
 
     def report(self, name, number, line, fate):
         _, column, reason = fate
-        begun = f"{name}:{number}:" if column is None else f"{name}:{number}:{column}: "
+        begun = f"{name}:{number}:{column}: "
         if reason is None:
             self.reports += [(it, False) for it in (begun, *("", "") * self.settings.shows)]
         elif self.settings.shows:
-            self.reports += [(it, True) for it in f"{begun}\x1b[31m{reason}\x1b[0m{pointer(line, column)}".split("\n")]
+            self.reports += [(it, True) for it in f"{begun}\x1b[31m{reason}\x1b[0m{pointer(line[:FRONT], column)}".split("\n")]
         else:
             self.reports.append((begun + reason, True))
 

@@ -35,11 +35,6 @@ def parts_of(tree):
              "unix_timestamp": "timestamp"}.get(name, name)}
 
 
-def groups_in(tree):
-    kind, inside = tree
-    return kind in ("optional", "first") or kind == "list" and any(groups_in(it) for it in inside)
-
-
 def always_says(tree, wanted):
     """Whether each text of a tree says one of some parts."""
     kind, inside = tree
@@ -62,6 +57,23 @@ def lacks_offset(reading):
     return reading.word == "iso8601"
 
 
+def mentioned(tree):
+    """The parts of all components of a tree."""
+    kind, inside = tree
+    if kind in ("list", "first"):
+        return {it for item in inside for it in mentioned(item)}
+    return mentioned(inside) if kind == "optional" else parts_of(tree)
+
+
+def have_date_and_hour(parts):
+    """Whether parts name a day with its year, and an hour of it."""
+    year, iso = (f"{it}year" in parts or {f"{it}century", f"{it}last_two"} <= parts for it in ("", "iso_"))
+    week = "weekday" in parts and parts & {"sunday_week", "monday_week"}
+    day = "ordinal" in parts or {"month", "day"} <= parts or week
+    hour = "hour_24" in parts or {"hour_12", "is_pm"} <= parts
+    return bool((year and day or iso and has(parts, "iso_week", "weekday")) and hour)
+
+
 def says_moment(tree, has_year):
     """Whether each text of a tree says a moment, where a year may be given, and a missing offset always is."""
     parts = parts_of(tree)
@@ -69,13 +81,16 @@ def says_moment(tree, has_year):
         return True
     if has_year and not parts & set(YEAR_PARTS):
         parts.add("year")
-    year, iso = (f"{it}year" in parts or {f"{it}century", f"{it}last_two"} <= parts for it in ("", "iso_"))
-    week = "weekday" in parts and parts & {"sunday_week", "monday_week"}
-    day = "ordinal" in parts or {"month", "day"} <= parts or week
-    hour = "hour_24" in parts or {"hour_12", "is_pm"} <= parts
     clock = [it in parts for it in ("minute", "second", "subsecond")]
-    date = year and day or iso and has(parts, "iso_week", "weekday")
-    return bool(date and hour and clock == sorted(clock, reverse=True))
+    return have_date_and_hour(parts) and clock == sorted(clock, reverse=True)
+
+
+def lacks_part(tree, has_year):
+    """Whether a tree has no component for a part that a moment needs, where a year may be given."""
+    parts = mentioned(tree)
+    if has_year and not always_says(tree, set(YEAR_PARTS)):
+        parts.add("year")
+    return "timestamp" not in parts and not have_date_and_hour(parts)
 
 
 def described(rng, has_year):
@@ -86,11 +101,11 @@ def described(rng, has_year):
             return Reading(text.decode(), ByTree(tree))
 
 
-def speechless(rng):
-    """A description of which no text says a moment, whatever year is given."""
+def speechless(rng, has_year):
+    """A description of which no text says a moment, for want of a component, where a year may be given."""
     while True:
         syntax, text, tree = descriptions.random_description(rng)
-        if syntax != "v1" and not groups_in(tree) and not says_moment(tree, True):
+        if syntax != "v1" and lacks_part(tree, has_year):
             return Reading(text.decode(), ByTree(tree))
 
 

@@ -3,7 +3,6 @@ import descriptions
 import stamping_formats as formats
 import texts
 import writing
-from rules import NOT_YET
 from stamping import Job, Reason, Settings, in_turn, said
 from values import show_offset
 
@@ -75,7 +74,7 @@ def add_years(rng, job, kind):
     if not kind:
         return [], False
     uses = any(formats.lacks_year(it) for it in job.readings)
-    if not uses and "unused options" in NOT_YET:
+    if not uses and rng.random() < 0.9:
         return [], False
     if kind == "year":
         job.parts["year"] = rng.choice(YEARS)
@@ -89,7 +88,7 @@ def add_years(rng, job, kind):
 def add_offset(rng, job):
     """The option for times without an offset, and whether it is refused."""
     uses = any(formats.lacks_offset(it) for it in job.readings)
-    if rng.random() > 0.2 or not uses and "unused options" in NOT_YET:
+    if rng.random() > (0.2 if uses else 0.02):
         return [], False
     offset = rng.choice([0, 19_800, -18_000, -1800, 50_400])
     sign, size = -1 if offset < 0 else 1, abs(offset)
@@ -148,8 +147,8 @@ def random_job(rng):
     place, words = random_place(rng)
     year = rng.choice(["", "", "", "year", "latest"])
     readings, refused = random_readings(rng, bool(year)), False
-    if rng.random() < 0.03 and "formats that say no moment" not in NOT_YET:
-        readings, refused = [*readings, formats.speechless(rng)], True
+    if rng.random() < 0.03:
+        readings, refused = [*readings, formats.speechless(rng, bool(year))], True
     for reading in readings:
         words += [rng.choice(["-f", "--from"]), reading.word]
     form, more = random_form(rng)

@@ -5,8 +5,7 @@ import tempfile
 import stamping_formats as formats
 import texts
 from programs import Cases, piped, quoted, run
-from rules import NOT_YET
-from stamping import LIMIT, Expected
+from stamping import FRONT, LIMIT, Expected
 from stamping_options import random_job
 
 WORDS = [b"x", b" ", b"at ", b"job 7", b"[", b"]", b",", b";", b'"', b"12", b"a1", b"GET /", b"\t", b"\xc3\xa9",
@@ -73,15 +72,11 @@ def lengthened(rng, job, lines):
     line = lines[at].rstrip(b"\r\n")
     fate = job.judge(line)
     if job.place[0] == "after" and fate[0] == "rewritten" and rng.random() < 0.5:
-        # The time ends where what is read of the line does, or goes on.
-        line = b"\x01" * (LIMIT - fate[2] + rng.choice([-3, -1, 0, 1, 5])) + line + b" x"
+        # The time ends where one may stand, or where what is read of the line ends, or goes on.
+        far = rng.choice([LIMIT, FRONT]) + rng.choice([-3, -1, 0, 1, 5])
+        line = b"\x01" * (far - fate[2]) + line + b" x"
     else:
         line += b" " + rng.choice([b"x", b"y, "]) * LIMIT
-    # What is said of a time that isn't one where it is cut off isn't compared.
-    fate = job.verdict(line[:LIMIT])
-    is_cut = fate[0] == "refused" and line[:1] == b"\x01"
-    if is_cut or fate[0] == "rewritten" and fate[2] == LIMIT and "long lines" in NOT_YET:
-        return lines
     return [*lines[:at], line + b"\n", *lines[at:]]
 
 
@@ -123,7 +118,7 @@ def one(rng, tally, command, count=30):
 def files(rng, tally, command):
     """Several files, whose names may have bytes that aren't printed."""
     job, settings, words, refused = random_job(rng)
-    names = rng.sample(NAMES[:3] if "file names" in NOT_YET else NAMES, rng.randint(1, 3))
+    names = rng.sample(NAMES, rng.randint(1, 3))
     data = {name: b"".join(random_lines(rng, job, rng.randint(0, 12))) for name in names}
     if refused or isinstance(tally, Cases):
         return

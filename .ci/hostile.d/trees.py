@@ -3,7 +3,6 @@
 A tree is ("literal", bytes), ("component", Component), ("list", trees), ("optional", tree) or ("first", trees).
 """
 import components
-from rules import NOT_YET
 from values import Refused
 
 
@@ -26,7 +25,6 @@ def literal(text, at, record, wanted):
         same += 1
     if same == len(wanted):
         return Walk((at + same, record))
-    same = 0 if "literal places" in NOT_YET else same
     return Walk(None, Refused("literal"), [(at + same, wanted[same:same + 1])])
 
 

@@ -1,46 +1,100 @@
-//! Parses a text many times, so that the instructions of a parse can be counted.
+//! Parses a text, or writes moments, many times, so that the instructions of one parse or text can be counted.
 //!
-//! `time_bench FORMAT TARGET TIMES TEXT` prints a sum that depends on each answer. FORMAT is a name, or a description.
+//! - `time_bench FORMAT TARGET TIMES TEXT` parses by a format that has a name, or is a description.
+//! - `time_bench describe WAY DESCRIPTION YEAR TARGET TIMES TEXT` parses by a description, `prepared` or as its `steps`. One
+//!   with a `%` is of strftime, and any other of version 2. YEAR is the default year, or `-`.
+//! - `time_bench write CASE TIMES DAY` writes moments of that day of a month.
+//!
+//! Each prints a sum that depends on each answer or text.
 #![tactic(auto)]
 
 mod answers;
+mod described;
 mod descriptions;
 mod sums;
+#[cfg(test)]
+mod tests;
+mod writing;
 
-use std::env::{self, Env};
-use std::io;
+use described::Case;
+use std::alloc::Global;
 use std::process::ExitCode;
+use std::{env, io};
 use sums::{Texts, sum_by_name};
 
-// The sum that the arguments ask for, if they are a format, a target, a number and a text.
-fn sum_of_arguments<R: Env + Alloc>(rt: &R) -> io::Result<Option<i64>> {
-    let mut arguments = env::args(rt)?.skip(1);
-    let format = arguments.next();
-    let target = arguments.next();
-    let times = arguments.next();
-    let text = arguments.next();
-    let (Some(format), Some(target), Some(times), Some(text)) = (format, target, times, text) else {
-        return Ok(None);
+const USAGE: &str = "usage: time_bench FORMAT TARGET TIMES TEXT
+       time_bench describe WAY DESCRIPTION YEAR TARGET TIMES TEXT
+       time_bench write CASE TIMES DAY";
+
+// The sum of writing that the words ask for, if they do.
+fn written(words: &[String]) -> Option<i64> {
+    let [case, times, day] = words else {
+        return None;
     };
-    let Ok(times) = times.parse::<u64>() else {
-        return Ok(None);
+    writing::sum_of(case.as_str(), times.as_str(), day.as_str())
+}
+
+// The sum of parsing the text and its copy by a description that they ask for, if they do.
+fn parsed_by_description(words: &[String], copy: &[u8]) -> Option<i64> {
+    let [way, description, year, target, times, text] = words else {
+        return None;
     };
-    let copy = text.clone()?;
+    let case = Case {
+        way: way.as_str(),
+        description: description.as_str(),
+        year: year.as_str(),
+        target: target.as_str(),
+    };
     let texts = Texts {
         text: text.as_bytes(),
-        copy: copy.as_bytes(),
+        copy,
     };
-    Ok(sum_by_name(format.as_bytes(), target.as_bytes(), times, texts))
+    described::sum_of(case, times.as_str().parse::<u64>().ok()?, texts)
+}
+
+// The same by a format that has a name, or is a description.
+fn parsed(words: &[String], copy: &[u8]) -> Option<i64> {
+    let [format, target, times, text] = words else {
+        return None;
+    };
+    let times = times.as_str().parse::<u64>().ok()?;
+    let texts = Texts {
+        text: text.as_bytes(),
+        copy,
+    };
+    sum_by_name(format.as_bytes(), target.as_bytes(), times, texts)
+}
+
+// The sum that the words ask for, if they do. The copy is of the last one.
+fn sum_of_words(words: &[String], copy: &[u8]) -> Option<i64> {
+    let [first, others @ ..] = words else {
+        return None;
+    };
+    match first.as_str() {
+        "write" => written(others),
+        "describe" => parsed_by_description(others, copy),
+        _ => parsed(words, copy),
+    }
+}
+
+// A copy of the last word, elsewhere in memory.
+fn last_copied(alloc: Global, words: &[String]) -> io::Result<String> {
+    match words {
+        [.., last] => Ok(last.clone()?),
+        [] => Ok(String::new(alloc)),
+    }
 }
 
 fn main(rt: HostRuntime) -> io::Result<ExitCode> {
-    match sum_of_arguments(&rt)? {
+    let words: Vec<String> = env::args(&rt)?.skip(1).collect(rt.alloc())?;
+    let copy = last_copied(rt.alloc(), words.as_slice())?;
+    match sum_of_words(words.as_slice(), copy.as_bytes()) {
         Some(sum) => {
             println!(rt; "{sum}")?;
             Ok(ExitCode::SUCCESS)
         }
         None => {
-            eprintln!(rt; "usage: time_bench FORMAT TARGET TIMES TEXT")?;
+            eprintln!(rt; "{USAGE}")?;
             Ok(ExitCode::from(2))
         }
     }

@@ -1,2 +1,3 @@
 mod FateLemmas
+mod FormatLemmas
 mod PointingLemmas

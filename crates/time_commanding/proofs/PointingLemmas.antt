@@ -25,13 +25,30 @@ Appends-pointer a b c d e f line column p q r s t =
     (Appends-trans b c f (around line column) (10 ∷ (blanks (column - 1) ++ caret)) q
     (Appends-trans c d f (10 ∷ []) (blanks (column - 1) ++ caret) r (Appends-trans d e f (blanks (column - 1)) caret s t)))
 
-told_joined : (number mark red_on reason red_off line : List ℕ)
-    → (number ++ ((mark ++ red_on) ++ (reason ++ red_off))) ++ line ≡ number ++ (mark ++ ((red_on ++ (reason ++ red_off)) ++ line))
-told_joined number mark red_on reason red_off line = simp append_assoc
+told_joined : (number mark red_on reason expected red_off line : List ℕ)
+    → (number ++ ((mark ++ red_on) ++ reason)) ++ (expected ++ (red_off ++ line))
+    ≡ number ++ (mark ++ ((red_on ++ ((reason ++ expected) ++ red_off)) ++ line))
+told_joined number mark red_on reason expected red_off line = simp append_assoc
 
-pub Appends-told : (a b c : Option (List ℕ)) (line reason : List ℕ) (column : ℕ)
-    → Appends a b (decimal column ++ ((codes ": " ++ (27 ∷ codes "[31m")) ++ (reason ++ (27 ∷ codes "[0m"))))
-    → Appends b c (pointer line column) → Appends a c (reason_text column (told_reason true line column reason))
-Appends-told a b c line reason column p q =
-    subst (Appends a c) (told_joined (decimal column) (codes ": ") (27 ∷ codes "[31m") reason (27 ∷ codes "[0m") (pointer line column))
-    (Appends-trans a b c _ (pointer line column) p q)
+-- a reason in red, with what was expected, and a line below it
+pub Appends-told : (a b c d e : Option (List ℕ)) (line reason expected : List ℕ) (column : ℕ)
+    → Appends a b (decimal column ++ ((codes ": " ++ (27 ∷ codes "[31m")) ++ reason)) → Appends b c expected
+    → Appends c d (27 ∷ codes "[0m") → Appends d e (pointer line column)
+    → Appends a e (reason_text column (told_reason true line column (reason ++ expected)))
+Appends-told a b c d e line reason expected column p q r s =
+    let red_off : List ℕ = 27 ∷ codes "[0m" in
+    subst (Appends a e)
+    (told_joined (decimal column) (codes ": ") (27 ∷ codes "[31m") reason expected red_off (pointer line column))
+    (Appends-trans a b e _ (expected ++ (red_off ++ pointer line column)) p
+    (Appends-trans b c e expected (red_off ++ pointer line column) q (Appends-trans c d e red_off (pointer line column) r s)))
+
+plain_joined : (number mark reason expected : List ℕ)
+    → (number ++ (mark ++ reason)) ++ expected ≡ number ++ (mark ++ (reason ++ expected))
+plain_joined number mark reason expected = simp append_assoc
+
+-- a reason with what was expected
+pub Appends-plain : (a b c : Option (List ℕ)) (reason expected : List ℕ) (column : ℕ)
+    → Appends a b (decimal column ++ (codes ": " ++ reason)) → Appends b c expected
+    → Appends a c (reason_text column (reason ++ expected))
+Appends-plain a b c reason expected column p q =
+    subst (Appends a c) (plain_joined (decimal column) (codes ": ") reason expected) (Appends-trans a b c _ expected p q)

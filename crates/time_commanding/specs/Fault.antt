@@ -1,7 +1,9 @@
 -- What is wrong with an option, without where its value lies in memory, and how it is told.
 use Rattle.std.specs.Prelude.{ℕ, List, codes, Option, None, Some}
+use Rattle.time_restamping.specs.Lack.{lack_text}
 use Rattle.time_restamping.specs.Naming as naming
 use Rattle.time_restamping.specs.Reason.{Reason, seen, reason_text}
+use Rattle.time_restamping.specs.declared.lack.Lack.{Lack}
 use Rattle.time_commanding.specs.declared.fault.Fault as declared
 use Rattle.time_commanding.specs.declared.fault.Fault.TheVariants as fault
 
@@ -11,9 +13,13 @@ pub data Fault : Type 0 where
   field : List ℕ → Fault
   delimiter : List ℕ → Fault
   from : List ℕ → naming.Fault → Fault
+  lacking : List ℕ → Lack → Fault
   to : List ℕ → naming.Fault → Fault
   year : List ℕ → Fault
   offset : List ℕ → Fault
+  unused_year : List ℕ → Fault
+  unused_latest : List ℕ → Fault
+  unused_offset : List ℕ → Fault
   zone : List ℕ → Fault
   digits : List ℕ → Fault
   errors : List ℕ → Fault
@@ -28,9 +34,13 @@ told fault.Memory = memory
 told (fault.Field value) = field value.now
 told (fault.Delimiter value) = delimiter value.now
 told (fault.From value why) = from value.now (naming.fault_of why)
+told (fault.Lacking value lack) = lacking value.now lack
 told (fault.To value why) = to value.now (naming.fault_of why)
 told (fault.Year value) = year value.now
 told (fault.Offset value) = offset value.now
+told (fault.UnusedYear value) = unused_year value.now
+told (fault.UnusedLatest value) = unused_latest value.now
+told (fault.UnusedOffset value) = unused_offset value.now
 told (fault.Zone value) = zone value.now
 told (fault.Digits value) = digits value.now
 told (fault.Errors value) = errors value.now
@@ -45,9 +55,13 @@ place_of memory = None
 place_of (field value) = Some (codes "--field <N>", value)
 place_of (delimiter value) = Some (codes "--delimiter <BYTE>", value)
 place_of (from value why) = Some (codes "--from <FORMAT>", value)
+place_of (lacking value lack) = Some (codes "--from <FORMAT>", value)
 place_of (to value why) = Some (codes "--to <FORMAT>", value)
 place_of (year value) = Some (codes "--year <YEAR>", value)
 place_of (offset value) = Some (codes "--offset <OFFSET>", value)
+place_of (unused_year value) = Some (codes "--year <YEAR>", value)
+place_of (unused_latest value) = Some (codes "--latest <TIME>", value)
+place_of (unused_offset value) = Some (codes "--offset <OFFSET>", value)
 place_of (zone value) = Some (codes "--zone <ZONE>", value)
 place_of (digits value) = Some (codes "--digits <N>", value)
 place_of (errors value) = Some (codes "--errors <N>", value)
@@ -62,9 +76,13 @@ why_text memory = Some (codes "out of memory")
 why_text (field value) = Some (codes "it is not a number from 1 to 18446744073709551615")
 why_text (delimiter value) = Some (codes "it is not one byte")
 why_text (from value why) = naming.fault_text why
+why_text (lacking value lack) = Some (lack_text lack)
 why_text (to value why) = naming.fault_text why
 why_text (year value) = Some (codes "it is not a year from -999999 to 999999")
 why_text (offset value) = Some (codes "it is no offset such as +05:30")
+why_text (unused_year value) = Some (codes "each format reads a year")
+why_text (unused_latest value) = Some (codes "each format reads a year")
+why_text (unused_offset value) = Some (codes "each format reads an offset")
 why_text (zone value) = Some (codes "it is not keep, utc or an offset such as +05:30")
 why_text (digits value) = Some (codes "it is not 0 to 9 or auto")
 why_text (errors value) = Some (codes "it is not a number from 0 to 18446744073709551615")

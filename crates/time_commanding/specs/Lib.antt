@@ -1,5 +1,6 @@
 pub mod Values
 pub mod Fault
 pub mod Request
+pub mod Expected
 pub mod Pointing
 pub mod Rewriting

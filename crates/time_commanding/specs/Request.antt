@@ -1,18 +1,20 @@
 -- What options ask for. `Y` is the greatest year.
-use Rattle.std.specs.Prelude.{◌≡◌, ℕ, List, [], ◌∷◌, ◌++◌, codes, Bool, ◌&&◌, not, if◌then◌else◌, ◌⊎◌, MatchBool, Option, None, Some, Result, Ok, Err}
+use Rattle.std.specs.Prelude.{◌≡◌, ℕ, ℤ, List, [], ◌∷◌, ◌++◌, codes, Bool, true, false, ◌&&◌, ◌||◌, not, if◌then◌else◌, ◌⊎◌, MatchBool, Option, None, Some, is_some, IsSomeAnd, Result, Ok, Err}
 use Rattle.std.specs.Borrow.{Bor}
+use Rattle.std.specs.List.{list_any}
 use Rattle.std.specs.Option.{option_map}
 use Rattle.time_cutting.specs.declared.cuts.Place.{Place}
 use Rattle.time_cutting.specs.declared.cuts.Place.TheVariants as place
 use Rattle.time_cutting.specs.declared.fields.Fields.{Fields}
 use Rattle.time_cutting.specs.declared.fields.Fields.TheVariants.{Delimited, Blank, Quoted}
-use Rattle.time_record.specs.Record.{Record}
+use Rattle.time_restamping.specs.Lack.{format_lack, takes}
 use Rattle.time_restamping.specs.Naming as naming
 use Rattle.time_restamping.specs.Naming.{Means, MeansWriting, meaning_of, way_of}
-use Rattle.time_restamping.specs.declared.naming.FormatFault as declared_fault
 use Rattle.time_restamping.specs.Reason.{Reason, seen}
 use Rattle.time_restamping.specs.declared.reason.Reason as declared
 use Rattle.time_restamping.specs.declared.job.Job.{Job}
+use Rattle.time_restamping.specs.declared.lack.Part.{Part}
+use Rattle.time_restamping.specs.declared.lack.Part.TheVariants as part
 use Rattle.time_restamping.specs.declared.reading.Defaults.{Defaults}
 use Rattle.time_restamping.specs.declared.reading.Reading.{Reading}
 use Rattle.time_options.specs.Options.{other_names, text_behind}
@@ -20,10 +22,12 @@ use Rattle.time_options.specs.declared.options.Options.{Options}
 use Rattle.time_rewriting.specs.declared.settings.Output.TheVariants.{AllLines, RewrittenLines, Times}
 use Rattle.time_rewriting.specs.declared.settings.Reports.TheVariants.{Quiet, First}
 use Rattle.time_rewriting.specs.declared.settings.Settings.{Settings}
+use Rattle.time_values.specs.Offsets.{IsUtc}
 use Rattle.time_values.specs.declared.offset_date_time.OffsetDateTime.{OffsetDateTime}
+use Rattle.time_values.specs.declared.utc_offset.UtcOffset.{UtcOffset}
 use Rattle.time_commanding.specs.Fault as fault
 use Rattle.time_commanding.specs.Fault.{Fault}
-use Rattle.time_commanding.specs.Values.{delimiter_of, digits_of, shows_of, IsNumber, IsPositive, IsOffsetRecord, IsYeared, IsZone, IsMomentText}
+use Rattle.time_commanding.specs.Values.{delimiter_of, digits_of, shows_of, IsNumber, IsPositive, IsOffsetText, IsYear, IsZone, IsMomentText}
 use Rattle.time_commanding.specs.declared.request.Request.{Request}
 use Rattle.time_commanding.specs.declared.style.Style.{Style}
 
@@ -70,38 +74,69 @@ IsAfterPlace o (Some key) w = w ≡ after key.now
 abbrev pub IsPlace : Options → Where → Type 0
 IsPlace o w = MatchBool o.front (w ≡ front) (MatchBool o.anywhere (w ≡ anywhere) (IsAfterPlace o o.after w))
 
--- A list got the formats that have those names, or that those texts describe, one after the other.
-abbrev pub AddsMeant : List (List ℕ) → List Reading → List Reading → Type 0
-AddsMeant [] old new = new ≡ old
-AddsMeant (name ∷ names) old new =
-    (reading : Reading) × Means (way_of name) (meaning_of reading) × AddsMeant names (old ++ reading ∷ []) new
+-- a year is given for times that say none
+abbrev pub gives_year : Options → Bool
+gives_year o = is_some o.year || is_some o.latest
+
+-- The format that has that name, or that the text describes. Some text says a moment by it, where a year is given or
+-- isn't.
+abbrev pub IsFormat : Bool → List ℕ → Reading → Type 0
+IsFormat has_year name format = Means (way_of name) (meaning_of format) × (format_lack has_year format ≡ None)
+
+-- A list got the formats of those names, one after the other.
+abbrev pub AddsFormats : Bool → List (List ℕ) → List Reading → List Reading → Type 0
+AddsFormats has_year [] old new = new ≡ old
+AddsFormats has_year (name ∷ names) old new =
+    (format : Reading) × IsFormat has_year name format × AddsFormats has_year names (old ++ format ∷ []) new
+
+-- The formats that are asked for, the first and the others.
+abbrev pub AreFormats : Options → Reading → List Reading → Type 0
+AreFormats o first others =
+    IsFormat (gives_year o) o.from.now first × AddsFormats (gives_year o) (other_names o) [] others
 
 -- one of the texts
 abbrev pub IsOneOf : List (List ℕ) → List ℕ → Type 0
 IsOneOf [] text = ⊥
 IsOneOf (name ∷ names) text = (text ≡ name) ⊎ IsOneOf names text
 
--- One of the texts is no format, for that reason; or memory was short.
-abbrev pub IsUnread : List (List ℕ) → Option (List ℕ × naming.Fault) → Type 0
-IsUnread names None = Unit {0}
-IsUnread names (Some p) = IsOneOf names p.0 × naming.IsFault (way_of p.0) p.1
+-- One of the texts is no format, for that reason, or a format that lacks something; or memory was short.
+abbrev pub IsFormatFault : Bool → List (List ℕ) → Fault → Type 0
+IsFormatFault has_year names fault.memory = Unit {0}
+IsFormatFault has_year names (fault.from value why) = IsOneOf names value × naming.IsFault (way_of value) why
+IsFormatFault has_year names (fault.lacking value lack) =
+    IsOneOf names value
+    × ((format : Reading) × Means (way_of value) (meaning_of format) × (format_lack has_year format ≡ Some lack))
+IsFormatFault has_year names f = ⊥
 
--- the same, without where the text lies in memory
-abbrev pub seen_unread : Option (Bor (List ℕ) × declared_fault.FormatFault) → Option (List ℕ × naming.Fault)
-seen_unread = option_map (λ p. (p.0.now, naming.fault_of p.1))
+-- The year that is given, if one is.
+abbrev pub IsYearGiven : ℕ → Option (List ℕ) → Option ℤ → Type 0
+IsYearGiven Y None year = year ≡ None
+IsYearGiven Y (Some text) year = IsSomeAnd year (λ y. IsYear Y text (Some y))
 
--- The record has the year that is given, if one is.
-abbrev pub HasYear : ℕ → Option (List ℕ) → Record → Record → Type 0
-HasYear Y None r parts = parts ≡ r
-HasYear Y (Some year) r parts = IsYeared Y year r (Some parts)
+-- The offset that is given; without one UTC.
+abbrev pub IsOffsetGiven : ℕ → Option (List ℕ) → UtcOffset → Type 0
+IsOffsetGiven Y None offset = IsUtc offset
+IsOffsetGiven Y (Some text) offset = IsOffsetText Y text (Some offset)
 
--- The parts that stand for those that a time leaves out: the offset and the year that are given.
-abbrev pub AreParts : ℕ → Options → Record → Type 0
-AreParts Y o parts = (r : Record) × IsOffsetRecord Y o.offset.now (Some r) × HasYear Y (text_behind o.year) r parts
+-- The year and the offset that stand for those that a time leaves out.
+abbrev pub AreParts : ℕ → Options → Defaults → Type 0
+AreParts Y o parts =
+    IsYearGiven Y (text_behind o.year) parts.year
+    × IsSomeAnd parts.offset (IsOffsetGiven Y (text_behind o.offset)) × (parts.latest ≡ None)
 
--- these alone
-abbrev pub only_parts : Record → Defaults
-only_parts parts = record { parts = Some parts; latest = None }
+-- A text of one of the formats may leave that part out.
+abbrev pub one_takes : Part → Reading → List Reading → Bool
+one_takes p first others = takes p first || list_any (takes p) others
+
+-- What is given for a part of a time can be of use.
+pub record AreUsed (o : Options) (first : Reading) (others : List Reading) : Type 0 where
+  pub year : gives_year o ≡ true → one_takes part.Year first others ≡ true
+  pub offset : is_some o.offset ≡ true → one_takes part.Offset first others ≡ true
+
+-- No text of a format that is asked for leaves that part out.
+abbrev pub HasNoUse : Options → Part → Type 0
+HasNoUse o p =
+    (first : Reading) × (others : List Reading) × AreFormats o first others × (one_takes p first others ≡ false)
 
 -- the zone that is given, by its text or by the flag for UTC
 abbrev pub zone_of : Options → List ℕ
@@ -135,8 +170,8 @@ IsBound Y first others defaults (Some text) result =
 -- What stands for what a time leaves out: these parts, and the moment that a time with no year isn't after.
 abbrev pub AreDefaults : ℕ → Options → Reading → List Reading → Defaults → Type 0
 AreDefaults Y o first others defaults =
-    (parts : Record) × AreParts Y o parts × (defaults.parts ≡ Some parts)
-    × IsBound Y first others (only_parts parts) (text_behind o.latest) (Ok defaults.latest)
+    (parts : Defaults) × AreParts Y o parts × (defaults ≡ record parts { latest = defaults.latest })
+    × IsBound Y first others parts (text_behind o.latest) (Ok defaults.latest)
 
 -- How the lines of files are answered.
 abbrev pub AreSettings : Options → Settings → Type 0
@@ -150,8 +185,8 @@ AreSettings o settings =
 -- Options ask for a request, where reports go to a terminal or don't.
 pub record Asks (Y : ℕ) (o : Options) (is_terminal : Bool) (r : Request) : Type 0 where
   pub place : IsPlace o (seen_place r.place)
-  pub first : Means (way_of o.from.now) (meaning_of r.first)
-  pub others : AddsMeant (other_names o) [] r.others.items
+  pub formats : AreFormats o r.first r.others.items
+  pub uses : AreUsed o r.first r.others.items
   pub defaults : AreDefaults Y o r.first r.others.items r.defaults
   pub style : IsStyle Y o r.style
   pub since : IsBound Y r.first r.others.items r.defaults (text_behind o.since) (Ok r.since)
@@ -164,26 +199,31 @@ pub record Asks (Y : ℕ) (o : Options) (is_terminal : Bool) (r : Request) : Typ
 abbrev pub IsNoBound : ℕ → Options → Option (List ℕ) → List ℕ → Reason → Type 0
 IsNoBound Y o text value reason =
     (first : Reading) × (others : List Reading) × (defaults : Defaults)
-    × Means (way_of o.from.now) (meaning_of first) × AddsMeant (other_names o) [] others
-    × AreDefaults Y o first others defaults × IsBound Y first others defaults text (Err (value, reason))
+    × AreFormats o first others × AreDefaults Y o first others defaults
+    × IsBound Y first others defaults text (Err (value, reason))
 
 -- The same of the moment that a time with no year isn't after, by the other defaults alone.
 abbrev pub IsNoLatest : ℕ → Options → List ℕ → Reason → Type 0
 IsNoLatest Y o value reason =
-    (first : Reading) × (others : List Reading) × (parts : Record)
-    × Means (way_of o.from.now) (meaning_of first) × AddsMeant (other_names o) [] others × AreParts Y o parts
-    × IsBound Y first others (only_parts parts) (text_behind o.latest) (Err (value, reason))
+    (first : Reading) × (others : List Reading) × (parts : Defaults)
+    × AreFormats o first others × AreParts Y o parts
+    × IsBound Y first others parts (text_behind o.latest) (Err (value, reason))
 
 -- An option doesn't take its value, or memory was short.
 abbrev pub IsFault : ℕ → Options → Fault → Type 0
 IsFault Y o fault.memory = Unit {0}
 IsFault Y o (fault.field value) = (text_behind o.field ≡ Some value) × IsPositive value None
 IsFault Y o (fault.delimiter value) = (value ≡ o.delimiter.now) × (delimiter_of value ≡ None)
-IsFault Y o (fault.from value why) = IsOneOf (o.from.now ∷ other_names o) value × naming.IsFault (way_of value) why
+IsFault Y o (fault.from value why) =
+    IsFormatFault (gives_year o) (o.from.now ∷ other_names o) (fault.from value why)
+IsFault Y o (fault.lacking value lack) =
+    IsFormatFault (gives_year o) (o.from.now ∷ other_names o) (fault.lacking value lack)
 IsFault Y o (fault.to value why) = (value ≡ o.to.now) × naming.IsWritingFault value why
-IsFault Y o (fault.year value) =
-    (r : Record) × IsOffsetRecord Y o.offset.now (Some r) × (text_behind o.year ≡ Some value) × IsYeared Y value r None
-IsFault Y o (fault.offset value) = (value ≡ o.offset.now) × IsOffsetRecord Y value None
+IsFault Y o (fault.year value) = (text_behind o.year ≡ Some value) × IsYear Y value None
+IsFault Y o (fault.offset value) = (text_behind o.offset ≡ Some value) × IsOffsetText Y value None
+IsFault Y o (fault.unused_year value) = (text_behind o.year ≡ Some value) × HasNoUse o part.Year
+IsFault Y o (fault.unused_latest value) = (text_behind o.latest ≡ Some value) × HasNoUse o part.Year
+IsFault Y o (fault.unused_offset value) = (text_behind o.offset ≡ Some value) × HasNoUse o part.Offset
 IsFault Y o (fault.zone value) = (value ≡ zone_of o) × IsZone Y value None
 IsFault Y o (fault.digits value) = (value ≡ o.digits.now) × (digits_of value ≡ None)
 IsFault Y o (fault.errors value) = (value ≡ o.errors.now) × IsNumber value None

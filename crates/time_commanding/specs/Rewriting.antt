@@ -1,13 +1,19 @@
 -- What becomes of a line, as a job judges it. `Y` is the greatest year.
-use Rattle.std.specs.Prelude.{◌≡◌, ℕ, ◌+◌, Bool, List}
-use Rattle.std.proofs.Common.{ap, sym, ◌∙◌}
+use Rattle.std.specs.Prelude.{◌≡◌, ℕ, ◌+◌, ◌++◌, Bool, List, Option}
+use Rattle.std.proofs.Common.{ap, subst, sym, ◌∙◌}
 use Rattle.time_values.specs.Range.{greatest_year}
 use Rattle.time_rewriting.specs.declared.fate.Fate.{Fate}
 use Rattle.time_rewriting.specs.declared.fate.Fate.TheVariants.{Without, Rewritten, Dropped, Refused}
 use Rattle.time_restamping.proofs.OneVerdict.{one_verdict}
+use Rattle.time_restamping.proofs.OneLack.{one_lack}
+use Rattle.time_restamping.proofs.OneWrong.{one_wrong}
 use Rattle.time_restamping.specs.Job.{Verdict, without, rewritten, dropped, refused, IsJudged}
-use Rattle.time_restamping.specs.Reason.{Reason, reason_text}
+use Rattle.time_restamping.specs.Missing.{IsLack, why_text}
+use Rattle.time_restamping.specs.Reason.{Reason}
+use Rattle.time_restamping.specs.Wrong.{IsWrong, Wrong}
 use Rattle.time_restamping.specs.declared.job.Job.{Job}
+use Rattle.time_restamping.specs.declared.lack.Lack.{Lack}
+use Rattle.time_commanding.specs.Expected.{expected_text}
 use Rattle.time_commanding.specs.Pointing.{told_reason}
 
 -- the fate of a line with that verdict
@@ -21,35 +27,50 @@ fate_of (refused column reason) = Refused
 abbrev pub IsFate : ℕ → Job → List ℕ → Fate → Type 0
 IsFate Y job front fate = (verdict : Verdict) × IsJudged Y job front verdict × (fate ≡ fate_of verdict)
 
--- A front is refused at that column, and that text tells the reason, with the line below it where it is to be shown.
+-- how it is told that a front goes wrong there for a reason, or for what its time lacks: with what was expected, and
+-- the line below it where it is to be shown
+abbrev pub told_wrong : Bool → List ℕ → Reason → Option Lack → Wrong → List ℕ
+told_wrong shows_lines front reason lack w =
+    told_reason shows_lines front w.column (why_text reason lack ++ expected_text w.wanted)
+
+-- A front that is refused at a column for a reason goes wrong at that one, and that text tells it.
+abbrev pub TellsWrong : ℕ → Job → Bool → List ℕ → ℕ → Reason → ℕ → List ℕ → Type 0
+TellsWrong Y job shows_lines front begin reason column text =
+    (w : Wrong) × (lack : Option Lack) × IsWrong Y job front begin reason w × IsLack Y job front reason lack
+    × (column ≡ w.column) × (text ≡ told_wrong shows_lines front reason lack w)
+
+-- A front is refused, goes wrong at that column, and that text tells the reason.
 abbrev pub IsReason : ℕ → Job → Bool → List ℕ → ℕ → List ℕ → Type 0
 IsReason Y job shows_lines front column text =
-    (reason : Reason) × IsJudged Y job front (refused column reason)
-    × (text ≡ told_reason shows_lines front column (reason_text reason))
+    (begin : ℕ) × (reason : Reason) × IsJudged Y job front (refused begin reason)
+    × TellsWrong Y job shows_lines front begin reason column text
 
 -- A front has one fate.
 pub one_fate : (job : Job) (front : List ℕ) (a b : Fate)
     → IsFate greatest_year job front a → IsFate greatest_year job front b → a ≡ b
 one_fate job front a b p q = p.2 ∙ ap fate_of (one_verdict job front p.0 q.0 p.1 q.1) ∙ sym q.2
 
-column_of : ℕ → Verdict → ℕ
-column_of n without = n
-column_of n (rewritten start length text) = n
-column_of n dropped = n
-column_of n (refused column reason) = column
-
-told_of : Bool → List ℕ → List ℕ → Verdict → List ℕ
-told_of shows_lines front t without = t
-told_of shows_lines front t (rewritten start length text) = t
-told_of shows_lines front t dropped = t
-told_of shows_lines front t (refused column reason) = told_reason shows_lines front column (reason_text reason)
+-- A front of that verdict goes wrong there, and that text tells it.
+Tells : Job → Bool → List ℕ → ℕ → List ℕ → Verdict → Type 0
+Tells job shows_lines front column text without = ⊥
+Tells job shows_lines front column text (rewritten start n bytes) = ⊥
+Tells job shows_lines front column text dropped = ⊥
+Tells job shows_lines front column text (refused begin reason) =
+    TellsWrong greatest_year job shows_lines front begin reason column text
 
 -- A front is refused at one column and for one reason.
 pub one_reason : (job : Job) (shows_lines : Bool) (front : List ℕ) (column other : ℕ) (reason why : List ℕ)
     → IsReason greatest_year job shows_lines front column reason
     → IsReason greatest_year job shows_lines front other why
     → (column ≡ other) × (reason ≡ why)
-unfolding column_of told_of
-one_reason job shows_lines front column other reason why p q =
-    let same = one_verdict job front (refused column p.0) (refused other q.0) p.1 q.1 in
-    (ap (column_of 0) same, p.2 ∙ ap (told_of shows_lines front reason) same ∙ sym q.2)
+unfolding Tells
+one_reason job shows_lines front column other reason why (begin, e, judged, told) (start, f, same_judged, same_told) =
+    let verdict = one_verdict job front (refused begin e) (refused start f) judged same_judged in
+    let there : TellsWrong greatest_year job shows_lines front start f column reason =
+    subst (λ (v : Verdict). Tells job shows_lines front column reason v) verdict told in
+    let one = one_wrong job front start f there.0 same_told.0 there.2 same_told.2 in
+    let lack = one_lack job front f there.1 same_told.1 there.3 same_told.3 in (
+      there.4 ∙ ap (λ (w : Wrong). w.column) one ∙ sym same_told.4,
+      there.5 ∙ ap (λ (l : Option Lack). told_wrong shows_lines front f l there.0) lack
+          ∙ ap (told_wrong shows_lines front f same_told.1) one ∙ sym same_told.5,
+    )

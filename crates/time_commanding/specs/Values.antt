@@ -1,5 +1,5 @@
 -- What the values of options mean. `Y` is the greatest year.
-use Rattle.std.specs.Prelude.{◌≡◌, ℕ, ◌-◌, ◌^◌, ◌<◌, ℤ, Bool, false, true, MatchBool, List, [], ◌∷◌, codes, if◌then◌else◌, Option, None, Some, SomeIff, Result, Ok, Err, MatchResult, IsSomeAnd, FitsSigned}
+use Rattle.std.specs.Prelude.{◌≡◌, ℕ, ◌-◌, ◌^◌, ◌<◌, ℤ, nat_le, unsigned_abs, Bool, false, true, MatchBool, List, [], ◌∷◌, codes, if◌then◌else◌, Option, None, Some, SomeIff, Result, Ok, Err, MatchResult, IsSomeAnd, FitsSigned}
 use Rattle.std.specs.Char.{is_ascii_digit}
 use Rattle.std.specs.Option.{option_and_then, option_map}
 use Rattle.std.specs.Result.{result_ok}
@@ -11,7 +11,7 @@ use Rattle.time_components.specs.Tree.{Tree, literal, component, sequence, trees
 use Rattle.time_components.specs.declared.format_description.Component.TheVariants as kind
 use Rattle.time_parsing.specs.Outcome.{IsOutcome}
 use Rattle.time_record.specs.Reading.{Reads, Refuses}
-use Rattle.time_record.specs.Record.{Record, empty, put, put_all, year_is, offset_hour_is, offset_minute_is, offset_second_is}
+use Rattle.time_record.specs.Record.{empty}
 use Rattle.time_record.specs.Resolution.{IsOffset}
 use Rattle.time_restamping.specs.Reading.{Says, IsReadInTurn}
 use Rattle.time_restamping.specs.Reason.{Reason, seen}
@@ -93,31 +93,17 @@ IsZone Y text result =
     (MatchBool (bytes_eq text (codes "utc")) (IsSomeAnd result (λ offset. IsSomeAnd offset Offsets.IsUtc))
     ((offset : Option UtcOffset) × IsOffsetText Y text offset × (result ≡ option_map Some offset)))
 
--- a record of an offset alone
-abbrev pub offset_record : ℕ → UtcOffset → Option Record
-offset_record Y offset =
-    put_all Y
-    (offset_hour_is (Offsets.hours offset)
-    ∷ offset_minute_is (Offsets.minutes offset)
-    ∷ offset_second_is (Offsets.seconds offset)
-    ∷ [])
-    empty
-
--- The record of the offset that a text says, or none.
-abbrev pub IsOffsetRecord : ℕ → List ℕ → Option Record → Type 0
-IsOffsetRecord Y text result =
-    (offset : Option UtcOffset) × IsOffsetText Y text offset × (result ≡ option_and_then (offset_record Y) offset)
-
--- The record with the year that a text says, or none.
-abbrev pub IsYeared : ℕ → List ℕ → Record → Option Record → Type 0
-IsYeared Y text r result =
-    (year : Option ℤ) × IsSigned text year × (result ≡ option_and_then (λ y. put Y (year_is y) r) year)
+-- The year that a text says in decimal digits, with or without a sign, or none.
+abbrev pub IsYear : ℕ → List ℕ → Option ℤ → Type 0
+IsYear Y text result =
+    (number : Option ℤ) × IsSigned text number
+    × (result ≡ option_and_then (λ n. if nat_le (unsigned_abs n) Y then Some n else None) number)
 
 -- The moment that a text says by RFC 3339, or else by the first of the formats by which it says one; the reason why
 -- it says none is that of RFC 3339.
 abbrev pub IsMomentText : ℕ → Reading → List Reading → List ℕ → Defaults → Result OffsetDateTime Reason → Type 0
 IsMomentText Y first others text defaults result =
-    (plain : Result Said Reason) × Says Y Rfc3339 false text defaults.parts plain
+    (plain : Result Said Reason) × Says Y Rfc3339 false text defaults plain
     × MatchResult plain (λ said. result ≡ Ok said.moment)
     (λ reason. (said : Result Said Reason) × IsReadInTurn Y first others false text defaults said
     × MatchResult said (λ s. result ≡ Ok s.moment) (λ _. result ≡ Err reason))

@@ -14,7 +14,7 @@ pub fn find_moment(
 ) -> Result<OffsetDateTime, Reason>
     ensures { spec.IsMomentText greatest_year first.now others.now text.now defaults.now (spec.seen_moment result) }
 {
-    let reason = match read(&Reading::Rfc3339, false, text.as_bytes(), &defaults.parts) {
+    let reason = match read(&Reading::Rfc3339, false, text.as_bytes(), defaults) {
         Ok(said) => return Ok(said.moment),
         Err(reason) => reason,
     };

@@ -4,7 +4,7 @@ ghost use Rattle.std.specs.Option.{option_map};
 ghost use Rattle.time_commanding.specs.Fault as spec;
 
 use std::fmt;
-use time_restamping::{FormatFault, Reason};
+use time_restamping::{FormatFault, Lack, Reason};
 
 /// Why the options ask for nothing: an option that doesn't take its value.
 #[derive(Clone, Copy)]
@@ -17,12 +17,20 @@ pub enum Fault<'a> {
     Delimiter(&'a str),
     /// `--from` takes a format's name, or a description.
     From(&'a str, FormatFault<'a>),
+    /// `--from` takes a format by which some text says a moment.
+    Lacking(&'a str, Lack),
     /// `--to` takes the name of a format that times are written by, or a description.
     To(&'a str, FormatFault<'a>),
     /// `--year` takes a year from -999999 to 999999.
     Year(&'a str),
     /// `--offset` takes an offset.
     Offset(&'a str),
+    /// `--year` has no use: each text of each format says a part of a year.
+    UnusedYear(&'a str),
+    /// `--latest` has none, for that reason.
+    UnusedLatest(&'a str),
+    /// `--offset` has no use: each text of each format says the hour of an offset.
+    UnusedOffset(&'a str),
     /// `--zone` takes `keep`, `utc` or an offset.
     Zone(&'a str),
     /// `--digits` takes 0 to 9, or `auto`.
@@ -49,9 +57,13 @@ impl<'a> Fault<'a> {
             Fault::Field(value) => Some(("--field <N>", value)),
             Fault::Delimiter(value) => Some(("--delimiter <BYTE>", value)),
             Fault::From(value, _) => Some(("--from <FORMAT>", value)),
+            Fault::Lacking(value, _) => Some(("--from <FORMAT>", value)),
             Fault::To(value, _) => Some(("--to <FORMAT>", value)),
             Fault::Year(value) => Some(("--year <YEAR>", value)),
             Fault::Offset(value) => Some(("--offset <OFFSET>", value)),
+            Fault::UnusedYear(value) => Some(("--year <YEAR>", value)),
+            Fault::UnusedLatest(value) => Some(("--latest <TIME>", value)),
+            Fault::UnusedOffset(value) => Some(("--offset <OFFSET>", value)),
             Fault::Zone(value) => Some(("--zone <ZONE>", value)),
             Fault::Digits(value) => Some(("--digits <N>", value)),
             Fault::Errors(value) => Some(("--errors <N>", value)),
@@ -72,9 +84,13 @@ impl fmt::Display for Fault<'_> {
             Fault::Field(_) => write!(f, "it is not a number from 1 to 18446744073709551615"),
             Fault::Delimiter(_) => write!(f, "it is not one byte"),
             Fault::From(_, why) => write!(f, "{why}"),
+            Fault::Lacking(_, lack) => write!(f, "{lack}"),
             Fault::To(_, why) => write!(f, "{why}"),
             Fault::Year(_) => write!(f, "it is not a year from -999999 to 999999"),
             Fault::Offset(_) => write!(f, "it is no offset such as +05:30"),
+            Fault::UnusedYear(_) => write!(f, "each format reads a year"),
+            Fault::UnusedLatest(_) => write!(f, "each format reads a year"),
+            Fault::UnusedOffset(_) => write!(f, "each format reads an offset"),
             Fault::Zone(_) => write!(f, "it is not keep, utc or an offset such as +05:30"),
             Fault::Digits(_) => write!(f, "it is not 0 to 9 or auto"),
             Fault::Errors(_) => write!(f, "it is not a number from 0 to 18446744073709551615"),

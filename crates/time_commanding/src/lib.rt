@@ -2,11 +2,14 @@
 #![tactic(auto)]
 
 mod bounds;
+mod expected;
 mod fault;
+mod formats;
 mod pointing;
 mod request;
 mod rewriting;
 mod style;
+mod uses;
 mod values;
 
 pub use fault::Fault;

@@ -1,24 +1,24 @@
 //! What the options ask for.
-ghost use Rattle.std.specs.Prelude.{◌≡◌, [], IfErr, MatchResult, OnOk, Some, map};
+ghost use Rattle.std.specs.Prelude.{◌≡◌, MatchResult, Some};
 ghost use Rattle.time_values.specs.Range.{greatest_year};
-ghost use Rattle.time_restamping.specs.Naming.{Means, meaning_of, way_of};
-ghost use Rattle.time_options.specs.Options.{other_names, text_behind};
+ghost use Rattle.time_options.specs.Options.{text_behind};
 ghost use Rattle.time_commanding.specs.Fault.{told};
 ghost use Rattle.time_commanding.specs.Request as spec;
 
 use crate::bounds::find_moment;
 use crate::fault::Fault;
+use crate::formats::{add_formats, find_first, gives_year, other_names};
 use crate::style::{Style, find_style};
+use crate::uses::find_unused;
 use crate::values::{
-    find_delimiter, find_number, find_offset_record, find_positive, find_shows, find_yeared,
+    find_delimiter, find_number, find_offset, find_positive, find_shows, find_year,
 };
 use std::alloc::Global;
 use time_cutting::{Fields, Place};
 use time_options::Options;
-use time_record::Parsed;
-use time_restamping::{Defaults, Form, FormatFault, Job, Reading, Reason, find_reading};
+use time_restamping::{Defaults, Form, Job, Reading, Reason};
 use time_rewriting::{Output, Reports, Settings};
-use time_values::OffsetDateTime;
+use time_values::{OffsetDateTime, UtcOffset};
 
 /// What the options ask for.
 #[derive(Drop)]
@@ -98,67 +98,46 @@ fn find_place<'a>(options: &Options<'_, 'a>) -> Result<Option<Place<'a>>, Fault<
     Ok(Some(find_field(options, number)?))
 }
 
-// Adds the formats of those names. One that is none is handed back, with its fault; nothing is where memory is short.
-fn add_formats<'a>(
-    names: &[&'a str],
-    readings: &mut Vec<Reading>,
-) -> Result<(), Option<(&'a str, FormatFault<'a>)>>
-    ensures ok { OnOk result (spec.AddsMeant (map (λ name. name.now) names.now) readings.old.items readings.new.items) }
-    ensures err { IfErr result (λ unread. spec.IsUnread (map (λ name. name.now) names.now) (spec.seen_unread unread)) }
+// The year that is given, if one is.
+fn find_given_year<'a>(options: &Options<'_, 'a>) -> Result<Option<i32>, Fault<'a>>
+    ensures { MatchResult result (λ year. spec.IsYearGiven greatest_year (text_behind options.now.year) year)
+        (λ fault. spec.IsFault greatest_year options.now (told fault)) }
 {
-    let [name, others @ ..] = names else {
-        return Ok(());
+    let Some(text) = options.year else {
+        return Ok(None);
     };
-    match find_reading(name.as_bytes()) {
-        Ok(reading) => {
-            if readings.push(reading).is_err() {
-                return Err(None);
-            }
-            add_formats(others, readings)
-        }
-        Err(why) => Err(Some((*name, why))),
+    match find_year(text) {
+        Some(year) => Ok(Some(year)),
+        None => Err(Fault::Year(text)),
     }
 }
 
-// Adds the formats of `--from` but the first.
-fn add_others<'a>(
-    options: &Options<'_, 'a>,
-    readings: &mut Vec<Reading>,
-) -> Result<(), Option<(&'a str, FormatFault<'a>)>>
-    ensures ok { OnOk result (spec.AddsMeant (other_names options.now) readings.old.items readings.new.items) }
-    ensures err { IfErr result (λ unread. spec.IsUnread (other_names options.now) (spec.seen_unread unread)) }
+// The offset that is given; without one UTC.
+fn find_given_offset<'a>(options: &Options<'_, 'a>) -> Result<UtcOffset, Fault<'a>>
+    ensures { MatchResult result (λ offset. spec.IsOffsetGiven greatest_year (text_behind options.now.offset) offset)
+        (λ fault. spec.IsFault greatest_year options.now (told fault)) }
 {
-    match options.formats {
-        Some([_, names @ ..]) => add_formats(names, readings),
-        _ => Ok(()),
+    let Some(text) = options.offset else {
+        return Ok(UtcOffset::UTC);
+    };
+    match find_offset(text) {
+        Some(offset) => Ok(offset),
+        None => Err(Fault::Offset(text)),
     }
 }
 
-// The parts that stand for those that a time leaves out.
-fn find_parts<'a>(options: &Options<'_, 'a>) -> Result<Parsed, Fault<'a>>
+// The year and the offset that stand for those that a time leaves out.
+fn find_parts<'a>(options: &Options<'_, 'a>) -> Result<Defaults, Fault<'a>>
     ensures { MatchResult result (λ parts. spec.AreParts greatest_year options.now parts)
         (λ fault. spec.IsFault greatest_year options.now (told fault)) }
 {
-    let Some(parsed) = find_offset_record(options.offset) else {
-        return Err(Fault::Offset(options.offset));
-    };
-    let Some(year) = options.year else {
-        return Ok(parsed);
-    };
-    match find_yeared(year, parsed) {
-        Some(parts) => Ok(parts),
-        None => Err(Fault::Year(year)),
-    }
-}
-
-// The parts alone.
-fn only_parts(parts: Parsed) -> Defaults
-    ensures { result ≡ spec.only_parts parts }
-{
-    Defaults {
-        parts: Some(parts),
+    let year = find_given_year(options)?;
+    let offset = find_given_offset(options)?;
+    Ok(Defaults {
+        year,
+        offset: Some(offset),
         latest: None,
-    }
+    })
 }
 
 // The moment that a text says, if there is one.
@@ -185,8 +164,7 @@ fn find_defaults<'a>(
     first: &Reading,
     others: &[Reading],
 ) -> Result<Defaults, Fault<'a>>
-    requires first { Means (way_of options.now.from.now) (meaning_of first.now) }
-    requires others { spec.AddsMeant (other_names options.now) [] others.now }
+    requires { spec.AreFormats options.now first.now others.now }
     ensures { MatchResult result (λ defaults. spec.AreDefaults greatest_year options.now first.now others.now defaults)
         (λ fault. spec.IsFault greatest_year options.now (told fault)) }
 {
@@ -194,9 +172,10 @@ fn find_defaults<'a>(
         Ok(parts) => parts,
         Err(fault) => return Err(fault),
     };
-    match find_bound(first, others, &only_parts(parts), options.latest) {
+    match find_bound(first, others, &parts, options.latest) {
         Ok(latest) => Ok(Defaults {
-            parts: Some(parts),
+            year: parts.year,
+            offset: parts.offset,
             latest,
         }),
         Err((text, reason)) => Err(Fault::Latest(text, reason)),
@@ -243,20 +222,19 @@ impl<'a> Request<'a> {
             (λ fault. spec.IsFault greatest_year options.now (told fault)) }
     {
         let place = find_place(options)?;
-        let first = match find_reading(options.from.as_bytes()) {
-            Ok(first) => first,
-            Err(why) => return Err(Fault::From(options.from, why)),
-        };
+        let first = find_first(options)?;
         let mut others = Vec::new(alloc);
-        match add_others(options, &mut others) {
-            Ok(()) => {}
-            Err(Some((name, why))) => return Err(Fault::From(name, why)),
-            Err(None) => return Err(Fault::Memory),
+        let names = other_names(options);
+        if let Err(fault) = add_formats(names, gives_year(options), &mut others) {
+            return Err(fault);
         }
         let defaults = match find_defaults(options, &first, others.as_slice()) {
             Ok(defaults) => defaults,
             Err(fault) => return Err(fault),
         };
+        if let Some(fault) = find_unused(options, &first, others.as_slice()) {
+            return Err(fault);
+        }
         let style = find_style(options)?;
         let settings = find_settings(options)?;
         let Some(shows_lines) = find_shows(options.color, is_terminal) else {

@@ -1,17 +1,20 @@
 //! The answer to files.
 ghost use Rattle.std.specs.Prelude.{◌≡◌, ◌≢◌, IfErr, OnOk, map};
 ghost use Rattle.time_values.specs.Range.{greatest_year};
+ghost use Rattle.time_rewriting.specs.Fates.{WritesReason};
 ghost use Rattle.time_rewriting.specs.Files.{DidFiles, StoppedIn};
 ghost use Rattle.time_rewriting.specs.Streams.{state_of};
+ghost use Rattle.time_restamping.specs.Reason.{seen};
 ghost use Rattle.time_restamping.specs.declared.job.Job.{Job as Job_};
 ghost use Rattle.time_commanding.specs.Request.{IsJobOf};
-ghost use Rattle.time_commanding.specs.Rewriting.{IsFate, IsReason};
+ghost use Rattle.time_commanding.specs.Rewriting.{IsFate, IsReason, TellsWrong};
 
+use crate::expected::write_expected;
 use crate::pointing::write_pointer;
 use crate::request::Request;
 use std::io;
 use std::io::Write;
-use time_restamping::{Job, Verdict};
+use time_restamping::{Job, Reason, Verdict, Why, Wrong};
 use time_rewriting::{Block, Fate, Opening, Rewriting, Stop, Stream};
 
 /// A job, which says which fate a line has, and how a refused line is told.
@@ -57,17 +60,39 @@ impl Rewriting for Restamping<'_> {
 
     fn write_reason<L: Write>(&self, front: &[u8], log: &mut L) -> io::Result<()> {
         match self.job.judge(front) {
-            Verdict::Refused { column, reason } => {
-                if self.shows_lines {
-                    write!(log, "{column}: \x1b[31m{reason}\x1b[0m")?;
-                    return write_pointer(front, column, log);
-                }
-                write!(log, "{column}: {reason}")
-            }
+            Verdict::Refused { column, reason } => self.write_wrong(front, column, reason, log),
             Verdict::Without => Ok(()),
             Verdict::Rewritten { .. } => Ok(()),
             Verdict::Dropped => Ok(()),
         }
+    }
+}
+
+impl Restamping<'_> {
+    // Writes the column where a front goes wrong that is refused at a column for a reason, the reason or what the time
+    // lacks, and what was expected there. It isn't inlined, so that reports take no place beside lines that are rewritten.
+    #[inline(never)]
+    fn write_wrong<L: Write>(
+        &self,
+        front: &[u8],
+        column: usize,
+        reason: Reason,
+        log: &mut L,
+    ) -> io::Result<()>
+        ensures { OnOk result (WritesReason (TellsWrong greatest_year self.now.job self.now.shows_lines front.now column (seen reason))
+            (L.contents log.old) (L.contents log.new)) }
+    {
+        let Wrong { column, expected } = self.job.find_wrong(front, column, reason);
+        let lack = self.job.find_lack(front, reason);
+        let why = Why { reason, lack };
+        if self.shows_lines {
+            write!(log, "{column}: \x1b[31m{why}")?;
+            write_expected(expected, log)?;
+            log.write_all(b"\x1b[0m")?;
+            return write_pointer(front, column, log);
+        }
+        write!(log, "{column}: {why}")?;
+        write_expected(expected, log)
     }
 }
 

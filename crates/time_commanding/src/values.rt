@@ -7,7 +7,6 @@ ghost use Rattle.time_commanding.specs.Values as spec;
 
 use time_components::{BorrowedFormatItem, Padding, item};
 use time_parsing::Parsable;
-use time_record::Parsed;
 use time_values::UtcOffset;
 use time_writing::FractionDigits;
 
@@ -36,11 +35,16 @@ fn find_signed(text: &str) -> Option<i32>
     text.parse::<i32>().ok()
 }
 
-/// The parts with a year.
-pub fn find_yeared(text: &str, parts: Parsed) -> Option<Parsed>
-    ensures { spec.IsYeared greatest_year text.now parts result }
+/// A year from -999999 to 999999.
+pub fn find_year(text: &str) -> Option<i32>
+    ensures { spec.IsYear greatest_year text.now result }
 {
-    parts.with_year(find_signed(text)?)
+    let year = find_signed(text)?;
+    if year.unsigned_abs() <= 999_999 {
+        Some(year)
+    } else {
+        None
+    }
 }
 
 /// The byte that ends a field; `\t` is TAB.
@@ -127,22 +131,4 @@ pub fn find_zone(text: &str) -> Option<Option<UtcOffset>>
         return Some(Some(UtcOffset::UTC));
     }
     Some(Some(find_offset(text)?))
-}
-
-// A record of the offset alone.
-fn record_of(offset: UtcOffset) -> Option<Parsed>
-    ensures { result ≡ spec.offset_record greatest_year offset }
-{
-    let (hours, minutes, seconds) = offset.as_hms();
-    Parsed::new()
-        .with_offset_hour(hours)?
-        .with_offset_minute_signed(minutes)?
-        .with_offset_second_signed(seconds)
-}
-
-/// A record of an offset such as `+05:30`.
-pub fn find_offset_record(text: &str) -> Option<Parsed>
-    ensures { spec.IsOffsetRecord greatest_year text.now result }
-{
-    record_of(find_offset(text)?)
 }

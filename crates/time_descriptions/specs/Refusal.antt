@@ -32,6 +32,17 @@ refusal_of (error.Expected what index) = expected_here what.now index
 refusal_of (error.NotSupported what context index) = not_supported what.now context.now index
 refusal_of error.TooLong = too_long
 
+-- the index of the first fault, where there is one
+abbrev pub index_of : Refusal → Option ℕ
+index_of (unclosed index) = Some index
+index_of (component_name name index) = Some index
+index_of (modifier value index) = Some index
+index_of (missing_name index) = Some index
+index_of (missing_modifier name index) = Some index
+index_of (expected_here what index) = Some index
+index_of (not_supported what context index) = Some index
+index_of too_long = None
+
 -- what is printed; a word that the text has may have any bytes, and nothing is said of how it is printed
 abbrev pub refusal_text : Refusal → Option (List ℕ)
 refusal_text (unclosed index) = Some (codes "unclosed opening bracket at byte index " ++ decimal index)

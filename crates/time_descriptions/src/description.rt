@@ -1,5 +1,5 @@
 //! Descriptions that were read.
-ghost use Rattle.std.specs.Prelude.{◌≡◌, ◌⊎◌, IfOk, IfErr, OnOk};
+ghost use Rattle.std.specs.Prelude.{◌≡◌, ◌≤◌, ◌⊎◌, length, IfOk, IfErr, OnOk};
 ghost use Rattle.time_descriptions.specs.Counting.{TakesAtMost};
 ghost use Rattle.time_descriptions.specs.Description.{IsRefused, shape, version_of};
 ghost use Rattle.time_descriptions.specs.Grammar.{Describes};
@@ -24,9 +24,10 @@ pub struct Description<const N: usize> {
 }
 
 impl<const N: usize> Description<N> {
-    /// The steps, in the order of the text. A group has as many of those after it as it says.
+    /// The steps, at most `N`, in the order of the text. A group has as many of those after it as it says.
     pub fn steps(&self) -> &[Step]
-        ensures { result.now ≡ self.now.steps.items }
+        ensures steps { result.now ≡ self.now.steps.items }
+        ensures bound { length result.now ≤ N }
     {
         self.steps.as_slice()
     }

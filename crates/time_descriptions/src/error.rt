@@ -62,6 +62,24 @@ pub enum InvalidFormatDescription<'a> {
     TooLong,
 }
 
+impl InvalidFormatDescription<'_> {
+    /// The index of the first fault in the text, or `None` for a description that is too long.
+    pub fn index(self) -> Option<usize>
+        ensures { result ≡ refusal.index_of (refusal_of self.entry) }
+    {
+        match self {
+            Self::UnclosedOpeningBracket { index }
+            | Self::InvalidComponentName { index, .. }
+            | Self::InvalidModifier { index, .. }
+            | Self::MissingComponentName { index }
+            | Self::MissingRequiredModifier { index, .. }
+            | Self::Expected { index, .. }
+            | Self::NotSupported { index, .. } => Some(index),
+            Self::TooLong => None,
+        }
+    }
+}
+
 // Writes what is wrong, and where.
 fn write_at<W: fmt::Write>(f: &mut fmt::Formatter<W>, what: &str, index: usize) -> fmt::Result
     ensures { DisplaysOnOk W.write_str_gives f.old result (Some (what.now ++ (codes " at byte index " ++ decimal index))) f.new }

@@ -4,7 +4,7 @@ use Rattle.time_values.specs.Range.{greatest_year}
 use Rattle.time_components.specs.Tree.{Tree}
 use Rattle.time_descriptions.specs.Description.{IsRefused}
 use Rattle.time_descriptions.specs.Grammar.{Describes}
-use Rattle.time_descriptions.specs.Refusal.{Refusal, unclosed, component_name, modifier, missing_name, missing_modifier, expected_here, not_supported, too_long}
+use Rattle.time_descriptions.specs.Refusal.{Refusal, unclosed, component_name, modifier, missing_name, missing_modifier, expected_here, not_supported, too_long, index_of}
 use Rattle.time_descriptions.specs.Strftime.{DescribesStrftime, IsRefusedStrftime}
 use Rattle.time_descriptions.specs.declared.version.Version.TheVariants as version
 use Rattle.time_record.specs.Reading.{Reads, Refuses}
@@ -42,21 +42,10 @@ fault_status (expected_here what index) = 14
 fault_status (not_supported what context index) = 15
 fault_status too_long = 16
 
--- the index of its first fault, where it has one
-abbrev pub fault_index : Refusal → Option ℕ
-fault_index (unclosed index) = Some index
-fault_index (component_name name index) = Some index
-fault_index (modifier value index) = Some index
-fault_index (missing_name index) = Some index
-fault_index (missing_modifier name index) = Some index
-fault_index (expected_here what index) = Some index
-fault_index (not_supported what context index) = Some index
-fault_index too_long = None
-
 -- status 0 of a description; or the status of why a text is none, and there the index of its first fault
 abbrev pub IsChecked : Result Tree Refusal → ℕ → ℕ → ℕ → Type 0
 IsChecked (Ok tree) status old new = (status ≡ 0) × (new ≡ old)
-IsChecked (Err e) status old new = (status ≡ fault_status e) × (new ≡ unwrap_or (fault_index e) old)
+IsChecked (Err e) status old new = (status ≡ fault_status e) × (new ≡ unwrap_or (index_of e) old)
 
 -- The description is checked in the syntax; or there is no such syntax, which has a status of its own.
 abbrev pub Checks : Option Syntax → List ℕ → ℕ → ℕ → ℕ → Type 0

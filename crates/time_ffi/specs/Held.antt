@@ -13,9 +13,9 @@ use Rattle.time_components.specs.declared.step.Step.{Step}
 use Rattle.time_components.specs.declared.step.Step.TheVariants as step
 use Rattle.time_digits.specs.declared.Padding.{Padding}
 use Rattle.time_digits.specs.declared.Padding.TheVariants as padding
-use Rattle.time_descriptions.specs.Refusal.{Refusal, too_long}
+use Rattle.time_descriptions.specs.Refusal.{Refusal, too_long, index_of}
 use Rattle.time_descriptions.specs.Words.{ignored}
-use Rattle.time_ffi.specs.Described.{HandsByTree, IsDescribed, fault_index, fault_status}
+use Rattle.time_ffi.specs.Described.{HandsByTree, IsDescribed, fault_status}
 use Rattle.time_ffi.specs.Handed.{Answering, Handing}
 use Rattle.time_ffi.specs.Status.{unknown_syntax}
 use Rattle.time_ffi.specs.declared.descriptions.TheConstants.{MOST_STEPS}
@@ -167,7 +167,7 @@ HasTree tree status old new =
 abbrev pub IsHeld : Result Tree Refusal → ℕ → HeldDescription → HeldDescription → ℕ → ℕ → Type 0
 IsHeld (Ok tree) status old new index new_index = HasTree tree status old new × (new_index ≡ index)
 IsHeld (Err e) status old new index new_index =
-    (status ≡ fault_status e) × (new ≡ old) × (new_index ≡ unwrap_or (fault_index e) index)
+    (status ≡ fault_status e) × (new ≡ old) × (new_index ≡ unwrap_or (index_of e) index)
 
 -- The description is held in the syntax; or there is no such syntax, which has a status of its own.
 abbrev pub Holds : Option Syntax → List ℕ → ℕ → HeldDescription → HeldDescription → ℕ → ℕ → Type 0

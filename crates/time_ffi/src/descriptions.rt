@@ -66,22 +66,6 @@ pub fn fault_status(error: InvalidFormatDescription<'_>) -> u32
     }
 }
 
-/// The index of the first fault, where there is one.
-pub fn fault_index(error: InvalidFormatDescription<'_>) -> Option<usize>
-    ensures { result ≡ Described.fault_index (refusal_of error.entry) }
-{
-    match error {
-        InvalidFormatDescription::UnclosedOpeningBracket { index } => Some(index),
-        InvalidFormatDescription::InvalidComponentName { index, .. } => Some(index),
-        InvalidFormatDescription::InvalidModifier { index, .. } => Some(index),
-        InvalidFormatDescription::MissingComponentName { index } => Some(index),
-        InvalidFormatDescription::MissingRequiredModifier { index, .. } => Some(index),
-        InvalidFormatDescription::Expected { index, .. } => Some(index),
-        InvalidFormatDescription::NotSupported { index, .. } => Some(index),
-        InvalidFormatDescription::TooLong => None,
-    }
-}
-
 /// The status of a description in the syntax of that number: 0, or why it is none, and then the index of its first fault.
 pub fn check(syntax: u32, description: &[u8], index: &mut usize) -> u32
     ensures { Checks (Described.syntax_of syntax) description.now result index.old index.new }
@@ -90,7 +74,7 @@ pub fn check(syntax: u32, description: &[u8], index: &mut usize) -> u32
         Some(syntax) => match read_description(syntax, description) {
             Ok(_description) => 0,
             Err(error) => {
-                *index = fault_index(error).unwrap_or(*index);
+                *index = error.index().unwrap_or(*index);
                 fault_status(error)
             }
         },

@@ -13,7 +13,7 @@ ghost use Rattle.time_ffi.specs.Described as Described;
 ghost use Rattle.time_ffi.specs.Held.{Holds, held_tree};
 ghost use Rattle.time_ffi.specs.Held as Held;
 
-use crate::descriptions::{MOST_STEPS, fault_index, fault_status, read_description, syntax_of};
+use crate::descriptions::{MOST_STEPS, fault_status, read_description, syntax_of};
 use crate::status::{TOO_LONG, UNKNOWN_SYNTAX};
 use crate::steps::{HeldStep, held_step, step_of};
 use arrayvec::ArrayVec;
@@ -175,7 +175,7 @@ pub fn describe(syntax: u32, text: &[u8], out: &mut HeldDescription, index: &mut
                 }
             }
             Err(error) => {
-                *index = fault_index(error).unwrap_or(*index);
+                *index = error.index().unwrap_or(*index);
                 fault_status(error)
             }
         },

@@ -2,6 +2,7 @@
 ghost use Rattle.std.specs.Prelude.{map};
 ghost use Rattle.time_values.specs.Range.{greatest_year};
 ghost use Rattle.time_components.specs.Shape.{borrowed_shape, owned_shape, v3_shape};
+ghost use Rattle.time_components.specs.Steps.{steps_shape};
 ghost use Rattle.time_components.specs.Tree.{sequence, trees};
 ghost use Rattle.time_descriptions.specs.Description.{shape};
 ghost use Rattle.time_record.specs.Reading.{Reads};
@@ -17,9 +18,10 @@ use crate::place::place;
 use crate::walk::steps::walk_list;
 use crate::walk::{walk, walk_all};
 use crate::{Locate, Located};
-use time_components::{BorrowedFormatItem, FormatDescriptionV3, Inspect, OwnedFormatItem};
+use time_components::{BorrowedFormatItem, FormatDescriptionV3, Inspect, OwnedFormatItem, Step};
 use time_descriptions::Description;
 use time_parsing::{Items, begin};
+use time_preparing::Prepared;
 use time_record::Parsed;
 
 // Where a text is refused by an item.
@@ -34,6 +36,34 @@ fn locate_item<'d, I: Inspect>(
     let mut parsed = begin(defaults);
     let (unread, missed, _) = walk(item, &mut parsed, input, "");
     place(unread, missed, input)
+}
+
+// Where a text is refused by the steps of a description.
+fn locate_steps<'a>(
+    steps: &'a [Step],
+    input: &[u8],
+    defaults: Option<Parsed>,
+) -> Option<Located<'a>>
+    ensures { IsLocated (Reads greatest_year (steps_shape steps.now))
+        (LocatesTree greatest_year first_byte (steps_shape steps.now)) input.now (begun defaults) result }
+{
+    let mut parsed = begin(defaults);
+    let (unread, missed, _) = walk_list(steps, &mut parsed, input, "");
+    place(unread, missed, input)
+}
+
+// Where the last component of this name begins that the steps of a description read.
+fn locate_in_steps(
+    steps: &[Step],
+    input: &[u8],
+    defaults: Option<Parsed>,
+    name: &str,
+) -> Option<usize>
+    ensures { IsMarked (MarksTree greatest_year (steps_shape steps.now)) name.now input.now (begun defaults) result }
+{
+    let mut parsed = begin(defaults);
+    let (_, _, mark) = walk_list(steps, &mut parsed, input, name);
+    index_of(mark, input)
 }
 
 // Where the last component of this name begins that an item reads.
@@ -123,9 +153,7 @@ impl<const N: usize> Locate for Description<N> {
     ghost locates = { λ s. LocatesTree greatest_year first_byte (shape s) };
 
     fn locate<'a>(&'a self, input: &[u8], defaults: Option<Parsed>) -> Option<Located<'a>> {
-        let mut parsed = begin(defaults);
-        let (unread, missed, _) = walk_list(self.steps(), &mut parsed, input, "");
-        place(unread, missed, input)
+        locate_steps(self.steps(), input, defaults)
     }
 
     ghost exact_place = { λ s. tree_exact_place greatest_year first_byte (shape s) };
@@ -138,12 +166,33 @@ impl<const N: usize> Locate for Description<N> {
         defaults: Option<Parsed>,
         name: &str,
     ) -> Option<usize> {
-        let mut parsed = begin(defaults);
-        let (_, _, mark) = walk_list(self.steps(), &mut parsed, input, name);
-        index_of(mark, input)
+        locate_in_steps(self.steps(), input, defaults, name)
     }
 
     ghost exact_mark = { λ s. tree_exact_mark greatest_year (shape s) };
+}
+
+impl<const N: usize> Locate for Prepared<N> {
+    ghost locates = { λ s. LocatesTree greatest_year first_byte (steps_shape s) };
+
+    fn locate<'a>(&'a self, input: &[u8], defaults: Option<Parsed>) -> Option<Located<'a>> {
+        locate_steps(self.steps(), input, defaults)
+    }
+
+    ghost exact_place = { λ s. tree_exact_place greatest_year first_byte (steps_shape s) };
+
+    ghost marks = { λ s. MarksTree greatest_year (steps_shape s) };
+
+    fn locate_component(
+        &self,
+        input: &[u8],
+        defaults: Option<Parsed>,
+        name: &str,
+    ) -> Option<usize> {
+        locate_in_steps(self.steps(), input, defaults, name)
+    }
+
+    ghost exact_mark = { λ s. tree_exact_mark greatest_year (steps_shape s) };
 }
 
 impl<'i, I: Inspect> Locate for Items<'i, I> {

@@ -56,7 +56,7 @@ pub record AreGiven (f : Found) (o : Options) : Type 0 where
   pub formats : texts_behind o.formats ≡ option_map raw_values (matched_of f (codes "from"))
   pub year : text_behind o.year ≡ first_value f (codes "year")
   pub latest : text_behind o.latest ≡ first_value f (codes "latest")
-  pub offset : o.offset.now ≡ text_given f (codes "offset")
+  pub offset : text_behind o.offset ≡ first_value f (codes "offset")
   pub to : o.to.now ≡ text_given f (codes "to")
   pub zone : o.zone.now ≡ text_given f (codes "zone")
   pub utc : IsFlag f (codes "utc") o.utc

@@ -34,7 +34,7 @@ pub struct Options<'m, 'a> {
     /// `--latest`.
     pub latest: Option<&'a str>,
     /// `--offset`.
-    pub offset: &'a str,
+    pub offset: Option<&'a str>,
     /// `--to`.
     pub to: &'a str,
     /// `--zone`.
@@ -109,7 +109,7 @@ impl<'m, 'a> Options<'m, 'a> {
             formats: matches.get_strs("from"),
             year: matches.get_str("year"),
             latest: matches.get_str("latest"),
-            offset: text_of(matches, "offset"),
+            offset: matches.get_str("offset"),
             to: text_of(matches, "to"),
             zone: text_of(matches, "zone"),
             utc: matches.get_flag("utc"),

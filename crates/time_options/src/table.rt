@@ -138,8 +138,7 @@ const READING: &[Row] = &[
     Row {
         name: "offset",
         kind: Kind::Text("OFFSET"),
-        default: Some("+00:00"),
-        help: "The offset of times that have none",
+        help: "The offset of times that have none [default: +00:00]",
         ..FLAG
     },
 ];

@@ -2,7 +2,7 @@
 use Rattle.std.specs.Prelude.{◌≡◌, ℕ, List, [], ◌++◌, codes, map, replicate, Option, Some, None, IfSome, ◌&&◌, nat_le, if◌then◌else◌}
 use Rattle.std.specs.Option.{option_map}
 use Rattle.time_descriptions.specs.Refusal as description
-use Rattle.time_descriptions.specs.Refusal.{Refusal}
+use Rattle.time_descriptions.specs.Refusal.{Refusal, index_of}
 use Rattle.time_descriptions.specs.Grammar.{by_option}
 use Rattle.time_parse.specs.declared.fault.Fault.{Fault}
 use Rattle.time_parse.specs.declared.fault.Fault.TheVariants as fault
@@ -24,17 +24,6 @@ abbrev pub reason_text : Reason → Option (List ℕ)
 reason_text (unknown_format name) = Some (codes "no format has this name, and a description has a `[` or a `%`")
 reason_text (faulty format refusal) = description.refusal_text refusal
 reason_text (unknown_target name) = Some (codes "no target has this name")
-
--- where a description is refused; one that is too long is refused nowhere
-abbrev pub index_of : Refusal → Option ℕ
-index_of (description.unclosed index) = Some index
-index_of (description.component_name name index) = Some index
-index_of (description.modifier value index) = Some index
-index_of (description.missing_name index) = Some index
-index_of (description.missing_modifier name index) = Some index
-index_of (description.expected_here what index) = Some index
-index_of (description.not_supported what context index) = Some index
-index_of description.too_long = None
 
 -- the argument that is faulty, and the index of the fault in it
 abbrev pub place_of : Reason → Option (List ℕ × ℕ)

@@ -48,22 +48,6 @@ impl fmt::Display for Fault<'_> {
     }
 }
 
-// The index of the fault. A description that is too long has it nowhere.
-fn index_of(error: InvalidFormatDescription<'_>) -> Option<usize>
-    ensures { result ≡ spec.index_of (refusal_of error.entry) }
-{
-    match error {
-        InvalidFormatDescription::UnclosedOpeningBracket { index } => Some(index),
-        InvalidFormatDescription::InvalidComponentName { index, .. } => Some(index),
-        InvalidFormatDescription::InvalidModifier { index, .. } => Some(index),
-        InvalidFormatDescription::MissingComponentName { index } => Some(index),
-        InvalidFormatDescription::MissingRequiredModifier { index, .. } => Some(index),
-        InvalidFormatDescription::Expected { index, .. } => Some(index),
-        InvalidFormatDescription::NotSupported { index, .. } => Some(index),
-        InvalidFormatDescription::TooLong => None,
-    }
-}
-
 impl<'a> Fault<'a> {
     // The argument that is faulty, and the index of the fault in it.
     fn place(&self) -> Option<(&'a [u8], usize)>
@@ -72,7 +56,7 @@ impl<'a> Fault<'a> {
         match *self {
             Self::UnknownFormat { name } => Some((name, 0)),
             Self::UnknownTarget { name } => Some((name, 0)),
-            Self::Description { format, error } => Some((format, index_of(error)?)),
+            Self::Description { format, error } => Some((format, error.index()?)),
         }
     }
 }

@@ -4,7 +4,6 @@
 #![tactic(auto)]
 
 mod arguments;
-mod described;
 mod fault;
 mod laws;
 mod place;

@@ -202,7 +202,7 @@ fn write_chosen_place<W: Write>(
 {
     match chosen {
         Chosen::Named(format, _) => write_named_place(*format, target, text, out),
-        Chosen::Described(described) => write_place(described.description(), target, text, out),
+        Chosen::Described(prepared) => write_place(prepared, target, text, out),
     }
 }
 

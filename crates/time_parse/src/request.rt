@@ -9,12 +9,12 @@ ghost use Rattle.time_answers.specs.Formats.{target_named};
 ghost use Rattle.time_parse.specs.Fault.{reason_of};
 ghost use Rattle.time_parse.specs.Request.{IsAnswer, IsFault, IsFaultBy, IsFaulty, Means, MeansTree, meaning_of, number_of, writing_of};
 
-use crate::described::Described;
 use crate::fault::Fault;
 use std::io::Write;
 use time_answers::formats::{Format, Target, find_format, find_target};
 use time_answers::{Answering, Named, Unwritten, write_value};
 use time_descriptions::{Description, InvalidFormatDescription, parse_borrowed, parse_strftime};
+use time_preparing::Prepared;
 
 // The most steps that a description may have. One in brackets of so many bytes has room.
 pub(crate) const MOST_STEPS: usize = 1024;
@@ -46,8 +46,8 @@ pub enum Writing {
 pub enum Chosen {
     /// One that has a name, and those that have one.
     Named(Format, Named),
-    /// One that is described.
-    Described(Described),
+    /// One that is described, prepared for many lines.
+    Described(Prepared<MOST_STEPS>),
 }
 
 /// A format, and the target of its texts.
@@ -96,7 +96,7 @@ fn bracketed(version: Version, format: &[u8]) -> Result<Chosen, Fault<'_>>
         (λ fault. IsFaulty (IsRefused MOST_STEPS (version_of (number_of version)) format.now) format.now (reason_of fault)) }
 {
     match read_brackets(version, format) {
-        Ok(description) => Ok(Chosen::Described(Described::new(description))),
+        Ok(description) => Ok(Chosen::Described(Prepared::new(&description))),
         Err(error) => Err(Fault::Description { format, error }),
     }
 }
@@ -108,7 +108,7 @@ fn lettered(format: &[u8]) -> Result<Chosen, Fault<'_>>
         (λ fault. IsFaulty (IsRefusedStrftime MOST_STEPS format.now) format.now (reason_of fault)) }
 {
     match parse_strftime::<MOST_STEPS>(format) {
-        Ok(description) => Ok(Chosen::Described(Described::new(description))),
+        Ok(description) => Ok(Chosen::Described(Prepared::new(&description))),
         Err(error) => Err(Fault::Description { format, error }),
     }
 }
@@ -157,10 +157,7 @@ impl Answering for Request {
     fn write_answer<W: Write>(&self, line: &[u8], out: &mut W) -> Result<(), Unwritten> {
         match &self.chosen {
             Chosen::Named(format, named) => named.write_parsed(*format, self.target, line, out),
-            Chosen::Described(described) => match described.prepared() {
-                Some(prepared) => write_value(prepared, self.target, line, out),
-                None => write_value(described.description(), self.target, line, out),
-            },
+            Chosen::Described(prepared) => write_value(prepared, self.target, line, out),
         }
     }
 }

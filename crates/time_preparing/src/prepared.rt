@@ -17,6 +17,7 @@ use crate::whole::{Whole, whole_of};
 use arrayvec::ArrayVec;
 use std::marker::Model;
 use time_components::{BorrowedFormatItem, Step};
+use time_descriptions::Description;
 use time_record::Parsed;
 use time_values::error::ParseFromDescription;
 
@@ -46,6 +47,13 @@ impl<const N: usize> Model for Prepared<N> {
 }
 
 impl<const N: usize> Prepared<N> {
+    /// Prepares a description that was read from a text.
+    pub fn new(description: &Description<N>) -> Prepared<N>
+        ensures { result ≡ description.now.steps.items }
+    {
+        prepare(description.steps())
+    }
+
     /// Prepares the steps of a description, as [`Description::steps`](time_descriptions::Description::steps) gives them.
     /// `None` exactly where there are more than `N`.
     pub fn from_steps(steps: &[Step]) -> Option<Prepared<N>>

@@ -24,12 +24,12 @@ use Rattle.time_values.specs.Shown.{is_behind}
 use Rattle.time_values.specs.Times as Times
 use Rattle.time_values.specs.declared.offset_date_time.OffsetDateTime.{OffsetDateTime}
 use Rattle.time_record.specs.Record.{Record, empty}
-use Rattle.time_restamping.specs.Described.{tree_of}
+use Rattle.time_components.specs.Steps.{steps_shape}
 use Rattle.time_restamping.specs.Laws.{CommonReadsBack}
 use Rattle.time_restamping.specs.Naming.{common_text, meaning_of, as_complete}
-use Rattle.time_restamping.specs.ReadBack.{pieces, AllStop, SaysMoment, ReadsTree}
+use Rattle.time_restamping.specs.ReadBack.{pieces, AllStop, SaysMoment, ReadsTree, no_defaults}
 use Rattle.time_restamping.specs.Told.{clock, HasAll}
-use Rattle.time_restamping.specs.declared.described.Described.{Described}
+use Rattle.time_components.specs.declared.step.Step.{Step}
 use Rattle.time_restamping.specs.declared.form.Writing.TheVariants as writing
 use Rattle.time_restamping.specs.declared.reading.Reading.{Reading}
 use Rattle.time_restamping.specs.declared.reading.Reading.TheVariants as reading
@@ -97,17 +97,17 @@ module _ (v : OffsetDateTime) (none : Times.nanosecond (offset_time v) ≡ 0) (m
     no_count = refl;
   }
 
-  says : SaysMoment greatest_year common_tree empty v
-  says = says_all_told v common_tree empty after stops refl has_all
+  says : SaysMoment greatest_year common_tree no_defaults v
+  says = says_all_told v common_tree no_defaults after stops refl has_all
 
 -- the reading of that name
 complete_tree : (format : Reading) (tree : Tree) → meaning_of format ≡ as_complete tree
-    → (e : Described) × (format ≡ reading.Complete e) × (tree_of e ≡ tree)
+    → (e : List Step) × (format ≡ reading.Complete e) × (steps_shape e ≡ tree)
 complete_tree reading.Rfc3339 tree e = absurd cc
 complete_tree reading.Rfc2822 tree e = absurd cc
 complete_tree reading.Iso8601 tree e = absurd cc
 complete_tree (reading.Described d) tree e = absurd cc
-complete_tree (reading.Complete d) tree e = let same : tree_of d ≡ tree = cc in (d, refl, same)
+complete_tree (reading.Complete d) tree e = let same : steps_shape d ≡ tree = cc in (d, refl, same)
 complete_tree (reading.Counted d) tree e = absurd cc
 
 pub common_reads_back : CommonReadsBack greatest_year
@@ -117,4 +117,4 @@ common_reads_back v format defaults d (read_tree, reads, is) (e, (tree, writes, 
     let there = one_description (version_of 2) common_text read_tree common_tree reads describes_common in
     let (c, format_is, tree_is) = complete_tree format read_tree is in
     subst (λ (f : Reading). ReadsTree greatest_year f defaults (shape d) v) (sym format_is)
-    (tree_is ∙ there ∙ sym here, subst (λ (t : Tree). SaysMoment greatest_year t empty v) (sym here) (says v none minutes))
+    (tree_is ∙ there ∙ sym here, subst (λ (t : Tree). SaysMoment greatest_year t no_defaults v) (sym here) (says v none minutes))

@@ -1,6 +1,6 @@
 -- What is written of a moment by a tree is read back by it. `Y` is the greatest year.
 use Rattle.std.proofs.Common.{◌≡◌, ℕ, List, [], ◌∷◌, ◌++◌, Bool, true, false, length, nat_le, if◌then◌else◌, Some, Ok, Err, ap, sym, subst, refl, ◌∙◌, append-nil, append_assoc, inl}
-use Rattle.std.specs.Prelude.{Option, Result, option_and_then}
+use Rattle.std.specs.Prelude.{Result, option_and_then}
 use Rattle.std.proofs.lemmas.Option.{option_and_then_some, same_Some}
 use Rattle.std.proofs.Math.Seq.{take-length}
 use Rattle.time_components.specs.Tree.{Tree, Trees, literal, component, sequence, optional, first_of, none, more}
@@ -17,16 +17,16 @@ use Rattle.time_values.specs.declared.offset_date_time.OffsetDateTime.{OffsetDat
 use Rattle.time_record.specs.Components.{put_value}
 use Rattle.time_record.specs.Reading.{Reads, ReadsAll, ReadsSome, Refuses}
 use Rattle.time_record.specs.Record.{Record, empty}
-use Rattle.time_record.specs.Resolution.{IsMoment}
-use Rattle.time_parsing.specs.Outcome.{IsOutcome, begun}
-use Rattle.time_restamping.specs.Described.{tree_of}
+use Rattle.time_parsing.specs.Outcome.{IsOutcome}
+use Rattle.time_components.specs.Steps.{steps_shape}
 use Rattle.time_restamping.specs.Form.{described}
-use Rattle.time_restamping.specs.ReadBack.{Piece, verbatim, part, pieces, all_pieces, whole_text, AllStop, or_nothing, put_values, SaysMoment, ReadsTree}
-use Rattle.time_restamping.specs.Reading.{Says, said, is_negative_fraction, guarded}
+use Rattle.time_restamping.specs.ReadBack.{Piece, verbatim, part, pieces, all_pieces, whole_text, AllStop, or_nothing, put_values, SaysMoment, ReadsTree, no_defaults}
+use Rattle.time_restamping.specs.Reading.{Says, said, is_negative_fraction, guarded, IsCompleted}
 use Rattle.time_restamping.specs.Reason.{negative_fraction}
+use Rattle.time_restamping.specs.declared.reading.Defaults.{Defaults}
 use Rattle.time_restamping.specs.declared.reading.Reading.{Reading}
 use Rattle.time_restamping.specs.declared.reading.Reading.TheVariants as reading
-use Rattle.time_restamping.specs.declared.described.Described.{Described}
+use Rattle.time_components.specs.declared.step.Step.{Step}
 
 module _ (Y : ℕ) (v : OffsetDateTime) where
   joined_is : (fits : Bool) (bytes joint : List ℕ) (e : Unformattable)
@@ -132,11 +132,11 @@ module _ (Y : ℕ) (v : OffsetDateTime) where
           )
 
 -- what a whole text says
-abbrev pub SaysAll : Reading → Option Record → OffsetDateTime → List ℕ → Type 0
+abbrev pub SaysAll : Reading → Defaults → OffsetDateTime → List ℕ → Type 0
 SaysAll format defaults v bytes = Says greatest_year format false bytes defaults (Ok (said v (length bytes)))
 
 -- by a description of the tree, the text has the moment as its outcome
-module _ (d : Described) (t : Tree) (v : OffsetDateTime) (bytes : List ℕ) (same : tree_of d ≡ t)
+module _ (d : List Step) (t : Tree) (v : OffsetDateTime) (bytes : List ℕ) (same : steps_shape d ≡ t)
     (written : text_of greatest_year v t ≡ Ok bytes) where
   abbrev text : List ℕ
   text = whole_text greatest_year v (pieces t)
@@ -144,16 +144,17 @@ module _ (d : Described) (t : Tree) (v : OffsetDateTime) (bytes : List ℕ) (sam
   same_text : text ≡ bytes
   same_text = sym (text_is greatest_year v t [] bytes written)
 
-  abbrev Back : Tree → List ℕ → Record → Type 0
-  Back u b before = IsOutcome (IsMoment greatest_year) (Reads greatest_year u) (Refuses greatest_year u) b before (Ok v)
+  abbrev Back : Tree → List ℕ → Defaults → Type 0
+  Back u b defaults =
+      IsOutcome (IsCompleted greatest_year defaults) (Reads greatest_year u) (Refuses greatest_year u) b empty (Ok v)
 
-  outcome : (before : Record) → SaysMoment greatest_year t before v → Back (tree_of d) bytes before
-  outcome before says =
+  outcome : (defaults : Defaults) → SaysMoment greatest_year t defaults v → Back (steps_shape d) bytes defaults
+  outcome defaults says =
       let all = append-nil (pieces t) in
-      let reads = tree_back greatest_year v component_spelled t [] [] bytes before says.after written
+      let reads = tree_back greatest_year v component_spelled t [] [] bytes empty says.after written
       (subst (AllStop greatest_year v) (sym all) says.stops) says.puts in
-      let back = subst (λ b. Reads greatest_year t b before [] says.after) (ap (whole_text greatest_year v) all ∙ same_text) reads in
-      subst (λ u. Back u bytes before) (sym same) (says.after, back, says.is)
+      let back = subst (λ b. Reads greatest_year t b empty [] says.after) (ap (whole_text greatest_year v) all ∙ same_text) reads in
+      subst (λ u. Back u bytes defaults) (sym same) (says.after, back, says.is)
 
   not_guarded : is_negative_fraction text ≡ false
       → Ok (said v (length bytes)) ≡ guarded (reading.Counted d) bytes (Ok (said v (length bytes)))
@@ -161,15 +162,15 @@ module _ (d : Described) (t : Tree) (v : OffsetDateTime) (bytes : List ℕ) (sam
       let none = ap is_negative_fraction (take-length bytes ∙ sym same_text) ∙ plain in
       sym (ap (λ refused. if refused then Err negative_fraction else Ok (said v (length bytes))) none)
 
-tree_says : (format : Reading) (defaults : Option Record) (t : Tree) (v : OffsetDateTime) (bytes : List ℕ)
+tree_says : (format : Reading) (defaults : Defaults) (t : Tree) (v : OffsetDateTime) (bytes : List ℕ)
     → ReadsTree greatest_year format defaults t v → text_of greatest_year v t ≡ Ok bytes → SaysAll format defaults v bytes
 tree_says (reading.Described d) defaults t v bytes (same, says) e =
-    (Ok (said v (length bytes)), (Ok v, outcome d t v bytes same e (begun defaults) says, refl), refl)
+    (Ok (said v (length bytes)), (Ok v, outcome d t v bytes same e defaults says, refl), refl)
 tree_says (reading.Complete d) defaults t v bytes (same, says) e =
-    (Ok (said v (length bytes)), (Ok v, outcome d t v bytes same e empty says, refl), refl)
+    (Ok (said v (length bytes)), (Ok v, outcome d t v bytes same e no_defaults says, refl), refl)
 tree_says (reading.Counted d) defaults t v bytes (same, says, plain) e = (
   Ok (said v (length bytes)),
-  (Ok v, outcome d t v bytes same e (begun defaults) says, refl),
+  (Ok v, outcome d t v bytes same e defaults says, refl),
   not_guarded d t v bytes same e plain,
 )
 tree_says reading.Rfc3339 defaults t v bytes all e = absurd all
@@ -181,7 +182,7 @@ described_is text (Ok bytes) e =
     let same : text ≡ record { items = bytes } = cc in ap (λ (t : Items). Ok t.items) (sym same)
 described_is text (Err why) e = absurd cc
 
-pub described_back : (format : Reading) (defaults : Option Record) (t : Tree) (v : OffsetDateTime) (text : Items)
+pub described_back : (format : Reading) (defaults : Defaults) (t : Tree) (v : OffsetDateTime) (text : Items)
     → ReadsTree greatest_year format defaults t v → Ok text ≡ described (text_of greatest_year v t)
     → SaysAll format defaults v text.items
 described_back format defaults t v text all e =

@@ -1,5 +1,7 @@
 pub mod Counts
 pub mod ReadingLemmas
+pub mod Completing
+pub mod AloneLemmas
 pub mod BareLemmas
 pub mod OneWriting
 pub mod OneVerdict
@@ -9,3 +11,10 @@ pub mod DescribedBack
 pub mod Telling
 pub mod SameTree
 pub mod CommonBack
+pub mod OneWrong
+pub mod OneLack
+pub mod LackRows
+pub mod LackRecords
+pub mod LackTrees
+pub mod LackMoments
+pub mod LackUses

@@ -4,8 +4,6 @@ use Rattle.std.specs.Prelude.{Option, Result, MatchBool, MatchOption, ◌+ℤ◌
 use Rattle.std.specs.Int.{w32, cast_signed as to_z, cast_unsigned as of_z}
 use Rattle.std.proofs.lemmas.Int.{to_z-of_z}
 use Rattle.std.proofs.Math.Seq.{drop-cons}
-use Rattle.time_parsing.specs.Outcome.{begun}
-use Rattle.time_record.specs.Record.{Record}
 use Rattle.time_values.specs.declared.offset_date_time.OffsetDateTime.{OffsetDateTime}
 use Rattle.time_restamping.specs.Reading.{AreTried, Says, Undated, undated, is_after, year_after, IsReadInYear, AreYearsTried, IsDated, IsReadInTurn}
 use Rattle.time_restamping.specs.Reason.{Reason}
@@ -13,7 +11,7 @@ use Rattle.time_restamping.specs.declared.reading.Defaults.{Defaults}
 use Rattle.time_restamping.specs.declared.reading.Reading.{Reading}
 use Rattle.time_restamping.specs.declared.reading.Said.{Said}
 
-at_item : (formats : List Reading) (i : ℕ) (format : Reading) → i < length formats → format ≡ get_or formats i format
+pub at_item : (formats : List Reading) (i : ℕ) (format : Reading) → i < length formats → format ≡ get_or formats i format
     → drop i formats ≡ format ∷ drop (i + 1) formats
 at_item formats i format below is =
     rw add-one (drop-cons formats i format below ∙ ap (λ first. first ∷ drop (suc i) formats) (sym is))
@@ -61,57 +59,49 @@ module _ (Y : ℕ) (u : Undated) (year : ℤ) (reason : Reason) (result : Result
   years-end zero e = refl
   years-end (suc n) e = absurd (omega arith)
 
-  pub years-late : (n : ℕ) (s : Said) → 0 < n → IsReadInYear Y u year (Some (Ok s)) → is_after Y s.moment u.latest ≡ true
+  pub years-late : (n : ℕ) (s : Said) → 0 < n → IsReadInYear Y u year (Ok s) → is_after Y s.moment u.latest ≡ true
       → AreYearsTried Y u (n - 1) (year -ℤ pos 1) reason result → AreYearsTried Y u n year reason result
   unfolding AreYearsTried
   years-late zero s some read late later = absurd (omega arith)
   years-late (suc n) s some read late later =
       let k : suc n - 1 ≡ n = omega arith in (
-        Some (Ok s),
+        Ok s,
         read,
         on_true (is_after Y s.moment u.latest) _ _ late
             (subst (λ (m : ℕ). AreYearsTried Y u m (year -ℤ pos 1) reason result) k later),
       )
 
-  pub years-found : (n : ℕ) (s : Said) → 0 < n → IsReadInYear Y u year (Some (Ok s)) → is_after Y s.moment u.latest ≡ false
+  pub years-found : (n : ℕ) (s : Said) → 0 < n → IsReadInYear Y u year (Ok s) → is_after Y s.moment u.latest ≡ false
       → AreYearsTried Y u n year reason (Ok s)
   unfolding AreYearsTried
   years-found zero s some read early = absurd (omega arith)
-  years-found (suc n) s some read early = (Some (Ok s), read, on_false (is_after Y s.moment u.latest) _ _ early refl)
+  years-found (suc n) s some read early = (Ok s, read, on_false (is_after Y s.moment u.latest) _ _ early refl)
 
-  pub years-refused : (n : ℕ) (why : Reason) → 0 < n → IsReadInYear Y u year (Some (Err why))
+  pub years-refused : (n : ℕ) (why : Reason) → 0 < n → IsReadInYear Y u year (Err why)
       → AreYearsTried Y u (n - 1) (year -ℤ pos 1) why result → AreYearsTried Y u n year reason result
   unfolding AreYearsTried
   years-refused zero why some read later = absurd (omega arith)
   years-refused (suc n) why some read later =
       let k : suc n - 1 ≡ n = omega arith in
-      (Some (Err why), read, subst (λ (m : ℕ). AreYearsTried Y u m (year -ℤ pos 1) why result) k later)
-
-  pub years-none : (n : ℕ) → 0 < n → IsReadInYear Y u year None
-      → AreYearsTried Y u (n - 1) (year -ℤ pos 1) reason result → AreYearsTried Y u n year reason result
-  unfolding AreYearsTried
-  years-none zero some read later = absurd (omega arith)
-  years-none (suc n) some read later =
-      let k : suc n - 1 ≡ n = omega arith in
-      (None, read, subst (λ (m : ℕ). AreYearsTried Y u m (year -ℤ pos 1) reason result) k later)
+      (Err why, read, subst (λ (m : ℕ). AreYearsTried Y u m (year -ℤ pos 1) why result) k later)
 
 -- what a text says by the first of several formats
 pub in_turn-first : (Y : ℕ) (format : Reading) (formats : List Reading) (is_open : Bool) (text : List ℕ) (defaults : Defaults) (s : Said)
-    → Says Y format is_open text defaults.parts (Ok s) → IsReadInTurn Y format formats is_open text defaults (Ok s)
+    → Says Y format is_open text defaults (Ok s) → IsReadInTurn Y format formats is_open text defaults (Ok s)
 in_turn-first Y format formats is_open text defaults s says = (Ok s, (Ok s, says, refl), refl)
 
 -- what a text says that may leave its year out
 module _ (Y : ℕ) (format : Reading) (is_open : Bool) (text : List ℕ) (defaults : Defaults) (e : Reason) where
-  pub dated-none : defaults.latest ≡ None → Says Y format is_open text defaults.parts (Err e) → IsDated Y format is_open text defaults (Err e)
+  pub dated-none : defaults.latest ≡ None → Says Y format is_open text defaults (Err e) → IsDated Y format is_open text defaults (Err e)
   dated-none none says = (Err e, says, on_none defaults.latest _ _ none refl)
 
-  pub dated-years : (v : OffsetDateTime) (r : Record) (year : ℤ) (result : Result Said Reason) → defaults.latest ≡ Some v
-      → Says Y format is_open text defaults.parts (Err e) → r ≡ begun defaults.parts → year ≡ year_after v
-      → AreYearsTried Y (undated format is_open text r v) 10 year e result → IsDated Y format is_open text defaults result
-  dated-years v r year result some says parts after tried = (
+  pub dated-years : (v : OffsetDateTime) (year : ℤ) (result : Result Said Reason) → defaults.latest ≡ Some v
+      → Says Y format is_open text defaults (Err e) → year ≡ year_after v
+      → AreYearsTried Y (undated format is_open text defaults.offset v) 10 year e result
+      → IsDated Y format is_open text defaults result
+  dated-years v year result some says after tried = (
     Err e,
     says,
     on_some defaults.latest v _ _ some
-        (subst (λ (x : Record). AreYearsTried Y (undated format is_open text x v) 10 (year_after v) e result) parts
-        (subst (λ (y : ℤ). AreYearsTried Y (undated format is_open text r v) 10 y e result) after tried)),
+        (subst (λ (y : ℤ). AreYearsTried Y (undated format is_open text defaults.offset v) 10 y e result) after tried),
   )

@@ -10,10 +10,10 @@ use Rattle.time_descriptions.specs.Items.{Item, items_of, trees_of}
 use Rattle.time_descriptions.specs.Strftime.{DescribesStrftime}
 use Rattle.time_descriptions.specs.declared.version.Version.{Version}
 use Rattle.time_descriptions.specs.declared.description.Description.{Description}
-use Rattle.time_restamping.specs.Described.{tree_of}
+use Rattle.time_components.specs.Steps.{steps_shape}
 use Rattle.time_restamping.specs.Laws.{OneTree}
 use Rattle.time_restamping.specs.Naming.{Way, rfc3339, rfc2822, iso8601, counted, complete, brackets, strftime, unknown, way_of, described_way, writing_named, meaning_of, as_tree, Means}
-use Rattle.time_restamping.specs.declared.described.Described.{Described}
+use Rattle.time_components.specs.declared.step.Step.{Step}
 use Rattle.time_restamping.specs.declared.form.Named.{Named}
 use Rattle.time_restamping.specs.declared.form.Named.TheVariants.{Rfc3339, Rfc2822, Iso8601, Count}
 use Rattle.time_restamping.specs.declared.form.Unit.TheVariants.{Seconds, Milliseconds, Microseconds, Nanoseconds}
@@ -37,13 +37,13 @@ one_strftime text a b x y = x.1 ∙ sym y.1
 
 -- the reading that means a tree
 abbrev ByTree : Reading → Tree → Type 0
-ByTree format tree = (e : Described) × (format ≡ reading.Described e) × (tree_of e ≡ tree)
+ByTree format tree = (e : List Step) × (format ≡ reading.Described e) × (steps_shape e ≡ tree)
 
 by_tree : (format : Reading) (tree : Tree) → meaning_of format ≡ as_tree tree → ByTree format tree
 by_tree reading.Rfc3339 tree e = absurd cc
 by_tree reading.Rfc2822 tree e = absurd cc
 by_tree reading.Iso8601 tree e = absurd cc
-by_tree (reading.Described d) tree e = let same : tree_of d ≡ tree = cc in (d, refl, same)
+by_tree (reading.Described d) tree e = let same : steps_shape d ≡ tree = cc in (d, refl, same)
 by_tree (reading.Complete d) tree e = absurd cc
 by_tree (reading.Counted d) tree e = absurd cc
 

@@ -31,10 +31,11 @@ use Rattle.time_components.specs.declared.format_description.Component.TheVarian
 use Rattle.time_formatting.specs.Components.{count_of, hour_12}
 use Rattle.time_formatting.specs.Values.{kept, value_of}
 use Rattle.time_record.specs.Components.{put_value, with_offset_sign}
-use Rattle.time_record.specs.Record.{Record}
+use Rattle.time_record.specs.Record.{Record, empty}
 use Rattle.time_record.specs.Resolution.{Clock, IsMoment, IsMomentOfParts, IsDated, IsTimed, IsOffset, IsConstructed, clock_at, clock_of, hour_of, is_leap_second, stand_in}
 use Rattle.time_record.specs.Rows.{Row, by_ordinal, by_month_and_day, row_of_two, row_of_three, full_year, IsRowDate}
 use Rattle.time_restamping.specs.Laws.{SaysAllTold, SignsTell}
+use Rattle.time_restamping.specs.Reading.{completed}
 use Rattle.time_restamping.specs.ReadBack.{Piece, verbatim, part, pieces, put_values}
 use Rattle.time_restamping.specs.Told.{with_told, with_all_told, clock, HasAll}
 use Rattle.time_restamping.proofs.ReadingLemmas.{on_none, on_some}
@@ -218,11 +219,11 @@ module _ (v : OffsetDateTime) where
         (inr (d, is_dated, inr (t, is_timed, inr (o, is_offset, ((refl, refl, refl), λ leap. absurd (let none = not_leap in cc))))))
 
 pub says_all_told : SaysAllTold greatest_year
-says_all_told v tree before after stops told all = record {
+says_all_told v tree defaults after stops told all = record {
   stops = stops;
   after = after;
-  puts = put_all_told v (pieces tree) before after told;
-  is = moment v after all;
+  puts = put_all_told v (pieces tree) empty after told;
+  is = moment v (completed greatest_year defaults after) all;
 }
 
 pub signs_tell : SignsTell

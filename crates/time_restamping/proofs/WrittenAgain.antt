@@ -1,6 +1,6 @@
 -- A time that was written is read back, and written again as it was.
 use Rattle.std.proofs.Common.{◌≡◌, ℕ, ◌+◌, Bool, true, false, List, length, sym, ap, subst, refl, arith, None, Some, Ok, Err}
-use Rattle.std.specs.Prelude.{Option, Result, MatchOption, MatchBool, IsOkAnd, slice_range}
+use Rattle.std.specs.Prelude.{Option, Result, nat_lt, MatchOption, MatchBool, IsOkAnd, slice_range}
 use Rattle.time_values.specs.Moments.{offset_time, offset_instant}
 use Rattle.time_values.specs.Range.{greatest_year}
 use Rattle.time_values.specs.Shown.{Items}
@@ -12,9 +12,10 @@ use Rattle.time_writing.specs.Texts.{WritesSuch, IsMailText, moment_text, count_
 use Rattle.time_writing.specs.declared.fraction.FractionDigits.{FractionDigits}
 use Rattle.time_writing.specs.declared.fraction.FractionDigits.TheVariants.{Exactly}
 use Rattle.time_writing.specs.declared.unwritable.Unwritable.{Unwritable}
-use Rattle.time_record.specs.Record.{Record}
+use Rattle.time_record.specs.Record.{empty}
+use Rattle.time_record.specs.Resolution.{IsMoment}
 use Rattle.time_readers.specs.Direct.{RefusesRfc3339}
-use Rattle.time_parsing.specs.Outcome.{IsMomentOutcome, direct, over_record}
+use Rattle.time_parsing.specs.Outcome.{IsMomentOutcome, IsOutcome, direct}
 use Rattle.time_parsing.specs.Iso8601 as Iso8601
 use Rattle.time_parsing.specs.Rfc3339 as Rfc3339
 use Rattle.time_parsing.specs.Written.{IsCut, kept}
@@ -25,18 +26,21 @@ use Rattle.time_cutting.specs.Cuts.{span_of, is_open}
 use Rattle.time_cutting.specs.declared.cuts.Place.{Place}
 use Rattle.time_cutting.specs.declared.fields.Span.{Span}
 use Rattle.time_restamping.specs.Form.{IsShown, IsNamedText, IsWrittenBy, IsWritten, written}
-use Rattle.time_restamping.specs.Job.{Verdict, IsPut, IsJudged, IsJudgedAt, IsJudgedAnywhere, IsJudgedPart, is_before, is_kept, missed, rewritten, dropped}
+use Rattle.time_restamping.specs.Job.{Verdict, IsPutWithin, IsPut, IsJudged, IsJudgedAt, IsJudgedAnywhere, IsJudgedPart, is_before, is_kept, missed, rewritten, dropped, refused}
 use Rattle.time_restamping.specs.Laws.{HasDigits, AutoHasAll, ReadsAll, IsReadable, ReadsRewrittenBack, WritesSameText, ChangesNothing}
 use Rattle.time_restamping.specs.Reading.{Says, IsReadInTurn, said}
-use Rattle.time_restamping.specs.Reason.{Reason, out_of_range}
+use Rattle.time_restamping.specs.Reason.{Reason, out_of_range, too_far}
 use Rattle.time_restamping.specs.declared.form.Form.{Form}
 use Rattle.time_restamping.specs.declared.form.Named.{Named as Named_}
 use Rattle.time_restamping.specs.declared.form.Named.TheVariants.{Rfc3339, Rfc2822, Iso8601, Count}
 use Rattle.time_restamping.specs.declared.form.Writing.{Writing}
 use Rattle.time_restamping.specs.declared.form.Writing.TheVariants.{Named, Described}
 use Rattle.time_restamping.specs.declared.job.Job.{Job}
+use Rattle.time_restamping.specs.declared.job.TheConstants.{LIMIT}
+use Rattle.time_restamping.specs.declared.reading.Defaults.{Defaults}
 use Rattle.time_restamping.specs.declared.reading.Reading.{Reading}
 use Rattle.time_restamping.specs.declared.reading.Said.{Said}
+use Rattle.time_restamping.proofs.Completing.{keeps_moment}
 use Rattle.time_restamping.proofs.OneVerdict.{one_says, one_verdict}
 use Rattle.time_restamping.proofs.OneWriting.{one_shown, one_written}
 use Rattle.time_restamping.proofs.DescribedBack.{SaysAll, described_back}
@@ -58,7 +62,7 @@ whole : (k : ℕ) (v : OffsetDateTime) → HasDigits k v → IsCut k v v
 whole k v keeps = record { date = refl; clock = (refl, refl, refl, sym keeps); offset = refl }
 
 named_back : (named : Named_) (digits : FractionDigits) (v : OffsetDateTime) (text : Items) (format : Reading)
-    (defaults : Option Record) → ReadsAll greatest_year format defaults (Named named) digits v
+    (defaults : Defaults) → ReadsAll greatest_year format defaults (Named named) digits v
     → IsNamedText greatest_year named digits v (Ok text) → SaysAll format defaults v text.items
 named_back Rfc3339 digits v text format defaults all p =
     let k = count_of digits (nanosecond_of v) in
@@ -82,21 +86,17 @@ named_back Rfc2822 digits v text format defaults all p =
 named_back Iso8601 digits v text format defaults all p =
     let is = text_is (unwritable_3339 v) (λ b. b ≡ moment_text 9 v) text p.0 p.1 p.2 in
     let back = iso_read_back (Exactly 9) v v is.0 (whole 9 v (nine-keeps (nanosecond_of v) (offset_time v).nanosecond_in)) in
-    subst (λ (d : Option Record). SaysAll format d v text.items) (sym all.1)
-    (subst (λ (f : Reading). SaysAll f None v text.items) (sym all.0) (
+    let outcome = subst (λ b. IsOutcome (IsMoment greatest_year) (Iso8601.Reads greatest_year) (Iso8601.Refuses greatest_year) b
+    empty (Ok v)) (sym is.1) back.0 in
+    subst (λ (f : Reading). SaysAll f defaults v text.items) (sym all) (
       Ok (said v (length text.items)),
-      (
-        Ok v,
-        subst (λ b. IsMomentOutcome greatest_year over_record (Iso8601.Reads greatest_year) (Iso8601.Refuses greatest_year)
-            b None (Ok v)) (sym is.1) back.0,
-        refl,
-      ),
+      (Ok v, (outcome.0, outcome.1, keeps_moment greatest_year defaults outcome.0 v outcome.2), refl),
       refl,
-    ))
+    )
 named_back (Count unit) digits v text format defaults all p = absurd all
 
 by_back : (writing : Writing) (digits : FractionDigits) (v : OffsetDateTime) (text : Items) (format : Reading)
-    (defaults : Option Record) → ReadsAll greatest_year format defaults writing digits v
+    (defaults : Defaults) → ReadsAll greatest_year format defaults writing digits v
     → IsWrittenBy greatest_year writing digits v (Ok text) → SaysAll format defaults v text.items
 by_back (Named named) digits v text format defaults all p = named_back named digits v text format defaults all p
 by_back (Described d) digits v text format defaults all p = described_back format defaults (shape d) v text all p
@@ -113,7 +113,7 @@ shown_again None v w p = refl
 shown_again (Some o) v w p = (refl, p.1)
 
 -- the moment as it is shown: it is what the text says, and is written as the text again
-record IsBack (format : Reading) (defaults : Option Record) (form : Form) (v : OffsetDateTime) (bytes : List ℕ)
+record IsBack (format : Reading) (defaults : Defaults) (form : Form) (v : OffsetDateTime) (bytes : List ℕ)
     (w : OffsetDateTime) : Type 0 where
   shown : IsShown greatest_year form.offset v (Some w)
   says : SaysAll format defaults w bytes
@@ -121,7 +121,7 @@ record IsBack (format : Reading) (defaults : Option Record) (form : Form) (v : O
   again : IsWritten greatest_year form w (Ok text)
   same : bytes ≡ text.items
 
-back : (format : Reading) (defaults : Option Record) (form : Form) (v : OffsetDateTime) (bytes : List ℕ)
+back : (format : Reading) (defaults : Defaults) (form : Form) (v : OffsetDateTime) (bytes : List ℕ)
     → IsReadable greatest_year format defaults form v bytes → (w : OffsetDateTime) × IsBack format defaults form v bytes w
 back format defaults form v bytes ((w, shown, all), (text, (other, p, q), e)) =
     let there = subst (λ (s : Option OffsetDateTime). MatchOption s (Ok text ≡ Err out_of_range)
@@ -173,19 +173,44 @@ same_kept job v w e = rw (same_before job.since v w false e, same_before job.unt
 abbrev Kept : Job → Bool → ℕ → List ℕ → Verdict → Type 0
 Kept job kept start bytes verdict = MatchBool kept (verdict ≡ rewritten start (length bytes) bytes) (verdict ≡ dropped)
 
-put_back : (job : Job) (kept : Bool) (start : ℕ) (w : OffsetDateTime) (bytes : List ℕ) (text : Items)
+kept_back : (job : Job) (kept : Bool) (start : ℕ) (w : OffsetDateTime) (bytes : List ℕ) (text : Items)
     → IsWritten greatest_year job.form w (Ok text) → bytes ≡ text.items → is_kept greatest_year job w ≡ kept
-    → (verdict : Verdict) × IsPut greatest_year job start (said w (length bytes)) verdict × Kept job kept start bytes verdict
-put_back job true start w bytes text again same e =
+    → (verdict : Verdict) × IsPutWithin greatest_year job start (said w (length bytes)) verdict × Kept job kept start bytes verdict
+kept_back job true start w bytes text again same e =
     let none : start ≡ start + 0 = omega arith in (
       rewritten start (length bytes) text.items,
       rw e (Ok text, again, ap (λ (n : ℕ). rewritten n (length bytes) text.items) none),
       ap (rewritten start (length bytes)) (sym same),
     )
-put_back job false start w bytes text again same e = (dropped, rw e refl, refl)
+kept_back job false start w bytes text again same e = (dropped, rw e refl, refl)
+
+-- the same, where it may go on too far
+abbrev Put : Job → Bool → Bool → ℕ → List ℕ → Verdict → Type 0
+Put job far kept start bytes verdict =
+    MatchBool far (verdict ≡ refused (start + 1) too_far) (Kept job kept start bytes verdict)
+
+-- the bytes of a line before those of a text that stands at the front of its part
+from_front : (job : Job) (start : ℕ) (s : Said) (verdict : Verdict) → s.start ≡ 0
+    → MatchBool (nat_lt LIMIT (start + s.length)) (verdict ≡ refused (start + 1) too_far) (IsPutWithin greatest_year job start s verdict)
+    → IsPut greatest_year job start s verdict
+from_front job start s verdict front p =
+    let none : start ≡ start + s.start = omega (arith, front) in
+    subst (λ (n : ℕ). MatchBool (nat_lt LIMIT (n + s.length)) (verdict ≡ refused (n + 1) too_far)
+    (IsPutWithin greatest_year job start s verdict)) none p
+
+put_back : (job : Job) (far kept : Bool) (start : ℕ) (w : OffsetDateTime) (bytes : List ℕ) (text : Items)
+    → IsWritten greatest_year job.form w (Ok text) → bytes ≡ text.items → is_kept greatest_year job w ≡ kept
+    → nat_lt LIMIT (start + length bytes) ≡ far
+    → (verdict : Verdict) × IsPut greatest_year job start (said w (length bytes)) verdict × Put job far kept start bytes verdict
+put_back job true kept start w bytes text again same e f =
+    let verdict = refused (start + 1) too_far in
+    (verdict, from_front job start (said w (length bytes)) verdict refl (rw f refl), refl)
+put_back job false kept start w bytes text again same e f =
+    let put = kept_back job kept start w bytes text again same e in
+    (put.0, from_front job start (said w (length bytes)) put.0 refl (rw f put.1), put.2)
 
 -- the first format reads it
-in_turn : (job : Job) (bytes : List ℕ) (s : Said) → Says greatest_year job.first.now false bytes job.defaults.parts (Ok s)
+in_turn : (job : Job) (bytes : List ℕ) (s : Said) → Says greatest_year job.first.now false bytes job.defaults (Ok s)
     → IsReadInTurn greatest_year job.first.now job.others.now false bytes job.defaults (Ok s)
 in_turn job bytes s says = (Ok s, (Ok s, says, refl), refl)
 
@@ -204,10 +229,11 @@ judged job place line span bytes verdict at closed found part is =
 
 pub changes_nothing : ChangesNothing greatest_year
 changes_nothing job place line span v bytes verdict at closed found part is judged_so =
-    let it = back job.first.now job.defaults.parts job.form v bytes is in
+    let it = back job.first.now job.defaults job.form v bytes is in
     let s = said it.0 (length bytes) in
-    let put = put_back job (is_kept greatest_year job v) span.start it.0 bytes it.1.text it.1.again it.1.same
-    (same_kept job v it.0 (shown_instant job.form.offset v it.0 it.1.shown)) in
+    let far = nat_lt LIMIT (span.start + length bytes) in
+    let put = put_back job far (is_kept greatest_year job v) span.start it.0 bytes it.1.text it.1.again it.1.same
+    (same_kept job v it.0 (shown_instant job.form.offset v it.0 it.1.shown)) refl in
     let first = judged job place line span bytes put.0 at closed found part (Ok s, in_turn job bytes s it.1.says, put.1) in
-    subst (λ (u : Verdict). Kept job (is_kept greatest_year job v) span.start bytes u)
+    subst (λ (u : Verdict). Put job far (is_kept greatest_year job v) span.start bytes u)
     (one_verdict job line put.0 verdict first judged_so) put.2

@@ -1,9 +1,13 @@
 pub mod Reason
-pub mod Described
 pub mod Reading
 pub mod Form
 pub mod Naming
+pub mod Lack
+pub mod LackSteps
+pub mod LackLaws
 pub mod Job
 pub mod ReadBack
 pub mod Told
 pub mod Laws
+pub mod Wrong
+pub mod Missing

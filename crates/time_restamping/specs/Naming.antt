@@ -8,7 +8,7 @@ use Rattle.time_descriptions.specs.Grammar.{Describes}
 use Rattle.time_descriptions.specs.Refusal.{Refusal, refusal_of, refusal_text}
 use Rattle.time_descriptions.specs.Strftime.{DescribesStrftime, IsRefusedStrftime}
 use Rattle.time_descriptions.specs.declared.description.Description.{Description}
-use Rattle.time_restamping.specs.Described.{tree_of}
+use Rattle.time_components.specs.Steps.{steps_shape}
 use Rattle.time_restamping.specs.declared.form.Unit.TheVariants.{Seconds, Milliseconds, Microseconds, Nanoseconds}
 use Rattle.time_restamping.specs.declared.form.Named.{Named}
 use Rattle.time_restamping.specs.declared.form.Named.TheVariants as named
@@ -86,9 +86,9 @@ abbrev pub meaning_of : Reading → Meaning
 meaning_of reading.Rfc3339 = as_rfc3339
 meaning_of reading.Rfc2822 = as_rfc2822
 meaning_of reading.Iso8601 = as_iso8601
-meaning_of (reading.Described d) = as_tree (tree_of d)
-meaning_of (reading.Complete d) = as_complete (tree_of d)
-meaning_of (reading.Counted d) = as_count (tree_of d)
+meaning_of (reading.Described d) = as_tree (steps_shape d)
+meaning_of (reading.Complete d) = as_complete (steps_shape d)
+meaning_of (reading.Counted d) = as_count (steps_shape d)
 
 -- why a format means nothing: it has no name and is no description, or a description has that fault
 pub data Fault : Type 0 where

@@ -1,5 +1,5 @@
 -- What is written of a moment by a tree, so that it is read back. `Y` is the greatest year.
-use Rattle.std.specs.Prelude.{◌≡◌, ℕ, List, [], ◌∷◌, ◌++◌, false, Option, Some, option_and_then, Result, Ok, Err}
+use Rattle.std.specs.Prelude.{◌≡◌, ℕ, List, [], ◌∷◌, ◌++◌, false, Option, None, Some, option_and_then, Result, Ok, Err}
 use Rattle.time_components.specs.declared.format_description.Component.{Component}
 use Rattle.time_components.specs.Tree.{Tree, Trees, literal, component, sequence, optional, first_of, none, more}
 use Rattle.time_formatting.specs.Components.{component_text}
@@ -8,10 +8,9 @@ use Rattle.time_formatting.specs.Values.{value_of, Stops}
 use Rattle.time_values.specs.declared.offset_date_time.OffsetDateTime.{OffsetDateTime}
 use Rattle.time_record.specs.Components.{put_value}
 use Rattle.time_record.specs.Record.{Record, empty}
-use Rattle.time_record.specs.Resolution.{IsMoment}
-use Rattle.time_parsing.specs.Outcome.{begun}
-use Rattle.time_restamping.specs.Described.{tree_of}
-use Rattle.time_restamping.specs.Reading.{is_negative_fraction}
+use Rattle.time_components.specs.Steps.{steps_shape}
+use Rattle.time_restamping.specs.Reading.{IsCompleted, is_negative_fraction}
+use Rattle.time_restamping.specs.declared.reading.Defaults.{Defaults}
 use Rattle.time_restamping.specs.declared.reading.Reading.{Reading}
 use Rattle.time_restamping.specs.declared.reading.Reading.TheVariants as reading
 
@@ -60,19 +59,23 @@ put_values Y v [] r = Some r
 put_values Y v (verbatim text ∷ ps) r = put_values Y v ps r
 put_values Y v (part c ∷ ps) r = option_and_then (put_values Y v ps) (put_value Y c (value_of Y v c) r)
 
--- What is written of the moment by the tree says all of it over a record: each component's text is read whole, and what
--- the components say makes a record of that moment.
-pub record SaysMoment (Y : ℕ) (tree : Tree) (before : Record) (v : OffsetDateTime) : Type 0 where
+-- What is written of the moment by the tree says all of it with the defaults: each component's text is read whole, and
+-- what the components say makes a record that is one of that moment with what stands for the rest.
+pub record SaysMoment (Y : ℕ) (tree : Tree) (defaults : Defaults) (v : OffsetDateTime) : Type 0 where
   pub stops : AllStop Y v (pieces tree)
   pub after : Record
-  pub puts : put_values Y v (pieces tree) before ≡ Some after
-  pub is : IsMoment Y after (Ok v)
+  pub puts : put_values Y v (pieces tree) empty ≡ Some after
+  pub is : IsCompleted Y defaults after (Ok v)
+
+-- nothing stands for what a text doesn't say
+abbrev pub no_defaults : Defaults
+no_defaults = record { year = None; offset = None; latest = None }
 
 -- The format reads by that tree, and by it all of a moment that is written so.
-abbrev pub ReadsTree : ℕ → Reading → Option Record → Tree → OffsetDateTime → Type 0
-ReadsTree Y (reading.Described d) defaults tree v = (tree_of d ≡ tree) × SaysMoment Y tree (begun defaults) v
-ReadsTree Y (reading.Complete d) defaults tree v = (tree_of d ≡ tree) × SaysMoment Y tree empty v
+abbrev pub ReadsTree : ℕ → Reading → Defaults → Tree → OffsetDateTime → Type 0
+ReadsTree Y (reading.Described d) defaults tree v = (steps_shape d ≡ tree) × SaysMoment Y tree defaults v
+ReadsTree Y (reading.Complete d) defaults tree v = (steps_shape d ≡ tree) × SaysMoment Y tree no_defaults v
 ReadsTree Y (reading.Counted d) defaults tree v =
-    (tree_of d ≡ tree) × SaysMoment Y tree (begun defaults) v
+    (steps_shape d ≡ tree) × SaysMoment Y tree defaults v
     × (is_negative_fraction (whole_text Y v (pieces tree)) ≡ false)
 ReadsTree Y format defaults tree v = ⊥

@@ -12,13 +12,14 @@ use Rattle.time_restamping.specs.declared.reason.Reason as declared
 use Rattle.time_restamping.specs.declared.reason.Reason.TheVariants as variant
 
 -- no format reads it, it has a fraction after a minus, it has no date at an offset, it has no text by a format or by a
--- description, or has no place
+-- description, it goes on too far, or has no place
 pub data Reason : Type 0 where
   unread : Refusal → Reason
   negative_fraction : Reason
   out_of_range : Reason
   unwritable : Unwritable → Reason
   unformattable : Unformattable → Reason
+  too_far : Reason
   missing : Reason
 
 -- the reason that a value stands for, without where its texts lie in memory
@@ -28,6 +29,7 @@ seen variant.NegativeFraction = negative_fraction
 seen variant.OutOfRange = out_of_range
 seen (variant.Unwritable why) = unwritable why
 seen (variant.Unformattable why) = unformattable why
+seen variant.TooFar = too_far
 seen variant.Missing = missing
 
 -- what it prints
@@ -37,6 +39,7 @@ reason_text negative_fraction = codes "a fraction after a minus is read in two w
 reason_text out_of_range = codes "the time has no date at that offset"
 reason_text (unwritable why) = unwritable_text why
 reason_text (unformattable why) = unformattable_text why
+reason_text too_far = codes "the time goes on past byte 262144 of its line"
 reason_text missing = codes "the line has no place for a time"
 
 -- results, with their errors so

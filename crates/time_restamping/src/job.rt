@@ -6,15 +6,18 @@ ghost use Rattle.time_restamping.specs.Reading.{Says};
 ghost use Rattle.time_restamping.specs.Reason.{seen, seen_read, seen_written};
 
 use crate::form::{Form, Writing, write_moment, write_named};
-use crate::reading::{Defaults, Reading, Said, read_further, read_in_turn, read_once};
+use crate::reading::{Defaults, Reading, Said, read_dated, read_further, read_once};
 use crate::reason::Reason;
 use std::cmp::Ordering;
-use time_cutting::{Place, find_span};
+use time_cutting::{Place, body_of, find_span};
 use time_values::OffsetDateTime;
 use time_values::text::Text;
 
 /// How many bytes a time may have of which it isn't known where it stands.
 pub const REACH: usize = 256;
+
+/// In how many bytes of a line its time may stand.
+pub const LIMIT: usize = 262_144;
 
 /// What is done with each line.
 #[derive(Clone, Copy)]
@@ -73,6 +76,16 @@ fn is_before(moment: OffsetDateTime, bound: Option<OffsetDateTime>, otherwise: b
     }
 }
 
+// Whether an ASCII letter or digit stands right before a place of the line, and one right at it.
+fn is_inside(line: &[u8], place: usize) -> bool
+    ensures { result ≡ spec.is_inside line.now place }
+{
+    0 < place
+        && place < line.len()
+        && line[place - 1].is_ascii_alphanumeric()
+        && line[place].is_ascii_alphanumeric()
+}
+
 impl Said {
     // The verdict on a line that says a moment so in a part from that place on, by what is written of it.
     #[inline(always)]
@@ -107,8 +120,24 @@ impl Job<'_> {
     // The verdict on a line of which some bytes say a moment, in a part from that place on.
     #[inline(always)]
     fn put(&self, start: usize, said: Said) -> Verdict
-        requires { start + said.start + 1 < 2 ^ 64 }
+        requires { start + said.start + said.length + 1 < 2 ^ 64 }
         ensures put { spec.IsPut greatest_year self.now start said (spec.seen_verdict result) }
+        ensures within { spec.IsWithin (start + said.start + said.length) (spec.seen_verdict result) }
+    {
+        if LIMIT < start + said.start + said.length {
+            return Verdict::Refused {
+                column: start + said.start + 1,
+                reason: Reason::TooFar,
+            };
+        }
+        self.put_within(start, said)
+    }
+
+    // The same for a moment that stands where a time may.
+    #[inline(always)]
+    fn put_within(&self, start: usize, said: Said) -> Verdict
+        requires { start + said.start + 1 < 2 ^ 64 }
+        ensures put { spec.IsPutWithin greatest_year self.now start said (spec.seen_verdict result) }
         ensures within { spec.IsWithin (start + said.start + said.length) (spec.seen_verdict result) }
     {
         if !self.keeps(said.moment) {
@@ -158,7 +187,7 @@ impl Job<'_> {
         };
         let is_open = place.is_open();
         let text = &line[span.start..span.stop];
-        match read_once(self.first, is_open, text, &self.defaults.parts) {
+        match read_once(self.first, is_open, text, &self.defaults) {
             Ok(said) => self.put(span.start, said),
             Err(reason) => self.judge_further(span.start, is_open, text, reason),
         }
@@ -169,7 +198,7 @@ impl Job<'_> {
     #[inline(never)]
     fn judge_further(&self, start: usize, is_open: bool, text: &[u8], reason: Reason) -> Verdict
         requires start { start + length text.now + 1 < 2 ^ 64 }
-        requires says { Says greatest_year self.now.first.now is_open text.now self.now.defaults.parts (Err (seen reason)) }
+        requires says { Says greatest_year self.now.first.now is_open text.now self.now.defaults (Err (seen reason)) }
         ensures verdict { spec.IsJudgedPart greatest_year self.now is_open start text.now (spec.seen_verdict result) }
         ensures within { spec.IsWithin (start + length text.now) (spec.seen_verdict result) }
     {
@@ -189,44 +218,85 @@ impl Job<'_> {
         }
     }
 
-    // What a front of the text says, of which so many bytes count.
-    fn read_near(&self, text: &[u8]) -> Result<Said, Reason>
-        ensures said { spec.SaysNear greatest_year self.now text.now (seen_read result) }
-        ensures within { IfOk result (λ said. said.start + said.length ≤ length text.now) }
+    // What the line says by that format from a byte on, unless it ends inside a word or a number.
+    fn read_alone(&self, line: &[u8], start: usize, reading: &Reading) -> Option<Said>
+        requires { start ≤ length line.now }
+        ensures said { spec.SaysAlone greatest_year self.now line.now start reading.now result }
+        ensures within { IfSome result (λ said. start + said.start + said.length ≤ length line.now) }
     {
-        let near = &text[..REACH.min(text.len())];
-        read_in_turn(self.first, self.others, true, near, &self.defaults)
+        let rest = &line[start..];
+        let near = &rest[..REACH.min(rest.len())];
+        let Ok(said) = read_dated(reading, true, near, &self.defaults) else {
+            return None;
+        };
+        if is_inside(line, start + said.start + said.length) {
+            return None;
+        }
+        Some(said)
     }
 
-    // The first place of the line from which on a front says a moment, and what it says.
+    // The same by the first of the others by which it says something.
+    fn read_others(&self, line: &[u8], start: usize) -> Option<Said>
+        requires { start ≤ length line.now }
+        ensures said { spec.AreTriedAlone greatest_year self.now line.now start self.now.others.now result }
+        ensures within { IfSome result (λ said. start + said.start + said.length ≤ length line.now) }
+    {
+        for reading in self.others {
+            if let Some(said) = self.read_alone(line, start, reading) {
+                return Some(said);
+            }
+        }
+        None
+    }
+
+    // What the line says from a byte on that isn't inside a word or a number.
+    fn read_from(&self, line: &[u8], start: usize) -> Option<Said>
+        requires { start ≤ length line.now }
+        ensures said { spec.SaysFrom greatest_year self.now line.now start result }
+        ensures within { IfSome result (λ said. start + said.start + said.length ≤ length line.now) }
+    {
+        if is_inside(line, start) {
+            return None;
+        }
+        match self.read_alone(line, start, self.first) {
+            Some(said) => Some(said),
+            None => self.read_others(line, start),
+        }
+    }
+
+    // The first place of the line from which on it says a moment, and what it says.
     fn find_first(&self, line: &[u8]) -> Option<(usize, Said)>
         ensures first { spec.IsFirst greatest_year self.now line.now result }
         ensures within { IfSome result (λ found. found.0 + found.1.start + found.1.length ≤ length line.now) }
     {
         for start in 0..line.len() {
-            if let Ok(said) = self.read_near(&line[start..]) {
+            if let Some(said) = self.read_from(line, start) {
                 return Some((start, said));
             }
         }
         None
     }
 
-    // The verdict on a line whose time may stand anywhere.
+    // The verdict on a line whose time may stand anywhere but in a CR at its end.
     fn judge_anywhere(&self, line: &[u8]) -> Verdict
         ensures verdict { spec.IsJudgedAnywhere greatest_year self.now line.now (spec.seen_verdict result) }
         ensures within { spec.IsWithin (length line.now) (spec.seen_verdict result) }
     {
-        match self.find_first(line) {
+        let body = body_of(line);
+        match self.find_first(body) {
             Some((start, said)) => self.put(start, said),
             None => self.miss(),
         }
     }
 
-    /// The verdict on a line, which has no LF. A time that is refused leaves the line as it is.
+    /// The verdict on a line, which has no LF. A time that is refused leaves the line as it is, and so does one that goes
+    /// on past the first [`LIMIT`] bytes. Of a longer line it can be given [`REACH`] bytes more, so that it is seen what
+    /// stands behind a time.
     ///
     /// Where no place is given the time begins at the first byte from which on a format reads one, of which at most
-    /// [`REACH`] bytes count. A line with no such byte has no place for a time. The blanks around a mail date stay where it
-    /// isn't told where the time ends.
+    /// [`REACH`] bytes count. It takes whole words and numbers: no ASCII letter or digit stands right before its first byte
+    /// or right after its last one, where that byte is one. A line with no such time has no place for one. The blanks
+    /// around a mail date stay where it isn't told where the time ends.
     #[inline(always)]
     pub fn judge(&self, line: &[u8]) -> Verdict
         ensures verdict { spec.IsJudged greatest_year self.now line.now (spec.seen_verdict result) }

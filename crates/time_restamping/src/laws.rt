@@ -1,6 +1,6 @@
 //! Laws of what becomes of a line: each function does nothing, and its contract is the law.
 ghost use Rattle.time_values.specs.Range.{greatest_year};
-ghost use Rattle.time_restamping.specs.Laws.{OneVerdict, AutoHasAll, ReadsRewrittenBack, WritesSameText, ChangesNothing, SaysAllTold, SignsTell, OneTree, CommonReadsBack};
+ghost use Rattle.time_restamping.specs.Laws.{OneVerdict, AutoHasAll, ReadsRewrittenBack, WritesSameText, ChangesNothing, KeepsMoment, SaysAllTold, SignsTell, OneTree, CommonReadsBack};
 
 /// A line has one verdict, whatever the job.
 pub fn law_one_verdict()
@@ -9,7 +9,7 @@ pub fn law_one_verdict()
 
 /// A time that was written by RFC 3339, RFC 2822 or ISO 8601 is read back by the same format as the same moment, at the
 /// offset at which it was shown, where each digit of its fraction that isn't 0 was written; and all bytes of the text
-/// count. ISO 8601 is read without defaults. [`Auto`](time_writing::FractionDigits::Auto) leaves out no such digit.
+/// count. [`Auto`](time_writing::FractionDigits::Auto) leaves out no such digit.
 ///
 /// So is one that was written by a description, by a description of the same tree, where what the components say makes
 /// a record of that moment, and behind each component's text stands what may stand there.
@@ -26,9 +26,14 @@ pub fn law_second_run()
     ensures line { ChangesNothing greatest_year }
 {}
 
-/// What is written by a description says all of a moment over a record that, with what the components tell of its date,
-/// time and offset, has all of it, where each component's text is read whole. The sign of an offset and the sizes of its
-/// parts tell them.
+/// What a record says all of stays with what stands for what a text doesn't say.
+pub fn law_defaults()
+    ensures { KeepsMoment greatest_year }
+{}
+
+/// What is written by a description says all of a moment where the record of what its components tell of the date, the
+/// time and the offset, with what stands for the rest, has all of it, and each component's text is read whole. The sign of
+/// an offset and the sizes of its parts tell them.
 pub fn law_all_told()
     ensures says { SaysAllTold greatest_year }
     ensures signs { SignsTell }

@@ -1,17 +1,22 @@
 //! What becomes of a line whose time is read by one format and written by another.
 #![tactic(auto)]
 
-mod described;
 mod form;
 mod job;
+mod lack;
+pub mod lack_laws;
 pub mod laws;
+mod missing;
 mod naming;
 mod reading;
 mod reason;
+mod wrong;
 
-pub use described::Described;
 pub use form::{Form, Named, Unit, Writing, write_moment};
-pub use job::{Job, REACH, Verdict};
+pub use job::{Job, LIMIT, REACH, Verdict};
+pub use lack::{Lack, Part};
+pub use missing::{Why, law_one_lack};
 pub use naming::{FormatFault, find_reading, find_writing};
 pub use reading::{Defaults, MOST_STEPS, Reading, Said, read, read_dated, read_in_turn};
 pub use reason::Reason;
+pub use wrong::{Wrong, law_one_wrong};

@@ -5,11 +5,11 @@ ghost use Rattle.time_descriptions.specs.Grammar.{Describes};
 ghost use Rattle.time_descriptions.specs.Strftime.{DescribesStrftime};
 ghost use Rattle.time_restamping.specs.Naming as spec;
 
-use crate::described::Described;
 use crate::form::{Named, Unit, Writing};
 use crate::reading::{MOST_STEPS, Reading};
 use std::fmt;
 use time_descriptions::{Description, InvalidFormatDescription, parse_borrowed, parse_strftime};
+use time_preparing::Prepared;
 
 /// What is wrong with a format.
 #[derive(Clone, Copy, Debug)]
@@ -122,10 +122,10 @@ pub fn find_reading(name: &[u8]) -> Result<Reading, FormatFault<'_>>
         Way::Rfc3339 => Ok(Reading::Rfc3339),
         Way::Rfc2822 => Ok(Reading::Rfc2822),
         Way::Iso8601 => Ok(Reading::Iso8601),
-        Way::Counted(text) => Ok(Reading::Counted(Described::new(bracketed(text)?))),
-        Way::Complete(text) => Ok(Reading::Complete(Described::new(bracketed(text)?))),
-        Way::Brackets(text) => Ok(Reading::Described(Described::new(bracketed(text)?))),
-        Way::Strftime(text) => Ok(Reading::Described(Described::new(lettered(text)?))),
+        Way::Counted(text) => Ok(Reading::Counted(Prepared::new(&bracketed(text)?))),
+        Way::Complete(text) => Ok(Reading::Complete(Prepared::new(&bracketed(text)?))),
+        Way::Brackets(text) => Ok(Reading::Described(Prepared::new(&bracketed(text)?))),
+        Way::Strftime(text) => Ok(Reading::Described(Prepared::new(&lettered(text)?))),
         Way::Unknown => Err(FormatFault::Unknown),
     }
 }

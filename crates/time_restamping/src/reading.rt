@@ -1,21 +1,19 @@
 //! How a time is read.
-ghost use Rattle.std.specs.Option.{option_map};
-ghost use Rattle.std.specs.Prelude.{◌≡◌, ◌+◌, ◌≤◌, ◌≤ℤ◌, ◌-ℤ◌, neg_ℤ, pos, length, take, IfOk, IfSome};
+ghost use Rattle.std.specs.Prelude.{◌≡◌, ◌+◌, ◌-◌, ◌≤◌, ◌≤ℤ◌, ◌-ℤ◌, neg_ℤ, pos, length, take, IfOk};
 ghost use Rattle.time_values.specs.Range.{greatest_year};
-ghost use Rattle.time_record.specs.Reading.{Reads, Refuses};
-ghost use Rattle.time_parsing.specs.Outcome as outcome;
-ghost use Rattle.time_parsing.specs.Outcome.{over_record};
-ghost use Rattle.time_restamping.specs.Described.{tree_of};
+ghost use Rattle.time_record.specs.Record.{empty};
+ghost use Rattle.time_parsing.specs.Outcome.{IsFront, IsOutcome, seen as seen_parse, seen_front};
 ghost use Rattle.time_restamping.specs.Reading as spec;
 ghost use Rattle.time_restamping.specs.Reason.{seen, seen_read};
 
-use crate::described::Described;
 use crate::reason::Reason;
 use std::cmp::Ordering;
-use time_parsing::{Iso8601, Parsable, Rfc2822, Rfc3339};
+use std::convert::TryFrom;
+use time_parsing::{Iso8601, Parsable, Rfc2822, Rfc3339, value_before};
+use time_preparing::Prepared;
 use time_record::Parsed;
-use time_values::OffsetDateTime;
 use time_values::error::Parse;
+use time_values::{OffsetDateTime, UtcOffset};
 
 /// The most steps that a description may have. One in brackets of so many bytes has room.
 pub const MOST_STEPS: usize = 256;
@@ -30,18 +28,20 @@ pub enum Reading {
     /// ISO 8601.
     Iso8601,
     /// By a description.
-    Described(Described),
+    Described(Prepared<MOST_STEPS>),
     /// By a description whose texts say all of a moment, so that defaults don't count.
-    Complete(Described),
+    Complete(Prepared<MOST_STEPS>),
     /// By a description of a number of seconds, which may have a fraction unless a minus stands before it.
-    Counted(Described),
+    Counted(Prepared<MOST_STEPS>),
 }
 
 /// What stands for what a time leaves out.
 #[derive(Clone, Copy)]
 pub struct Defaults {
-    /// Parts of a moment.
-    pub parts: Option<Parsed>,
+    /// The year of a time that says no part of one.
+    pub year: Option<i32>,
+    /// The offset of a time that says no hour of one.
+    pub offset: Option<UtcOffset>,
     /// A time that has no year either is the latest that isn't after this moment.
     pub latest: Option<OffsetDateTime>,
 }
@@ -71,32 +71,138 @@ impl Reading {
     }
 }
 
+// Whether the record says a part of a year.
+#[inline(always)]
+pub(crate) fn has_year(parsed: &Parsed) -> bool
+    ensures { result ≡ spec.has_year parsed.now }
+{
+    parsed.year().is_some()
+        || parsed.year_century().is_some()
+        || parsed.year_last_two().is_some()
+        || parsed.iso_year().is_some()
+        || parsed.iso_year_century().is_some()
+        || parsed.iso_year_last_two().is_some()
+}
+
+// Puts the year into a record that says no part of one.
+#[inline(always)]
+fn put_year(year: Option<i32>, parsed: &mut Parsed)
+    ensures { parsed.new ≡ spec.with_year greatest_year year parsed.old }
+{
+    let Some(year) = year else {
+        return;
+    };
+    if !has_year(parsed) {
+        let _ = parsed.set_year(year);
+    }
+}
+
+// Puts the parts of the offset into a record that says no hour of one.
+#[inline(always)]
+fn put_offset(offset: Option<UtcOffset>, parsed: &mut Parsed)
+    ensures { parsed.new ≡ spec.with_offset offset parsed.old }
+{
+    let Some(offset) = offset else {
+        return;
+    };
+    if parsed.offset_hour().is_some() {
+        return;
+    }
+    let (hours, minutes, seconds) = offset.as_hms();
+    let _ = parsed.set_offset_hour(hours);
+    let _ = parsed.set_offset_minute_signed(minutes);
+    let _ = parsed.set_offset_second_signed(seconds);
+    parsed.forget_offset_sign();
+}
+
+// Puts what stands for what the text doesn't say into the record of what it says.
+#[inline(always)]
+pub(crate) fn complete(defaults: &Defaults, parsed: &mut Parsed)
+    ensures { parsed.new ≡ spec.completed greatest_year defaults.now parsed.old }
+{
+    put_year(defaults.year, parsed);
+    put_offset(defaults.offset, parsed);
+}
+
+// The moment that the text says up to that rest.
+#[inline(always)]
+fn said_before(rest: &[u8], text: &[u8], moment: OffsetDateTime) -> Said
+    ensures said { result ≡ spec.said moment (length text.now - length rest.now) }
+    ensures within { result.start + result.length ≤ length text.now }
+{
+    Said {
+        moment,
+        start: 0,
+        length: text.len().saturating_sub(rest.len()),
+    }
+}
+
 // What a front of the text says by the format where it is open, and else what the whole text says.
 #[inline(always)]
-fn read_by<F: Parsable>(
-    format: &F,
-    is_open: bool,
-    text: &[u8],
-    defaults: Option<Parsed>,
-) -> Result<Said, Parse>
+fn read_by<F: Parsable>(format: &F, is_open: bool, text: &[u8]) -> Result<Said, Parse>
     ensures said { spec.IsReadBy greatest_year is_open (F.path format.now) (F.reads format.now) (F.refuses format.now) text.now
-        defaults (spec.seen_said result) }
+        (spec.seen_said result) }
     ensures within { IfOk result (λ said. said.start + said.length ≤ length text.now) }
 {
     if is_open {
-        let (moment, rest) = format.parse_front(text, defaults)?;
-        return Ok(Said {
-            moment,
-            start: 0,
-            length: text.len().saturating_sub(rest.len()),
-        });
+        let (moment, rest) = format.parse_front(text, None)?;
+        return Ok(said_before(rest, text, moment));
     }
-    let moment = format.parse_offset_date_time(text, defaults)?;
-    Ok(Said {
-        moment,
-        start: 0,
-        length: text.len(),
-    })
+    let moment = format.parse_offset_date_time(text, None)?;
+    Ok(said_before(&[], text, moment))
+}
+
+// The moment of a front of the text, with what stands for what that doesn't say, and the rest.
+#[inline(always)]
+fn front_with<'a, F: Parsable>(
+    format: &F,
+    text: &'a [u8],
+    defaults: &Defaults,
+) -> Result<(OffsetDateTime, &'a [u8]), Parse>
+    ensures { IsFront (spec.IsCompleted greatest_year defaults.now) (F.reads format.now) (F.refuses format.now) text.now
+        empty (seen_front result) }
+{
+    let mut parsed = Parsed::new();
+    let rest = format.parse_into(text, &mut parsed)?;
+    complete(defaults, &mut parsed);
+    let moment = OffsetDateTime::try_from(parsed)?;
+    Ok((moment, rest))
+}
+
+// The same of the whole text.
+#[inline(always)]
+fn whole_with<F: Parsable>(
+    format: &F,
+    text: &[u8],
+    defaults: &Defaults,
+) -> Result<OffsetDateTime, Parse>
+    ensures { IsOutcome (spec.IsCompleted greatest_year defaults.now) (F.reads format.now) (F.refuses format.now) text.now
+        empty (seen_parse result) }
+{
+    let mut parsed = Parsed::new();
+    let rest = format.parse_into(text, &mut parsed)?;
+    complete(defaults, &mut parsed);
+    value_before::<OffsetDateTime>(rest, &parsed)
+}
+
+// What a front of the text says with what stands for what it doesn't say, where it is open, and else what the whole does.
+#[inline(always)]
+fn read_with<F: Parsable>(
+    format: &F,
+    is_open: bool,
+    text: &[u8],
+    defaults: &Defaults,
+) -> Result<Said, Parse>
+    ensures said { spec.IsReadWith greatest_year is_open (F.reads format.now) (F.refuses format.now) text.now
+        defaults.now (spec.seen_said result) }
+    ensures within { IfOk result (λ said. said.start + said.length ≤ length text.now) }
+{
+    if is_open {
+        let (moment, rest) = front_with(format, text, defaults)?;
+        return Ok(said_before(rest, text, moment));
+    }
+    let moment = whole_with(format, text, defaults)?;
+    Ok(said_before(&[], text, moment))
 }
 
 // The same without the blanks at both ends of its bytes.
@@ -119,29 +225,11 @@ fn read_mail(is_open: bool, text: &[u8]) -> Result<Said, Parse>
     ensures said { spec.IsReadMail greatest_year is_open text.now (spec.seen_said result) }
     ensures within { IfOk result (λ said. said.start + said.length ≤ length text.now) }
 {
-    let said = read_by(&Rfc2822, is_open, text, None)?;
+    let said = read_by(&Rfc2822, is_open, text)?;
     if is_open {
         return Ok(bare(said, text));
     }
     Ok(said)
-}
-
-// The same by a description.
-#[inline(always)]
-fn read_described(
-    described: &Described,
-    is_open: bool,
-    text: &[u8],
-    defaults: Option<Parsed>,
-) -> Result<Said, Parse>
-    ensures said { spec.IsReadBy greatest_year is_open over_record (Reads greatest_year (tree_of described.now))
-        (Refuses greatest_year (tree_of described.now)) text.now defaults (spec.seen_said result) }
-    ensures within { IfOk result (λ said. said.start + said.length ≤ length text.now) }
-{
-    match described {
-        Described::Prepared(prepared) => read_by(prepared, is_open, text, defaults),
-        Described::Walked(description) => read_by(description, is_open, text, defaults),
-    }
 }
 
 // The same by any of the formats. Those that say all of a moment need no defaults.
@@ -150,18 +238,18 @@ fn read_plain(
     reading: &Reading,
     is_open: bool,
     text: &[u8],
-    defaults: &Option<Parsed>,
+    defaults: &Defaults,
 ) -> Result<Said, Parse>
     ensures said { spec.IsRead greatest_year reading.now is_open text.now defaults.now (spec.seen_said result) }
     ensures within { IfOk result (λ said. said.start + said.length ≤ length text.now) }
 {
     match reading {
-        Reading::Rfc3339 => read_by(&Rfc3339, is_open, text, None),
+        Reading::Rfc3339 => read_by(&Rfc3339, is_open, text),
         Reading::Rfc2822 => read_mail(is_open, text),
-        Reading::Iso8601 => read_by(&Iso8601, is_open, text, *defaults),
-        Reading::Described(described) => read_described(described, is_open, text, *defaults),
-        Reading::Complete(described) => read_described(described, is_open, text, None),
-        Reading::Counted(described) => read_described(described, is_open, text, *defaults),
+        Reading::Iso8601 => read_with(&Iso8601, is_open, text, defaults),
+        Reading::Described(described) => read_with(described, is_open, text, defaults),
+        Reading::Complete(described) => read_by(described, is_open, text),
+        Reading::Counted(described) => read_with(described, is_open, text, defaults),
     }
 }
 
@@ -178,7 +266,7 @@ pub(crate) fn read_once(
     reading: &Reading,
     is_open: bool,
     text: &[u8],
-    defaults: &Option<Parsed>,
+    defaults: &Defaults,
 ) -> Result<Said, Reason>
     ensures said { spec.Says greatest_year reading.now is_open text.now defaults.now (seen_read result) }
     ensures within { IfOk result (λ said. said.start + said.length ≤ length text.now) }
@@ -199,7 +287,7 @@ pub fn read(
     reading: &Reading,
     is_open: bool,
     text: &[u8],
-    defaults: &Option<Parsed>,
+    defaults: &Defaults,
 ) -> Result<Said, Reason>
     ensures said { spec.Says greatest_year reading.now is_open text.now defaults.now (seen_read result) }
     ensures within { IfOk result (λ said. said.start + said.length ≤ length text.now) }
@@ -220,18 +308,22 @@ struct Undated<'a> {
     reading: &'a Reading,
     is_open: bool,
     text: &'a [u8],
-    parts: Parsed,
+    offset: Option<UtcOffset>,
     latest: OffsetDateTime,
 }
 
 impl Undated<'_> {
     // What the text says in that year.
-    fn read_in_year(&self, year: i32) -> Option<Result<Said, Reason>>
-        ensures said { spec.IsReadInYear greatest_year (spec.seen_undated self.now) year (option_map seen_read result) }
-        ensures within { IfSome result (λ read. IfOk read (λ said. said.start + said.length ≤ length self.now.text.now)) }
+    fn read_in_year(&self, year: i32) -> Result<Said, Reason>
+        ensures said { spec.IsReadInYear greatest_year (spec.seen_undated self.now) year (seen_read result) }
+        ensures within { IfOk result (λ said. said.start + said.length ≤ length self.now.text.now) }
     {
-        let dated = self.parts.with_year(year)?;
-        Some(read(self.reading, self.is_open, self.text, &Some(dated)))
+        let dated = Defaults {
+            year: Some(year),
+            offset: self.offset,
+            latest: None,
+        };
+        read(self.reading, self.is_open, self.text, &dated)
     }
 
     // What it says in the first of so many years, from that one down, in which it says a moment that isn't too late.
@@ -246,25 +338,14 @@ impl Undated<'_> {
         }
         let before = year - 1;
         match self.read_in_year(year) {
-            Some(Ok(said)) => {
+            Ok(said) => {
                 if is_after(said.moment, self.latest) {
                     return self.read_years(before, count - 1, reason);
                 }
                 Ok(said)
             }
-            Some(Err(why)) => self.read_years(before, count - 1, why),
-            None => self.read_years(before, count - 1, reason),
+            Err(why) => self.read_years(before, count - 1, why),
         }
-    }
-}
-
-// The parts that defaults have, or none.
-fn begun(parts: Option<Parsed>) -> Parsed
-    ensures { result ≡ outcome.begun parts }
-{
-    match parts {
-        Some(parts) => parts,
-        None => Parsed::new(),
     }
 }
 
@@ -276,7 +357,7 @@ fn read_undated(
     defaults: &Defaults,
     reason: Reason,
 ) -> Result<Said, Reason>
-    requires { spec.Says greatest_year reading.now is_open text.now defaults.now.parts (Err (seen reason)) }
+    requires { spec.Says greatest_year reading.now is_open text.now defaults.now (Err (seen reason)) }
     ensures said { spec.IsDated greatest_year reading.now is_open text.now defaults.now (seen_read result) }
     ensures within { IfOk result (λ said. said.start + said.length ≤ length text.now) }
 {
@@ -287,7 +368,7 @@ fn read_undated(
         reading,
         is_open,
         text,
-        parts: begun(defaults.parts),
+        offset: defaults.offset,
         latest,
     };
     undated.read_years(latest.year() + 1, 10, reason)
@@ -305,7 +386,7 @@ pub fn read_dated(
     ensures said { spec.IsDated greatest_year reading.now is_open text.now defaults.now (seen_read result) }
     ensures within { IfOk result (λ said. said.start + said.length ≤ length text.now) }
 {
-    match read(reading, is_open, text, &defaults.parts) {
+    match read(reading, is_open, text, defaults) {
         Ok(said) => Ok(said),
         Err(reason) => read_undated(reading, is_open, text, defaults, reason),
     }
@@ -339,7 +420,7 @@ pub(crate) fn read_further(
     defaults: &Defaults,
     reason: Reason,
 ) -> Result<Said, Reason>
-    requires { spec.Says greatest_year first.now is_open text.now defaults.now.parts (Err (seen reason)) }
+    requires { spec.Says greatest_year first.now is_open text.now defaults.now (Err (seen reason)) }
     ensures said { spec.IsReadInTurn greatest_year first.now others.now is_open text.now defaults.now (seen_read result) }
     ensures within { IfOk result (λ said. said.start + said.length ≤ length text.now) }
 {
@@ -361,7 +442,7 @@ pub fn read_in_turn(
     ensures said { spec.IsReadInTurn greatest_year first.now others.now is_open text.now defaults.now (seen_read result) }
     ensures within { IfOk result (λ said. said.start + said.length ≤ length text.now) }
 {
-    match read(first, is_open, text, &defaults.parts) {
+    match read(first, is_open, text, defaults) {
         Ok(said) => Ok(said),
         Err(reason) => read_further(first, others, is_open, text, defaults, reason),
     }

@@ -20,6 +20,8 @@ pub enum Reason {
     Unwritable(Unwritable),
     /// The description that is asked for has no text for it.
     Unformattable(Unformattable),
+    /// It goes on past the bytes of its line in which a time may stand: [`LIMIT`](crate::LIMIT).
+    TooFar,
     /// The line has no place for a time.
     Missing,
 }
@@ -36,6 +38,7 @@ impl fmt::Display for Reason {
             Reason::OutOfRange => write!(f, "the time has no date at that offset"),
             Reason::Unwritable(why) => write!(f, "{why}"),
             Reason::Unformattable(why) => write!(f, "{why}"),
+            Reason::TooFar => write!(f, "the time goes on past byte 262144 of its line"),
             Reason::Missing => write!(f, "the line has no place for a time"),
         }
     }

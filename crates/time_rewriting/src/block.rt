@@ -8,8 +8,8 @@ use crate::held::Held;
 use std::io;
 use std::io::{ErrorKind, Read};
 
-/// By how many bytes a line is answered. Its time has to end within them.
-pub const LIMIT: usize = 262144;
+/// By how many bytes a line is answered: 256 more than its time may stand in, so that it is seen what stands behind that.
+pub const LIMIT: usize = 262_400;
 
 /// Bytes that were read and are not answered yet: at most [`LIMIT`].
 pub type Block = Held<LIMIT>;

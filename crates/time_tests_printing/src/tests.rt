@@ -4,6 +4,7 @@ mod orders;
 mod parts;
 mod printed;
 mod read_back;
+mod surface;
 mod texts;
 
 use time_values::error::ComponentRange;

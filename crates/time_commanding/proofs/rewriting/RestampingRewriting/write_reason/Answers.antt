@@ -1,8 +1,5 @@
-use Rattle.std.proofs.Common.{Bool, true, ap, sym}
 use Rattle.time_rewriting.proofs.ReportLemmas.{OnOk-map}
-use Rattle.time_restamping.specs.Reason.{seen, reason_text}
-use Rattle.time_commanding.specs.Pointing.{told_reason}
-use Rattle.time_commanding.proofs.PointingLemmas.{Appends-told}
+use Rattle.time_restamping.specs.Reason.{seen}
 use Rattle.time_restamping.specs.Job.{without, dropped}
 use Rattle.time_rewriting.specs.declared.fate.Fate.TheVariants.{Refused}
 use Rattle.time_commanding.proofs.FateLemmas.{fate_of-verdict}
@@ -23,14 +20,8 @@ returns-in-Dropped g c =
     let e = fate_of-verdict c.args.self.now.job c.args.front.now Refused dropped c.requires (rw c.in-Dropped.is at c.judge.ensures.verdict) in
     absurd cc
 
-pub returns-then-self : goal.returns-then-self
-returns-then-self g c =
-    let why = seen c.in-Refused.reason in
+pub returns-in-Refused : goal.returns-in-Refused
+returns-in-Refused g c =
     let judged = rw c.in-Refused.is at c.judge.ensures.verdict in
-    OnOk-map c.write_pointer.result _ _ c.write_pointer.ensures
-    (λ pointed. (
-      c.in-Refused.column,
-      told_reason true c.args.front.now c.in-Refused.column (reason_text why),
-      (why, judged, ap (λ (b : Bool). told_reason b c.args.front.now c.in-Refused.column (reason_text why)) (sym c.if-self.true)),
-      Appends-told _ _ _ c.args.front.now (reason_text why) c.in-Refused.column c.in_ok-write-in-Refused.ensures.bytes pointed,
-    ))
+    OnOk-map c.write_wrong.result _ _ c.write_wrong.ensures
+    (λ told. (told.0, told.1, (c.in-Refused.column, seen c.in-Refused.reason, judged, told.2), told.3))

@@ -10,7 +10,7 @@ pub returns-in-Ok-clause-verdict : goal.returns-in-Ok-clause-verdict
 returns-in-Ok-clause-verdict c =
     let job = c.args.self.now in
     let text = slice_range c.args.line.now c.in-Some.span.start c.in-Some.span.stop in
-    let says = subst (λ (b : Bool). Says greatest_year job.first.now b text job.defaults.parts (Ok c.in-Ok.said))
+    let says = subst (λ (b : Bool). Says greatest_year job.first.now b text job.defaults (Ok c.in-Ok.said))
     c.is_open-is_open.ensures c.in-Ok.ensures.said in
     on_some (span_of c.args.place c.args.line.now) c.in-Some.span _ _ (sym c.find_span.ensures.value ∙ c.in-Some.is)
     (Ok c.in-Ok.said, in_turn-first greatest_year job.first.now job.others.now _ text job.defaults c.in-Ok.said says, c.put.ensures.put)

@@ -1,10 +1,10 @@
-use Rattle.std.proofs.Common.{◌-◌, ℤ, sym, subst, arith, ◌∙◌, None, Some, Ok, Err}
+use Rattle.std.proofs.Common.{◌-◌, ℤ, sym, subst, arith, ◌∙◌, Ok, Err}
 use Rattle.std.specs.Int.{w32}
 use Rattle.std.proofs.lemmas.Int.{ints, to_z-of_z}
 use Rattle.time_values.specs.Range.{greatest_year}
 use Rattle.time_restamping.specs.Reading.{seen_undated, IsReadInYear, AreYearsTried}
 use Rattle.time_restamping.specs.Reason.{seen, seen_read}
-use Rattle.time_restamping.proofs.ReadingLemmas.{one_less, years-end, years-late, years-found, years-refused, years-none}
+use Rattle.time_restamping.proofs.ReadingLemmas.{one_less, years-end, years-late, years-found, years-refused}
 use Rattle.time_restamping.proofs.reading.Undated.+read_years.Goals as goal
 
 pub returns-then-count-eq0-clause-said : goal.returns-then-count-eq0-clause-said
@@ -14,35 +14,27 @@ returns-then-count-eq0-clause-said t c =
 pub returns-then-is_after-clause-said : goal.returns-then-is_after-clause-said
 returns-then-is_after-clause-said t c =
     let u = seen_undated c.args.self.now in
-    let read = subst (λ (y : ℤ). IsReadInYear greatest_year u y (Some (Ok c.in-Some-Ok.said))) (to_z-of_z w32 c.args.year c.ranges.year)
-    (rw c.in-Some-Ok.field-0-is at c.in-Some-Ok.ensures.said) in
+    let read = subst (λ (y : ℤ). IsReadInYear greatest_year u y (Ok c.in-Ok.said)) (to_z-of_z w32 c.args.year c.ranges.year)
+    (c.in-Ok.ensures.said) in
     let later = subst (λ (y : ℤ). AreYearsTried greatest_year u (c.args.count - 1) y (seen c.args.reason) (seen_read c.read_years.result))
     (one_less c.args.year c.ranges.year (omega (arith, ints))) c.read_years.ensures.said in
-    years-late greatest_year u c.args.year (seen c.args.reason) (seen_read c.read_years.result) c.args.count c.in-Some-Ok.said
+    years-late greatest_year u c.args.year (seen c.args.reason) (seen_read c.read_years.result) c.args.count c.in-Ok.said
     (omega arith) read (sym c.is_after.ensures ∙ c.if-is_after.true) later
 
 pub returns-else-is_after-clause-said : goal.returns-else-is_after-clause-said
 returns-else-is_after-clause-said t c =
     let u = seen_undated c.args.self.now in
-    let read = subst (λ (y : ℤ). IsReadInYear greatest_year u y (Some (Ok c.in-Some-Ok.said))) (to_z-of_z w32 c.args.year c.ranges.year)
-    (rw c.in-Some-Ok.field-0-is at c.in-Some-Ok.ensures.said) in
-    years-found greatest_year u c.args.year (seen c.args.reason) (Ok c.in-Some-Ok.said) c.args.count c.in-Some-Ok.said
+    let read = subst (λ (y : ℤ). IsReadInYear greatest_year u y (Ok c.in-Ok.said)) (to_z-of_z w32 c.args.year c.ranges.year)
+    (c.in-Ok.ensures.said) in
+    years-found greatest_year u c.args.year (seen c.args.reason) (Ok c.in-Ok.said) c.args.count c.in-Ok.said
     (omega arith) read (sym c.is_after.ensures ∙ c.if-is_after.false)
 
-pub returns-in-Some-Err-clause-said : goal.returns-in-Some-Err-clause-said
-returns-in-Some-Err-clause-said t c =
+pub returns-in-Err-clause-said : goal.returns-in-Err-clause-said
+returns-in-Err-clause-said t c =
     let u = seen_undated c.args.self.now in
-    let read = subst (λ (y : ℤ). IsReadInYear greatest_year u y (Some (Err (seen c.in-Some-Err.why)))) (to_z-of_z w32 c.args.year c.ranges.year)
-    (rw c.in-Some-Err.field-0-is at c.in-Some-Err.ensures.said) in
-    let later = subst (λ (y : ℤ). AreYearsTried greatest_year u (c.args.count - 1) y (seen c.in-Some-Err.why) (seen_read c.read_years-in-Some-Err.result))
-    (one_less c.args.year c.ranges.year (omega (arith, ints))) c.read_years-in-Some-Err.ensures.said in
-    years-refused greatest_year u c.args.year (seen c.args.reason) (seen_read c.read_years-in-Some-Err.result) c.args.count
-    (seen c.in-Some-Err.why) (omega arith) read later
-
-pub returns-in-None-clause-said : goal.returns-in-None-clause-said
-returns-in-None-clause-said t c =
-    let u = seen_undated c.args.self.now in
-    let read = subst (λ (y : ℤ). IsReadInYear greatest_year u y None) (to_z-of_z w32 c.args.year c.ranges.year) c.in-None.ensures.said in
-    let later = subst (λ (y : ℤ). AreYearsTried greatest_year u (c.args.count - 1) y (seen c.args.reason) (seen_read c.read_years-in-None.result))
-    (one_less c.args.year c.ranges.year (omega (arith, ints))) c.read_years-in-None.ensures.said in
-    years-none greatest_year u c.args.year (seen c.args.reason) (seen_read c.read_years-in-None.result) c.args.count (omega arith) read later
+    let read = subst (λ (y : ℤ). IsReadInYear greatest_year u y (Err (seen c.in-Err.why))) (to_z-of_z w32 c.args.year c.ranges.year)
+    (c.in-Err.ensures.said) in
+    let later = subst (λ (y : ℤ). AreYearsTried greatest_year u (c.args.count - 1) y (seen c.in-Err.why) (seen_read c.read_years-in-Err.result))
+    (one_less c.args.year c.ranges.year (omega (arith, ints))) c.read_years-in-Err.ensures.said in
+    years-refused greatest_year u c.args.year (seen c.args.reason) (seen_read c.read_years-in-Err.result) c.args.count
+    (seen c.in-Err.why) (omega arith) read later

@@ -1,0 +1,124 @@
+//! Sums over texts of four moments that are written in turn.
+//!
+//! The day comes from outside, and the moments from an array, so that the compiler can do no part of a text once for all.
+
+use time_values::{Date, Month, OffsetDateTime, Time, UtcOffset};
+use time_writing::{FractionDigits, Text, Unwritable, text_2822, text_3339};
+
+// The moment, if there is one.
+fn moment(day: u8, nanosecond: u32, minutes: i8) -> Option<OffsetDateTime> {
+    let Ok(date) = Date::from_calendar_date(2021, Month::March, day) else {
+        return None;
+    };
+    let Ok(time) = Time::from_hms_nano(day, 4, 5, nanosecond) else {
+        return None;
+    };
+    let Ok(offset) = UtcOffset::from_hms(0, minutes, 0) else {
+        return None;
+    };
+    Some(OffsetDateTime::new_in_offset(date, time, offset))
+}
+
+// Four moments, if there are such.
+fn moments(day: u8, nanosecond: u32, minutes: i8) -> Option<[OffsetDateTime; 4]> {
+    let second = if day < 20 { day + 1 } else { day };
+    let third = if second < 20 { second + 1 } else { second };
+    let fourth = if third < 20 { third + 1 } else { third };
+    Some([
+        moment(day, nanosecond, minutes)?,
+        moment(second, nanosecond, minutes)?,
+        moment(third, nanosecond, minutes)?,
+        moment(fourth, nanosecond, minutes)?,
+    ])
+}
+
+// What a text adds to the sum. It is called, so that the whole text is written.
+#[inline(never)]
+fn weight(text: Result<Text, Unwritable>) -> i64 {
+    match text {
+        Ok(text) => i64::from(text.as_bytes().last().copied().unwrap_or(0)),
+        Err(_) => 1,
+    }
+}
+
+// The sum over so many texts of RFC 3339.
+#[inline(never)]
+fn sum(times: u64, values: &[OffsetDateTime; 4], digits: FractionDigits) -> i64 {
+    let mut sum = 0i64;
+    for time in 0..times {
+        let value = values[(time % 4) as usize];
+        sum = sum.wrapping_add(weight(text_3339(value, digits)));
+    }
+    sum
+}
+
+// The sum over so many mail dates.
+#[inline(never)]
+fn mail_sum(times: u64, values: &[OffsetDateTime; 4]) -> i64 {
+    let mut sum = 0i64;
+    for time in 0..times {
+        let value = values[(time % 4) as usize];
+        sum = sum.wrapping_add(weight(text_2822(value)));
+    }
+    sum
+}
+
+// The sum of seconds since 1970.
+#[inline(never)]
+fn second_sum(times: u64, values: &[OffsetDateTime; 4]) -> i64 {
+    let mut sum = 0i64;
+    for time in 0..times {
+        let value = values[(time % 4) as usize];
+        sum = sum.wrapping_add(value.unix_timestamp());
+    }
+    sum
+}
+
+// The sum of days alone: what loop and values cost.
+#[inline(never)]
+fn day_sum(times: u64, values: &[OffsetDateTime; 4]) -> i64 {
+    let mut sum = 0i64;
+    for time in 0..times {
+        let value = values[(time % 4) as usize];
+        sum = sum.wrapping_add(i64::from(value.date().day()));
+    }
+    sum
+}
+
+fn sum_by_name(name: &[u8], times: u64, day: u8) -> Option<i64> {
+    match name {
+        b"none" => Some(day_sum(times, &moments(day, 0, 0)?)),
+        b"mail" => Some(mail_sum(times, &moments(day, 0, 59)?)),
+        b"z" => Some(sum(times, &moments(day, 0, 0)?, FractionDigits::Auto)),
+        b"auto" => Some(sum(times, &moments(day, 520_000_000, 0)?, FractionDigits::Auto)),
+        b"nine" => Some(sum(
+            times,
+            &moments(day, 123_456_789, 59)?,
+            FractionDigits::Exactly(9),
+        )),
+        b"micro" => Some(sum(
+            times,
+            &moments(day, 123_456_789, 59)?,
+            FractionDigits::Exactly(6),
+        )),
+        b"behind" => Some(sum(
+            times,
+            &moments(day, 123_456_789, -59)?,
+            FractionDigits::Exactly(0),
+        )),
+        b"unix" => Some(second_sum(times, &moments(day, 123_456_789, 59)?)),
+        b"exact0" => Some(sum(
+            times,
+            &moments(day, 123_456_789, 59)?,
+            FractionDigits::Exactly(0),
+        )),
+        _ => None,
+    }
+}
+
+/// The sum over so many texts of that case, of moments on that day of a month, if there is such a case.
+pub fn sum_of(case: &str, times: &str, day: &str) -> Option<i64> {
+    let times = times.parse::<u64>().ok()?;
+    let day = day.parse::<u8>().ok()?;
+    sum_by_name(case.as_bytes(), times, day)
+}

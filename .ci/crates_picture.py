@@ -21,10 +21,10 @@ BOXES = {
     "time_describing": (2, 3, 2, "the text of a description"),
     "time_preparing": (2, 4, 0, "a description for many texts"),
     "time_locating": (2, 4, 1, "where a text goes wrong"),
-    "programs": (3, 5, 0, "texts parsed line by line", "time_answers", "time_lines", "time_parse"),
-    "restamp": (3, 5, 2.15, "times rewritten in lines", "time_cutting, time_restamping,", "time_rewriting, time_options,", "time_commanding, restamp"),
-    "C": (3, 5, 1.1, "C, Rust, Python and SQL", "time_ffi", "pelzaune"),
-    "tests and benches": (3, 5, 3.25, "stand on all of these", "time_tests_.., time_.._bench"),
+    "programs": (3, 5, 0, "texts parsed line by line", "programs_answers", "time_lines", "time_parse"),
+    "restamp": (3, 5, 2.15, "times rewritten in lines", "restamp_place, restamp_verdict,", "restamp_stream, restamp_options,", "restamp_command, restamp"),
+    "C": (3, 5, 1.1, "C, Rust, Python and SQL", "pelzaune_ffi", "pelzaune"),
+    "tests and benches": (3, 5, 3.25, "stand on all of these", "time_tests_.., restamp_tests", "time_bench"),
 }
 # The lines, each with the column of the way up that it takes past other rows, if it passes some.
 LINES = [
@@ -38,13 +38,13 @@ LINES = [
     ("time_formatting", "restamp", 3.0), ("programs", "C", None),
 ]
 WIDE, HIGH, STEP, PITCH, LEFT, SMALL = 204, 30, 244, 112, 30, 6.1
-MEMBERS = {"programs": ("time_answers", "time_lines", "time_parse"), "C": ("time_ffi", "pelzaune"),
-           "restamp": ("time_cutting", "time_rewriting", "time_restamping", "time_options", "time_commanding", "restamp")}
+MEMBERS = {"programs": ("programs_answers", "time_lines", "time_parse"), "C": ("pelzaune_ffi", "pelzaune"),
+           "restamp": ("restamp_place", "restamp_stream", "restamp_verdict", "restamp_options", "restamp_command", "restamp")}
 
 
 def box_of(crate):
     """The box in which a crate stands."""
-    if "_tests" in crate or crate.endswith("bench"):
+    if "_tests" in crate or crate == "time_bench":
         return "tests and benches"
     return next((box for box, crates in MEMBERS.items() if crate in crates), crate)
 

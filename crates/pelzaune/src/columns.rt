@@ -1,14 +1,14 @@
 //! Columns: the lines of a text, each as the nanoseconds of its moment.
 ghost use Rattle.std.specs.Prelude.{◌≡◌, length};
-ghost use Rattle.time_answers.specs.Lines.{lines_of};
-ghost use Rattle.time_ffi.specs.Columns.{IsColumn};
-ghost use Rattle.time_ffi.specs.Described as Described;
-ghost use Rattle.time_ffi.specs.Described.{HandsRead};
-ghost use Rattle.time_ffi.specs.Formats as Formats;
-ghost use Rattle.time_ffi.specs.Handed.{HandsCount, IsCountHanded, of_moment};
+ghost use Rattle.programs_answers.specs.Lines.{lines_of};
+ghost use Rattle.pelzaune_ffi.specs.Columns.{IsColumn};
+ghost use Rattle.pelzaune_ffi.specs.Described as Described;
+ghost use Rattle.pelzaune_ffi.specs.Described.{HandsRead};
+ghost use Rattle.pelzaune_ffi.specs.Formats as Formats;
+ghost use Rattle.pelzaune_ffi.specs.Handed.{HandsCount, IsCountHanded, of_moment};
 
-use time_ffi::columns::{column_by, column_read};
-use time_ffi::parts::Nanoseconds;
+use pelzaune_ffi::columns::{column_by, column_read};
+use pelzaune_ffi::parts::Nanoseconds;
 
 /// Parses each line of a text by the format of that number, into the nanoseconds from 1970-01-01T00:00:00Z to its instant:
 /// as many lines as there are entries. The entry of a line that is refused is `i64::MIN`, and `refused` is how many of

@@ -2,16 +2,16 @@
 ghost use Rattle.std.specs.Prelude.{◌≡◌, length};
 ghost use Rattle.time_values.specs.Range.{greatest_year};
 ghost use Rattle.time_record.specs.Resolution.{IsDated, IsTimed, IsOffset, IsPlain, IsUtcMoment};
-ghost use Rattle.time_answers.specs.Lines.{lines_of};
-ghost use Rattle.time_ffi.specs.Columns.{IsColumn};
-ghost use Rattle.time_ffi.specs.Handed.{IsHanded, IsCountHanded, ArePartsHanded, HasDate, HasTime, HasOffset, HasPlain, HasUtc, HasMoment, HasInstant, over_empty, of_record, of_moment};
-ghost use Rattle.time_ffi.specs.Described as Described;
-ghost use Rattle.time_ffi.specs.Held.{HandsHeld, Holds};
+ghost use Rattle.programs_answers.specs.Lines.{lines_of};
+ghost use Rattle.pelzaune_ffi.specs.Columns.{IsColumn};
+ghost use Rattle.pelzaune_ffi.specs.Handed.{IsHanded, IsCountHanded, ArePartsHanded, HasDate, HasTime, HasOffset, HasPlain, HasUtc, HasMoment, HasInstant, over_empty, of_record, of_moment};
+ghost use Rattle.pelzaune_ffi.specs.Described as Described;
+ghost use Rattle.pelzaune_ffi.specs.Held.{HandsHeld, Holds};
 
-use time_ffi::columns::column;
-use time_ffi::handing::{count, hand, parts};
-use time_ffi::held::{HeldDescription, describe};
-use time_ffi::parts::{
+use pelzaune_ffi::columns::column;
+use pelzaune_ffi::handing::{count, hand, parts};
+use pelzaune_ffi::held::{HeldDescription, describe};
+use pelzaune_ffi::parts::{
     DateParts, Instant, LocalParts, MomentParts, Nanoseconds, OffsetParts, Parts, TimeParts,
 };
 use time_values::{Date, OffsetDateTime, PlainDateTime, Time, UtcDateTime, UtcOffset};

@@ -7,24 +7,24 @@
 ghost use Rattle.std.specs.Prelude.{◌≡◌, length};
 ghost use Rattle.time_values.specs.Range.{greatest_year};
 ghost use Rattle.time_record.specs.Resolution.{IsDated, IsTimed, IsOffset, IsPlain, IsUtcMoment};
-ghost use Rattle.time_ffi.specs.Described.{Checks, HandsRead, syntax_of};
-ghost use Rattle.time_ffi.specs.Formats.{format_of};
-ghost use Rattle.time_ffi.specs.Handed.{Hands, HandsCount, HandsParts, IsHanded, IsCountHanded, ArePartsHanded, HasDate, HasTime, HasOffset, HasPlain, HasUtc, HasMoment, HasInstant, over_empty, of_record, of_moment};
-ghost use Rattle.time_ffi.specs.Status.{laid_over, status_text};
-ghost use Rattle.time_ffi.specs.Written.{HandsText};
+ghost use Rattle.pelzaune_ffi.specs.Described.{Checks, HandsRead, syntax_of};
+ghost use Rattle.pelzaune_ffi.specs.Formats.{format_of};
+ghost use Rattle.pelzaune_ffi.specs.Handed.{Hands, HandsCount, HandsParts, IsHanded, IsCountHanded, ArePartsHanded, HasDate, HasTime, HasOffset, HasPlain, HasUtc, HasMoment, HasInstant, over_empty, of_record, of_moment};
+ghost use Rattle.pelzaune_ffi.specs.Status.{laid_over, status_text};
+ghost use Rattle.pelzaune_ffi.specs.Written.{HandsText};
 
 mod columns;
 mod described;
 mod locating;
 
-use time_ffi::descriptions::check;
-use time_ffi::handing::{count_read, hand_by, hand_read, parts_by, parts_read};
-use time_ffi::moments::{count_by, local_by, moment_by};
-use time_ffi::parts::{
+use pelzaune_ffi::descriptions::check;
+use pelzaune_ffi::handing::{count_read, hand_by, hand_read, parts_by, parts_read};
+use pelzaune_ffi::moments::{count_by, local_by, moment_by};
+use pelzaune_ffi::parts::{
     DateParts, Instant, LocalParts, MomentParts, Nanoseconds, OffsetParts, Parts, TimeParts,
 };
-use time_ffi::text::{lay, pieces_of};
-use time_ffi::writing::format_moment;
+use pelzaune_ffi::text::{lay, pieces_of};
+use pelzaune_ffi::writing::format_moment;
 use time_values::{Date, OffsetDateTime, PlainDateTime, Time, UtcDateTime, UtcOffset};
 
 /// The version of this interface, which `PELZAUNE_VERSION` of the header names too: 256 times its major number, and its

@@ -1,9 +1,9 @@
 //! Where a text that is refused goes wrong.
-ghost use Rattle.time_ffi.specs.Described as Described;
-ghost use Rattle.time_ffi.specs.Formats as Formats;
-ghost use Rattle.time_ffi.specs.Places.{HandsPlace, HandsReadPlace};
+ghost use Rattle.pelzaune_ffi.specs.Described as Described;
+ghost use Rattle.pelzaune_ffi.specs.Formats as Formats;
+ghost use Rattle.pelzaune_ffi.specs.Places.{HandsPlace, HandsReadPlace};
 
-use time_ffi::locating::{Place, locate_by, locate_read};
+use pelzaune_ffi::locating::{Place, locate_by, locate_read};
 
 /// Hands over the place at which a text that the format of that number refuses goes wrong. The status says what was
 /// expected there, as the refusal of a text does. It is 0 where the whole text is read, and then `out` is unchanged.

@@ -1,7 +1,7 @@
 -- How far a file was read, and how that is told.
 use Rattle.std.specs.Prelude.{◌≡◌, ℕ, ◌-◌, ◌/◌, ◌^◌, ◌≤◌, ◌<◌, List, ◌++◌, codes, length, drop, IsCharBoundary, Option, None, Some}
 use Rattle.std.specs.Fmt.{decimal}
-use Rattle.time_rewriting.specs.Names.{shown_name}
+use Rattle.restamp_stream.specs.Names.{shown_name}
 use Rattle.restamp.specs.declared.progress.Telling.{Telling}
 use Rattle.restamp.specs.declared.progress.Telling.TheVariants.{Nothing, Lines, OneLine}
 

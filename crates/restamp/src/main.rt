@@ -12,13 +12,13 @@ use completions::completions_of;
 use opening::Disk;
 use output::{Erasing, Watched};
 use progress::{Progress, Telling};
+use restamp_command::{Fault, Request, serve};
+use restamp_options::{Options, make_command};
+use restamp_stream::{Block, Stop, Stream, status};
 use std::alloc::AllocError;
 use std::io::{BufWriter, ErrorKind, IsTerminal, Write};
 use std::process::ExitCode;
 use std::{env, io};
-use time_commanding::{Fault, Request, serve};
-use time_options::{Options, make_command};
-use time_rewriting::{Block, Stop, Stream, status};
 use words::words_of;
 
 // The names of the files, or that of standard input where none is given.

@@ -1,11 +1,11 @@
 //! Files and standard input, by their names.
 use crate::progress::{Meter, Progress};
+use restamp_stream::Opening;
 use std::fs::{Metadata, OpenFile};
 use std::io::Read;
 use std::rt::Files;
 use std::time::Clock;
 use std::{fs, io};
-use time_rewriting::Opening;
 
 /// The files of a system. The name `-` is standard input.
 #[derive(Drop)]

@@ -1,14 +1,14 @@
 //! How far a long file was read, on standard error.
 ghost use Rattle.std.specs.Prelude.{◌≡◌, ◌≤◌, ◌+◌, ◌-◌, ◌^◌, ◌↔◌, min, length, IsTrue, IfSome, Some, string_bytes};
 ghost use Rattle.std.specs.Time.{instant_nanos};
-ghost use Rattle.time_rewriting.specs.Names.{shown_name};
+ghost use Rattle.restamp_stream.specs.Names.{shown_name};
 ghost use Rattle.restamp.specs.Progress as spec;
 
+use restamp_stream::write_name;
 use std::alloc::Global;
 use std::cell::Cell;
 use std::fmt;
 use std::time::{Clock, Duration, Instant};
-use time_rewriting::write_name;
 
 /// How many milliseconds old a line is at least when the next is told.
 const INTERVAL: u64 = 500;

@@ -3,10 +3,10 @@ ghost use Rattle.std.specs.Io.KnownBytes.{Appends};
 ghost use Rattle.std.specs.Prelude.{OnOk};
 ghost use Rattle.restamp.specs.Words.{unread_text};
 
+use restamp_stream::write_shown;
 use std::env::{Env, FillError};
 use std::io::{ErrorKind, Write};
 use std::{env, io};
-use time_rewriting::write_shown;
 
 // How many bytes of a word there is room for, at first and then. Linux takes no word of more.
 static ROOM: [usize; 2] = [4096, 131072];

@@ -2,7 +2,7 @@
 use Rattle.std.proofs.Common.{◌≡◌, ℕ, zero, suc, ◌+◌, ◌<◌, List, [], ◌∷◌, length, get_or, take, drop, refl, ap, arith, ◌∙◌, None, Some}
 use Rattle.std.specs.Option.{option_map}
 use Rattle.std.proofs.lemmas.Bool.Decides.{nat_tests}
-use Rattle.time_answers.proofs.LinesLemmas.{drop_more}
+use Rattle.programs_answers.proofs.LinesLemmas.{drop_more}
 use Rattle.time_lines.specs.Lines.{cut_at_tab}
 
 at_tab : (x : ℕ) (xs : List ℕ) → x ≡ 9 → cut_at_tab (x ∷ xs) ≡ Some ([], xs)

@@ -2,8 +2,8 @@
 use Rattle.std.proofs.Common.{ℕ, List, None, Some, Option}
 use Rattle.std.specs.Option.{MatchOption}
 use Rattle.time_values.specs.Range.{greatest_year}
-use Rattle.time_answers.specs.Formats.{format_named, target_named}
-use Rattle.time_answers.proofs.OneAnswer.{OneText, IsThat-one, IsParsed-one}
+use Rattle.programs_answers.specs.Formats.{format_named, target_named}
+use Rattle.programs_answers.proofs.OneAnswer.{OneText, IsThat-one, IsParsed-one}
 use Rattle.time_lines.specs.Lines.{fields_of}
 use Rattle.time_lines.specs.Output.{IsAnswer}
 

@@ -1,9 +1,9 @@
 -- Lines of known names. `Y` is the greatest year.
 use Rattle.std.proofs.Common.{◌≡◌, ℕ, List, refl, ap, ◌∙◌, Option, None, Some, MatchOption}
-use Rattle.time_answers.specs.declared.formats.Format.{Format}
-use Rattle.time_answers.specs.declared.formats.Target.{Target}
-use Rattle.time_answers.specs.Formats.{format_named, target_named}
-use Rattle.time_answers.specs.Output.{IsParsed}
+use Rattle.programs_answers.specs.declared.formats.Format.{Format}
+use Rattle.programs_answers.specs.declared.formats.Target.{Target}
+use Rattle.programs_answers.specs.Formats.{format_named, target_named}
+use Rattle.programs_answers.specs.Output.{IsParsed}
 use Rattle.time_lines.specs.Lines.{cut_at_tab}
 use Rattle.time_lines.specs.Pieces.{BeginsNamed}
 use Rattle.time_lines.specs.Output.{IsAnswer}

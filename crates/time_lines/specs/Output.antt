@@ -1,8 +1,8 @@
 -- What is written for an input. `Y` is the greatest year.
 use Rattle.std.specs.Prelude.{◌≡◌, ℕ, List, codes, Option, MatchOption}
-use Rattle.time_answers.specs.Formats.{format_named, target_named}
-use Rattle.time_answers.specs.Output.{IsParsed}
-use Rattle.time_answers.specs.Output as output
+use Rattle.programs_answers.specs.Formats.{format_named, target_named}
+use Rattle.programs_answers.specs.Output.{IsParsed}
+use Rattle.programs_answers.specs.Output as output
 use Rattle.time_lines.specs.Lines.{fields_of}
 
 -- The answer to a line: the outcome of its text, or what is wrong with the line. A missing field is reported before

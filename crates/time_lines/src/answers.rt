@@ -4,15 +4,15 @@
 //! without it each line has the same answer, in more steps.
 ghost use Rattle.std.specs.Prelude.{ℕ, List, OnOk, MatchResult};
 ghost use Rattle.time_values.specs.Range.{greatest_year};
-ghost use Rattle.time_answers.specs.Output.{IsParsed, Writes};
+ghost use Rattle.programs_answers.specs.Output.{IsParsed, Writes};
 ghost use Rattle.time_lines.specs.Output.{IsAnswer};
 
 mod fast;
 
 use crate::cuts::cut_tab;
+use programs_answers::formats::{Format, Target, find_format, find_target};
+use programs_answers::{Answering, Named, Unwritten};
 use std::io::Write;
-use time_answers::formats::{Format, Target, find_format, find_target};
-use time_answers::{Answering, Named, Unwritten};
 
 // What a line asks for: a format, a target and a text; or else what is wrong with it.
 type Request<'a> = Result<(Format, Target, &'a [u8]), &'static [u8]>;

@@ -1,14 +1,14 @@
 //! Answers whole inputs.
 ghost use Rattle.std.specs.Prelude.{◌≡◌, OnOk, IfSome};
 ghost use Rattle.time_values.specs.Range.{greatest_year};
-ghost use Rattle.time_answers.specs.declared.serving.Stop.TheVariants as Stop;
+ghost use Rattle.programs_answers.specs.declared.serving.Stop.TheVariants as Stop;
 ghost use Rattle.time_lines.specs.Output.{WritesAnswers};
 
 use crate::answers::Fields;
+use programs_answers::Stop;
 use std::alloc::{Allocator, Global};
 use std::io;
 use std::io::{Read, Write};
-use time_answers::Stop;
 
 /// Writes the answer to each line of the input, and allocates nothing.
 ///
@@ -17,7 +17,7 @@ use time_answers::Stop;
 pub fn run<W: Write>(input: &[u8], out: &mut W) -> io::Result<()>
     ensures { OnOk result (WritesAnswers greatest_year (W.contents out.old) (W.contents out.new) input.now) }
 {
-    time_answers::run(&Fields::new(), input, out)
+    programs_answers::run(&Fields::new(), input, out)
 }
 
 /// Reads the input to its end, with 4294967296 reads at most, and writes the answer to each of its
@@ -45,5 +45,5 @@ pub(crate) fn serve_in<R: Read, W: Write, A: Allocator>(
     ensures unread { result ≡ Err Stop.Unread → out.new ≡ out.old }
     ensures memory { result ≡ Err Stop.Memory → out.new ≡ out.old }
 {
-    time_answers::serve(&Fields::new(), alloc, input, out)
+    programs_answers::serve(&Fields::new(), alloc, input, out)
 }

@@ -1,12 +1,12 @@
 //! Lines and their answers, and what becomes of a read, a write or a growth that fails.
 use crate::serving::{run, serve, serve_in};
 use linked_list_allocator::LocalHeap;
+use programs_answers::Stop;
 use std::alloc::{AllocError, Global};
 use std::io;
 use std::io::{ErrorKind, Read, Write};
 use std::ops::Range;
 use std::process::Abort;
-use time_answers::Stop;
 
 mod hostile;
 mod whole_parses;

@@ -28,13 +28,13 @@ use Rattle.time_locating.specs.exact.MissLaws.{tree_exact_place}
 use Rattle.time_locating.specs.exact.Rfc2822Laws.{rfc2822_exact_mark, rfc2822_exact_place}
 use Rattle.time_locating.specs.exact.Rfc3339Laws.{rfc3339_exact_mark, rfc3339_exact_place}
 use Rattle.time_locating.proofs.PlaceLemmas.{one_answer, one_index}
-use Rattle.time_answers.specs.Formats.{clock, local, unix, ymd}
-use Rattle.time_answers.specs.declared.formats.Format.{Format}
-use Rattle.time_answers.specs.declared.formats.Format.TheVariants as format
-use Rattle.time_answers.specs.Output as output
-use Rattle.time_answers.specs.declared.formats.Target.{Target}
-use Rattle.time_answers.specs.declared.formats.Target.TheVariants as target
-use Rattle.time_answers.proofs.OneAnswer.{OneText, IsDescribed-one, IsParsed-one, WritesAnswers-one}
+use Rattle.programs_answers.specs.Formats.{clock, local, unix, ymd}
+use Rattle.programs_answers.specs.declared.formats.Format.{Format}
+use Rattle.programs_answers.specs.declared.formats.Format.TheVariants as format
+use Rattle.programs_answers.specs.Output as output
+use Rattle.programs_answers.specs.declared.formats.Target.{Target}
+use Rattle.programs_answers.specs.declared.formats.Target.TheVariants as target
+use Rattle.programs_answers.proofs.OneAnswer.{OneText, IsDescribed-one, IsParsed-one, WritesAnswers-one}
 use Rattle.time_parse.specs.Laws.{OneMeaning, OneWriting}
 use Rattle.time_parse.specs.Place.{IsAnswerAsked, IsErrorPlace, IsNamedPlace, IsPlace, IsPlaceBy, IsPlacedAnswer, IsRefusal, IsRefusalFor, IsTreePlace, index_text, place_text, refusal_in}
 use Rattle.time_parse.specs.Request.{IsAnswer, MeansBy, MeansTree, Meaning, named, described, number_of, writing_of}

@@ -12,8 +12,8 @@ use Rattle.time_parsing.specs.Outcome.{Path, Reading, Refusing}
 use Rattle.time_locating.specs.Located.{IsErrorAt, IsLocated, Locating, Marking, seen_place, wants}
 use Rattle.time_locating.specs.Misses.{all_bytes}
 use Rattle.time_locating.specs.declared.located.Located.{Located}
-use Rattle.time_answers.specs.Output.{Writes}
-use Rattle.time_answers.specs.declared.formats.Target.{Target}
+use Rattle.programs_answers.specs.Output.{Writes}
+use Rattle.programs_answers.specs.declared.formats.Target.{Target}
 use Rattle.time_parse.specs.Place.{IsErrorPlace, IsPlace, IsRefusalFor, IsTreePlace, expected_text, index_text, place_text}
 use Rattle.time_parse.specs.Fault.{shown}
 

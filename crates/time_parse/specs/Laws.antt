@@ -1,6 +1,6 @@
 -- Laws of answers. `Y` is the greatest year.
 use Rattle.std.specs.Prelude.{◌≡◌, ℕ, List, Bool, Some}
-use Rattle.time_answers.specs.declared.formats.Target.{Target}
+use Rattle.programs_answers.specs.declared.formats.Target.{Target}
 use Rattle.time_parse.specs.Place.{IsAnswerAsked, WritesAnswers}
 use Rattle.time_parse.specs.Request.{Means, Meaning}
 use Rattle.time_parse.specs.declared.request.Version.{Version}

@@ -20,12 +20,12 @@ use Rattle.time_locating.specs.Misses.{LocatesTree, Miss, Telling, Wanted, all_b
 use Rattle.time_locating.specs.Rfc2822 as located_mail
 use Rattle.time_locating.specs.Rfc3339 as located_rfc3339
 use Rattle.time_locating.specs.declared.located.Located.{Located}
-use Rattle.time_answers.specs.Formats.{ymd, clock, unix, local, target_named}
-use Rattle.time_answers.specs.Output as output
-use Rattle.time_answers.specs.declared.formats.Format.{Format}
-use Rattle.time_answers.specs.declared.formats.Format.TheVariants as format
-use Rattle.time_answers.specs.declared.formats.Target.{Target}
-use Rattle.time_answers.specs.declared.formats.Target.TheVariants as target
+use Rattle.programs_answers.specs.Formats.{ymd, clock, unix, local, target_named}
+use Rattle.programs_answers.specs.Output as output
+use Rattle.programs_answers.specs.declared.formats.Format.{Format}
+use Rattle.programs_answers.specs.declared.formats.Format.TheVariants as format
+use Rattle.programs_answers.specs.declared.formats.Target.{Target}
+use Rattle.programs_answers.specs.declared.formats.Target.TheVariants as target
 use Rattle.time_parse.specs.Fault.{shown}
 use Rattle.time_parse.specs.Request as request
 use Rattle.time_parse.specs.Request.{IsAnswer, Meaning, Means}

@@ -7,10 +7,10 @@ use Rattle.time_descriptions.specs.Description.{IsRefused, version_of}
 use Rattle.time_descriptions.specs.Grammar.{Describes, by_option}
 use Rattle.time_descriptions.specs.Refusal.{Refusal}
 use Rattle.time_descriptions.specs.Strftime.{DescribesStrftime, IsRefusedStrftime}
-use Rattle.time_answers.specs.Formats.{format_named, target_named}
-use Rattle.time_answers.specs.Output.{IsDescribed, IsParsed}
-use Rattle.time_answers.specs.declared.formats.Format.{Format}
-use Rattle.time_answers.specs.declared.formats.Target.{Target}
+use Rattle.programs_answers.specs.Formats.{format_named, target_named}
+use Rattle.programs_answers.specs.Output.{IsDescribed, IsParsed}
+use Rattle.programs_answers.specs.declared.formats.Format.{Format}
+use Rattle.programs_answers.specs.declared.formats.Target.{Target}
 use Rattle.time_parse.specs.Fault.{Reason, unknown_format, faulty, unknown_target}
 use Rattle.time_parse.specs.declared.request.TheConstants.{MOST_STEPS}
 use Rattle.time_parse.specs.declared.request.Chosen.{Chosen}

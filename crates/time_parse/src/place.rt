@@ -5,22 +5,22 @@ ghost use Rattle.std.specs.Option.{option_map};
 ghost use Rattle.time_values.specs.Range.{greatest_year};
 ghost use Rattle.time_values.specs.Refusal.{refusal_of};
 ghost use Rattle.time_parsing.specs.Outcome.{seen};
-ghost use Rattle.time_answers.specs.Output.{Writes};
+ghost use Rattle.programs_answers.specs.Output.{Writes};
 ghost use Rattle.time_locating.specs.Located.{wants};
 ghost use Rattle.time_locating.specs.Misses.{all_bytes};
-ghost use Rattle.time_answers.specs.Formats as formats;
+ghost use Rattle.programs_answers.specs.Formats as formats;
 ghost use Rattle.time_parse.specs.Fault as fault;
 ghost use Rattle.time_parse.specs.Place.{IsErrorPlace, IsNamedPlace, IsPlace, IsPlaceBy, IsPlacedAnswer, IsRefusalFor, IsTreePlace, expected_text, index_text, refusal_in};
 ghost use Rattle.time_parse.specs.Request.{meaning_of};
 
 use crate::fault::shown;
 use crate::request::{Chosen, Request};
-use std::io::Write;
-use time_answers::formats::{
+use programs_answers::formats::{
     Format, Target, clock_items, compound, date_items, first, fraction_items, local_items,
     second_items, unix,
 };
-use time_answers::{Answering, Unwritten};
+use programs_answers::{Answering, Unwritten};
+use std::io::Write;
 use time_locating::{Expected, Locate, locate_error};
 use time_parsing::{Iso8601, Parsable, Rfc2822, Rfc3339};
 use time_record::Parsed;

@@ -5,14 +5,14 @@ ghost use Rattle.time_descriptions.specs.Description.{IsRefused, shape, version_
 ghost use Rattle.time_descriptions.specs.Grammar.{Describes};
 ghost use Rattle.time_descriptions.specs.Refusal.{refusal_of};
 ghost use Rattle.time_descriptions.specs.Strftime.{DescribesStrftime, IsRefusedStrftime};
-ghost use Rattle.time_answers.specs.Formats.{target_named};
+ghost use Rattle.programs_answers.specs.Formats.{target_named};
 ghost use Rattle.time_parse.specs.Fault.{reason_of};
 ghost use Rattle.time_parse.specs.Request.{IsAnswer, IsFault, IsFaultBy, IsFaulty, Means, MeansTree, meaning_of, number_of, writing_of};
 
 use crate::fault::Fault;
+use programs_answers::formats::{Format, Target, find_format, find_target};
+use programs_answers::{Answering, Named, Unwritten, write_value};
 use std::io::Write;
-use time_answers::formats::{Format, Target, find_format, find_target};
-use time_answers::{Answering, Named, Unwritten, write_value};
 use time_descriptions::{Description, InvalidFormatDescription, parse_borrowed, parse_strftime};
 use time_preparing::Prepared;
 

@@ -1,7 +1,7 @@
 //! Answers whole inputs.
 ghost use Rattle.std.specs.Prelude.{◌≡◌, OnOk, IfSome};
 ghost use Rattle.time_values.specs.Range.{greatest_year};
-ghost use Rattle.time_answers.specs.declared.serving.Stop.TheVariants as Stop;
+ghost use Rattle.programs_answers.specs.declared.serving.Stop.TheVariants as Stop;
 ghost use Rattle.time_parse.specs.Fault.{reason_of};
 ghost use Rattle.time_parse.specs.Place.{WritesAnswers};
 ghost use Rattle.time_parse.specs.Request.{IsFault};
@@ -12,9 +12,9 @@ use crate::arguments::Question;
 use crate::fault::Fault;
 use crate::place::Placing;
 use crate::request::Request;
+use programs_answers::Stop;
 use std::alloc::Global;
 use std::io::{Read, Write};
-use time_answers::Stop;
 
 /// Why the program stopped before its end.
 #[derive(Clone, Copy)]
@@ -50,12 +50,12 @@ pub fn serve<'a, R: Read, W: Write>(
         Err(fault) => return Err(Failure::Asked(fault)),
     };
     if question.tells_places {
-        return match time_answers::serve(&Placing { request }, alloc, input, out) {
+        return match programs_answers::serve(&Placing { request }, alloc, input, out) {
             Ok(()) => Ok(()),
             Err(stop) => Err(Failure::Stopped(stop)),
         };
     }
-    match time_answers::serve(&request, alloc, input, out) {
+    match programs_answers::serve(&request, alloc, input, out) {
         Ok(()) => Ok(()),
         Err(stop) => Err(Failure::Stopped(stop)),
     }

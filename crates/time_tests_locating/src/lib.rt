@@ -1,5 +1,7 @@
-//! Tests of where texts are refused.
+//! Tests of prepared descriptions, and of where texts are refused.
 #![tactic(auto)]
 
 #[cfg(test)]
-mod tests;
+mod locating;
+#[cfg(test)]
+mod preparing;

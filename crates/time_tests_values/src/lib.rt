@@ -1,5 +1,7 @@
-//! Tests of months, dates, times, offsets, moments and errors.
+//! Tests of values and errors, and of the readers of digits, components and the parts of ISO 8601.
 #![tactic(auto)]
 
 #[cfg(test)]
-mod tests;
+mod components;
+#[cfg(test)]
+mod values;

@@ -3,12 +3,12 @@
 //! What `request` answers is what `cut_request` finds, field by field. `None`: not this form.
 ghost use Rattle.std.specs.Prelude.{◌≡◌, ℕ, List, ◌++◌, IfSome};
 ghost use Rattle.time_values.specs.Range.{greatest_year};
-ghost use Rattle.time_answers.specs.Formats as formats;
-ghost use Rattle.time_answers.specs.Output.{IsParsed};
+ghost use Rattle.programs_answers.specs.Formats as formats;
+ghost use Rattle.programs_answers.specs.Output.{IsParsed};
 ghost use Rattle.time_lines.specs.Pieces.{BeginsNamed};
 ghost use Rattle.time_lines.specs.Output.{IsAnswer};
 
-use time_answers::formats::{Format, Target};
+use programs_answers::formats::{Format, Target};
 
 // What stands after a name and TAB that the bytes begin with. `None`: not this form.
 #[inline(always)]

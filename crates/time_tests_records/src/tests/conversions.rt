@@ -1,7 +1,7 @@
 //! The conversions of a record to the seven types of value.
+use crate::fields::{Field, record_of};
 use std::convert::TryFrom;
 use time_record::Parsed;
-use time_tests_fields::{Field, record_of};
 use time_values::error::{ComponentRange, TryFromParsed};
 use time_values::{
     Date, Month, OffsetDateTime, PlainDateTime, Time, Timestamp, UtcDateTime, UtcOffset,

@@ -1,4 +1,5 @@
 //! Components and descriptions, read into a record.
+use crate::fields::{Field, record_of, same};
 use kinds::{Cased, Indexed, Kind, Padded, Signed, Timestamp, component};
 use std::alloc::Global;
 use std::num::NonZero;
@@ -7,7 +8,6 @@ use time_readers::{
     modifier,
 };
 use time_record::{AnyFormatItem, Parsed};
-use time_tests_fields::{Field, record_of, same};
 use time_values::error::ParseFromDescription;
 
 macro_rules! padded {

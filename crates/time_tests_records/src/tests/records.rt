@@ -1,7 +1,7 @@
 //! The record of what was read: its options, their ranges, setters and builders.
+use crate::fields::{Field, RANGES, get, set, with};
 use std::num::NonZero;
 use time_record::Parsed;
-use time_tests_fields::{Field, RANGES, get, set, with};
 
 // A second of 60 is put, and none past it.
 fn holds_a_leap_second() -> bool {

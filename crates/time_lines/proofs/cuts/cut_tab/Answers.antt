@@ -1,5 +1,5 @@
 use Rattle.std.proofs.Common.{◌+◌, sym, arith}
-use Rattle.time_answers.proofs.LinesLemmas.{tail_range}
+use Rattle.programs_answers.proofs.LinesLemmas.{tail_range}
 use Rattle.time_lines.proofs.LinesLemmas.{cut_at_tab-found, cut_at_tab-none}
 use Rattle.time_lines.proofs.cuts.cut_tab.Goals as goal
 

@@ -1,9 +1,9 @@
 use Rattle.std.specs.Prelude.{◌≡◌, Option, None, Some, IfSome}
 use Rattle.std.proofs.Common.{Bool, true, false, ℕ, List, subst, sym}
 use Rattle.time_values.specs.Range.{greatest_year}
-use Rattle.time_answers.specs.Formats.{target_named}
-use Rattle.time_answers.specs.Output as output
-use Rattle.time_answers.specs.declared.formats.Target.{Target}
+use Rattle.programs_answers.specs.Formats.{target_named}
+use Rattle.programs_answers.specs.Output as output
+use Rattle.programs_answers.specs.declared.formats.Target.{Target}
 use Rattle.time_parse.specs.Place.{IsAnswerAsked, WritesAnswers}
 use Rattle.time_parse.specs.Request.{Means, Meaning, meaning_of}
 use Rattle.time_parse.specs.declared.request.Version.{Version}

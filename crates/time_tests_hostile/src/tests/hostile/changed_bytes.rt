@@ -4,7 +4,7 @@ use std::alloc::{AllocError, Global};
 use std::ops::Range;
 use time_parsing::{Parsable, Rfc2822, Rfc3339};
 use time_record::Parsed;
-use time_tests_fields::same;
+use time_tests_records::fields::same;
 use time_values::Month;
 
 static STAMPS: [&[u8]; 10] = [

@@ -1,11 +1,11 @@
 //! Each component at the first and the last value of its range, and under each padding.
 use super::kinds::{Cased, Indexed, Kind, Padded, Signed, Timestamp};
 use super::{Held, Row, reads};
+use crate::fields::Field;
 use time_readers::{
     BorrowedFormatItem, Component, OwnedFormatItem, Padding, SubsecondDigits, modifier,
 };
 use time_record::{AnyFormatItem, Parsed};
-use time_tests_fields::Field;
 
 macro_rules! century {
     ($century:expr, $is_negative:expr) => {

@@ -3,9 +3,9 @@ use super::{
     HALF_PAST, HOUR, Held, MARCH_AT_NOON, MINUTE, NO_HOUR, NO_IGNORED, NO_LITERAL, NOON, NOTHING,
     Seen, Tree, ignore, records,
 };
+use crate::fields::same;
 use std::alloc::Global;
 use time_readers::FormatDescriptionV3Inner;
-use time_tests_fields::same;
 
 fn v3_clock(alloc: Global) -> Option<FormatDescriptionV3Inner<'static>> {
     let items = [

@@ -1,9 +1,9 @@
 //! Years of more than four digits.
 use super::kinds::{Kind, Signed, Timestamp};
 use super::{Held, NOTHING, Row, Seen, item_sees, reads};
+use crate::fields::Field;
 use time_readers::{BorrowedFormatItem, Component, Padding, modifier};
 use time_record::Parsed;
-use time_tests_fields::Field;
 
 static COMPONENTS: [Row; 12] = [
     (

@@ -1,0 +1,35 @@
+use Rattle.std.proofs.Common.{◌≡◌, ◌+◌, ◌≤◌, ◌⊎◌, inl, inr, length, take, drop, slice_set, [], sym, ◌∙◌, arith}
+use Rattle.std.proofs.lemmas.Grind.{common_steps}
+use Rattle.programs_answers.specs.Lines.{lines_of}
+use Rattle.pelzaune_ffi.specs.Columns as spec
+use Rattle.pelzaune_ffi.proofs.ColumnLemmas.{Ends, Ends-more, Ends-all, no_lines}
+use Rattle.pelzaune_ffi.proofs.columns.column.Goals as goal
+use Rattle.pelzaune_ffi.proofs.columns.column.Goals.{then-loop-index-test+else-not-is_empty, else-loop-index-test}
+
+pub loop-index-preserved : goal.loop-index-preserved
+loop-index-preserved g c =
+    let so_far = c.loop-index.invariant in
+    let cut = c.first_line.ensures.line in
+    let left : Ends (g.C.Count.hands c.args.counting.now) (lines_of c.args.text.now) c.args.entries.now
+    (lines_of c.first_line.result.1.now)
+    (drop (c.loop-index.index + 1) (slice_set c.loop-index.entries c.loop-index.index c.count_line.new.entry))
+    (take (c.loop-index.index + 1) (slice_set c.loop-index.entries c.loop-index.index c.count_line.new.entry))
+    (c.loop-index.without + spec.one_if_refused c.count_line.result) =
+    Ends-more (g.C.Count.hands c.args.counting.now) (lines_of c.args.text.now) c.args.entries.now c.loop-index.entries
+    c.first_line.result.0.now (lines_of c.first_line.result.1.now) c.loop-index.index c.count_line.result c.loop-index.without
+    c.count_line.new.entry c.loop-index-test.true c.count_line.ensures (rw cut at so_far.4) in (
+      grind (arith, common_steps, c.loop-index-test.true),
+      omega (arith, so_far.1, c.one_if_refused-without.ensures.bound),
+      grind (arith, common_steps, cut, so_far.2),
+      omega (arith, so_far.3, c.first_line.ensures.shorter),
+      rw c.one_if_refused-without.ensures.one left,
+    )
+
+pub returns-clause-entries : goal.returns-clause-entries
+returns-clause-entries g c =
+    let ended : (length c.loop-index.entries ≤ c.loop-index.index) ⊎ (lines_of c.loop-index.rest.now ≡ []) = elim c.loop-index-test.branch [
+      | then-loop-index-test+else-not-is_empty w ↦ inr (no_lines c.loop-index.rest.now (sym w.is_empty.ensures ∙ w.if-not-is_empty.false))
+      | else-loop-index-test w ↦ inl w.loop-index-test.false
+    ] in
+    Ends-all (g.C.Count.hands c.args.counting.now) (lines_of c.args.text.now) c.args.entries.now c.loop-index.entries
+    (lines_of c.loop-index.rest.now) c.loop-index.index c.loop-index.without ended c.loop-index.invariant.4

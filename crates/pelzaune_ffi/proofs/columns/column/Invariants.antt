@@ -1,0 +1,16 @@
+-- What was handed over so far is, with what is handed over of the lines that are left, all.
+use Rattle.std.proofs.Common.{length, ◌-◌, ◌≡◌, ◌+◌, ◌≤◌, take, drop}
+use Rattle.programs_answers.specs.Lines.{lines_of}
+use Rattle.pelzaune_ffi.proofs.ColumnLemmas.{Ends}
+use Rattle.pelzaune_ffi.proofs.columns.column.Given as goal
+
+abbrev pub invariant-loop-index : goal.invariant-loop-index
+invariant-loop-index g l =
+    (l.index ≤ length l.entries) × (l.without ≤ l.index)
+    × (l.index + length (lines_of l.rest) ≡ length (lines_of l.initial.rest))
+    × (l.index + length l.rest ≤ length l.initial.rest)
+    × Ends (g.C.Count.hands l.counting) (lines_of l.initial.rest) l.initial.entries (lines_of l.rest) (drop l.index l.entries)
+    (take l.index l.entries) l.without
+
+abbrev pub decreases-loop-index : goal.decreases-loop-index
+decreases-loop-index g l = length l.initial.entries - l.index

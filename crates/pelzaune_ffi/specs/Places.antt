@@ -1,0 +1,76 @@
+-- Where a text goes wrong, as C is handed it.
+use Rattle.std.specs.Prelude.{◌≡◌, ℕ, List, [], ◌∷◌, Option, Some, None, Result, Ok, Err}
+use Rattle.time_values.specs.Range.{greatest_year}
+use Rattle.time_values.specs.Refusal as refusals
+use Rattle.time_components.specs.Tree.{Tree}
+use Rattle.time_descriptions.specs.Refusal.{Refusal}
+use Rattle.time_record.specs.Reading.{Reads}
+use Rattle.time_record.specs.Record.{empty}
+use Rattle.time_parsing.specs.Outcome.{Reading}
+use Rattle.time_parsing.specs.Rfc3339 as rfc3339
+use Rattle.time_parsing.specs.Rfc2822 as rfc2822
+use Rattle.time_parsing.specs.Iso8601 as iso8601
+use Rattle.time_locating.specs.Located.{IsLocated, Locating, wants}
+use Rattle.time_locating.specs.Misses.{LocatesTree, Wanted, first_byte, named, the_end, these_bytes}
+use Rattle.time_locating.specs.Rfc3339 as places_3339
+use Rattle.time_locating.specs.Rfc2822 as places_2822
+use Rattle.time_locating.specs.Iso8601 as places_8601
+use Rattle.time_locating.specs.declared.located.Located.{Located}
+use Rattle.pelzaune_ffi.specs.Described.{IsDescribed, fault_status}
+use Rattle.pelzaune_ffi.specs.Status.{status_of, unknown_format, unknown_syntax}
+use Rattle.pelzaune_ffi.specs.declared.descriptions.Syntax.{Syntax}
+use Rattle.pelzaune_ffi.specs.declared.formats.Format.{Format}
+use Rattle.pelzaune_ffi.specs.declared.formats.Format.TheVariants.{Rfc3339, Rfc2822, Iso8601}
+use Rattle.pelzaune_ffi.specs.declared.locating.Place.{Place}
+
+-- what was expected, as a refusal names it
+abbrev pub wanted_refusal : Wanted → refusals.Refusal
+wanted_refusal (these_bytes text) = refusals.literal
+wanted_refusal (named name) = refusals.component name
+wanted_refusal the_end = refusals.trailing
+
+-- the first byte, or 0
+abbrev pub first_of : List ℕ → ℕ
+first_of [] = 0
+first_of (b ∷ text) = b
+
+-- the byte of a literal that was expected: the first of what is told
+abbrev pub wanted_byte : Wanted → ℕ
+wanted_byte (these_bytes text) = first_of text
+wanted_byte (named name) = 0
+wanted_byte the_end = 0
+
+-- status 0 of a text that is read whole; or the status of what was expected, and where
+abbrev pub IsPlaceHanded : Option Located → ℕ → Place → Place → Type 0
+IsPlaceHanded None status old new = (status ≡ 0) × (new ≡ old)
+IsPlaceHanded (Some at) status old new =
+    (status ≡ status_of (wanted_refusal (wants at.expected)))
+    × (new ≡ record { index = at.index; byte = wanted_byte (wants at.expected) })
+
+-- The place of the text, by what a format reads and locates, is handed over.
+abbrev pub LocatesBy : Reading → Locating → List ℕ → ℕ → Place → Place → Type 0
+LocatesBy reads locates text status old new =
+    (answer : Option Located) × IsLocated reads locates text empty answer × IsPlaceHanded answer status old new
+
+-- The same by the format. A number that no format has has none.
+abbrev pub HandsPlace : Option Format → List ℕ → ℕ → Place → Place → Type 0
+HandsPlace (Some Rfc3339) text status old new =
+    LocatesBy (rfc3339.Reads greatest_year) places_3339.Locates text status old new
+HandsPlace (Some Rfc2822) text status old new =
+    LocatesBy (rfc2822.Reads greatest_year) places_2822.Locates text status old new
+HandsPlace (Some Iso8601) text status old new =
+    LocatesBy (iso8601.Reads greatest_year) (places_8601.Locates greatest_year) text status old new
+HandsPlace None text status old new = (status ≡ unknown_format) × (new ≡ old)
+
+-- The same by what is described; or the status of why nothing is.
+abbrev pub HandsPlaceByTree : Result Tree Refusal → List ℕ → ℕ → Place → Place → Type 0
+HandsPlaceByTree (Ok tree) text status old new =
+    LocatesBy (Reads greatest_year tree) (LocatesTree greatest_year first_byte tree) text status old new
+HandsPlaceByTree (Err e) text status old new = (status ≡ fault_status e) × (new ≡ old)
+
+-- The same by a description in the syntax; or there is no such syntax, which has a status of its own.
+abbrev pub HandsReadPlace : Option Syntax → List ℕ → List ℕ → ℕ → Place → Place → Type 0
+HandsReadPlace (Some s) description text status old new =
+    (described : Result Tree Refusal) × IsDescribed s description described
+    × HandsPlaceByTree described text status old new
+HandsReadPlace None description text status old new = (status ≡ unknown_syntax) × (new ≡ old)

@@ -1,0 +1,168 @@
+//! Columns: the lines of a text, each as the nanoseconds of its moment.
+ghost use Rattle.std.specs.Prelude.{◌≡◌, ◌≤◌, length, Some};
+ghost use Rattle.programs_answers.specs.Lines.{lines_of};
+ghost use Rattle.time_descriptions.specs.Description.{shape};
+ghost use Rattle.pelzaune_ffi.specs.Columns.{Counting, IsColumn, refusing, by_tree};
+ghost use Rattle.pelzaune_ffi.specs.Columns as spec;
+ghost use Rattle.pelzaune_ffi.specs.Described as Described;
+ghost use Rattle.pelzaune_ffi.specs.Described.{HandsRead};
+ghost use Rattle.pelzaune_ffi.specs.Formats as Formats;
+ghost use Rattle.pelzaune_ffi.specs.Handed.{HandsCount, IsCountHanded, of_moment};
+ghost use Rattle.pelzaune_ffi.specs.Held.{held_tree};
+
+use crate::cuts::{count_lines, first_line};
+use crate::descriptions::{MOST_STEPS, Syntax, fault_status, read_description, syntax_of};
+use crate::handing::count;
+use crate::held::HeldDescription;
+use crate::moments::count_by;
+use crate::parts::Nanoseconds;
+use crate::status::UNKNOWN_SYNTAX;
+use time_descriptions::Description;
+
+/// What hands over the nanoseconds of a line.
+pub trait Count {
+    // The status, and the entry before and after it.
+    ghost hands: { Self → Counting };
+
+    /// Hands them over.
+    fn count_line(&self, line: &[u8], entry: &mut Nanoseconds) -> u32
+        ensures { hands self.now line.now result entry.old entry.new };
+}
+
+// By the format of that number.
+#[derive(Clone, Copy)]
+struct ByNumber(u32);
+
+impl Count for ByNumber {
+    ghost hands = { λ s. HandsCount (Formats.format_of s.0) };
+
+    #[inline(always)]
+    fn count_line(&self, line: &[u8], entry: &mut Nanoseconds) -> u32 {
+        count_by(self.0, line, entry)
+    }
+}
+
+// By a description.
+impl Count for Description<MOST_STEPS> {
+    ghost hands = { λ s. by_tree (shape s) };
+
+    #[inline(always)]
+    fn count_line(&self, line: &[u8], entry: &mut Nanoseconds) -> u32 {
+        count(self, line, entry)
+    }
+}
+
+// By a description that is held.
+impl Count for HeldDescription {
+    ghost hands = { λ s. by_tree (held_tree s) };
+
+    #[inline(always)]
+    fn count_line(&self, line: &[u8], entry: &mut Nanoseconds) -> u32 {
+        count(self, line, entry)
+    }
+}
+
+// By nothing, for the reason of that status.
+#[derive(Clone, Copy)]
+struct Refusing(u32);
+
+impl Count for Refusing {
+    ghost hands = { λ s. refusing s.0 };
+
+    #[inline(always)]
+    fn count_line(&self, _line: &[u8], _entry: &mut Nanoseconds) -> u32 {
+        self.0
+    }
+}
+
+// 1 for a refusal.
+#[inline(always)]
+fn one_if_refused(status: u32) -> usize
+    ensures one { result ≡ spec.one_if_refused status }
+    ensures bound { result ≤ 1 }
+{
+    usize::from(status != 0)
+}
+
+/// Hands over the lines of a text, as many as there are entries, and answers how many the text has.
+#[inline(always)]
+pub fn column<C: Count>(
+    counting: &C,
+    text: &[u8],
+    entries: &mut [Nanoseconds],
+    refused: &mut usize,
+) -> usize
+    ensures lines { result ≡ length (lines_of text.now) }
+    ensures entries { IsColumn (C.hands counting.now) (lines_of text.now) entries.old entries.new refused.new }
+{
+    let mut rest = text;
+    let mut index = 0;
+    let mut without = 0;
+    while index < entries.len() && !rest.is_empty() {
+        let (line, after) = first_line(rest);
+        let mut entry = Nanoseconds { count: i64::MIN };
+        without += one_if_refused(counting.count_line(line, &mut entry));
+        entries[index] = entry;
+        index += 1;
+        rest = after;
+    }
+    *refused = without;
+    index + count_lines(rest)
+}
+
+/// Parses each line of a text by the format of that number, into the nanoseconds from 1970-01-01T00:00:00Z to its instant:
+/// as many lines as there are entries. The entry of a line that is refused is `i64::MIN`, and `refused` is how many of
+/// these lines are. An entry that has no line is unchanged. The answer is how many lines the text has.
+///
+/// A line ends with LF, which the last one may lack, and is parsed as [`count_by`] does.
+#[inline(always)]
+pub fn column_by(
+    format: u32,
+    text: &[u8],
+    entries: &mut [Nanoseconds],
+    refused: &mut usize,
+) -> usize
+    ensures lines { result ≡ length (lines_of text.now) }
+    ensures entries { IsColumn (HandsCount (Formats.format_of format)) (lines_of text.now)
+        entries.old entries.new refused.new }
+{
+    column(&ByNumber(format), text, entries, refused)
+}
+
+// The same by a description.
+fn described_column(
+    syntax: Syntax,
+    description: &[u8],
+    text: &[u8],
+    entries: &mut [Nanoseconds],
+    refused: &mut usize,
+) -> usize
+    ensures lines { result ≡ length (lines_of text.now) }
+    ensures entries { IsColumn (HandsRead IsCountHanded of_moment (Some syntax) description.now) (lines_of text.now)
+        entries.old entries.new refused.new }
+{
+    match read_description(syntax, description) {
+        Ok(found) => column(&found, text, entries, refused),
+        Err(error) => column(&Refusing(fault_status(error)), text, entries, refused),
+    }
+}
+
+/// The same by a description in the syntax of that number, which is read once. A text that describes nothing has each
+/// line refused.
+#[inline(always)]
+pub fn column_read(
+    syntax: u32,
+    description: &[u8],
+    text: &[u8],
+    entries: &mut [Nanoseconds],
+    refused: &mut usize,
+) -> usize
+    ensures lines { result ≡ length (lines_of text.now) }
+    ensures entries { IsColumn (HandsRead IsCountHanded of_moment (Described.syntax_of syntax) description.now)
+        (lines_of text.now) entries.old entries.new refused.new }
+{
+    match syntax_of(syntax) {
+        Some(syntax) => described_column(syntax, description, text, entries, refused),
+        None => column(&Refusing(UNKNOWN_SYNTAX), text, entries, refused),
+    }
+}

@@ -1,0 +1,83 @@
+//! Descriptions that C gives as text.
+ghost use Rattle.std.specs.Prelude.{◌≡◌, Ok, Err, IfOk, IfErr};
+ghost use Rattle.time_descriptions.specs.Description.{shape};
+ghost use Rattle.time_descriptions.specs.Refusal.{refusal_of};
+ghost use Rattle.pelzaune_ffi.specs.Described as Described;
+ghost use Rattle.pelzaune_ffi.specs.Described.{Checks, IsDescribed};
+
+use crate::status::{TOO_LONG, UNKNOWN_SYNTAX};
+use time_descriptions::{Description, InvalidFormatDescription, parse_borrowed, parse_strftime};
+
+/// The most steps that a description may have. One in brackets of so many bytes has room.
+pub const MOST_STEPS: usize = 64;
+
+/// How a description is written.
+#[derive(Clone, Copy)]
+pub enum Syntax {
+    /// In brackets, version 1, in which `[[` stands for a bracket.
+    One,
+    /// In brackets, version 2, in which `\[` does.
+    Two,
+    /// As strftime has it.
+    Strftime,
+}
+
+/// The syntax of that number, if one has it.
+pub fn syntax_of(number: u32) -> Option<Syntax>
+    ensures { result ≡ Described.syntax_of number }
+{
+    match number {
+        1 => Some(Syntax::One),
+        2 => Some(Syntax::Two),
+        3 => Some(Syntax::Strftime),
+        _ => None,
+    }
+}
+
+/// Reads a description in a syntax.
+pub fn read_description(
+    syntax: Syntax,
+    text: &[u8],
+) -> Result<Description<MOST_STEPS>, InvalidFormatDescription<'_>>
+    ensures ok { IfOk result (λ d. IsDescribed syntax text.now (Ok (shape d))) }
+    ensures err { IfErr result (λ e. IsDescribed syntax text.now (Err (refusal_of e))) }
+{
+    match syntax {
+        Syntax::One => parse_borrowed::<1, MOST_STEPS>(text),
+        Syntax::Two => parse_borrowed::<2, MOST_STEPS>(text),
+        Syntax::Strftime => parse_strftime::<MOST_STEPS>(text),
+    }
+}
+
+/// The status of why a text is no description.
+#[cold]
+pub fn fault_status(error: InvalidFormatDescription<'_>) -> u32
+    ensures { result ≡ Described.fault_status (refusal_of error.entry) }
+{
+    match error {
+        InvalidFormatDescription::UnclosedOpeningBracket { .. } => 9,
+        InvalidFormatDescription::InvalidComponentName { .. } => 10,
+        InvalidFormatDescription::InvalidModifier { .. } => 11,
+        InvalidFormatDescription::MissingComponentName { .. } => 12,
+        InvalidFormatDescription::MissingRequiredModifier { .. } => 13,
+        InvalidFormatDescription::Expected { .. } => 14,
+        InvalidFormatDescription::NotSupported { .. } => 15,
+        InvalidFormatDescription::TooLong => TOO_LONG,
+    }
+}
+
+/// The status of a description in the syntax of that number: 0, or why it is none, and then the index of its first fault.
+pub fn check(syntax: u32, description: &[u8], index: &mut usize) -> u32
+    ensures { Checks (Described.syntax_of syntax) description.now result index.old index.new }
+{
+    match syntax_of(syntax) {
+        Some(syntax) => match read_description(syntax, description) {
+            Ok(_description) => 0,
+            Err(error) => {
+                *index = error.index().unwrap_or(*index);
+                fault_status(error)
+            }
+        },
+        None => UNKNOWN_SYNTAX,
+    }
+}

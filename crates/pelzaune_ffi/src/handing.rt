@@ -1,0 +1,152 @@
+//! The outcomes of parses, as C is handed them.
+ghost use Rattle.std.specs.Prelude.{Ok, Result};
+ghost use Rattle.time_values.specs.declared.error.TryFromParsed.{TryFromParsed as TryFromParsed_};
+ghost use Rattle.time_record.specs.Resolution.{parsed_seen};
+ghost use Rattle.pelzaune_ffi.specs.Described as Described;
+ghost use Rattle.pelzaune_ffi.specs.Described.{HandsRead};
+ghost use Rattle.pelzaune_ffi.specs.Formats as Formats;
+ghost use Rattle.pelzaune_ffi.specs.Handed.{IsHanded, IsCountHanded, ArePartsHanded, IsHandedOver, Hands, HandsParts, of_moment, of_record};
+
+use crate::descriptions::{MOST_STEPS, fault_status, read_description, syntax_of};
+use crate::formats::{Format, format_of};
+use crate::parts::{DateParts, Nanoseconds, OffsetParts, Parts, TimeParts, nanoseconds_of};
+use crate::status::{TOO_WIDE, UNKNOWN_FORMAT, UNKNOWN_SYNTAX, status_of};
+use std::convert::TryFrom;
+use time_descriptions::Description;
+use time_parsing::{Iso8601, Parsable, Rfc2822, Rfc3339, Target};
+use time_record::Parsed;
+use time_values::error::TryFromParsed;
+use time_values::{Date, OffsetDateTime, Time, UtcOffset};
+
+/// Hands over the value of a text.
+#[inline(always)]
+pub fn hand<V: Target, P: From<V> + Copy, F: Parsable>(format: &F, text: &[u8], out: &mut P) -> u32
+    ensures { IsHandedOver (IsHanded P.from_gives)
+        (V.outcome (F.path format.now) (F.reads format.now) (F.refuses format.now) text.now) result out.old out.new }
+{
+    match V::parse(text, format) {
+        Ok(value) => {
+            *out = P::from(value);
+            0
+        }
+        Err(error) => status_of(error),
+    }
+}
+
+/// Hands over the value of a text by the format of that number.
+#[inline(always)]
+pub fn hand_by<V: Target, P: From<V> + Copy>(format: u32, text: &[u8], out: &mut P) -> u32
+    ensures { Hands P.from_gives V.outcome (Formats.format_of format) text.now result out.old out.new }
+{
+    match format_of(format) {
+        Some(Format::Rfc3339) => hand::<V, P, Rfc3339>(&Rfc3339, text, out),
+        Some(Format::Rfc2822) => hand::<V, P, Rfc2822>(&Rfc2822, text, out),
+        Some(Format::Iso8601) => hand::<V, P, Iso8601>(&Iso8601, text, out),
+        None => UNKNOWN_FORMAT,
+    }
+}
+
+/// Hands over the nanoseconds of a moment.
+#[inline(always)]
+pub fn hand_count(value: OffsetDateTime, out: &mut Nanoseconds) -> u32
+    ensures { IsCountHanded (Ok value) result out.old out.new }
+{
+    match nanoseconds_of(value) {
+        Some(count) => {
+            *out = count;
+            0
+        }
+        None => TOO_WIDE,
+    }
+}
+
+/// Hands over the nanoseconds of a text's moment.
+#[inline(always)]
+pub fn count<F: Parsable>(format: &F, text: &[u8], out: &mut Nanoseconds) -> u32
+    ensures { IsHandedOver IsCountHanded
+        (of_moment (F.path format.now) (F.reads format.now) (F.refuses format.now) text.now) result out.old out.new }
+{
+    match format.parse_offset_date_time(text, None) {
+        Ok(value) => hand_count(value, out),
+        Err(error) => status_of(error),
+    }
+}
+
+// Hands over the value of a record.
+#[inline(always)]
+fn resolve<V: TryFrom<Parsed, Error = TryFromParsed> + Drop, P: From<V> + Copy>(
+    parsed: &Parsed,
+    out: &mut P,
+) -> u32
+    ensures { (answer : Result V TryFromParsed_) × V.try_from_gives parsed.now answer
+        × IsHanded P.from_gives (parsed_seen answer) result out.old out.new }
+{
+    match V::try_from(*parsed) {
+        Ok(value) => {
+            *out = P::from(value);
+            0
+        }
+        Err(error) => status_of(error.into()),
+    }
+}
+
+/// Hands over the parts of a text.
+#[inline(always)]
+pub fn parts<F: Parsable>(format: &F, text: &[u8], out: &mut Parts) -> u32
+    ensures { IsHandedOver ArePartsHanded
+        (of_record (F.path format.now) (F.reads format.now) (F.refuses format.now) text.now) result out.old out.new }
+{
+    match format.parse_internal(text, None) {
+        Ok(parsed) => {
+            out.date_status = resolve::<Date, DateParts>(&parsed, &mut out.date);
+            out.time_status = resolve::<Time, TimeParts>(&parsed, &mut out.time);
+            out.offset_status = resolve::<UtcOffset, OffsetParts>(&parsed, &mut out.offset);
+            0
+        }
+        Err(error) => status_of(error),
+    }
+}
+
+/// Hands over the parts of a text by the format of that number.
+#[inline(always)]
+pub fn parts_by(format: u32, text: &[u8], out: &mut Parts) -> u32
+    ensures { HandsParts (Formats.format_of format) text.now result out.old out.new }
+{
+    match format_of(format) {
+        Some(Format::Rfc3339) => parts(&Rfc3339, text, out),
+        Some(Format::Rfc2822) => parts(&Rfc2822, text, out),
+        Some(Format::Iso8601) => parts(&Iso8601, text, out),
+        None => UNKNOWN_FORMAT,
+    }
+}
+
+/// Hands over the value of a text by a description in the syntax of that number.
+pub fn hand_read<V: Target, P: From<V> + Copy>(
+    syntax: u32,
+    description: &[u8],
+    text: &[u8],
+    out: &mut P,
+) -> u32
+    ensures { HandsRead (IsHanded P.from_gives) V.outcome (Described.syntax_of syntax) description.now text.now
+        result out.old out.new }
+{
+    by_description!(syntax, description, found => {
+        hand::<V, P, Description<MOST_STEPS>>(&found, text, out)
+    })
+}
+
+/// Hands over the nanoseconds of the moment of a text by a description in the syntax of that number.
+pub fn count_read(syntax: u32, description: &[u8], text: &[u8], out: &mut Nanoseconds) -> u32
+    ensures { HandsRead IsCountHanded of_moment (Described.syntax_of syntax) description.now text.now
+        result out.old out.new }
+{
+    by_description!(syntax, description, found => count(&found, text, out))
+}
+
+/// Hands over the parts of a text by a description in the syntax of that number.
+pub fn parts_read(syntax: u32, description: &[u8], text: &[u8], out: &mut Parts) -> u32
+    ensures { HandsRead ArePartsHanded of_record (Described.syntax_of syntax) description.now text.now
+        result out.old out.new }
+{
+    by_description!(syntax, description, found => parts(&found, text, out))
+}

@@ -1,0 +1,184 @@
+//! Descriptions that C holds by value: they are read once, and then parse many texts.
+mod fast;
+
+ghost use Rattle.std.specs.Prelude.{◌≡◌, ◌-◌, ◌<◌, ◌≤◌, true, false, length, map};
+ghost use Rattle.time_values.specs.Range.{greatest_year};
+ghost use Rattle.time_components.specs.Steps.{steps_shape, steps_trees};
+ghost use Rattle.time_record.specs.Answer.{Answers};
+ghost use Rattle.time_record.specs.Reading.{Reads, Refuses};
+ghost use Rattle.time_record.specs.WalkSteps.{Goes};
+ghost use Rattle.time_parsing.specs.Outcome.{over_record};
+ghost use Rattle.time_parsing.specs.exact.DescriptionLaws.{tree_exact};
+ghost use Rattle.pelzaune_ffi.specs.Described as Described;
+ghost use Rattle.pelzaune_ffi.specs.Held.{Holds, held_tree};
+ghost use Rattle.pelzaune_ffi.specs.Held as Held;
+
+use crate::descriptions::{MOST_STEPS, fault_status, read_description, syntax_of};
+use crate::status::{TOO_LONG, UNKNOWN_SYNTAX};
+use crate::steps::{HeldStep, held_step, step_of};
+use arrayvec::ArrayVec;
+use std::convert::TryFrom;
+use time_components::Step;
+use time_parsing::Parsable;
+use time_record::Parsed;
+use time_values::OffsetDateTime;
+use time_values::error::{Parse, ParseFromDescription};
+
+/// A description, as C holds it.
+#[repr(C)]
+#[derive(Clone, Copy)]
+pub struct HeldDescription {
+    /// How many steps it has; a greater number than there are says that all are.
+    pub count: usize,
+    /// The steps, in the order of the text.
+    pub steps: [HeldStep; MOST_STEPS],
+}
+
+// Steps, as the walk over a description takes them.
+fn steps_of(held: &[HeldStep]) -> ArrayVec<Step, MOST_STEPS>
+    requires { length held.now ≤ MOST_STEPS }
+    ensures { result.items ≡ map Held.step_of held.now }
+{
+    let mut steps = ArrayVec::new();
+    for step in held {
+        steps.push(step_of(*step));
+    }
+    steps
+}
+
+// Holds steps, if there is room for all of them.
+fn hold(steps: &[Step], held: &mut HeldDescription) -> bool
+    ensures yes { result ≡ true → Held.steps_of held.new ≡ steps.now }
+    ensures no { result ≡ false → (held.new ≡ held.old) × (MOST_STEPS < length steps.now) }
+{
+    if steps.len() > MOST_STEPS {
+        return false;
+    }
+    for (index, step) in steps.iter().enumerate() {
+        held.steps[index] = held_step(*step);
+    }
+    held.count = steps.len();
+    true
+}
+
+// Reads steps one after the other, and answers those from the first on that isn't read here, and the rest.
+#[inline(always)]
+fn read_front<'s, 'a>(
+    steps: &'s [HeldStep],
+    parsed: &mut Parsed,
+    input: &'a [u8],
+) -> (&'s [HeldStep], &'a [u8])
+    ensures fewer { length result.0.now ≤ length steps.now }
+    ensures goes { Goes greatest_year (steps_trees (map Held.step_of steps.now)) input.now parsed.old
+        (length steps.now - length result.0.now) (steps_trees (map Held.step_of result.0.now)) result.1.now parsed.new }
+{
+    let mut left = steps;
+    let mut rest = input;
+    while let [step, behind @ ..] = left {
+        match fast::read_step(step, behind, parsed, rest) {
+            Some(unread) => rest = unread,
+            None => return (left, rest),
+        }
+        left = behind;
+    }
+    (left, rest)
+}
+
+// The steps that are held.
+#[inline(always)]
+fn held_steps(held: &HeldDescription) -> &[HeldStep]
+    ensures steps { map Held.step_of result.now ≡ Held.steps_of held.now }
+    ensures fits { length result.now ≤ MOST_STEPS }
+{
+    &held.steps[..held.count.min(MOST_STEPS)]
+}
+
+// Reads what is left by the walk over the steps of a description. The room for them is taken here alone.
+#[inline(never)]
+fn read_left<'a>(
+    left: &[HeldStep],
+    parsed: &mut Parsed,
+    input: &'a [u8],
+) -> Result<&'a [u8], ParseFromDescription>
+    requires { length left.now ≤ MOST_STEPS }
+    ensures { Answers greatest_year (steps_shape (map Held.step_of left.now)) input.now parsed.old result parsed.new }
+{
+    parsed.parse_steps(input, steps_of(left).as_slice())
+}
+
+// Reads a front of the input over the record, and answers the unread rest. After a refusal the record is as it was.
+fn read_held<'a>(
+    held: &HeldDescription,
+    parsed: &mut Parsed,
+    input: &'a [u8],
+) -> Result<&'a [u8], ParseFromDescription>
+    ensures { Answers greatest_year (held_tree held.now) input.now parsed.old result parsed.new }
+{
+    let before = *parsed;
+    let (left, unread) = read_front(held_steps(held), parsed, input);
+    let [_, ..] = left else {
+        return Ok(unread);
+    };
+    match read_left(left, parsed, unread) {
+        Ok(rest) => Ok(rest),
+        Err(fault) => {
+            *parsed = before;
+            Err(fault)
+        }
+    }
+}
+
+impl Parsable for HeldDescription {
+    ghost reads = { λ s. Reads greatest_year (held_tree s) };
+
+    ghost refuses = { λ s. Refuses greatest_year (held_tree s) };
+
+    ghost path = { λ _. over_record };
+
+    fn parse_into<'a>(&self, input: &'a [u8], parsed: &mut Parsed) -> Result<&'a [u8], Parse> {
+        match read_held(self, parsed, input) {
+            Ok(rest) => Ok(rest),
+            Err(e) => Err(e.into()),
+        }
+    }
+
+    #[inline(always)]
+    fn parse_offset_date_time(
+        &self,
+        input: &[u8],
+        defaults: Option<Parsed>,
+    ) -> Result<OffsetDateTime, Parse> {
+        match self.parse_internal(input, defaults) {
+            Ok(parsed) => Ok(OffsetDateTime::try_from(parsed)?),
+            Err(error) => Err(error),
+        }
+    }
+
+    ghost exact = { λ s. tree_exact greatest_year (held_tree s) };
+
+    ghost exact_path = { λ _. tt };
+}
+
+/// Holds the description of a text in the syntax of that number: the status is 0, or says why the text describes nothing,
+/// and then `index` is that of its first fault, if the fault has a place.
+#[inline(always)]
+pub fn describe(syntax: u32, text: &[u8], out: &mut HeldDescription, index: &mut usize) -> u32
+    ensures { Holds (Described.syntax_of syntax) text.now result out.old out.new index.old index.new }
+{
+    match syntax_of(syntax) {
+        Some(syntax) => match read_description(syntax, text) {
+            Ok(description) => {
+                if hold(description.steps(), out) {
+                    0
+                } else {
+                    TOO_LONG
+                }
+            }
+            Err(error) => {
+                *index = error.index().unwrap_or(*index);
+                fault_status(error)
+            }
+        },
+        None => UNKNOWN_SYNTAX,
+    }
+}

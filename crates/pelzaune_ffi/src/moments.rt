@@ -1,0 +1,185 @@
+//! Moments, as C is handed them by a format.
+//!
+//! The commonest texts of RFC 3339 are read where they are handed over (`fast`). Any other is parsed by the library, in a
+//! function of its own, so that it leaves the short cut its registers.
+mod fast;
+
+ghost use Rattle.std.specs.Prelude.{Some};
+ghost use Rattle.time_values.specs.Range.{greatest_year};
+ghost use Rattle.time_record.specs.Resolution.{IsPlain};
+ghost use Rattle.pelzaune_ffi.specs.Formats as Formats;
+ghost use Rattle.pelzaune_ffi.specs.Handed.{Hands, HandsCount, HasPlain, IsCountHanded, IsHanded, IsHandedOver, of_moment, over_empty};
+ghost use Rattle.pelzaune_ffi.specs.declared.formats.Format.TheVariants.{Iso8601 as iso8601, Rfc2822 as rfc2822, Rfc3339 as rfc3339};
+
+use crate::formats::{Format, format_of};
+use crate::handing::{count, hand, hand_count};
+use crate::parts::{LocalParts, Nanoseconds};
+use crate::status::{UNKNOWN_FORMAT, status_of};
+use time_parsing::{Iso8601, Parsable, Rfc2822, Rfc3339};
+use time_values::{OffsetDateTime, PlainDateTime};
+
+// Hands over the parts of a moment of RFC 3339.
+#[inline(never)]
+fn moment_3339<P: From<OffsetDateTime> + Copy>(text: &[u8], out: &mut P) -> u32
+    ensures { Hands P.from_gives of_moment (Some rfc3339) text.now result out.old out.new }
+{
+    match fast::moment(text) {
+        Some(value) => {
+            *out = P::from(value);
+            0
+        }
+        None => parsed_moment(&Rfc3339, text, out),
+    }
+}
+
+// Hands over the parts of a mail date's moment.
+#[inline(never)]
+fn moment_2822<P: From<OffsetDateTime> + Copy>(text: &[u8], out: &mut P) -> u32
+    ensures { Hands P.from_gives of_moment (Some rfc2822) text.now result out.old out.new }
+{
+    match fast::rfc2822::moment(text) {
+        Some(value) => {
+            *out = P::from(value);
+            0
+        }
+        None => parsed_moment(&Rfc2822, text, out),
+    }
+}
+
+// Hands over the parts of a moment of ISO 8601.
+#[inline(never)]
+fn moment_8601<P: From<OffsetDateTime> + Copy>(text: &[u8], out: &mut P) -> u32
+    ensures { Hands P.from_gives of_moment (Some iso8601) text.now result out.old out.new }
+{
+    match fast::iso8601::moment(text) {
+        Some(value) => {
+            *out = P::from(value);
+            0
+        }
+        None => parsed_moment(&Iso8601, text, out),
+    }
+}
+
+// Hands over the parts of a text's moment.
+#[inline(never)]
+fn parsed_moment<P: From<OffsetDateTime> + Copy, F: Parsable>(
+    format: &F,
+    text: &[u8],
+    out: &mut P,
+) -> u32
+    ensures { IsHandedOver (IsHanded P.from_gives)
+        (of_moment (F.path format.now) (F.reads format.now) (F.refuses format.now) text.now) result out.old out.new }
+{
+    match format.parse_offset_date_time(text, None) {
+        Ok(value) => {
+            *out = P::from(value);
+            0
+        }
+        Err(error) => status_of(error),
+    }
+}
+
+/// Hands over the parts of a text's moment by the format of that number.
+#[inline(always)]
+pub fn moment_by<P: From<OffsetDateTime> + Copy>(format: u32, text: &[u8], out: &mut P) -> u32
+    ensures { Hands P.from_gives of_moment (Formats.format_of format) text.now result out.old out.new }
+{
+    match format_of(format) {
+        Some(Format::Rfc3339) => moment_3339(text, out),
+        Some(Format::Rfc2822) => moment_2822(text, out),
+        Some(Format::Iso8601) => moment_8601(text, out),
+        None => UNKNOWN_FORMAT,
+    }
+}
+
+// Hands over the nanoseconds of a moment of RFC 3339.
+#[inline(never)]
+fn count_3339(text: &[u8], out: &mut Nanoseconds) -> u32
+    ensures { HandsCount (Some rfc3339) text.now result out.old out.new }
+{
+    match fast::moment(text) {
+        Some(value) => hand_count(value, out),
+        None => parsed_count(&Rfc3339, text, out),
+    }
+}
+
+// Hands over the nanoseconds of a mail date's moment.
+#[inline(never)]
+fn count_2822(text: &[u8], out: &mut Nanoseconds) -> u32
+    ensures { HandsCount (Some rfc2822) text.now result out.old out.new }
+{
+    match fast::rfc2822::moment(text) {
+        Some(value) => hand_count(value, out),
+        None => parsed_count(&Rfc2822, text, out),
+    }
+}
+
+// Hands over the nanoseconds of a moment of ISO 8601.
+#[inline(never)]
+fn count_8601(text: &[u8], out: &mut Nanoseconds) -> u32
+    ensures { HandsCount (Some iso8601) text.now result out.old out.new }
+{
+    match fast::iso8601::moment(text) {
+        Some(value) => hand_count(value, out),
+        None => parsed_count(&Iso8601, text, out),
+    }
+}
+
+// Hands over the nanoseconds of a text's moment.
+#[inline(never)]
+fn parsed_count<F: Parsable>(format: &F, text: &[u8], out: &mut Nanoseconds) -> u32
+    ensures { IsHandedOver IsCountHanded
+        (of_moment (F.path format.now) (F.reads format.now) (F.refuses format.now) text.now) result out.old out.new }
+{
+    count(format, text, out)
+}
+
+/// Hands over the nanoseconds of a text's moment by the format of that number.
+#[inline(always)]
+pub fn count_by(format: u32, text: &[u8], out: &mut Nanoseconds) -> u32
+    ensures { HandsCount (Formats.format_of format) text.now result out.old out.new }
+{
+    match format_of(format) {
+        Some(Format::Rfc3339) => count_3339(text, out),
+        Some(Format::Rfc2822) => count_2822(text, out),
+        Some(Format::Iso8601) => count_8601(text, out),
+        None => UNKNOWN_FORMAT,
+    }
+}
+
+// Hands over the parts of a date and time of ISO 8601.
+#[inline(never)]
+fn local_8601(text: &[u8], out: &mut LocalParts) -> u32
+    ensures { Hands HasPlain (over_empty (IsPlain greatest_year)) (Some iso8601) text.now result out.old out.new }
+{
+    match fast::iso8601::local(text) {
+        Some(value) => {
+            *out = LocalParts::from(value);
+            0
+        }
+        None => parsed_local(&Iso8601, text, out),
+    }
+}
+
+// Hands over the parts of a text's date and time.
+#[inline(never)]
+fn parsed_local<F: Parsable>(format: &F, text: &[u8], out: &mut LocalParts) -> u32
+    ensures { IsHandedOver (IsHanded HasPlain) (over_empty (IsPlain greatest_year) (F.path format.now)
+        (F.reads format.now) (F.refuses format.now) text.now) result out.old out.new }
+{
+    hand::<PlainDateTime, LocalParts, F>(format, text, out)
+}
+
+/// Hands over the parts of a text's date and time, whatever its offset, by the format of that number.
+#[inline(always)]
+pub fn local_by(format: u32, text: &[u8], out: &mut LocalParts) -> u32
+    ensures { Hands HasPlain (over_empty (IsPlain greatest_year)) (Formats.format_of format) text.now
+        result out.old out.new }
+{
+    match format_of(format) {
+        Some(Format::Rfc3339) => parsed_local(&Rfc3339, text, out),
+        Some(Format::Rfc2822) => parsed_local(&Rfc2822, text, out),
+        Some(Format::Iso8601) => local_8601(text, out),
+        None => UNKNOWN_FORMAT,
+    }
+}

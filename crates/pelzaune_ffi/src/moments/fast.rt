@@ -1,0 +1,148 @@
+//! The commonest moments of RFC 3339, many bytes at once.
+//!
+//! Each reader answers what the library's reader does, or `None`: not this form.
+pub(super) mod iso8601;
+pub(super) mod rfc2822;
+
+ghost use Rattle.std.specs.Prelude.{◌≡◌, ◌<◌, ◌≤◌, IfSome, Ok, None, [], false, pos};
+ghost use Rattle.time_values.specs.Offsets.{HasOffset, offset_refusal};
+ghost use Rattle.time_values.specs.Range.{greatest_year};
+ghost use Rattle.time_values.specs.Refusal.{Constructs};
+ghost use Rattle.time_values.specs.Times.{HasClock, time_refusal};
+ghost use Rattle.time_digits.specs.Cuts.{Cut};
+ghost use Rattle.time_readers.specs.Direct.{HasDate, IsMade, RefusesRfc3339, date_refusal};
+ghost use Rattle.time_readers.specs.Places.{Stand};
+ghost use Rattle.time_readers.specs.Rfc3339.{Asks, offset_places};
+ghost use Rattle.time_readers.specs.declared.rfc3339.Place.TheVariants as place;
+ghost use Rattle.time_parsing.specs.Outcome.{direct};
+ghost use Rattle.time_parsing.specs.Rfc3339.{Reads, Refuses};
+ghost use Rattle.pelzaune_ffi.specs.Handed.{of_moment};
+
+use std::num::NonZero;
+use time_readers::combinator::fraction;
+use time_readers::direct::{Said, said_rfc3339};
+use time_readers::rfc3339::Numbers;
+use time_readers::rfc3339::fast::to_second;
+use time_values::{Date, Month, OffsetDateTime, Time, UtcOffset};
+
+// The place of the fraction. `None`: not this form.
+#[inline(always)]
+fn subsecond(numbers: Numbers, rest: &[u8]) -> Option<(Numbers, &[u8])>
+    requires { numbers.subsecond ≡ None }
+    ensures { IfSome result (λ found. Cut (Asks false place.Subsecond numbers) rest.now found.1.now found.0) }
+{
+    let [b'.', digits @ ..] = rest else {
+        return Some((numbers, rest));
+    };
+    let found = fraction(digits)?;
+    let numbers = Numbers {
+        subsecond: Some(found.1),
+        ..numbers
+    };
+    Some((numbers, found.0))
+}
+
+// The places of an offset with which the text ends. `None`: not this form.
+#[inline(always)]
+fn offset(numbers: Numbers, rest: &[u8]) -> Option<Numbers>
+    requires utc { numbers.is_utc ≡ false }
+    requires hour { numbers.offset_hour ≡ 0 }
+    requires minute { numbers.offset_minute ≡ 0 }
+    ensures stands { IfSome result (λ found. Stand (Asks false) offset_places numbers rest.now [] found) }
+    ensures second { IfSome result (λ found. found.second ≡ numbers.second) }
+    ensures hour { IfSome result (λ found. found.offset_hour ≤ 23) }
+    ensures minute { IfSome result (λ found. found.offset_minute ≤ 59) }
+{
+    if let [b'Z'] = rest {
+        return Some(Numbers {
+            is_utc: true,
+            ..numbers
+        });
+    }
+    let [
+        sign @ (b'-' | b'+'),
+        a @ b'0'..=b'2',
+        b @ b'0'..=b'9',
+        b':',
+        c @ b'0'..=b'5',
+        d @ b'0'..=b'9',
+    ] = rest
+    else {
+        return None;
+    };
+    let hour = 10 * (*a - b'0') + (*b - b'0');
+    if hour > 23 {
+        return None;
+    }
+    Some(Numbers {
+        offset_is_negative: *sign == b'-',
+        offset_hour: hour,
+        offset_minute: 10 * (*c - b'0') + (*d - b'0'),
+        ..numbers
+    })
+}
+
+// The offset that is said. That of UTC is a constant. `None`: there is none.
+#[inline(always)]
+fn offset_of(said: Said) -> Option<UtcOffset>
+    ensures { IfSome result (λ o. Constructs (offset_refusal said.offset_hour said.offset_minute (pos 0))
+        (HasOffset said.offset_hour said.offset_minute (pos 0)) (Ok o)) }
+{
+    if said.offset_hour == 0 && said.offset_minute == 0 {
+        return Some(UtcOffset::UTC);
+    }
+    UtcOffset::from_hms(said.offset_hour, said.offset_minute, 0).ok()
+}
+
+// The date that is said. `None`: there is none.
+#[inline(always)]
+#[tactic(auto, using(crate::proofs::InPlace::date_of))]
+fn date_of(said: Said) -> Option<Date>
+    ensures { IfSome result (λ d. Constructs (date_refusal greatest_year said) (HasDate said) (Ok d)) }
+{
+    let number = NonZero::<u8>::new(said.month)?;
+    let Ok(month) = Month::from_number(number) else {
+        return None;
+    };
+    match Date::from_calendar_date(i32::from(said.year), month, said.day) {
+        Ok(date) => Some(date),
+        Err(_) => None,
+    }
+}
+
+// The time that a clock shows. `None`: there is none.
+#[inline(always)]
+fn clock_of(said: Said) -> Option<Time>
+    ensures { IfSome result (λ t. Constructs (time_refusal said.hour said.minute said.second said.nanosecond)
+        (HasClock said.hour said.minute said.second said.nanosecond) (Ok t)) }
+{
+    Time::from_hms_nano(said.hour, said.minute, said.second, said.nanosecond).ok()
+}
+
+// The moment that is said, which is no leap second. `None`: a number is out of its range.
+#[inline(always)]
+fn made(said: Said) -> Option<OffsetDateTime>
+    requires { said.second < 60 }
+    ensures { IfSome result (λ v. IsMade greatest_year said v) }
+{
+    let offset = offset_of(said)?;
+    let date = date_of(said)?;
+    let time = clock_of(said)?;
+    Some(OffsetDateTime::new_in_offset(date, time, offset))
+}
+
+// A whole moment. `None`: not this form.
+#[inline(always)]
+pub(super) fn moment(text: &[u8]) -> Option<OffsetDateTime>
+    ensures { IfSome result (λ v. of_moment (direct (RefusesRfc3339 greatest_year)) (Reads greatest_year)
+        (Refuses greatest_year) text.now (Ok v)) }
+{
+    // One test of the length for all of the text.
+    if text.len() < 20 {
+        return None;
+    }
+    let mut numbers = Numbers::NONE;
+    let rest = to_second::<false>(text, &mut numbers)?;
+    let (numbers, rest) = subsecond(numbers, rest)?;
+    made(said_rfc3339(offset(numbers, rest)?))
+}

@@ -1,0 +1,46 @@
+//! The commonest mail dates, many bytes at once.
+//!
+//! Each reader answers what the library's reader does, or `None`: not this form.
+ghost use Rattle.std.specs.Prelude.{IfSome, Ok, false};
+ghost use Rattle.time_values.specs.Range.{greatest_year};
+ghost use Rattle.time_readers.specs.Direct.{RefusesRfc2822};
+ghost use Rattle.time_readers.specs.Places.{Stand};
+ghost use Rattle.time_readers.specs.Rfc2822.{Asks, day_places};
+ghost use Rattle.time_parsing.specs.Outcome.{direct};
+ghost use Rattle.time_parsing.specs.Rfc2822.{Reads, Refuses};
+ghost use Rattle.pelzaune_ffi.specs.Handed.{of_moment};
+
+use super::made;
+use time_readers::combinator::one_or_two_digits;
+use time_readers::direct::said_rfc2822;
+use time_readers::rfc2822::Numbers;
+use time_readers::rfc2822::fast::{offset, to_offset, weekday_name};
+use time_values::OffsetDateTime;
+
+// The weekday's name, with a capital and two small letters, and the day. `None`: not this form.
+#[inline(always)]
+fn to_day<'a>(text: &'a [u8], numbers: &mut Numbers) -> Option<&'a [u8]>
+    ensures { IfSome result (λ rest. Stand (Asks false) day_places numbers.old text.now rest.now numbers.new) }
+{
+    let rest = weekday_name(text, numbers)?;
+    let day = one_or_two_digits(rest)?;
+    numbers.day = day.1;
+    Some(day.0)
+}
+
+// A whole moment. `None`: not this form.
+#[inline(always)]
+pub(in crate::moments) fn moment(text: &[u8]) -> Option<OffsetDateTime>
+    ensures { IfSome result (λ v. of_moment (direct (RefusesRfc2822 greatest_year)) (Reads greatest_year)
+        (Refuses greatest_year) text.now (Ok v)) }
+{
+    // One test of the length for all of the text.
+    if text.len() < 30 {
+        return None;
+    }
+    let mut numbers = Numbers::NONE;
+    let rest = to_day(text, &mut numbers)?;
+    let rest = to_offset::<false>(rest, &mut numbers)?;
+    offset::<false>(rest, &mut numbers)?;
+    made(said_rfc2822(numbers))
+}

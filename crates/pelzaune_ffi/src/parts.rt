@@ -1,0 +1,241 @@
+//! What C is handed of a value.
+ghost use Rattle.std.specs.Prelude.{MatchOption};
+ghost use Rattle.time_values.specs.Moments.{offset_instant};
+ghost use Rattle.time_values.specs.Range.{greatest_year};
+ghost use Rattle.pelzaune_ffi.specs.Handed as Handed;
+
+use time_values::{Date, OffsetDateTime, PlainDateTime, Time, UtcDateTime, UtcOffset};
+
+/// The parts of a date.
+#[repr(C)]
+#[derive(Clone, Copy)]
+pub struct DateParts {
+    /// -999999 to 999999.
+    pub year: i32,
+    /// 1 to 12.
+    pub month: u8,
+    /// 1 to 31.
+    pub day: u8,
+}
+
+/// The parts of a time of day.
+#[repr(C)]
+#[derive(Clone, Copy)]
+pub struct TimeParts {
+    /// 0 to 999999999.
+    pub nanosecond: u32,
+    /// 0 to 23.
+    pub hour: u8,
+    /// 0 to 59.
+    pub minute: u8,
+    /// 0 to 59.
+    pub second: u8,
+}
+
+/// An offset as one number.
+#[repr(C)]
+#[derive(Clone, Copy)]
+pub struct OffsetParts {
+    /// How far a clock is ahead of UTC, -93599 to 93599.
+    pub seconds: i32,
+}
+
+/// The parts of a date and a time.
+#[repr(C)]
+#[derive(Clone, Copy)]
+pub struct LocalParts {
+    /// -999999 to 999999.
+    pub year: i32,
+    /// 0 to 999999999.
+    pub nanosecond: u32,
+    /// 1 to 12.
+    pub month: u8,
+    /// 1 to 31.
+    pub day: u8,
+    /// 0 to 23.
+    pub hour: u8,
+    /// 0 to 59.
+    pub minute: u8,
+    /// 0 to 59.
+    pub second: u8,
+}
+
+/// The parts of a date, a time and an offset.
+#[repr(C)]
+#[derive(Clone, Copy)]
+pub struct MomentParts {
+    /// -999999 to 999999.
+    pub year: i32,
+    /// 0 to 999999999.
+    pub nanosecond: u32,
+    /// How many seconds the clock is ahead of UTC, -93599 to 93599.
+    pub offset: i32,
+    /// 1 to 12.
+    pub month: u8,
+    /// 1 to 31.
+    pub day: u8,
+    /// 0 to 23.
+    pub hour: u8,
+    /// 0 to 59.
+    pub minute: u8,
+    /// 0 to 59.
+    pub second: u8,
+}
+
+/// An instant, by the time since 1970-01-01T00:00:00Z.
+#[repr(C)]
+#[derive(Clone, Copy)]
+pub struct Instant {
+    /// Whole seconds, rounded down.
+    pub seconds: i64,
+    /// The nanoseconds after them, 0 to 999999999.
+    pub nanoseconds: u32,
+}
+
+/// An instant, by the nanoseconds since 1970-01-01T00:00:00Z.
+#[repr(C)]
+#[derive(Clone, Copy)]
+pub struct Nanoseconds {
+    /// The nanoseconds.
+    pub count: i64,
+}
+
+/// The date, the time and the offset of a text, where it has them.
+#[repr(C)]
+#[derive(Clone, Copy)]
+pub struct Parts {
+    /// The date.
+    pub date: DateParts,
+    /// The time.
+    pub time: TimeParts,
+    /// The offset.
+    pub offset: OffsetParts,
+    /// 0, or the status of why the text has no date.
+    pub date_status: u32,
+    /// 0, or the status of why the text has no time.
+    pub time_status: u32,
+    /// 0, or the status of why the text has no offset.
+    pub offset_status: u32,
+}
+
+impl From<Date> for DateParts {
+    ghost from_gives = { Handed.HasDate };
+
+    #[inline]
+    fn from(date: Date) -> DateParts {
+        DateParts {
+            year: date.year(),
+            month: date.month().number(),
+            day: date.day(),
+        }
+    }
+}
+
+impl From<Time> for TimeParts {
+    ghost from_gives = { Handed.HasTime };
+
+    #[inline]
+    fn from(time: Time) -> TimeParts {
+        TimeParts {
+            nanosecond: time.nanosecond(),
+            hour: time.hour(),
+            minute: time.minute(),
+            second: time.second(),
+        }
+    }
+}
+
+impl From<UtcOffset> for OffsetParts {
+    ghost from_gives = { Handed.HasOffset };
+
+    #[inline]
+    fn from(offset: UtcOffset) -> OffsetParts {
+        OffsetParts {
+            seconds: offset.whole_seconds(),
+        }
+    }
+}
+
+// The parts of both.
+#[inline]
+fn local_parts(date: Date, time: Time) -> LocalParts
+    ensures { Handed.HasLocal date time result }
+{
+    LocalParts {
+        year: date.year(),
+        nanosecond: time.nanosecond(),
+        month: date.month().number(),
+        day: date.day(),
+        hour: time.hour(),
+        minute: time.minute(),
+        second: time.second(),
+    }
+}
+
+impl From<PlainDateTime> for LocalParts {
+    ghost from_gives = { Handed.HasPlain };
+
+    #[inline]
+    fn from(value: PlainDateTime) -> LocalParts {
+        local_parts(value.date(), value.time())
+    }
+}
+
+impl From<UtcDateTime> for LocalParts {
+    ghost from_gives = { Handed.HasUtc };
+
+    #[inline]
+    fn from(value: UtcDateTime) -> LocalParts {
+        local_parts(value.date(), value.time())
+    }
+}
+
+impl From<OffsetDateTime> for MomentParts {
+    ghost from_gives = { Handed.HasMoment };
+
+    #[inline]
+    fn from(value: OffsetDateTime) -> MomentParts {
+        let local = local_parts(value.date(), value.time());
+        MomentParts {
+            year: local.year,
+            nanosecond: local.nanosecond,
+            offset: value.offset().whole_seconds(),
+            month: local.month,
+            day: local.day,
+            hour: local.hour,
+            minute: local.minute,
+            second: local.second,
+        }
+    }
+}
+
+impl From<OffsetDateTime> for Instant {
+    ghost from_gives = { Handed.HasInstant };
+
+    // The seconds are rounded down, and an offset is whole seconds: so what is left is what the clock shows.
+    #[inline]
+    fn from(value: OffsetDateTime) -> Instant {
+        Instant {
+            seconds: value.unix_timestamp(),
+            nanoseconds: value.time().nanosecond(),
+        }
+    }
+}
+
+/// The nanoseconds of a moment's instant, where 64 bits count them.
+#[inline]
+pub fn nanoseconds_of(value: OffsetDateTime) -> Option<Nanoseconds>
+    ensures { MatchOption result (¬ (Handed.IsCounted (offset_instant greatest_year value)))
+        (λ n. Handed.HasCount value n) }
+{
+    let nanos = value.unix_timestamp_nanos();
+    if nanos < i64::MIN as i128 {
+        return None;
+    }
+    if nanos > i64::MAX as i128 {
+        return None;
+    }
+    Some(Nanoseconds {
+        count: nanos as i64,
+    })
+}

@@ -1,0 +1,86 @@
+//! The numbers of refusals.
+ghost use Rattle.std.specs.Prelude.{◌≡◌};
+ghost use Rattle.time_values.specs.Refusal.{refusal_of, refusal_of_description, refusal_of_range};
+ghost use Rattle.pelzaune_ffi.specs.Status as Status;
+
+use time_values::error::{ComponentRange, Parse, ParseFromDescription, TryFromParsed};
+
+/// The status of an instant whose nanoseconds 64 bits don't count.
+pub const TOO_WIDE: u32 = 7;
+
+/// The status of a number that no format has.
+pub const UNKNOWN_FORMAT: u32 = 8;
+
+/// The status of a description that has too many steps.
+pub const TOO_LONG: u32 = 16;
+
+/// The status of a number that no syntax of descriptions has.
+pub const UNKNOWN_SYNTAX: u32 = 17;
+
+// The number of a component's name, and 0 for any other.
+fn component_number(name: &str) -> u32
+    ensures { result ≡ Status.component_number name.now }
+{
+    match name {
+        "year" => 1,
+        "month" => 2,
+        "day" => 3,
+        "ordinal" => 4,
+        "weekday" => 5,
+        "week" => 6,
+        "week number" => 7,
+        "hour" => 8,
+        "minute" => 9,
+        "second" => 10,
+        "nanosecond" => 11,
+        "subsecond" => 12,
+        "period" => 13,
+        "offset hour" => 14,
+        "offset minute" => 15,
+        "offset second" => 16,
+        "hours" => 17,
+        "minutes" => 18,
+        "seconds" => 19,
+        "timestamp" => 20,
+        "unix_timestamp" => 21,
+        "separator" => 22,
+        "ignore" => 23,
+        _ => 0,
+    }
+}
+
+/// The status of what a text can't be read for.
+pub fn status_of_description(error: ParseFromDescription) -> u32
+    ensures { result ≡ Status.status_of (refusal_of_description error) }
+{
+    match error {
+        ParseFromDescription::InvalidLiteral => 1,
+        ParseFromDescription::InvalidComponent(name) => 2 + 256 * component_number(name),
+        ParseFromDescription::UnexpectedTrailingCharacters => 3,
+    }
+}
+
+/// The status of a part that is out of its range.
+pub fn status_of_range(error: ComponentRange) -> u32
+    ensures { result ≡ Status.status_of (refusal_of_range error) }
+{
+    let component = 256 * component_number(error.name);
+    if error.conditional {
+        6 + component
+    } else {
+        5 + component
+    }
+}
+
+/// The status of a refusal.
+#[cold]
+#[inline(never)]
+pub fn status_of(error: Parse) -> u32
+    ensures { result ≡ Status.status_of (refusal_of error) }
+{
+    match error {
+        Parse::ParseFromDescription(error) => status_of_description(error),
+        Parse::TryFromParsed(TryFromParsed::InsufficientInformation) => 4,
+        Parse::TryFromParsed(TryFromParsed::ComponentRange(error)) => status_of_range(error),
+    }
+}

@@ -1,0 +1,117 @@
+//! The texts of moments.
+ghost use Rattle.std.specs.Prelude.{◌≡◌, length};
+ghost use Rattle.time_values.specs.Month.{month_number};
+ghost use Rattle.time_values.specs.Refusal.{Constructs};
+ghost use Rattle.time_writing.specs.Texts.{WritesSuch};
+ghost use Rattle.pelzaune_ffi.specs.Formats as Formats;
+ghost use Rattle.pelzaune_ffi.specs.Handed.{HasMoment};
+ghost use Rattle.pelzaune_ffi.specs.Written.{HandsMomentText, HandsText, HandsTextOf, IsDateOf, IsLocalOf, IsTextOf, date_refusal, local_refusal, month_refusal, moment_refusal, reason_of};
+ghost use Rattle.pelzaune_ffi.specs.Written as Written;
+
+use crate::formats::{Format, format_of};
+use crate::parts::MomentParts;
+use crate::status::{UNKNOWN_FORMAT, status_of_range};
+use crate::text::lay_bytes;
+use std::num::NonZero;
+use time_values::error::ComponentRange;
+use time_values::{Date, Month, OffsetDateTime, PlainDateTime, Time, UtcOffset};
+use time_writing::{FractionDigits, Text, Unwritable, text_2822, text_3339, text_8601};
+
+// The month of that number.
+fn month_of(number: u8) -> Result<Month, ComponentRange>
+    ensures { Constructs (month_refusal number) (λ m. month_number m ≡ number) result }
+{
+    match NonZero::<u8>::new(number) {
+        Some(number) => Month::from_number(number),
+        None => Err(ComponentRange {
+            name: "month",
+            conditional: false,
+        }),
+    }
+}
+
+// The date of these parts, or the first that is out of its range.
+fn date_of(parts: &MomentParts) -> Result<Date, ComponentRange>
+    ensures { Constructs (date_refusal parts.now) (λ d. IsDateOf parts.now d) result }
+{
+    let month = month_of(parts.month)?;
+    Date::from_calendar_date(parts.year, month, parts.day)
+}
+
+// The date and time of these parts, or the first that is out of its range.
+fn local_of(parts: &MomentParts) -> Result<PlainDateTime, ComponentRange>
+    ensures { Constructs (local_refusal parts.now) (λ p. IsLocalOf parts.now p) result }
+{
+    let date = date_of(parts)?;
+    let time = Time::from_hms_nano(parts.hour, parts.minute, parts.second, parts.nanosecond)?;
+    Ok(PlainDateTime::new(date, time))
+}
+
+// The moment of these parts, or the first that is out of its range.
+fn moment_of(parts: &MomentParts) -> Result<OffsetDateTime, ComponentRange>
+    ensures { Constructs (moment_refusal parts.now) (λ v. HasMoment v parts.now) result }
+{
+    let local = local_of(parts)?;
+    let offset = UtcOffset::from_whole_seconds(parts.offset)?;
+    Ok(local.assume_offset(offset))
+}
+
+// The text of a moment by a format.
+fn text_of(format: Format, value: OffsetDateTime) -> Result<Text, Unwritable>
+    ensures { WritesSuch (reason_of format value) (IsTextOf format value) result }
+{
+    match format {
+        Format::Rfc3339 => text_3339(value, FractionDigits::Auto),
+        Format::Rfc2822 => text_2822(value),
+        Format::Iso8601 => text_8601(value),
+    }
+}
+
+// The status of why a moment has no text.
+fn unwritable_status(why: Unwritable) -> u32
+    ensures { result ≡ Written.unwritable_status why }
+{
+    match why {
+        Unwritable::Year => 18 + 256,
+        Unwritable::OffsetHour => 18 + 256 * 14,
+        Unwritable::OffsetSecond => 18 + 256 * 16,
+    }
+}
+
+// Writes the text of a moment, or tells why it has none.
+fn write_value(format: Format, value: OffsetDateTime, buffer: &mut [u8], count: &mut usize) -> u32
+    ensures { HandsTextOf format (reason_of format value) value result buffer.old buffer.new count.old count.new }
+{
+    match text_of(format, value) {
+        Ok(text) => {
+            lay_bytes(text.as_bytes(), buffer);
+            *count = text.as_bytes().len();
+            0
+        }
+        Err(why) => unwritable_status(why),
+    }
+}
+
+// Writes the text of the moment of these parts, or tells which is out of its range.
+fn write_moment(format: Format, parts: &MomentParts, buffer: &mut [u8], count: &mut usize) -> u32
+    ensures { HandsMomentText format (moment_refusal parts.now) parts.now result
+        buffer.old buffer.new count.old count.new }
+{
+    match moment_of(parts) {
+        Ok(value) => write_value(format, value, buffer, count),
+        Err(error) => status_of_range(error),
+    }
+}
+
+/// Writes the text of a moment by the format of that number over the front of the buffer, as far as the buffer goes;
+/// `count` is how many bytes the whole text has. On any other status than 0 both are unchanged: a part is out of its
+/// range, the moment has no text in that format, or no format has that number.
+#[inline(always)]
+pub fn format_moment(format: u32, moment: &MomentParts, buffer: &mut [u8], count: &mut usize) -> u32
+    ensures { HandsText (Formats.format_of format) moment.now result buffer.old buffer.new count.old count.new }
+{
+    match format_of(format) {
+        Some(format) => write_moment(format, moment, buffer, count),
+        None => UNKNOWN_FORMAT,
+    }
+}

@@ -1,0 +1,8 @@
+use Rattle.std.proofs.Common.{refl, arith}
+use Rattle.programs_answers.proofs.LinesLemmas.{Consumes-end}
+use Rattle.programs_answers.proofs.serving.read_all.Goals as goal
+
+pub returns-in-Ok-eq0 : goal.returns-in-Ok-eq0
+returns-in-Ok-eq0 g c =
+    let read = rw c.in-Ok-eq0.field-0-test at c.in-Ok-eq0.ensures.bytes in
+    record { all = Consumes-end _ _ _ _ c.loop.invariant.0 read.0 (read.1 refl (omega arith)) }

@@ -1,0 +1,120 @@
+-- The formats and targets that a line may name.
+use Rattle.std.specs.Prelude.{ℕ, List, [], ◌∷◌, ◌++◌, codes, true, false, Option, None, Some, if◌then◌else◌}
+use Rattle.std.specs.Str.{bytes_eq}
+use Rattle.time_components.specs.Tree.{Tree, literal, component, sequence, optional, first_of, trees}
+use Rattle.time_digits.specs.declared.Padding.TheVariants as padding
+use Rattle.time_components.specs.declared.format_description.Component.{Component}
+use Rattle.time_components.specs.declared.format_description.Component.TheVariants as kind
+use Rattle.time_components.specs.declared.modifier.SubsecondDigits.TheVariants.{OneOrMore}
+use Rattle.programs_answers.specs.declared.formats.Format.{Format}
+use Rattle.programs_answers.specs.declared.formats.Format.TheVariants as format
+use Rattle.programs_answers.specs.declared.formats.Target.{Target}
+use Rattle.programs_answers.specs.declared.formats.Target.TheVariants as target
+
+-- the format of that name, if there is one
+abbrev pub format_named : List ℕ → Option Format
+format_named name =
+    if bytes_eq name (codes "rfc3339") then Some format.Rfc3339 else
+    if bytes_eq name (codes "rfc2822") then Some format.Rfc2822 else
+    if bytes_eq name (codes "iso8601") then Some format.Iso8601 else
+    if bytes_eq name (codes "ymd") then Some format.Ymd else
+    if bytes_eq name (codes "clock") then Some format.Clock else
+    if bytes_eq name (codes "unix") then Some format.Unix else
+    if bytes_eq name (codes "local") then Some format.Local else None
+
+-- the target of that name, if there is one
+abbrev pub target_named : List ℕ → Option Target
+target_named name =
+    if bytes_eq name (codes "date") then Some target.Date else
+    if bytes_eq name (codes "time") then Some target.Time else
+    if bytes_eq name (codes "offset") then Some target.Offset else
+    if bytes_eq name (codes "plain") then Some target.Plain else
+    if bytes_eq name (codes "utc") then Some target.Utc else
+    if bytes_eq name (codes "datetime") then Some target.DateTime else
+    if bytes_eq name (codes "staged") then Some target.Staged else
+    if bytes_eq name (codes "timestamp") then Some target.Timestamp else None
+
+-- a component, as a description before version 3 reads it
+abbrev pub part : Component → Tree
+part = component false
+
+-- a year of four digits, with a sign or without
+abbrev pub year : Tree
+year = part (kind.CalendarYearFullStandardRange (record { padding = padding.Zero; sign_is_mandatory = false }))
+
+abbrev pub minute : Tree
+minute = part (kind.Minute (record { padding = padding.Zero }))
+
+abbrev pub second : Tree
+second = part (kind.Second (record { padding = padding.Zero }))
+
+-- `2021-03-04`
+abbrev pub date_parts : List Tree
+date_parts =
+    year
+    ∷ literal (codes "-")
+    ∷ part (kind.MonthNumerical (record { padding = padding.Zero }))
+    ∷ literal (codes "-")
+    ∷ part (kind.Day (record { padding = padding.Zero }))
+    ∷ []
+
+-- `03:04:05`
+abbrev pub time_parts : List Tree
+time_parts =
+    part (kind.Hour24 (record { padding = padding.Zero }))
+    ∷ literal (codes ":")
+    ∷ minute
+    ∷ literal (codes ":")
+    ∷ second
+    ∷ []
+
+-- `-00:30`
+abbrev pub offset_parts : List Tree
+offset_parts =
+    part (kind.OffsetHour (record { padding = padding.Zero; sign_is_mandatory = true }))
+    ∷ literal (codes ":")
+    ∷ part (kind.OffsetMinute (record { padding = padding.Zero }))
+    ∷ []
+
+-- `2021-01-02 03:04:05 -00:30`
+abbrev pub date_time_parts : List Tree
+date_time_parts = date_parts ++ literal (codes " ") ∷ time_parts ++ literal (codes " ") ∷ offset_parts
+
+-- a year and the day of it, as `2020-366`
+abbrev pub ordinal_parts : List Tree
+ordinal_parts = year ∷ literal (codes "-") ∷ part (kind.Ordinal (record { padding = padding.Zero })) ∷ []
+
+-- `.25`
+abbrev pub fraction_parts : List Tree
+fraction_parts = literal (codes ".") ∷ part (kind.Subsecond (record { digits = OneOrMore })) ∷ []
+
+-- `:09`, and a fraction that may be missing
+abbrev pub second_parts : Tree → List Tree
+second_parts fraction = literal (codes ":") ∷ second ∷ optional fraction ∷ []
+
+-- `1:05 PM`, and before the space a second that may be missing
+abbrev pub clock_parts : Tree → List Tree
+clock_parts seconds =
+    part (kind.Hour12 (record { padding = padding.None }))
+    ∷ literal (codes ":")
+    ∷ minute
+    ∷ optional seconds
+    ∷ literal (codes " ")
+    ∷ part (kind.Period (record { is_uppercase = true; case_sensitive = false }))
+    ∷ []
+
+-- a date
+abbrev pub ymd : Tree
+ymd = sequence (trees date_parts)
+
+-- a time on a clock of 12 hours
+abbrev pub clock : Tree
+clock = sequence (trees (clock_parts (sequence (trees (second_parts (sequence (trees fraction_parts)))))))
+
+-- seconds since 1970-01-01T00:00:00Z, in a description of version 3
+abbrev pub unix : Tree
+unix = component true (kind.UnixTimestampSecond (record { sign_is_mandatory = false }))
+
+-- a date, time and offset, or a year and its day
+abbrev pub local : Tree
+local = first_of (trees (sequence (trees date_time_parts) ∷ sequence (trees ordinal_parts) ∷ []))

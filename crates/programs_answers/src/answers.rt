@@ -1,0 +1,76 @@
+//! The answer to a text.
+ghost use Rattle.std.specs.Prelude.{OnOk, codes, ◌++◌};
+ghost use Rattle.std.specs.Io.KnownBytes.{Appends};
+ghost use Rattle.time_values.specs.Range.{greatest_year};
+ghost use Rattle.time_values.specs.Refusal.{refusal_of};
+ghost use Rattle.time_values.specs.Texts.{refusal_text};
+ghost use Rattle.time_parsing.specs.Outcome.{seen};
+ghost use Rattle.programs_answers.specs.Output.{IsAnswerFor, Writes};
+ghost use Rattle.programs_answers.specs.Values.{printed};
+
+use crate::formats::Target;
+use crate::layout::Layout;
+use std::io::Write;
+use time_parsing::Parsable;
+use time_record::Parsed;
+use time_values::error::Parse;
+
+/// A write failed. It is small, since each line hands it on.
+#[derive(Clone, Copy, Debug, PartialEq, Eq)]
+pub struct Unwritten;
+
+// Writes the error of a parse.
+#[cold]
+#[inline(never)]
+fn write_error<W: Write>(error: Parse, out: &mut W) -> Result<(), Unwritten>
+    ensures { OnOk result (Appends (W.contents out.old) (W.contents out.new) (codes "error: " ++ refusal_text (refusal_of error))) }
+{
+    write!(out, "error: {error}").map_err(|_| Unwritten)
+}
+
+// Writes a value, or the error of its parse.
+#[inline(always)]
+fn write_outcome<V: Layout, W: Write>(
+    outcome: Result<V, Parse>,
+    out: &mut W,
+) -> Result<(), Unwritten>
+    ensures { OnOk result (Appends (W.contents out.old) (W.contents out.new) (printed V.text (seen outcome))) }
+{
+    let value = match outcome {
+        Ok(value) => value,
+        Err(e) => return write_error(e, out),
+    };
+    match value.write_to(out) {
+        Ok(()) => Ok(()),
+        Err(_) => Err(Unwritten),
+    }
+}
+
+/// Writes the outcome of the text by the format for the target: the value, or `error: ` and why there is none.
+#[inline(always)]
+pub fn write_value<F: Parsable, W: Write>(
+    format: &F,
+    target: Target,
+    text: &[u8],
+    out: &mut W,
+) -> Result<(), Unwritten>
+    ensures { OnOk result
+        (Writes (IsAnswerFor greatest_year target (F.path format.now) (F.reads format.now) (F.refuses format.now) text.now)
+        (W.contents out.old) (W.contents out.new)) }
+{
+    match target {
+        Target::Date => write_outcome(format.parse_date(text, None), out),
+        Target::Time => write_outcome(format.parse_time(text, None), out),
+        Target::Offset => write_outcome(format.parse_offset(text, None), out),
+        Target::Plain => write_outcome(format.parse_plain_date_time(text, None), out),
+        Target::Utc => write_outcome(format.parse_utc_date_time(text, None), out),
+        Target::DateTime => write_outcome(format.parse_offset_date_time(text, None), out),
+        Target::Staged => {
+            write_outcome(
+                format.parse_offset_date_time(text, Some(Parsed::new())),
+                out,
+            )
+        }
+        Target::Timestamp => write_outcome(format.parse_timestamp(text, None), out),
+    }
+}

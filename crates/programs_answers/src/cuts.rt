@@ -1,0 +1,17 @@
+//! Cuts an input into lines.
+ghost use Rattle.std.specs.Prelude.{◌≡◌, ◌∷◌, ◌<◌, length};
+ghost use Rattle.programs_answers.specs.Lines.{lines_of};
+
+use memchr::memchr;
+
+/// The first line of an input that isn't empty, and what comes after its LF.
+pub fn first_line(bytes: &[u8]) -> (&[u8], &[u8])
+    requires { 0 < length bytes.now }
+    ensures line { lines_of bytes.now ≡ result.0.now ∷ lines_of result.1.now }
+    ensures shorter { length result.1.now < length bytes.now }
+{
+    match memchr(b'\n', bytes) {
+        Some(i) => (&bytes[..i], &bytes[i + 1..]),
+        None => (bytes, &bytes[bytes.len()..]),
+    }
+}

@@ -1,0 +1,207 @@
+//! The formats and targets that a line may name.
+ghost use Rattle.std.specs.Prelude.{◌≡◌, map, take, drop};
+ghost use Rattle.time_components.specs.Shape.{borrowed_shape, v3_shape};
+ghost use Rattle.time_components.specs.Tree.{sequence, first_of, trees};
+ghost use Rattle.programs_answers.specs.Formats as formats;
+
+use time_readers::{
+    BorrowedFormatItem, Component, FormatDescriptionV3, FormatDescriptionV3Inner, Padding,
+    SubsecondDigits, modifier,
+};
+
+/// The formats that a line may name.
+#[derive(Clone, Copy, Debug)]
+pub enum Format {
+    /// RFC 3339, section 5.6.
+    Rfc3339,
+    /// Mail dates, RFC 2822, section 3.3.
+    Rfc2822,
+    /// ISO 8601.
+    Iso8601,
+    /// A date, as `2021-03-04`.
+    Ymd,
+    /// A time on a clock of 12 hours, as `1:05:09.25 PM`; the second and its fraction may be missing.
+    Clock,
+    /// Seconds since 1970-01-01T00:00:00Z.
+    Unix,
+    /// A date, time and offset, as `2021-01-02 03:04:05 -00:30`, or a year and its day, as `2020-366`.
+    Local,
+}
+
+/// The targets that a line may name.
+#[derive(Clone, Copy, Debug)]
+pub enum Target {
+    /// A date.
+    Date,
+    /// A time.
+    Time,
+    /// An offset from UTC.
+    Offset,
+    /// A date and time.
+    Plain,
+    /// A date and time in UTC.
+    Utc,
+    /// A date, time and offset.
+    DateTime,
+    /// A date, time and offset, read over an empty record.
+    Staged,
+    /// An instant.
+    Timestamp,
+}
+
+// The value beside the first of these names that the bytes are, if there is one.
+macro_rules! value_named {
+    ($bytes:expr, $($name:literal => $value:expr),+) => {
+        $(if $bytes == $name.as_slice() { Some($value) } else)+ { None }
+    };
+}
+
+/// The format of that name, if there is one.
+pub fn find_format(name: &[u8]) -> Option<Format>
+    ensures { result ≡ formats.format_named name.now }
+{
+    value_named!(
+        name,
+        b"rfc3339" => Format::Rfc3339,
+        b"rfc2822" => Format::Rfc2822,
+        b"iso8601" => Format::Iso8601,
+        b"ymd" => Format::Ymd,
+        b"clock" => Format::Clock,
+        b"unix" => Format::Unix,
+        b"local" => Format::Local
+    )
+}
+
+/// The target of that name, if there is one.
+pub fn find_target(name: &[u8]) -> Option<Target>
+    ensures { result ≡ formats.target_named name.now }
+{
+    value_named!(
+        name,
+        b"date" => Target::Date,
+        b"time" => Target::Time,
+        b"offset" => Target::Offset,
+        b"plain" => Target::Plain,
+        b"utc" => Target::Utc,
+        b"datetime" => Target::DateTime,
+        b"staged" => Target::Staged,
+        b"timestamp" => Target::Timestamp
+    )
+}
+
+// A component that a description reads.
+macro_rules! item {
+    ($name:ident, $($field:ident: $value:expr),*) => {
+        BorrowedFormatItem::Component(Component::$name(modifier::$name { $($field: $value),* }))
+    };
+}
+
+/// The items in turn.
+pub fn compound<'a>(items: &'a [BorrowedFormatItem<'a>]) -> BorrowedFormatItem<'a>
+    ensures { borrowed_shape result ≡ sequence (trees (map borrowed_shape items.now)) }
+{
+    BorrowedFormatItem::Compound(items)
+}
+
+/// The first item that reads.
+pub fn first<'a>(items: &'a [BorrowedFormatItem<'a>]) -> BorrowedFormatItem<'a>
+    ensures { borrowed_shape result ≡ first_of (trees (map borrowed_shape items.now)) }
+{
+    BorrowedFormatItem::First(items)
+}
+
+// A year of four digits.
+fn year() -> BorrowedFormatItem<'static>
+    ensures { borrowed_shape result ≡ formats.year }
+{
+    item!(CalendarYearFullStandardRange, padding: Padding::Zero, sign_is_mandatory: false)
+}
+
+/// `2021-03-04`.
+pub fn date_items() -> [BorrowedFormatItem<'static>; 5]
+    ensures { map borrowed_shape result ≡ formats.date_parts }
+{
+    [
+        year(),
+        BorrowedFormatItem::StringLiteral("-"),
+        item!(MonthNumerical, padding: Padding::Zero),
+        BorrowedFormatItem::StringLiteral("-"),
+        item!(Day, padding: Padding::Zero),
+    ]
+}
+
+/// `2021-01-02 03:04:05 -00:30` in fifteen items, and then `2020-366` in three.
+pub fn local_items() -> [BorrowedFormatItem<'static>; 18]
+    ensures date_time { map borrowed_shape (take 15 result) ≡ formats.date_time_parts }
+    ensures ordinal { map borrowed_shape (drop 15 result) ≡ formats.ordinal_parts }
+{
+    let [year, hyphen, month, _, day] = date_items();
+    [
+        year,
+        hyphen,
+        month,
+        hyphen,
+        day,
+        BorrowedFormatItem::StringLiteral(" "),
+        item!(Hour24, padding: Padding::Zero),
+        BorrowedFormatItem::StringLiteral(":"),
+        item!(Minute, padding: Padding::Zero),
+        BorrowedFormatItem::StringLiteral(":"),
+        item!(Second, padding: Padding::Zero),
+        BorrowedFormatItem::StringLiteral(" "),
+        item!(OffsetHour, padding: Padding::Zero, sign_is_mandatory: true),
+        BorrowedFormatItem::StringLiteral(":"),
+        item!(OffsetMinute, padding: Padding::Zero),
+        year,
+        hyphen,
+        item!(Ordinal, padding: Padding::Zero),
+    ]
+}
+
+/// `.25`.
+pub fn fraction_items() -> [BorrowedFormatItem<'static>; 2]
+    ensures { map borrowed_shape result ≡ formats.fraction_parts }
+{
+    [
+        BorrowedFormatItem::StringLiteral("."),
+        item!(Subsecond, digits: SubsecondDigits::OneOrMore),
+    ]
+}
+
+/// `:09`, and a fraction that may be missing.
+pub fn second_items<'a>(fraction: &'a BorrowedFormatItem<'a>) -> [BorrowedFormatItem<'a>; 3]
+    ensures { map borrowed_shape result ≡ formats.second_parts (borrowed_shape fraction.now) }
+{
+    [
+        BorrowedFormatItem::StringLiteral(":"),
+        item!(Second, padding: Padding::Zero),
+        BorrowedFormatItem::Optional(fraction),
+    ]
+}
+
+/// `1:05 PM`, and before the space a second that may be missing.
+pub fn clock_items<'a>(seconds: &'a BorrowedFormatItem<'a>) -> [BorrowedFormatItem<'a>; 6]
+    ensures { map borrowed_shape result ≡ formats.clock_parts (borrowed_shape seconds.now) }
+{
+    [
+        item!(Hour12, padding: Padding::None),
+        BorrowedFormatItem::StringLiteral(":"),
+        item!(Minute, padding: Padding::Zero),
+        BorrowedFormatItem::Optional(seconds),
+        BorrowedFormatItem::StringLiteral(" "),
+        item!(Period, is_uppercase: true, case_sensitive: false),
+    ]
+}
+
+/// Seconds since 1970-01-01T00:00:00Z.
+pub fn unix() -> FormatDescriptionV3<'static>
+    ensures { v3_shape result.inner ≡ formats.unix }
+{
+    FormatDescriptionV3 {
+        inner: FormatDescriptionV3Inner::Component(Component::UnixTimestampSecond(
+            modifier::UnixTimestampSecond {
+                sign_is_mandatory: false,
+            },
+        )),
+    }
+}

@@ -1,0 +1,249 @@
+//! Lays values out as text.
+ghost use Rattle.std.specs.Prelude.{◌≡◌, ℕ, ◌<◌, List, ◌++◌, ◌∷◌, codes, OnOk};
+ghost use Rattle.std.specs.Io.KnownBytes.{Appends};
+ghost use Rattle.programs_answers.specs.Layout.{minus_if};
+ghost use Rattle.programs_answers.specs.Pieces.{leading_digits, year_front};
+ghost use Rattle.time_values.specs.Dates as Dates;
+ghost use Rattle.time_values.specs.Moments.{offset_date};
+ghost use Rattle.time_values.specs.Shown.{fixed};
+ghost use Rattle.programs_answers.specs.Values.{is_negative, date_text, time_text, offset_text, date_time_text, plain_text, utc_text, offset_date_time_text, timestamp_text};
+
+use std::io;
+use std::io::Write;
+use time_values::digits::{four, nine, pair};
+use time_values::{Date, OffsetDateTime, PlainDateTime, Time, Timestamp, UtcDateTime, UtcOffset};
+
+// `YYYY-MM-DD`.
+#[inline]
+fn date_bytes(year: u32, month: u8, day: u8) -> [u8; 10]
+    requires year_in { year < 10000 }
+    requires month_in { month < 100 }
+    requires day_in { day < 100 }
+    ensures { result ≡ fixed 4 year ++ codes "-" ++ fixed 2 month ++ codes "-" ++ fixed 2 day }
+{
+    let [y1, y2, y3, y4] = four(year);
+    let [m1, m2] = pair(month);
+    let [d1, d2] = pair(day);
+    [y1, y2, y3, y4, b'-', m1, m2, b'-', d1, d2]
+}
+
+// `HH:MM:SS.nnnnnnnnn`.
+#[inline]
+fn time_bytes(hour: u8, minute: u8, second: u8, nanosecond: u32) -> [u8; 18]
+    requires hour_in { hour < 100 }
+    requires minute_in { minute < 100 }
+    requires second_in { second < 100 }
+    requires nanosecond_in { nanosecond < 1_000_000_000 }
+    ensures { result ≡ fixed 2 hour ++ codes ":" ++ fixed 2 minute ++ codes ":" ++ fixed 2 second
+        ++ codes "." ++ fixed 9 nanosecond }
+{
+    let [h1, h2] = pair(hour);
+    let [m1, m2] = pair(minute);
+    let [s1, s2] = pair(second);
+    let [n1, n2, n3, n4, n5, n6, n7, n8, n9] = nine(nanosecond);
+    [
+        h1, h2, b':', m1, m2, b':', s1, s2, b'.', n1, n2, n3, n4, n5, n6, n7, n8, n9,
+    ]
+}
+
+// `HH:MM:SS`, after the sign that it is handed.
+#[inline]
+fn offset_bytes(sign: u8, hours: u8, minutes: u8, seconds: u8) -> [u8; 9]
+    requires hours_in { hours < 100 }
+    requires minutes_in { minutes < 100 }
+    requires seconds_in { seconds < 100 }
+    ensures { result ≡ sign ∷ fixed 2 hours ++ codes ":" ++ fixed 2 minutes ++ codes ":" ++ fixed 2 seconds }
+{
+    let [h1, h2] = pair(hours);
+    let [m1, m2] = pair(minutes);
+    let [s1, s2] = pair(seconds);
+    [sign, h1, h2, b':', m1, m2, b':', s1, s2]
+}
+
+// `YYYY-MM-DD`, with the last four digits of the year.
+#[inline(always)]
+fn lay_date(date: Date) -> [u8; 10]
+    ensures { year_front (Dates.year date) ++ result ≡ date_text date }
+{
+    date_bytes(
+        date.year().unsigned_abs() % 10_000,
+        date.month().number(),
+        date.day(),
+    )
+}
+
+// `HH:MM:SS.nnnnnnnnn`.
+#[inline(always)]
+fn lay_time(time: Time) -> [u8; 18]
+    ensures { result ≡ time_text time }
+{
+    time_bytes(time.hour(), time.minute(), time.second(), time.nanosecond())
+}
+
+// `+HH:MM:SS`, with `-` where a part is negative.
+#[inline(always)]
+fn lay_offset(offset: UtcOffset) -> [u8; 9]
+    ensures { result ≡ offset_text offset }
+{
+    let (hours, minutes, seconds) = offset.as_hms();
+    let sign = if hours < 0 || minutes < 0 || seconds < 0 {
+        b'-'
+    } else {
+        b'+'
+    };
+    offset_bytes(
+        sign,
+        hours.unsigned_abs(),
+        minutes.unsigned_abs(),
+        seconds.unsigned_abs(),
+    )
+}
+
+// Date and time with a space between them, with the last four digits of the year.
+#[inline(always)]
+fn lay_date_time(date: Date, time: Time) -> [u8; 29]
+    ensures { year_front (Dates.year date) ++ result ≡ date_time_text date time }
+{
+    let mut text = [b' '; 29];
+    text[..10].copy_from_slice(&lay_date(date));
+    text[11..].copy_from_slice(&lay_time(time));
+    text
+}
+
+// Date, time and offset with spaces between them, with the last four digits of the year.
+#[inline(always)]
+fn lay_moment(moment: OffsetDateTime) -> [u8; 39]
+    ensures { year_front (Dates.year (offset_date moment)) ++ result ≡ offset_date_time_text moment }
+{
+    let mut text = [b' '; 39];
+    text[..29].copy_from_slice(&lay_date_time(moment.date(), moment.time()));
+    text[30..].copy_from_slice(&lay_offset(moment.offset()));
+    text
+}
+
+// Writes a minus before a negative year.
+fn write_sign<W: Write>(date: Date, out: &mut W) -> io::Result<()>
+    ensures { OnOk result (Appends (W.contents out.old) (W.contents out.new) (minus_if (is_negative (Dates.year date)))) }
+{
+    if date.year() < 0 {
+        out.write_all(b"-")
+    } else {
+        Ok(())
+    }
+}
+
+// Writes the digits of a year before its last four.
+fn write_leading_digits<W: Write>(year: u32, out: &mut W) -> io::Result<()>
+    ensures { OnOk result (Appends (W.contents out.old) (W.contents out.new) (leading_digits year)) }
+{
+    if year < 10_000 {
+        return Ok(());
+    }
+    let mut buffer = itoa::Buffer::new();
+    out.write_all(buffer.format(year / 10_000).as_bytes())
+}
+
+// Writes what stands before the last four digits of a date's year: of most years nothing.
+#[inline(always)]
+fn write_year_front<W: Write>(date: Date, out: &mut W) -> io::Result<()>
+    ensures { OnOk result (Appends (W.contents out.old) (W.contents out.new) (year_front (Dates.year date))) }
+{
+    if date.year() >= 0 && date.year() < 10_000 {
+        return Ok(());
+    }
+    write_sign(date, out)?;
+    write_leading_digits(date.year().unsigned_abs(), out)
+}
+
+/// A value that is written as text.
+pub trait Layout {
+    // The text of the value.
+    ghost text: { Self → List ℕ };
+
+    /// Writes the value's text.
+    fn write_to<W: Write>(self, out: &mut W) -> io::Result<()>
+        ensures { OnOk result (Appends (W.contents out.old) (W.contents out.new) (text self)) };
+}
+
+/// `YYYY-MM-DD`, after a minus where the year is negative, and with all digits of a year past 9999.
+impl Layout for Date {
+    ghost text = { date_text };
+
+    #[inline(always)]
+    fn write_to<W: Write>(self, out: &mut W) -> io::Result<()> {
+        write_year_front(self, out)?;
+        out.write_all(&lay_date(self))
+    }
+}
+
+/// `HH:MM:SS.nnnnnnnnn`.
+impl Layout for Time {
+    ghost text = { time_text };
+
+    #[inline(always)]
+    fn write_to<W: Write>(self, out: &mut W) -> io::Result<()> {
+        out.write_all(&lay_time(self))
+    }
+}
+
+/// `+HH:MM:SS`, with `-` where a part is negative.
+impl Layout for UtcOffset {
+    ghost text = { offset_text };
+
+    #[inline(always)]
+    fn write_to<W: Write>(self, out: &mut W) -> io::Result<()> {
+        out.write_all(&lay_offset(self))
+    }
+}
+
+// Writes date and time with a space between them.
+#[inline(always)]
+fn write_date_time<W: Write>(date: Date, time: Time, out: &mut W) -> io::Result<()>
+    ensures { OnOk result (Appends (W.contents out.old) (W.contents out.new) (date_time_text date time)) }
+{
+    write_year_front(date, out)?;
+    out.write_all(&lay_date_time(date, time))
+}
+
+/// Date and time.
+impl Layout for PlainDateTime {
+    ghost text = { plain_text };
+
+    #[inline(always)]
+    fn write_to<W: Write>(self, out: &mut W) -> io::Result<()> {
+        write_date_time(self.date(), self.time(), out)
+    }
+}
+
+/// Date, time and ` +00:00:00`.
+impl Layout for UtcDateTime {
+    ghost text = { utc_text };
+
+    #[inline(always)]
+    fn write_to<W: Write>(self, out: &mut W) -> io::Result<()> {
+        write_date_time(self.date(), self.time(), out)?;
+        out.write_all(b" +00:00:00")
+    }
+}
+
+/// Date, time, space and offset.
+impl Layout for OffsetDateTime {
+    ghost text = { offset_date_time_text };
+
+    #[inline(always)]
+    fn write_to<W: Write>(self, out: &mut W) -> io::Result<()> {
+        write_year_front(self.date(), out)?;
+        out.write_all(&lay_moment(self))
+    }
+}
+
+/// Nanoseconds since 1970-01-01T00:00:00Z.
+impl Layout for Timestamp {
+    ghost text = { timestamp_text };
+
+    #[inline(always)]
+    fn write_to<W: Write>(self, out: &mut W) -> io::Result<()> {
+        let mut buffer = itoa::Buffer::new();
+        out.write_all(buffer.format(self.nanoseconds()).as_bytes())
+    }
+}

@@ -1,0 +1,134 @@
+//! The formats that a line may name, with their descriptions prepared for many texts.
+ghost use Rattle.std.specs.Prelude.{◌≡◌, ◌∷◌, [], OnOk, map};
+ghost use Rattle.time_values.specs.Range.{greatest_year};
+ghost use Rattle.time_components.specs.Shape.{borrowed_shape};
+ghost use Rattle.time_components.specs.Steps.{steps_shape};
+ghost use Rattle.time_components.specs.Tree.{first_of, sequence, trees};
+ghost use Rattle.time_preparing.specs.Items.{Prepares};
+ghost use Rattle.programs_answers.specs.Formats as formats;
+ghost use Rattle.programs_answers.specs.Output.{IsDescribed, IsParsed, Writes};
+
+use crate::answers::{Unwritten, write_value};
+use crate::formats::{
+    Format, Target, clock_items, compound, date_items, first, fraction_items, local_items,
+    second_items, unix,
+};
+use std::io::Write;
+use std::marker::Model;
+use time_components::BorrowedFormatItem;
+use time_parsing::{Iso8601, Rfc2822, Rfc3339};
+use time_preparing::{Prepared, Unprepared};
+
+/// The formats that a line may name, with their descriptions prepared for many texts.
+#[derive(Drop)]
+pub struct Named {
+    ymd: Prepared<5>,
+    clock: Prepared<11>,
+    local: Prepared<21>,
+}
+
+impl Model for Named {
+    ghost use Rattle.std.specs.Prelude.{◌≡◌, ◌∷◌, []};
+    ghost use Rattle.time_components.specs.Steps.{steps_shape};
+    ghost use Rattle.time_components.specs.Tree.{sequence, trees};
+    ghost use Rattle.programs_answers.specs.Formats as formats;
+
+    ghost Value = { Unit {0} };
+
+    ghost view = { λ _. tt };
+
+    ghost invariant = { λ named. (steps_shape named.ymd ≡ formats.ymd) × (steps_shape named.clock ≡ formats.clock)
+        × (steps_shape named.local ≡ sequence (trees (formats.local ∷ []))) };
+}
+
+// A date.
+fn ymd() -> Prepared<5>
+    ensures { steps_shape result ≡ formats.ymd }
+{
+    match Prepared::from_items(&date_items()) {
+        Ok(prepared) => prepared,
+        Err(_) => unreachable!(),
+    }
+}
+
+// A time on a clock of 12 hours.
+fn clock() -> Prepared<11>
+    ensures { steps_shape result ≡ formats.clock }
+{
+    let fraction = fraction_items();
+    let fraction = compound(&fraction);
+    let seconds = second_items(&fraction);
+    let seconds = compound(&seconds);
+    match Prepared::from_items(&clock_items(&seconds)) {
+        Ok(prepared) => prepared,
+        Err(_) => unreachable!(),
+    }
+}
+
+// The first of these lists that reads.
+fn choice(lists: &[BorrowedFormatItem<'_>]) -> Result<Prepared<21>, Unprepared>
+    ensures { Prepares 21 (trees (first_of (trees (map borrowed_shape lists.now)) ∷ [])) result }
+{
+    Prepared::from_items(&[first(lists)])
+}
+
+// A date, time and offset, or a year and its day.
+fn local() -> Prepared<21>
+    ensures { steps_shape result ≡ sequence (trees (formats.local ∷ [])) }
+{
+    let items = local_items();
+    let (date_time, ordinal) = items.split_at(15);
+    match choice(&[compound(date_time), compound(ordinal)]) {
+        Ok(prepared) => prepared,
+        Err(_) => unreachable!(),
+    }
+}
+
+impl Named {
+    /// The formats, prepared. Nothing is allocated.
+    pub fn new() -> Named {
+        Named {
+            ymd: ymd(),
+            clock: clock(),
+            local: local(),
+        }
+    }
+
+    // Writes the outcome of the text by a description of a date, time and offset, or of a year and its day.
+    #[inline(always)]
+    fn write_local<W: Write>(
+        &self,
+        target: Target,
+        text: &[u8],
+        out: &mut W,
+    ) -> Result<(), Unwritten>
+        ensures { OnOk result (Writes (IsDescribed greatest_year formats.local target text.now)
+            (W.contents out.old) (W.contents out.new)) }
+    {
+        write_value(&self.local, target, text, out)
+    }
+
+    /// Writes the outcome of the text by a format that has a name for the target: the value, or `error: ` and why there is
+    /// none.
+    #[inline(always)]
+    pub fn write_parsed<W: Write>(
+        &self,
+        format: Format,
+        target: Target,
+        text: &[u8],
+        out: &mut W,
+    ) -> Result<(), Unwritten>
+        ensures { OnOk result (Writes (IsParsed greatest_year format target text.now)
+            (W.contents out.old) (W.contents out.new)) }
+    {
+        match format {
+            Format::Rfc3339 => write_value(&Rfc3339, target, text, out),
+            Format::Rfc2822 => write_value(&Rfc2822, target, text, out),
+            Format::Iso8601 => write_value(&Iso8601, target, text, out),
+            Format::Ymd => write_value(&self.ymd, target, text, out),
+            Format::Clock => write_value(&self.clock, target, text, out),
+            Format::Unix => write_value(&unix(), target, text, out),
+            Format::Local => self.write_local(target, text, out),
+        }
+    }
+}

@@ -1,0 +1,27 @@
+use Rattle.restamp_stream.proofs.ReportLemmas.{OnOk-map}
+use Rattle.restamp_verdict.specs.Reason.{seen}
+use Rattle.restamp_verdict.specs.Job.{without, dropped}
+use Rattle.restamp_stream.specs.declared.fate.Fate.TheVariants.{Refused}
+use Rattle.restamp_command.proofs.FateLemmas.{fate_of-verdict}
+use Rattle.restamp_command.proofs.rewriting.RestampingRewriting.write_reason.Goals as goal
+
+pub returns-in-Without : goal.returns-in-Without
+returns-in-Without g c =
+    let e = fate_of-verdict c.args.self.now.job c.args.front.now Refused without c.requires (rw c.in-Without.is at c.judge.ensures.verdict) in
+    absurd cc
+
+pub returns-in-Rewritten : goal.returns-in-Rewritten
+returns-in-Rewritten g c =
+    let e = fate_of-verdict c.args.self.now.job c.args.front.now Refused _ c.requires (rw c.in-Rewritten.is at c.judge.ensures.verdict) in
+    absurd cc
+
+pub returns-in-Dropped : goal.returns-in-Dropped
+returns-in-Dropped g c =
+    let e = fate_of-verdict c.args.self.now.job c.args.front.now Refused dropped c.requires (rw c.in-Dropped.is at c.judge.ensures.verdict) in
+    absurd cc
+
+pub returns-in-Refused : goal.returns-in-Refused
+returns-in-Refused g c =
+    let judged = rw c.in-Refused.is at c.judge.ensures.verdict in
+    OnOk-map c.write_wrong.result _ _ c.write_wrong.ensures
+    (λ told. (told.0, told.1, (c.in-Refused.column, seen c.in-Refused.reason, judged, told.2), told.3))

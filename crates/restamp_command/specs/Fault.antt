@@ -1,0 +1,92 @@
+-- What is wrong with an option, without where its value lies in memory, and how it is told.
+use Rattle.std.specs.Prelude.{ℕ, List, codes, Option, None, Some}
+use Rattle.restamp_verdict.specs.Lack.{lack_text}
+use Rattle.restamp_verdict.specs.Naming as naming
+use Rattle.restamp_verdict.specs.Reason.{Reason, seen, reason_text}
+use Rattle.restamp_verdict.specs.declared.lack.Lack.{Lack}
+use Rattle.restamp_command.specs.declared.fault.Fault as declared
+use Rattle.restamp_command.specs.declared.fault.Fault.TheVariants as fault
+
+-- each with the value that its option doesn't take, and why
+pub data Fault : Type 0 where
+  memory : Fault
+  field : List ℕ → Fault
+  delimiter : List ℕ → Fault
+  from : List ℕ → naming.Fault → Fault
+  lacking : List ℕ → Lack → Fault
+  to : List ℕ → naming.Fault → Fault
+  year : List ℕ → Fault
+  offset : List ℕ → Fault
+  unused_year : List ℕ → Fault
+  unused_latest : List ℕ → Fault
+  unused_offset : List ℕ → Fault
+  zone : List ℕ → Fault
+  digits : List ℕ → Fault
+  errors : List ℕ → Fault
+  color : List ℕ → Fault
+  latest : List ℕ → Reason → Fault
+  since : List ℕ → Reason → Fault
+  until : List ℕ → Reason → Fault
+
+-- what a fault says
+abbrev pub told : declared.Fault → Fault
+told fault.Memory = memory
+told (fault.Field value) = field value.now
+told (fault.Delimiter value) = delimiter value.now
+told (fault.From value why) = from value.now (naming.fault_of why)
+told (fault.Lacking value lack) = lacking value.now lack
+told (fault.To value why) = to value.now (naming.fault_of why)
+told (fault.Year value) = year value.now
+told (fault.Offset value) = offset value.now
+told (fault.UnusedYear value) = unused_year value.now
+told (fault.UnusedLatest value) = unused_latest value.now
+told (fault.UnusedOffset value) = unused_offset value.now
+told (fault.Zone value) = zone value.now
+told (fault.Digits value) = digits value.now
+told (fault.Errors value) = errors value.now
+told (fault.Color value) = color value.now
+told (fault.Latest value why) = latest value.now (seen why)
+told (fault.Since value why) = since value.now (seen why)
+told (fault.Until value why) = until value.now (seen why)
+
+-- the option, and the value that it doesn't take
+abbrev pub place_of : Fault → Option (List ℕ × List ℕ)
+place_of memory = None
+place_of (field value) = Some (codes "--field <N>", value)
+place_of (delimiter value) = Some (codes "--delimiter <BYTE>", value)
+place_of (from value why) = Some (codes "--from <FORMAT>", value)
+place_of (lacking value lack) = Some (codes "--from <FORMAT>", value)
+place_of (to value why) = Some (codes "--to <FORMAT>", value)
+place_of (year value) = Some (codes "--year <YEAR>", value)
+place_of (offset value) = Some (codes "--offset <OFFSET>", value)
+place_of (unused_year value) = Some (codes "--year <YEAR>", value)
+place_of (unused_latest value) = Some (codes "--latest <TIME>", value)
+place_of (unused_offset value) = Some (codes "--offset <OFFSET>", value)
+place_of (zone value) = Some (codes "--zone <ZONE>", value)
+place_of (digits value) = Some (codes "--digits <N>", value)
+place_of (errors value) = Some (codes "--errors <N>", value)
+place_of (color value) = Some (codes "--color <WHEN>", value)
+place_of (latest value why) = Some (codes "--latest <TIME>", value)
+place_of (since value why) = Some (codes "--since <TIME>", value)
+place_of (until value why) = Some (codes "--until <TIME>", value)
+
+-- what is printed of a fault; of a word that a description has nothing is said
+abbrev pub why_text : Fault → Option (List ℕ)
+why_text memory = Some (codes "out of memory")
+why_text (field value) = Some (codes "it is not a number from 1 to 18446744073709551615")
+why_text (delimiter value) = Some (codes "it is not one byte")
+why_text (from value why) = naming.fault_text why
+why_text (lacking value lack) = Some (lack_text lack)
+why_text (to value why) = naming.fault_text why
+why_text (year value) = Some (codes "it is not a year from -999999 to 999999")
+why_text (offset value) = Some (codes "it is no offset such as +05:30")
+why_text (unused_year value) = Some (codes "each format reads a year")
+why_text (unused_latest value) = Some (codes "each format reads a year")
+why_text (unused_offset value) = Some (codes "each format reads an offset")
+why_text (zone value) = Some (codes "it is not keep, utc or an offset such as +05:30")
+why_text (digits value) = Some (codes "it is not 0 to 9 or auto")
+why_text (errors value) = Some (codes "it is not a number from 0 to 18446744073709551615")
+why_text (color value) = Some (codes "it is not auto, always or never")
+why_text (latest value why) = Some (reason_text why)
+why_text (since value why) = Some (reason_text why)
+why_text (until value why) = Some (reason_text why)

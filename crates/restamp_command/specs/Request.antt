@@ -1,0 +1,246 @@
+-- What options ask for. `Y` is the greatest year.
+use Rattle.std.specs.Prelude.{◌≡◌, ℕ, ℤ, List, [], ◌∷◌, ◌++◌, codes, Bool, true, false, ◌&&◌, ◌||◌, not, if◌then◌else◌, ◌⊎◌, MatchBool, Option, None, Some, is_some, IsSomeAnd, Result, Ok, Err}
+use Rattle.std.specs.Borrow.{Bor}
+use Rattle.std.specs.List.{list_any}
+use Rattle.std.specs.Option.{option_map}
+use Rattle.restamp_place.specs.declared.cuts.Place.{Place}
+use Rattle.restamp_place.specs.declared.cuts.Place.TheVariants as place
+use Rattle.restamp_place.specs.declared.fields.Fields.{Fields}
+use Rattle.restamp_place.specs.declared.fields.Fields.TheVariants.{Delimited, Blank, Quoted}
+use Rattle.restamp_verdict.specs.Lack.{format_lack, takes}
+use Rattle.restamp_verdict.specs.Naming as naming
+use Rattle.restamp_verdict.specs.Naming.{Means, MeansWriting, meaning_of, way_of}
+use Rattle.restamp_verdict.specs.Reason.{Reason, seen}
+use Rattle.restamp_verdict.specs.declared.reason.Reason as declared
+use Rattle.restamp_verdict.specs.declared.job.Job.{Job}
+use Rattle.restamp_verdict.specs.declared.lack.Part.{Part}
+use Rattle.restamp_verdict.specs.declared.lack.Part.TheVariants as part
+use Rattle.restamp_verdict.specs.declared.reading.Defaults.{Defaults}
+use Rattle.restamp_verdict.specs.declared.reading.Reading.{Reading}
+use Rattle.restamp_options.specs.Options.{other_names, text_behind}
+use Rattle.restamp_options.specs.declared.options.Options.{Options}
+use Rattle.restamp_stream.specs.declared.settings.Output.TheVariants.{AllLines, RewrittenLines, Times}
+use Rattle.restamp_stream.specs.declared.settings.Reports.TheVariants.{Quiet, First}
+use Rattle.restamp_stream.specs.declared.settings.Settings.{Settings}
+use Rattle.time_values.specs.Offsets.{IsUtc}
+use Rattle.time_values.specs.declared.offset_date_time.OffsetDateTime.{OffsetDateTime}
+use Rattle.time_values.specs.declared.utc_offset.UtcOffset.{UtcOffset}
+use Rattle.restamp_command.specs.Fault as fault
+use Rattle.restamp_command.specs.Fault.{Fault}
+use Rattle.restamp_command.specs.Values.{delimiter_of, digits_of, shows_of, IsNumber, IsPositive, IsOffsetText, IsYear, IsZone, IsMomentText}
+use Rattle.restamp_command.specs.declared.request.Request.{Request}
+use Rattle.restamp_command.specs.declared.style.Style.{Style}
+
+-- a place in a line, without where its texts lie in memory, or any place
+pub data Where : Type 0 where
+  anywhere : Where
+  whole : Where
+  front : Where
+  field : Fields → ℕ → Where
+  between : List ℕ → List ℕ → Where
+  after : List ℕ → Where
+
+abbrev pub seen_place : Option Place → Where
+seen_place None = anywhere
+seen_place (Some place.Whole) = whole
+seen_place (Some place.Front) = front
+seen_place (Some (place.Field fields n)) = field fields n
+seen_place (Some (place.Between begin close)) = between begin.now close.now
+seen_place (Some (place.After key)) = after key.now
+
+-- how a line has fields
+abbrev pub fields_of : Options → Option Fields
+fields_of o =
+    if o.blanks then Some Blank else
+    option_map (λ byte. if o.csv then Quoted byte else Delimited byte) (delimiter_of o.delimiter.now)
+
+-- The place of the field of that number; without one the whole line.
+abbrev pub IsFieldPlace : Options → Option (List ℕ) → Where → Type 0
+IsFieldPlace o None w = w ≡ whole
+IsFieldPlace o (Some number) w =
+    (fields : Fields) × (n : ℕ) × (fields_of o ≡ Some fields) × IsPositive number (Some n) × (w ≡ field fields n)
+
+-- The place between two texts, or else that of the field.
+abbrev pub IsBetweenPlace : Options → Option (Bor (List ℕ) × Bor (List ℕ)) → Where → Type 0
+IsBetweenPlace o None w = IsFieldPlace o (text_behind o.field) w
+IsBetweenPlace o (Some texts) w = w ≡ between texts.0.now texts.1.now
+
+-- The place after a text, or else one of these.
+abbrev pub IsAfterPlace : Options → Option (Bor (List ℕ)) → Where → Type 0
+IsAfterPlace o None w = IsBetweenPlace o o.between w
+IsAfterPlace o (Some key) w = w ≡ after key.now
+
+-- Where a line's time stands.
+abbrev pub IsPlace : Options → Where → Type 0
+IsPlace o w = MatchBool o.front (w ≡ front) (MatchBool o.anywhere (w ≡ anywhere) (IsAfterPlace o o.after w))
+
+-- a year is given for times that say none
+abbrev pub gives_year : Options → Bool
+gives_year o = is_some o.year || is_some o.latest
+
+-- The format that has that name, or that the text describes. Some text says a moment by it, where a year is given or
+-- isn't.
+abbrev pub IsFormat : Bool → List ℕ → Reading → Type 0
+IsFormat has_year name format = Means (way_of name) (meaning_of format) × (format_lack has_year format ≡ None)
+
+-- A list got the formats of those names, one after the other.
+abbrev pub AddsFormats : Bool → List (List ℕ) → List Reading → List Reading → Type 0
+AddsFormats has_year [] old new = new ≡ old
+AddsFormats has_year (name ∷ names) old new =
+    (format : Reading) × IsFormat has_year name format × AddsFormats has_year names (old ++ format ∷ []) new
+
+-- The formats that are asked for, the first and the others.
+abbrev pub AreFormats : Options → Reading → List Reading → Type 0
+AreFormats o first others =
+    IsFormat (gives_year o) o.from.now first × AddsFormats (gives_year o) (other_names o) [] others
+
+-- one of the texts
+abbrev pub IsOneOf : List (List ℕ) → List ℕ → Type 0
+IsOneOf [] text = ⊥
+IsOneOf (name ∷ names) text = (text ≡ name) ⊎ IsOneOf names text
+
+-- One of the texts is no format, for that reason, or a format that lacks something; or memory was short.
+abbrev pub IsFormatFault : Bool → List (List ℕ) → Fault → Type 0
+IsFormatFault has_year names fault.memory = Unit {0}
+IsFormatFault has_year names (fault.from value why) = IsOneOf names value × naming.IsFault (way_of value) why
+IsFormatFault has_year names (fault.lacking value lack) =
+    IsOneOf names value
+    × ((format : Reading) × Means (way_of value) (meaning_of format) × (format_lack has_year format ≡ Some lack))
+IsFormatFault has_year names f = ⊥
+
+-- The year that is given, if one is.
+abbrev pub IsYearGiven : ℕ → Option (List ℕ) → Option ℤ → Type 0
+IsYearGiven Y None year = year ≡ None
+IsYearGiven Y (Some text) year = IsSomeAnd year (λ y. IsYear Y text (Some y))
+
+-- The offset that is given; without one UTC.
+abbrev pub IsOffsetGiven : ℕ → Option (List ℕ) → UtcOffset → Type 0
+IsOffsetGiven Y None offset = IsUtc offset
+IsOffsetGiven Y (Some text) offset = IsOffsetText Y text (Some offset)
+
+-- The year and the offset that stand for those that a time leaves out.
+abbrev pub AreParts : ℕ → Options → Defaults → Type 0
+AreParts Y o parts =
+    IsYearGiven Y (text_behind o.year) parts.year
+    × IsSomeAnd parts.offset (IsOffsetGiven Y (text_behind o.offset)) × (parts.latest ≡ None)
+
+-- A text of one of the formats may leave that part out.
+abbrev pub one_takes : Part → Reading → List Reading → Bool
+one_takes p first others = takes p first || list_any (takes p) others
+
+-- What is given for a part of a time can be of use.
+pub record AreUsed (o : Options) (first : Reading) (others : List Reading) : Type 0 where
+  pub year : gives_year o ≡ true → one_takes part.Year first others ≡ true
+  pub offset : is_some o.offset ≡ true → one_takes part.Offset first others ≡ true
+
+-- No text of a format that is asked for leaves that part out.
+abbrev pub HasNoUse : Options → Part → Type 0
+HasNoUse o p =
+    (first : Reading) × (others : List Reading) × AreFormats o first others × (one_takes p first others ≡ false)
+
+-- the zone that is given, by its text or by the flag for UTC
+abbrev pub zone_of : Options → List ℕ
+zone_of o = if o.utc then codes "utc" else o.zone.now
+
+-- How a time is written.
+pub record IsStyle (Y : ℕ) (o : Options) (style : Style) : Type 0 where
+  pub writing : MeansWriting o.to.now style.writing
+  pub digits : digits_of o.digits.now ≡ Some style.digits
+  pub zone : IsZone Y (zone_of o) (Some style.offset)
+
+-- the bound that a text's moment is
+abbrev pub bound_of : List ℕ → Result OffsetDateTime Reason → Result (Option OffsetDateTime) (List ℕ × Reason)
+bound_of text (Ok moment) = Ok (Some moment)
+bound_of text (Err reason) = Err (text, reason)
+
+-- a result, without where its texts lie in memory
+abbrev pub seen_bound : Result (Option OffsetDateTime) (Bor (List ℕ) × declared.Reason)
+    → Result (Option OffsetDateTime) (List ℕ × Reason)
+seen_bound (Ok bound) = Ok bound
+seen_bound (Err e) = Err (e.0.now, seen e.1)
+
+-- A bound is the moment that a text says, if there is one; or the text says none, for that reason.
+abbrev pub IsBound : ℕ → Reading → List Reading → Defaults → Option (List ℕ)
+    → Result (Option OffsetDateTime) (List ℕ × Reason) → Type 0
+IsBound Y first others defaults None result = result ≡ Ok None
+IsBound Y first others defaults (Some text) result =
+    (moment : Result OffsetDateTime Reason) × IsMomentText Y first others text defaults moment
+    × (result ≡ bound_of text moment)
+
+-- What stands for what a time leaves out: these parts, and the moment that a time with no year isn't after.
+abbrev pub AreDefaults : ℕ → Options → Reading → List Reading → Defaults → Type 0
+AreDefaults Y o first others defaults =
+    (parts : Defaults) × AreParts Y o parts × (defaults ≡ record parts { latest = defaults.latest })
+    × IsBound Y first others parts (text_behind o.latest) (Ok defaults.latest)
+
+-- How the lines of files are answered.
+abbrev pub AreSettings : Options → Settings → Type 0
+AreSettings o settings =
+    (n : ℕ) × IsNumber o.errors.now (Some n) × (settings ≡ record {
+      output = if o.only then Times else (if o.drop_refused then RewrittenLines else AllLines);
+      reports = if o.quiet then Quiet else First n;
+      strict = o.strict && not o.keep_going;
+    })
+
+-- Options ask for a request, where reports go to a terminal or don't.
+pub record Asks (Y : ℕ) (o : Options) (is_terminal : Bool) (r : Request) : Type 0 where
+  pub place : IsPlace o (seen_place r.place)
+  pub formats : AreFormats o r.first r.others.items
+  pub uses : AreUsed o r.first r.others.items
+  pub defaults : AreDefaults Y o r.first r.others.items r.defaults
+  pub style : IsStyle Y o r.style
+  pub since : IsBound Y r.first r.others.items r.defaults (text_behind o.since) (Ok r.since)
+  pub until : IsBound Y r.first r.others.items r.defaults (text_behind o.until) (Ok r.until)
+  pub settings : AreSettings o r.settings
+  pub shows_lines : shows_of o.color.now is_terminal ≡ Some r.shows_lines
+  pub strict : r.strict ≡ o.strict
+
+-- A bound's text says no moment by the formats and defaults of the options, for that reason.
+abbrev pub IsNoBound : ℕ → Options → Option (List ℕ) → List ℕ → Reason → Type 0
+IsNoBound Y o text value reason =
+    (first : Reading) × (others : List Reading) × (defaults : Defaults)
+    × AreFormats o first others × AreDefaults Y o first others defaults
+    × IsBound Y first others defaults text (Err (value, reason))
+
+-- The same of the moment that a time with no year isn't after, by the other defaults alone.
+abbrev pub IsNoLatest : ℕ → Options → List ℕ → Reason → Type 0
+IsNoLatest Y o value reason =
+    (first : Reading) × (others : List Reading) × (parts : Defaults)
+    × AreFormats o first others × AreParts Y o parts
+    × IsBound Y first others parts (text_behind o.latest) (Err (value, reason))
+
+-- An option doesn't take its value, or memory was short.
+abbrev pub IsFault : ℕ → Options → Fault → Type 0
+IsFault Y o fault.memory = Unit {0}
+IsFault Y o (fault.field value) = (text_behind o.field ≡ Some value) × IsPositive value None
+IsFault Y o (fault.delimiter value) = (value ≡ o.delimiter.now) × (delimiter_of value ≡ None)
+IsFault Y o (fault.from value why) =
+    IsFormatFault (gives_year o) (o.from.now ∷ other_names o) (fault.from value why)
+IsFault Y o (fault.lacking value lack) =
+    IsFormatFault (gives_year o) (o.from.now ∷ other_names o) (fault.lacking value lack)
+IsFault Y o (fault.to value why) = (value ≡ o.to.now) × naming.IsWritingFault value why
+IsFault Y o (fault.year value) = (text_behind o.year ≡ Some value) × IsYear Y value None
+IsFault Y o (fault.offset value) = (text_behind o.offset ≡ Some value) × IsOffsetText Y value None
+IsFault Y o (fault.unused_year value) = (text_behind o.year ≡ Some value) × HasNoUse o part.Year
+IsFault Y o (fault.unused_latest value) = (text_behind o.latest ≡ Some value) × HasNoUse o part.Year
+IsFault Y o (fault.unused_offset value) = (text_behind o.offset ≡ Some value) × HasNoUse o part.Offset
+IsFault Y o (fault.zone value) = (value ≡ zone_of o) × IsZone Y value None
+IsFault Y o (fault.digits value) = (value ≡ o.digits.now) × (digits_of value ≡ None)
+IsFault Y o (fault.errors value) = (value ≡ o.errors.now) × IsNumber value None
+IsFault Y o (fault.color value) = (value ≡ o.color.now) × ((is_terminal : Bool) → shows_of value is_terminal ≡ None)
+IsFault Y o (fault.latest value reason) = IsNoLatest Y o value reason
+IsFault Y o (fault.since value reason) = IsNoBound Y o (text_behind o.since) value reason
+IsFault Y o (fault.until value reason) = IsNoBound Y o (text_behind o.until) value reason
+
+-- A job does what a request asks for.
+pub record IsJobOf (r : Request) (job : Job) : Type 0 where
+  pub place : job.place ≡ r.place
+  pub first : job.first.now ≡ r.first
+  pub others : job.others.now ≡ r.others.items
+  pub defaults : job.defaults ≡ r.defaults
+  pub writing : job.form.writing.now ≡ r.style.writing
+  pub digits : job.form.digits ≡ r.style.digits
+  pub offset : job.form.offset ≡ r.style.offset
+  pub since : job.since ≡ r.since
+  pub until : job.until ≡ r.until
+  pub asks_for_times : job.asks_for_times ≡ r.strict

@@ -1,0 +1,103 @@
+//! What is wrong with an option.
+ghost use Rattle.std.specs.Prelude.{◌≡◌};
+ghost use Rattle.std.specs.Option.{option_map};
+ghost use Rattle.restamp_command.specs.Fault as spec;
+
+use restamp_verdict::{FormatFault, Lack, Reason};
+use std::fmt;
+
+/// Why the options ask for nothing: an option that doesn't take its value.
+#[derive(Clone, Copy)]
+pub enum Fault<'a> {
+    /// There is no memory for what they ask for.
+    Memory,
+    /// `--field` takes a number from 1 to 18446744073709551615.
+    Field(&'a str),
+    /// `--delimiter` takes one byte.
+    Delimiter(&'a str),
+    /// `--from` takes a format's name, or a description.
+    From(&'a str, FormatFault<'a>),
+    /// `--from` takes a format by which some text says a moment.
+    Lacking(&'a str, Lack),
+    /// `--to` takes the name of a format that times are written by, or a description.
+    To(&'a str, FormatFault<'a>),
+    /// `--year` takes a year from -999999 to 999999.
+    Year(&'a str),
+    /// `--offset` takes an offset.
+    Offset(&'a str),
+    /// `--year` has no use: each text of each format says a part of a year.
+    UnusedYear(&'a str),
+    /// `--latest` has none, for that reason.
+    UnusedLatest(&'a str),
+    /// `--offset` has no use: each text of each format says the hour of an offset.
+    UnusedOffset(&'a str),
+    /// `--zone` takes `keep`, `utc` or an offset.
+    Zone(&'a str),
+    /// `--digits` takes 0 to 9, or `auto`.
+    Digits(&'a str),
+    /// `--errors` takes a number from 0 to 18446744073709551615.
+    Errors(&'a str),
+    /// `--latest` takes a time.
+    Latest(&'a str, Reason),
+    /// `--color` takes `auto`, `always` or `never`.
+    Color(&'a str),
+    /// `--since` takes a time.
+    Since(&'a str, Reason),
+    /// `--until` takes a time.
+    Until(&'a str, Reason),
+}
+
+impl<'a> Fault<'a> {
+    /// The option, as help shows it, and the value that it doesn't take, where the fault has one.
+    pub fn place(&self) -> Option<(&'static str, &'a str)>
+        ensures { option_map (λ place. (place.0.now, place.1.now)) result ≡ spec.place_of (spec.told self.now) }
+    {
+        match *self {
+            Fault::Memory => None,
+            Fault::Field(value) => Some(("--field <N>", value)),
+            Fault::Delimiter(value) => Some(("--delimiter <BYTE>", value)),
+            Fault::From(value, _) => Some(("--from <FORMAT>", value)),
+            Fault::Lacking(value, _) => Some(("--from <FORMAT>", value)),
+            Fault::To(value, _) => Some(("--to <FORMAT>", value)),
+            Fault::Year(value) => Some(("--year <YEAR>", value)),
+            Fault::Offset(value) => Some(("--offset <OFFSET>", value)),
+            Fault::UnusedYear(value) => Some(("--year <YEAR>", value)),
+            Fault::UnusedLatest(value) => Some(("--latest <TIME>", value)),
+            Fault::UnusedOffset(value) => Some(("--offset <OFFSET>", value)),
+            Fault::Zone(value) => Some(("--zone <ZONE>", value)),
+            Fault::Digits(value) => Some(("--digits <N>", value)),
+            Fault::Errors(value) => Some(("--errors <N>", value)),
+            Fault::Latest(value, _) => Some(("--latest <TIME>", value)),
+            Fault::Color(value) => Some(("--color <WHEN>", value)),
+            Fault::Since(value, _) => Some(("--since <TIME>", value)),
+            Fault::Until(value, _) => Some(("--until <TIME>", value)),
+        }
+    }
+}
+
+impl fmt::Display for Fault<'_> {
+    ghost output = { λ fault. spec.why_text (spec.told fault) };
+
+    fn fmt<W: fmt::Write>(&self, f: &mut fmt::Formatter<W>) -> fmt::Result {
+        match self {
+            Fault::Memory => write!(f, "out of memory"),
+            Fault::Field(_) => write!(f, "it is not a number from 1 to 18446744073709551615"),
+            Fault::Delimiter(_) => write!(f, "it is not one byte"),
+            Fault::From(_, why) => write!(f, "{why}"),
+            Fault::Lacking(_, lack) => write!(f, "{lack}"),
+            Fault::To(_, why) => write!(f, "{why}"),
+            Fault::Year(_) => write!(f, "it is not a year from -999999 to 999999"),
+            Fault::Offset(_) => write!(f, "it is no offset such as +05:30"),
+            Fault::UnusedYear(_) => write!(f, "each format reads a year"),
+            Fault::UnusedLatest(_) => write!(f, "each format reads a year"),
+            Fault::UnusedOffset(_) => write!(f, "each format reads an offset"),
+            Fault::Zone(_) => write!(f, "it is not keep, utc or an offset such as +05:30"),
+            Fault::Digits(_) => write!(f, "it is not 0 to 9 or auto"),
+            Fault::Errors(_) => write!(f, "it is not a number from 0 to 18446744073709551615"),
+            Fault::Latest(_, reason) => write!(f, "{reason}"),
+            Fault::Color(_) => write!(f, "it is not auto, always or never"),
+            Fault::Since(_, reason) => write!(f, "{reason}"),
+            Fault::Until(_, reason) => write!(f, "{reason}"),
+        }
+    }
+}

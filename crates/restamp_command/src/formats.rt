@@ -1,0 +1,71 @@
+//! The formats that the options ask for.
+ghost use Rattle.std.specs.Prelude.{◌≡◌, [], ◌∷◌, IfErr, MatchResult, OnOk, map};
+ghost use Rattle.time_values.specs.Range.{greatest_year};
+ghost use Rattle.restamp_options.specs.Options as options_;
+ghost use Rattle.restamp_command.specs.Fault.{told};
+ghost use Rattle.restamp_command.specs.Request as spec;
+
+use crate::fault::Fault;
+use restamp_options::Options;
+use restamp_verdict::{Reading, find_reading};
+
+/// Whether a year is given for times that say none.
+pub(crate) fn gives_year(options: &Options<'_, '_>) -> bool
+    ensures { result ≡ spec.gives_year options.now }
+{
+    options.year.is_some() || options.latest.is_some()
+}
+
+// The format of that name, which lacks nothing.
+fn find_format<'a>(name: &'a str, has_year: bool) -> Result<Reading, Fault<'a>>
+    ensures { MatchResult result (λ format. spec.IsFormat has_year name.now format)
+        (λ fault. spec.IsFormatFault has_year (name.now ∷ []) (told fault)) }
+{
+    let format = match find_reading(name.as_bytes()) {
+        Ok(format) => format,
+        Err(why) => return Err(Fault::From(name, why)),
+    };
+    match format.lack(has_year) {
+        Some(lack) => Err(Fault::Lacking(name, lack)),
+        None => Ok(format),
+    }
+}
+
+/// The names of the formats but the first.
+pub(crate) fn other_names<'m, 'a>(options: &Options<'m, 'a>) -> &'m [&'a str]
+    ensures { map (λ name. name.now) result.now ≡ options_.other_names options.now }
+{
+    match options.formats {
+        Some([_, names @ ..]) => names,
+        _ => &[],
+    }
+}
+
+/// The first format.
+pub(crate) fn find_first<'a>(options: &Options<'_, 'a>) -> Result<Reading, Fault<'a>>
+    ensures { MatchResult result (λ first. spec.IsFormat (spec.gives_year options.now) options.now.from.now first)
+        (λ fault. spec.IsFault greatest_year options.now (told fault)) }
+{
+    find_format(options.from, gives_year(options))
+}
+
+/// Adds the formats of those names, where a year is given or isn't.
+pub(crate) fn add_formats<'a>(
+    names: &[&'a str],
+    has_year: bool,
+    formats: &mut Vec<Reading>,
+) -> Result<(), Fault<'a>>
+    ensures ok { OnOk result
+        (spec.AddsFormats has_year (map (λ name. name.now) names.now) formats.old.items formats.new.items) }
+    ensures err { IfErr result
+        (λ fault. spec.IsFormatFault has_year (map (λ name. name.now) names.now) (told fault)) }
+{
+    let [name, others @ ..] = names else {
+        return Ok(());
+    };
+    let format = find_format(name, has_year)?;
+    if formats.push(format).is_err() {
+        return Err(Fault::Memory);
+    }
+    add_formats(others, has_year, formats)
+}

@@ -1,0 +1,129 @@
+//! The answer to files.
+ghost use Rattle.std.specs.Prelude.{◌≡◌, ◌≢◌, IfErr, OnOk, map};
+ghost use Rattle.time_values.specs.Range.{greatest_year};
+ghost use Rattle.restamp_stream.specs.Fates.{WritesReason};
+ghost use Rattle.restamp_stream.specs.Files.{DidFiles, StoppedIn};
+ghost use Rattle.restamp_stream.specs.Streams.{state_of};
+ghost use Rattle.restamp_verdict.specs.Reason.{seen};
+ghost use Rattle.restamp_verdict.specs.declared.job.Job.{Job as Job_};
+ghost use Rattle.restamp_command.specs.Request.{IsJobOf};
+ghost use Rattle.restamp_command.specs.Rewriting.{IsFate, IsReason, TellsWrong};
+
+use crate::expected::write_expected;
+use crate::pointing::write_pointer;
+use crate::request::Request;
+use restamp_stream::{Block, Fate, Opening, Rewriting, Stop, Stream};
+use restamp_verdict::{Job, Reason, Verdict, Why, Wrong};
+use std::io;
+use std::io::Write;
+
+/// A job, which says which fate a line has, and how a refused line is told.
+#[derive(Clone, Copy)]
+pub struct Restamping<'a> {
+    /// What is done with each line.
+    pub job: Job<'a>,
+    /// Shows a refused line below its reason, with a caret under the column that is told, in colours.
+    pub shows_lines: bool,
+}
+
+impl Rewriting for Restamping<'_> {
+    ghost use Rattle.time_values.specs.Range.{greatest_year};
+    ghost use Rattle.restamp_command.specs.Rewriting as spec;
+
+    ghost is_fate = { λ restamping front fate. spec.IsFate greatest_year restamping.job front fate };
+
+    ghost is_reason = { λ restamping front column reason.
+        spec.IsReason greatest_year restamping.job restamping.shows_lines front column reason };
+
+    ghost one_fate = { λ restamping front a b p q. spec.one_fate restamping.job front a b p q };
+
+    ghost one_reason = { λ restamping front column other reason why p q.
+        spec.one_reason restamping.job restamping.shows_lines front column other reason why p q };
+
+    #[inline(always)]
+    fn fate(&self, front: &[u8]) -> Fate {
+        match self.job.judge(front) {
+            Verdict::Without => Fate::Without,
+            Verdict::Rewritten {
+                start,
+                length,
+                text,
+            } => Fate::Rewritten {
+                begin: start,
+                end: start + length,
+                text,
+            },
+            Verdict::Dropped => Fate::Dropped,
+            Verdict::Refused { .. } => Fate::Refused,
+        }
+    }
+
+    fn write_reason<L: Write>(&self, front: &[u8], log: &mut L) -> io::Result<()> {
+        match self.job.judge(front) {
+            Verdict::Refused { column, reason } => self.write_wrong(front, column, reason, log),
+            Verdict::Without => Ok(()),
+            Verdict::Rewritten { .. } => Ok(()),
+            Verdict::Dropped => Ok(()),
+        }
+    }
+}
+
+impl Restamping<'_> {
+    // Writes the column where a front goes wrong that is refused at a column for a reason, the reason or what the time
+    // lacks, and what was expected there. It isn't inlined, so that reports take no place beside lines that are rewritten.
+    #[inline(never)]
+    fn write_wrong<L: Write>(
+        &self,
+        front: &[u8],
+        column: usize,
+        reason: Reason,
+        log: &mut L,
+    ) -> io::Result<()>
+        ensures { OnOk result (WritesReason (TellsWrong greatest_year self.now.job self.now.shows_lines front.now column (seen reason))
+            (L.contents log.old) (L.contents log.new)) }
+    {
+        let Wrong { column, expected } = self.job.find_wrong(front, column, reason);
+        let lack = self.job.find_lack(front, reason);
+        let why = Why { reason, lack };
+        if self.shows_lines {
+            write!(log, "{column}: \x1b[31m{why}")?;
+            write_expected(expected, log)?;
+            log.write_all(b"\x1b[0m")?;
+            return write_pointer(front, column, log);
+        }
+        write!(log, "{column}: {why}")?;
+        write_expected(expected, log)
+    }
+}
+
+/// Answers all lines of the files as it is asked for, one after the other.
+///
+/// A file that can't be opened or read to its end is told to the log, and the others are answered, so that the answer is
+/// never [`Stop::Unread`]. The work stops at a failed write, and under `--strict` at the first refused line, unless it is
+/// to go on: the files and lines before that one are answered. After a failed write nothing is known of how much was
+/// written.
+pub fn serve<W: Write, L: Write, O: Opening>(
+    request: &Request<'_>,
+    names: &[&[u8]],
+    opening: &O,
+    stream: &mut Stream<W, L>,
+    block: &mut Block,
+) -> Result<(), Stop>
+    ensures ok { (job : Job_) × IsJobOf request.now job
+        × OnOk result (DidFiles (IsFate greatest_year job) (IsReason greatest_year job request.now.shows_lines)
+        request.now.settings
+        (O.bytes_of opening.now) (state_of W.contents L.contents stream.old) (state_of W.contents L.contents stream.new)
+        (map (λ name. name.now) names.now)) }
+    ensures unread { IfErr result (λ stop. stop ≢ Stop.Unread) }
+    ensures refused { (job : Job_) × IsJobOf request.now job
+        × IfErr result (λ stop. stop ≡ Stop.Refused →
+        StoppedIn (IsFate greatest_year job) (IsReason greatest_year job request.now.shows_lines) request.now.settings
+        (O.bytes_of opening.now) (state_of W.contents L.contents stream.old) (state_of W.contents L.contents stream.new)
+        (map (λ name. name.now) names.now)) }
+{
+    let rewriting = Restamping {
+        job: request.job(),
+        shows_lines: request.shows_lines,
+    };
+    stream.serve_files(&rewriting, request.settings, names, opening, block)
+}

@@ -1,0 +1,134 @@
+//! What the values of options mean.
+ghost use Rattle.std.specs.Prelude.{◌≡◌, map};
+ghost use Rattle.time_values.specs.Range.{greatest_year};
+ghost use Rattle.time_components.specs.Shape.{borrowed_shape};
+ghost use Rattle.time_components.specs.Tree.{sequence, trees};
+ghost use Rattle.restamp_command.specs.Values as spec;
+
+use time_components::{BorrowedFormatItem, Padding, item};
+use time_parsing::Parsable;
+use time_values::UtcOffset;
+use time_writing::FractionDigits;
+
+/// A number.
+pub fn find_number(text: &str) -> Option<u64>
+    ensures { spec.IsNumber text.now result }
+{
+    text.parse::<u64>().ok()
+}
+
+/// A number from 1.
+pub fn find_positive(text: &str) -> Option<usize>
+    ensures { spec.IsPositive text.now result }
+{
+    match text.parse::<usize>() {
+        Ok(0) => None,
+        Ok(number) => Some(number),
+        Err(_) => None,
+    }
+}
+
+// A number with or without a sign.
+fn find_signed(text: &str) -> Option<i32>
+    ensures { spec.IsSigned text.now result }
+{
+    text.parse::<i32>().ok()
+}
+
+/// A year from -999999 to 999999.
+pub fn find_year(text: &str) -> Option<i32>
+    ensures { spec.IsYear greatest_year text.now result }
+{
+    let year = find_signed(text)?;
+    if year.unsigned_abs() <= 999_999 {
+        Some(year)
+    } else {
+        None
+    }
+}
+
+/// The byte that ends a field; `\t` is TAB.
+pub fn find_delimiter(text: &str) -> Option<u8>
+    ensures { result ≡ spec.delimiter_of text.now }
+{
+    if text == "\\t" {
+        return Some(b'\t');
+    }
+    match text.as_bytes() {
+        [byte] => Some(*byte),
+        _ => None,
+    }
+}
+
+/// How many digits of a fraction are written.
+pub fn find_digits(text: &str) -> Option<FractionDigits>
+    ensures { result ≡ spec.digits_of text.now }
+{
+    if text == "auto" {
+        return Some(FractionDigits::Auto);
+    }
+    match text.as_bytes() {
+        [digit] if digit.is_ascii_digit() => Some(FractionDigits::Exactly(*digit - b'0')),
+        _ => None,
+    }
+}
+
+/// Whether colours are shown: always, never, or where a terminal is written to.
+pub fn find_shows(text: &str, is_terminal: bool) -> Option<bool>
+    ensures { result ≡ spec.shows_of text.now is_terminal }
+{
+    match text {
+        "auto" => Some(is_terminal),
+        "always" => Some(true),
+        "never" => Some(false),
+        _ => None,
+    }
+}
+
+// The items of an offset such as `+05:30`.
+fn offset_items() -> [BorrowedFormatItem<'static>; 3]
+    ensures { map borrowed_shape result ≡ spec.offset_parts }
+{
+    [
+        item!(OffsetHour {
+            padding: Padding::Zero,
+            sign_is_mandatory: true
+        }),
+        item!(":"),
+        item!(OffsetMinute {
+            padding: Padding::Zero
+        }),
+    ]
+}
+
+// The items in turn.
+fn compound<'a>(items: &'a [BorrowedFormatItem<'a>]) -> BorrowedFormatItem<'a>
+    ensures { borrowed_shape result ≡ sequence (trees (map borrowed_shape items.now)) }
+{
+    BorrowedFormatItem::Compound(items)
+}
+
+/// An offset such as `+05:30`.
+pub fn find_offset(text: &str) -> Option<UtcOffset>
+    ensures { spec.IsOffsetText greatest_year text.now result }
+{
+    let items = offset_items();
+    let description = compound(&items);
+    match description.parse_offset(text.as_bytes(), None) {
+        Ok(offset) => Some(offset),
+        Err(_) => None,
+    }
+}
+
+/// The offset at which times are shown, or `None` for each its own.
+pub fn find_zone(text: &str) -> Option<Option<UtcOffset>>
+    ensures { spec.IsZone greatest_year text.now result }
+{
+    if text == "keep" {
+        return Some(None);
+    }
+    if text == "utc" {
+        return Some(Some(UtcOffset::UTC));
+    }
+    Some(Some(find_offset(text)?))
+}

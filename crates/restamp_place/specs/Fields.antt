@@ -1,0 +1,86 @@
+-- The fields of a line.
+use Rattle.std.specs.Prelude.{ℕ, zero, suc, ◌+◌, ◌≤◌, Bool, not, ◌||◌, ◌==◌, nat_le, List, [], ◌∷◌, length, drop, slice_index, if◌then◌else◌, Option, None, Some}
+use Rattle.std.specs.List.{position_or_len}
+use Rattle.std.specs.Option.{option_and_then, option_map}
+use Rattle.restamp_place.specs.declared.fields.Span.{Span}
+use Rattle.restamp_place.specs.declared.fields.Field.{Field}
+use Rattle.restamp_place.specs.declared.fields.Fields.{Fields}
+use Rattle.restamp_place.specs.declared.fields.Fields.TheVariants.{Delimited, Blank, Quoted}
+
+-- space or TAB
+abbrev pub is_blank : ℕ → Bool
+is_blank x = x == 32 || x == 9
+
+abbrev pub span : ℕ → ℕ → Span
+span start stop = record { start = start; stop = stop }
+
+-- a field that says the bytes from `start` up to `stop`, and ends at `edge`
+abbrev pub field : ℕ → ℕ → ℕ → Field
+field start stop edge = record { said = span start stop; edge = edge }
+
+-- A field of a line that has n bytes: it says some of them, and ends after those.
+pub record IsWithin (n : ℕ) (f : Field) : Type 0 where
+  pub ordered : f.said.start ≤ f.said.stop
+  pub closed : f.said.stop ≤ f.edge
+  pub within : f.edge ≤ n
+
+-- a part of n bytes
+pub record IsPart (n : ℕ) (s : Span) : Type 0 where
+  pub ordered : s.start ≤ s.stop
+  pub within : s.stop ≤ n
+
+-- up to the delimiter, or to the end
+abbrev pub first_delimited : ℕ → List ℕ → Field
+first_delimited d line = let stop = position_or_len (λ x. x == d) line in field 0 stop stop
+
+-- the first run of bytes that are not blank
+abbrev pub first_word : List ℕ → Option Field
+first_word line =
+    let start = position_or_len (λ x. not (is_blank x)) line in
+    let stop = start + position_or_len is_blank (drop start line) in
+    if start == length line then None else Some (field start stop stop)
+
+-- where the quote stands that closes what an opening one began before these bytes: the first of which no other follows,
+-- for two of them stand for one
+abbrev pub closing_quote : List ℕ → Option ℕ
+closing_quote [] = None
+closing_quote (x ∷ []) = if x == 34 then Some 0 else None
+closing_quote (x ∷ y ∷ bytes) =
+    if x == 34 then (if y == 34 then option_map (λ n. n + 2) (closing_quote bytes) else Some 0)
+    else option_map (λ n. n + 1) (closing_quote (y ∷ bytes))
+
+-- a field in quotes of which n bytes stand between them, where the delimiter or the end comes next
+abbrev pub closed_field : ℕ → List ℕ → ℕ → Option Field
+closed_field d line n =
+    if n + 2 == length line || slice_index line (n + 2) == d then Some (field 1 (n + 1) (n + 2)) else None
+
+-- a field that begins with a quote ends with one, and any other as if there were no quotes
+abbrev pub first_quoted : ℕ → List ℕ → Option Field
+first_quoted d line =
+    if slice_index line 0 == 34 then option_and_then (closed_field d line) (closing_quote (drop 1 line))
+    else Some (first_delimited d line)
+
+-- the first field
+abbrev pub first_field : Fields → List ℕ → Option Field
+first_field (Delimited d) line = Some (first_delimited d line)
+first_field Blank line = first_word line
+first_field (Quoted d) line = first_quoted d line
+
+-- how many bytes stand between the end of a field and what the next one is looked for in
+abbrev pub gap : Fields → ℕ
+gap (Delimited d) = 1
+gap Blank = 0
+gap (Quoted d) = 1
+
+-- n bytes further on
+abbrev pub moved : ℕ → Span → Span
+moved n s = span (n + s.start) (n + s.stop)
+
+-- what the field says that n fields stand before
+abbrev pub nth_field : Fields → ℕ → List ℕ → Option Span
+nth_field fields zero line = option_map (λ f. f.said) (first_field fields line)
+nth_field fields (suc n) line =
+    option_and_then
+    (λ f. let next = f.edge + gap fields in
+    if nat_le next (length line) then option_map (moved next) (nth_field fields n (drop next line)) else None)
+    (first_field fields line)

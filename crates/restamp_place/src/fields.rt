@@ -1,0 +1,128 @@
+//! The fields of a line.
+ghost use Rattle.std.specs.Prelude.{◌≡◌, ◌≤◌, length, IfSome};
+ghost use Rattle.restamp_place.specs.Fields as fields;
+
+use crate::texts::{blanks_length, closing_quote, length_before, word_length};
+
+/// How a line has fields.
+#[derive(Clone, Copy, Debug, PartialEq, Eq)]
+pub enum Fields {
+    /// Each ends before that byte, or at the end of the line.
+    Delimited(u8),
+    /// Each is a run of bytes other than space and TAB, as in `awk`.
+    Blank,
+    /// Each ends before that byte, but one in quotes ends with its quote, and has two quotes for one
+    /// (RFC 4180, section 2).
+    Quoted(u8),
+}
+
+/// A part of a line: its bytes from `start` up to `stop`.
+#[derive(Clone, Copy, Debug, PartialEq, Eq)]
+pub struct Span {
+    /// How many bytes stand before it.
+    pub start: usize,
+    /// How many bytes stand before what comes after it.
+    pub stop: usize,
+}
+
+/// A field: what it says, and where it ends, after the quote that may close it.
+#[derive(Clone, Copy)]
+pub(crate) struct Field {
+    pub(crate) said: Span,
+    pub(crate) edge: usize,
+}
+
+fn first_delimited(delimiter: u8, line: &[u8]) -> Field
+    ensures value { result ≡ fields.first_delimited delimiter line.now }
+    ensures within { fields.IsWithin (length line.now) result }
+{
+    let stop = length_before(delimiter, line);
+    Field {
+        said: Span { start: 0, stop },
+        edge: stop,
+    }
+}
+
+fn first_word(line: &[u8]) -> Option<Field>
+    ensures value { result ≡ fields.first_word line.now }
+    ensures within { IfSome result (fields.IsWithin (length line.now)) }
+{
+    let start = blanks_length(line);
+    if start == line.len() {
+        return None;
+    }
+    let stop = start + word_length(&line[start..]);
+    Some(Field {
+        said: Span { start, stop },
+        edge: stop,
+    })
+}
+
+fn first_quoted(delimiter: u8, line: &[u8]) -> Option<Field>
+    ensures value { result ≡ fields.first_quoted delimiter line.now }
+    ensures within { IfSome result (fields.IsWithin (length line.now)) }
+{
+    if line.is_empty() || line[0] != b'"' {
+        return Some(first_delimited(delimiter, line));
+    }
+    let length = closing_quote(&line[1..])?;
+    let edge = length + 2;
+    if edge != line.len() && line[edge] != delimiter {
+        return None;
+    }
+    Some(Field {
+        said: Span {
+            start: 1,
+            stop: length + 1,
+        },
+        edge,
+    })
+}
+
+fn first_field(kind: Fields, line: &[u8]) -> Option<Field>
+    ensures value { result ≡ fields.first_field kind line.now }
+    ensures within { IfSome result (fields.IsWithin (length line.now)) }
+{
+    match kind {
+        Fields::Delimited(delimiter) => Some(first_delimited(delimiter, line)),
+        Fields::Blank => first_word(line),
+        Fields::Quoted(delimiter) => first_quoted(delimiter, line),
+    }
+}
+
+impl Fields {
+    // How many bytes stand between the end of a field and what the next one is looked for in.
+    fn gap(self) -> usize
+        ensures value { result ≡ fields.gap self }
+        ensures least { result ≤ 1 }
+    {
+        match self {
+            Fields::Delimited(_) | Fields::Quoted(_) => 1,
+            Fields::Blank => 0,
+        }
+    }
+}
+
+/// What the field says that `n` fields stand before.
+pub(crate) fn nth_field(kind: Fields, n: usize, line: &[u8]) -> Option<Span>
+    ensures value { result ≡ fields.nth_field kind n line.now }
+    ensures within { IfSome result (fields.IsPart (length line.now)) }
+{
+    let mut start = 0;
+    let mut left = n;
+    while left > 0 {
+        let rest = &line[start..];
+        let field = first_field(kind, rest)?;
+        let gap = kind.gap();
+        if rest.len() - field.edge < gap {
+            return None;
+        }
+        start += field.edge + gap;
+        left -= 1;
+    }
+    let said = first_field(kind, &line[start..])?.said;
+    Some(Span {
+        start: start + said.start,
+        stop: start + said.stop,
+    })
+}

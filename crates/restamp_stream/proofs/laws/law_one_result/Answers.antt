@@ -1,0 +1,10 @@
+use Rattle.restamp_stream.specs.Answers.{job_of}
+use Rattle.restamp_stream.proofs.LawLemmas.{one_answer, one_result}
+use Rattle.restamp_stream.proofs.laws.law_one_result.Goals as goal
+
+pub returns : goal.returns
+returns g c =
+    let job = job_of (g.T.Rewriting.is_fate c.args.rewriting.now) (g.T.Rewriting.is_reason c.args.rewriting.now) c.args.name.now c.args.settings in
+    let fates = g.met.T.Rewriting.one_fate c.args.rewriting.now in
+    let reasons = g.met.T.Rewriting.one_reason c.args.rewriting.now in
+    record { lines = one_answer job fates reasons; input = one_result job fates reasons }

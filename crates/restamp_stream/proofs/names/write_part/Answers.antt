@@ -1,0 +1,10 @@
+use Rattle.std.proofs.Common.{sym, subst}
+use Rattle.std.specs.Io.KnownBytes.{Appends}
+use Rattle.restamp_stream.proofs.NameLemmas.{shown_as-plain}
+use Rattle.restamp_stream.proofs.names.write_part.Goals as goal
+
+pub returns-clause-shown : goal.returns-clause-shown
+returns-clause-shown g c =
+    subst (Appends (g.L.Write.contents c.args.log.now) (g.L.Write.contents c.write_all-2.new.self))
+    (sym (shown_as-plain c.args.ascii c.plain_length-plain.result c.args.name.now c.plain_length-plain.ensures.plain))
+    c.in_ok-write_all-2.ensures.bytes

@@ -1,0 +1,13 @@
+use Rattle.std.proofs.Common.{◌≡◌, List, ℕ, ◌++◌, length}
+use Rattle.std.specs.Io.KnownBytes.{Appends}
+use Rattle.restamp_stream.specs.Names.{shown_as}
+use Rattle.restamp_stream.proofs.names.write_shown.Given as goal
+
+-- what was written shows what stands before the rest
+abbrev pub invariant-loop-rest : goal.invariant-loop-rest
+invariant-loop-rest g l =
+    (front : List ℕ) × Appends (g.L.Write.contents l.initial.log) (g.L.Write.contents l.log) front
+    × (front ++ shown_as l.ascii l.rest ≡ shown_as l.ascii l.name)
+
+abbrev pub decreases-loop-rest : goal.decreases-loop-rest
+decreases-loop-rest g l = length l.rest

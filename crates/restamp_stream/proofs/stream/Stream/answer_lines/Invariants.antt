@@ -1,0 +1,16 @@
+-- All lines before what is left were answered, where what waits counts as written.
+use Rattle.std.proofs.Common.{length}
+use Rattle.restamp_stream.specs.Held.{Continues, held_state, job_at}
+use Rattle.restamp_stream.specs.Lines.{EndsWith}
+use Rattle.restamp_stream.specs.declared.fate.Rest.TheVariants.{Absent}
+use Rattle.restamp_stream.proofs.stream.Stream.answer_lines.Given as goal
+
+abbrev pub invariant-loop-line : goal.invariant-loop-line
+invariant-loop-line g l =
+    EndsWith l.bytes l.left
+    × Continues (job_at (g.T.Rewriting.is_fate l.rewriting) (g.T.Rewriting.is_reason l.rewriting) l.file)
+    (held_state g.W.Write.contents g.L.Write.contents l.initial.self) (held_state g.W.Write.contents g.L.Write.contents l.self)
+    Absent l.bytes Absent l.left
+
+abbrev pub decreases-loop-line : goal.decreases-loop-line
+decreases-loop-line g l = length l.left

@@ -1,0 +1,63 @@
+//! Bytes that were read and are not answered yet.
+ghost use Rattle.std.specs.Io.KnownBytes.{Consumes, Keeps, IsAtEnd};
+ghost use Rattle.std.specs.IoError.{error_kind};
+ghost use Rattle.std.specs.Prelude.{◌≡◌, ◌≢◌, ◌-◌, ◌<◌, ◌≤◌, ℕ, List, [], ◌++◌, length, drop, MatchResult, false};
+ghost use Rattle.restamp_stream.specs.declared.block.TheConstants.{LIMIT};
+
+use crate::held::Held;
+use std::io;
+use std::io::{ErrorKind, Read};
+
+/// By how many bytes a line is answered: 256 more than its time may stand in, so that it is seen what stands behind that.
+pub const LIMIT: usize = 262_400;
+
+/// Bytes that were read and are not answered yet: at most [`LIMIT`].
+pub type Block = Held<LIMIT>;
+
+impl Held<LIMIT> {
+    // Reads once after what is held. 0 is the end.
+    fn read_once<R: Read>(&mut self, input: &mut R) -> io::Result<usize>
+        requires { length self.old.items < LIMIT }
+        ensures { MatchResult result
+            (λ n. (more : List ℕ) × (self.new.items ≡ self.old.items ++ more) × (length more ≡ n)
+            × Consumes (R.remaining input.old) (R.remaining input.new) more
+            × (n ≡ 0 → IsAtEnd (R.remaining input.new)))
+            (λ _. Keeps (R.remaining input.old) (R.remaining input.new) × (self.new.items ≡ self.old.items)) }
+    {
+        let n = input.read(&mut self.array[self.len..])?;
+        self.len += n;
+        Ok(n)
+    }
+
+    /// Reads once after what is held. `false` is the end. An interrupted read gives no byte, and may be tried again.
+    pub fn fill<R: Read>(&mut self, input: &mut R) -> io::Result<bool>
+        requires { length self.old.items < LIMIT }
+        ensures { MatchResult result
+            (λ goes_on. (more : List ℕ) × (self.new.items ≡ self.old.items ++ more)
+            × Consumes (R.remaining input.old) (R.remaining input.new) more
+            × (goes_on ≡ false → (more ≡ []) × IsAtEnd (R.remaining input.new)))
+            (λ e. Keeps (R.remaining input.old) (R.remaining input.new) × (self.new.items ≡ self.old.items)
+            × (error_kind e ≢ ErrorKind.Interrupted)) }
+    {
+        match self.read_once(input) {
+            Ok(0) => Ok(false),
+            Ok(_) => Ok(true),
+            Err(e) => {
+                if e.kind() == ErrorKind::Interrupted {
+                    Ok(true)
+                } else {
+                    Err(e)
+                }
+            }
+        }
+    }
+
+    /// Forgets all but the last n bytes.
+    pub fn keep_last(&mut self, n: usize)
+        requires { n ≤ length self.old.items }
+        ensures { self.new.items ≡ drop (length self.old.items - n) self.old.items }
+    {
+        self.array.copy_within(self.len - n..self.len, 0);
+        self.len = n;
+    }
+}

@@ -1,0 +1,19 @@
+//! The exit status.
+ghost use Rattle.std.specs.Prelude.{◌≡◌, ◌<◌};
+ghost use Rattle.restamp_stream.specs.Status.{HasFailed};
+
+use crate::stop::Stop;
+use crate::tally::Tally;
+
+/// The exit status of a program: 2 where the work stopped, a file was not read to its end, or a line was refused and
+/// `strict` is set. Else 0 where a time was rewritten, and 1 where none was.
+pub fn status(tally: &Tally, stop: Option<Stop>, strict: bool) -> u8
+    ensures failed { HasFailed tally.now stop strict → result ≡ 2 }
+    ensures some { ¬ HasFailed tally.now stop strict → 0 < tally.now.rewritten → result ≡ 0 }
+    ensures none { ¬ HasFailed tally.now stop strict → tally.now.rewritten ≡ 0 → result ≡ 1 }
+{
+    if stop.is_some() || tally.unread > 0 || (strict && tally.refused > 0) {
+        return 2;
+    }
+    if tally.rewritten > 0 { 0 } else { 1 }
+}

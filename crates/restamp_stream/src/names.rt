@@ -1,0 +1,82 @@
+//! How a name is shown.
+ghost use Rattle.std.specs.Io.KnownBytes.{Appends};
+ghost use Rattle.std.specs.Prelude.{◌≡◌, ◌<◌, ◌≤◌, ℕ, length, slice_index, take, true, false, IfOk, OnOk};
+ghost use Rattle.restamp_stream.specs.Names as names;
+
+use std::io;
+use std::io::Write;
+
+// The character of a digit below 16.
+fn hexadecimal(digit: u8) -> u8
+    requires { digit < 16 }
+    ensures { result ≡ names.hexadecimal digit }
+{
+    if digit < 10 {
+        b'0' + digit
+    } else {
+        b'a' + (digit - 10)
+    }
+}
+
+// `\x` and the two digits of a byte.
+fn escape(byte: u8) -> [u8; 4]
+    ensures { result ≡ names.escape byte }
+{
+    [b'\\', b'x', hexadecimal(byte / 16), hexadecimal(byte % 16)]
+}
+
+// Whether a byte is shown by its number.
+fn is_escaped(ascii: bool, byte: u8) -> bool
+    ensures { result ≡ names.is_escaped ascii byte }
+{
+    byte.is_ascii_control() || (ascii && !byte.is_ascii())
+}
+
+// How many bytes stand before the first that is shown by its number.
+fn plain_length(ascii: bool, name: &[u8]) -> usize
+    ensures within { result ≤ length name.now }
+    ensures plain { (k : ℕ) → k < result → names.is_escaped ascii (slice_index name.now k) ≡ false }
+    ensures next { result < length name.now → names.is_escaped ascii (slice_index name.now result) ≡ true }
+{
+    for (i, byte) in name.iter().enumerate() {
+        if is_escaped(ascii, *byte) {
+            return i;
+        }
+    }
+    name.len()
+}
+
+// Shows the bytes before the first that is shown by its number, or that one. How many they are is returned.
+fn write_part<L: Write>(ascii: bool, name: &[u8], log: &mut L) -> io::Result<usize>
+    requires { 0 < length name.now }
+    ensures some { IfOk result (λ n. 0 < n) }
+    ensures within { IfOk result (λ n. n ≤ length name.now) }
+    ensures shown { IfOk result (λ n. Appends (L.contents log.old) (L.contents log.new) (names.shown_as ascii (take n name.now))) }
+{
+    let plain = plain_length(ascii, name);
+    if plain == 0 {
+        log.write_all(&escape(name[0]))?;
+        return Ok(1);
+    }
+    log.write_all(&name[..plain])?;
+    Ok(plain)
+}
+
+/// Writes a name with each control byte as `\x` and two digits, and where `ascii` asks for it each byte beyond ASCII, too.
+pub fn write_shown<L: Write>(ascii: bool, name: &[u8], log: &mut L) -> io::Result<()>
+    ensures { OnOk result (Appends (L.contents log.old) (L.contents log.new) (names.shown_as ascii name.now)) }
+{
+    let mut rest = name;
+    while !rest.is_empty() {
+        let n = write_part(ascii, rest, log)?;
+        rest = &rest[n..];
+    }
+    Ok(())
+}
+
+/// Writes a name with each control byte as `\x` and two digits, so that no name moves a terminal's cursor or ends a line.
+pub fn write_name<L: Write>(name: &[u8], log: &mut L) -> io::Result<()>
+    ensures { OnOk result (Appends (L.contents log.old) (L.contents log.new) (names.shown_name name.now)) }
+{
+    write_shown(false, name, log)
+}

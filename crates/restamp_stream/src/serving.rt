@@ -1,0 +1,236 @@
+//! Answers the lines of a stream.
+ghost use Rattle.std.specs.Prelude.{◌≡◌, ◌≤◌, IfOk, IfErr, IfSome, MatchOption, [], OnOk, length, ℕ, List};
+ghost use Rattle.restamp_stream.specs.Answers.{Did, DidAll, State, job_of};
+ghost use Rattle.restamp_stream.specs.Fates.{HasFront};
+ghost use Rattle.restamp_stream.specs.Held.{held_out, held_state, job_at, Continues, Stops, StoppedBy, GoesOn, Ends};
+ghost use Rattle.restamp_stream.specs.Lines.{HasNoLf, EndsWith, lines_of};
+ghost use Rattle.restamp_stream.specs.Streams.{state_of, IsHeld, Served, Stopped, Fails, DidSome, DidBefore};
+ghost use Rattle.restamp_stream.specs.declared.block.TheConstants.{LIMIT};
+
+use crate::block::{Block, LIMIT};
+use crate::fate::{Fate, Rest};
+use crate::lines::whole_line;
+use crate::rewriting::Rewriting;
+use crate::settings::{File, Settings};
+use crate::stop::Stop;
+use crate::stream::Stream;
+use crate::waiting::Unwritten;
+use std::io;
+use std::io::{ErrorKind, Read, Write};
+
+impl<W: Write, L: Write> Stream<W, L> {
+    // Passes or drops what comes of a line whose front was answered, if there is one. What comes after it is returned, if it
+    // ends.
+    fn end_line<'a>(
+        &mut self,
+        bytes: &'a [u8],
+        rest: &mut Rest,
+    ) -> Result<Option<&'a [u8]>, Unwritten>
+        ensures line { IfOk result (λ left. MatchOption left
+            ((rest.new ≡ rest.old) × HasFront rest.old
+            × GoesOn (held_out W.contents self.old) (held_out W.contents self.new) rest.old bytes.now)
+            (λ after. (rest.new ≡ Rest.Absent) × EndsWith bytes.now after.now
+            × Ends (held_out W.contents self.old) (held_out W.contents self.new) rest.old bytes.now after.now)) }
+        ensures log { self.new.log ≡ self.old.log }
+        ensures tally { self.new.tally ≡ self.old.tally }
+    {
+        if rest.is_absent() {
+            return Ok(Some(bytes));
+        }
+        let Some((line, after)) = whole_line(bytes) else {
+            self.pass(bytes, *rest)?;
+            return Ok(None);
+        };
+        self.pass(&bytes[..line.len() + 1], *rest)?;
+        *rest = Rest::Absent;
+        Ok(Some(after))
+    }
+
+    // Answers all lines that end in the bytes. What comes after them is returned.
+    fn answer_lines<'a, T: Rewriting>(
+        &mut self,
+        rewriting: &T,
+        file: &File<'_>,
+        bytes: &'a [u8],
+    ) -> Result<&'a [u8], Stop>
+        requires { length bytes.now ≤ LIMIT }
+        ensures ok { IfOk result (λ left. HasNoLf left.now × EndsWith bytes.now left.now
+            × Continues (job_at (T.is_fate rewriting.now) (T.is_reason rewriting.now) file.now)
+            (held_state W.contents L.contents self.old) (held_state W.contents L.contents self.new)
+            Rest.Absent bytes.now Rest.Absent left.now) }
+        ensures err { IfErr result (λ stop. StoppedBy stop
+            (Stops (job_at (T.is_fate rewriting.now) (T.is_reason rewriting.now) file.now)
+            (held_state W.contents L.contents self.old) (held_state W.contents L.contents self.new) Rest.Absent bytes.now)) }
+    {
+        let mut left = bytes;
+        while let Some((line, after)) = whole_line(left) {
+            let rest = self.begin(rewriting, file, line)?;
+            let Ok(()) = self.pass(b"\n", rest) else {
+                return Err(Stop::Unwritten);
+            };
+            left = after;
+        }
+        Ok(left)
+    }
+
+    // Answers all that can be answered of the block, and moves what is left to its front.
+    fn answer_block<T: Rewriting>(
+        &mut self,
+        rewriting: &T,
+        file: &File<'_>,
+        block: &mut Block,
+        rest: &mut Rest,
+    ) -> Result<(), Stop>
+        ensures held { OnOk result
+            (IsHeld (job_at (T.is_fate rewriting.now) (T.is_reason rewriting.now) file.now) rest.new block.new.items) }
+        ensures ok { OnOk result
+            (Continues (job_at (T.is_fate rewriting.now) (T.is_reason rewriting.now) file.now)
+            (held_state W.contents L.contents self.old) (held_state W.contents L.contents self.new)
+            rest.old block.old.items rest.new block.new.items) }
+        ensures err { IfErr result (λ stop. StoppedBy stop
+            (Stops (job_at (T.is_fate rewriting.now) (T.is_reason rewriting.now) file.now)
+            (held_state W.contents L.contents self.old) (held_state W.contents L.contents self.new) rest.old block.old.items)) }
+    {
+        let Ok(ended) = self.end_line(block.as_slice(), rest) else {
+            return Err(Stop::Unwritten);
+        };
+        let Some(bytes) = ended else {
+            block.clear();
+            return Ok(());
+        };
+        let left = self.answer_lines(rewriting, file, bytes)?;
+        let n = left.len();
+        if n < LIMIT {
+            block.keep_last(n);
+            return Ok(());
+        }
+        *rest = self.begin(rewriting, file, left)?;
+        block.clear();
+        Ok(())
+    }
+
+    // The same, and writes it, also what stands before a line where the work stops.
+    fn feed<T: Rewriting>(
+        &mut self,
+        rewriting: &T,
+        file: &File<'_>,
+        block: &mut Block,
+        rest: &mut Rest,
+    ) -> Result<(), Stop>
+        requires { self.old.waiting.items ≡ [] }
+        ensures none { OnOk result (self.new.waiting.items ≡ []) }
+        ensures held { OnOk result
+            (IsHeld (job_at (T.is_fate rewriting.now) (T.is_reason rewriting.now) file.now) rest.new block.new.items) }
+        ensures ok { OnOk result
+            (Continues (job_at (T.is_fate rewriting.now) (T.is_reason rewriting.now) file.now)
+            (state_of W.contents L.contents self.old) (state_of W.contents L.contents self.new)
+            rest.old block.old.items rest.new block.new.items) }
+        ensures err { IfErr result (λ stop. StoppedBy stop
+            (Stops (job_at (T.is_fate rewriting.now) (T.is_reason rewriting.now) file.now)
+            (state_of W.contents L.contents self.old) (state_of W.contents L.contents self.new) rest.old block.old.items)) }
+    {
+        let answered = self.answer_block(rewriting, file, block, rest);
+        let Ok(()) = self.settle() else {
+            return Err(Stop::Unwritten);
+        };
+        answered
+    }
+
+    // Answers and writes what is left at the end, a line unless it is empty.
+    fn finish<T: Rewriting>(
+        &mut self,
+        rewriting: &T,
+        file: &File<'_>,
+        block: &Block,
+    ) -> Result<(), Stop>
+        requires none { self.old.waiting.items ≡ [] }
+        requires begun { HasNoLf block.now.items }
+        ensures ok { OnOk result ((fates : List Fate)
+            × Did (job_at (T.is_fate rewriting.now) (T.is_reason rewriting.now) file.now)
+            (state_of W.contents L.contents self.old) (state_of W.contents L.contents self.new) (lines_of block.now.items) fates) }
+        ensures err { IfErr result (λ stop. StoppedBy stop
+            (Stopped (job_at (T.is_fate rewriting.now) (T.is_reason rewriting.now) file.now)
+            (state_of W.contents L.contents self.old) (state_of W.contents L.contents self.new) (lines_of block.now.items))) }
+    {
+        if block.is_empty() {
+            return Ok(());
+        }
+        let answered = self.begin(rewriting, file, block.as_slice());
+        let Ok(()) = self.settle() else {
+            return Err(Stop::Unwritten);
+        };
+        match answered {
+            Ok(_) => Ok(()),
+            Err(stop) => Err(stop),
+        }
+    }
+
+    // Answers all lines of a file. All that can be answered is written before the next read.
+    fn serve_lines<T: Rewriting, R: Read>(
+        &mut self,
+        rewriting: &T,
+        file: &File<'_>,
+        input: &mut R,
+        block: &mut Block,
+    ) -> Result<(), Stop>
+        requires waiting { self.old.waiting.items ≡ [] }
+        requires block { block.old.items ≡ [] }
+        ensures ok { OnOk result (IfSome (R.remaining input.old) (λ bytes. (fates : List Fate)
+            × Did (job_at (T.is_fate rewriting.now) (T.is_reason rewriting.now) file.now)
+            (state_of W.contents L.contents self.old) (state_of W.contents L.contents self.new) (lines_of bytes) fates)) }
+        ensures unread { IfErr result (λ stop. stop ≡ Stop.Unread → (answered : State) × (rest : Rest) × (held : List ℕ)
+            × Served (job_at (T.is_fate rewriting.now) (T.is_reason rewriting.now) file.now) (R.remaining input.old) (R.remaining input.new)
+            (state_of W.contents L.contents self.old) answered rest held
+            × Fails file.now.name.now answered (state_of W.contents L.contents self.new)) }
+        ensures refused { IfErr result (λ stop. stop ≡ Stop.Refused → IfSome (R.remaining input.old) (λ bytes.
+            Stopped (job_at (T.is_fate rewriting.now) (T.is_reason rewriting.now) file.now)
+            (state_of W.contents L.contents self.old) (state_of W.contents L.contents self.new) (lines_of bytes))) }
+    {
+        let mut rest = Rest::Absent;
+        for _ in 0..u64::MAX {
+            match block.fill(input) {
+                Ok(false) => return self.finish(rewriting, file, block),
+                Ok(true) => {}
+                Err(e) => return Err(self.fail(file, &e)),
+            }
+            self.feed(rewriting, file, block, &mut rest)?;
+        }
+        Err(self.fail(file, &io::Error::from(ErrorKind::TimedOut)))
+    }
+
+    /// Answers all lines of a file. All whole lines that were read are answered and written before the next read.
+    ///
+    /// A line of any length is answered by its first [`LIMIT`] bytes. An interrupted read is tried again.
+    ///
+    /// After [`Stop::Unread`] all that was read and could be answered is answered and written. After [`Stop::Refused`] all
+    /// lines before the first refused one are. After [`Stop::Unwritten`] nothing is known of how much was written.
+    pub fn serve<T: Rewriting, R: Read>(
+        &mut self,
+        rewriting: &T,
+        settings: Settings,
+        name: &[u8],
+        input: &mut R,
+        block: &mut Block,
+    ) -> Result<(), Stop>
+        ensures all { OnOk result (IfSome (R.remaining input.old)
+            (DidAll (job_of (T.is_fate rewriting.now) (T.is_reason rewriting.now) name.now settings)
+            (state_of W.contents L.contents self.old) (state_of W.contents L.contents self.new))) }
+        ensures unread { IfErr result (λ stop. stop ≡ Stop.Unread →
+            DidSome (job_of (T.is_fate rewriting.now) (T.is_reason rewriting.now) name.now settings)
+            (R.remaining input.old) (R.remaining input.new)
+            (state_of W.contents L.contents self.old) (state_of W.contents L.contents self.new)) }
+        ensures refused { IfErr result (λ stop. stop ≡ Stop.Refused → IfSome (R.remaining input.old)
+            (DidBefore (job_of (T.is_fate rewriting.now) (T.is_reason rewriting.now) name.now settings)
+            (state_of W.contents L.contents self.old) (state_of W.contents L.contents self.new))) }
+    {
+        let file = File { name, settings };
+        self.tally.begin_file();
+        self.waiting.clear();
+        block.clear();
+        let served = self.serve_lines(rewriting, &file, input, block);
+        let Ok(()) = self.close(&file) else {
+            return Err(Stop::Unwritten);
+        };
+        served
+    }
+}

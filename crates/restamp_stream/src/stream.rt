@@ -1,0 +1,253 @@
+//! Where answers go.
+ghost use Rattle.std.specs.Io.KnownBytes.{Appends};
+ghost use Rattle.std.specs.Prelude.{◌≡◌, ◌≤◌, ℕ, List, IfOk, IfErr, [], ◌∷◌, OnOk, length, IsTrue, false};
+ghost use Rattle.restamp_stream.specs.Answers.{Did, IsNaming, IsReport, Closes};
+ghost use Rattle.restamp_stream.specs.Fates.{IsWithin, front_text, passed, rest_of, nothing_counted};
+ghost use Rattle.restamp_stream.specs.Held.{held_out, held_state, job_at, Settles, StoppedBy, FailedBy};
+ghost use Rattle.restamp_stream.specs.Lines.{unended};
+ghost use Rattle.restamp_stream.specs.Reports.{more_text, unread_text};
+ghost use Rattle.restamp_stream.specs.Streams.{RefusedAt, Fails, state_of};
+ghost use Rattle.restamp_stream.specs.declared.block.TheConstants.{LIMIT};
+
+use crate::fate::{Fate, Rest};
+use crate::message::Message;
+use crate::names::write_name;
+use crate::rewriting::Rewriting;
+use crate::settings::{File, Output};
+use crate::stop::Stop;
+use crate::tally::Tally;
+use crate::waiting::{Unwritten, Waiting};
+use std::io;
+use std::io::Write;
+
+/// Where answers go: what lines become to `out`, reports to `log`, and their counts to `tally`.
+///
+/// Up to 65536 bytes wait to be written to `out`.
+#[derive(Drop)]
+pub struct Stream<W, L> {
+    /// What lines become.
+    pub out: W,
+    /// The reports.
+    pub log: L,
+    /// The counts.
+    pub tally: Tally,
+    pub(crate) waiting: Waiting,
+}
+
+impl<W: Write, L: Write> Stream<W, L> {
+    /// A stream to these, where nothing is counted yet.
+    pub fn new(out: W, log: L) -> Stream<W, L>
+        ensures out { result.out ≡ out }
+        ensures log { result.log ≡ log }
+        ensures tally { result.tally ≡ nothing_counted }
+    {
+        Stream {
+            out,
+            log,
+            tally: Tally::new(),
+            waiting: Waiting::new(),
+        }
+    }
+
+    /// The writer, the log and the counts.
+    pub fn into_parts(self) -> (W, L, Tally)
+        ensures out { result.0 ≡ self.out }
+        ensures log { result.1 ≡ self.log }
+        ensures tally { result.2 ≡ self.tally }
+    {
+        let Stream {
+            out,
+            log,
+            tally,
+            waiting: _,
+        } = self;
+        (out, log, tally)
+    }
+
+    // Puts bytes after what waits.
+    #[inline(always)]
+    fn put(&mut self, bytes: &[u8]) -> Result<(), Unwritten>
+        ensures put { OnOk result (Appends (held_out W.contents self.old) (held_out W.contents self.new) bytes.now) }
+        ensures log { self.new.log ≡ self.old.log }
+        ensures tally { self.new.tally ≡ self.old.tally }
+    {
+        self.waiting.put(bytes, &mut self.out)
+    }
+
+    // Puts bytes that come after the front of a line, unless it is dropped.
+    #[inline(always)]
+    pub(crate) fn pass(&mut self, bytes: &[u8], rest: Rest) -> Result<(), Unwritten>
+        ensures passed { OnOk result
+            (Appends (held_out W.contents self.old) (held_out W.contents self.new) (passed rest bytes.now)) }
+        ensures log { self.new.log ≡ self.old.log }
+        ensures tally { self.new.tally ≡ self.old.tally }
+    {
+        match rest {
+            Rest::Absent | Rest::Passing => self.put(bytes),
+            Rest::Dropping => Ok(()),
+        }
+    }
+
+    // Tells the log how many more lines of a file were refused than it names.
+    fn tell_more(&mut self, name: &[u8], n: u64) -> io::Result<()>
+        ensures told { OnOk result (Appends (L.contents self.old.log) (L.contents self.new.log) (more_text name.now n)) }
+        ensures out { self.new.out ≡ self.old.out }
+        ensures tally { self.new.tally ≡ self.old.tally }
+    {
+        if n == 0 {
+            return Ok(());
+        }
+        write_name(name, &mut self.log)?;
+        if n == 1 {
+            self.log.write_all(b": 1 more line was refused\n")
+        } else {
+            write!(self.log, ": {n} more lines were refused\n")
+        }
+    }
+
+    // Ends the reports of a file.
+    pub(crate) fn close(&mut self, file: &File<'_>) -> io::Result<()>
+        ensures { OnOk result (Closes file.now.name.now file.now.settings.reports
+            (state_of W.contents L.contents self.old) (state_of W.contents L.contents self.new)) }
+    {
+        let n = file.settings.reports.unnamed(&self.tally);
+        self.tell_more(file.name, n)?;
+        self.log.flush()
+    }
+
+    // Tells the log that a file was not read to its end, and why.
+    fn tell_unread(&mut self, name: &[u8], error: &io::Error) -> io::Result<()>
+        ensures told { OnOk result ((why : List ℕ) × Appends (L.contents self.old.log) (L.contents self.new.log) (unread_text name.now why)) }
+        ensures out { self.new.out ≡ self.old.out }
+        ensures tally { self.new.tally ≡ self.old.tally }
+    {
+        write_name(name, &mut self.log)?;
+        self.log.write_all(b": ")?;
+        self.log.write_all(Message::of(error).as_slice())?;
+        self.log.write_all(b"\n")
+    }
+
+    // The same, and counts it.
+    pub(crate) fn fail(&mut self, file: &File<'_>, error: &io::Error) -> Stop
+        ensures { FailedBy result (Fails file.now.name.now (state_of W.contents L.contents self.old) (state_of W.contents L.contents self.new)) }
+    {
+        self.tally.count_unread();
+        match self.tell_unread(file.name, error) {
+            Ok(()) => Stop::Unread,
+            Err(_) => Stop::Unwritten,
+        }
+    }
+
+    // Writes what waits, and what the log holds back.
+    pub(crate) fn settle(&mut self) -> Result<(), Unwritten>
+        ensures written { OnOk result (Settles (held_state W.contents L.contents self.old) (state_of W.contents L.contents self.new)) }
+        ensures none { OnOk result (self.new.waiting.items ≡ []) }
+    {
+        self.waiting.write_all_to(&mut self.out)?;
+        self.log.flush().map_err(|_| Unwritten)
+    }
+
+    // Puts what goes out for the front of a line.
+    #[inline(always)]
+    fn put_front(&mut self, output: Output, front: &[u8], fate: &Fate) -> Result<(), Unwritten>
+        requires { IsWithin fate.now front.now }
+        ensures put { OnOk result
+            (Appends (held_out W.contents self.old) (held_out W.contents self.new) (front_text output front.now fate.now)) }
+        ensures log { self.new.log ≡ self.old.log }
+        ensures tally { self.new.tally ≡ self.old.tally }
+    {
+        match (output, fate) {
+            (Output::Times, Fate::Rewritten { text, .. }) => {
+                self.put(text.as_bytes())?;
+                self.put(b"\n")
+            }
+            (_, Fate::Rewritten { begin, end, text }) => {
+                self.put(&front[..*begin])?;
+                self.put(text.as_bytes())?;
+                self.put(&front[*end..])
+            }
+            (Output::AllLines, Fate::Without | Fate::Refused) => self.put(front),
+            _ => Ok(()),
+        }
+    }
+
+    // Writes the report of a refused line that was counted.
+    #[inline(never)]
+    fn write_report<T: Rewriting>(
+        &mut self,
+        rewriting: &T,
+        file: &File<'_>,
+        front: &[u8],
+    ) -> io::Result<()>
+        requires { T.is_fate rewriting.now front.now Fate.Refused }
+        ensures reported { OnOk result ((report : List ℕ)
+            × IsNaming (job_at (T.is_fate rewriting.now) (T.is_reason rewriting.now) file.now) self.old.tally front.now report
+            × Appends (L.contents self.old.log) (L.contents self.new.log) report) }
+        ensures out { self.new.out ≡ self.old.out }
+        ensures waiting { self.new.waiting ≡ self.old.waiting }
+        ensures tally { self.new.tally ≡ self.old.tally }
+    {
+        write_name(file.name, &mut self.log)?;
+        write!(self.log, ":{}:", self.tally.line)?;
+        rewriting.write_reason(front, &mut self.log)?;
+        self.log.write_all(b"\n")
+    }
+
+    // Writes the report of a line that was counted, where it is refused and the log names it.
+    #[inline(always)]
+    fn report<T: Rewriting>(
+        &mut self,
+        rewriting: &T,
+        file: &File<'_>,
+        front: &[u8],
+        fate: &Fate,
+    ) -> Result<(), Unwritten>
+        requires { T.is_fate rewriting.now front.now fate.now }
+        ensures reported { OnOk result ((report : List ℕ)
+            × IsReport (job_at (T.is_fate rewriting.now) (T.is_reason rewriting.now) file.now) self.old.tally front.now fate.now report
+            × Appends (L.contents self.old.log) (L.contents self.new.log) report) }
+        ensures out { self.new.out ≡ self.old.out }
+        ensures waiting { self.new.waiting ≡ self.old.waiting }
+        ensures tally { self.new.tally ≡ self.old.tally }
+    {
+        if !file.settings.reports.names(&self.tally, fate) {
+            return Ok(());
+        }
+        match self.write_report(rewriting, file, front) {
+            Ok(()) => Ok(()),
+            Err(_) => Err(Unwritten),
+        }
+    }
+
+    // Answers, reports and counts a line by its front. What becomes of what comes after it is returned.
+    #[inline(always)]
+    pub(crate) fn begin<T: Rewriting>(
+        &mut self,
+        rewriting: &T,
+        file: &File<'_>,
+        front: &[u8],
+    ) -> Result<Rest, Stop>
+        requires { length front.now ≤ LIMIT }
+        ensures ok { IfOk result (λ rest. (fate : Fate) × (rest_of file.now.settings.output fate ≡ rest)
+            × Did (job_at (T.is_fate rewriting.now) (T.is_reason rewriting.now) file.now)
+            (held_state W.contents L.contents self.old) (held_state W.contents L.contents self.new)
+            (unended front.now ∷ []) (fate ∷ [])) }
+        ensures err { IfErr result (λ stop. StoppedBy stop
+            (RefusedAt (job_at (T.is_fate rewriting.now) (T.is_reason rewriting.now) file.now)
+            (held_state W.contents L.contents self.old) (held_state W.contents L.contents self.new) front.now)) }
+    {
+        let fate = rewriting.fate(front);
+        self.tally.count(&fate);
+        let Ok(()) = self.report(rewriting, file, front, &fate) else {
+            return Err(Stop::Unwritten);
+        };
+        if file.settings.stops_at(&fate) {
+            return Err(Stop::Refused);
+        }
+        let output = file.settings.output;
+        let Ok(()) = self.put_front(output, front, &fate) else {
+            return Err(Stop::Unwritten);
+        };
+        Ok(Rest::of(output, &fate))
+    }
+}

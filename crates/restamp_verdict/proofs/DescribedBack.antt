@@ -1,0 +1,189 @@
+-- What is written of a moment by a tree is read back by it. `Y` is the greatest year.
+use Rattle.std.proofs.Common.{◌≡◌, ℕ, List, [], ◌∷◌, ◌++◌, Bool, true, false, length, nat_le, if◌then◌else◌, Some, Ok, Err, ap, sym, subst, refl, ◌∙◌, append-nil, append_assoc, inl}
+use Rattle.std.specs.Prelude.{Result, option_and_then}
+use Rattle.std.proofs.lemmas.Option.{option_and_then_some, same_Some}
+use Rattle.std.proofs.Math.Seq.{take-length}
+use Rattle.time_components.specs.Tree.{Tree, Trees, literal, component, sequence, optional, first_of, none, more}
+use Rattle.time_formatting.specs.Components.{component_text}
+use Rattle.time_formatting.specs.Laws.{ComponentSpelled}
+use Rattle.time_formatting.specs.Texts.{text_after, texts_after, text_of, joined, and_then}
+use Rattle.time_formatting.specs.Values.{value_of}
+use Rattle.time_formatting.specs.declared.unformattable.Unformattable.{Unformattable}
+use Rattle.time_formatting.specs.declared.unformattable.Unformattable.TheVariants.{TooLong}
+use Rattle.time_formatting.proofs.Spelled.{component_spelled}
+use Rattle.time_values.specs.Range.{greatest_year}
+use Rattle.time_values.specs.Shown.{Items}
+use Rattle.time_values.specs.declared.offset_date_time.OffsetDateTime.{OffsetDateTime}
+use Rattle.time_record.specs.Components.{put_value}
+use Rattle.time_record.specs.Reading.{Reads, ReadsAll, ReadsSome, Refuses}
+use Rattle.time_record.specs.Record.{Record, empty}
+use Rattle.time_parsing.specs.Outcome.{IsOutcome}
+use Rattle.time_components.specs.Steps.{steps_shape}
+use Rattle.restamp_verdict.specs.Form.{described}
+use Rattle.restamp_verdict.specs.ReadBack.{Piece, verbatim, part, pieces, all_pieces, whole_text, AllStop, or_nothing, put_values, SaysMoment, ReadsTree, no_defaults}
+use Rattle.restamp_verdict.specs.Reading.{Says, said, is_negative_fraction, guarded, IsCompleted}
+use Rattle.restamp_verdict.specs.Reason.{negative_fraction}
+use Rattle.restamp_verdict.specs.declared.reading.Defaults.{Defaults}
+use Rattle.restamp_verdict.specs.declared.reading.Reading.{Reading}
+use Rattle.restamp_verdict.specs.declared.reading.Reading.TheVariants as reading
+use Rattle.time_components.specs.declared.step.Step.{Step}
+
+module _ (Y : ℕ) (v : OffsetDateTime) where
+  joined_is : (fits : Bool) (bytes joint : List ℕ) (e : Unformattable)
+      → (if fits then Ok joint else Err e) ≡ Ok bytes → bytes ≡ joint
+  joined_is true bytes joint e p = cc
+  joined_is false bytes joint e p = absurd cc
+
+  and_then_ok : (first : Result (List ℕ) Unformattable) (next : List ℕ → Result (List ℕ) Unformattable) (bytes : List ℕ)
+      → and_then first next ≡ Ok bytes → (mid : List ℕ) × (first ≡ Ok mid) × (next mid ≡ Ok bytes)
+  and_then_ok (Ok mid) next bytes e = (mid, refl, e)
+  and_then_ok (Err why) next bytes e = absurd cc
+
+  nothing_is : (before bytes : List ℕ) → texts_after Y v before none ≡ Ok bytes → bytes ≡ before ++ []
+  nothing_is before bytes e = let same : bytes ≡ before = cc in same ∙ sym (append-nil before)
+
+  -- pieces joined
+  text-joined : (ps qs : List Piece) → whole_text Y v (ps ++ qs) ≡ whole_text Y v ps ++ whole_text Y v qs
+  text-joined [] qs = refl
+  text-joined (verbatim text ∷ ps) qs =
+      ap (λ b. text ++ b) (text-joined ps qs) ∙ sym (append_assoc text (whole_text Y v ps) (whole_text Y v qs))
+  text-joined (part c ∷ ps) qs =
+      let text = or_nothing (component_text Y v c) in
+      ap (λ b. text ++ b) (text-joined ps qs) ∙ sym (append_assoc text (whole_text Y v ps) (whole_text Y v qs))
+
+  stops-later : (ps qs : List Piece) → AllStop Y v (ps ++ qs) → AllStop Y v qs
+  stops-later [] qs stops = stops
+  stops-later (verbatim text ∷ ps) qs stops = stops-later ps qs stops
+  stops-later (part c ∷ ps) qs stops = stops-later ps qs stops.1
+
+  put-joined : (ps qs : List Piece) (r new : Record) → put_values Y v (ps ++ qs) r ≡ Some new
+      → (mid : Record) × (put_values Y v ps r ≡ Some mid) × (put_values Y v qs mid ≡ Some new)
+  put-joined [] qs r new puts = (r, refl, puts)
+  put-joined (verbatim text ∷ ps) qs r new puts = put-joined ps qs r new puts
+  put-joined (part c ∷ ps) qs r new puts =
+      option_and_then_some (put_values Y v (ps ++ qs)) (put_value Y c (value_of Y v c) r) new puts (λ first here next.
+      let later = put-joined ps qs first new next in
+      (later.0, ap (option_and_then (put_values Y v ps)) here ∙ later.1, later.2))
+
+  -- the text of a tree stands behind what stood
+  mutual
+    text_is : (t : Tree) (before bytes : List ℕ) → text_after Y v before t ≡ Ok bytes
+        → bytes ≡ before ++ whole_text Y v (pieces t)
+    text_is (literal text) before bytes e =
+        joined_is (nat_le (length (before ++ text)) 35) bytes (before ++ text) TooLong e
+        ∙ ap (λ b. before ++ b) (sym (append-nil text))
+    text_is (component whole c) before bytes e =
+        let (text, is, put) = and_then_ok (component_text Y v c) (joined before) bytes e in
+        joined_is (nat_le (length (before ++ text)) 35) bytes (before ++ text) TooLong put
+        ∙ ap (λ b. before ++ b) (sym (append-nil text)) ∙ ap (λ made. before ++ (or_nothing made ++ [])) (sym is)
+    text_is (sequence ts) before bytes e = texts_are ts before bytes e
+    text_is (optional t) before bytes e = text_is t before bytes e
+    text_is (first_of none) before bytes e = nothing_is before bytes e
+    text_is (first_of (more t ts)) before bytes e = text_is t before bytes e
+
+    texts_are : (ts : Trees) (before bytes : List ℕ) → texts_after Y v before ts ≡ Ok bytes
+        → bytes ≡ before ++ whole_text Y v (all_pieces ts)
+    texts_are none before bytes e = nothing_is before bytes e
+    texts_are (more t ts) before bytes e =
+        let (mid, first, later) = and_then_ok (text_after Y v before t) (λ b. texts_after Y v b ts) bytes e in
+        texts_are ts mid bytes later ∙ ap (λ b. b ++ whole_text Y v (all_pieces ts)) (text_is t before mid first)
+        ∙ append_assoc before (whole_text Y v (pieces t)) (whole_text Y v (all_pieces ts))
+        ∙ ap (λ b. before ++ b) (sym (text-joined (pieces t) (all_pieces ts)))
+
+  -- it is read by the tree, with the text of later pieces behind it
+  module _ (spelled : ComponentSpelled Y) where
+    mutual
+      unfolding Reads ReadsAll ReadsSome
+
+      tree_back : (t : Tree) (later : List Piece) (before bytes : List ℕ) (r new : Record) → text_after Y v before t ≡ Ok bytes
+          → AllStop Y v (pieces t ++ later) → put_values Y v (pieces t) r ≡ Some new
+          → Reads Y t (whole_text Y v (pieces t ++ later)) r (whole_text Y v later) new
+      tree_back (literal text) later before bytes r new e stops puts = (refl, sym (same_Some r new puts))
+      tree_back (component whole c) later before bytes r new e stops puts =
+          let (text, is, put) = and_then_ok (component_text Y v c) (joined before) bytes e in record {
+            text = text;
+            value = value_of Y v c;
+            cut = ap (λ made. or_nothing made ++ whole_text Y v later) is;
+            spells = spelled v c whole text (whole_text Y v later) is stops.0;
+            puts = option_and_then_some Some (put_value Y c (value_of Y v c) r) new puts (λ q here next. here ∙ next);
+          }
+      tree_back (sequence ts) later before bytes r new e stops puts = trees_back ts later before bytes r new e stops puts
+      tree_back (optional t) later before bytes r new e stops puts = inl (tree_back t later before bytes r new e stops puts)
+      tree_back (first_of none) later before bytes r new e stops puts = (refl, sym (same_Some r new puts))
+      tree_back (first_of (more t ts)) later before bytes r new e stops puts =
+          inl (tree_back t later before bytes r new e stops puts)
+
+      trees_back : (ts : Trees) (later : List Piece) (before bytes : List ℕ) (r new : Record) → texts_after Y v before ts ≡ Ok bytes
+          → AllStop Y v (all_pieces ts ++ later) → put_values Y v (all_pieces ts) r ≡ Some new
+          → ReadsAll Y ts (whole_text Y v (all_pieces ts ++ later)) r (whole_text Y v later) new
+      trees_back none later before bytes r new e stops puts = (refl, sym (same_Some r new puts))
+      trees_back (more t ts) later before bytes r new e stops puts =
+          let here = pieces t in
+          let behind = all_pieces ts ++ later in
+          let (mid, first, next) = and_then_ok (text_after Y v before t) (λ b. texts_after Y v b ts) bytes e in
+          let (q, put, puts_next) = put-joined here (all_pieces ts) r new puts in
+          let flat = append_assoc here (all_pieces ts) later in
+          let all = subst (AllStop Y v) flat stops in
+          subst (λ (ps : List Piece). ReadsAll Y (more t ts) (whole_text Y v ps) r (whole_text Y v later) new) (sym flat) (
+            whole_text Y v behind,
+            q,
+            tree_back t behind before mid r q first all put,
+            trees_back ts later mid bytes q new next (stops-later here behind all) puts_next,
+          )
+
+-- what a whole text says
+abbrev pub SaysAll : Reading → Defaults → OffsetDateTime → List ℕ → Type 0
+SaysAll format defaults v bytes = Says greatest_year format false bytes defaults (Ok (said v (length bytes)))
+
+-- by a description of the tree, the text has the moment as its outcome
+module _ (d : List Step) (t : Tree) (v : OffsetDateTime) (bytes : List ℕ) (same : steps_shape d ≡ t)
+    (written : text_of greatest_year v t ≡ Ok bytes) where
+  abbrev text : List ℕ
+  text = whole_text greatest_year v (pieces t)
+
+  same_text : text ≡ bytes
+  same_text = sym (text_is greatest_year v t [] bytes written)
+
+  abbrev Back : Tree → List ℕ → Defaults → Type 0
+  Back u b defaults =
+      IsOutcome (IsCompleted greatest_year defaults) (Reads greatest_year u) (Refuses greatest_year u) b empty (Ok v)
+
+  outcome : (defaults : Defaults) → SaysMoment greatest_year t defaults v → Back (steps_shape d) bytes defaults
+  outcome defaults says =
+      let all = append-nil (pieces t) in
+      let reads = tree_back greatest_year v component_spelled t [] [] bytes empty says.after written
+      (subst (AllStop greatest_year v) (sym all) says.stops) says.puts in
+      let back = subst (λ b. Reads greatest_year t b empty [] says.after) (ap (whole_text greatest_year v) all ∙ same_text) reads in
+      subst (λ u. Back u bytes defaults) (sym same) (says.after, back, says.is)
+
+  not_guarded : is_negative_fraction text ≡ false
+      → Ok (said v (length bytes)) ≡ guarded (reading.Counted d) bytes (Ok (said v (length bytes)))
+  not_guarded plain =
+      let none = ap is_negative_fraction (take-length bytes ∙ sym same_text) ∙ plain in
+      sym (ap (λ refused. if refused then Err negative_fraction else Ok (said v (length bytes))) none)
+
+tree_says : (format : Reading) (defaults : Defaults) (t : Tree) (v : OffsetDateTime) (bytes : List ℕ)
+    → ReadsTree greatest_year format defaults t v → text_of greatest_year v t ≡ Ok bytes → SaysAll format defaults v bytes
+tree_says (reading.Described d) defaults t v bytes (same, says) e =
+    (Ok (said v (length bytes)), (Ok v, outcome d t v bytes same e defaults says, refl), refl)
+tree_says (reading.Complete d) defaults t v bytes (same, says) e =
+    (Ok (said v (length bytes)), (Ok v, outcome d t v bytes same e no_defaults says, refl), refl)
+tree_says (reading.Counted d) defaults t v bytes (same, says, plain) e = (
+  Ok (said v (length bytes)),
+  (Ok v, outcome d t v bytes same e defaults says, refl),
+  not_guarded d t v bytes same e plain,
+)
+tree_says reading.Rfc3339 defaults t v bytes all e = absurd all
+tree_says reading.Rfc2822 defaults t v bytes all e = absurd all
+tree_says reading.Iso8601 defaults t v bytes all e = absurd all
+
+described_is : (text : Items) (made : Result (List ℕ) Unformattable) → Ok text ≡ described made → made ≡ Ok text.items
+described_is text (Ok bytes) e =
+    let same : text ≡ record { items = bytes } = cc in ap (λ (t : Items). Ok t.items) (sym same)
+described_is text (Err why) e = absurd cc
+
+pub described_back : (format : Reading) (defaults : Defaults) (t : Tree) (v : OffsetDateTime) (text : Items)
+    → ReadsTree greatest_year format defaults t v → Ok text ≡ described (text_of greatest_year v t)
+    → SaysAll format defaults v text.items
+described_back format defaults t v text all e =
+    tree_says format defaults t v text.items all (described_is text (text_of greatest_year v t) e)

@@ -1,0 +1,97 @@
+-- What is given for a part that a text says makes no difference. `Y` is the greatest year.
+use Rattle.std.proofs.Common.{◌≡◌, ℕ, ℤ, true, false, None, Some, inl, inr, refl, sym, ap, subst, ◌∙◌}
+use Rattle.std.specs.Prelude.{Option, Result, MatchOption, IsOkAnd, ◌⊎◌, is_some, unwrap_or, if◌then◌else◌}
+use Rattle.std.proofs.lemmas.Bool.{cases_Bool}
+use Rattle.time_values.specs.Moments.{offset_date, offset_of, offset_time}
+use Rattle.time_values.specs.Offsets as Offsets
+use Rattle.time_values.specs.Offsets.{IsUtc}
+use Rattle.time_values.specs.Refusal.{Refusal}
+use Rattle.time_values.specs.declared.offset_date_time.OffsetDateTime.{OffsetDateTime}
+use Rattle.time_values.specs.declared.utc_offset.UtcOffset.{UtcOffset}
+use Rattle.time_record.specs.Record.{Record, empty, put, year_is}
+use Rattle.time_record.specs.Resolution.{IsMoment, IsMomentOfParts, IsStamped}
+use Rattle.restamp_verdict.specs.Lack.{is_of}
+use Rattle.restamp_verdict.specs.LackLaws.{HasNoUse, SameBut}
+use Rattle.restamp_verdict.specs.Reading.{IsCompleted, completed, has_year, with_offset, with_year}
+use Rattle.restamp_verdict.specs.declared.lack.Kind.{Kind}
+use Rattle.restamp_verdict.specs.declared.lack.Kind.TheVariants as kind
+use Rattle.restamp_verdict.specs.declared.lack.Part.{Part}
+use Rattle.restamp_verdict.specs.declared.lack.Part.TheVariants as part
+use Rattle.restamp_verdict.specs.declared.reading.Defaults.{Defaults}
+use Rattle.restamp_verdict.proofs.LackMoments.{completed-apart, part_of_year, with_year-apart}
+use Rattle.restamp_verdict.proofs.LackRecords.{said}
+use Rattle.restamp_verdict.proofs.LackTrees.{SaysPart, part_said}
+
+-- a record with a count from 1970 is a moment by the count and its fraction alone
+counted_moment : (Y : ℕ) (q p : Record) (result : Result OffsetDateTime Refusal) → is_some p.unix_timestamp_nanos ≡ true
+    → q.unix_timestamp_nanos ≡ p.unix_timestamp_nanos → q.subsecond ≡ p.subsecond → IsMoment Y p result → IsMoment Y q result
+unfolding IsMoment
+counted_moment Y q p result counts same_count same_part is = by_count p.unix_timestamp_nanos q.unix_timestamp_nanos counts same_count is
+  where
+    by_count : (m n : Option ℤ) → is_some m ≡ true → n ≡ m
+        → MatchOption m (IsMomentOfParts Y p result)
+        (λ m. IsOkAnd result (λ v. IsStamped Y m p.subsecond (offset_date v) (offset_time v) × IsUtc (offset_of v)))
+        → MatchOption n (IsMomentOfParts Y q result)
+        (λ n. IsOkAnd result (λ v. IsStamped Y n q.subsecond (offset_date v) (offset_time v) × IsUtc (offset_of v)))
+    by_count None n c e h = absurd cc
+    by_count (Some m) None c e h = absurd cc
+    by_count (Some m) (Some n) c e h =
+        let same : m ≡ n = cc in
+        subst (λ (k : ℤ). IsOkAnd result (λ v. IsStamped Y k q.subsecond (offset_date v) (offset_time v) × IsUtc (offset_of v))) same
+        (subst (λ (s : Option ℕ). IsOkAnd result (λ v. IsStamped Y m s (offset_date v) (offset_time v) × IsUtc (offset_of v)))
+        (sym same_part) h)
+
+-- the hour of an offset that is said is a count or one
+part_of_offset : (k : Kind) (r : Record) → is_of part.Offset k ≡ true → said k r ≡ true → is_some r.unix_timestamp_nanos ≡ false
+    → is_some r.offset_hour ≡ true
+part_of_offset kind.OffsetHour r i s none = s
+part_of_offset kind.Count r i s none = absurd cc
+part_of_offset k r i s none = absurd cc
+
+year_idle : (Y : ℕ) (year : Option ℤ) (r : Record) → has_year r ≡ true → with_year Y year r ≡ r
+year_idle Y None r had = refl
+year_idle Y (Some y) r had = ap (λ b. if b then r else unwrap_or (put Y (year_is y) r) r) had
+
+offset_idle : (offset : Option UtcOffset) (r : Record) → is_some r.offset_hour ≡ true → with_offset offset r ≡ r
+offset_idle None r had = refl
+offset_idle (Some o) r had = ap (λ b. if b then r else record r {
+  offset_hour = Some (Offsets.hours o);
+  offset_minute = Some (Offsets.minutes o);
+  offset_second = Some (Offsets.seconds o);
+  offset_is_negative = false;
+}) had
+
+module _ (Y : ℕ) (r : Record) (d e : Defaults) where
+  offset_after : is_some r.offset_hour ≡ true → (year : Option ℤ) → is_some (with_year Y year r).offset_hour ≡ true
+  offset_after had year = with_year-apart Y (λ q. is_some q.offset_hour) (λ q y. refl) year r ∙ had
+
+  -- a part that is said leaves the same record
+  same_completed : (p : Part) → SaysPart p r → is_some r.unix_timestamp_nanos ≡ false → SameBut p d e → completed Y d r ≡ completed Y e r
+  same_completed part.Year s none same =
+      let had = part_of_year s.of r s.is s.said none in
+      ap (with_offset d.offset) (year_idle Y d.year r had) ∙ ap (λ o. with_offset o r) same
+      ∙ sym (ap (with_offset e.offset) (year_idle Y e.year r had))
+  same_completed part.Offset s none same =
+      let had = part_of_offset s.of r s.is s.said none in
+      offset_idle d.offset (with_year Y d.year r) (offset_after had d.year) ∙ ap (λ y. with_year Y y r) same
+      ∙ sym (offset_idle e.offset (with_year Y e.year r) (offset_after had e.year))
+
+  count_stays : (defaults : Defaults) → (completed Y defaults r).unix_timestamp_nanos ≡ r.unix_timestamp_nanos
+  count_stays defaults = completed-apart Y (λ q. q.unix_timestamp_nanos) (λ q y. refl) (λ q o. refl) defaults r
+
+  part_stays : (defaults : Defaults) → (completed Y defaults r).subsecond ≡ r.subsecond
+  part_stays defaults = completed-apart Y (λ q. q.subsecond) (λ q y. refl) (λ q o. refl) defaults r
+
+  same_moment : (p : Part) → SaysPart p r → SameBut p d e → (result : Result OffsetDateTime Refusal)
+      → IsCompleted Y d r result → IsCompleted Y e r result
+  same_moment p s same result is = by_count (cases_Bool (is_some r.unix_timestamp_nanos))
+    where
+      by_count : (is_some r.unix_timestamp_nanos ≡ true) ⊎ (is_some r.unix_timestamp_nanos ≡ false) → IsCompleted Y e r result
+      by_count (inl counts) =
+          counted_moment Y (completed Y e r) (completed Y d r) result (ap is_some (count_stays d) ∙ counts)
+          (count_stays e ∙ sym (count_stays d)) (part_stays e ∙ sym (part_stays d)) is
+      by_count (inr none) = subst (λ q. IsMoment Y q result) (same_completed p s none same) is
+
+pub has_no_use : (Y : ℕ) → HasNoUse Y
+has_no_use Y p tree bytes rest r d e result always reads same is =
+    same_moment Y r d e p (part_said Y p tree bytes empty rest r always reads) same result is

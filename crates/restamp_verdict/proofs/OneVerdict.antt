@@ -1,0 +1,294 @@
+-- A line has one verdict.
+use Rattle.std.proofs.Common.{◌≡◌, ℕ, zero, suc, ℤ, pos, Bool, true, false, List, [], ◌∷◌, ◌+◌, ◌<◌, length, take, drop, sym, ap, subst, refl, arith, ◌∙◌, None, Some, Ok, Err}
+use Rattle.std.specs.Prelude.{Option, Result, nat_lt, ◌-ℤ◌, MatchOption, MatchResult, MatchBool, slice_range}
+use Rattle.time_values.specs.Range.{greatest_year}
+use Rattle.time_values.specs.Refusal.{Refusal}
+use Rattle.time_values.specs.Shown.{Items}
+use Rattle.time_values.specs.declared.offset_date_time.OffsetDateTime.{OffsetDateTime}
+use Rattle.time_values.specs.declared.utc_offset.UtcOffset.{UtcOffset}
+use Rattle.restamp_place.specs.Cuts.{span_of, body_of, is_open}
+use Rattle.restamp_place.specs.declared.cuts.Place.{Place}
+use Rattle.restamp_place.specs.declared.fields.Span.{Span}
+use Rattle.time_record.specs.Reading as Description
+use Rattle.time_record.specs.Record.{Record, empty}
+use Rattle.time_record.specs.Resolution.{IsMoment}
+use Rattle.time_record.proofs.ResolutionLemmas.{IsMoment-one}
+use Rattle.time_readers.specs.Direct.{RefusesRfc3339, RefusesRfc2822}
+use Rattle.time_parsing.specs.Outcome.{Refusing, Path, over_record, direct, IsExact, IsExactPath}
+use Rattle.time_parsing.specs.Outcome as Outcome
+use Rattle.time_parsing.specs.Iso8601 as Iso8601
+use Rattle.time_parsing.specs.Rfc2822 as Rfc2822
+use Rattle.time_parsing.specs.Rfc3339 as Rfc3339
+use Rattle.time_parsing.specs.exact.DescriptionLaws.{tree_exact}
+use Rattle.time_parsing.specs.exact.DirectLaws.{rfc3339_exact_path, rfc2822_exact_path}
+use Rattle.time_parsing.specs.exact.Iso8601Laws.{iso8601_exact}
+use Rattle.time_parsing.specs.exact.Rfc2822Laws.{rfc2822_exact}
+use Rattle.time_parsing.specs.exact.Rfc3339Laws.{rfc3339_exact}
+use Rattle.time_parsing.proofs.OneOutcome.{one_moment_outcome, one_outcome, one_front}
+use Rattle.restamp_verdict.specs.Job.{Verdict, IsPutWithin, IsPut, IsJudgedAt, IsJudgedAnywhere, is_inside, alone, SaysAlone, AreTriedAlone, SaysFrom, SaysNoneBefore, IsFirst, is_kept, missed, verdict_of, refused, dropped}
+use Rattle.restamp_verdict.specs.Laws.{OneVerdict}
+use Rattle.restamp_verdict.specs.Reading.{IsReadBy, IsReadWith, IsRead, Says, Undated, undated, completed, in_year, is_after, year_after, AreYearsTried, IsCompleted, IsDated, AreTried, IsReadInTurn, all_of, front_of, bare_where, guarded}
+use Rattle.time_components.specs.Steps.{steps_shape}
+use Rattle.restamp_verdict.specs.Reason.{Reason, too_far}
+use Rattle.restamp_verdict.specs.declared.job.Job.{Job}
+use Rattle.restamp_verdict.specs.declared.job.TheConstants.{LIMIT, REACH}
+use Rattle.restamp_verdict.specs.declared.reading.Defaults.{Defaults}
+use Rattle.restamp_verdict.specs.declared.reading.Reading.{Reading}
+use Rattle.restamp_verdict.specs.declared.reading.Reading.TheVariants as reading
+use Rattle.restamp_verdict.specs.declared.reading.Said.{Said}
+use Rattle.restamp_verdict.specs.Form.{IsWritten}
+use Rattle.restamp_verdict.proofs.OneWriting.{one_written}
+
+one_read_by : (is_open : Bool) (path : Path) (reads : Outcome.Reading) (refuses : Refusing)
+    → IsExact reads refuses → IsExactPath greatest_year path reads refuses
+    → (text : List ℕ) (a b : Result Said Refusal)
+    → IsReadBy greatest_year is_open path reads refuses text a
+    → IsReadBy greatest_year is_open path reads refuses text b → a ≡ b
+one_read_by true path reads refuses exact alone text a b p q =
+    p.2 ∙ ap (front_of text)
+    (one_front reads refuses exact (IsMoment greatest_year) IsMoment-one text empty p.0 q.0 p.1 q.1) ∙ sym q.2
+one_read_by false path reads refuses exact alone text a b p q =
+    p.2 ∙ ap (all_of text)
+    (one_moment_outcome path reads refuses exact alone IsMoment-one text None p.0 q.0 p.1 q.1) ∙ sym q.2
+
+one_completed : (defaults : Defaults) (r : Record) (a b : Result OffsetDateTime Refusal)
+    → IsCompleted greatest_year defaults r a → IsCompleted greatest_year defaults r b → a ≡ b
+one_completed defaults r a b p q = IsMoment-one (completed greatest_year defaults r) a b p q
+
+one_read_with : (is_open : Bool) (reads : Outcome.Reading) (refuses : Refusing) → IsExact reads refuses
+    → (text : List ℕ) (defaults : Defaults) (a b : Result Said Refusal)
+    → IsReadWith greatest_year is_open reads refuses text defaults a
+    → IsReadWith greatest_year is_open reads refuses text defaults b → a ≡ b
+one_read_with true reads refuses exact text defaults a b p q =
+    p.2 ∙ ap (front_of text)
+    (one_front reads refuses exact (IsCompleted greatest_year defaults) (one_completed defaults) text empty p.0 q.0 p.1 q.1) ∙ sym q.2
+one_read_with false reads refuses exact text defaults a b p q =
+    p.2 ∙ ap (all_of text)
+    (one_outcome reads refuses exact (IsCompleted greatest_year defaults) (one_completed defaults) text empty p.0 q.0 p.1 q.1) ∙ sym q.2
+
+one_read : (format : Reading) (is_open : Bool) (text : List ℕ) (defaults : Defaults) (a b : Result Said Refusal)
+    → IsRead greatest_year format is_open text defaults a → IsRead greatest_year format is_open text defaults b → a ≡ b
+one_read reading.Rfc3339 is_open text defaults a b p q =
+    one_read_by is_open (direct (RefusesRfc3339 greatest_year)) (Rfc3339.Reads greatest_year) (Rfc3339.Refuses greatest_year)
+    (rfc3339_exact greatest_year) rfc3339_exact_path text a b p q
+one_read reading.Rfc2822 is_open text defaults a b p q =
+    p.2 ∙ ap (bare_where is_open text)
+    (one_read_by is_open (direct (RefusesRfc2822 greatest_year)) (Rfc2822.Reads greatest_year) (Rfc2822.Refuses greatest_year)
+    (rfc2822_exact greatest_year) rfc2822_exact_path text p.0 q.0 p.1 q.1) ∙ sym q.2
+one_read reading.Iso8601 is_open text defaults a b p q =
+    one_read_with is_open (Iso8601.Reads greatest_year) (Iso8601.Refuses greatest_year) (iso8601_exact greatest_year)
+    text defaults a b p q
+one_read (reading.Described d) is_open text defaults a b p q =
+    one_read_with is_open (Description.Reads greatest_year (steps_shape d)) (Description.Refuses greatest_year (steps_shape d))
+    (tree_exact greatest_year (steps_shape d)) text defaults a b p q
+one_read (reading.Complete d) is_open text defaults a b p q =
+    one_read_by is_open over_record (Description.Reads greatest_year (steps_shape d))
+    (Description.Refuses greatest_year (steps_shape d)) (tree_exact greatest_year (steps_shape d)) tt text a b p q
+one_read (reading.Counted d) is_open text defaults a b p q =
+    one_read_with is_open (Description.Reads greatest_year (steps_shape d)) (Description.Refuses greatest_year (steps_shape d))
+    (tree_exact greatest_year (steps_shape d)) text defaults a b p q
+
+pub one_says : (format : Reading) (is_open : Bool) (text : List ℕ) (defaults : Defaults) (a b : Result Said Reason)
+    → Says greatest_year format is_open text defaults a → Says greatest_year format is_open text defaults b → a ≡ b
+one_says format is_open text defaults a b p q =
+    p.2 ∙ ap (guarded format text) (one_read format is_open text defaults p.0 q.0 p.1 q.1) ∙ sym q.2
+
+-- what follows from one result is one
+one_after : {X : Type 0} (r s : Result Said Reason) (P : Said → X → Type 0) (Q : Reason → X → Type 0) (x y : X) → r ≡ s
+    → ((v : Said) → P v x → P v y → x ≡ y) → ((e : Reason) → Q e x → Q e y → x ≡ y)
+    → MatchResult r (λ v. P v x) (λ e. Q e x) → MatchResult s (λ v. P v y) (λ e. Q e y) → x ≡ y
+one_after (Ok v) (Ok w) P Q x y e one other p q =
+    let same : v ≡ w = cc in one w (subst (λ (u : Said). P u x) same p) q
+one_after (Ok v) (Err f) P Q x y e one other p q = absurd cc
+one_after (Err f) (Ok v) P Q x y e one other p q = absurd cc
+one_after (Err f) (Err g) P Q x y e one other p q =
+    let same : f ≡ g = cc in other g (subst (λ (u : Reason). Q u x) same p) q
+
+-- what follows from what was read in a year
+abbrev Follows : ℕ → Undated → ℤ → Reason → Result Said Reason → Result Said Reason → Type 0
+Follows n u year reason read result =
+    MatchResult read
+    (λ s. MatchBool (is_after greatest_year s.moment u.latest)
+    (AreYearsTried greatest_year u n (year -ℤ pos 1) reason result) (result ≡ Ok s))
+    (λ why. AreYearsTried greatest_year u n (year -ℤ pos 1) why result)
+
+-- the years before are tried with one result
+abbrev OneBefore : ℕ → Undated → ℤ → Type 0
+OneBefore n u year = (why : Reason) (a b : Result Said Reason)
+    → AreYearsTried greatest_year u n (year -ℤ pos 1) why a → AreYearsTried greatest_year u n (year -ℤ pos 1) why b → a ≡ b
+
+one_late : (late : Bool) (n : ℕ) (u : Undated) (year : ℤ) (reason : Reason) (s : Said) (a b : Result Said Reason) → OneBefore n u year
+    → MatchBool late (AreYearsTried greatest_year u n (year -ℤ pos 1) reason a) (a ≡ Ok s)
+    → MatchBool late (AreYearsTried greatest_year u n (year -ℤ pos 1) reason b) (b ≡ Ok s) → a ≡ b
+one_late true n u year reason s a b before p q = before reason a b p q
+one_late false n u year reason s a b before p q = p ∙ sym q
+
+one_following : (n : ℕ) (u : Undated) (year : ℤ) (reason : Reason) (read a b : Result Said Reason)
+    → OneBefore n u year → Follows n u year reason read a → Follows n u year reason read b → a ≡ b
+one_following n u year reason (Ok s) a b before p q =
+    one_late (is_after greatest_year s.moment u.latest) n u year reason s a b before p q
+one_following n u year reason (Err why) a b before p q = before why a b p q
+
+one_years : (n : ℕ) (u : Undated) (year : ℤ) (reason : Reason) (a b : Result Said Reason)
+    → AreYearsTried greatest_year u n year reason a → AreYearsTried greatest_year u n year reason b → a ≡ b
+unfolding AreYearsTried
+one_years zero u year reason a b p q = p ∙ sym q
+one_years (suc n) u year reason a b p q =
+    one_following n u year reason q.0 a b (λ why x y. one_years n u (year -ℤ pos 1) why x y)
+    (subst (λ (read : Result Said Reason). Follows n u year reason read a)
+    (one_says u.format u.is_open u.text (in_year year u.offset) p.0 q.0 p.1 q.1) p.2) q.2
+
+-- what is read with no year given is one
+one_latest : (latest : Option OffsetDateTime) (format : Reading) (is_open : Bool) (text : List ℕ) (offset : Option UtcOffset) (e : Reason)
+    (a b : Result Said Reason)
+    → MatchOption latest (a ≡ Err e) (λ v. AreYearsTried greatest_year (undated format is_open text offset v) 10 (year_after v) e a)
+    → MatchOption latest (b ≡ Err e) (λ v. AreYearsTried greatest_year (undated format is_open text offset v) 10 (year_after v) e b)
+    → a ≡ b
+one_latest None format is_open text offset e a b p q = p ∙ sym q
+one_latest (Some v) format is_open text offset e a b p q = one_years 10 (undated format is_open text offset v) (year_after v) e a b p q
+
+one_dated : (format : Reading) (is_open : Bool) (text : List ℕ) (defaults : Defaults) (a b : Result Said Reason)
+    → IsDated greatest_year format is_open text defaults a → IsDated greatest_year format is_open text defaults b → a ≡ b
+one_dated format is_open text defaults a b p q =
+    one_after p.0 q.0 (λ s x. x ≡ Ok s)
+    (λ e x. MatchOption defaults.latest (x ≡ Err e)
+    (λ v. AreYearsTried greatest_year (undated format is_open text defaults.offset v) 10 (year_after v) e x)) a b
+    (one_says format is_open text defaults p.0 q.0 p.1 q.1) (λ s u v. u ∙ sym v)
+    (λ e u v. one_latest defaults.latest format is_open text defaults.offset e a b u v) p.2 q.2
+
+one_tried : (formats : List Reading) (is_open : Bool) (text : List ℕ) (defaults : Defaults) (reason : Reason)
+    (a b : Result Said Reason)
+    → AreTried greatest_year formats is_open text defaults reason a
+    → AreTried greatest_year formats is_open text defaults reason b → a ≡ b
+one_tried [] is_open text defaults reason a b p q = p ∙ sym q
+one_tried (format ∷ formats) is_open text defaults reason a b p q =
+    one_after p.0 q.0 (λ s x. x ≡ Ok s) (λ _ x. AreTried greatest_year formats is_open text defaults reason x) a b
+    (one_dated format is_open text defaults p.0 q.0 p.1 q.1) (λ s u v. u ∙ sym v)
+    (λ e u v. one_tried formats is_open text defaults reason a b u v) p.2 q.2
+
+one_in_turn : (format : Reading) (formats : List Reading) (is_open : Bool) (text : List ℕ) (defaults : Defaults)
+    (a b : Result Said Reason)
+    → IsReadInTurn greatest_year format formats is_open text defaults a
+    → IsReadInTurn greatest_year format formats is_open text defaults b → a ≡ b
+one_in_turn format formats is_open text defaults a b p q =
+    one_after p.0 q.0 (λ s x. x ≡ Ok s) (λ e x. AreTried greatest_year formats is_open text defaults e x) a b
+    (one_dated format is_open text defaults p.0 q.0 p.1 q.1) (λ s u v. u ∙ sym v)
+    (λ e u v. one_tried formats is_open text defaults e a b u v) p.2 q.2
+
+one_put_within : (kept : Bool) (job : Job) (start : ℕ) (said : Said) (a b : Verdict)
+    → MatchBool kept
+    ((text : Result Items Reason) × IsWritten greatest_year job.form said.moment text × (a ≡ verdict_of start said text)) (a ≡ dropped)
+    → MatchBool kept
+    ((text : Result Items Reason) × IsWritten greatest_year job.form said.moment text × (b ≡ verdict_of start said text)) (b ≡ dropped)
+    → a ≡ b
+one_put_within true job start said a b p q =
+    p.2 ∙ ap (verdict_of start said) (one_written job.form said.moment p.0 q.0 p.1 q.1) ∙ sym q.2
+one_put_within false job start said a b p q = p ∙ sym q
+
+one_put_by : (far : Bool) (job : Job) (start : ℕ) (said : Said) (a b : Verdict)
+    → MatchBool far (a ≡ refused (start + said.start + 1) too_far) (IsPutWithin greatest_year job start said a)
+    → MatchBool far (b ≡ refused (start + said.start + 1) too_far) (IsPutWithin greatest_year job start said b) → a ≡ b
+one_put_by true job start said a b p q = p ∙ sym q
+one_put_by false job start said a b p q = one_put_within (is_kept greatest_year job said.moment) job start said a b p q
+
+one_put : (job : Job) (start : ℕ) (said : Said) (a b : Verdict)
+    → IsPut greatest_year job start said a → IsPut greatest_year job start said b → a ≡ b
+one_put job start said a b p q = one_put_by (nat_lt LIMIT (start + said.start + said.length)) job start said a b p q
+
+-- what follows from the part of a line that is its time is one
+one_found : (job : Job) (place : Place) (line : List ℕ) (span : Option Span) (a b : Verdict)
+    → MatchOption span (a ≡ missed job)
+    (λ s. (read : Result Said Reason)
+    × IsReadInTurn greatest_year job.first.now job.others.now (is_open place) (slice_range line s.start s.stop) job.defaults read
+    × MatchResult read (λ said. IsPut greatest_year job s.start said a) (λ e. a ≡ refused (s.start + 1) e))
+    → MatchOption span (b ≡ missed job)
+    (λ s. (read : Result Said Reason)
+    × IsReadInTurn greatest_year job.first.now job.others.now (is_open place) (slice_range line s.start s.stop) job.defaults read
+    × MatchResult read (λ said. IsPut greatest_year job s.start said b) (λ e. b ≡ refused (s.start + 1) e))
+    → a ≡ b
+one_found job place line None a b p q = p ∙ sym q
+one_found job place line (Some s) a b p q =
+    one_after p.0 q.0 (λ said x. IsPut greatest_year job s.start said x) (λ e x. x ≡ refused (s.start + 1) e) a b
+    (one_in_turn job.first.now job.others.now (is_open place) (slice_range line s.start s.stop) job.defaults p.0 q.0 p.1 q.1)
+    (λ said u v. one_put job s.start said a b u v) (λ e u v. u ∙ sym v) p.2 q.2
+
+-- what follows from what one format says is one
+one_next : (first : Option Said) (job : Job) (line : List ℕ) (k : ℕ) (formats : List Reading) (a b : Option Said)
+    → ((x y : Option Said) → AreTriedAlone greatest_year job line k formats x → AreTriedAlone greatest_year job line k formats y → x ≡ y)
+    → MatchOption first (AreTriedAlone greatest_year job line k formats a) (λ s. a ≡ Some s)
+    → MatchOption first (AreTriedAlone greatest_year job line k formats b) (λ s. b ≡ Some s) → a ≡ b
+one_next None job line k formats a b one p q = one a b p q
+one_next (Some s) job line k formats a b one p q = p ∙ sym q
+
+one_alone : (job : Job) (line : List ℕ) (k : ℕ) (format : Reading) (a b : Option Said)
+    → SaysAlone greatest_year job line k format a → SaysAlone greatest_year job line k format b → a ≡ b
+one_alone job line k format a b p q =
+    p.2 ∙ ap (alone line k) (one_dated format true (take REACH (drop k line)) job.defaults p.0 q.0 p.1 q.1) ∙ sym q.2
+
+one_tried_alone : (job : Job) (line : List ℕ) (k : ℕ) (formats : List Reading) (a b : Option Said)
+    → AreTriedAlone greatest_year job line k formats a → AreTriedAlone greatest_year job line k formats b → a ≡ b
+one_tried_alone job line k [] a b p q = p ∙ sym q
+one_tried_alone job line k (format ∷ formats) a b p q =
+    one_next q.0 job line k formats a b (λ x y u v. one_tried_alone job line k formats x y u v)
+    (subst (λ (first : Option Said). MatchOption first (AreTriedAlone greatest_year job line k formats a) (λ s. a ≡ Some s))
+    (one_alone job line k format p.0 q.0 p.1 q.1) p.2) q.2
+
+one_outside : (inside : Bool) (job : Job) (line : List ℕ) (k : ℕ) (a b : Option Said)
+    → MatchBool inside (a ≡ None) (AreTriedAlone greatest_year job line k (job.first.now ∷ job.others.now) a)
+    → MatchBool inside (b ≡ None) (AreTriedAlone greatest_year job line k (job.first.now ∷ job.others.now) b) → a ≡ b
+one_outside true job line k a b p q = p ∙ sym q
+one_outside false job line k a b p q = one_tried_alone job line k (job.first.now ∷ job.others.now) a b p q
+
+one_near : (job : Job) (line : List ℕ) (k : ℕ) (a b : Option Said)
+    → SaysFrom greatest_year job line k a → SaysFrom greatest_year job line k b → a ≡ b
+one_near job line k a b p q = one_outside (is_inside line k) job line k a b p q
+
+-- no byte from which on a moment is said is passed over
+not_before : (job : Job) (line : List ℕ) (n k : ℕ) (said : Said)
+    → SaysNoneBefore greatest_year job line n → k < n → SaysFrom greatest_year job line k (Some said) → ⊥
+not_before job line n k said none below says =
+    let e : Some said ≡ None = one_near job line k (Some said) None says (none k below) in absurd cc
+
+-- what is said from one byte on is one
+same_said : (job : Job) (line : List ℕ) (i k : ℕ) (said other : Said) → i ≡ k
+    → SaysFrom greatest_year job line i (Some said) → SaysFrom greatest_year job line k (Some other) → said ≡ other
+same_said job line i k said other same p q =
+    let e : Some said ≡ Some other = one_near job line k (Some said) (Some other)
+    (subst (λ (n : ℕ). SaysFrom greatest_year job line n (Some said)) same p) q in cc
+
+same_pair : {A B : Type 0} (f g : A × B) → f.0 ≡ g.0 → f.1 ≡ g.1 → f ≡ g
+same_pair {A} {B} f g p q = ap (λ (i : A). (i, f.1)) p ∙ ap (λ (s : B). (g.0, s)) q
+
+one_first : (job : Job) (line : List ℕ) (a b : Option (ℕ × Said))
+    → IsFirst greatest_year job line a → IsFirst greatest_year job line b → a ≡ b
+one_first job line None None p q = refl
+one_first job line None (Some g) p q = absurd (not_before job line (length line) g.0 g.1 p q.0 q.1)
+one_first job line (Some f) None p q = absurd (not_before job line (length line) f.0 f.1 q p.0 p.1)
+one_first job line (Some f) (Some g) p q =
+    let low : f.0 < g.0 → ⊥ = λ below. not_before job line g.0 f.0 f.1 q.2 below p.1 in
+    let high : g.0 < f.0 → ⊥ = λ below. not_before job line f.0 g.0 g.1 p.2 below q.1 in
+    let same : f.0 ≡ g.0 = omega (arith, low, high) in
+    ap Some (same_pair f g same (same_said job line f.0 g.0 f.1 g.1 same p.1 q.1))
+
+-- what follows from the first such byte is one
+one_from : (job : Job) (found : Option (ℕ × Said)) (a b : Verdict)
+    → MatchOption found (a ≡ missed job) (λ f. IsPut greatest_year job f.0 f.1 a)
+    → MatchOption found (b ≡ missed job) (λ f. IsPut greatest_year job f.0 f.1 b) → a ≡ b
+one_from job None a b p q = p ∙ sym q
+one_from job (Some f) a b p q = one_put job f.0 f.1 a b p q
+
+one_anywhere : (job : Job) (line : List ℕ) (a b : Verdict)
+    → IsJudgedAnywhere greatest_year job line a → IsJudgedAnywhere greatest_year job line b → a ≡ b
+one_anywhere job line a b p q =
+    one_from job q.0 a b
+    (subst (λ (found : Option (ℕ × Said)). MatchOption found (a ≡ missed job) (λ f. IsPut greatest_year job f.0 f.1 a))
+    (one_first job (body_of line) p.0 q.0 p.1 q.1) p.2) q.2
+
+one_judged : (job : Job) (place : Option Place) (line : List ℕ) (a b : Verdict)
+    → MatchOption place (IsJudgedAnywhere greatest_year job line a) (λ at. IsJudgedAt greatest_year job at line a)
+    → MatchOption place (IsJudgedAnywhere greatest_year job line b) (λ at. IsJudgedAt greatest_year job at line b) → a ≡ b
+one_judged job None line a b p q = one_anywhere job line a b p q
+one_judged job (Some place) line a b p q = one_found job place line (span_of place line) a b p q
+
+pub one_verdict : OneVerdict greatest_year
+one_verdict job line a b p q = one_judged job job.place line a b p q

@@ -1,0 +1,117 @@
+-- A moment has one text in a form.
+use Rattle.std.proofs.Common.{◌≡◌, ℕ, ℤ, List, sym, ap, subst, refl, arith, ◌∙◌, None, Some, Ok, Err}
+use Rattle.std.specs.Prelude.{Option, Result, MatchOption}
+use Rattle.std.proofs.lemmas.Int.{ints}
+use Rattle.std.specs.Fmt.{signed_decimal}
+use Rattle.time_values.specs.Clocks.{shown_at}
+use Rattle.time_values.specs.Instants.{IsInstant, IsWhole, clock_nanos}
+use Rattle.time_values.specs.Moments.{offset_date, offset_time, offset_of, offset_instant}
+use Rattle.time_values.specs.Range.{greatest_year}
+use Rattle.time_values.specs.Shown.{Items}
+use Rattle.time_values.specs.declared.offset_date_time.OffsetDateTime.{OffsetDateTime}
+use Rattle.time_values.specs.declared.utc_offset.UtcOffset.{UtcOffset}
+use Rattle.time_values.proofs.InstantLemmas.{instant_is, clock_nanos_range}
+use Rattle.time_values.proofs.NumberLemmas.{same_weekday}
+use Rattle.time_values.proofs.SameLemmas.{same_moment}
+use Rattle.time_writing.specs.Texts.{Writes, WritesSuch, IsMailText, mail_text}
+use Rattle.time_writing.specs.declared.fraction.FractionDigits.{FractionDigits}
+use Rattle.time_writing.specs.declared.unwritable.Unwritable.{Unwritable}
+use Rattle.restamp_verdict.specs.Form.{IsShown, IsCounted, IsNamedText, IsWrittenBy, IsWritten, unit_of, written}
+use Rattle.restamp_verdict.specs.Reason.{Reason, out_of_range}
+use Rattle.restamp_verdict.specs.declared.form.Form.{Form}
+use Rattle.restamp_verdict.specs.declared.form.Unit.{Unit as Unit_}
+use Rattle.restamp_verdict.specs.declared.form.Unit.TheVariants.{Seconds, Milliseconds, Microseconds, Nanoseconds}
+use Rattle.restamp_verdict.specs.declared.form.Named.{Named as Named_}
+use Rattle.restamp_verdict.specs.declared.form.Named.TheVariants.{Rfc3339, Rfc2822, Iso8601, Count}
+use Rattle.restamp_verdict.specs.declared.form.Writing.{Writing}
+use Rattle.restamp_verdict.specs.declared.form.Writing.TheVariants.{Named, Described}
+
+-- what the clock of a moment shows
+clock_is : (v : OffsetDateTime)
+    → clock_nanos greatest_year (offset_date v) (offset_time v) ≡ shown_at (offset_instant greatest_year v) (offset_of v)
+clock_is v = let e = instant_is (offset_date v) (offset_time v) (offset_of v) in omega (arith, ints, e)
+
+-- moments of one instant at one offset are one
+pub same_shown : (v w : OffsetDateTime)
+    → offset_instant greatest_year v ≡ offset_instant greatest_year w → offset_of v ≡ offset_of w → v ≡ w
+same_shown v w e o =
+    let clocks : clock_nanos greatest_year (offset_date v) (offset_time v) ≡ clock_nanos greatest_year (offset_date w) (offset_time w) =
+    clock_is v ∙ ap (λ n. shown_at n (offset_of v)) e ∙ ap (shown_at (offset_instant greatest_year w)) o ∙ sym (clock_is w) in
+    let parts = same_moment (offset_date v) (offset_date w) (offset_time v) (offset_time w) clocks in
+    λ j. record { date = parts.0 j; time = parts.1 j; offset = o j }
+
+-- a moment has a date at its own offset
+pub shown_in : (v : OffsetDateTime) → IsInstant greatest_year (shown_at (offset_instant greatest_year v) (offset_of v))
+shown_in v = subst (IsInstant greatest_year) (clock_is v) (clock_nanos_range (offset_date v) (offset_time v))
+
+pub one_shown : (offset : Option UtcOffset) (v : OffsetDateTime) (a b : Option OffsetDateTime)
+    → IsShown greatest_year offset v a → IsShown greatest_year offset v b → a ≡ b
+one_shown None v a b p q = p ∙ sym q
+one_shown (Some o) v None None p q = refl
+one_shown (Some o) v None (Some w) p q =
+    absurd (p (subst (λ n. IsInstant greatest_year (shown_at n o)) q.0
+    (subst (λ k. IsInstant greatest_year (shown_at (offset_instant greatest_year w) k)) q.1 (shown_in w))))
+one_shown (Some o) v (Some w) None p q =
+    absurd (q (subst (λ n. IsInstant greatest_year (shown_at n o)) p.0
+    (subst (λ k. IsInstant greatest_year (shown_at (offset_instant greatest_year w) k)) p.1 (shown_in w))))
+one_shown (Some o) v (Some w) (Some x) p q = ap Some (same_shown w x (p.0 ∙ sym q.0) (p.1 ∙ sym q.1))
+
+same_items : (s t : Items) → s.items ≡ t.items → s ≡ t
+same_items s t e = λ j. record { items = e j }
+
+one_text : (reason : Option Unwritable) (bytes : List ℕ) (a b : Result Items Unwritable)
+    → Writes reason bytes a → Writes reason bytes b → a ≡ b
+one_text (Some why) bytes a b p q = p ∙ sym q
+one_text None bytes (Ok s) (Ok t) p q = ap Ok (same_items s t (p ∙ sym q))
+one_text None bytes (Ok s) (Err e) p q = absurd q
+one_text None bytes (Err e) b p q = absurd p
+
+one_mail_text : (v : OffsetDateTime) (s t : List ℕ) → IsMailText v s → IsMailText v t → s ≡ t
+one_mail_text v s t p q = p.2 ∙ ap (λ w. mail_text w v) (same_weekday p.0 q.0 (p.1 ∙ sym q.1)) ∙ sym q.2
+
+one_mail : (reason : Option Unwritable) (v : OffsetDateTime) (a b : Result Items Unwritable)
+    → WritesSuch reason (IsMailText v) a → WritesSuch reason (IsMailText v) b → a ≡ b
+one_mail (Some why) v a b p q = p ∙ sym q
+one_mail None v (Ok s) (Ok t) p q = ap Ok (same_items s t (one_mail_text v s.items t.items p q))
+one_mail None v (Ok s) (Err e) p q = absurd q
+one_mail None v (Err e) b p q = absurd p
+
+one_whole : (unit : Unit_) (n x y : ℤ) → IsWhole (unit_of unit) n x → IsWhole (unit_of unit) n y → x ≡ y
+one_whole Seconds n x y p q = omega (arith, ints)
+one_whole Milliseconds n x y p q = omega (arith, ints)
+one_whole Microseconds n x y p q = omega (arith, ints)
+one_whole Nanoseconds n x y p q = omega (arith, ints)
+
+one_count : (unit : Unit_) (v : OffsetDateTime) (a b : Result Items Reason)
+    → IsCounted greatest_year unit v a → IsCounted greatest_year unit v b → a ≡ b
+one_count unit v (Ok s) (Ok t) p q =
+    ap Ok (same_items s t (p.1.2 ∙ ap signed_decimal (one_whole unit (offset_instant greatest_year v) p.1.0 q.1.0 p.1.1 q.1.1) ∙ sym q.1.2))
+one_count unit v (Ok s) (Err e) p q = absurd (q.1 p.0)
+one_count unit v (Err e) (Ok t) p q = absurd (p.1 q.0)
+one_count unit v (Err e) (Err f) p q = ap Err (p.0 ∙ sym q.0)
+
+one_named : (named : Named_) (digits : FractionDigits) (v : OffsetDateTime) (a b : Result Items Reason)
+    → IsNamedText greatest_year named digits v a → IsNamedText greatest_year named digits v b → a ≡ b
+one_named Rfc3339 digits v a b p q = p.2 ∙ ap written (one_text _ _ p.0 q.0 p.1 q.1) ∙ sym q.2
+one_named Rfc2822 digits v a b p q = p.2 ∙ ap written (one_mail _ v p.0 q.0 p.1 q.1) ∙ sym q.2
+one_named Iso8601 digits v a b p q = p.2 ∙ ap written (one_text _ _ p.0 q.0 p.1 q.1) ∙ sym q.2
+one_named (Count unit) digits v a b p q = one_count unit v a b p q
+
+one_by : (writing : Writing) (digits : FractionDigits) (v : OffsetDateTime) (a b : Result Items Reason)
+    → IsWrittenBy greatest_year writing digits v a → IsWrittenBy greatest_year writing digits v b → a ≡ b
+one_by (Named named) digits v a b p q = one_named named digits v a b p q
+one_by (Described d) digits v a b p q = p ∙ sym q
+
+one_at : (form : Form) (shown other : Option OffsetDateTime) (a b : Result Items Reason) → shown ≡ other
+    → MatchOption shown (a ≡ Err out_of_range) (λ w. IsWrittenBy greatest_year form.writing.now form.digits w a)
+    → MatchOption other (b ≡ Err out_of_range) (λ w. IsWrittenBy greatest_year form.writing.now form.digits w b) → a ≡ b
+one_at form None None a b e p q = p ∙ sym q
+one_at form None (Some w) a b e p q = absurd cc
+one_at form (Some v) None a b e p q = absurd cc
+one_at form (Some v) (Some w) a b e p q =
+    let same : v ≡ w = cc in
+    one_by form.writing.now form.digits w a b (subst (λ x. IsWrittenBy greatest_year form.writing.now form.digits x a) same p) q
+
+pub one_written : (form : Form) (v : OffsetDateTime) (a b : Result Items Reason)
+    → IsWritten greatest_year form v a → IsWritten greatest_year form v b → a ≡ b
+one_written form v a b p q = one_at form p.0 q.0 a b (one_shown form.offset v p.0 q.0 p.1 q.1) p.2 q.2

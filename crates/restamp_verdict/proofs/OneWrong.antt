@@ -1,0 +1,99 @@
+-- The time of a refused line goes wrong at one column.
+use Rattle.std.proofs.Common.{◌≡◌, ◌∙◌, ap, sym, ℕ, Bool, List, Option, Some, None, inl, inr}
+use Rattle.std.proofs.lemmas.Option.{same_Some}
+use Rattle.std.specs.Prelude.{MatchOption, slice_range}
+use Rattle.time_values.specs.Range.{greatest_year}
+use Rattle.time_values.specs.Refusal.{Refusal}
+use Rattle.time_components.specs.Steps.{steps_shape}
+use Rattle.time_components.specs.Tree.{Tree}
+use Rattle.restamp_place.specs.Cuts.{span_of, is_open}
+use Rattle.time_record.specs.Record.{empty}
+use Rattle.time_parsing.specs.Outcome as Outcome
+use Rattle.time_locating.specs.Located.{IsExactMark, IsExactPlace, IsValueAt, Locating, Marking, range_name, wants}
+use Rattle.time_locating.specs.Misses.{Miss, first_byte, missed}
+use Rattle.time_locating.specs.exact.Iso8601Laws.{iso8601_exact_mark, iso8601_exact_place}
+use Rattle.time_locating.specs.exact.MarkLaws.{tree_exact_mark}
+use Rattle.time_locating.specs.exact.MissLaws.{tree_exact_place}
+use Rattle.time_locating.specs.exact.Rfc2822Laws.{rfc2822_exact_mark, rfc2822_exact_place}
+use Rattle.time_locating.specs.exact.Rfc3339Laws.{rfc3339_exact_mark, rfc3339_exact_place}
+use Rattle.time_locating.proofs.PlaceLemmas.{one_answer, one_index}
+use Rattle.restamp_verdict.specs.Wrong.{IsUnreadAt, IsWrongBy, IsWrongPart, IsWrongPlace, IsWrongTree, IsWrongValue, OneWrong, Wrong, column_at, refusal_in, wrong}
+use Rattle.restamp_verdict.specs.declared.job.Job.{Job}
+use Rattle.restamp_verdict.specs.declared.reading.Reading.{Reading}
+use Rattle.restamp_verdict.specs.declared.reading.Reading.TheVariants as reading
+
+-- a format that reads all, over which an index is that of a value alone
+abbrev reads_all : Outcome.Reading
+reads_all bytes r rest q = Unit {0}
+
+abbrev locates_none : Locating
+locates_none bytes r m = ⊥
+
+none_exact : IsExactPlace reads_all locates_none
+none_exact = record {
+  one_place = λ b r m n h k. absurd h;
+  not_read = λ b r q m h k. h;
+}
+
+module _ (reads : Outcome.Reading) (locates : Locating) (marks : Marking) (places : IsExactPlace reads locates) (one : IsExactMark marks)
+    (start : ℕ) (text : List ℕ) where
+  index-one : (e : Refusal) (i k : Option ℕ) → IsValueAt marks text empty (range_name e) i → IsValueAt marks text empty (range_name e) k
+      → i ≡ k
+  index-one e i k h l =
+      one_index reads_all locates_none marks none_exact one text empty e i k (None, (empty, tt), h) (None, (empty, tt), l)
+
+  value-one : (e : Refusal) (w v : Wrong) → IsWrongValue marks start text e w → IsWrongValue marks start text e v → w ≡ v
+  value-one e w v h k =
+      h.2 ∙ ap (λ (i : Option ℕ). wrong (column_at start i) None) (index-one e h.0 k.0 h.1 k.1) ∙ sym k.2
+
+  place-one : (w v : Wrong) → IsWrongPlace reads locates start text w → IsWrongPlace reads locates start text v → w ≡ v
+  place-one w v h k =
+      let same = same_Some (missed h.0.index (wants h.0.expected)) (missed k.0.index (wants k.0.expected))
+      (one_answer reads locates places text empty (Some h.0) (Some k.0) h.1 k.1) in
+      h.2 ∙ ap (λ (m : Miss). wrong (column_at start (Some m.left)) (Some m.wanted)) same ∙ sym k.2
+
+  by-one : (is_open : Bool) (e : Refusal) (w v : Wrong) → IsWrongBy reads locates marks is_open start text e w
+      → IsWrongBy reads locates marks is_open start text e v → w ≡ v
+  by-one is_open e w v (inl h) (inl k) = value-one e w v h.1 k.1
+  by-one is_open e w v (inl h) (inr k) = absurd (k.0 h.0)
+  by-one is_open e w v (inr h) (inl k) = absurd (h.0 k.0)
+  by-one is_open e w v (inr h) (inr k) = place-one w v h.1 k.1
+
+tree-one : (tree : Tree) (is_open : Bool) (start : ℕ) (text : List ℕ) (e : Refusal) (w v : Wrong)
+    → IsWrongTree greatest_year tree is_open start text e w → IsWrongTree greatest_year tree is_open start text e v → w ≡ v
+tree-one tree is_open start text e w v h k =
+    by-one _ _ _ (tree_exact_place greatest_year first_byte tree) (tree_exact_mark greatest_year tree) start text is_open e w v h k
+
+part-one : (format : Reading) (is_open : Bool) (start : ℕ) (text : List ℕ) (e : Refusal) (w v : Wrong)
+    → IsWrongPart greatest_year format is_open start text e w → IsWrongPart greatest_year format is_open start text e v → w ≡ v
+part-one reading.Rfc3339 is_open start text e w v h k =
+    by-one _ _ _ (rfc3339_exact_place greatest_year) rfc3339_exact_mark start text is_open e w v h k
+part-one reading.Rfc2822 is_open start text e w v h k =
+    by-one _ _ _ (rfc2822_exact_place greatest_year) rfc2822_exact_mark start text is_open e w v h k
+part-one reading.Iso8601 is_open start text e w v h k =
+    by-one _ _ _ (iso8601_exact_place greatest_year) (iso8601_exact_mark greatest_year) start text is_open e w v h k
+part-one (reading.Described d) is_open start text e w v h k = tree-one (steps_shape d) is_open start text e w v h k
+part-one (reading.Complete d) is_open start text e w v h k = tree-one (steps_shape d) is_open start text e w v h k
+part-one (reading.Counted d) is_open start text e w v h k = tree-one (steps_shape d) is_open start text e w v h k
+
+-- what follows from one choice is one
+one_choice : {A : Type 0} (o : Option A) (other : Wrong) (P : A → Wrong → Type 0) (w v : Wrong)
+    → ((a : A) → P a w → P a v → w ≡ v) → MatchOption o (w ≡ other) (λ a. P a w) → MatchOption o (v ≡ other) (λ a. P a v) → w ≡ v
+one_choice None other P w v one h k = h ∙ sym k
+one_choice (Some a) other P w v one h k = one a h k
+
+unread-one : (job : Job) (line : List ℕ) (e : Refusal) (otherwise w v : Wrong)
+    → IsUnreadAt greatest_year job line e otherwise w → IsUnreadAt greatest_year job line e otherwise v → w ≡ v
+unread-one job line e otherwise w v =
+    one_choice job.place otherwise
+    (λ place u. MatchOption (span_of place line) (u ≡ otherwise)
+    (λ span. IsWrongPart greatest_year job.first.now (is_open place) span.start (slice_range line span.start span.stop) e u)) w v
+    (λ place. one_choice (span_of place line) otherwise
+    (λ span u. IsWrongPart greatest_year job.first.now (is_open place) span.start (slice_range line span.start span.stop) e u) w v
+    (λ span. part-one job.first.now (is_open place) span.start (slice_range line span.start span.stop) e w v))
+
+pub one_wrong : OneWrong greatest_year
+one_wrong job line column reason w v =
+    let otherwise = wrong column None in
+    one_choice (refusal_in reason) otherwise (λ e u. IsUnreadAt greatest_year job line e otherwise u) w v
+    (λ e. unread-one job line e otherwise w v)

@@ -1,0 +1,40 @@
+use Rattle.std.proofs.Common.{◌-◌, ℤ, sym, subst, arith, ◌∙◌, Ok, Err}
+use Rattle.std.specs.Int.{w32}
+use Rattle.std.proofs.lemmas.Int.{ints, to_z-of_z}
+use Rattle.time_values.specs.Range.{greatest_year}
+use Rattle.restamp_verdict.specs.Reading.{seen_undated, IsReadInYear, AreYearsTried}
+use Rattle.restamp_verdict.specs.Reason.{seen, seen_read}
+use Rattle.restamp_verdict.proofs.ReadingLemmas.{one_less, years-end, years-late, years-found, years-refused}
+use Rattle.restamp_verdict.proofs.reading.Undated.+read_years.Goals as goal
+
+pub returns-then-count-eq0-clause-said : goal.returns-then-count-eq0-clause-said
+returns-then-count-eq0-clause-said t c =
+    years-end greatest_year (seen_undated c.args.self.now) c.args.year (seen c.args.reason) (Err (seen c.args.reason)) c.args.count c.if-count-eq0.true
+
+pub returns-then-is_after-clause-said : goal.returns-then-is_after-clause-said
+returns-then-is_after-clause-said t c =
+    let u = seen_undated c.args.self.now in
+    let read = subst (λ (y : ℤ). IsReadInYear greatest_year u y (Ok c.in-Ok.said)) (to_z-of_z w32 c.args.year c.ranges.year)
+    (c.in-Ok.ensures.said) in
+    let later = subst (λ (y : ℤ). AreYearsTried greatest_year u (c.args.count - 1) y (seen c.args.reason) (seen_read c.read_years.result))
+    (one_less c.args.year c.ranges.year (omega (arith, ints))) c.read_years.ensures.said in
+    years-late greatest_year u c.args.year (seen c.args.reason) (seen_read c.read_years.result) c.args.count c.in-Ok.said
+    (omega arith) read (sym c.is_after.ensures ∙ c.if-is_after.true) later
+
+pub returns-else-is_after-clause-said : goal.returns-else-is_after-clause-said
+returns-else-is_after-clause-said t c =
+    let u = seen_undated c.args.self.now in
+    let read = subst (λ (y : ℤ). IsReadInYear greatest_year u y (Ok c.in-Ok.said)) (to_z-of_z w32 c.args.year c.ranges.year)
+    (c.in-Ok.ensures.said) in
+    years-found greatest_year u c.args.year (seen c.args.reason) (Ok c.in-Ok.said) c.args.count c.in-Ok.said
+    (omega arith) read (sym c.is_after.ensures ∙ c.if-is_after.false)
+
+pub returns-in-Err-clause-said : goal.returns-in-Err-clause-said
+returns-in-Err-clause-said t c =
+    let u = seen_undated c.args.self.now in
+    let read = subst (λ (y : ℤ). IsReadInYear greatest_year u y (Err (seen c.in-Err.why))) (to_z-of_z w32 c.args.year c.ranges.year)
+    (c.in-Err.ensures.said) in
+    let later = subst (λ (y : ℤ). AreYearsTried greatest_year u (c.args.count - 1) y (seen c.in-Err.why) (seen_read c.read_years-in-Err.result))
+    (one_less c.args.year c.ranges.year (omega (arith, ints))) c.read_years-in-Err.ensures.said in
+    years-refused greatest_year u c.args.year (seen c.args.reason) (seen_read c.read_years-in-Err.result) c.args.count
+    (seen c.in-Err.why) (omega arith) read later

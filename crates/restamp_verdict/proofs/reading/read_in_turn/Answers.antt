@@ -1,0 +1,8 @@
+use Rattle.time_values.specs.Range.{greatest_year}
+use Rattle.restamp_verdict.proofs.ReadingLemmas.{in_turn-first}
+use Rattle.restamp_verdict.proofs.reading.read_in_turn.Goals as goal
+
+pub returns-in-Ok-clause-said : goal.returns-in-Ok-clause-said
+returns-in-Ok-clause-said c =
+    in_turn-first greatest_year c.args.first.now c.args.others.now c.args.is_open c.args.text.now c.args.defaults.now c.in-Ok.said
+    c.in-Ok.ensures.said

@@ -1,0 +1,129 @@
+-- Laws of what becomes of a line.
+use Rattle.std.specs.Prelude.{◌≡◌, ℕ, ◌+◌, nat_lt, pos, codes, false, MatchBool, List, length, slice_range, Some, Result, Ok, IsOkAnd}
+use Rattle.time_values.specs.Moments.{offset_of, offset_time}
+use Rattle.time_values.specs.Offsets as Offsets
+use Rattle.time_values.specs.Shown.{Items}
+use Rattle.time_values.specs.Times as Times
+use Rattle.time_values.specs.declared.offset_date_time.OffsetDateTime.{OffsetDateTime}
+use Rattle.time_values.specs.declared.utc_offset.UtcOffset.{UtcOffset}
+use Rattle.time_components.specs.Tree.{Tree}
+use Rattle.time_descriptions.specs.Description.{shape}
+use Rattle.time_descriptions.specs.declared.description.Description.{Description}
+use Rattle.time_writing.specs.declared.fraction.FractionDigits.{FractionDigits}
+use Rattle.time_writing.specs.declared.fraction.FractionDigits.TheVariants.{Auto}
+use Rattle.time_record.specs.Record.{Record, empty}
+use Rattle.time_record.specs.Resolution.{IsMoment}
+use Rattle.time_parsing.specs.Written.{kept, written}
+use Rattle.restamp_place.specs.Cuts.{span_of, is_open}
+use Rattle.restamp_place.specs.declared.cuts.Place.{Place}
+use Rattle.restamp_place.specs.declared.fields.Span.{Span}
+use Rattle.time_components.specs.Steps.{steps_shape}
+use Rattle.restamp_verdict.specs.Form.{IsShown, IsWritten}
+use Rattle.restamp_verdict.specs.Job.{Verdict, rewritten, dropped, refused, is_kept, IsJudged}
+use Rattle.restamp_verdict.specs.Naming.{way_of, common_text, meaning_of, Means, MeansWriting}
+use Rattle.restamp_verdict.specs.ReadBack.{pieces, AllStop, SaysMoment, ReadsTree}
+use Rattle.restamp_verdict.specs.Reading.{Says, completed, IsCompleted}
+use Rattle.restamp_verdict.specs.Reason.{Reason, too_far}
+use Rattle.restamp_verdict.specs.Told.{with_all_told, HasAll, SignTells}
+use Rattle.time_components.specs.declared.step.Step.{Step}
+use Rattle.restamp_verdict.specs.declared.form.Form.{Form}
+use Rattle.restamp_verdict.specs.declared.form.Named.TheVariants.{Rfc3339, Rfc2822, Iso8601, Count}
+use Rattle.restamp_verdict.specs.declared.form.Writing.{Writing}
+use Rattle.restamp_verdict.specs.declared.form.Writing.TheVariants.{Named, Described}
+use Rattle.restamp_verdict.specs.declared.job.Job.{Job}
+use Rattle.restamp_verdict.specs.declared.job.TheConstants.{LIMIT}
+use Rattle.restamp_verdict.specs.declared.reading.Defaults.{Defaults}
+use Rattle.restamp_verdict.specs.declared.reading.Reading.{Reading}
+use Rattle.restamp_verdict.specs.declared.reading.Reading.TheVariants as reading
+use Rattle.restamp_verdict.specs.declared.reading.TheConstants.{MOST_STEPS}
+use Rattle.restamp_verdict.specs.declared.reading.Said.{Said}
+
+-- A line has one verdict.
+abbrev pub OneVerdict : ℕ → Type 0
+OneVerdict Y = (job : Job) (line : List ℕ) (verdict other : Verdict)
+    → IsJudged Y job line verdict → IsJudged Y job line other → verdict ≡ other
+
+-- Each digit of the moment's fraction after the first k is 0.
+abbrev pub HasDigits : ℕ → OffsetDateTime → Type 0
+HasDigits k v = kept k (Times.nanosecond (offset_time v)) ≡ Times.nanosecond (offset_time v)
+
+-- That holds of as many as `Auto` writes.
+abbrev pub AutoHasAll : Type 0
+AutoHasAll = (v : OffsetDateTime) → HasDigits (written Auto v) v
+
+-- The format reads all of a moment that is written so. A named one is the one that writes it, and each digit that isn't
+-- 0 is written. A description reads what is written by its tree.
+abbrev pub ReadsAll : ℕ → Reading → Defaults → Writing → FractionDigits → OffsetDateTime → Type 0
+ReadsAll Y format defaults (Named Rfc3339) digits v = (format ≡ reading.Rfc3339) × HasDigits (written digits v) v
+ReadsAll Y format defaults (Named Rfc2822) digits v = (format ≡ reading.Rfc2822) × HasDigits 0 v
+ReadsAll Y format defaults (Named Iso8601) digits v = format ≡ reading.Iso8601
+ReadsAll Y format defaults (Named (Count unit)) digits v = ⊥
+ReadsAll Y format defaults (Described d) digits v = ReadsTree Y format defaults (shape d) v
+
+-- The text is that of the moment in a form, and a format reads all of it, as it is shown there.
+abbrev pub IsReadable : ℕ → Reading → Defaults → Form → OffsetDateTime → List ℕ → Type 0
+IsReadable Y format defaults form v bytes =
+    ((w : OffsetDateTime) × IsShown Y form.offset v (Some w)
+    × ReadsAll Y format defaults form.writing.now form.digits w)
+    × ((text : Items) × IsWritten Y form v (Ok text) × (bytes ≡ text.items))
+
+-- Such a text says that moment, shown at the offset of its form, with all its bytes.
+abbrev pub ReadsRewrittenBack : ℕ → Type 0
+ReadsRewrittenBack Y =
+    (format : Reading) (defaults : Defaults) (form : Form) (v : OffsetDateTime) (bytes : List ℕ)
+    (read : Result Said Reason)
+    → IsReadable Y format defaults form v bytes → Says Y format false bytes defaults read
+    → IsOkAnd read
+    (λ said. IsShown Y form.offset v (Some said.moment) × (said.start ≡ 0) × (said.length ≡ length bytes))
+
+-- What such a text says has that text in the form.
+abbrev pub WritesSameText : ℕ → Type 0
+WritesSameText Y =
+    (format : Reading) (defaults : Defaults) (form : Form) (v : OffsetDateTime) (bytes : List ℕ) (said : Said)
+    (again : Result Items Reason)
+    → IsReadable Y format defaults form v bytes → Says Y format false bytes defaults (Ok said)
+    → IsWritten Y form said.moment again → IsOkAnd again (λ text. text.items ≡ bytes)
+
+-- A line of which a place has such a text, by the job's own form and its first format, keeps its bytes: the text gives
+-- way to itself, or the line is dropped where the moment lies outside the bounds; or the text goes on too far.
+abbrev pub ChangesNothing : ℕ → Type 0
+ChangesNothing Y =
+    (job : Job) (place : Place) (line : List ℕ) (span : Span) (v : OffsetDateTime) (bytes : List ℕ) (verdict : Verdict)
+    → job.place ≡ Some place → is_open place ≡ false → span_of place line ≡ Some span
+    → slice_range line span.start span.stop ≡ bytes
+    → IsReadable Y job.first.now job.defaults job.form v bytes → IsJudged Y job line verdict
+    → MatchBool (nat_lt LIMIT (span.start + length bytes)) (verdict ≡ refused (span.start + 1) too_far)
+    (MatchBool (is_kept Y job v) (verdict ≡ rewritten span.start (length bytes) bytes) (verdict ≡ dropped))
+
+-- A tree says all of a moment with the defaults where the record of what its components tell then has all of it, and
+-- each component's text is read whole.
+abbrev pub SaysAllTold : ℕ → Type 0
+SaysAllTold Y =
+    (v : OffsetDateTime) (tree : Tree) (defaults : Defaults) (after : Record)
+    → AllStop Y v (pieces tree) → with_all_told Y v (pieces tree) empty ≡ Some after
+    → HasAll (completed Y defaults after) v → SaysMoment Y tree defaults v
+
+-- What a record says all of stays with the defaults, which stand only for what it doesn't say.
+abbrev pub KeepsMoment : ℕ → Type 0
+KeepsMoment Y =
+    (defaults : Defaults) (r : Record) (v : OffsetDateTime) → IsMoment Y r (Ok v) → IsCompleted Y defaults r (Ok v)
+
+-- The sign of each offset and the sizes of its parts tell them.
+abbrev pub SignsTell : Type 0
+SignsTell = (o : UtcOffset) → SignTells o
+
+-- A text that means a format to read by, and describes one to write by, means one tree.
+abbrev pub OneTree : Type 0
+OneTree =
+    (text : List ℕ) (format : Reading) (d : Description MOST_STEPS)
+    → Means (way_of text) (meaning_of format) → MeansWriting text (Described d)
+    → (e : List Step) × (format ≡ reading.Described e) × (steps_shape e ≡ shape d)
+
+-- A moment with no fraction, and with an offset of whole minutes, that is written as access logs have it, by a
+-- description, is read back by the format of that name, whatever the defaults.
+abbrev pub CommonReadsBack : ℕ → Type 0
+CommonReadsBack Y =
+    (v : OffsetDateTime) (format : Reading) (defaults : Defaults) (d : Description MOST_STEPS)
+    → Means (way_of (codes "common")) (meaning_of format) → MeansWriting common_text (Described d)
+    → Times.nanosecond (offset_time v) ≡ 0 → Offsets.seconds (offset_of v) ≡ pos 0
+    → ReadsTree Y format defaults (shape d) v

@@ -1,0 +1,234 @@
+//! How a time is written.
+ghost use Rattle.std.specs.Prelude.{◌≡◌, ◌≤◌, length, codes, MatchOption, MatchResult};
+ghost use Rattle.std.specs.Fmt.{signed_decimal};
+ghost use Rattle.time_values.specs.Range.{greatest_year};
+ghost use Rattle.time_descriptions.specs.Description.{shape};
+ghost use Rattle.time_formatting.specs.Texts.{text_of};
+ghost use Rattle.restamp_verdict.specs.Form as spec;
+ghost use Rattle.time_values.specs.Instants.{IsInstant, IsWhole};
+ghost use Rattle.time_values.specs.Moments.{nanoseconds, offset_instant};
+ghost use Rattle.restamp_verdict.specs.declared.form.Unit.TheVariants.{Milliseconds, Microseconds, Nanoseconds};
+ghost use Rattle.restamp_verdict.specs.declared.form.Writing.TheVariants as writing;
+ghost use Rattle.restamp_verdict.specs.Reason.{out_of_range, seen, seen_written};
+
+use crate::reading::MOST_STEPS;
+use crate::reason::Reason;
+use time_descriptions::Description;
+use time_formatting::format;
+use time_values::{OffsetDateTime, Timestamp, UtcOffset};
+use time_writing::{FractionDigits, Text, Unwritable, text_2822, text_3339, text_8601};
+
+// The first second of the first day in UTC, and the last one of the last day, since 1970-01-01T00:00:00Z.
+const FIRST_SECOND: i64 = -31_619_087_596_800;
+
+const LAST_SECOND: i64 = 31_494_784_780_799;
+
+/// What is counted since 1970-01-01T00:00:00Z.
+#[derive(Clone, Copy, Debug, PartialEq, Eq)]
+pub enum Unit {
+    /// Whole seconds, rounded down.
+    Seconds,
+    /// Whole milliseconds, rounded down.
+    Milliseconds,
+    /// Whole microseconds, rounded down.
+    Microseconds,
+    /// Nanoseconds.
+    Nanoseconds,
+}
+
+/// A format that has a name.
+#[derive(Clone, Copy, Debug, PartialEq, Eq)]
+pub enum Named {
+    /// RFC 3339.
+    Rfc3339,
+    /// A mail date, RFC 2822, which has no fraction.
+    Rfc2822,
+    /// ISO 8601 with nine digits of a fraction.
+    Iso8601,
+    /// A decimal number of units.
+    Count(Unit),
+}
+
+/// The format that a time is written by.
+#[derive(Drop)]
+pub enum Writing {
+    /// One that has a name.
+    Named(Named),
+    /// By a description.
+    Described(Description<MOST_STEPS>),
+}
+
+/// All that says how a time is written.
+#[derive(Clone, Copy)]
+pub struct Form<'a> {
+    /// The format.
+    pub writing: &'a Writing,
+    /// How many digits of a fraction RFC 3339 has.
+    pub digits: FractionDigits,
+    /// The offset at which the time is shown, or `None` for its own.
+    pub offset: Option<UtcOffset>,
+}
+
+// A text, or that there is none.
+#[inline(always)]
+fn written(text: Result<Text, Unwritable>) -> Result<Text, Reason>
+    ensures { seen_written result ≡ spec.written text }
+{
+    match text {
+        Ok(text) => Ok(text),
+        Err(why) => Err(Reason::Unwritable(why)),
+    }
+}
+
+// The moment on a clock with the offset, if one is given.
+#[inline(always)]
+fn shown(moment: OffsetDateTime, offset: Option<UtcOffset>) -> Option<OffsetDateTime>
+    ensures { spec.IsShown greatest_year offset moment result }
+{
+    let Some(offset) = offset else {
+        return Some(moment);
+    };
+    if moment.offset() == offset {
+        return Some(moment);
+    }
+    moment.checked_to_offset(offset)
+}
+
+// A number that has at most 64 bits.
+#[inline(always)]
+fn number(count: i64) -> Text
+    ensures { result.items ≡ signed_decimal count }
+{
+    let mut buffer = itoa::Buffer::new();
+    let mut text = Text::new();
+    text.append(buffer.format(count).as_bytes());
+    text
+}
+
+// A number of at most 34 digits.
+fn wide_number(count: i128) -> Text
+    requires { length (signed_decimal count) ≤ 35 }
+    ensures { result.items ≡ signed_decimal count }
+{
+    let mut buffer = itoa::Buffer::new();
+    let mut text = Text::new();
+    text.append(buffer.format(count).as_bytes());
+    text
+}
+
+// The whole seconds of the moment since 1970, if it has a date in UTC. They cost far less than its nanoseconds.
+#[inline(always)]
+fn seconds_of(moment: OffsetDateTime) -> Option<i64>
+    ensures { MatchOption result (¬ IsInstant greatest_year (offset_instant greatest_year moment))
+        (λ z. IsInstant greatest_year (offset_instant greatest_year moment)
+        × IsWhole 1_000_000_000 (offset_instant greatest_year moment) z) }
+{
+    let seconds = moment.unix_timestamp();
+    if seconds < FIRST_SECOND {
+        return None;
+    }
+    if LAST_SECOND < seconds {
+        return None;
+    }
+    Some(seconds)
+}
+
+// Its nanoseconds since 1970, if it has a date in UTC.
+fn stamp_of(moment: OffsetDateTime) -> Result<Timestamp, Reason>
+    ensures { MatchResult result
+        (λ stamp. IsInstant greatest_year (offset_instant greatest_year moment)
+        × (nanoseconds stamp ≡ offset_instant greatest_year moment))
+        (λ e. (seen e ≡ out_of_range) × (¬ IsInstant greatest_year (offset_instant greatest_year moment))) }
+{
+    match moment.checked_to_utc() {
+        Some(utc) => Ok(Timestamp::from(utc)),
+        None => Err(Reason::OutOfRange),
+    }
+}
+
+// Its milliseconds since 1970. None of these is inlined, so that their results take no place where seconds are written.
+#[inline(never)]
+fn write_milliseconds(moment: OffsetDateTime) -> Result<Text, Reason>
+    ensures { spec.IsCounted greatest_year Milliseconds moment (seen_written result) }
+{
+    Ok(number(stamp_of(moment)?.as_milliseconds()))
+}
+
+// Its microseconds since 1970.
+#[inline(never)]
+fn write_microseconds(moment: OffsetDateTime) -> Result<Text, Reason>
+    ensures { spec.IsCounted greatest_year Microseconds moment (seen_written result) }
+{
+    Ok(wide_number(stamp_of(moment)?.as_microseconds()))
+}
+
+// Its nanoseconds since 1970.
+#[inline(never)]
+fn write_nanoseconds(moment: OffsetDateTime) -> Result<Text, Reason>
+    ensures { spec.IsCounted greatest_year Nanoseconds moment (seen_written result) }
+{
+    Ok(wide_number(stamp_of(moment)?.nanoseconds()))
+}
+
+// The units of the moment since 1970.
+#[inline(always)]
+fn write_count(moment: OffsetDateTime, unit: Unit) -> Result<Text, Reason>
+    ensures { spec.IsCounted greatest_year unit moment (seen_written result) }
+{
+    match unit {
+        Unit::Seconds => match seconds_of(moment) {
+            Some(seconds) => Ok(number(seconds)),
+            None => Err(Reason::OutOfRange),
+        },
+        Unit::Milliseconds => write_milliseconds(moment),
+        Unit::Microseconds => write_microseconds(moment),
+        Unit::Nanoseconds => write_nanoseconds(moment),
+    }
+}
+
+/// The text of the moment by a named format, shown at the offset if one is given, or why it has none.
+#[inline(always)]
+pub(crate) fn write_named(
+    moment: OffsetDateTime,
+    named: Named,
+    digits: FractionDigits,
+    offset: Option<UtcOffset>,
+) -> Result<Text, Reason>
+    ensures { spec.IsWrittenAt greatest_year (writing.Named named) digits offset moment (seen_written result) }
+{
+    let Some(moment) = shown(moment, offset) else {
+        return Err(Reason::OutOfRange);
+    };
+    match named {
+        Named::Rfc3339 => written(text_3339(moment, digits)),
+        Named::Rfc2822 => written(text_2822(moment)),
+        Named::Iso8601 => written(text_8601(moment)),
+        Named::Count(unit) => write_count(moment, unit),
+    }
+}
+
+// Its text by a description, or why it has none.
+fn write_described(
+    moment: OffsetDateTime,
+    description: &Description<MOST_STEPS>,
+) -> Result<Text, Reason>
+    ensures { seen_written result ≡ spec.described (text_of greatest_year moment (shape description.now)) }
+{
+    match format(moment, description.steps()) {
+        Ok(text) => Ok(text),
+        Err(why) => Err(Reason::Unformattable(why)),
+    }
+}
+
+/// The text of the moment, or why it has none.
+pub fn write_moment(moment: OffsetDateTime, form: Form<'_>) -> Result<Text, Reason>
+    ensures { spec.IsWritten greatest_year form.entry moment (seen_written result) }
+{
+    match form.writing {
+        Writing::Named(named) => write_named(moment, *named, form.digits, form.offset),
+        Writing::Described(description) => match shown(moment, form.offset) {
+            Some(moment) => write_described(moment, description),
+            None => Err(Reason::OutOfRange),
+        },
+    }
+}

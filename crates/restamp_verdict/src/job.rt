@@ -1,0 +1,310 @@
+//! What becomes of a line.
+ghost use Rattle.std.specs.Prelude.{◌≡◌, ◌≤◌, ◌<◌, ◌+◌, ◌^◌, length, Err, IfOk, IfSome};
+ghost use Rattle.time_values.specs.Range.{greatest_year};
+ghost use Rattle.restamp_verdict.specs.Job as spec;
+ghost use Rattle.restamp_verdict.specs.Reading.{Says};
+ghost use Rattle.restamp_verdict.specs.Reason.{seen, seen_read, seen_written};
+
+use crate::form::{Form, Writing, write_moment, write_named};
+use crate::reading::{Defaults, Reading, Said, read_dated, read_further, read_once};
+use crate::reason::Reason;
+use restamp_place::{Place, body_of, find_span};
+use std::cmp::Ordering;
+use time_values::OffsetDateTime;
+use time_values::text::Text;
+
+/// How many bytes a time may have of which it isn't known where it stands.
+pub const REACH: usize = 256;
+
+/// In how many bytes of a line its time may stand.
+pub const LIMIT: usize = 262_144;
+
+/// What is done with each line.
+#[derive(Clone, Copy)]
+pub struct Job<'a> {
+    /// Where its time stands; `None` is the first place from which on a format reads one.
+    pub place: Option<Place<'a>>,
+    /// The format that reads it.
+    pub first: &'a Reading,
+    /// The formats that are tried in turn where that one doesn't.
+    pub others: &'a [Reading],
+    /// What stands for what a time leaves out.
+    pub defaults: Defaults,
+    /// How it is written.
+    pub form: Form<'a>,
+    /// Drops lines whose time is before.
+    pub since: Option<OffsetDateTime>,
+    /// Drops lines whose time isn't before.
+    pub until: Option<OffsetDateTime>,
+    /// Refuses lines that have no place for a time.
+    pub asks_for_times: bool,
+}
+
+/// What becomes of a line.
+#[derive(Drop)]
+pub enum Verdict {
+    /// It has no place for a time, and stays.
+    Without,
+    /// So many of its bytes, from that place on, give way to the text.
+    Rewritten {
+        /// How many bytes stand before them.
+        start: usize,
+        /// How many they are.
+        length: usize,
+        /// The text.
+        text: Text,
+    },
+    /// It is left out.
+    Dropped,
+    /// It stays, and is told with its reason.
+    Refused {
+        /// Where the time begins, from 1.
+        column: usize,
+        /// Why.
+        reason: Reason,
+    },
+}
+
+// Whether the moment lies before the bound; `otherwise` where there is none.
+#[inline(always)]
+fn is_before(moment: OffsetDateTime, bound: Option<OffsetDateTime>, otherwise: bool) -> bool
+    ensures { result ≡ spec.is_before greatest_year moment bound otherwise }
+{
+    match bound {
+        None => otherwise,
+        Some(bound) => moment.cmp_instant(bound) == Ordering::Less,
+    }
+}
+
+// Whether an ASCII letter or digit stands right before a place of the line, and one right at it.
+fn is_inside(line: &[u8], place: usize) -> bool
+    ensures { result ≡ spec.is_inside line.now place }
+{
+    0 < place
+        && place < line.len()
+        && line[place - 1].is_ascii_alphanumeric()
+        && line[place].is_ascii_alphanumeric()
+}
+
+impl Said {
+    // The verdict on a line that says a moment so in a part from that place on, by what is written of it.
+    #[inline(always)]
+    fn replaced_by(self, start: usize, written: Result<Text, Reason>) -> Verdict
+        requires { start + self.start + 1 < 2 ^ 64 }
+        ensures verdict { spec.seen_verdict result ≡ spec.verdict_of start self (seen_written written) }
+        ensures within { spec.IsWithin (start + self.start + self.length) (spec.seen_verdict result) }
+    {
+        match written {
+            Ok(text) => Verdict::Rewritten {
+                start: start + self.start,
+                length: self.length,
+                text,
+            },
+            Err(reason) => Verdict::Refused {
+                column: start + self.start + 1,
+                reason,
+            },
+        }
+    }
+}
+
+impl Job<'_> {
+    // Whether the moment lies within the bounds.
+    #[inline(always)]
+    fn keeps(&self, moment: OffsetDateTime) -> bool
+        ensures { result ≡ spec.is_kept greatest_year self.now moment }
+    {
+        !is_before(moment, self.since, false) && is_before(moment, self.until, true)
+    }
+
+    // The verdict on a line of which some bytes say a moment, in a part from that place on.
+    #[inline(always)]
+    fn put(&self, start: usize, said: Said) -> Verdict
+        requires { start + said.start + said.length + 1 < 2 ^ 64 }
+        ensures put { spec.IsPut greatest_year self.now start said (spec.seen_verdict result) }
+        ensures within { spec.IsWithin (start + said.start + said.length) (spec.seen_verdict result) }
+    {
+        if LIMIT < start + said.start + said.length {
+            return Verdict::Refused {
+                column: start + said.start + 1,
+                reason: Reason::TooFar,
+            };
+        }
+        self.put_within(start, said)
+    }
+
+    // The same for a moment that stands where a time may.
+    #[inline(always)]
+    fn put_within(&self, start: usize, said: Said) -> Verdict
+        requires { start + said.start + 1 < 2 ^ 64 }
+        ensures put { spec.IsPutWithin greatest_year self.now start said (spec.seen_verdict result) }
+        ensures within { spec.IsWithin (start + said.start + said.length) (spec.seen_verdict result) }
+    {
+        if !self.keeps(said.moment) {
+            return Verdict::Dropped;
+        }
+        let Writing::Named(named) = self.form.writing else {
+            return self.put_kept(start, said);
+        };
+        said.replaced_by(
+            start,
+            write_named(said.moment, *named, self.form.digits, self.form.offset),
+        )
+    }
+
+    // The same of any format, for a moment that is kept. It isn't inlined, so that its texts take no place beside those that
+    // are written in line.
+    #[inline(never)]
+    fn put_kept(&self, start: usize, said: Said) -> Verdict
+        requires { start + said.start + 1 < 2 ^ 64 }
+        ensures put { spec.IsWrittenOver greatest_year self.now start said (spec.seen_verdict result) }
+        ensures within { spec.IsWithin (start + said.start + said.length) (spec.seen_verdict result) }
+    {
+        said.replaced_by(start, write_moment(said.moment, self.form))
+    }
+
+    // The verdict on a line that has no place for a time.
+    fn miss(&self) -> Verdict
+        ensures { spec.seen_verdict result ≡ spec.missed self.now }
+    {
+        if self.asks_for_times {
+            return Verdict::Refused {
+                column: 1,
+                reason: Reason::Missing,
+            };
+        }
+        Verdict::Without
+    }
+
+    // The verdict on a line whose time stands at that place.
+    #[inline(always)]
+    fn judge_at(&self, place: Place<'_>, line: &[u8]) -> Verdict
+        ensures verdict { spec.IsJudgedAt greatest_year self.now place.entry line.now (spec.seen_verdict result) }
+        ensures within { spec.IsWithin (length line.now) (spec.seen_verdict result) }
+    {
+        let Some(span) = find_span(place, line) else {
+            return self.miss();
+        };
+        let is_open = place.is_open();
+        let text = &line[span.start..span.stop];
+        match read_once(self.first, is_open, text, &self.defaults) {
+            Ok(said) => self.put(span.start, said),
+            Err(reason) => self.judge_further(span.start, is_open, text, reason),
+        }
+    }
+
+    // The verdict on a line of which a part says nothing by the first format as it stands, for that reason. It isn't inlined,
+    // so that what is read by the others takes no place beside what is read by the first.
+    #[inline(never)]
+    fn judge_further(&self, start: usize, is_open: bool, text: &[u8], reason: Reason) -> Verdict
+        requires start { start + length text.now + 1 < 2 ^ 64 }
+        requires says { Says greatest_year self.now.first.now is_open text.now self.now.defaults (Err (seen reason)) }
+        ensures verdict { spec.IsJudgedPart greatest_year self.now is_open start text.now (spec.seen_verdict result) }
+        ensures within { spec.IsWithin (start + length text.now) (spec.seen_verdict result) }
+    {
+        match read_further(
+            self.first,
+            self.others,
+            is_open,
+            text,
+            &self.defaults,
+            reason,
+        ) {
+            Ok(said) => self.put(start, said),
+            Err(why) => Verdict::Refused {
+                column: start + 1,
+                reason: why,
+            },
+        }
+    }
+
+    // What the line says by that format from a byte on, unless it ends inside a word or a number.
+    fn read_alone(&self, line: &[u8], start: usize, reading: &Reading) -> Option<Said>
+        requires { start ≤ length line.now }
+        ensures said { spec.SaysAlone greatest_year self.now line.now start reading.now result }
+        ensures within { IfSome result (λ said. start + said.start + said.length ≤ length line.now) }
+    {
+        let rest = &line[start..];
+        let near = &rest[..REACH.min(rest.len())];
+        let Ok(said) = read_dated(reading, true, near, &self.defaults) else {
+            return None;
+        };
+        if is_inside(line, start + said.start + said.length) {
+            return None;
+        }
+        Some(said)
+    }
+
+    // The same by the first of the others by which it says something.
+    fn read_others(&self, line: &[u8], start: usize) -> Option<Said>
+        requires { start ≤ length line.now }
+        ensures said { spec.AreTriedAlone greatest_year self.now line.now start self.now.others.now result }
+        ensures within { IfSome result (λ said. start + said.start + said.length ≤ length line.now) }
+    {
+        for reading in self.others {
+            if let Some(said) = self.read_alone(line, start, reading) {
+                return Some(said);
+            }
+        }
+        None
+    }
+
+    // What the line says from a byte on that isn't inside a word or a number.
+    fn read_from(&self, line: &[u8], start: usize) -> Option<Said>
+        requires { start ≤ length line.now }
+        ensures said { spec.SaysFrom greatest_year self.now line.now start result }
+        ensures within { IfSome result (λ said. start + said.start + said.length ≤ length line.now) }
+    {
+        if is_inside(line, start) {
+            return None;
+        }
+        match self.read_alone(line, start, self.first) {
+            Some(said) => Some(said),
+            None => self.read_others(line, start),
+        }
+    }
+
+    // The first place of the line from which on it says a moment, and what it says.
+    fn find_first(&self, line: &[u8]) -> Option<(usize, Said)>
+        ensures first { spec.IsFirst greatest_year self.now line.now result }
+        ensures within { IfSome result (λ found. found.0 + found.1.start + found.1.length ≤ length line.now) }
+    {
+        for start in 0..line.len() {
+            if let Some(said) = self.read_from(line, start) {
+                return Some((start, said));
+            }
+        }
+        None
+    }
+
+    // The verdict on a line whose time may stand anywhere but in a CR at its end.
+    fn judge_anywhere(&self, line: &[u8]) -> Verdict
+        ensures verdict { spec.IsJudgedAnywhere greatest_year self.now line.now (spec.seen_verdict result) }
+        ensures within { spec.IsWithin (length line.now) (spec.seen_verdict result) }
+    {
+        let body = body_of(line);
+        match self.find_first(body) {
+            Some((start, said)) => self.put(start, said),
+            None => self.miss(),
+        }
+    }
+
+    /// The verdict on a line, which has no LF. A time that is refused leaves the line as it is, and so does one that goes
+    /// on past the first [`LIMIT`] bytes. Of a longer line it can be given [`REACH`] bytes more, so that it is seen what
+    /// stands behind a time.
+    ///
+    /// Where no place is given the time begins at the first byte from which on a format reads one, of which at most
+    /// [`REACH`] bytes count. It takes whole words and numbers: no ASCII letter or digit stands right before its first byte
+    /// or right after its last one, where that byte is one. A line with no such time has no place for one. The blanks
+    /// around a mail date stay where it isn't told where the time ends.
+    #[inline(always)]
+    pub fn judge(&self, line: &[u8]) -> Verdict
+        ensures verdict { spec.IsJudged greatest_year self.now line.now (spec.seen_verdict result) }
+        ensures within { spec.IsWithin (length line.now) (spec.seen_verdict result) }
+    {
+        match self.place {
+            Some(place) => self.judge_at(place, line),
+            None => self.judge_anywhere(line),
+        }
+    }
+}

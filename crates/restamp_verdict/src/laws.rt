@@ -1,0 +1,51 @@
+//! Laws of what becomes of a line: each function does nothing, and its contract is the law.
+ghost use Rattle.time_values.specs.Range.{greatest_year};
+ghost use Rattle.restamp_verdict.specs.Laws.{OneVerdict, AutoHasAll, ReadsRewrittenBack, WritesSameText, ChangesNothing, KeepsMoment, SaysAllTold, SignsTell, OneTree, CommonReadsBack};
+
+/// A line has one verdict, whatever the job.
+pub fn law_one_verdict()
+    ensures { OneVerdict greatest_year }
+{}
+
+/// A time that was written by RFC 3339, RFC 2822 or ISO 8601 is read back by the same format as the same moment, at the
+/// offset at which it was shown, where each digit of its fraction that isn't 0 was written; and all bytes of the text
+/// count. [`Auto`](time_writing::FractionDigits::Auto) leaves out no such digit.
+///
+/// So is one that was written by a description, by a description of the same tree, where what the components say makes
+/// a record of that moment, and behind each component's text stands what may stand there.
+pub fn law_rewritten_read_back()
+    ensures text { ReadsRewrittenBack greatest_year }
+    ensures auto { AutoHasAll }
+{}
+
+/// A second run changes nothing. What a text of [`law_rewritten_read_back`] says is written in the same form as that
+/// text. A line of which a place has such a text, in the job's form and by its first format, has it replaced by itself,
+/// or is dropped where the moment lies outside the bounds.
+pub fn law_second_run()
+    ensures text { WritesSameText greatest_year }
+    ensures line { ChangesNothing greatest_year }
+{}
+
+/// What a record says all of stays with what stands for what a text doesn't say.
+pub fn law_defaults()
+    ensures { KeepsMoment greatest_year }
+{}
+
+/// What is written by a description says all of a moment where the record of what its components tell of the date, the
+/// time and the offset, with what stands for the rest, has all of it, and each component's text is read whole. The sign of
+/// an offset and the sizes of its parts tell them.
+pub fn law_all_told()
+    ensures says { SaysAllTold greatest_year }
+    ensures signs { SignsTell }
+{}
+
+/// A text that means a format to read times by, and describes one to write them by, means one tree.
+pub fn law_one_tree()
+    ensures { OneTree }
+{}
+
+/// A moment with no fraction, and with an offset of whole minutes, is read back by the format `common` where it was
+/// written by the same description, whatever the defaults.
+pub fn law_common_read_back()
+    ensures { CommonReadsBack greatest_year }
+{}

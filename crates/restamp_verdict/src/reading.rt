@@ -1,0 +1,449 @@
+//! How a time is read.
+ghost use Rattle.std.specs.Prelude.{◌≡◌, ◌+◌, ◌-◌, ◌≤◌, ◌≤ℤ◌, ◌-ℤ◌, neg_ℤ, pos, length, take, IfOk};
+ghost use Rattle.time_values.specs.Range.{greatest_year};
+ghost use Rattle.time_record.specs.Record.{empty};
+ghost use Rattle.time_parsing.specs.Outcome.{IsFront, IsOutcome, seen as seen_parse, seen_front};
+ghost use Rattle.restamp_verdict.specs.Reading as spec;
+ghost use Rattle.restamp_verdict.specs.Reason.{seen, seen_read};
+
+use crate::reason::Reason;
+use std::cmp::Ordering;
+use std::convert::TryFrom;
+use time_parsing::{Iso8601, Parsable, Rfc2822, Rfc3339, value_before};
+use time_preparing::Prepared;
+use time_record::Parsed;
+use time_values::error::Parse;
+use time_values::{OffsetDateTime, UtcOffset};
+
+/// The most steps that a description may have. One in brackets of so many bytes has room.
+pub const MOST_STEPS: usize = 256;
+
+/// A format that a time is read by.
+#[derive(Drop)]
+pub enum Reading {
+    /// RFC 3339, section 5.6.
+    Rfc3339,
+    /// Mail dates, RFC 2822, section 3.3.
+    Rfc2822,
+    /// ISO 8601.
+    Iso8601,
+    /// By a description.
+    Described(Prepared<MOST_STEPS>),
+    /// By a description whose texts say all of a moment, so that defaults don't count.
+    Complete(Prepared<MOST_STEPS>),
+    /// By a description of a number of seconds, which may have a fraction unless a minus stands before it.
+    Counted(Prepared<MOST_STEPS>),
+}
+
+/// What stands for what a time leaves out.
+#[derive(Clone, Copy)]
+pub struct Defaults {
+    /// The year of a time that says no part of one.
+    pub year: Option<i32>,
+    /// The offset of a time that says no hour of one.
+    pub offset: Option<UtcOffset>,
+    /// A time that has no year either is the latest that isn't after this moment.
+    pub latest: Option<OffsetDateTime>,
+}
+
+/// What a text says, or a front of it.
+#[derive(Clone, Copy, Debug)]
+pub struct Said {
+    /// The moment.
+    pub moment: OffsetDateTime,
+    /// How many bytes of the text stand before those that say it.
+    pub start: usize,
+    /// How many bytes say it.
+    pub length: usize,
+}
+
+impl Reading {
+    // Whether a fraction after a minus is refused.
+    #[inline(always)]
+    fn is_counted(&self) -> bool
+        ensures { result ≡ spec.is_counted self.now }
+    {
+        match self {
+            Reading::Counted(_) => true,
+            Reading::Rfc3339 | Reading::Rfc2822 | Reading::Iso8601 => false,
+            Reading::Described(_) | Reading::Complete(_) => false,
+        }
+    }
+}
+
+// Whether the record says a part of a year.
+#[inline(always)]
+pub(crate) fn has_year(parsed: &Parsed) -> bool
+    ensures { result ≡ spec.has_year parsed.now }
+{
+    parsed.year().is_some()
+        || parsed.year_century().is_some()
+        || parsed.year_last_two().is_some()
+        || parsed.iso_year().is_some()
+        || parsed.iso_year_century().is_some()
+        || parsed.iso_year_last_two().is_some()
+}
+
+// Puts the year into a record that says no part of one.
+#[inline(always)]
+fn put_year(year: Option<i32>, parsed: &mut Parsed)
+    ensures { parsed.new ≡ spec.with_year greatest_year year parsed.old }
+{
+    let Some(year) = year else {
+        return;
+    };
+    if !has_year(parsed) {
+        let _ = parsed.set_year(year);
+    }
+}
+
+// Puts the parts of the offset into a record that says no hour of one.
+#[inline(always)]
+fn put_offset(offset: Option<UtcOffset>, parsed: &mut Parsed)
+    ensures { parsed.new ≡ spec.with_offset offset parsed.old }
+{
+    let Some(offset) = offset else {
+        return;
+    };
+    if parsed.offset_hour().is_some() {
+        return;
+    }
+    let (hours, minutes, seconds) = offset.as_hms();
+    let _ = parsed.set_offset_hour(hours);
+    let _ = parsed.set_offset_minute_signed(minutes);
+    let _ = parsed.set_offset_second_signed(seconds);
+    parsed.forget_offset_sign();
+}
+
+// Puts what stands for what the text doesn't say into the record of what it says.
+#[inline(always)]
+pub(crate) fn complete(defaults: &Defaults, parsed: &mut Parsed)
+    ensures { parsed.new ≡ spec.completed greatest_year defaults.now parsed.old }
+{
+    put_year(defaults.year, parsed);
+    put_offset(defaults.offset, parsed);
+}
+
+// The moment that the text says up to that rest.
+#[inline(always)]
+fn said_before(rest: &[u8], text: &[u8], moment: OffsetDateTime) -> Said
+    ensures said { result ≡ spec.said moment (length text.now - length rest.now) }
+    ensures within { result.start + result.length ≤ length text.now }
+{
+    Said {
+        moment,
+        start: 0,
+        length: text.len().saturating_sub(rest.len()),
+    }
+}
+
+// What a front of the text says by the format where it is open, and else what the whole text says.
+#[inline(always)]
+fn read_by<F: Parsable>(format: &F, is_open: bool, text: &[u8]) -> Result<Said, Parse>
+    ensures said { spec.IsReadBy greatest_year is_open (F.path format.now) (F.reads format.now) (F.refuses format.now) text.now
+        (spec.seen_said result) }
+    ensures within { IfOk result (λ said. said.start + said.length ≤ length text.now) }
+{
+    if is_open {
+        let (moment, rest) = format.parse_front(text, None)?;
+        return Ok(said_before(rest, text, moment));
+    }
+    let moment = format.parse_offset_date_time(text, None)?;
+    Ok(said_before(&[], text, moment))
+}
+
+// The moment of a front of the text, with what stands for what that doesn't say, and the rest.
+#[inline(always)]
+fn front_with<'a, F: Parsable>(
+    format: &F,
+    text: &'a [u8],
+    defaults: &Defaults,
+) -> Result<(OffsetDateTime, &'a [u8]), Parse>
+    ensures { IsFront (spec.IsCompleted greatest_year defaults.now) (F.reads format.now) (F.refuses format.now) text.now
+        empty (seen_front result) }
+{
+    let mut parsed = Parsed::new();
+    let rest = format.parse_into(text, &mut parsed)?;
+    complete(defaults, &mut parsed);
+    let moment = OffsetDateTime::try_from(parsed)?;
+    Ok((moment, rest))
+}
+
+// The same of the whole text.
+#[inline(always)]
+fn whole_with<F: Parsable>(
+    format: &F,
+    text: &[u8],
+    defaults: &Defaults,
+) -> Result<OffsetDateTime, Parse>
+    ensures { IsOutcome (spec.IsCompleted greatest_year defaults.now) (F.reads format.now) (F.refuses format.now) text.now
+        empty (seen_parse result) }
+{
+    let mut parsed = Parsed::new();
+    let rest = format.parse_into(text, &mut parsed)?;
+    complete(defaults, &mut parsed);
+    value_before::<OffsetDateTime>(rest, &parsed)
+}
+
+// What a front of the text says with what stands for what it doesn't say, where it is open, and else what the whole does.
+#[inline(always)]
+fn read_with<F: Parsable>(
+    format: &F,
+    is_open: bool,
+    text: &[u8],
+    defaults: &Defaults,
+) -> Result<Said, Parse>
+    ensures said { spec.IsReadWith greatest_year is_open (F.reads format.now) (F.refuses format.now) text.now
+        defaults.now (spec.seen_said result) }
+    ensures within { IfOk result (λ said. said.start + said.length ≤ length text.now) }
+{
+    if is_open {
+        let (moment, rest) = front_with(format, text, defaults)?;
+        return Ok(said_before(rest, text, moment));
+    }
+    let moment = whole_with(format, text, defaults)?;
+    Ok(said_before(&[], text, moment))
+}
+
+// The same without the blanks at both ends of its bytes.
+fn bare(said: Said, text: &[u8]) -> Said
+    requires { said.length ≤ length text.now }
+    ensures said { result ≡ spec.bare text.now said }
+    ensures within { result.start + result.length ≤ length text.now }
+{
+    let front = text[..said.length].trim_ascii_start();
+    Said {
+        moment: said.moment,
+        start: said.length.saturating_sub(front.len()),
+        length: front.trim_ascii_end().len(),
+    }
+}
+
+// The same by RFC 2822, which has blanks before a date and after it: where it is open they stay around it.
+#[inline(always)]
+fn read_mail(is_open: bool, text: &[u8]) -> Result<Said, Parse>
+    ensures said { spec.IsReadMail greatest_year is_open text.now (spec.seen_said result) }
+    ensures within { IfOk result (λ said. said.start + said.length ≤ length text.now) }
+{
+    let said = read_by(&Rfc2822, is_open, text)?;
+    if is_open {
+        return Ok(bare(said, text));
+    }
+    Ok(said)
+}
+
+// The same by any of the formats. Those that say all of a moment need no defaults.
+#[inline(always)]
+fn read_plain(
+    reading: &Reading,
+    is_open: bool,
+    text: &[u8],
+    defaults: &Defaults,
+) -> Result<Said, Parse>
+    ensures said { spec.IsRead greatest_year reading.now is_open text.now defaults.now (spec.seen_said result) }
+    ensures within { IfOk result (λ said. said.start + said.length ≤ length text.now) }
+{
+    match reading {
+        Reading::Rfc3339 => read_by(&Rfc3339, is_open, text),
+        Reading::Rfc2822 => read_mail(is_open, text),
+        Reading::Iso8601 => read_with(&Iso8601, is_open, text, defaults),
+        Reading::Described(described) => read_with(described, is_open, text, defaults),
+        Reading::Complete(described) => read_by(described, is_open, text),
+        Reading::Counted(described) => read_with(described, is_open, text, defaults),
+    }
+}
+
+// Whether the number has a fraction and a minus.
+fn is_negative_fraction(number: &[u8]) -> bool
+    ensures { result ≡ spec.is_negative_fraction number.now }
+{
+    !number.is_empty() && number[0] == b'-' && number.contains(&b'.')
+}
+
+/// What [`read`] says, in line.
+#[inline(always)]
+pub(crate) fn read_once(
+    reading: &Reading,
+    is_open: bool,
+    text: &[u8],
+    defaults: &Defaults,
+) -> Result<Said, Reason>
+    ensures said { spec.Says greatest_year reading.now is_open text.now defaults.now (seen_read result) }
+    ensures within { IfOk result (λ said. said.start + said.length ≤ length text.now) }
+{
+    let said = match read_plain(reading, is_open, text, defaults) {
+        Ok(said) => said,
+        Err(error) => return Err(Reason::Unread(error)),
+    };
+    if reading.is_counted() && is_negative_fraction(&text[..said.length]) {
+        return Err(Reason::NegativeFraction);
+    }
+    Ok(said)
+}
+
+/// What the text says by the format; where it is open what a front of it says, as far as the format goes. Defaults
+/// stand for what the text leaves out.
+pub fn read(
+    reading: &Reading,
+    is_open: bool,
+    text: &[u8],
+    defaults: &Defaults,
+) -> Result<Said, Reason>
+    ensures said { spec.Says greatest_year reading.now is_open text.now defaults.now (seen_read result) }
+    ensures within { IfOk result (λ said. said.start + said.length ≤ length text.now) }
+{
+    read_once(reading, is_open, text, defaults)
+}
+
+// Whether the moment lies after another.
+fn is_after(moment: OffsetDateTime, other: OffsetDateTime) -> bool
+    ensures { result ≡ spec.is_after greatest_year moment other }
+{
+    moment.cmp_instant(other) == Ordering::Greater
+}
+
+// A text with no year, and the moment that it isn't after.
+#[derive(Clone, Copy)]
+struct Undated<'a> {
+    reading: &'a Reading,
+    is_open: bool,
+    text: &'a [u8],
+    offset: Option<UtcOffset>,
+    latest: OffsetDateTime,
+}
+
+impl Undated<'_> {
+    // What the text says in that year.
+    fn read_in_year(&self, year: i32) -> Result<Said, Reason>
+        ensures said { spec.IsReadInYear greatest_year (spec.seen_undated self.now) year (seen_read result) }
+        ensures within { IfOk result (λ said. said.start + said.length ≤ length self.now.text.now) }
+    {
+        let dated = Defaults {
+            year: Some(year),
+            offset: self.offset,
+            latest: None,
+        };
+        read(self.reading, self.is_open, self.text, &dated)
+    }
+
+    // What it says in the first of so many years, from that one down, in which it says a moment that isn't too late.
+    #[inline(never)]
+    fn read_years(&self, year: i32, count: u8, reason: Reason) -> Result<Said, Reason>
+        requires { neg_ℤ (pos 2_000_000) ≤ℤ (year -ℤ pos count) }
+        ensures said { spec.AreYearsTried greatest_year (spec.seen_undated self.now) count year (seen reason) (seen_read result) }
+        ensures within { IfOk result (λ said. said.start + said.length ≤ length self.now.text.now) }
+    {
+        if count == 0 {
+            return Err(reason);
+        }
+        let before = year - 1;
+        match self.read_in_year(year) {
+            Ok(said) => {
+                if is_after(said.moment, self.latest) {
+                    return self.read_years(before, count - 1, reason);
+                }
+                Ok(said)
+            }
+            Err(why) => self.read_years(before, count - 1, why),
+        }
+    }
+}
+
+// What a text says that says nothing by the format, for that reason, unless it is the year that it leaves out.
+fn read_undated(
+    reading: &Reading,
+    is_open: bool,
+    text: &[u8],
+    defaults: &Defaults,
+    reason: Reason,
+) -> Result<Said, Reason>
+    requires { spec.Says greatest_year reading.now is_open text.now defaults.now (Err (seen reason)) }
+    ensures said { spec.IsDated greatest_year reading.now is_open text.now defaults.now (seen_read result) }
+    ensures within { IfOk result (λ said. said.start + said.length ≤ length text.now) }
+{
+    let Some(latest) = defaults.latest else {
+        return Err(reason);
+    };
+    let undated = Undated {
+        reading,
+        is_open,
+        text,
+        offset: defaults.offset,
+        latest,
+    };
+    undated.read_years(latest.year() + 1, 10, reason)
+}
+
+/// What the text says by the format; where it leaves the year out, the latest moment that isn't after the one that is
+/// given. Of the years from the one after that moment's down, ten are tried, since 29 February may be missing in seven in a
+/// row.
+pub fn read_dated(
+    reading: &Reading,
+    is_open: bool,
+    text: &[u8],
+    defaults: &Defaults,
+) -> Result<Said, Reason>
+    ensures said { spec.IsDated greatest_year reading.now is_open text.now defaults.now (seen_read result) }
+    ensures within { IfOk result (λ said. said.start + said.length ≤ length text.now) }
+{
+    match read(reading, is_open, text, defaults) {
+        Ok(said) => Ok(said),
+        Err(reason) => read_undated(reading, is_open, text, defaults, reason),
+    }
+}
+
+// What the first says of the formats that says something; or else the reason that is given.
+fn read_others(
+    readings: &[Reading],
+    is_open: bool,
+    text: &[u8],
+    defaults: &Defaults,
+    reason: Reason,
+) -> Result<Said, Reason>
+    ensures said { spec.AreTried greatest_year readings.now is_open text.now defaults.now (seen reason) (seen_read result) }
+    ensures within { IfOk result (λ said. said.start + said.length ≤ length text.now) }
+{
+    for reading in readings {
+        if let Ok(said) = read_dated(reading, is_open, text, defaults) {
+            return Ok(said);
+        }
+    }
+    Err(reason)
+}
+
+/// What a text says that says nothing by the first of the formats as it stands, for that reason.
+pub(crate) fn read_further(
+    first: &Reading,
+    others: &[Reading],
+    is_open: bool,
+    text: &[u8],
+    defaults: &Defaults,
+    reason: Reason,
+) -> Result<Said, Reason>
+    requires { spec.Says greatest_year first.now is_open text.now defaults.now (Err (seen reason)) }
+    ensures said { spec.IsReadInTurn greatest_year first.now others.now is_open text.now defaults.now (seen_read result) }
+    ensures within { IfOk result (λ said. said.start + said.length ≤ length text.now) }
+{
+    match read_undated(first, is_open, text, defaults, reason) {
+        Ok(said) => Ok(said),
+        Err(why) => read_others(others, is_open, text, defaults, why),
+    }
+}
+
+/// What the text says by the first of the formats by which it says something; the reason is that of the first.
+#[inline(always)]
+pub fn read_in_turn(
+    first: &Reading,
+    others: &[Reading],
+    is_open: bool,
+    text: &[u8],
+    defaults: &Defaults,
+) -> Result<Said, Reason>
+    ensures said { spec.IsReadInTurn greatest_year first.now others.now is_open text.now defaults.now (seen_read result) }
+    ensures within { IfOk result (λ said. said.start + said.length ≤ length text.now) }
+{
+    match read(first, is_open, text, defaults) {
+        Ok(said) => Ok(said),
+        Err(reason) => read_further(first, others, is_open, text, defaults, reason),
+    }
+}

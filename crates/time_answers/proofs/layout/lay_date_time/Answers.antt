@@ -1,9 +1,0 @@
-use Rattle.std.proofs.Common.{refl, arith}
-use Rattle.time_answers.proofs.LayoutLemmas.{joined, signed}
-use Rattle.time_answers.proofs.layout.lay_date_time.Goals as goal
-
-pub returns : goal.returns
-returns c =
-    rw (c.copy_from_slice.ensures.after, c.copy_from_slice-2.ensures.after)
-    (signed _ c.lay_date.result c.lay_time.result _ _ _ (joined c.lay_date.result c.lay_time.result _ _ 11 18 refl (omega arith) refl)
-    c.lay_date.ensures c.lay_time.ensures)

@@ -1,5 +1,0 @@
-use Rattle.time_answers.proofs.LinesLemmas.{Appends-then}
-use Rattle.time_answers.proofs.layout.write_date_time.Goals as goal
-
-pub returns : goal.returns
-returns g c = Appends-then _ _ _ _ _ _ _ c.in_ok-write_year_front.ensures c.write_all.ensures.bytes c.lay_date_time.ensures

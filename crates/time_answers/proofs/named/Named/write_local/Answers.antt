@@ -1,7 +1,0 @@
-use Rattle.time_answers.specs.Formats as formats
-use Rattle.time_answers.proofs.SingleLists.{Writes-single}
-use Rattle.time_answers.proofs.named.Named.write_local.Goals as goal
-
-pub returns : goal.returns
-returns g c =
-    Writes-single c.write_value.result _ formats.local c.args.target c.args.text.now _ _ c.self.invariant.2 c.write_value.ensures

@@ -1,9 +1,0 @@
-use Rattle.std.proofs.Common.{refl}
-use Rattle.time_readers.specs.Places.{Stand}
-use Rattle.time_ffi.proofs.moments.fast.rfc2822.to_day.Goals as goal
-
-pub returns : goal.returns
-unfolding Stand
-returns c =
-    let day = c.in_ok-day.ensures in
-    (c.in_ok-rest.rest.now, _, c.in_ok-rest.ensures, (_, _, (day.0, day.1, (_, day.2, tt, refl)), (refl, refl)))

@@ -1,5 +1,0 @@
-use Rattle.std.proofs.Common.{Ok, refl}
-use Rattle.time_ffi.proofs.moments.local_8601.Goals as goal
-
-pub returns-in-Some : goal.returns-in-Some
-returns-in-Some c = (Ok c.in-Some.value, c.in-Some.ensures, (refl, c.from.ensures))

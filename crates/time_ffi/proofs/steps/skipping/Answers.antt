@@ -1,7 +1,0 @@
-use Rattle.std.proofs.Common.{ap, sym}
-use Rattle.time_descriptions.proofs.Ignored.{ignored_of}
-use Rattle.time_ffi.specs.Held.{skipping}
-use Rattle.time_ffi.proofs.steps.skipping.Goals as goal
-
-pub returns-in-Some : goal.returns-in-Some
-returns-in-Some c = sym (ap skipping (ignored_of (record { count = c.in-Some.count }) c.args.count c.in-Some.ensures))

@@ -1,6 +1,0 @@
-use Rattle.std.proofs.Common.{length}
-use Rattle.time_ffi.proofs.text.+lay.Given as goal
-
--- each call has a piece less
-abbrev pub decreases-lay : goal.decreases-lay
-decreases-lay l = length l.pieces.now

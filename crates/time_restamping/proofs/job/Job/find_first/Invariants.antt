@@ -1,7 +1,0 @@
-use Rattle.time_values.specs.Range.{greatest_year}
-use Rattle.time_restamping.specs.Job.{SaysNoneBefore}
-use Rattle.time_restamping.proofs.job.Job.find_first.Given as goal
-
--- from none of the bytes before this one on a moment is said
-abbrev pub invariant-loop-start : goal.invariant-loop-start
-invariant-loop-start l = SaysNoneBefore greatest_year l.self l.line l.start

@@ -1,8 +1,0 @@
-use Rattle.time_values.specs.Range.{greatest_year}
-use Rattle.time_restamping.proofs.ReadingLemmas.{in_turn-first}
-use Rattle.time_restamping.proofs.reading.read_in_turn.Goals as goal
-
-pub returns-in-Ok-clause-said : goal.returns-in-Ok-clause-said
-returns-in-Ok-clause-said c =
-    in_turn-first greatest_year c.args.first.now c.args.others.now c.args.is_open c.args.text.now c.args.defaults.now c.in-Ok.said
-    c.in-Ok.ensures.said

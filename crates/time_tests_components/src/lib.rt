@@ -1,5 +1,0 @@
-//! Tests of the readers of digits, components and the parts of ISO 8601.
-#![tactic(auto)]
-
-#[cfg(test)]
-mod tests;

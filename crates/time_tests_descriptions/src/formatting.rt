@@ -1,0 +1,4 @@
+//! Tests of the texts of moments by descriptions.
+
+mod caller;
+mod moments;

@@ -1,5 +1,0 @@
-//! Tests of prepared descriptions.
-#![tactic(auto)]
-
-#[cfg(test)]
-mod tests;

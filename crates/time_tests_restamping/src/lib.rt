@@ -1,5 +1,0 @@
-//! Tests of what becomes of a line.
-#![tactic(auto)]
-
-#[cfg(test)]
-mod anywhere;

@@ -1,6 +1,0 @@
-use Rattle.std.proofs.Common.{codes, refl}
-use Rattle.time_rewriting.proofs.ReportLemmas.{OnOk-map}
-use Rattle.time_tests_rewriting.proofs.tests.MarksRewriting.write_reason.Goals as goal
-
-pub returns : goal.returns
-returns g c = OnOk-map c.write.result _ _ c.write.ensures.bytes (λ written. (1, codes "bad", (refl, refl), written))

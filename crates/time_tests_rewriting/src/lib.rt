@@ -1,5 +1,0 @@
-//! Tests of streams that are rewritten line by line.
-#![tactic(auto)]
-
-#[cfg(test)]
-mod tests;

@@ -9,8 +9,9 @@ from html import escape
 BANDS = ("values and texts of digits", "readers, descriptions and the record", "parsing, and what stands on it", "built of them")
 # Each box: its band, row and column, its purpose, and further lines in it.
 BOXES = {
-    "time_digits": (0, 0, 0.5, "digits, signs, single bytes"),
-    "time_values": (0, 0, 1.75, "dates, times, offsets, errors"),
+    "time_digits": (0, 0, 0, "digits, signs, single bytes"),
+    "time_zones": (0, 0, 1, "moments in named zones"),
+    "time_values": (0, 0, 2.05, "dates, times, offsets, errors"),
     "time_writing": (0, 0, 3.25, "texts of moments"),
     "time_components": (1, 1, 1, "how a component is spelled"),
     "time_readers": (1, 2, 0, "RFC 3339, RFC 2822, ISO 8601"),
@@ -28,7 +29,8 @@ BOXES = {
 }
 # The lines, each with the column of the way up that it takes past other rows, if it passes some.
 LINES = [
-    ("time_values", "time_writing", None), ("time_digits", "time_components", None), ("time_values", "time_components", None),
+    ("time_values", "time_zones", None), ("time_values", "time_writing", None),
+    ("time_digits", "time_components", None), ("time_values", "time_components", None),
     ("time_components", "time_readers", None), ("time_components", "time_record", None),
     ("time_components", "time_descriptions", None), ("time_components", "time_formatting", None),
     ("time_writing", "time_formatting", None), ("time_writing", "time_parsing", 3.0),
@@ -100,7 +102,8 @@ class Plan:
         """A way from the top of the lower box to the bottom of the higher one, by a way up of its own past other rows."""
         (a, b, c, d), (x, y, w, h) = self.rects[low], self.rects[high]
         if b + d == y + h and BOXES[low][1] == BOXES[high][1]:
-            self.ways[low, high] = [(a + c, y + h - HIGH // 2), (x - 6, y + h - HIGH // 2)]
+            side = y + h - HIGH // 2
+            self.ways[low, high] = [(a + c, side), (x - 6, side)] if a < x else [(a, side), (x + w + 6, side)]
             return
         for begin in (a + c // 2, *range(a + 20, a + c - 16, 10)):
             for way in ways_between(begin, b, x + w - 12, y + h + 6, channel):
@@ -139,8 +142,9 @@ class Plan:
             path = " L ".join(f"{x} {y}" for x, y in way)
             (a, b), (x, y) = way[-2:]
             yield f'<path class="line" d="M {path}"/>'
-            head = "l -6 -4 v 8 z" if b == y else "l -4 6 h 8 z"
-            yield f'<path class="head" d="M {x + 6 if b == y else x} {y if b == y else y - 6} {head}"/>'
+            right, left, up = (x + 6, y, "l -6 -4 v 8 z"), (x - 6, y, "l 6 -4 v 8 z"), (x, y - 6, "l -4 6 h 8 z")
+            x, y, head = up if b != y else right if a < x else left
+            yield f'<path class="head" d="M {x} {y} {head}"/>'
         for name, (x, y, w, h) in self.rects.items():
             yield f'<rect class="box" x="{x}" y="{y}" width="{w}" height="{h}" rx="6"/>'
             yield text(x + w // 2, y + 20, name, "code", "middle")

@@ -1,0 +1,4 @@
+pub mod TableLemmas
+pub mod ZoneLemmas
+pub mod AnswerLemmas
+pub mod NameLemmas

@@ -1,0 +1,5 @@
+pub mod Zones
+pub mod Spread
+pub mod Names
+pub mod Finding
+pub mod Texts

@@ -1,0 +1,52 @@
+-- No public contract rests on this file.
+-- The offsets at which clocks of a zone show a date and time.
+use Rattle.std.specs.Prelude.{◌≡◌, ◌⊎◌, ℤ, ◌-ℤ◌, ◌≤ℤ◌, Option, Some, None}
+use Rattle.jiff_core.specs.Calendar.{IsBetween}
+use Rattle.jiff_core.specs.Timestamp.{IsTimestampNanos, nanos_of_seconds}
+use Rattle.jiff_tz.specs.PosixText.{TzText, DstText, tz_view}
+use Rattle.jiff_tz.specs.Tzif.{tzif_view}
+use Rattle.jiff_tz.specs.Zone as Zone
+use Rattle.jiff_tz.specs.declared.ambiguous.AmbiguousOffset.{AmbiguousOffset}
+use Rattle.jiff_tz.specs.declared.ambiguous.AmbiguousOffset.TheVariants.{Unambiguous, Gap, Fold}
+use Rattle.jiff_tz.specs.declared.timezone.TimeZone.{TimeZone}
+use Rattle.jiff_tz.specs.declared.timezone.TimeZone.TheVariants.{UTC, Unknown, Fixed, Posix, Tzif}
+use Rattle.time_zones.specs.declared.spread.Spread.{Spread}
+
+-- zones tell of the instant at which a clock with that offset shows the reading, and the zone has the offset then
+pub record HasOffset (zone : TimeZone) (reading s : ℤ) : Type 0 where
+  pub told : IsTimestampNanos (reading -ℤ nanos_of_seconds s)
+  pub same : Zone.offset_at zone (reading -ℤ nanos_of_seconds s) ≡ s
+
+-- both ends are such offsets, and the first moment has the greatest
+pub record IsSpread (zone : TimeZone) (reading : ℤ) (w : Spread) : Type 0 where
+  pub greatest : HasOffset zone reading w.greatest.seconds
+  pub least : HasOffset zone reading w.least.seconds
+  pub rising : w.least.seconds ≤ℤ w.greatest.seconds
+
+-- the offset lies in the spread
+abbrev pub Covers : Option Spread → ℤ → Type 0
+Covers None s = ⊥
+Covers (Some w) s = IsBetween w.least.seconds w.greatest.seconds s
+
+-- one of the offsets that the kit gives for a date and time
+abbrev pub IsSide : AmbiguousOffset → ℤ → Type 0
+IsSide (Unambiguous offset) s = s ≡ offset.seconds
+IsSide (Gap before after) s = (s ≡ before.seconds) ⊎ (s ≡ after.seconds)
+IsSide (Fold before after) s = (s ≡ before.seconds) ⊎ (s ≡ after.seconds)
+
+-- the rule of a zone
+abbrev pub rule_text : TimeZone → Option TzText
+rule_text UTC = None
+rule_text Unknown = None
+rule_text (Fixed offset) = None
+rule_text (Posix tz) = Some (tz_view tz)
+rule_text (Tzif z) = (tzif_view z.now).rule
+
+-- an offset of the rule, in standard time or in daylight saving time
+abbrev pub IsOfDst : Option DstText → ℤ → Type 0
+IsOfDst None s = ⊥
+IsOfDst (Some dst) s = s ≡ dst.seconds
+
+abbrev pub IsOfRule : Option TzText → ℤ → Type 0
+IsOfRule None s = ⊥
+IsOfRule (Some rule) s = (s ≡ rule.std_seconds) ⊎ IsOfDst rule.dst s

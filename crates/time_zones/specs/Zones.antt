@@ -1,0 +1,99 @@
+-- What the clocks of time zones show, over the kit's words. Zones tell of the instants of `IsTimestampNanos`, from
+-- -9999-01-02T01:59:59Z to 9999-12-30T22:00:00.999999999Z.
+use Rattle.std.specs.Prelude.{◌≡◌, ◌⊎◌, ℤ, ◌+ℤ◌, ◌-ℤ◌, ◌<ℤ◌, None, Result, Ok, Err}
+use Rattle.jiff_core.specs.Calendar.{IsBetween}
+use Rattle.jiff_core.specs.Timestamp.{IsTimestampNanos, IsOffsetSeconds, nanos_of_seconds}
+use Rattle.jiff_tz.specs.Tzif.{tzif_view}
+use Rattle.jiff_tz.specs.Zone as Zone
+use Rattle.jiff_tz.specs.declared.timezone.TimeZone.{TimeZone}
+use Rattle.jiff_tz.specs.declared.timezone.TimeZone.TheVariants.{UTC, Unknown, Fixed, Posix, Tzif}
+use Rattle.time_values.specs.Moments.{plain_date, plain_time, plain_instant, offset_date, offset_time, offset_of, offset_instant}
+use Rattle.time_values.specs.Offsets.{offset_seconds}
+use Rattle.time_values.specs.Range.{greatest_year}
+use Rattle.time_values.specs.declared.offset_date_time.OffsetDateTime.{OffsetDateTime}
+use Rattle.time_values.specs.declared.plain_date_time.PlainDateTime.{PlainDateTime}
+use Rattle.time_zones.specs.declared.clocks.NotOne.{NotOne}
+use Rattle.time_zones.specs.declared.clocks.NotOne.TheVariants.{Gap, Fold, Untold}
+
+-- zones tell what their clocks show at the moment
+abbrev pub IsTold : OffsetDateTime → Type 0
+IsTold m = IsTimestampNanos (offset_instant greatest_year m)
+
+-- the moment has the offset that clocks of the zone have then
+abbrev pub HasZoneOffset : TimeZone → OffsetDateTime → Type 0
+HasZoneOffset zone m = offset_seconds (offset_of m) ≡ Zone.offset_at zone (offset_instant greatest_year m)
+
+-- at that instant clocks of the zone show that reading, both in nanoseconds
+abbrev pub Shows : TimeZone → ℤ → ℤ → Type 0
+Shows zone reading n = IsTimestampNanos n × (n +ℤ nanos_of_seconds (Zone.offset_at zone n) ≡ reading)
+
+-- a moment with that date and time, at an offset of so many seconds
+pub record HasClock (clock : PlainDateTime) (s : ℤ) (m : OffsetDateTime) : Type 0 where
+  pub date : offset_date m ≡ plain_date clock
+  pub time : offset_time m ≡ plain_time clock
+  pub offset : offset_seconds (offset_of m) ≡ s
+  pub instant : offset_instant greatest_year m ≡ plain_instant greatest_year clock -ℤ nanos_of_seconds s
+
+-- clocks of the zone show the date and time at the moment, with its offset
+abbrev pub IsShownIn : TimeZone → PlainDateTime → OffsetDateTime → Type 0
+IsShownIn zone clock m =
+    (offset_date m ≡ plain_date clock) × (offset_time m ≡ plain_time clock) × HasZoneOffset zone m × IsTold m
+
+-- the fact holds for each instant at which clocks of the zone show the date and time
+abbrev pub AtEach : TimeZone → PlainDateTime → (ℤ → Type 0) → Type 0
+AtEach zone clock P = (n : ℤ) → Shows zone (plain_instant greatest_year clock) n → P n
+
+-- whatever the offset of the clock that shows it, zones tell of the moment
+abbrev pub IsToldAtEachOffset : PlainDateTime → Type 0
+IsToldAtEachOffset clock =
+    (s : ℤ) → IsOffsetSeconds s → IsTimestampNanos (plain_instant greatest_year clock -ℤ nanos_of_seconds s)
+
+-- the moment is the only one at which clocks of the zone show the date and time
+abbrev pub IsOnlyMoment : TimeZone → PlainDateTime → OffsetDateTime → Type 0
+IsOnlyMoment zone clock m = IsShownIn zone clock m × AtEach zone clock (λ n. n ≡ offset_instant greatest_year m)
+
+-- clocks of the zone never show the date and time
+abbrev pub IsNeverShown : TimeZone → PlainDateTime → Type 0
+IsNeverShown zone clock = AtEach zone clock (λ n. ⊥)
+
+-- the moments are the first and the last at which clocks of the zone show the date and time, and differ
+abbrev pub AreFirstAndLast : TimeZone → PlainDateTime → OffsetDateTime → OffsetDateTime → Type 0
+AreFirstAndLast zone clock first last =
+    IsShownIn zone clock first × IsShownIn zone clock last
+    × (offset_instant greatest_year first <ℤ offset_instant greatest_year last)
+    × AtEach zone clock (IsBetween (offset_instant greatest_year first) (offset_instant greatest_year last))
+
+-- why a date and time isn't one moment of the zone
+abbrev pub IsNotOne : TimeZone → PlainDateTime → NotOne → Type 0
+IsNotOne zone clock Gap = IsNeverShown zone clock × IsToldAtEachOffset clock
+IsNotOne zone clock (Fold earlier later) = AreFirstAndLast zone clock earlier later
+IsNotOne zone clock Untold = IsNeverShown zone clock × (¬ (IsToldAtEachOffset clock))
+
+-- the zone has a rule or a table, and not one after the other
+abbrev pub HasOneSource : TimeZone → Type 0
+HasOneSource UTC = Unit {0}
+HasOneSource Unknown = Unit {0}
+HasOneSource (Fixed offset) = Unit {0}
+HasOneSource (Posix rule) = Unit {0}
+HasOneSource (Tzif table) = (tzif_view table.now).rule ≡ None
+
+-- clocks of the zone show the date and time at no third moment
+abbrev pub HasNoThird : TimeZone → PlainDateTime → NotOne → Type 0
+HasNoThird zone clock Gap = Unit {0}
+HasNoThird zone clock (Fold earlier later) =
+    AtEach zone clock (λ n. (n ≡ offset_instant greatest_year earlier) ⊎ (n ≡ offset_instant greatest_year later))
+HasNoThird zone clock Untold = Unit {0}
+
+-- what is answered of a date and time
+abbrev pub IsAnswer : TimeZone → PlainDateTime → Result OffsetDateTime NotOne → Type 0
+IsAnswer zone clock (Ok m) = IsOnlyMoment zone clock m
+IsAnswer zone clock (Err why) = IsNotOne zone clock why
+
+-- the answer is the moment, or a fold around it
+abbrev pub GivesBack : OffsetDateTime → Result OffsetDateTime NotOne → Type 0
+GivesBack m (Ok back) = offset_instant greatest_year back ≡ offset_instant greatest_year m
+GivesBack m (Err Gap) = ⊥
+GivesBack m (Err (Fold earlier later)) =
+    IsBetween (offset_instant greatest_year earlier) (offset_instant greatest_year later)
+    (offset_instant greatest_year m)
+GivesBack m (Err Untold) = ⊥

@@ -1,0 +1,129 @@
+//! Moments on the clocks of a zone.
+ghost use Rattle.std.specs.Prelude.{◌≡◌, ◌↔◌, ℤ, ◌-ℤ◌, IsTrue, IsSome, IfSome, IfNone, IfOk, IfErr};
+ghost use Rattle.jiff_core.specs.DateTime.{civil_nanos, IsCivilNanos};
+ghost use Rattle.jiff_core.specs.Timestamp.{IsTimestampNanos, IsOffsetSeconds, nanos_of_seconds};
+ghost use Rattle.jiff_tz.specs.Zone as Zone;
+ghost use Rattle.time_values.specs.Moments.{offset_instant, plain_instant};
+ghost use Rattle.time_values.specs.Offsets.{offset_seconds};
+ghost use Rattle.time_values.specs.Range.{greatest_year};
+ghost use Rattle.time_zones.specs.Zones.{HasClock, IsTold, HasZoneOffset, IsOnlyMoment, IsNotOne, HasOneSource, HasNoThird};
+
+use crate::spread::spread_at;
+use jiff_core::civil::DateTime;
+use jiff_core::{Offset, Timestamp};
+use jiff_tz::TimeZone;
+use std::fmt;
+use time_values::{OffsetDateTime, PlainDateTime, UtcOffset};
+
+// An offset of a zone as one of ours.
+fn offset_from(offset: Offset) -> UtcOffset
+    ensures { offset_seconds result ≡ offset.seconds }
+{
+    match UtcOffset::from_whole_seconds(offset.seconds) {
+        Ok(offset) => offset,
+        Err(_) => unreachable!(),
+    }
+}
+
+/// The offset that clocks of the zone have at the moment, or `None` in years of which no zone tells: before -9999 and
+/// after 9999, and for a day at both ends.
+pub fn offset_at(zone: &TimeZone<'_>, moment: OffsetDateTime) -> Option<UtcOffset>
+    ensures told { IsSome result ↔ IsTold moment }
+    ensures value { IfSome result (λ o. offset_seconds o ≡ Zone.offset_at zone.now (offset_instant greatest_year moment)) }
+{
+    let Ok(stamp) = Timestamp::from_nanosecond(moment.unix_timestamp_nanos()) else {
+        return None;
+    };
+    Some(offset_from(zone.to_offset(stamp)))
+}
+
+/// The same moment on the clocks of the zone, or `None` where no zone tells of it.
+pub fn checked_to_zone(moment: OffsetDateTime, zone: &TimeZone<'_>) -> Option<OffsetDateTime>
+    ensures told { IsSome result ↔ IsTold moment }
+    ensures instant { IfSome result (λ v. offset_instant greatest_year v ≡ offset_instant greatest_year moment) }
+    ensures offset { IfSome result (HasZoneOffset zone.now) }
+{
+    let offset = offset_at(zone, moment)?;
+    Some(moment.to_offset(offset))
+}
+
+/// Why a date and time isn't one moment on the clocks of a zone.
+#[derive(Clone, Copy, Debug, PartialEq, Eq)]
+pub enum NotOne {
+    /// The clocks leave it out.
+    Gap,
+    /// The clocks show it more than once.
+    Fold {
+        /// The first moment.
+        earlier: OffsetDateTime,
+        /// The last one.
+        later: OffsetDateTime,
+    },
+    /// The clocks show it at no moment of which zones tell, and it lies past the years -9999 to 9999 or within two days
+    /// of their ends.
+    Untold,
+}
+
+impl fmt::Display for NotOne {
+    ghost use Rattle.std.specs.Prelude.{Some};
+    ghost use Rattle.time_zones.specs.Texts.{not_one_text};
+
+    ghost output = { λ why. Some (not_one_text why) };
+
+    fn fmt<W: fmt::Write>(&self, f: &mut fmt::Formatter<W>) -> fmt::Result {
+        f.write_str(match self {
+            NotOne::Gap => "clocks of the time zone leave out this date and time",
+            NotOne::Fold { .. } => "clocks of the time zone show this date and time more than once",
+            NotOne::Untold => "no time zone tells of this date and time",
+        })
+    }
+}
+
+impl std::error::Error for NotOne {}
+
+// Whether zones tell of the moment at which a clock shows the date and time, whatever the clock's offset.
+fn is_told_at_each_offset(civil: DateTime) -> bool
+    ensures { IsTrue result ↔ ((s : ℤ) → IsOffsetSeconds s → IsTimestampNanos (civil_nanos civil -ℤ nanos_of_seconds s)) }
+{
+    Offset::MIN.to_timestamp(civil).is_ok() && Offset::MAX.to_timestamp(civil).is_ok()
+}
+
+// The date and time as the kit's, in the years of which zones tell.
+fn civil_from(clock: PlainDateTime) -> Option<DateTime>
+    ensures value { IfSome result (λ civil. civil_nanos civil ≡ plain_instant greatest_year clock) }
+    ensures none { IfNone result (¬ (IsCivilNanos (plain_instant greatest_year clock))) }
+{
+    DateTime::from_nanosecond(clock.as_utc().unix_timestamp_nanos()).ok()
+}
+
+// The moment at which a clock with that offset shows the date and time.
+fn moment_with(clock: PlainDateTime, offset: Offset) -> OffsetDateTime
+    ensures { HasClock clock offset.seconds result }
+{
+    clock.assume_offset(offset_from(offset))
+}
+
+/// The moment at which clocks of the zone show the date and time.
+pub fn assume_zone(clock: PlainDateTime, zone: &TimeZone<'_>) -> Result<OffsetDateTime, NotOne>
+    ensures ok { IfOk result (IsOnlyMoment zone.now clock) }
+    ensures err { IfErr result (IsNotOne zone.now clock) }
+
+    // Where clocks go back by the last row of a table and again by its rule within hours, there may be more than two.
+    ensures two { HasOneSource zone.now → IfErr result (HasNoThird zone.now clock) }
+{
+    let Some(civil) = civil_from(clock) else {
+        return Err(NotOne::Untold);
+    };
+    let Some(spread) = spread_at(zone, civil) else {
+        if is_told_at_each_offset(civil) {
+            return Err(NotOne::Gap);
+        }
+        return Err(NotOne::Untold);
+    };
+    let earlier = moment_with(clock, spread.greatest);
+    if spread.least.seconds < spread.greatest.seconds {
+        let later = moment_with(clock, spread.least);
+        return Err(NotOne::Fold { earlier, later });
+    }
+    Ok(earlier)
+}

@@ -1,0 +1,76 @@
+//! What reads the files of zones.
+ghost use Rattle.std.specs.Prelude.{ℕ, List, Result, Ok, Err, IfOk, IfErr};
+ghost use Rattle.time_zones.specs.declared.files.ReadFault.{ReadFault as Fault};
+
+use std::io::{ErrorKind, Read};
+use std::rt::Files;
+use std::{fs, io};
+
+// The longest file that is read as a zone. Those of the database have a few kilobytes.
+const MOST_BYTES: u64 = 1 << 20;
+
+/// Why a file wasn't read.
+#[derive(Clone, Copy, Debug, PartialEq, Eq)]
+pub enum ReadFault {
+    /// There is none.
+    Missing,
+    /// It is a folder.
+    Folder,
+    /// It can't be read.
+    Unreadable(ErrorKind),
+    /// Memory ran out.
+    OutOfMemory,
+}
+
+/// What reads files by their paths.
+pub trait ZoneFiles {
+    // What reading the file at a path may give.
+    ghost gives: { Self → List ℕ → Result (List ℕ) Fault → Type 0 };
+
+    /// The bytes of the file at the path.
+    fn read(&self, path: &str) -> Result<Vec<u8>, ReadFault>
+        ensures ok { IfOk result (λ bytes. gives self.now path.now (Ok bytes.items)) }
+        ensures err { IfErr result (λ fault. gives self.now path.now (Err fault)) };
+}
+
+/// The files of the system.
+#[derive(Drop)]
+pub(crate) struct Disk<'a, R> {
+    pub(crate) rt: &'a R,
+}
+
+// An error of the system as one of a file.
+fn fault_from(error: io::Error) -> ReadFault {
+    match error.kind() {
+        ErrorKind::NotFound => ReadFault::Missing,
+        ErrorKind::OutOfMemory => ReadFault::OutOfMemory,
+        kind => ReadFault::Unreadable(kind),
+    }
+}
+
+// The bytes of a regular file. A pipe or a device might never end.
+fn read_whole<R: Files + AllocGlobal>(rt: &R, path: &str) -> io::Result<Vec<u8>> {
+    let mut bytes = Vec::new(rt.alloc());
+    let mut file = fs::open(rt, path)?.take(MOST_BYTES + 1);
+    file.read_to_end(&mut bytes)?;
+    if bytes.len() as u64 > MOST_BYTES {
+        return Err(io::Error::from(ErrorKind::FileTooLarge));
+    }
+    Ok(bytes)
+}
+
+// Nothing is known beforehand of what files hold.
+impl<R: Files + AllocGlobal> ZoneFiles for Disk<'_, R> {
+    ghost gives = { λ _ _ _. Unit {0} };
+
+    fn read(&self, path: &str) -> Result<Vec<u8>, ReadFault> {
+        let metadata = fs::metadata(self.rt, path).map_err(fault_from)?;
+        if metadata.is_dir() {
+            return Err(ReadFault::Folder);
+        }
+        if !metadata.is_file() {
+            return Err(ReadFault::Unreadable(ErrorKind::InvalidInput));
+        }
+        read_whole(self.rt, path).map_err(fault_from)
+    }
+}

@@ -1,0 +1,179 @@
+//! Zones by their names, each from its own file.
+ghost use Rattle.std.specs.Prelude.{◌≡◌, ◌≢◌, ◌↔◌, Ok, Err, Some, None, option_map, string_bytes, codes, IfOk, IfErr, ◌++◌, ◌∷◌};
+ghost use Rattle.time_zones.specs.Finding.{IsZoneOf, ReadsTo, IsFoundAt, IsFound};
+ghost use Rattle.time_zones.specs.Names.{IsZoneName};
+
+use crate::files::{Disk, ReadFault, ZoneFiles};
+use crate::place::{Place, asked};
+use crate::zone_fault::ZoneFault;
+use jiff_core::Error;
+use jiff_tz::{TimeZone, Tzif, posix};
+use std::alloc::{AllocError, Global};
+use std::env;
+use std::rt::{Env, Files};
+
+// Where systems keep their zones.
+const FOLDER: &str = "/usr/share/zoneinfo";
+
+/// A zone with what it is read from.
+#[derive(Debug, Drop)]
+pub enum NamedZone {
+    /// UTC.
+    Utc,
+    /// A rule, from `TZ`.
+    Rule(posix::TimeZone),
+    /// The table of a file.
+    Table(Tzif),
+}
+
+impl NamedZone {
+    /// The zone, for the calls of this crate and of the kit.
+    pub fn time_zone(&self) -> TimeZone<'_>
+        ensures { IsZoneOf self.now result }
+    {
+        match self {
+            NamedZone::Utc => TimeZone::UTC,
+            NamedZone::Rule(rule) => TimeZone::Posix(*rule),
+            NamedZone::Table(table) => TimeZone::Tzif(table),
+        }
+    }
+}
+
+// The zone of the file at the path.
+fn table_at<F: ZoneFiles>(
+    alloc: Global,
+    files: &F,
+    path: String,
+    name: Option<&str>,
+) -> Result<NamedZone, ZoneFault>
+    ensures { ReadsTo (F.gives files.now) (string_bytes path) (option_map (λ s. s.now) name.entry) result }
+{
+    let bytes = match files.read(path.as_str()) {
+        Ok(bytes) => bytes,
+        Err(ReadFault::Missing) => return Err(ZoneFault::Unknown { path }),
+        Err(ReadFault::Folder) => return Err(ZoneFault::Folder),
+        Err(ReadFault::Unreadable(kind)) => return Err(ZoneFault::Unreadable(kind)),
+        Err(ReadFault::OutOfMemory) => return Err(ZoneFault::OutOfMemory),
+    };
+    match Tzif::parse(alloc, name, bytes.as_slice()) {
+        Ok(table) => Ok(NamedZone::Table(table)),
+        Err(Error::Tzif(fault)) => Err(ZoneFault::Malformed(fault)),
+        Err(_) => Err(ZoneFault::OutOfMemory),
+    }
+}
+
+// The path of a name below a folder.
+fn path_below(alloc: Global, folder: &str, name: &str) -> Result<String, AllocError>
+    ensures { IfOk result (λ path. string_bytes path ≡ folder.now ++ 47 ∷ name.now) }
+{
+    let mut path = String::from_str(alloc, folder)?;
+    path.push_str("/")?;
+    path.push_str(name)?;
+    Ok(path)
+}
+
+// The zone of what is asked for.
+fn find_at<F: ZoneFiles>(
+    alloc: Global,
+    files: &F,
+    folder: &str,
+    place: Option<Place<'_>>,
+) -> Result<NamedZone, ZoneFault>
+    ensures { IsFoundAt (F.gives files.now) folder.now place.entry result }
+{
+    match place {
+        None => Err(ZoneFault::NotAName),
+        Some(Place::Utc) => Ok(NamedZone::Utc),
+        Some(Place::Rule(rule)) => Ok(NamedZone::Rule(rule)),
+        Some(Place::InFolder(name)) => {
+            let Ok(path) = path_below(alloc, folder, name) else {
+                return Err(ZoneFault::OutOfMemory);
+            };
+            table_at(alloc, files, path, Some(name))
+        }
+        Some(Place::AtPath(path)) => {
+            let Ok(path) = String::from_str(alloc, path) else {
+                return Err(ZoneFault::OutOfMemory);
+            };
+            table_at(alloc, files, path, None)
+        }
+    }
+}
+
+/// The zone of that name in a folder of zone files, `UTC`, or `local`: what the given value of `TZ` asks for, and
+/// /etc/localtime where there is none. One file at most is read.
+pub fn find_zone_in<F: ZoneFiles>(
+    alloc: Global,
+    files: &F,
+    folder: &str,
+    setting: Option<&str>,
+    name: &str,
+) -> Result<NamedZone, ZoneFault>
+    ensures { IsFound (F.gives files.now) folder.now (option_map (λ s. s.now) setting.entry) name.now result }
+{
+    find_at(alloc, files, folder, asked(setting, name))
+}
+
+// The value of a variable, where it has one.
+fn variable<R: Env + AllocGlobal>(rt: &R, name: &str) -> Result<Option<String>, ZoneFault>
+    ensures { IfErr result (λ fault. fault ≢ ZoneFault.NotAName) }
+{
+    match env::var(rt, name) {
+        Ok(value) => Ok(Some(value)),
+        Err(env::VarError::NotPresent) => Ok(None),
+        Err(env::VarError::NotUnicode) => Err(ZoneFault::NotText),
+        Err(env::VarError::OutOfMemory) => Err(ZoneFault::OutOfMemory),
+    }
+}
+
+// What `TZ` says, where the name asks for it.
+fn setting_for<R: Env + AllocGlobal>(rt: &R, name: &str) -> Result<Option<String>, ZoneFault>
+    ensures { name.now ≢ codes "local" → result ≡ Ok None }
+{
+    if name == "local" {
+        variable(rt, "TZ")
+    } else {
+        Ok(None)
+    }
+}
+
+// The folder that `TZDIR` names, or else the usual one.
+fn folder<R: Env + AllocGlobal>(rt: &R) -> Result<String, ZoneFault>
+    ensures { IfErr result (λ fault. fault ≢ ZoneFault.NotAName) }
+{
+    match variable(rt, "TZDIR")? {
+        Some(folder) if !folder.is_empty() => Ok(folder),
+        _ => Ok(String::from_str(rt.alloc(), FOLDER)?),
+    }
+}
+
+// The zone of what is asked for, in the system's files.
+fn find_on_disk<R: Env + Files + AllocGlobal>(
+    rt: &R,
+    place: Option<Place<'_>>,
+) -> Result<NamedZone, ZoneFault>
+    ensures utc { place.entry ≡ Some Place.Utc → result ≡ Ok NamedZone.Utc }
+    ensures refused { (result ≡ Err ZoneFault.NotAName) ↔ (place.entry ≡ None) }
+{
+    let folder = match place {
+        Some(Place::InFolder(_)) => folder(rt)?,
+        _ => String::new(rt.alloc()),
+    };
+    find_at(rt.alloc(), &Disk { rt }, folder.as_str(), place)
+}
+
+/// The zone of that name, from one file: an IANA name such as `Europe/Berlin` in the folder that `TZDIR` names, or else
+/// in /usr/share/zoneinfo; `UTC`; or `local`, which is what `TZ` asks for, or else /etc/localtime. `TZ` holds a name, a
+/// path, with or without a colon before either, or a rule such as `CET-1CEST,M3.5.0,M10.5.0/3`.
+pub fn find_zone<R: Env + Files + AllocGlobal>(rt: &R, name: &str) -> Result<NamedZone, ZoneFault>
+    ensures utc { name.now ≡ codes "UTC" → result ≡ Ok NamedZone.Utc }
+    ensures refused { name.now ≢ codes "local" → ((result ≡ Err ZoneFault.NotAName)
+        ↔ ((name.now ≢ codes "UTC") × (¬ (IsZoneName name.now)))) }
+{
+    let setting = setting_for(rt, name)?;
+    let setting = match &setting {
+        Some(setting) => Some(setting.as_str()),
+        None => None,
+    };
+    find_on_disk(rt, asked(setting, name))
+}

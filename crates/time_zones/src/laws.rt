@@ -1,0 +1,35 @@
+//! Laws of the clocks of zones: each contract is a law of what the function hands out.
+ghost use Rattle.std.specs.Prelude.{◌≡◌, ◌↔◌, Some, IsSome, IfSome, Result};
+ghost use Rattle.time_zones.specs.Zones.{IsTold, HasZoneOffset, IsAnswer, GivesBack};
+ghost use Rattle.time_zones.specs.declared.clocks.NotOne.{NotOne as NotOne_};
+ghost use Rattle.time_values.specs.declared.offset_date_time.OffsetDateTime.{OffsetDateTime as Moment};
+
+use crate::clocks::{NotOne, assume_zone, checked_to_zone};
+use jiff_tz::TimeZone;
+use time_values::{OffsetDateTime, PlainDateTime};
+
+/// What clocks of a zone show at a moment is read back as the moment, or as a fold around it.
+pub fn law_read_back(
+    moment: OffsetDateTime,
+    zone: &TimeZone<'_>,
+) -> Option<Result<OffsetDateTime, NotOne>>
+    ensures told { IsSome result ↔ IsTold moment }
+    ensures back { IfSome result (GivesBack moment) }
+{
+    let shown = checked_to_zone(moment, zone)?;
+    Some(assume_zone(PlainDateTime::new(shown.date(), shown.time()), zone))
+}
+
+/// A moment at the offset of a zone's clocks is left as it is.
+pub fn law_left_as_it_is(moment: OffsetDateTime, zone: &TimeZone<'_>) -> Option<OffsetDateTime>
+    ensures { IsTold moment → HasZoneOffset zone.now moment → result ≡ Some moment }
+{
+    checked_to_zone(moment, zone)
+}
+
+/// A date and time has one answer.
+pub fn law_one_answer(clock: PlainDateTime, zone: &TimeZone<'_>) -> Result<OffsetDateTime, NotOne>
+    ensures { (other : Result Moment NotOne_) → IsAnswer zone.now clock other → other ≡ result }
+{
+    assume_zone(clock, zone)
+}

@@ -1,0 +1,91 @@
+//! What the name of a zone asks for, and what the variable `TZ` does.
+ghost use Rattle.std.specs.Prelude.{◌≡◌, ◌↔◌, IsTrue, option_map};
+ghost use Rattle.time_zones.specs.Names.{IsPart, IsZoneName, AsksFor, AsksForPath, AsksBySetting, IsAsked};
+
+use jiff_tz::posix;
+
+/// What is asked for.
+#[derive(Clone, Copy)]
+pub(crate) enum Place<'a> {
+    /// UTC, which needs no file.
+    Utc,
+    /// A rule, which needs none either.
+    Rule(posix::TimeZone),
+    /// The file of that name in the folder of zones.
+    InFolder(&'a str),
+    /// The file at that path.
+    AtPath(&'a str),
+}
+
+// Whether a part of a name leads to no other folder.
+fn is_part(part: &str) -> bool
+    ensures { IsTrue result ↔ IsPart part.now }
+{
+    !matches!(part, "" | "." | "..")
+}
+
+// Whether a name stays in the folder of zones.
+fn is_zone_name(name: &str) -> bool
+    ensures { IsTrue result ↔ IsZoneName name.now }
+{
+    let mut rest = name;
+    'parts: while let Some((part, after)) = rest.split_once('/') {
+        if !is_part(part) {
+            return false;
+        }
+        rest = after;
+    }
+    is_part(rest)
+}
+
+// What a name asks for.
+fn named(name: &str) -> Option<Place<'_>>
+    ensures { AsksFor name.now result }
+{
+    if name == "UTC" {
+        return Some(Place::Utc);
+    }
+    if !is_zone_name(name) {
+        return None;
+    }
+    Some(Place::InFolder(name))
+}
+
+// What a path or a name asks for.
+fn at_path(text: &str) -> Option<Place<'_>>
+    ensures { AsksForPath text.now result }
+{
+    match text.as_bytes() {
+        [b'/', ..] => Some(Place::AtPath(text)),
+        _ => named(text),
+    }
+}
+
+// What a value of `TZ` asks for.
+fn by_setting(setting: &str) -> Option<Place<'_>>
+    ensures { AsksBySetting setting.now result }
+{
+    if setting.is_empty() {
+        return Some(Place::Utc);
+    }
+    if let Some(path) = setting.strip_prefix(':') {
+        return at_path(path);
+    }
+    match posix::TimeZone::parse(setting.as_bytes()) {
+        Ok(rule) => Some(Place::Rule(rule)),
+        Err(_) => at_path(setting),
+    }
+}
+
+/// What a name asks for, `local` among them, which is what `TZ` says where it is set.
+pub(crate) fn asked<'a>(setting: Option<&'a str>, name: &'a str) -> Option<Place<'a>>
+    ensures { IsAsked (option_map (λ s. s.now) setting.entry) name.now result }
+{
+    if name != "local" {
+        return named(name);
+    }
+    match setting {
+        Some(setting) => by_setting(setting),
+        None => Some(Place::AtPath("/etc/localtime")),
+    }
+}

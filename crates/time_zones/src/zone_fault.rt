@@ -1,0 +1,60 @@
+//! Why a zone wasn't found.
+use jiff_core::Error;
+use jiff_core::error::TzifFault;
+use std::alloc::AllocError;
+use std::{fmt, io};
+
+/// Why a zone wasn't found.
+#[derive(Debug, Drop, PartialEq, Eq)]
+pub enum ZoneFault {
+    /// The name would leave the folder of zones.
+    NotAName,
+    /// A variable that names the zone isn't UTF-8.
+    NotText,
+    /// There is no file of the zone.
+    Unknown {
+        /// Where it would lie.
+        path: String,
+    },
+    /// The name is one of a folder of zones.
+    Folder,
+    /// The file can't be read.
+    Unreadable(io::ErrorKind),
+    /// The file isn't one of a zone.
+    Malformed(TzifFault),
+    /// Memory ran out.
+    OutOfMemory,
+}
+
+impl From<AllocError> for ZoneFault {
+    ghost use Rattle.std.specs.Prelude.{◌≡◌};
+    ghost use Rattle.time_zones.specs.declared.zone_fault.ZoneFault.TheVariants.{OutOfMemory};
+
+    ghost from_gives = { λ _ fault. fault ≡ OutOfMemory };
+
+    fn from(_error: AllocError) -> ZoneFault {
+        ZoneFault::OutOfMemory
+    }
+}
+
+impl fmt::Display for ZoneFault {
+    ghost use Rattle.time_zones.specs.Texts.{fault_text};
+
+    ghost output = { fault_text };
+
+    fn fmt<W: fmt::Write>(&self, f: &mut fmt::Formatter<W>) -> fmt::Result {
+        match self {
+            ZoneFault::NotAName => f.write_str(
+                "the name of a time zone has no `.` or `..` and no slash at an end",
+            ),
+            ZoneFault::NotText => f.write_str("the variable of the time zone is not UTF-8"),
+            ZoneFault::Unknown { path } => write!(f, "there is no time zone file {path}"),
+            ZoneFault::Folder => f.write_str("the name is that of a folder of time zones"),
+            ZoneFault::Unreadable(kind) => write!(f, "the time zone file cannot be read: {kind}"),
+            ZoneFault::Malformed(fault) => write!(f, "{}", Error::Tzif(*fault)),
+            ZoneFault::OutOfMemory => f.write_str("out of memory"),
+        }
+    }
+}
+
+impl std::error::Error for ZoneFault {}

@@ -6,7 +6,8 @@ A fence such as
 
 has the contracts of these functions as they stand in the files, without comments and bodies. A path begins at the page's
 folder, and the names after it are of that file: `name` of a function, `Type::name` of a function or a ghost member in an
-`impl` of the type or in a trait of that name. The head of the `impl` or trait stands above its members.
+`impl` of the type or in a trait of that name. The head of the `impl` or trait stands above its members, and the path
+above functions outside of any where a fence quotes several files.
 """
 import os
 import re
@@ -66,6 +67,7 @@ def contract(lines, wanted):
 def quote(folder, names):
     """The text of a fence whose first line has these words."""
     made, lines, path, last = [], [], "", ""
+    several = names.count(".rt") > 1
     for word in names.split():
         if word.endswith(".rt"):
             path = word
@@ -78,6 +80,7 @@ def quote(folder, names):
             head, quoted = contract(lines, word)
         except Missing:
             raise Missing(f"{word} in {path}") from None
+        head = head or (f"// {path}" if several else "")
         if head != last:
             made += [""] * bool(made) + [head] * bool(head)
         last = head

@@ -58,7 +58,7 @@ def contract(lines, wanted):
     """The head above a function, and its lines."""
     kind, _, name = wanted.rpartition("::")
     for head, types, member, number in blocks(lines):
-        public = lines[number].lstrip().startswith("pub ") or head and (" for " in head or "trait " in head)
+        public = lines[number].lstrip().startswith("pub ") or head and (" for " in head or head.startswith("pub trait "))
         if member == name and public and (kind in types if kind else head is None):
             return head, header(lines, number)
     raise Missing(wanted)

@@ -37,7 +37,7 @@ fn end_of(text: &str) -> &str
     &text[text.ceil_char_boundary(text.len().saturating_sub(MOST))..]
 }
 
-// A name with its control bytes as `\x` and two digits; `None` where there is no memory.
+// A name with its control bytes as `\x` and two digits; `None` where there is no memory, and no second way of reading.
 fn shown_name(alloc: Global, name: &str) -> Option<String>
     ensures { IfSome result (λ shown. string_bytes shown ≡ shown_name name.now) }
 {
@@ -46,7 +46,7 @@ fn shown_name(alloc: Global, name: &str) -> Option<String>
     String::from_utf8(shown).ok()
 }
 
-// What is told of a name.
+// What is told of a name; `None` where there is no memory, and no second way of reading.
 fn told_name(alloc: Global, telling: Telling, name: &str) -> Option<String>
     ensures { IfSome result (λ told. spec.IsTold telling name.now (string_bytes told)) }
 {
@@ -143,7 +143,7 @@ impl<'a, R: Clock + Eprint> Progress<'a, R> {
         !matches!(self.telling, Telling::Nothing)
     }
 
-    /// The meter of a file that begins, or `None` where there is no memory or no clock.
+    /// The meter of a file that begins, or `None` where there is no memory or no clock: it is no second way of reading.
     pub(crate) fn begin(&self, alloc: Global, name: &str, size: Option<u64>) -> Option<Meter>
         ensures { IfSome result (λ meter. spec.IsTold self.now.telling name.now (string_bytes meter.name)) }
     {

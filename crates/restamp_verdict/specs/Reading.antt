@@ -24,7 +24,7 @@ use Rattle.restamp_verdict.specs.declared.reading.Reading.{Reading}
 use Rattle.restamp_verdict.specs.declared.reading.Reading.TheVariants as reading
 use Rattle.restamp_verdict.specs.declared.reading.Said.{Said}
 use Rattle.restamp_verdict.specs.declared.reading.Defaults.{Defaults}
-use Rattle.restamp_verdict.specs.declared.reading.Undated as declared
+use Rattle.restamp_verdict.specs.declared.dated.Undated as declared
 
 -- a moment that so many bytes at the front of a text say
 abbrev pub said : OffsetDateTime → ℕ → Said

@@ -5,8 +5,9 @@ ghost use Rattle.restamp_verdict.specs.Job as spec;
 ghost use Rattle.restamp_verdict.specs.Reading.{Says};
 ghost use Rattle.restamp_verdict.specs.Reason.{seen, seen_read, seen_written};
 
+use crate::dated::{read_dated, read_further};
 use crate::form::{Form, Writing, write_moment, write_named};
-use crate::reading::{Defaults, Reading, Said, read_dated, read_further, read_once};
+use crate::reading::{Defaults, Reading, Said, read_once};
 use crate::reason::Reason;
 use restamp_place::{Place, body_of, find_span};
 use std::cmp::Ordering;

@@ -1,6 +1,7 @@
 //! What becomes of a line whose time is read by one format and written by another.
 #![tactic(auto)]
 
+mod dated;
 mod form;
 mod job;
 mod lack;
@@ -12,11 +13,12 @@ mod reading;
 mod reason;
 mod wrong;
 
+pub use dated::{read_dated, read_in_turn};
 pub use form::{Form, Named, Unit, Writing, write_moment};
 pub use job::{Job, LIMIT, REACH, Verdict};
 pub use lack::{Lack, Part};
 pub use missing::{Why, law_one_lack};
 pub use naming::{FormatFault, find_reading, find_writing};
-pub use reading::{Defaults, MOST_STEPS, Reading, Said, read, read_dated, read_in_turn};
+pub use reading::{Defaults, MOST_STEPS, Reading, Said, read};
 pub use reason::Reason;
 pub use wrong::{Wrong, law_one_wrong};

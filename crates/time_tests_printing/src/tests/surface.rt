@@ -2,21 +2,11 @@
 use std::fmt::Debug;
 use time_readers::ParsedItem;
 
-mod builders;
 mod components;
-mod conversions;
-mod descriptions;
-mod digits;
-mod direct;
 mod errors;
 mod formats;
-mod getters;
-mod iso8601;
-mod laws;
-mod moments;
-mod readings;
-mod rfc2822;
-mod setters;
+mod readers;
+mod records;
 mod values;
 
 // What is copied, compared and printed for a programmer.

@@ -1,10 +1,19 @@
-//! The parses of whole texts, and the formats that have them.
-use super::are_copied;
+//! Formats, the variants of descriptions, and the laws of parsing.
+use super::{are_copied, are_printed};
+use std::test::Fail;
+use time_parsing::laws::{
+    law_equal_shapes, law_flattened, law_joined_lists, law_kept_readings, law_optional_as_first,
+    law_read_back, law_suffix, law_whole_characters, text_3339,
+};
 use time_parsing::{Iso8601, Items, Parsable, Rfc2822, Rfc3339};
-use time_readers::{BorrowedFormatItem, FormatDescriptionV3, OwnedFormatItem};
-use time_record::Parsed;
+use time_readers::{
+    BorrowedFormatItem, Component, FormatDescriptionV3, FormatDescriptionV3Inner, OwnedFormatItem,
+};
+use time_record::{AnyFormatItem, Parsed};
 use time_values::error::Parse;
-use time_values::{Date, OffsetDateTime, PlainDateTime, Time, Timestamp, UtcDateTime, UtcOffset};
+use time_values::{
+    Date, Month, OffsetDateTime, PlainDateTime, Time, Timestamp, UtcDateTime, UtcOffset,
+};
 
 // The text has all parts of a moment.
 fn has_parts<F: Parsable>(format: &F, text: &[u8]) -> [bool; 4] {
@@ -56,4 +65,118 @@ fn formats(rt: HostRuntime) {
     let hyphen = [BorrowedFormatItem::Literal(b"-")];
     let items: Items<'_, BorrowedFormatItem<'_>> = Items(&hyphen);
     assert!(rt; items.0.len() == 1);
+}
+
+// The variants of an item that borrows its parts.
+fn borrowed<'a>(
+    bytes: &'a [u8],
+    text: &'a str,
+    component: Component,
+    items: &'a [BorrowedFormatItem<'a>],
+    item: &'a BorrowedFormatItem<'a>,
+) -> [BorrowedFormatItem<'a>; 6] {
+    [
+        BorrowedFormatItem::Literal(bytes),
+        BorrowedFormatItem::StringLiteral(text),
+        BorrowedFormatItem::Component(component),
+        BorrowedFormatItem::Compound(items),
+        BorrowedFormatItem::Optional(item),
+        BorrowedFormatItem::First(items),
+    ]
+}
+
+// The variants of an item that owns its parts.
+fn owned(
+    bytes: Vec<u8>,
+    text: String,
+    component: Component,
+    items: Vec<OwnedFormatItem>,
+    item: Box<OwnedFormatItem>,
+    choice: Vec<OwnedFormatItem>,
+) -> [OwnedFormatItem; 6] {
+    [
+        OwnedFormatItem::Literal(bytes),
+        OwnedFormatItem::StringLiteral(text),
+        OwnedFormatItem::Component(component),
+        OwnedFormatItem::Compound(items),
+        OwnedFormatItem::Optional(item),
+        OwnedFormatItem::First(choice),
+    ]
+}
+
+// The item reads the empty text.
+fn reads_nothing<I: AnyFormatItem>(item: &I) -> bool {
+    Parsed::new().parse_item(b"", item).is_ok()
+}
+
+#[test]
+fn items(rt: HostRuntime) {
+    are_printed::<OwnedFormatItem, FormatDescriptionV3, FormatDescriptionV3Inner>();
+    assert!(rt; reads_nothing(&BorrowedFormatItem::Literal(b"")));
+    assert!(rt; reads_nothing(&OwnedFormatItem::First(Vec::new(rt.alloc()))));
+}
+
+// The variants of version 3 that borrow their parts.
+fn v3_borrowed<'a>(
+    component: Component,
+    text: &'a str,
+    items: &'a [FormatDescriptionV3Inner<'a>],
+    format: bool,
+    item: &'a FormatDescriptionV3Inner<'a>,
+) -> [FormatDescriptionV3Inner<'a>; 5] {
+    [
+        FormatDescriptionV3Inner::Component(component),
+        FormatDescriptionV3Inner::BorrowedLiteral(text),
+        FormatDescriptionV3Inner::BorrowedCompound(items),
+        FormatDescriptionV3Inner::BorrowedOptional { format, item },
+        FormatDescriptionV3Inner::BorrowedFirst(items),
+    ]
+}
+
+// Those that own them.
+fn v3_owned<'a>(
+    text: String,
+    items: Vec<FormatDescriptionV3Inner<'a>>,
+    format: bool,
+    item: Box<FormatDescriptionV3Inner<'a>>,
+    choice: Vec<FormatDescriptionV3Inner<'a>>,
+) -> [FormatDescriptionV3Inner<'a>; 4] {
+    [
+        FormatDescriptionV3Inner::OwnedLiteral(text),
+        FormatDescriptionV3Inner::OwnedCompound(items),
+        FormatDescriptionV3Inner::OwnedOptional { format, item },
+        FormatDescriptionV3Inner::OwnedFirst(choice),
+    ]
+}
+
+#[test]
+fn version_3(rt: HostRuntime) {
+    let inner = FormatDescriptionV3Inner::BorrowedLiteral("-");
+    let description = FormatDescriptionV3 { inner };
+    let inner: FormatDescriptionV3Inner<'_> = description.inner;
+    assert!(rt; Parsed::new().parse_v3(b"-", &inner).is_ok());
+}
+
+#[test]
+fn laws_of_trees(rt: HostRuntime) {
+    law_joined_lists();
+    law_flattened();
+    law_optional_as_first();
+    law_whole_characters();
+    law_suffix();
+    let bytes = BorrowedFormatItem::Literal(b"-");
+    let text = BorrowedFormatItem::StringLiteral("-");
+    law_equal_shapes(&bytes, &text);
+    law_read_back();
+    law_kept_readings();
+}
+
+#[test]
+fn canonical_text(rt: HostRuntime) -> Result<(), Fail> {
+    let date = Date::from_calendar_date(2021, Month::January, 2)?;
+    let time = Time::from_hms_nano(3, 4, 5, 6)?;
+    let moment = OffsetDateTime::new_in_offset(date, time, UtcOffset::UTC);
+    let text: [u8; 35] = text_3339(moment);
+    assert!(rt; text == *b"2021-01-02T03:04:05.000000006+00:00");
+    Ok(())
 }

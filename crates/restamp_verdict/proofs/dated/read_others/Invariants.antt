@@ -4,7 +4,7 @@ use Rattle.time_values.specs.Range.{greatest_year}
 use Rattle.restamp_verdict.specs.Reading.{AreTried}
 use Rattle.restamp_verdict.specs.Reason.{Reason, seen}
 use Rattle.restamp_verdict.specs.declared.reading.Said.{Said}
-use Rattle.restamp_verdict.proofs.reading.read_others.Given as goal
+use Rattle.restamp_verdict.proofs.dated.read_others.Given as goal
 
 -- what the formats that are left answer, all of them answer
 abbrev pub invariant-loop-reading : goal.invariant-loop-reading

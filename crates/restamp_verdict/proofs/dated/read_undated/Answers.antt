@@ -5,7 +5,7 @@ use Rattle.time_values.specs.Range.{greatest_year}
 use Rattle.restamp_verdict.specs.Reading.{undated, AreYearsTried}
 use Rattle.restamp_verdict.specs.Reason.{seen, seen_read}
 use Rattle.restamp_verdict.proofs.ReadingLemmas.{one_more, dated-none, dated-years}
-use Rattle.restamp_verdict.proofs.reading.read_undated.Goals as goal
+use Rattle.restamp_verdict.proofs.dated.read_undated.Goals as goal
 
 pub returns-in_default-clause-said : goal.returns-in_default-clause-said
 returns-in_default-clause-said c =

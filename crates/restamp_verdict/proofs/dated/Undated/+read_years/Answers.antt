@@ -5,7 +5,7 @@ use Rattle.time_values.specs.Range.{greatest_year}
 use Rattle.restamp_verdict.specs.Reading.{seen_undated, IsReadInYear, AreYearsTried}
 use Rattle.restamp_verdict.specs.Reason.{seen, seen_read}
 use Rattle.restamp_verdict.proofs.ReadingLemmas.{one_less, years-end, years-late, years-found, years-refused}
-use Rattle.restamp_verdict.proofs.reading.Undated.+read_years.Goals as goal
+use Rattle.restamp_verdict.proofs.dated.Undated.+read_years.Goals as goal
 
 pub returns-then-count-eq0-clause-said : goal.returns-then-count-eq0-clause-said
 returns-then-count-eq0-clause-said t c =

@@ -2,7 +2,7 @@ use Rattle.std.proofs.Common.{Ok}
 use Rattle.time_values.specs.Range.{greatest_year}
 use Rattle.restamp_verdict.specs.Reason.{seen}
 use Rattle.restamp_verdict.proofs.ReadingLemmas.{tried-here, tried-later}
-use Rattle.restamp_verdict.proofs.reading.read_others.Goals as goal
+use Rattle.restamp_verdict.proofs.dated.read_others.Goals as goal
 
 pub returns-in-Ok-clause-said : goal.returns-in-Ok-clause-said
 returns-in-Ok-clause-said c =

@@ -1,0 +1,163 @@
+//! What a text says by the first of several formats, also where it leaves its year out.
+ghost use Rattle.std.specs.Prelude.{◌≡◌, ◌+◌, ◌≤◌, ◌≤ℤ◌, ◌-ℤ◌, neg_ℤ, pos, length, Err, IfOk};
+ghost use Rattle.time_values.specs.Range.{greatest_year};
+ghost use Rattle.restamp_verdict.specs.Reading as spec;
+ghost use Rattle.restamp_verdict.specs.Reason.{seen, seen_read};
+
+use crate::reading::{Defaults, Reading, Said, read};
+use crate::reason::Reason;
+use std::cmp::Ordering;
+use time_values::{OffsetDateTime, UtcOffset};
+
+// Whether the moment lies after another.
+fn is_after(moment: OffsetDateTime, other: OffsetDateTime) -> bool
+    ensures { result ≡ spec.is_after greatest_year moment other }
+{
+    moment.cmp_instant(other) == Ordering::Greater
+}
+
+// A text with no year, and the moment that it isn't after.
+#[derive(Clone, Copy)]
+struct Undated<'a> {
+    reading: &'a Reading,
+    is_open: bool,
+    text: &'a [u8],
+    offset: Option<UtcOffset>,
+    latest: OffsetDateTime,
+}
+
+impl Undated<'_> {
+    // What the text says in that year.
+    fn read_in_year(&self, year: i32) -> Result<Said, Reason>
+        ensures said { spec.IsReadInYear greatest_year (spec.seen_undated self.now) year (seen_read result) }
+        ensures within { IfOk result (λ said. said.start + said.length ≤ length self.now.text.now) }
+    {
+        let dated = Defaults {
+            year: Some(year),
+            offset: self.offset,
+            latest: None,
+        };
+        read(self.reading, self.is_open, self.text, &dated)
+    }
+
+    // What it says in the first of so many years, from that one down, in which it says a moment that isn't too late.
+    #[inline(never)]
+    fn read_years(&self, year: i32, count: u8, reason: Reason) -> Result<Said, Reason>
+        requires { neg_ℤ (pos 2_000_000) ≤ℤ (year -ℤ pos count) }
+        ensures said { spec.AreYearsTried greatest_year (spec.seen_undated self.now) count year (seen reason) (seen_read result) }
+        ensures within { IfOk result (λ said. said.start + said.length ≤ length self.now.text.now) }
+    {
+        if count == 0 {
+            return Err(reason);
+        }
+        let before = year - 1;
+        match self.read_in_year(year) {
+            Ok(said) => {
+                if is_after(said.moment, self.latest) {
+                    return self.read_years(before, count - 1, reason);
+                }
+                Ok(said)
+            }
+            Err(why) => self.read_years(before, count - 1, why),
+        }
+    }
+}
+
+// What a text says that says nothing by the format, for that reason, unless it is the year that it leaves out.
+fn read_undated(
+    reading: &Reading,
+    is_open: bool,
+    text: &[u8],
+    defaults: &Defaults,
+    reason: Reason,
+) -> Result<Said, Reason>
+    requires { spec.Says greatest_year reading.now is_open text.now defaults.now (Err (seen reason)) }
+    ensures said { spec.IsDated greatest_year reading.now is_open text.now defaults.now (seen_read result) }
+    ensures within { IfOk result (λ said. said.start + said.length ≤ length text.now) }
+{
+    let Some(latest) = defaults.latest else {
+        return Err(reason);
+    };
+    let undated = Undated {
+        reading,
+        is_open,
+        text,
+        offset: defaults.offset,
+        latest,
+    };
+    undated.read_years(latest.year() + 1, 10, reason)
+}
+
+/// What the text says by the format; where it leaves the year out, the latest moment that isn't after the one that is
+/// given. Of the years from the one after that moment's down, ten are tried, since 29 February may be missing in seven in a
+/// row.
+pub fn read_dated(
+    reading: &Reading,
+    is_open: bool,
+    text: &[u8],
+    defaults: &Defaults,
+) -> Result<Said, Reason>
+    ensures said { spec.IsDated greatest_year reading.now is_open text.now defaults.now (seen_read result) }
+    ensures within { IfOk result (λ said. said.start + said.length ≤ length text.now) }
+{
+    match read(reading, is_open, text, defaults) {
+        Ok(said) => Ok(said),
+        Err(reason) => read_undated(reading, is_open, text, defaults, reason),
+    }
+}
+
+// What the first says of the formats that says something; or else the reason that is given.
+fn read_others(
+    readings: &[Reading],
+    is_open: bool,
+    text: &[u8],
+    defaults: &Defaults,
+    reason: Reason,
+) -> Result<Said, Reason>
+    ensures said { spec.AreTried greatest_year readings.now is_open text.now defaults.now (seen reason) (seen_read result) }
+    ensures within { IfOk result (λ said. said.start + said.length ≤ length text.now) }
+{
+    for reading in readings {
+        if let Ok(said) = read_dated(reading, is_open, text, defaults) {
+            return Ok(said);
+        }
+    }
+    Err(reason)
+}
+
+/// What a text says that says nothing by the first of the formats as it stands, for that reason.
+pub(crate) fn read_further(
+    first: &Reading,
+    others: &[Reading],
+    is_open: bool,
+    text: &[u8],
+    defaults: &Defaults,
+    reason: Reason,
+) -> Result<Said, Reason>
+    requires { spec.Says greatest_year first.now is_open text.now defaults.now (Err (seen reason)) }
+    ensures said { spec.IsReadInTurn greatest_year first.now others.now is_open text.now defaults.now (seen_read result) }
+    ensures within { IfOk result (λ said. said.start + said.length ≤ length text.now) }
+{
+    match read_undated(first, is_open, text, defaults, reason) {
+        Ok(said) => Ok(said),
+        Err(why) => read_others(others, is_open, text, defaults, why),
+    }
+}
+
+/// What the text says by the first of the formats by which it says something; the reason is that of the first.
+#[inline(always)]
+pub fn read_in_turn(
+    first: &Reading,
+    others: &[Reading],
+    is_open: bool,
+    text: &[u8],
+    defaults: &Defaults,
+) -> Result<Said, Reason>
+    ensures said { spec.IsReadInTurn greatest_year first.now others.now is_open text.now defaults.now (seen_read result) }
+    ensures within { IfOk result (λ said. said.start + said.length ≤ length text.now) }
+{
+    match read(first, is_open, text, defaults) {
+        Ok(said) => Ok(said),
+        Err(reason) => read_further(first, others, is_open, text, defaults, reason),
+    }
+}

@@ -1,5 +1,6 @@
 //! Readers and writers of std, whose errors are counted.
-ghost use Rattle.std.specs.Prelude.{◌≡◌, ◌+◌, ◌-◌, ◌^◌, min, None};
+ghost use Rattle.std.specs.Prelude.{◌≡◌, None};
+ghost use Rattle.programs_streams.specs.Faults.{Rises};
 
 #[cfg(test)]
 mod tests;
@@ -10,14 +11,15 @@ use std::fmt::Display;
 use std::io;
 use std::io::{Read, Write};
 
-/// A reader or a writer of std. It counts the calls of it that gave an error, up to 18446744073709551615, and keeps the
-/// last error.
+/// A reader or a writer of std. It counts the calls of it that gave an error and the bytes that its reads gave, both up to
+/// 18446744073709551615, and keeps the last error of a write or a flush.
 ///
 /// A call of a `Vec` fails where memory is short.
 #[derive(Drop)]
 pub struct Counted<T> {
     inner: T,
     faults: u64,
+    given: u64,
     error: Option<io::Error>,
 }
 
@@ -26,16 +28,18 @@ impl<T> Counted<T> {
     pub fn new(inner: T) -> Counted<T>
         ensures inner { result.inner ≡ inner }
         ensures faults { result.faults ≡ 0 }
+        ensures given { result.given ≡ 0 }
         ensures error { result.error ≡ None }
     {
         Counted {
             inner,
             faults: 0,
+            given: 0,
             error: None,
         }
     }
 
-    /// The reader or writer, and the last error of a call, if one failed.
+    /// The reader or writer, and the last error of a write or a flush, if one failed.
     pub fn into_parts(self) -> (T, Option<io::Error>)
         ensures inner { result.0 ≡ self.inner }
         ensures error { result.1 ≡ self.error }
@@ -43,6 +47,7 @@ impl<T> Counted<T> {
         let Counted {
             inner,
             faults: _,
+            given: _,
             error,
         } = self;
         (inner, error)
@@ -51,7 +56,8 @@ impl<T> Counted<T> {
     // Counts a call that gave an error.
     fn count_fault(&mut self)
         ensures inner { self.new.inner ≡ self.old.inner }
-        ensures faults { self.new.faults ≡ min (self.old.faults + 1) (2 ^ 64 - 1) }
+        ensures faults { Rises self.old.faults self.new.faults }
+        ensures given { self.new.given ≡ self.old.given }
     {
         self.faults = self.faults.saturating_add(1);
     }
@@ -61,7 +67,7 @@ impl<T> Counted<T> {
     #[inline(never)]
     fn fail(&mut self, error: io::Error) -> Unwritten
         ensures inner { self.new.inner ≡ self.old.inner }
-        ensures faults { self.new.faults ≡ min (self.old.faults + 1) (2 ^ 64 - 1) }
+        ensures faults { Rises self.old.faults self.new.faults }
     {
         self.count_fault();
         self.error = Some(error);
@@ -104,10 +110,15 @@ impl<R: Read> Source for Counted<R> {
 
     ghost faults = { λ counted. counted.faults };
 
+    ghost given = { λ counted. counted.given };
+
     #[inline(always)]
     fn read(&mut self, buffer: &mut [u8]) -> io::Result<usize> {
         match self.inner.read(buffer) {
-            Ok(n) => Ok(n),
+            Ok(n) => {
+                self.given = self.given.saturating_add(n as u64);
+                Ok(n)
+            }
             Err(error) => {
                 self.count_fault();
                 Err(error)

@@ -7,4 +7,4 @@ mod source;
 
 pub use counted::Counted;
 pub use sink::{Sink, Unwritten};
-pub use source::Source;
+pub use source::{Bytes, Source};

@@ -1,5 +1,5 @@
 //! What is written, and calls that fail.
-use crate::{Counted, Sink, Source, Unwritten};
+use crate::{Bytes, Counted, Sink, Source, Unwritten};
 use std::io;
 use std::io::{ErrorKind, Read, Write};
 
@@ -54,7 +54,7 @@ fn each_failed_call_is_counted(rt: HostRuntime) {
 
 #[test]
 fn a_slice_is_read_to_its_end(rt: HostRuntime) {
-    let mut rest = b"abcde".as_slice();
+    let mut rest = Bytes::new(b"abcde");
     let mut buffer = [0; 3];
     let first = Source::read(&mut rest, &mut buffer);
     assert!(rt; first.is_ok_and(|n| n == 3) && buffer == *b"abc");

@@ -1,6 +1,6 @@
 //! Readers and writers of std, whose errors are counted.
-ghost use Rattle.std.specs.Prelude.{◌≡◌, None};
-ghost use Rattle.programs_streams.specs.Faults.{Rises};
+ghost use Rattle.std.specs.Prelude.{◌≡◌, ◌↔◌, IsTrue, None};
+ghost use Rattle.programs_streams.specs.Faults.{Rises, IsCutOff};
 
 #[cfg(test)]
 mod tests;
@@ -51,6 +51,13 @@ impl<T> Counted<T> {
             error,
         } = self;
         (inner, error)
+    }
+
+    /// Whether a call has failed, or reads have given 18446744073709551615 bytes.
+    pub fn is_cut_off(&self) -> bool
+        ensures { IsTrue result ↔ IsCutOff 0 self.now.faults self.now.given }
+    {
+        self.faults > 0 || self.given == u64::MAX
     }
 
     // Counts a call that gave an error.

@@ -23,7 +23,7 @@ BOXES = {
     "time_preparing": (2, 4, 0, "a description for many texts"),
     "time_locating": (2, 4, 1, "where a text goes wrong"),
     "programs": (3, 5, 0, "texts parsed line by line", "programs_answers", "time_lines", "time_parse"),
-    "restamp": (3, 5, 2.15, "times rewritten in lines", "restamp_place, restamp_verdict,", "restamp_stream, restamp_options,", "restamp_command, restamp"),
+    "restamp": (3, 5, 2.15, "times rewritten in lines", "programs_streams, restamp_place,", "restamp_verdict, restamp_stream,", "restamp_options,", "restamp_command, restamp"),
     "C": (3, 5, 1.1, "C, Rust, Python and SQL", "pelzaune_ffi", "pelzaune"),
     "tests and benches": (3, 5, 3.25, "stand on all of these", "time_tests_.., restamp_tests", "time_bench"),
 }
@@ -41,7 +41,7 @@ LINES = [
 ]
 WIDE, HIGH, STEP, PITCH, LEFT, SMALL = 204, 30, 244, 112, 30, 6.1
 MEMBERS = {"programs": ("programs_answers", "time_lines", "time_parse"), "C": ("pelzaune_ffi", "pelzaune"),
-           "restamp": ("restamp_place", "restamp_stream", "restamp_verdict", "restamp_options", "restamp_command", "restamp")}
+           "restamp": ("programs_streams", "restamp_place", "restamp_stream", "restamp_verdict", "restamp_options", "restamp_command", "restamp")}
 
 
 def box_of(crate):

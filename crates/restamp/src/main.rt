@@ -10,7 +10,8 @@ mod words;
 use clap::ArgMatches;
 use completions::completions_of;
 use opening::Disk;
-use output::{Erasing, Watched};
+use output::Erasing;
+use programs_streams::Counted;
 use progress::{Progress, Telling};
 use restamp_command::{Fault, Request, serve};
 use restamp_options::{Options, make_command};
@@ -69,11 +70,11 @@ fn answer(
     telling: Telling,
 ) -> io::Result<u8> {
     let progress = Progress::new(rt, telling);
-    let out = Watched::new(io::writer(rt));
+    let out = Counted::new(io::writer(rt));
     let log = BufWriter::new(rt.alloc(), Erasing::new(rt.stderr(), &progress))?;
-    let mut stream = Stream::new(out, log);
-    let disk = Disk::new(rt, &progress);
-    let stop = match serve(request, names, &disk, &mut stream, &mut Block::new()) {
+    let mut stream = Stream::new(out, Counted::new(log));
+    let mut disk = Disk::new(rt, &progress);
+    let stop = match serve(request, names, &mut disk, &mut stream, &mut Block::new()) {
         Ok(()) => None,
         Err(stop) => Some(stop),
     };
@@ -81,7 +82,8 @@ fn answer(
     drop(log);
     progress.erase();
     if let Some(Stop::Unwritten) = stop {
-        tell_unwritten(rt, out.failure())?;
+        let (_, error) = out.into_parts();
+        tell_unwritten(rt, error.map(|error| error.kind()))?;
     }
     Ok(status(&tally, stop, request.strict))
 }

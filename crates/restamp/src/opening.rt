@@ -1,5 +1,9 @@
 //! Files and standard input, by their names.
+ghost use Rattle.std.specs.Prelude.{◌≡◌};
+ghost use Rattle.programs_streams.specs.Faults.{Rises};
+
 use crate::progress::{Meter, Progress};
+use programs_streams::Counted;
 use restamp_stream::Opening;
 use std::fs::{Metadata, OpenFile};
 use std::io::Read;
@@ -12,6 +16,8 @@ use std::{fs, io};
 pub(crate) struct Disk<'a, R> {
     rt: &'a R,
     progress: &'a Progress<'a, R>,
+    // How many files were not opened, or cut off.
+    faults: u64,
 }
 
 /// What is read.
@@ -67,7 +73,11 @@ fn size_of(metadata: io::Result<Metadata>) -> Option<u64> {
 
 impl<'a, R: Files + Input + Clock + Eprint + AllocGlobal> Disk<'a, R> {
     pub(crate) fn new(rt: &'a R, progress: &'a Progress<'a, R>) -> Disk<'a, R> {
-        Disk { rt, progress }
+        Disk {
+            rt,
+            progress,
+            faults: 0,
+        }
     }
 
     // The source, whose progress is told where that is wanted.
@@ -91,17 +101,9 @@ impl<'a, R: Files + Input + Clock + Eprint + AllocGlobal> Disk<'a, R> {
             progress: self.progress,
         }
     }
-}
 
-impl<'a, R: Files + Input + Clock + Eprint + AllocGlobal> Opening for Disk<'a, R> {
-    type Input = Metered<'a, R, Source<R::File, R::Reader>>;
-
-    ghost bytes_of = { λ _ _. None };
-
-    ghost use Rattle.std.specs.Prelude.{None};
-
-    #[inline(never)]
-    fn open(&self, name: &[u8]) -> io::Result<Metered<'a, R, Source<R::File, R::Reader>>> {
+    // Opens the file of a name.
+    fn open_once(&self, name: &[u8]) -> io::Result<Metered<'a, R, Source<R::File, R::Reader>>> {
         self.progress.erase();
         if name == b"-".as_slice() {
             return Ok(self.metered("-", Source::Input(self.rt.reader())));
@@ -110,5 +112,42 @@ impl<'a, R: Files + Input + Clock + Eprint + AllocGlobal> Opening for Disk<'a, R
             return Err(io::Error::from(io::ErrorKind::InvalidInput));
         };
         Ok(self.metered(path, Source::File(fs::open(self.rt, path)?)))
+    }
+
+    // Counts a file that was not opened, or cut off.
+    fn count_fault(&mut self)
+        ensures { Rises self.old.faults self.new.faults }
+    {
+        self.faults = self.faults.saturating_add(1);
+    }
+}
+
+impl<'a, R: Files + Input + Clock + Eprint + AllocGlobal> Opening for Disk<'a, R> {
+    type Input = Counted<Metered<'a, R, Source<R::File, R::Reader>>>;
+
+    ghost bytes_of = { λ _ _. None };
+
+    ghost faults = { λ disk. disk.faults };
+
+    ghost use Rattle.std.specs.Prelude.{None};
+
+    #[inline(never)]
+    fn open(
+        &mut self,
+        name: &[u8],
+    ) -> io::Result<Counted<Metered<'a, R, Source<R::File, R::Reader>>>> {
+        match self.open_once(name) {
+            Ok(input) => Ok(Counted::new(input)),
+            Err(error) => {
+                self.count_fault();
+                Err(error)
+            }
+        }
+    }
+
+    fn close(&mut self, input: Counted<Metered<'a, R, Source<R::File, R::Reader>>>) {
+        if input.is_cut_off() {
+            self.count_fault();
+        }
     }
 }

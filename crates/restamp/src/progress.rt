@@ -4,6 +4,7 @@ ghost use Rattle.std.specs.Time.{instant_nanos};
 ghost use Rattle.restamp_stream.specs.Names.{shown_name};
 ghost use Rattle.restamp.specs.Progress as spec;
 
+use programs_streams::Counted;
 use restamp_stream::write_name;
 use std::alloc::Global;
 use std::cell::Cell;
@@ -41,8 +42,9 @@ fn end_of(text: &str) -> &str
 fn shown_name(alloc: Global, name: &str) -> Option<String>
     ensures { IfSome result (λ shown. string_bytes shown ≡ shown_name name.now) }
 {
-    let mut shown = Vec::new(alloc);
+    let mut shown = Counted::new(Vec::new(alloc));
     write_name(name.as_bytes(), &mut shown).ok()?;
+    let (shown, _) = shown.into_parts();
     String::from_utf8(shown).ok()
 }
 

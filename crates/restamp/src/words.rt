@@ -1,8 +1,10 @@
 //! The words of the command line.
 ghost use Rattle.std.specs.Io.KnownBytes.{Appends};
 ghost use Rattle.std.specs.Prelude.{OnOk};
+ghost use Rattle.programs_streams.specs.Faults.{HasCause};
 ghost use Rattle.restamp.specs.Words.{unread_text};
 
+use programs_streams::{Counted, Sink, Unwritten};
 use restamp_stream::write_shown;
 use std::env::{Env, FillError};
 use std::io::{ErrorKind, Write};
@@ -29,8 +31,9 @@ fn bytes_of(rt: &HostRuntime, number: usize) -> Option<Vec<u8>> {
 }
 
 // Tells that the word of that number isn't UTF-8.
-fn write_unread<L: Write>(number: usize, word: &[u8], log: &mut L) -> io::Result<()>
-    ensures { OnOk result (Appends (L.contents log.old) (L.contents log.new) (unread_text number word.now)) }
+fn write_unread<L: Sink>(number: usize, word: &[u8], log: &mut L) -> Result<(), Unwritten>
+    ensures written { OnOk result (Appends (L.contents log.old) (L.contents log.new) (unread_text number word.now)) }
+    ensures cause { HasCause result (L.faults log.old) (L.faults log.new) }
 {
     write!(log, "restamp: argument {number} is not UTF-8: '")?;
     write_shown(true, word, log)?;
@@ -44,9 +47,12 @@ fn tell_unread(rt: &HostRuntime) -> io::Result<()> {
             return Ok(());
         };
         if std::str::from_utf8(word.as_slice()).is_err() {
-            let mut text = Vec::new(rt.alloc());
-            write_unread(number, word.as_slice(), &mut text)?;
-            return rt.stderr().write_all(text.as_slice());
+            let mut text = Counted::new(Vec::new(rt.alloc()));
+            let _ = write_unread(number, word.as_slice(), &mut text);
+            return match text.into_parts() {
+                (text, None) => rt.stderr().write_all(text.as_slice()),
+                (_, Some(error)) => Err(error),
+            };
         }
     }
     Ok(())

@@ -4,18 +4,19 @@ ghost use Rattle.std.specs.Char.Iter.{escape_byte_end, escape_byte_rest};
 ghost use Rattle.std.specs.Io.KnownBytes.{Appends};
 ghost use Rattle.std.specs.Option.{option_map};
 ghost use Rattle.std.specs.Prelude.{◌≤◌, OnOk, flat_map};
+ghost use Rattle.programs_streams.specs.Faults.{HasCause};
 ghost use Rattle.time_locating.specs.Located.{wants};
 ghost use Rattle.restamp_command.specs.Expected as spec;
 
+use programs_streams::{Sink, Unwritten};
 use std::ascii::EscapeDefault;
-use std::io;
-use std::io::Write;
 use time_locating::Expected;
 
 // Writes what is left of how a byte is escaped.
-fn write_left<L: Write>(mut left: EscapeDefault, log: &mut L) -> io::Result<()>
+fn write_left<L: Sink>(mut left: EscapeDefault, log: &mut L) -> Result<(), Unwritten>
     requires { escape_byte_end left ≤ 4 }
-    ensures { OnOk result (Appends (L.contents log.old) (L.contents log.new) (escape_byte_rest left)) }
+    ensures written { OnOk result (Appends (L.contents log.old) (L.contents log.new) (escape_byte_rest left)) }
+    ensures cause { HasCause result (L.faults log.old) (L.faults log.new) }
 {
     let Some(byte) = left.next() else {
         return Ok(());
@@ -25,8 +26,9 @@ fn write_left<L: Write>(mut left: EscapeDefault, log: &mut L) -> io::Result<()>
 }
 
 // Writes the bytes, each that doesn't print escaped.
-fn write_escaped<L: Write>(bytes: &[u8], log: &mut L) -> io::Result<()>
-    ensures { OnOk result (Appends (L.contents log.old) (L.contents log.new) (flat_map escape_ascii bytes.now)) }
+fn write_escaped<L: Sink>(bytes: &[u8], log: &mut L) -> Result<(), Unwritten>
+    ensures written { OnOk result (Appends (L.contents log.old) (L.contents log.new) (flat_map escape_ascii bytes.now)) }
+    ensures cause { HasCause result (L.faults log.old) (L.faults log.new) }
 {
     let [byte, rest @ ..] = bytes else {
         return Ok(());
@@ -36,8 +38,9 @@ fn write_escaped<L: Write>(bytes: &[u8], log: &mut L) -> io::Result<()>
 }
 
 // Writes what was expected.
-fn write_wanted<L: Write>(expected: Expected<'_>, log: &mut L) -> io::Result<()>
-    ensures { OnOk result (Appends (L.contents log.old) (L.contents log.new) (spec.wanted_text (wants expected.entry))) }
+fn write_wanted<L: Sink>(expected: Expected<'_>, log: &mut L) -> Result<(), Unwritten>
+    ensures written { OnOk result (Appends (L.contents log.old) (L.contents log.new) (spec.wanted_text (wants expected.entry))) }
+    ensures cause { HasCause result (L.faults log.old) (L.faults log.new) }
 {
     match expected {
         Expected::Literal(bytes) => {
@@ -51,9 +54,10 @@ fn write_wanted<L: Write>(expected: Expected<'_>, log: &mut L) -> io::Result<()>
 }
 
 /// Writes what was expected where a time goes wrong, after its reason; or nothing where nothing is told.
-pub fn write_expected<L: Write>(expected: Option<Expected<'_>>, log: &mut L) -> io::Result<()>
-    ensures { OnOk result (Appends (L.contents log.old) (L.contents log.new)
+pub fn write_expected<L: Sink>(expected: Option<Expected<'_>>, log: &mut L) -> Result<(), Unwritten>
+    ensures written { OnOk result (Appends (L.contents log.old) (L.contents log.new)
         (spec.expected_text (option_map wants expected.entry))) }
+    ensures cause { HasCause result (L.faults log.old) (L.faults log.new) }
 {
     let Some(expected) = expected else {
         return Ok(());

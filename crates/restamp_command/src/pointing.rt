@@ -1,10 +1,10 @@
 //! A refused line as a terminal shows it.
 ghost use Rattle.std.specs.Io.KnownBytes.{Appends};
 ghost use Rattle.std.specs.Prelude.{◌≡◌, ◌-◌, map, take, drop, OnOk};
+ghost use Rattle.programs_streams.specs.Faults.{HasCause};
 ghost use Rattle.restamp_command.specs.Pointing as spec;
 
-use std::io;
-use std::io::Write;
+use programs_streams::{Sink, Unwritten};
 
 /// How many bytes of a line are shown.
 const SHOWN: usize = 60;
@@ -26,8 +26,9 @@ fn shown_byte(byte: u8) -> u8
 }
 
 // Writes the bytes as they are shown.
-fn write_shown<L: Write>(bytes: &[u8], log: &mut L) -> io::Result<()>
-    ensures { OnOk result (Appends (L.contents log.old) (L.contents log.new) (map spec.shown_byte bytes.now)) }
+fn write_shown<L: Sink>(bytes: &[u8], log: &mut L) -> Result<(), Unwritten>
+    ensures written { OnOk result (Appends (L.contents log.old) (L.contents log.new) (map spec.shown_byte bytes.now)) }
+    ensures cause { HasCause result (L.faults log.old) (L.faults log.new) }
 {
     let [byte, rest @ ..] = bytes else {
         return Ok(());
@@ -37,8 +38,9 @@ fn write_shown<L: Write>(bytes: &[u8], log: &mut L) -> io::Result<()>
 }
 
 // Writes so many blanks, at most 40.
-fn write_blanks<L: Write>(n: usize, log: &mut L) -> io::Result<()>
-    ensures { OnOk result (Appends (L.contents log.old) (L.contents log.new) (spec.blanks n)) }
+fn write_blanks<L: Sink>(n: usize, log: &mut L) -> Result<(), Unwritten>
+    ensures written { OnOk result (Appends (L.contents log.old) (L.contents log.new) (spec.blanks n)) }
+    ensures cause { HasCause result (L.faults log.old) (L.faults log.new) }
 {
     log.write_all(&BLANKS[..n.min(BEFORE)])
 }
@@ -53,8 +55,9 @@ fn bytes_around(line: &[u8], column: usize) -> &[u8]
 }
 
 /// Writes an LF, the bytes of a line around a column, from 1, another LF, and a red caret under that column.
-pub fn write_pointer<L: Write>(line: &[u8], column: usize, log: &mut L) -> io::Result<()>
-    ensures { OnOk result (Appends (L.contents log.old) (L.contents log.new) (spec.pointer line.now column)) }
+pub fn write_pointer<L: Sink>(line: &[u8], column: usize, log: &mut L) -> Result<(), Unwritten>
+    ensures written { OnOk result (Appends (L.contents log.old) (L.contents log.new) (spec.pointer line.now column)) }
+    ensures cause { HasCause result (L.faults log.old) (L.faults log.new) }
 {
     log.write_all(b"\n")?;
     write_shown(bytes_around(line, column), log)?;

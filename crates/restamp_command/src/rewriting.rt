@@ -1,6 +1,8 @@
 //! The answer to files.
 ghost use Rattle.std.specs.Prelude.{◌≡◌, ◌≢◌, IfErr, OnOk, map};
 ghost use Rattle.time_values.specs.Range.{greatest_year};
+ghost use Rattle.programs_streams.specs.Faults.{HasCause};
+ghost use Rattle.restamp_stream.specs.Causes.{faults_of, HasWriteCause};
 ghost use Rattle.restamp_stream.specs.Fates.{WritesReason};
 ghost use Rattle.restamp_stream.specs.Files.{DidFiles, StoppedIn};
 ghost use Rattle.restamp_stream.specs.Streams.{state_of};
@@ -12,10 +14,9 @@ ghost use Rattle.restamp_command.specs.Rewriting.{IsFate, IsReason, TellsWrong};
 use crate::expected::write_expected;
 use crate::pointing::write_pointer;
 use crate::request::Request;
+use programs_streams::{Sink, Unwritten};
 use restamp_stream::{Block, Fate, Opening, Rewriting, Stop, Stream};
 use restamp_verdict::{Job, Reason, Verdict, Why, Wrong};
-use std::io;
-use std::io::Write;
 
 /// A job, which says which fate a line has, and how a refused line is told.
 #[derive(Clone, Copy)]
@@ -58,7 +59,7 @@ impl Rewriting for Restamping<'_> {
         }
     }
 
-    fn write_reason<L: Write>(&self, front: &[u8], log: &mut L) -> io::Result<()> {
+    fn write_reason<L: Sink>(&self, front: &[u8], log: &mut L) -> Result<(), Unwritten> {
         match self.job.judge(front) {
             Verdict::Refused { column, reason } => self.write_wrong(front, column, reason, log),
             Verdict::Without => Ok(()),
@@ -72,15 +73,16 @@ impl Restamping<'_> {
     // Writes the column where a front goes wrong that is refused at a column for a reason, the reason or what the time
     // lacks, and what was expected there. It isn't inlined, so that reports take no place beside lines that are rewritten.
     #[inline(never)]
-    fn write_wrong<L: Write>(
+    fn write_wrong<L: Sink>(
         &self,
         front: &[u8],
         column: usize,
         reason: Reason,
         log: &mut L,
-    ) -> io::Result<()>
-        ensures { OnOk result (WritesReason (TellsWrong greatest_year self.now.job self.now.shows_lines front.now column (seen reason))
+    ) -> Result<(), Unwritten>
+        ensures told { OnOk result (WritesReason (TellsWrong greatest_year self.now.job self.now.shows_lines front.now column (seen reason))
             (L.contents log.old) (L.contents log.new)) }
+        ensures cause { HasCause result (L.faults log.old) (L.faults log.new) }
     {
         let Wrong { column, expected } = self.job.find_wrong(front, column, reason);
         let lack = self.job.find_lack(front, reason);
@@ -102,24 +104,27 @@ impl Restamping<'_> {
 /// never [`Stop::Unread`]. The work stops at a failed write, and under `--strict` at the first refused line, unless it is
 /// to go on: the files and lines before that one are answered. After a failed write nothing is known of how much was
 /// written.
-pub fn serve<W: Write, L: Write, O: Opening>(
+pub fn serve<W: Sink, L: Sink, O: Opening>(
     request: &Request<'_>,
     names: &[&[u8]],
-    opening: &O,
+    opening: &mut O,
     stream: &mut Stream<W, L>,
     block: &mut Block,
 ) -> Result<(), Stop>
     ensures ok { (job : Job_) × IsJobOf request.now job
         × OnOk result (DidFiles (IsFate greatest_year job) (IsReason greatest_year job request.now.shows_lines)
         request.now.settings
-        (O.bytes_of opening.now) (state_of W.contents L.contents stream.old) (state_of W.contents L.contents stream.new)
+        (O.bytes_of opening.old) (O.faults opening.old) (O.faults opening.new)
+        (state_of W.contents L.contents stream.old) (state_of W.contents L.contents stream.new)
         (map (λ name. name.now) names.now)) }
     ensures unread { IfErr result (λ stop. stop ≢ Stop.Unread) }
     ensures refused { (job : Job_) × IsJobOf request.now job
         × IfErr result (λ stop. stop ≡ Stop.Refused →
         StoppedIn (IsFate greatest_year job) (IsReason greatest_year job request.now.shows_lines) request.now.settings
-        (O.bytes_of opening.now) (state_of W.contents L.contents stream.old) (state_of W.contents L.contents stream.new)
+        (O.bytes_of opening.old) (O.faults opening.old) (O.faults opening.new)
+        (state_of W.contents L.contents stream.old) (state_of W.contents L.contents stream.new)
         (map (λ name. name.now) names.now)) }
+    ensures cause { HasWriteCause result (faults_of W.faults L.faults stream.old) (faults_of W.faults L.faults stream.new) }
 {
     let rewriting = Restamping {
         job: request.job(),

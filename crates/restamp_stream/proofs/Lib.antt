@@ -1,4 +1,5 @@
 pub mod BlockLemmas
+pub mod CauseLemmas
 pub mod LinesLemmas
 pub mod DidLemmas
 pub mod NameLemmas

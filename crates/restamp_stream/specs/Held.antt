@@ -1,8 +1,9 @@
 -- No public contract rests on this file.
 --
 -- What a step of a stream does.
-use Rattle.std.specs.Prelude.{◌≡◌, ℕ, List, [], ◌∷◌, ◌++◌, Option}
+use Rattle.std.specs.Prelude.{◌≡◌, ◌⊎◌, ℕ, ◌≤◌, List, [], ◌∷◌, ◌++◌, Option}
 use Rattle.std.specs.Io.KnownBytes.{Appends, Keeps, append_known}
+use Rattle.programs_streams.specs.Faults.{Rises, count_more}
 use Rattle.restamp_stream.specs.declared.fate.Fate.{Fate}
 use Rattle.restamp_stream.specs.declared.fate.Rest.{Rest}
 use Rattle.restamp_stream.specs.declared.fate.Rest.TheVariants.{Absent, Passing, Dropping}
@@ -70,3 +71,7 @@ pub record Settles (before after : State) : Type 0 where
   pub out : Keeps before.out after.out
   pub log : Keeps before.log after.log
   pub tally : after.tally ≡ before.tally
+
+-- So many reads gave a byte each at least, or one of them failed.
+abbrev pub HaveCome : ℕ → ℕ → ℕ → ℕ → Type 0
+HaveCome turns faults faults' given = ((faults' ≡ faults) × (count_more 0 turns ≤ given)) ⊎ Rises faults faults'

@@ -5,6 +5,7 @@ pub mod Reports
 pub mod Answers
 pub mod Streams
 pub mod Held
+pub mod Causes
 pub mod Files
 pub mod Status
 pub mod Laws

@@ -1,12 +1,15 @@
 //! Bytes that were read and are not answered yet.
 ghost use Rattle.std.specs.Io.KnownBytes.{Consumes, Keeps, IsAtEnd};
 ghost use Rattle.std.specs.IoError.{error_kind};
-ghost use Rattle.std.specs.Prelude.{◌≡◌, ◌≢◌, ◌-◌, ◌<◌, ◌≤◌, ℕ, List, [], ◌++◌, length, drop, MatchResult, false};
+ghost use Rattle.std.specs.Prelude.{◌≡◌, ◌≢◌, ◌-◌, ◌<◌, ◌≤◌, ℕ, List, [], ◌++◌, length, drop, MatchResult, IsTrue, false};
+ghost use Rattle.programs_streams.specs.Faults.{HasCause, HasGiven, Rises};
+ghost use Rattle.restamp_stream.specs.Causes.{HasCome};
 ghost use Rattle.restamp_stream.specs.declared.block.TheConstants.{LIMIT};
 
 use crate::held::Held;
+use programs_streams::Source;
 use std::io;
-use std::io::{ErrorKind, Read};
+use std::io::ErrorKind;
 
 /// By how many bytes a line is answered: 256 more than its time may stand in, so that it is seen what stands behind that.
 pub const LIMIT: usize = 262_400;
@@ -16,13 +19,15 @@ pub type Block = Held<LIMIT>;
 
 impl Held<LIMIT> {
     // Reads once after what is held. 0 is the end.
-    fn read_once<R: Read>(&mut self, input: &mut R) -> io::Result<usize>
+    fn read_once<R: Source>(&mut self, input: &mut R) -> io::Result<usize>
         requires { length self.old.items < LIMIT }
-        ensures { MatchResult result
+        ensures read { MatchResult result
             (λ n. (more : List ℕ) × (self.new.items ≡ self.old.items ++ more) × (length more ≡ n)
             × Consumes (R.remaining input.old) (R.remaining input.new) more
             × (n ≡ 0 → IsAtEnd (R.remaining input.new)))
             (λ _. Keeps (R.remaining input.old) (R.remaining input.new) × (self.new.items ≡ self.old.items)) }
+        ensures given { HasGiven result (R.given input.old) (R.given input.new) }
+        ensures cause { HasCause result (R.faults input.old) (R.faults input.new) }
     {
         let n = input.read(&mut self.array[self.len..])?;
         self.len += n;
@@ -30,14 +35,17 @@ impl Held<LIMIT> {
     }
 
     /// Reads once after what is held. `false` is the end. An interrupted read gives no byte, and may be tried again.
-    pub fn fill<R: Read>(&mut self, input: &mut R) -> io::Result<bool>
+    pub fn fill<R: Source>(&mut self, input: &mut R) -> io::Result<bool>
         requires { length self.old.items < LIMIT }
-        ensures { MatchResult result
+        ensures read { MatchResult result
             (λ goes_on. (more : List ℕ) × (self.new.items ≡ self.old.items ++ more)
             × Consumes (R.remaining input.old) (R.remaining input.new) more
             × (goes_on ≡ false → (more ≡ []) × IsAtEnd (R.remaining input.new)))
             (λ e. Keeps (R.remaining input.old) (R.remaining input.new) × (self.new.items ≡ self.old.items)
             × (error_kind e ≢ ErrorKind.Interrupted)) }
+        ensures cause { MatchResult result
+            (λ goes_on. IsTrue goes_on → HasCome (R.faults input.old) (R.faults input.new) (R.given input.old) (R.given input.new))
+            (λ _. Rises (R.faults input.old) (R.faults input.new)) }
     {
         match self.read_once(input) {
             Ok(0) => Ok(false),

@@ -1,10 +1,19 @@
-//! Laws of what is done to an input: a function does nothing, and its contract is the law.
-ghost use Rattle.std.specs.Prelude.{◌≡◌, ℕ, List};
+//! Laws of what is done to an input: the contract of a function is the law.
+ghost use Rattle.std.specs.Prelude.{◌≡◌, ◌⊎◌, ℕ, List, IfErr, OnOk, map};
+ghost use Rattle.programs_streams.specs.Faults.{Rises};
 ghost use Rattle.restamp_stream.specs.Answers.{job_of};
+ghost use Rattle.restamp_stream.specs.Causes.{faults_of};
+ghost use Rattle.restamp_stream.specs.Files.{AreDone};
+ghost use Rattle.restamp_stream.specs.Streams.{state_of};
 ghost use Rattle.restamp_stream.specs.Laws.{OneAnswer, OneResult, SameBytes, KeptBytes};
 
+use crate::block::Block;
+use crate::files::Opening;
 use crate::rewriting::Rewriting;
 use crate::settings::Settings;
+use crate::stop::Stop;
+use crate::stream::Stream;
+use programs_streams::Sink;
 
 /// An input has one output, one log and one tally.
 pub fn law_one_result<T: Rewriting>(rewriting: &T, name: &[u8], settings: Settings)
@@ -17,3 +26,22 @@ pub fn law_kept<T: Rewriting>(rewriting: &T, name: &[u8], settings: Settings)
     ensures lines { SameBytes }
     ensures input { KeptBytes (job_of (T.is_fate rewriting.now) (T.is_reason rewriting.now) name.now settings) }
 {}
+
+/// The work stops before its end only after a read or a write that gave an error, or at a refused line. So over files, a
+/// writer and a log of which no call fails, all lines of each file are answered and written.
+pub fn law_done<T: Rewriting, O: Opening, W: Sink, L: Sink>(
+    stream: &mut Stream<W, L>,
+    rewriting: &T,
+    settings: Settings,
+    names: &[&[u8]],
+    opening: &mut O,
+    block: &mut Block,
+) -> Result<(), Stop>
+    ensures done { OnOk result (¬ Rises (O.faults opening.old) (O.faults opening.new)
+        → AreDone (T.is_fate rewriting.now) (T.is_reason rewriting.now) settings (O.bytes_of opening.old)
+        (state_of W.contents L.contents stream.old) (state_of W.contents L.contents stream.new) (map (λ name. name.now) names.now)) }
+    ensures stopped { IfErr result (λ stop. (stop ≡ Stop.Refused)
+        ⊎ Rises (faults_of W.faults L.faults stream.old) (faults_of W.faults L.faults stream.new)) }
+{
+    stream.serve_files(rewriting, settings, names, opening, block)
+}

@@ -22,7 +22,7 @@ pub use block::{Block, LIMIT};
 pub use ending::status;
 pub use fate::Fate;
 pub use files::Opening;
-pub use laws::{law_kept, law_one_result};
+pub use laws::{law_done, law_kept, law_one_result};
 pub use names::{write_name, write_shown};
 pub use rewriting::Rewriting;
 pub use settings::{Output, Reports, Settings};

@@ -1,10 +1,10 @@
 //! How a name is shown.
 ghost use Rattle.std.specs.Io.KnownBytes.{Appends};
 ghost use Rattle.std.specs.Prelude.{◌≡◌, ◌<◌, ◌≤◌, ℕ, length, slice_index, take, true, false, IfOk, OnOk};
+ghost use Rattle.programs_streams.specs.Faults.{HasCause};
 ghost use Rattle.restamp_stream.specs.Names as names;
 
-use std::io;
-use std::io::Write;
+use programs_streams::{Sink, Unwritten};
 
 // The character of a digit below 16.
 fn hexadecimal(digit: u8) -> u8
@@ -47,11 +47,12 @@ fn plain_length(ascii: bool, name: &[u8]) -> usize
 }
 
 // Shows the bytes before the first that is shown by its number, or that one. How many they are is returned.
-fn write_part<L: Write>(ascii: bool, name: &[u8], log: &mut L) -> io::Result<usize>
+fn write_part<L: Sink>(ascii: bool, name: &[u8], log: &mut L) -> Result<usize, Unwritten>
     requires { 0 < length name.now }
     ensures some { IfOk result (λ n. 0 < n) }
     ensures within { IfOk result (λ n. n ≤ length name.now) }
     ensures shown { IfOk result (λ n. Appends (L.contents log.old) (L.contents log.new) (names.shown_as ascii (take n name.now))) }
+    ensures cause { HasCause result (L.faults log.old) (L.faults log.new) }
 {
     let plain = plain_length(ascii, name);
     if plain == 0 {
@@ -63,8 +64,9 @@ fn write_part<L: Write>(ascii: bool, name: &[u8], log: &mut L) -> io::Result<usi
 }
 
 /// Writes a name with each control byte as `\x` and two digits, and where `ascii` asks for it each byte beyond ASCII, too.
-pub fn write_shown<L: Write>(ascii: bool, name: &[u8], log: &mut L) -> io::Result<()>
-    ensures { OnOk result (Appends (L.contents log.old) (L.contents log.new) (names.shown_as ascii name.now)) }
+pub fn write_shown<L: Sink>(ascii: bool, name: &[u8], log: &mut L) -> Result<(), Unwritten>
+    ensures shown { OnOk result (Appends (L.contents log.old) (L.contents log.new) (names.shown_as ascii name.now)) }
+    ensures cause { HasCause result (L.faults log.old) (L.faults log.new) }
 {
     let mut rest = name;
     while !rest.is_empty() {
@@ -75,8 +77,9 @@ pub fn write_shown<L: Write>(ascii: bool, name: &[u8], log: &mut L) -> io::Resul
 }
 
 /// Writes a name with each control byte as `\x` and two digits, so that no name moves a terminal's cursor or ends a line.
-pub fn write_name<L: Write>(name: &[u8], log: &mut L) -> io::Result<()>
-    ensures { OnOk result (Appends (L.contents log.old) (L.contents log.new) (names.shown_name name.now)) }
+pub fn write_name<L: Sink>(name: &[u8], log: &mut L) -> Result<(), Unwritten>
+    ensures shown { OnOk result (Appends (L.contents log.old) (L.contents log.new) (names.shown_name name.now)) }
+    ensures cause { HasCause result (L.faults log.old) (L.faults log.new) }
 {
     write_shown(false, name, log)
 }

@@ -1,10 +1,10 @@
 //! What says which fate a line has.
 ghost use Rattle.std.specs.Prelude.{◌≡◌, ℕ, List, OnOk};
+ghost use Rattle.programs_streams.specs.Faults.{HasCause};
 ghost use Rattle.restamp_stream.specs.Fates.{IsWithin, WritesReason};
 
 use crate::fate::Fate;
-use std::io;
-use std::io::Write;
+use programs_streams::{Sink, Unwritten};
 
 /// What says which fate a line has, by its front: all of a line of at most [`LIMIT`](crate::LIMIT) bytes, without its LF,
 /// and of a longer one the first so many.
@@ -25,9 +25,10 @@ pub trait Rewriting {
 
     /// Writes the column where a refused front went wrong, a colon, a blank and the reason, with no LF. It is asked only
     /// where the log names the line.
-    fn write_reason<L: Write>(&self, front: &[u8], log: &mut L) -> io::Result<()>
+    fn write_reason<L: Sink>(&self, front: &[u8], log: &mut L) -> Result<(), Unwritten>
         requires { is_fate self.now front.now Refused }
-        ensures { OnOk result (WritesReason (is_reason self.now front.now) (L.contents log.old) (L.contents log.new)) };
+        ensures told { OnOk result (WritesReason (is_reason self.now front.now) (L.contents log.old) (L.contents log.new)) }
+        ensures cause { HasCause result (L.faults log.old) (L.faults log.new) };
 
     // A front has one fate.
     ghost one_fate: { (x : Self) (front : List ℕ) (a b : Fate) → is_fate x front a → is_fate x front b → a ≡ b };

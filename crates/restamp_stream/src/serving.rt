@@ -1,6 +1,8 @@
 //! Answers the lines of a stream.
 ghost use Rattle.std.specs.Prelude.{◌≡◌, ◌≤◌, IfOk, IfErr, IfSome, MatchOption, [], OnOk, length, ℕ, List};
+ghost use Rattle.programs_streams.specs.Faults.{HasCause, IsCutOff};
 ghost use Rattle.restamp_stream.specs.Answers.{Did, DidAll, State, job_of};
+ghost use Rattle.restamp_stream.specs.Causes.{faults_of, HasWriteCause};
 ghost use Rattle.restamp_stream.specs.Fates.{HasFront};
 ghost use Rattle.restamp_stream.specs.Held.{held_out, held_state, job_at, Continues, Stops, StoppedBy, GoesOn, Ends};
 ghost use Rattle.restamp_stream.specs.Lines.{HasNoLf, EndsWith, lines_of};
@@ -14,11 +16,11 @@ use crate::rewriting::Rewriting;
 use crate::settings::{File, Settings};
 use crate::stop::Stop;
 use crate::stream::Stream;
-use crate::waiting::Unwritten;
+use programs_streams::{Sink, Source, Unwritten};
 use std::io;
-use std::io::{ErrorKind, Read, Write};
+use std::io::ErrorKind;
 
-impl<W: Write, L: Write> Stream<W, L> {
+impl<W: Sink, L: Sink> Stream<W, L> {
     // Passes or drops what comes of a line whose front was answered, if there is one. What comes after it is returned, if it
     // ends.
     fn end_line<'a>(
@@ -33,6 +35,7 @@ impl<W: Write, L: Write> Stream<W, L> {
             × Ends (held_out W.contents self.old) (held_out W.contents self.new) rest.old bytes.now after.now)) }
         ensures log { self.new.log ≡ self.old.log }
         ensures tally { self.new.tally ≡ self.old.tally }
+        ensures cause { HasCause result (W.faults self.old.out) (W.faults self.new.out) }
     {
         if rest.is_absent() {
             return Ok(Some(bytes));
@@ -61,6 +64,7 @@ impl<W: Write, L: Write> Stream<W, L> {
         ensures err { IfErr result (λ stop. StoppedBy stop
             (Stops (job_at (T.is_fate rewriting.now) (T.is_reason rewriting.now) file.now)
             (held_state W.contents L.contents self.old) (held_state W.contents L.contents self.new) Rest.Absent bytes.now)) }
+        ensures cause { HasWriteCause result (faults_of W.faults L.faults self.old) (faults_of W.faults L.faults self.new) }
     {
         let mut left = bytes;
         while let Some((line, after)) = whole_line(left) {
@@ -90,6 +94,7 @@ impl<W: Write, L: Write> Stream<W, L> {
         ensures err { IfErr result (λ stop. StoppedBy stop
             (Stops (job_at (T.is_fate rewriting.now) (T.is_reason rewriting.now) file.now)
             (held_state W.contents L.contents self.old) (held_state W.contents L.contents self.new) rest.old block.old.items)) }
+        ensures cause { HasWriteCause result (faults_of W.faults L.faults self.old) (faults_of W.faults L.faults self.new) }
     {
         let Ok(ended) = self.end_line(block.as_slice(), rest) else {
             return Err(Stop::Unwritten);
@@ -128,6 +133,7 @@ impl<W: Write, L: Write> Stream<W, L> {
         ensures err { IfErr result (λ stop. StoppedBy stop
             (Stops (job_at (T.is_fate rewriting.now) (T.is_reason rewriting.now) file.now)
             (state_of W.contents L.contents self.old) (state_of W.contents L.contents self.new) rest.old block.old.items)) }
+        ensures cause { HasWriteCause result (faults_of W.faults L.faults self.old) (faults_of W.faults L.faults self.new) }
     {
         let answered = self.answer_block(rewriting, file, block, rest);
         let Ok(()) = self.settle() else {
@@ -151,6 +157,7 @@ impl<W: Write, L: Write> Stream<W, L> {
         ensures err { IfErr result (λ stop. StoppedBy stop
             (Stopped (job_at (T.is_fate rewriting.now) (T.is_reason rewriting.now) file.now)
             (state_of W.contents L.contents self.old) (state_of W.contents L.contents self.new) (lines_of block.now.items))) }
+        ensures cause { HasWriteCause result (faults_of W.faults L.faults self.old) (faults_of W.faults L.faults self.new) }
     {
         if block.is_empty() {
             return Ok(());
@@ -166,7 +173,7 @@ impl<W: Write, L: Write> Stream<W, L> {
     }
 
     // Answers all lines of a file. All that can be answered is written before the next read.
-    fn serve_lines<T: Rewriting, R: Read>(
+    fn serve_lines<T: Rewriting, R: Source>(
         &mut self,
         rewriting: &T,
         file: &File<'_>,
@@ -185,9 +192,12 @@ impl<W: Write, L: Write> Stream<W, L> {
         ensures refused { IfErr result (λ stop. stop ≡ Stop.Refused → IfSome (R.remaining input.old) (λ bytes.
             Stopped (job_at (T.is_fate rewriting.now) (T.is_reason rewriting.now) file.now)
             (state_of W.contents L.contents self.old) (state_of W.contents L.contents self.new) (lines_of bytes))) }
+        ensures cause { HasWriteCause result (faults_of W.faults L.faults self.old) (faults_of W.faults L.faults self.new) }
+        ensures cut_off { IfErr result (λ stop. stop ≡ Stop.Unread →
+            IsCutOff (R.faults input.old) (R.faults input.new) (R.given input.new)) }
     {
         let mut rest = Rest::Absent;
-        for _ in 0..u64::MAX {
+        for turn in 0..u64::MAX {
             match block.fill(input) {
                 Ok(false) => return self.finish(rewriting, file, block),
                 Ok(true) => {}
@@ -204,7 +214,7 @@ impl<W: Write, L: Write> Stream<W, L> {
     ///
     /// After [`Stop::Unread`] all that was read and could be answered is answered and written. After [`Stop::Refused`] all
     /// lines before the first refused one are. After [`Stop::Unwritten`] nothing is known of how much was written.
-    pub fn serve<T: Rewriting, R: Read>(
+    pub fn serve<T: Rewriting, R: Source>(
         &mut self,
         rewriting: &T,
         settings: Settings,
@@ -222,6 +232,9 @@ impl<W: Write, L: Write> Stream<W, L> {
         ensures refused { IfErr result (λ stop. stop ≡ Stop.Refused → IfSome (R.remaining input.old)
             (DidBefore (job_of (T.is_fate rewriting.now) (T.is_reason rewriting.now) name.now settings)
             (state_of W.contents L.contents self.old) (state_of W.contents L.contents self.new))) }
+        ensures cause { HasWriteCause result (faults_of W.faults L.faults self.old) (faults_of W.faults L.faults self.new) }
+        ensures cut_off { IfErr result (λ stop. stop ≡ Stop.Unread →
+            IsCutOff (R.faults input.old) (R.faults input.new) (R.given input.new)) }
     {
         let file = File { name, settings };
         self.tally.begin_file();

@@ -1,7 +1,9 @@
 //! Where answers go.
 ghost use Rattle.std.specs.Io.KnownBytes.{Appends};
 ghost use Rattle.std.specs.Prelude.{◌≡◌, ◌≤◌, ℕ, List, IfOk, IfErr, [], ◌∷◌, OnOk, length, IsTrue, false};
+ghost use Rattle.programs_streams.specs.Faults.{HasCause};
 ghost use Rattle.restamp_stream.specs.Answers.{Did, IsNaming, IsReport, Closes};
+ghost use Rattle.restamp_stream.specs.Causes.{faults_of, HasWriteCause, IsCounted};
 ghost use Rattle.restamp_stream.specs.Fates.{IsWithin, front_text, passed, rest_of, nothing_counted};
 ghost use Rattle.restamp_stream.specs.Held.{held_out, held_state, job_at, Settles, StoppedBy, FailedBy};
 ghost use Rattle.restamp_stream.specs.Lines.{unended};
@@ -16,9 +18,9 @@ use crate::rewriting::Rewriting;
 use crate::settings::{File, Output};
 use crate::stop::Stop;
 use crate::tally::Tally;
-use crate::waiting::{Unwritten, Waiting};
+use crate::waiting::Waiting;
+use programs_streams::{Sink, Unwritten};
 use std::io;
-use std::io::Write;
 
 /// Where answers go: what lines become to `out`, reports to `log`, and their counts to `tally`.
 ///
@@ -34,7 +36,7 @@ pub struct Stream<W, L> {
     pub(crate) waiting: Waiting,
 }
 
-impl<W: Write, L: Write> Stream<W, L> {
+impl<W: Sink, L: Sink> Stream<W, L> {
     /// A stream to these, where nothing is counted yet.
     pub fn new(out: W, log: L) -> Stream<W, L>
         ensures out { result.out ≡ out }
@@ -70,6 +72,7 @@ impl<W: Write, L: Write> Stream<W, L> {
         ensures put { OnOk result (Appends (held_out W.contents self.old) (held_out W.contents self.new) bytes.now) }
         ensures log { self.new.log ≡ self.old.log }
         ensures tally { self.new.tally ≡ self.old.tally }
+        ensures cause { HasCause result (W.faults self.old.out) (W.faults self.new.out) }
     {
         self.waiting.put(bytes, &mut self.out)
     }
@@ -81,6 +84,7 @@ impl<W: Write, L: Write> Stream<W, L> {
             (Appends (held_out W.contents self.old) (held_out W.contents self.new) (passed rest bytes.now)) }
         ensures log { self.new.log ≡ self.old.log }
         ensures tally { self.new.tally ≡ self.old.tally }
+        ensures cause { HasCause result (W.faults self.old.out) (W.faults self.new.out) }
     {
         match rest {
             Rest::Absent | Rest::Passing => self.put(bytes),
@@ -89,10 +93,11 @@ impl<W: Write, L: Write> Stream<W, L> {
     }
 
     // Tells the log how many more lines of a file were refused than it names.
-    fn tell_more(&mut self, name: &[u8], n: u64) -> io::Result<()>
+    fn tell_more(&mut self, name: &[u8], n: u64) -> Result<(), Unwritten>
         ensures told { OnOk result (Appends (L.contents self.old.log) (L.contents self.new.log) (more_text name.now n)) }
         ensures out { self.new.out ≡ self.old.out }
         ensures tally { self.new.tally ≡ self.old.tally }
+        ensures cause { HasCause result (L.faults self.old.log) (L.faults self.new.log) }
     {
         if n == 0 {
             return Ok(());
@@ -106,9 +111,11 @@ impl<W: Write, L: Write> Stream<W, L> {
     }
 
     // Ends the reports of a file.
-    pub(crate) fn close(&mut self, file: &File<'_>) -> io::Result<()>
-        ensures { OnOk result (Closes file.now.name.now file.now.settings.reports
+    pub(crate) fn close(&mut self, file: &File<'_>) -> Result<(), Unwritten>
+        ensures closed { OnOk result (Closes file.now.name.now file.now.settings.reports
             (state_of W.contents L.contents self.old) (state_of W.contents L.contents self.new)) }
+        ensures out { self.new.out ≡ self.old.out }
+        ensures cause { HasCause result (L.faults self.old.log) (L.faults self.new.log) }
     {
         let n = file.settings.reports.unnamed(&self.tally);
         self.tell_more(file.name, n)?;
@@ -116,10 +123,11 @@ impl<W: Write, L: Write> Stream<W, L> {
     }
 
     // Tells the log that a file was not read to its end, and why.
-    fn tell_unread(&mut self, name: &[u8], error: &io::Error) -> io::Result<()>
+    fn tell_unread(&mut self, name: &[u8], error: &io::Error) -> Result<(), Unwritten>
         ensures told { OnOk result ((why : List ℕ) × Appends (L.contents self.old.log) (L.contents self.new.log) (unread_text name.now why)) }
         ensures out { self.new.out ≡ self.old.out }
         ensures tally { self.new.tally ≡ self.old.tally }
+        ensures cause { HasCause result (L.faults self.old.log) (L.faults self.new.log) }
     {
         write_name(name, &mut self.log)?;
         self.log.write_all(b": ")?;
@@ -129,7 +137,8 @@ impl<W: Write, L: Write> Stream<W, L> {
 
     // The same, and counts it.
     pub(crate) fn fail(&mut self, file: &File<'_>, error: &io::Error) -> Stop
-        ensures { FailedBy result (Fails file.now.name.now (state_of W.contents L.contents self.old) (state_of W.contents L.contents self.new)) }
+        ensures failed { FailedBy result (Fails file.now.name.now (state_of W.contents L.contents self.old) (state_of W.contents L.contents self.new)) }
+        ensures cause { IsCounted result (faults_of W.faults L.faults self.old) (faults_of W.faults L.faults self.new) }
     {
         self.tally.count_unread();
         match self.tell_unread(file.name, error) {
@@ -142,9 +151,10 @@ impl<W: Write, L: Write> Stream<W, L> {
     pub(crate) fn settle(&mut self) -> Result<(), Unwritten>
         ensures written { OnOk result (Settles (held_state W.contents L.contents self.old) (state_of W.contents L.contents self.new)) }
         ensures none { OnOk result (self.new.waiting.items ≡ []) }
+        ensures cause { HasCause result (faults_of W.faults L.faults self.old) (faults_of W.faults L.faults self.new) }
     {
         self.waiting.write_all_to(&mut self.out)?;
-        self.log.flush().map_err(|_| Unwritten)
+        self.log.flush()
     }
 
     // Puts what goes out for the front of a line.
@@ -155,6 +165,7 @@ impl<W: Write, L: Write> Stream<W, L> {
             (Appends (held_out W.contents self.old) (held_out W.contents self.new) (front_text output front.now fate.now)) }
         ensures log { self.new.log ≡ self.old.log }
         ensures tally { self.new.tally ≡ self.old.tally }
+        ensures cause { HasCause result (W.faults self.old.out) (W.faults self.new.out) }
     {
         match (output, fate) {
             (Output::Times, Fate::Rewritten { text, .. }) => {
@@ -178,7 +189,7 @@ impl<W: Write, L: Write> Stream<W, L> {
         rewriting: &T,
         file: &File<'_>,
         front: &[u8],
-    ) -> io::Result<()>
+    ) -> Result<(), Unwritten>
         requires { T.is_fate rewriting.now front.now Fate.Refused }
         ensures reported { OnOk result ((report : List ℕ)
             × IsNaming (job_at (T.is_fate rewriting.now) (T.is_reason rewriting.now) file.now) self.old.tally front.now report
@@ -186,6 +197,7 @@ impl<W: Write, L: Write> Stream<W, L> {
         ensures out { self.new.out ≡ self.old.out }
         ensures waiting { self.new.waiting ≡ self.old.waiting }
         ensures tally { self.new.tally ≡ self.old.tally }
+        ensures cause { HasCause result (L.faults self.old.log) (L.faults self.new.log) }
     {
         write_name(file.name, &mut self.log)?;
         write!(self.log, ":{}:", self.tally.line)?;
@@ -209,14 +221,12 @@ impl<W: Write, L: Write> Stream<W, L> {
         ensures out { self.new.out ≡ self.old.out }
         ensures waiting { self.new.waiting ≡ self.old.waiting }
         ensures tally { self.new.tally ≡ self.old.tally }
+        ensures cause { HasCause result (L.faults self.old.log) (L.faults self.new.log) }
     {
         if !file.settings.reports.names(&self.tally, fate) {
             return Ok(());
         }
-        match self.write_report(rewriting, file, front) {
-            Ok(()) => Ok(()),
-            Err(_) => Err(Unwritten),
-        }
+        self.write_report(rewriting, file, front)
     }
 
     // Answers, reports and counts a line by its front. What becomes of what comes after it is returned.
@@ -235,6 +245,7 @@ impl<W: Write, L: Write> Stream<W, L> {
         ensures err { IfErr result (λ stop. StoppedBy stop
             (RefusedAt (job_at (T.is_fate rewriting.now) (T.is_reason rewriting.now) file.now)
             (held_state W.contents L.contents self.old) (held_state W.contents L.contents self.new) front.now)) }
+        ensures cause { HasWriteCause result (faults_of W.faults L.faults self.old) (faults_of W.faults L.faults self.new) }
     {
         let fate = rewriting.fate(front);
         self.tally.count(&fate);

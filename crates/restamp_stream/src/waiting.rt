@@ -1,13 +1,10 @@
 //! Bytes that wait for one write.
 ghost use Rattle.std.specs.Io.KnownBytes.{Appends, append_known};
 ghost use Rattle.std.specs.Prelude.{◌≡◌, [], OnOk};
+ghost use Rattle.programs_streams.specs.Faults.{HasCause};
 
 use crate::held::Held;
-use std::io::Write;
-
-/// A write failed. The reason is left out, since an error of 96 bytes would be handed on for each line.
-#[derive(Clone, Copy)]
-pub struct Unwritten;
+use programs_streams::{Sink, Unwritten};
 
 // How many bytes may wait.
 const MOST: usize = 65536;
@@ -17,25 +14,25 @@ pub type Waiting = Held<MOST>;
 
 impl Held<MOST> {
     /// Writes what waits.
-    pub fn write_all_to<W: Write>(&mut self, out: &mut W) -> Result<(), Unwritten>
+    pub fn write_all_to<W: Sink>(&mut self, out: &mut W) -> Result<(), Unwritten>
         ensures written { OnOk result (Appends (W.contents out.old) (W.contents out.new) self.old.items) }
         ensures none { OnOk result (self.new.items ≡ []) }
+        ensures cause { HasCause result (W.faults out.old) (W.faults out.new) }
     {
         if self.len == 0 {
             return Ok(());
         }
-        let Ok(()) = out.write_all(&self.array[..self.len]) else {
-            return Err(Unwritten);
-        };
+        out.write_all(&self.array[..self.len])?;
         self.len = 0;
         Ok(())
     }
 
     /// Puts bytes after what waits, which is written first where they don't fit.
     #[inline(always)]
-    pub fn put<W: Write>(&mut self, bytes: &[u8], out: &mut W) -> Result<(), Unwritten>
-        ensures { OnOk result (Appends (append_known (W.contents out.old) self.old.items)
+    pub fn put<W: Sink>(&mut self, bytes: &[u8], out: &mut W) -> Result<(), Unwritten>
+        ensures put { OnOk result (Appends (append_known (W.contents out.old) self.old.items)
             (append_known (W.contents out.new) self.new.items) bytes.now) }
+        ensures cause { HasCause result (W.faults out.old) (W.faults out.new) }
     {
         if bytes.is_empty() {
             return Ok(());
@@ -51,11 +48,12 @@ impl Held<MOST> {
 
     // The same where they don't fit.
     #[inline(never)]
-    fn put_many<W: Write>(&mut self, bytes: &[u8], out: &mut W) -> Result<(), Unwritten>
-        ensures { OnOk result (Appends (append_known (W.contents out.old) self.old.items)
+    fn put_many<W: Sink>(&mut self, bytes: &[u8], out: &mut W) -> Result<(), Unwritten>
+        ensures put { OnOk result (Appends (append_known (W.contents out.old) self.old.items)
             (append_known (W.contents out.new) self.new.items) bytes.now) }
+        ensures cause { HasCause result (W.faults out.old) (W.faults out.new) }
     {
         self.write_all_to(out)?;
-        out.write_all(bytes).map_err(|_| Unwritten)
+        out.write_all(bytes)
     }
 }

@@ -1,4 +1,5 @@
 //! Streams rewritten line by line. What is expected of a line is seen from its first byte, by the rule of [`Marks`].
+use programs_streams::{Counted, Sink, Unwritten};
 use restamp_stream::{Block, Fate, Output, Reports, Rewriting, Settings, Stop, Stream, Tally};
 use std::alloc::Global;
 use std::io;
@@ -57,7 +58,7 @@ impl Rewriting for Marks {
         }
     }
 
-    fn write_reason<L: Write>(&self, _front: &[u8], log: &mut L) -> io::Result<()> {
+    fn write_reason<L: Sink>(&self, _front: &[u8], log: &mut L) -> Result<(), Unwritten> {
         let column = 1u64;
         write!(log, "{column}: bad")
     }
@@ -160,8 +161,10 @@ pub struct Answer {
 
 impl Answer {
     /// What a stream holds, and how its work ended.
-    pub fn new(stream: Stream<Page, Page>, ended: Result<(), Stop>) -> Answer {
+    pub fn new(stream: Stream<Counted<Page>, Counted<Page>>, ended: Result<(), Stop>) -> Answer {
         let (out, log, tally) = stream.into_parts();
+        let (out, _) = out.into_parts();
+        let (log, _) = log.into_parts();
         let Page { text: out, .. } = out;
         let Page { text: log, .. } = log;
         Answer {
@@ -179,8 +182,9 @@ impl Answer {
 }
 
 /// Answers what a source gives on those pages, as a file of the name `f`.
-pub fn answer_on(out: Page, log: Page, settings: Settings, mut source: Source<'_>) -> Answer {
-    let mut stream = Stream::new(out, log);
+pub fn answer_on(out: Page, log: Page, settings: Settings, source: Source<'_>) -> Answer {
+    let mut stream = Stream::new(Counted::new(out), Counted::new(log));
+    let mut source = Counted::new(source);
     let ended = stream.serve(&Marks, settings, b"f", &mut source, &mut Block::new());
     Answer::new(stream, ended)
 }

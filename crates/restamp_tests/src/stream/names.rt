@@ -1,5 +1,6 @@
 //! How names are shown.
 use crate::stream::{ALL, Answer, Marks, NEVER, Page, make_source};
+use programs_streams::Counted;
 use restamp_stream::{Block, Reports, Settings, Stream, write_name, write_shown};
 use std::alloc::Global;
 
@@ -23,17 +24,23 @@ static SHOWN: [(&[u8], &[u8], &[u8]); 9] = [
     (b"caf\xe9\xff", b"caf\xe9\xff", b"caf\\xe9\\xff"),
 ];
 
+// Whether that was written.
+fn holds(text: Counted<Vec<u8>>, expected: &[u8]) -> bool {
+    let (text, error) = text.into_parts();
+    error.is_none() && text.as_slice() == expected
+}
+
 // Whether the name is shown so.
 fn is_shown(alloc: Global, name: &[u8], shown: &[u8], ascii: &[u8]) -> bool {
-    let mut all = Vec::new(alloc);
-    let mut text = Vec::new(alloc);
-    let mut plain = Vec::new(alloc);
+    let mut all = Counted::new(Vec::new(alloc));
+    let mut text = Counted::new(Vec::new(alloc));
+    let mut plain = Counted::new(Vec::new(alloc));
     write_name(name, &mut all).is_ok()
         && write_shown(false, name, &mut text).is_ok()
         && write_shown(true, name, &mut plain).is_ok()
-        && all.as_slice() == shown
-        && text.as_slice() == shown
-        && plain.as_slice() == ascii
+        && holds(all, shown)
+        && holds(text, shown)
+        && holds(plain, ascii)
 }
 
 #[test]
@@ -64,8 +71,10 @@ fn reports(rt: HostRuntime) {
             reports: Reports::First(most),
             ..ALL
         };
-        let mut stream = Stream::new(Page::new(rt.alloc(), NEVER), Page::new(rt.alloc(), NEVER));
-        let mut source = make_source(b"!\n!\n", NEVER);
+        let out = Counted::new(Page::new(rt.alloc(), NEVER));
+        let log = Counted::new(Page::new(rt.alloc(), NEVER));
+        let mut stream = Stream::new(out, log);
+        let mut source = Counted::new(make_source(b"!\n!\n", NEVER));
         let ended = stream.serve(
             &Marks,
             settings,

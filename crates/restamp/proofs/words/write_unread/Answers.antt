@@ -10,14 +10,14 @@ joined : (front number middle rest : List ℕ) → (front ++ (number ++ middle))
 joined front number middle rest =
     append_assoc front (number ++ middle) rest ∙ ap (λ (l : List ℕ). front ++ l) (append_assoc number middle rest)
 
-pub returns : goal.returns
-returns g c =
+pub returns-clause-written : goal.returns-clause-written
+returns-clause-written g c =
     let front : List ℕ = codes "restamp: argument " in
     let number = decimal c.args.number in
     let middle : List ℕ = codes " is not UTF-8: '" in
     let shown = shown_as true c.args.word.now in
     OnOk-map c.write_all.result _ _ c.write_all.ensures.bytes
-    (λ end. subst (Appends (g.L.Write.contents c.args.log.now) (g.L.Write.contents c.write_all.new.self))
+    (λ end. subst (Appends (g.L.Sink.contents c.args.log.now) (g.L.Sink.contents c.write_all.new.self))
     (joined front number middle (shown ++ 39 ∷ 10 ∷ []))
     (Appends-trans _ _ _ (front ++ (number ++ middle)) (shown ++ 39 ∷ 10 ∷ []) c.in_ok-write.ensures.bytes
-    (Appends-trans _ _ _ shown (39 ∷ 10 ∷ []) c.in_ok-write_shown.ensures end)))
+    (Appends-trans _ _ _ shown (39 ∷ 10 ∷ []) c.in_ok-write_shown.ensures.shown end)))

@@ -5,8 +5,8 @@ use Rattle.restamp_stream.proofs.ReportLemmas.{OnOk-map}
 use Rattle.restamp_command.specs.Expected.{wanted_text}
 use Rattle.restamp_command.proofs.expected.write_expected.Goals as goal
 
-pub returns : goal.returns
-returns g c =
+pub returns-clause-written : goal.returns-clause-written
+returns-clause-written g c =
     rw c.in-Some.is
-    (OnOk-map c.write_wanted.result _ _ c.write_wanted.ensures
+    (OnOk-map c.write_wanted.result _ _ c.write_wanted.ensures.written
     (λ wanted. Appends-trans _ _ _ (codes ": expected ") (wanted_text (wants c.in-Some.expected)) c.in_ok-write_all.ensures.bytes wanted))

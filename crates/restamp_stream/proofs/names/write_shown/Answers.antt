@@ -1,4 +1,4 @@
-use Rattle.std.proofs.Common.{◌++◌, take}
+use Rattle.std.proofs.Common.{◌++◌, take, ◌∙◌}
 use Rattle.std.proofs.KnownBytes.{Appends-trans}
 use Rattle.restamp_stream.specs.Names.{shown_as}
 use Rattle.restamp_stream.proofs.NameLemmas.{shown_as-next}
@@ -11,4 +11,5 @@ loop-rest-preserved g c =
       so_far.0 ++ part,
       Appends-trans _ _ _ so_far.0 part so_far.1 c.in_ok-n.ensures.shown,
       shown_as-next c.args.ascii c.in_ok-n.n so_far.0 c.loop-rest.rest.now c.args.name.now so_far.2,
+      c.in_ok-n.ensures.cause ∙ so_far.3,
     )

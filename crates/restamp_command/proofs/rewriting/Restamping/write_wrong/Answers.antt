@@ -8,28 +8,28 @@ use Rattle.restamp_command.specs.Rewriting.{told_wrong}
 use Rattle.restamp_command.proofs.PointingLemmas.{Appends-plain, Appends-told}
 use Rattle.restamp_command.proofs.rewriting.Restamping.write_wrong.Goals as goal
 
-pub returns-then-self : goal.returns-then-self
-returns-then-self g c =
+pub returns-then-self-clause-told : goal.returns-then-self-clause-told
+returns-then-self-clause-told g c =
     let front = c.args.front.now in
     let why = seen c.args.reason in
     let w = seen_wrong c.find_wrong-column.result in
     let lack = c.find_lack-lack.result in
-    OnOk-map c.write_pointer.result _ _ c.write_pointer.ensures
+    OnOk-map c.write_pointer.result _ _ c.write_pointer.ensures.written
     (λ pointed. (
       w.column,
       told_wrong true front why lack w,
       (w, lack, c.find_wrong-column.ensures, c.find_lack-lack.ensures, refl, ap (λ (shows : Bool). told_wrong shows front why lack w) (sym c.if-self.true)),
       Appends-told _ _ _ _ _ front (why_text why lack) (expected_text w.wanted) w.column c.in_ok-write.ensures.bytes
-          c.in_ok-write_expected.ensures c.in_ok-write_all.ensures.bytes pointed,
+          c.in_ok-write_expected.ensures.written c.in_ok-write_all.ensures.bytes pointed,
     ))
 
-pub returns : goal.returns
-returns g c =
+pub returns-clause-told : goal.returns-clause-told
+returns-clause-told g c =
     let front = c.args.front.now in
     let why = seen c.args.reason in
     let w = seen_wrong c.find_wrong-column.result in
     let lack = c.find_lack-lack.result in
-    OnOk-map c.write_expected-2.result _ _ c.write_expected-2.ensures
+    OnOk-map c.write_expected-2.result _ _ c.write_expected-2.ensures.written
     (λ told. (
       w.column,
       told_wrong false front why lack w,

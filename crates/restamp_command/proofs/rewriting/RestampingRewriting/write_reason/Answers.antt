@@ -20,8 +20,8 @@ returns-in-Dropped g c =
     let e = fate_of-verdict c.args.self.now.job c.args.front.now Refused dropped c.requires (rw c.in-Dropped.is at c.judge.ensures.verdict) in
     absurd cc
 
-pub returns-in-Refused : goal.returns-in-Refused
-returns-in-Refused g c =
+pub returns-in-Refused-clause-told : goal.returns-in-Refused-clause-told
+returns-in-Refused-clause-told g c =
     let judged = rw c.in-Refused.is at c.judge.ensures.verdict in
-    OnOk-map c.write_wrong.result _ _ c.write_wrong.ensures
+    OnOk-map c.write_wrong.result _ _ c.write_wrong.ensures.told
     (λ told. (told.0, told.1, (c.in-Refused.column, seen c.in-Refused.reason, judged, told.2), told.3))

@@ -1,4 +1,4 @@
-use Rattle.std.proofs.Common.{◌≡◌, Err, rules, sym, ap, subst}
+use Rattle.std.proofs.Common.{◌≡◌, ◌+◌, Err, rules, sym, ap, ap₂, ◌∙◌, subst}
 use Rattle.restamp_stream.specs.declared.fate.Rest.TheVariants.{Absent}
 use Rattle.restamp_stream.specs.Answers.{State}
 use Rattle.restamp_stream.specs.Held.{job_at}
@@ -17,9 +17,10 @@ loop-line-preserved g c =
       EndsWith-line c.args.bytes.now c.loop-line.left.now line c.in-Some.after.now c.loop-line.invariant.0 c.in-Some.ensures.0,
       λ before read p.
           subst (λ (s : State). Answered job before s read Absent c.in-Some.after.now)
-          (sym (same_state _ _ _ _ _ (ap g.L.Write.contents c.in-Ok.ensures.log) c.in-Ok.ensures.tally))
+          (sym (same_state _ _ _ _ _ (ap g.L.Sink.contents c.in-Ok.ensures.log) c.in-Ok.ensures.tally))
           (Answered-line job _ _ _ _ line _ begun.0 _ c.in-Some.ensures.0 c.in-Some.ensures.1 begun.1 begun.2 c.in-Ok.ensures.passed before read
           (c.loop-line.invariant.1 before read p)),
+      ap₂ ◌+◌ c.in-Ok.ensures.cause (ap g.L.Sink.faults c.in-Ok.ensures.log) ∙ c.in_ok-rest.ensures.cause ∙ c.loop-line.invariant.2,
     )
 
 pub returns-in_err-rest-clause-err : goal.returns-in_err-rest-clause-err

@@ -1,5 +1,6 @@
 -- All lines before what is left were answered, where what waits counts as written.
-use Rattle.std.proofs.Common.{length}
+use Rattle.std.proofs.Common.{◌≡◌, length}
+use Rattle.restamp_stream.specs.Causes.{faults_of}
 use Rattle.restamp_stream.specs.Held.{Continues, held_state, job_at}
 use Rattle.restamp_stream.specs.Lines.{EndsWith}
 use Rattle.restamp_stream.specs.declared.fate.Rest.TheVariants.{Absent}
@@ -9,8 +10,9 @@ abbrev pub invariant-loop-line : goal.invariant-loop-line
 invariant-loop-line g l =
     EndsWith l.bytes l.left
     × Continues (job_at (g.T.Rewriting.is_fate l.rewriting) (g.T.Rewriting.is_reason l.rewriting) l.file)
-    (held_state g.W.Write.contents g.L.Write.contents l.initial.self) (held_state g.W.Write.contents g.L.Write.contents l.self)
+    (held_state g.W.Sink.contents g.L.Sink.contents l.initial.self) (held_state g.W.Sink.contents g.L.Sink.contents l.self)
     Absent l.bytes Absent l.left
+    × (faults_of g.W.Sink.faults g.L.Sink.faults l.self ≡ faults_of g.W.Sink.faults g.L.Sink.faults l.initial.self)
 
 abbrev pub decreases-loop-line : goal.decreases-loop-line
 decreases-loop-line g l = length l.left

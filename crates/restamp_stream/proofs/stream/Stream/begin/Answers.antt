@@ -7,7 +7,7 @@ pub returns-clause-ok : goal.returns-clause-ok
 returns-clause-ok g c = (
   c.fate-fate.result,
   sym c.of.ensures,
-  Did-begun (job_at _ _ c.args.file.now) (held_state g.W.Write.contents g.L.Write.contents c.args.self.now)
-      (held_state g.W.Write.contents g.L.Write.contents c.put_front.new.self) c.args.front.now _ c.in-Ok.ensures.reported.0 c.requires
+  Did-begun (job_at _ _ c.args.file.now) (held_state g.W.Sink.contents g.L.Sink.contents c.args.self.now)
+      (held_state g.W.Sink.contents g.L.Sink.contents c.put_front.new.self) c.args.front.now _ c.in-Ok.ensures.reported.0 c.requires
       c.fate-fate.ensures.fate (c.if-stops_at.ensures.goes_on refl) (search rules) (search rules) (search rules) (search rules),
 )

@@ -1,49 +1,79 @@
-use Rattle.std.proofs.Common.{lit<, ◌≡◌, Err, rules}
+use Rattle.std.proofs.Common.{lit<, ◌≡◌, Err, rules, refl, subst, ◌∙◌}
 use Rattle.restamp_stream.specs.Held.{job_at}
 use Rattle.restamp_stream.proofs.ServedLemmas.{Served-none, Served-more, Served-all, Served-stopped, Served-stopped_at_end, IsHeld-short, HasNoLf-same}
+use Rattle.restamp_stream.specs.Causes.{faults_of, HasWriteCause, IsCounted}
+use Rattle.restamp_stream.proofs.CauseLemmas.{HaveCome-none, HaveCome-more, HaveCome-failed, HaveCome-end}
 use Rattle.restamp_stream.proofs.stream.Stream.serve_lines.Goals as goal
 
-pub loop-init : goal.loop-init
-loop-init g c = (Served-none (job_at _ _ c.args.file.now) _ _ _ (lit< tt) c.requires.block, c.requires.waiting)
+pub loop-turn-init : goal.loop-turn-init
+loop-turn-init g c = (Served-none (job_at _ _ c.args.file.now) _ _ _ (lit< tt) c.requires.block, c.requires.waiting, refl, HaveCome-none _ _)
 
 pub fill-requires : goal.fill-requires
 fill-requires g c =
     IsHeld-short
     (job_at (g.T.Rewriting.is_fate c.args.rewriting.now) (g.T.Rewriting.is_reason c.args.rewriting.now) c.args.file.now)
-    c.loop.rest c.loop.block.items (lit< tt) c.loop.invariant.0.kept
+    c.loop-turn.rest c.loop-turn.block.items (lit< tt) c.loop-turn.invariant.0.kept
 
 pub finish-requires-clause-begun : goal.finish-requires-clause-begun
 finish-requires-clause-begun g c =
-    let read = c.in-Ok-false.ensures in
+    let read = c.in-Ok-false.ensures.read in
     let job = job_at (g.T.Rewriting.is_fate c.args.rewriting.now) (g.T.Rewriting.is_reason c.args.rewriting.now) c.args.file.now in
-    HasNoLf-same job c.loop.rest _ _ read.0 c.loop.invariant.0.kept read.1 (read.3 c.in-Ok-false.field-0-test).0
+    HasNoLf-same job c.loop-turn.rest _ _ read.0 c.loop-turn.invariant.0.kept read.1 (read.3 c.in-Ok-false.field-0-test).0
 
-pub loop-preserved : goal.loop-preserved
-loop-preserved g c =
-    let read = c.in-Ok-true.ensures in
+pub loop-turn-preserved : goal.loop-turn-preserved
+loop-turn-preserved g c =
+    let read = c.in-Ok-true.ensures.read in
     let job = job_at (g.T.Rewriting.is_fate c.args.rewriting.now) (g.T.Rewriting.is_reason c.args.rewriting.now) c.args.file.now in (
-      Served-more job _ _ _ _ _ _ _ read.0 _ _ _ _ c.loop.invariant.0 read.1 read.2 c.in_ok-feed.ensures.ok c.in_ok-feed.ensures.held,
+      Served-more job _ _ _ _ _ _ _ read.0 _ _ _ _ c.loop-turn.invariant.0 read.1 read.2 c.in_ok-feed.ensures.ok c.in_ok-feed.ensures.held,
       c.in_ok-feed.ensures.none,
+      c.in_ok-feed.ensures.cause ∙ c.loop-turn.invariant.2,
+      HaveCome-more c.loop-turn.turn _ _ _ _ _ c.loop-turn.invariant.3 (c.in-Ok-true.ensures.cause (search rules)),
     )
 
 pub returns-in-Ok-false-clause-ok : goal.returns-in-Ok-false-clause-ok
 returns-in-Ok-false-clause-ok g c =
-    let read = c.in-Ok-false.ensures in
+    let read = c.in-Ok-false.ensures.read in
     let end = read.3 c.in-Ok-false.field-0-test in
     let job = job_at (g.T.Rewriting.is_fate c.args.rewriting.now) (g.T.Rewriting.is_reason c.args.rewriting.now) c.args.file.now in
-    Served-all c.finish.result job _ _ _ _ _ _ _ read.0 _ _ (lit< tt) c.loop.invariant.0 read.1 end.0 read.2 end.1 c.finish.ensures.ok
+    Served-all c.finish.result job _ _ _ _ _ _ _ read.0 _ _ (lit< tt) c.loop-turn.invariant.0 read.1 end.0 read.2 end.1 c.finish.ensures.ok
 
 pub returns-in-Ok-false-clause-refused : goal.returns-in-Ok-false-clause-refused
 returns-in-Ok-false-clause-refused g c =
-    let read = c.in-Ok-false.ensures in
+    let read = c.in-Ok-false.ensures.read in
     let end = read.3 c.in-Ok-false.field-0-test in
     let job = job_at (g.T.Rewriting.is_fate c.args.rewriting.now) (g.T.Rewriting.is_reason c.args.rewriting.now) c.args.file.now in
-    Served-stopped_at_end c.finish.result job _ _ _ _ _ _ _ read.0 _ _ (lit< tt) c.loop.invariant.0 read.1 end.0 read.2 end.1 c.finish.ensures.err
+    Served-stopped_at_end c.finish.result job _ _ _ _ _ _ _ read.0 _ _ (lit< tt) c.loop-turn.invariant.0 read.1 end.0 read.2 end.1 c.finish.ensures.err
 
 pub returns-in_err-feed-clause-refused : goal.returns-in_err-feed-clause-refused
 returns-in_err-feed-clause-refused g c =
-    let read = c.in-Ok-true.ensures in
+    let read = c.in-Ok-true.ensures.read in
     let job = job_at (g.T.Rewriting.is_fate c.args.rewriting.now) (g.T.Rewriting.is_reason c.args.rewriting.now) c.args.file.now in
     let handed : c.from_residual.result ≡ Err c.in_err-feed.field-0.0 = search rules in
     rw handed
-    (Served-stopped c.in_err-feed.field-0.0 job _ _ _ _ _ _ _ read.0 _ _ c.loop.invariant.0 read.1 read.2 c.in_err-feed.ensures.err)
+    (Served-stopped c.in_err-feed.field-0.0 job _ _ _ _ _ _ _ read.0 _ _ c.loop-turn.invariant.0 read.1 read.2 c.in_err-feed.ensures.err)
+
+pub returns-in-Ok-false-clause-cause : goal.returns-in-Ok-false-clause-cause
+returns-in-Ok-false-clause-cause g c =
+    subst (λ n. HasWriteCause c.finish.result n (faults_of g.W.Sink.faults g.L.Sink.faults c.finish.new.self))
+    c.loop-turn.invariant.2 c.finish.ensures.cause
+
+pub returns-in-Err-clause-cause : goal.returns-in-Err-clause-cause
+returns-in-Err-clause-cause g c =
+    subst (λ n. IsCounted c.fail.result n (faults_of g.W.Sink.faults g.L.Sink.faults c.fail.new.self)) c.loop-turn.invariant.2 c.fail.ensures.cause
+
+pub returns-in-Err-clause-cut_off : goal.returns-in-Err-clause-cut_off
+returns-in-Err-clause-cut_off g c = λ _. HaveCome-failed c.loop-turn.turn _ _ _ _ _ c.loop-turn.invariant.3 c.in-Err.ensures.cause
+
+pub returns-in_err-feed-clause-cause : goal.returns-in_err-feed-clause-cause
+returns-in_err-feed-clause-cause g c =
+    let handed : c.from_residual.result ≡ Err c.in_err-feed.field-0.0 = search rules in
+    rw handed (subst (λ n. IsCounted c.in_err-feed.field-0.0 n (faults_of g.W.Sink.faults g.L.Sink.faults c.feed.new.self))
+    c.loop-turn.invariant.2 c.in_err-feed.ensures.cause)
+
+pub returns-clause-cause : goal.returns-clause-cause
+returns-clause-cause g c =
+    subst (λ n. IsCounted c.fail-2.result n (faults_of g.W.Sink.faults g.L.Sink.faults c.fail-2.new.self))
+    c.loop-turn.invariant.2 c.fail-2.ensures.cause
+
+pub returns-clause-cut_off : goal.returns-clause-cut_off
+returns-clause-cut_off g c = λ _. HaveCome-end c.loop-turn.turn _ _ _ (search rules) c.loop-turn.invariant.3

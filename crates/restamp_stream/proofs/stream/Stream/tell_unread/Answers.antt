@@ -6,6 +6,6 @@ returns-clause-told g c =
     OnOk-map c.write_all-3.result _ _ c.write_all-3.ensures.bytes
     (λ end. (
       c.as_slice.result.now,
-      Appends-unread _ _ _ _ _ c.args.name.now c.as_slice.result.now c.in_ok-write_name.ensures c.in_ok-write_all.ensures.bytes
+      Appends-unread _ _ _ _ _ c.args.name.now c.as_slice.result.now c.in_ok-write_name.ensures.shown c.in_ok-write_all.ensures.bytes
           c.in_ok-write_all-2.ensures.bytes end,
     ))

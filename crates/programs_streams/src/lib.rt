@@ -1,0 +1,10 @@
+//! What programs read and write, with a count of the calls that gave an error.
+#![tactic(auto)]
+
+mod counted;
+mod sink;
+mod source;
+
+pub use counted::Counted;
+pub use sink::{Sink, Unwritten};
+pub use source::{Bytes, Source};

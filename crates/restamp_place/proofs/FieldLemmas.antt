@@ -26,7 +26,7 @@ further_on-further_on j k (Some s) =
     let f : j + (k + s.stop) ≡ j + k + s.stop = omega arith in
     rw (e, f) refl
 
-further_on-zero : (r : Option Span) → r ≡ further_on 0 r
+pub further_on-zero : (r : Option Span) → r ≡ further_on 0 r
 further_on-zero None = refl
 further_on-zero (Some s) =
     let e : 0 + s.start ≡ s.start = omega arith in

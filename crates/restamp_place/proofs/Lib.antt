@@ -1,3 +1,4 @@
 pub mod TextLemmas
 pub mod QuoteLemmas
 pub mod FieldLemmas
+pub mod WordLemmas

@@ -1,9 +1,10 @@
 -- The first place of a byte and of a text.
-use Rattle.std.proofs.Common.{◌≡◌, ℕ, zero, suc, ◌+◌, ◌<◌, Bool, true, false, List, [], ◌∷◌, length, get_or, refl, sym, ap, subst, arith, add-one, ◌∙◌, None, Some}
-use Rattle.std.specs.Prelude.{Option}
+use Rattle.std.proofs.Common.{◌≡◌, ℕ, zero, suc, ◌+◌, ◌-◌, ◌/◌, ◌<◌, ◌≤◌, Bool, true, false, List, [], ◌∷◌, length, get_or, drop, refl, sym, ap, subst, arith, add-one, eq-eqb, get_or-drop, length-drop, ◌∙◌, None, Some}
+use Rattle.std.specs.Prelude.{Option, ◌==◌, ◌&&◌}
 use Rattle.std.specs.List.{position_or_len}
 use Rattle.std.specs.Option.{option_map}
 use Rattle.std.proofs.lemmas.List.Sums.{position_or_len_is}
+use Rattle.std.proofs.lemmas.Bool.{and_from}
 use Rattle.std.proofs.lemmas.Bool.Decides.{nat_tests}
 use Rattle.memchr.specs.Find.{Nowhere, NoneBefore, Passes, IsFirstByte, is_byte, OccursAt, occurs_at, FindsNeedle}
 use Rattle.memchr.proofs.lemmas.MatchLemmas.{occurs_at-true, OccursAt-true}
@@ -79,6 +80,46 @@ pub place_of-is : (text bytes : List ℕ) (r : Option ℕ) → FindsNeedle bytes
 place_of-is text bytes None nowhere = sym (place_of-nowhere text bytes (λ k below is. nowhere k (omega arith) below is))
 place_of-is text bytes (Some n) first =
     sym (place_of-found text bytes n first.1 (λ k below is. first.0.before k (omega arith) below is))
+
+-- the rest of the bytes begins with a text
+pub begins-stands : (text bytes : List ℕ) (n : ℕ) → n ≤ length bytes → occurs_at (drop n bytes) text 0 ≡ true → OccursAt bytes text n
+begins-stands text bytes n inside e =
+    let h = OccursAt-true (drop n bytes) text 0 e in
+    record {
+      fits = omega (arith, h.fits, length-drop n bytes);
+      reads = λ j below. let from : 0 + j ≡ j = omega arith in
+          sym (get_or-drop n bytes j 0) ∙ subst (λ (k : ℕ). get_or (drop n bytes) k 0 ≡ get_or text j 0) from (h.reads j below);
+    }
+
+pub stands-begins : (text bytes : List ℕ) (n : ℕ) → OccursAt bytes text n → occurs_at (drop n bytes) text 0 ≡ true
+stands-begins text bytes n h =
+    let fits = h.fits in
+    occurs_at-true (drop n bytes) text 0 (record {
+      fits = omega (arith, length-drop n bytes);
+      reads = λ j below. let from : j ≡ 0 + j = omega arith in
+          subst (λ (k : ℕ). get_or (drop n bytes) k 0 ≡ get_or text j 0) from (get_or-drop n bytes j 0 ∙ h.reads j below);
+    })
+
+-- a byte of a text that stands there
+stands-byte_at : (text bytes : List ℕ) (n j : ℕ) → OccursAt bytes text n → j < length text → (get_or bytes (n + j) 0 == get_or text j 0) ≡ true
+stands-byte_at text bytes n j h below = eq-eqb _ _ (h.reads j below)
+
+-- its first byte
+pub stands-first : (text bytes : List ℕ) (n : ℕ) → OccursAt bytes text n → 0 < length text → get_or bytes n 0 ≡ get_or text 0 0
+stands-first text bytes n h some =
+    let from : n + 0 ≡ n = omega arith in
+    subst (λ (k : ℕ). get_or bytes k 0 ≡ get_or text 0 0) from (h.reads 0 some)
+
+half_below : (n : ℕ) → 0 < n → n / 2 < n
+half_below n some = omega arith
+
+-- its first byte, one in its middle and its last
+pub stands-three : (text bytes : List ℕ) (n : ℕ) → OccursAt bytes text n → 0 < length text
+    → ((get_or bytes n 0 == get_or text 0 0) && (get_or bytes (n + length text / 2) 0 == get_or text (length text / 2) 0)
+    && (get_or bytes (n + (length text - 1)) 0 == get_or text (length text - 1) 0)) ≡ true
+stands-three text bytes n h some =
+    and_from _ _ (and_from _ _ (eq-eqb _ _ (stands-first text bytes n h some)) (stands-byte_at text bytes n (length text / 2) h (half_below (length text) some)))
+    (stands-byte_at text bytes n (length text - 1) h (omega arith))
 
 -- a text of one byte stands where that byte does
 module _ (text bytes : List ℕ) (one : length text ≡ 1) where

@@ -1,3 +1,4 @@
 pub mod Texts
 pub mod Fields
+pub mod Words
 pub mod Cuts

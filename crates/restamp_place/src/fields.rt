@@ -1,6 +1,9 @@
 //! The fields of a line.
-ghost use Rattle.std.specs.Prelude.{◌≡◌, ◌≤◌, length, IfSome};
+ghost use Rattle.std.specs.Prelude.{◌≡◌, ◌≤◌, length, drop, IfSome};
+ghost use Rattle.std.specs.Option.{option_map};
 ghost use Rattle.restamp_place.specs.Fields as fields;
+
+mod fast;
 
 use crate::texts::{blanks_length, closing_quote, length_before, word_length};
 
@@ -103,13 +106,27 @@ impl Fields {
     }
 }
 
+// How far the line is passed over for the field that `n` fields stand before, and how many of them are left.
+#[inline(always)]
+fn passed(kind: Fields, n: usize, line: &[u8]) -> (usize, usize)
+    ensures value { fields.nth_field kind n line.now
+        ≡ option_map (fields.moved result.0) (fields.nth_field kind result.1 (drop result.0 line.now)) }
+    ensures within { result.0 ≤ length line.now }
+{
+    if let Fields::Blank = kind {
+        if let Some(passed) = fast::pass_words(n, line) {
+            return (passed.start, passed.left);
+        }
+    }
+    (0, n)
+}
+
 /// What the field says that `n` fields stand before.
 pub(crate) fn nth_field(kind: Fields, n: usize, line: &[u8]) -> Option<Span>
     ensures value { result ≡ fields.nth_field kind n line.now }
     ensures within { IfSome result (fields.IsPart (length line.now)) }
 {
-    let mut start = 0;
-    let mut left = n;
+    let (mut start, mut left) = passed(kind, n, line);
     while left > 0 {
         let rest = &line[start..];
         let field = first_field(kind, rest)?;

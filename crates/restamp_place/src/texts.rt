@@ -1,11 +1,19 @@
 //! Searches of bytes.
-ghost use Rattle.std.specs.Prelude.{◌≡◌, ◌≤◌, ◌==◌, ◌+◌, length, not, IfSome};
-ghost use Rattle.std.specs.List.{position_or_len};
-ghost use Rattle.memchr.specs.Find.{occurs_at};
+ghost use Rattle.std.specs.Prelude.{◌≡◌, ◌≤◌, ◌<◌, ◌==◌, ◌+◌, ℕ, true, false, IsTrue, length, slice_index, not, IfSome};
+ghost use Rattle.std.specs.List.{prefix_len, position_or_len};
+ghost use Rattle.std.specs.Simd.Lanes.{chunk};
+ghost use Rattle.memchr.specs.Find.{FindsNeedle, IsFirst, Nowhere, OccursAt, occurs_at};
 ghost use Rattle.restamp_place.specs.Fields as fields;
 ghost use Rattle.restamp_place.specs.Texts as texts;
 
-use memchr::{memchr, memchr2, memmem};
+use memchr::{memchr, memmem};
+use std::simd::prelude::*;
+
+// How many bytes are asked at once.
+const BLOCK: usize = 16;
+
+// Up to this length a text is compared whole wherever three of its bytes stand.
+const SHORT: usize = 32;
 
 /// How many bytes stand before the first such byte, or before the end.
 #[inline]
@@ -19,24 +27,74 @@ pub(crate) fn length_before(byte: u8, bytes: &[u8]) -> usize
     }
 }
 
+// How many of sixteen bytes stand before the first such one, or all.
+#[inline(always)]
+fn place_in_block(byte: u8, bytes: &[u8], at: usize) -> usize
+    requires { at + 16 ≤ length bytes.now }
+    ensures { result ≡ prefix_len (λ x. not (x == byte)) (chunk at 16 bytes.now) }
+{
+    let hits = u8x16::from_slice(&bytes[at..])
+        .simd_eq(u8x16::splat(byte))
+        .to_bitmask();
+    if hits == 0 {
+        BLOCK
+    } else {
+        hits.trailing_zeros() as usize
+    }
+}
+
+// How many of sixteen bytes stand before the first space or TAB, or all.
+#[inline(always)]
+fn word_in_block(bytes: &[u8], at: usize) -> usize
+    requires { at + 16 ≤ length bytes.now }
+    ensures within { result ≤ 16 }
+    ensures before { (k : ℕ) → at ≤ k → k < at + result → fields.is_blank (slice_index bytes.now k) ≡ false }
+    ensures stop { result < 16 → fields.is_blank (slice_index bytes.now (at + result)) ≡ true }
+{
+    let space = place_in_block(b' ', bytes, at);
+    let tab = place_in_block(b'\t', bytes, at);
+    if tab < space { tab } else { space }
+}
+
+// How many bytes stand before the first space or TAB, or before the end, where none is among so many.
+#[inline(always)]
+fn word_from(bytes: &[u8], from: usize) -> usize
+    requires within { from ≤ length bytes.now }
+    requires before { (k : ℕ) → k < from → fields.is_blank (slice_index bytes.now k) ≡ false }
+    ensures value { result ≡ position_or_len fields.is_blank bytes.now }
+    ensures within { result ≤ length bytes.now }
+{
+    for at in from..bytes.len() {
+        if is_blank(bytes[at]) {
+            return at;
+        }
+    }
+    bytes.len()
+}
+
 /// How many bytes stand before the first space or TAB, or before the end.
 #[inline]
 pub(crate) fn word_length(bytes: &[u8]) -> usize
     ensures value { result ≡ position_or_len fields.is_blank bytes.now }
     ensures within { result ≤ length bytes.now }
 {
-    match memchr2(b' ', b'\t', bytes) {
-        Some(i) => i,
-        None => bytes.len(),
+    let mut at = 0;
+    while BLOCK <= bytes.len() - at {
+        let length = word_in_block(bytes, at);
+        if length < BLOCK {
+            return at + length;
+        }
+        at += BLOCK;
     }
+    word_from(bytes, at)
 }
 
 // Whether the byte is a space or TAB.
 #[inline(always)]
-fn is_blank(byte: u8) -> bool
+pub(crate) fn is_blank(byte: u8) -> bool
     ensures { result ≡ fields.is_blank byte }
 {
-    byte == b' ' || byte == b'\t'
+    (byte == b' ') | (byte == b'\t')
 }
 
 /// How many spaces and TABs the bytes begin with.
@@ -78,8 +136,107 @@ fn begins_with(text: &[u8], bytes: &[u8]) -> bool
     text.len() <= bytes.len() && &bytes[..text.len()] == text
 }
 
-/// Where the text first stands in the bytes. A search by a text of several bytes lays it out first, which costs some three
-/// hundred instructions.
+// Whether the text may stand at one of sixteen places, as far as its first byte, one in its middle and its last tell.
+#[inline(always)]
+fn may_stand(text: &[u8], bytes: &[u8], at: usize) -> bool
+    requires some { 0 < length text.now }
+    requires within { at + 15 + length text.now ≤ length bytes.now }
+    ensures { (k : ℕ) → at ≤ k → k < at + 16 → OccursAt bytes.now text.now k → IsTrue result }
+{
+    let middle = text.len() / 2;
+    let last = text.len() - 1;
+    let mut may = false;
+    for k in 0..BLOCK {
+        may |= (bytes[at + k] == text[0])
+            & (bytes[at + k + middle] == text[middle])
+            & (bytes[at + k + last] == text[last]);
+    }
+    may
+}
+
+// Where the text first stands of these places.
+#[inline(always)]
+fn find_within(text: &[u8], bytes: &[u8], from: usize, to: usize) -> Option<usize>
+    requires some { 0 < length text.now }
+    requires within { to + length text.now ≤ length bytes.now + 1 }
+    ensures { IsFirst (OccursAt bytes.now text.now) from to result }
+{
+    for at in from..to {
+        if bytes[at] == text[0] && begins_with(text, &bytes[at..]) {
+            return Some(at);
+        }
+    }
+    None
+}
+
+// Where the next sixteen places end, or those that are left.
+#[inline(always)]
+fn next_stop(at: usize, end: usize) -> usize
+    requires { at < end }
+    ensures above { at < result }
+    ensures within { result ≤ end }
+    ensures near { result ≤ at + 16 }
+{
+    if BLOCK < end - at { at + BLOCK } else { end }
+}
+
+// The places from that one on passed over by sixteen, as long as the text can't stand there. The loop calls nothing, so
+// what it compares with stays in registers.
+#[inline(always)]
+fn pass_over(text: &[u8], bytes: &[u8], from: usize, end: usize) -> usize
+    requires some { 0 < length text.now }
+    requires ordered { from ≤ end }
+    requires within { end + length text.now ≤ length bytes.now + 1 }
+    ensures low { from ≤ result }
+    ensures high { result ≤ end }
+    ensures passed { Nowhere (OccursAt bytes.now text.now) from result }
+{
+    let mut at = from;
+    while BLOCK <= end - at {
+        if may_stand(text, bytes, at) {
+            return at;
+        }
+        at += BLOCK;
+    }
+    at
+}
+
+// Where the text first stands of at most sixteen places.
+#[inline(always)]
+fn find_near(text: &[u8], bytes: &[u8], from: usize, to: usize) -> Option<usize>
+    requires some { 0 < length text.now }
+    requires near { to ≤ from + 16 }
+    requires within { to + length text.now ≤ length bytes.now + 1 }
+    ensures { IsFirst (OccursAt bytes.now text.now) from to result }
+{
+    if BLOCK <= to {
+        if !may_stand(text, bytes, to - BLOCK) {
+            return None;
+        }
+    }
+    find_within(text, bytes, from, to)
+}
+
+// Where the text first stands in the bytes, sixteen places at a time.
+fn find_short(text: &[u8], bytes: &[u8]) -> Option<usize>
+    requires some { 0 < length text.now }
+    requires within { length text.now ≤ length bytes.now }
+    ensures { FindsNeedle bytes.now text.now 0 result }
+{
+    let end = bytes.len() - text.len() + 1;
+    let mut at = pass_over(text, bytes, 0, end);
+    while at < end {
+        let stop = next_stop(at, end);
+        if let Some(found) = find_near(text, bytes, at, stop) {
+            return Some(found);
+        }
+        at = pass_over(text, bytes, stop, end);
+    }
+    None
+}
+
+/// Where the text first stands in the bytes. A search by a long text lays it out first, which costs some three hundred
+/// instructions.
 #[inline]
 pub(crate) fn find_text(text: &[u8], bytes: &[u8]) -> Option<usize>
     ensures value { result ≡ texts.place_of text.now bytes.now }
@@ -91,5 +248,11 @@ pub(crate) fn find_text(text: &[u8], bytes: &[u8]) -> Option<usize>
     if begins_with(text, bytes) {
         return Some(0);
     }
-    memmem::find(bytes, text)
+    if SHORT < text.len() {
+        return memmem::find(bytes, text);
+    }
+    if bytes.len() < text.len() {
+        return None;
+    }
+    find_short(text, bytes)
 }

@@ -1,0 +1,9 @@
+use Rattle.std.proofs.Common.{◌-◌, ◌≤◌}
+use Rattle.memchr.specs.Find.{Nowhere, OccursAt}
+use Rattle.restamp_place.proofs.texts.find_short.Given as goal
+
+abbrev pub invariant-loop-at : goal.invariant-loop-at
+invariant-loop-at l = (l.at ≤ l.end) × Nowhere (OccursAt l.bytes l.text) 0 l.at
+
+abbrev pub decreases-loop-at : goal.decreases-loop-at
+decreases-loop-at l = l.end - l.at

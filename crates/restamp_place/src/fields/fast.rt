@@ -1,0 +1,76 @@
+//! Words that are passed over many bytes at a time.
+ghost use Rattle.std.specs.Prelude.{◌≡◌, ◌≤◌, ◌<◌, ◌+◌, ℕ, length, drop, IfSome};
+ghost use Rattle.restamp_place.specs.Words.{IsPassed, word_ends};
+
+use crate::texts::is_blank;
+
+/// How far a line was passed over.
+#[derive(Clone, Copy)]
+pub(crate) struct Passed {
+    /// How many bytes were.
+    pub(crate) start: usize,
+    /// How many words are still to be.
+    pub(crate) left: usize,
+}
+
+// How many words end with one of so many bytes, which others follow.
+#[inline(always)]
+fn ends_within(line: &[u8], start: usize, block: usize) -> u8
+    requires few { block ≤ 16 }
+    requires within { start + block < length line.now }
+    ensures value { result ≡ word_ends block (drop start line.now) }
+    ensures most { result ≤ block }
+{
+    let mut ends = 0;
+    for k in 0..block {
+        ends += u8::from(!is_blank(line[start + k]) & is_blank(line[start + k + 1]));
+    }
+    ends
+}
+
+// The line passed over by so many bytes at a time, as long as these end fewer words than are to be.
+#[inline(always)]
+fn pass_blocks(passed: Passed, line: &[u8], block: usize) -> Passed
+    requires some { 0 < block }
+    requires few { block ≤ 16 }
+    requires within { passed.start ≤ length line.now }
+    ensures passed { (n : ℕ) → IsPassed n line.now passed → IsPassed n line.now result }
+    ensures within { result.start ≤ length line.now }
+{
+    let mut next = passed;
+    while block < line.len() - next.start {
+        let ends = ends_within(line, next.start, block) as usize;
+        if next.left <= ends {
+            return next;
+        }
+        next.start += block;
+        next.left -= ends;
+    }
+    next
+}
+
+// The same by single bytes, up to the end of the last word that is to be.
+#[inline(always)]
+fn pass_bytes(passed: Passed, line: &[u8]) -> Passed
+    requires { passed.start ≤ length line.now }
+    ensures passed { (n : ℕ) → IsPassed n line.now passed → IsPassed n line.now result }
+    ensures within { result.start ≤ length line.now }
+{
+    let mut next = passed;
+    while 0 < next.left && 1 < line.len() - next.start {
+        next.left -= ends_within(line, next.start, 1) as usize;
+        next.start += 1;
+    }
+    next
+}
+
+/// The line passed over for the word that `n` words stand before. `None` is always allowed.
+#[inline(always)]
+pub(super) fn pass_words(n: usize, line: &[u8]) -> Option<Passed>
+    ensures { IfSome result (λ p. IsPassed n line.now p × (p.start ≤ length line.now)) }
+{
+    let passed = Passed { start: 0, left: n };
+    let passed = pass_blocks(passed, line, 16);
+    let passed = pass_blocks(passed, line, 8);
+    Some(pass_bytes(passed, line))
+}

@@ -23,14 +23,19 @@ if [ $# = 0 ]; then
         echo "skipped: postgres, since there is no PostgreSQL with its headers"
     fi
 fi
+
+# Runs a command, for PostgreSQL with a server beside it.
+run() {
+    if [ "$language" = postgres ]; then python3 "$serving" "$@"; else "$@"; fi
+}
+
 for language in "$@"; do
     (
         cd "$language"
         sed -n '/^```sh$/,/^```$/p' README.md | sed '/^```/d' > ../commands
         test "$(wc -l < ../commands)" = 2
         wanted=$(sed -n 's/^It prints `\(.*\)`\.$/\1/p' README.md)
-        [ "$language" = postgres ] && run="python3 $serving" || run=
-        got=$($run sh -e ../commands 2> ../log) || { cat ../log; exit 1; }
+        got=$(run sh -e ../commands 2> ../log) || { cat ../log; exit 1; }
         test "$got" = "$wanted" || { echo "$language: $got"; exit 1; }
     )
 done

@@ -15,10 +15,10 @@ typedef struct {
     size_t index;
 } question;
 
-/* A format that was read, and how it was written. */
+/* A format that was read, and how it was written. A fixed one is the same for all calls by this expression. */
 typedef struct {
     form by;
-    bool is_read;
+    bool is_read, is_fixed;
     size_t length, room;
     uint8_t *written;
 } kept_form;
@@ -49,8 +49,15 @@ static pelzaune_status keep(kept_form *kept, MemoryContext context, question *it
     return PELZAUNE_OK;
 }
 
-/* Takes the second argument, which is the format: it is read where it isn't that of the row before. */
-static inline ending ask_format(FunctionCallInfo fcinfo, question *it)
+/* Whether the second argument is a constant of the expression. A parameter isn't: one expression may get others. */
+static bool has_constant(const FmgrInfo *called)
+{
+    const FuncExpr *call = (const FuncExpr *)called->fn_expr;
+    return call && IsA(call, FuncExpr) && list_length(call->args) > 1 && IsA(lsecond(call->args), Const);
+}
+
+/* Takes the second argument, which is the format, where it isn't known to be that of the row before. */
+static ending ask_other_format(FunctionCallInfo fcinfo, question *it)
 {
     FmgrInfo *called = fcinfo->flinfo;
     kept_form *kept = called->fn_extra;
@@ -60,7 +67,17 @@ static inline ending ask_format(FunctionCallInfo fcinfo, question *it)
     if (kept->is_read && kept->length == it->format.length && memcmp(kept->written, it->format.at, kept->length) == 0)
         return ANSWERED;
     it->status = keep(kept, called->fn_mcxt, it);
+    kept->is_fixed = kept->is_read && has_constant(called);
     return it->status ? NO_FORMAT : ANSWERED;
+}
+
+static inline ending ask_format(FunctionCallInfo fcinfo, question *it)
+{
+    const kept_form *kept = fcinfo->flinfo->fn_extra;
+    if (!kept || !kept->is_fixed) return ask_other_format(fcinfo, it);
+    it->by = &kept->by;
+    it->format = (bytes){ kept->written, kept->length };
+    return ANSWERED;
 }
 
 /* The same, and the first argument, which is the text. */

@@ -6,6 +6,7 @@
 #include "fmgr.h"
 #include "funcapi.h"
 #include "mb/pg_wchar.h"
+#include "nodes/primnodes.h"
 #include "utils/builtins.h"
 #include "utils/date.h"
 #include "utils/numeric.h"
@@ -15,7 +16,8 @@
 
 PG_MODULE_MAGIC;
 
-StaticAssertDecl(FIRST_SECOND * 1000000 == MIN_TIMESTAMP && END_SECOND * 1000000 == END_TIMESTAMP, "timestamps have another range");
+StaticAssertDecl(FIRST_SECOND * 1000000 == MIN_TIMESTAMP, "timestamps begin on another day");
+StaticAssertDecl(END_SECOND * 1000000 == END_TIMESTAMP, "timestamps end on another day");
 StaticAssertDecl(FIRST_SECOND / SECONDS_A_DAY == DATETIME_MIN_JULIAN - POSTGRES_EPOCH_JDATE, "dates begin on another day");
 
 static inline ending take_timestamptz(question *it, Datum *value)
@@ -60,14 +62,19 @@ static inline ending take_time(question *it, Datum *value)
     return ANSWERED;
 }
 
+static Datum number_of(int64 value)
+{
+    return NumericGetDatum(int64_to_numeric(value));
+}
+
 /* The nanoseconds of an instant, of which 64 bits hold those from 1677 to 2262. */
 static Datum nanoseconds_of(const pelzaune_instant *it)
 {
     int64 count;
     if (!pg_mul_s64_overflow(it->seconds, 1000000000, &count) && !pg_add_s64_overflow(count, it->nanoseconds, &count))
-        return NumericGetDatum(int64_to_numeric(count));
-    Datum whole = DirectFunctionCall2(numeric_mul, NumericGetDatum(int64_to_numeric(it->seconds)), NumericGetDatum(int64_to_numeric(1000000000)));
-    return DirectFunctionCall2(numeric_add, whole, NumericGetDatum(int64_to_numeric(it->nanoseconds)));
+        return number_of(count);
+    Datum whole = DirectFunctionCall2(numeric_mul, number_of(it->seconds), number_of(1000000000));
+    return DirectFunctionCall2(numeric_add, whole, number_of(it->nanoseconds));
 }
 
 static inline ending take_unix_ns(question *it, Datum *value)
@@ -115,7 +122,8 @@ static Datum row_of(FunctionCallInfo fcinfo, const refusal *why)
     bool is_null[3] = { !why->wanted, !why->wanted, false };
     if (get_call_result_type(fcinfo, NULL, &row) != TYPEFUNC_COMPOSITE) elog(ERROR, "return type must be a row type");
     write_expectation(why, wanted);
-    Datum values[3] = { Int64GetDatum((int64)why->place.index), CStringGetTextDatum(wanted), CStringGetTextDatum(pelzaune_text(why->reason)) };
+    Datum values[3] = { Int64GetDatum((int64)why->place.index), CStringGetTextDatum(wanted),
+        CStringGetTextDatum(pelzaune_text(why->reason)) };
     return HeapTupleGetDatum(heap_form_tuple(BlessTupleDesc(row), values, is_null));
 }
 

@@ -73,14 +73,15 @@ static void take(const char *format, const char *text)
 
 static void test_texts(void)
 {
-    static const char *const formats[] = { "", "rfc3339", "rfc2822", "iso8601", "[", "[year]", "[ year padding:none ]-[MONTH repr:Long]",
-        "%Y-%m-%d %H:%M:%S %z", "%", "%-", "%_d%0e%-H", "%c%D%x%F%R%T%X%r%n%t%%%s%u%w%U%V%W%j%k%l%p%P%a%A%b%h%B%C%g%G%y%I",
-        "[optional [[hour]:[minute]]] [first [[ordinal]] [\\[x\\]]]", "[first [a] [b[optional [c]]]]",
-        "[unix_timestamp precision:nanosecond sign:mandatory]", "[unix_timestamp precision:millisecond]", "[subsecond digits:3][subsecond]",
-        "[ignore count:3]", "[end]", "[week_number repr:iso][weekday repr:sunday one_indexed:false]", "[year range:standard base:iso_week]",
-        "[year repr:century][year repr:last_two]", "[offset_hour][offset_minute][offset_second]", "[period case:lower][hour repr:12 padding:space]",
-        "\\[", "]", "[[[", "[optional [", "[first ", "[year padding:]", "[year :]" };
-    static const char *const texts[] = { "", "2", "2021-01-02T03:04:05Z", "2021-13-02", "Sat, 02 Jan 2021 03:04:05 +0000", "(((", "\xff\xff", "99999999999" };
+    static const char *const formats[] = { "", "rfc3339", "rfc2822", "iso8601", "[", "[year]", "\\[", "]", "[[[", "[optional [", "[first ",
+        "[year padding:]", "[year :]", "[ year padding:none ]-[MONTH repr:Long]", "%Y-%m-%d %H:%M:%S %z", "%", "%-", "%_d%0e%-H",
+        "%c%D%x%F%R%T%X%r%n%t%%%s%u%w%U%V%W%j%k%l%p%P%a%A%b%h%B%C%g%G%y%I", "[optional [[hour]:[minute]]] [first [[ordinal]] [\\[x\\]]]",
+        "[first [a] [b[optional [c]]]]", "[unix_timestamp precision:nanosecond sign:mandatory]", "[unix_timestamp precision:millisecond]",
+        "[subsecond digits:3][subsecond]", "[ignore count:3]", "[end]", "[week_number repr:iso][weekday repr:sunday one_indexed:false]",
+        "[year range:standard base:iso_week]", "[year repr:century][year repr:last_two]", "[offset_hour][offset_minute][offset_second]",
+        "[period case:lower][hour repr:12 padding:space]" };
+    static const char *const texts[] = { "", "2", "2021-01-02T03:04:05Z", "2021-13-02", "Sat, 02 Jan 2021 03:04:05 +0000", "(((",
+        "\xff\xff", "99999999999" };
     for (size_t k = 0; k < sizeof formats / sizeof *formats; k++)
         for (size_t n = 0; n < sizeof texts / sizeof *texts; n++) take(formats[k], texts[n]);
 }

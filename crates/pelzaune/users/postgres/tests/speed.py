@@ -1,5 +1,6 @@
-"""Prints a table of the milliseconds that queries over a million rows take by the extension and by the server's own functions,
-the least of some rounds in one process, and how many times as long the latter take: as a whole, and without the scan.
+"""Prints a table of the milliseconds of a processor that queries over a million rows take by the server's own functions and by
+the extension, the least of some rounds in one process, and how many times as long the former take: as a whole, and without
+what the scan of the texts takes.
 
     speed.py BUILT
 
@@ -11,7 +12,7 @@ import sys
 from server import Server
 
 ROWS = 1_000_000
-ROUNDS = 7
+ROUNDS = 5
 # Of each table, the texts that it has, as to_char writes a time, and two queries of each: by the server and by the extension.
 TABLES = {
     'YYYY-MM-DD"T"HH24:MI:SS"Z"': [
@@ -40,10 +41,12 @@ TABLES = {
 
 def least(server, queries):
     """The least milliseconds of each query, in turn."""
-    done = server.psql("SET max_parallel_workers_per_gather = 0;\n\\timing on\n" + "".join(f"{it};\n" for it in queries) * ROUNDS)
+    settings = "SET max_parallel_workers_per_gather = 0; SET client_min_messages = log; SET log_statement_stats = on;\n"
+    done = server.psql(settings + "".join(f"{it};\n" for it in queries) * ROUNDS)
     if done.returncode:
         sys.exit(done.stderr.decode())
-    times = [float(it) for it in re.findall(r"^Time: ([\d.]+) ms", done.stdout.decode(), re.MULTILINE)]
+    used = re.findall(r"!\s+([\d.]+) s user, ([\d.]+) s system, [\d.]+ s elapsed", done.stderr.decode())
+    times = [1000 * (float(user) + float(system)) for user, system in used[-ROUNDS * len(queries):]]
     return [min(times[k::len(queries)]) for k in range(len(queries))]
 
 

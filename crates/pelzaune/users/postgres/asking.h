@@ -1,4 +1,5 @@
-/* What the calls of the extension share: the arguments, the format that is kept from row to row, and errors. */
+/* What the calls of the extension share: the arguments, the format that is kept from row to row, and errors. The server's own
+ * headers stand before it. */
 #ifndef PELZAUNE_ASKING_H
 #define PELZAUNE_ASKING_H
 

@@ -114,10 +114,11 @@ static void call_place(sqlite3_context *context, int count, sqlite3_value **valu
     question it;
     if (!ask(context, count, values, &it)) return;
     pelzaune_status reason = reason_of(&it.format, it.text);
+    if (!reason) return;
     bytes given = { (const uint8_t *)"rfc3339", 7 };
     if (count > 1) given = bytes_of(values[1]);
     refusal why = placed(reason, given, it.text);
-    if (reason) result_place(context, &why);
+    result_place(context, &why);
 }
 
 int sqlite3_pelzaunesqlite_init(sqlite3 *db, char **error, const sqlite3_api_routines *routines)

@@ -30,7 +30,7 @@ DEATH_SIGNAL = 1
 LIMIT = 60  # seconds until a server that is started answers
 SETTINGS = {
     "listen_addresses": "", "fsync": "off", "synchronous_commit": "off", "autovacuum": "off", "max_wal_size": "4GB",
-    "shared_buffers": "512MB", "jit": "off", "timezone": "UTC", "datestyle": "ISO", "max_parallel_workers": "4",
+    "shared_buffers": "256MB", "jit": "off", "timezone": "UTC", "datestyle": "ISO", "max_parallel_workers": "4",
 }
 
 

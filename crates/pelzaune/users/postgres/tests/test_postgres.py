@@ -187,6 +187,17 @@ class Postgres(unittest.TestCase):
         with self.assertRaisesRegex(QueryError, 'Expected year at index 0 of "x{100}[.]{3}"[.]'):
             self.server.ask(f"SELECT pelzaune_date(repeat('x', {size}))")
 
+    def test_compressed(self):
+        """Texts that the server keeps compressed, or beside their table, as text and as format."""
+        self.assertEqual(self.server.ask("""
+            CREATE TABLE kept(a text, f text);
+            ALTER TABLE kept ALTER f SET STORAGE EXTERNAL;
+            INSERT INTO kept SELECT '02 Jan 2021 03:04 GMT (' || repeat('x', 100000) || ')', '[day]' || repeat('[ignore count:1]', 5)
+                || '[year][ignore' || repeat(' ', 100000) || 'count:1' || repeat('0', k) || ']' FROM generate_series(0, 1) k;
+            SELECT pelzaune_timestamptz(a, 'rfc2822'), pelzaune_place(left(a, 12), f) FROM kept"""),
+            ['2021-01-02 03:04:00+00|(,,"the `Parsed` struct did not include enough information to construct the type")',
+             '2021-01-02 03:04:00+00|(11,ignore,"the \'ignore\' component could not be parsed")'])
+
     def test_cancelled(self):
         """A statement is cancelled amid a column, and the server goes on."""
         query = "SELECT count(pelzaune_timestamptz(a)) FROM many, generate_series(1, 1000)"

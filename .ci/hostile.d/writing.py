@@ -80,18 +80,18 @@ def of_component(component, moment):
     return filled(component.padding, 3 if name == "ordinal" else 2, number)
 
 
-def of_tree(tree, moment, before=b""):
-    """The bytes before, and a tree's text after them, 35 at most, with what is optional, and of a choice the first."""
+def of_tree(tree, moment, before=b"", most=MOST_BYTES):
+    """The bytes before, and a tree's text after them, so many at most, with what is optional, and of a choice the first."""
     kind, inside = tree
     if kind in ("list", "first"):
         for item in inside[:1] if kind == "first" else inside:
-            before = of_tree(item, moment, before)
+            before = of_tree(item, moment, before, most)
         return before
     if kind == "optional":
-        return of_tree(inside, moment, before)
+        return of_tree(inside, moment, before, most)
     text = before + (inside if kind == "literal" else of_component(inside, moment).encode())
-    if len(text) > MOST_BYTES:
-        raise Unwritable(f"The text has more than {MOST_BYTES} bytes.")
+    if most is not None and len(text) > most:
+        raise Unwritable(f"The text has more than {most} bytes.")
     return text
 
 
@@ -122,8 +122,8 @@ def of_2822(moment):
             f"{time[0]:02}:{time[1]:02}:{time[2]:02} {sign}{size // 3600:02}{size // 60 % 60:02}")
 
 
-def of_form(form, digits, offset, moment):
-    """The bytes of a moment by a name or a tree, shown at an offset where one is given."""
+def of_form(form, digits, offset, moment, most=MOST_BYTES):
+    """The bytes of a moment by a name or a tree, shown at an offset where one is given, and by a tree so many at most."""
     no_date = Unwritable("the time has no date at that offset")
     at = instant(moment)
     if offset is not None:
@@ -131,7 +131,7 @@ def of_form(form, digits, offset, moment):
         if not moment:
             raise no_date
     if not isinstance(form, str):
-        return of_tree(form, moment)
+        return of_tree(form, moment, most=most)
     if form in UNITS:
         if not has_date(at):
             raise no_date

@@ -25,6 +25,9 @@ cp -r users/rust/. "$all/rust"
 cp users/dist/rust.md "$all/rust/README.md"
 cp out/libpelzaune.a "$all/rust/lib"
 
+users/dist/postgres.sh "$all/postgres"
+cp users/dist/postgres.md "$all/postgres/README.md"
+
 cp users/dist/python.md "$all/python/README.md"
 "$python" users/dist/wheel.py out/c/python "$version.0" "$all/python"
 source=$at/source

@@ -1,9 +1,11 @@
 #!/bin/sh
 # Takes the archive as a user does, in an empty folder: unpacks it, and runs the commands of each page, which have to print
-# what the page says. The source of the Python module is built there too.
+# what the page says. The source of the Python module is built there too. The extension of PostgreSQL is tried on a server of
+# its own, where what builds it is there.
 #
 #     try.sh ARCHIVE [LANGUAGE..]
 set -e
+serving=$(realpath "$(dirname "$0")/../postgres/tests/server.py")
 unset CARGO_TARGET_DIR PELZAUNE_LIB PELZAUNE_HOME
 archive=$(realpath "$1")
 shift
@@ -13,14 +15,27 @@ cd "$at"
 tar -xzf "$archive"
 cd pelzaune-*
 test -s LICENSE-MIT && test -s LICENSE-Apache
-[ $# -gt 0 ] || set -- c rust python
+if [ $# = 0 ]; then
+    set -- c rust python
+    if [ -e "$(pg_config --includedir-server 2> ../log)/postgres.h" ] && [ -e "$(pg_config --bindir)/initdb" ]; then
+        set -- "$@" postgres
+    else
+        echo "skipped: postgres, since there is no PostgreSQL with its headers"
+    fi
+fi
+
+# Runs a command, for PostgreSQL with a server beside it.
+run() {
+    if [ "$language" = postgres ]; then python3 "$serving" "$@"; else "$@"; fi
+}
+
 for language in "$@"; do
     (
         cd "$language"
         sed -n '/^```sh$/,/^```$/p' README.md | sed '/^```/d' > ../commands
         test "$(wc -l < ../commands)" = 2
         wanted=$(sed -n 's/^It prints `\(.*\)`\.$/\1/p' README.md)
-        got=$(sh -e ../commands 2> ../log) || { cat ../log; exit 1; }
+        got=$(run sh -e ../commands 2> ../log) || { cat ../log; exit 1; }
         test "$got" = "$wanted" || { echo "$language: $got"; exit 1; }
     )
 done

@@ -1,50 +1,39 @@
-/* An extension of SQLite with two functions, which answer NULL for NULL and for a text that is refused:
+/* An extension of SQLite with three functions, which answer NULL for NULL:
  *
  *     pelzaune_unix(text [, format])    the seconds from 1970-01-01T00:00:00Z to the text's instant, rounded down
  *     pelzaune_rfc3339(text, format)    the text's moment, written by RFC 3339
+ *     pelzaune_place(text [, format])   where a text goes wrong, as JSON: {"index":5,"expectation":"month","reason":".."}
  *
- * A format is 'rfc3339', which pelzaune_unix takes where it has none, 'rfc2822', 'iso8601', or a description: one with a
- * % as strftime has it, and any other in brackets. A text that describes nothing is an error.
+ * The first two answer NULL for a text that is refused, and the last for one that has a value. Its index and expectation
+ * are null where the text is read, and the calendar has no such date.
+ *
+ * A format is 'rfc3339', which is taken where there is none, 'rfc2822', 'iso8601', or a description: one with a % as
+ * strftime has it, and any other in brackets. A text that describes nothing is an error.
  *
  *     .load ./pelzaune_sqlite
  *     SELECT pelzaune_unix('1985-04-12T23:20:50.52Z'); */
 #include <sqlite3ext.h>
 SQLITE_EXTENSION_INIT1
-#include "pelzaune.h"
-#include <string.h>
-
-/* A format: the number of one, or 0 and a description that was read. */
-typedef struct {
-    uint32_t number;
-    pelzaune_description held;
-} form;
+#include "formats.h"
 
 /* The text of a call, and its format. */
 typedef struct {
-    const uint8_t *text;
-    size_t length;
+    bytes text;
     form format;
 } question;
 
-static int is_word(const uint8_t *bytes, size_t length, const char *word)
+static bytes bytes_of(sqlite3_value *value)
 {
-    return length == strlen(word) && memcmp(bytes, word, length) == 0;
+    bytes it = { sqlite3_value_text(value), 0 };
+    it.length = (size_t)sqlite3_value_bytes(value);
+    return it;
 }
 
 /* Reads a format. The result is 0 where it is none, and then the error is told. */
-static int read_format(sqlite3_context *context, sqlite3_value *value, form *format)
+static int ask_format(sqlite3_context *context, sqlite3_value *value, form *format)
 {
-    static const char *const words[] = { "rfc3339", "rfc2822", "iso8601" };
-    const uint8_t *text = sqlite3_value_text(value);
-    size_t length = (size_t)sqlite3_value_bytes(value), index;
-    for (uint32_t k = 0; text && k < 3; k++)
-        if (is_word(text, length, words[k])) {
-            format->number = k + 1;
-            return 1;
-        }
-    format->number = 0;
-    uint32_t syntax = text && memchr(text, '%', length) ? PELZAUNE_STRFTIME : PELZAUNE_BRACKETS_2;
-    pelzaune_status status = pelzaune_describe(syntax, text, length, &format->held, &index);
+    size_t index;
+    pelzaune_status status = read_form(bytes_of(value), format, &index);
     if (status) sqlite3_result_error(context, pelzaune_text(status), -1);
     return !status;
 }
@@ -55,7 +44,7 @@ static int take_format(sqlite3_context *context, sqlite3_value *value, form *for
     const form *kept = sqlite3_get_auxdata(context, 1);
     if (kept) *format = *kept;
     else {
-        if (!read_format(context, value, format)) return 0;
+        if (!ask_format(context, value, format)) return 0;
         form *copy = sqlite3_malloc(sizeof *copy);
         if (copy) *copy = *format;
         if (copy) sqlite3_set_auxdata(context, 1, copy, sqlite3_free);
@@ -70,9 +59,8 @@ static int ask(sqlite3_context *context, int count, sqlite3_value **values, ques
     for (int k = 0; k < count; k++)
         if (sqlite3_value_type(values[k]) == SQLITE_NULL) return 0;
     if (count > 1 && !take_format(context, values[1], &asked->format)) return 0;
-    asked->text = sqlite3_value_text(values[0]);
-    asked->length = (size_t)sqlite3_value_bytes(values[0]);
-    return asked->text != NULL;
+    asked->text = bytes_of(values[0]);
+    return asked->text.at != NULL;
 }
 
 static void call_unix(sqlite3_context *context, int count, sqlite3_value **values)
@@ -80,9 +68,7 @@ static void call_unix(sqlite3_context *context, int count, sqlite3_value **value
     question it;
     pelzaune_instant instant;
     if (!ask(context, count, values, &it)) return;
-    pelzaune_status status = it.format.number ? pelzaune_parse_instant(it.format.number, it.text, it.length, &instant)
-        : pelzaune_described_instant(&it.format.held, it.text, it.length, &instant);
-    if (!status) sqlite3_result_int64(context, instant.seconds);
+    if (!instant_by(&it.format, it.text, &instant)) sqlite3_result_int64(context, instant.seconds);
 }
 
 static void call_rfc3339(sqlite3_context *context, int count, sqlite3_value **values)
@@ -92,10 +78,47 @@ static void call_rfc3339(sqlite3_context *context, int count, sqlite3_value **va
     uint8_t text[PELZAUNE_MOMENT_TEXT];
     size_t length;
     if (!ask(context, count, values, &it)) return;
-    pelzaune_status status = it.format.number ? pelzaune_parse_moment(it.format.number, it.text, it.length, &moment)
-        : pelzaune_described_moment(&it.format.held, it.text, it.length, &moment);
+    pelzaune_status status = moment_by(&it.format, it.text, &moment);
     if (!status) status = pelzaune_format_moment(PELZAUNE_RFC3339, &moment, text, sizeof text, &length);
     if (!status) sqlite3_result_text(context, (const char *)text, (int)length, SQLITE_TRANSIENT);
+}
+
+/* The bytes of JSON for a text of ASCII without control bytes, with room for it. */
+static void write_json(const char *text, char *out)
+{
+    *out++ = '"';
+    for (; *text; text++) {
+        if (*text == '"' || *text == '\\') *out++ = '\\';
+        *out++ = *text;
+    }
+    *out++ = '"';
+    *out = 0;
+}
+
+/* The place of a refusal as JSON. Where there is none, the text is read, and its date or time isn't one. */
+static void result_place(sqlite3_context *context, const refusal *why)
+{
+    char wanted[EXPECTATION_ROOM], as_json[2 * EXPECTATION_ROOM + 2] = "null", index[24] = "null";
+    if (why->wanted) {
+        snprintf(index, sizeof index, "%zu", why->place.index);
+        write_expectation(why, wanted);
+        write_json(wanted, as_json);
+    }
+    char *row = sqlite3_mprintf("{\"index\":%s,\"expectation\":%s,\"reason\":\"%s\"}", index, as_json, pelzaune_text(why->reason));
+    if (row) sqlite3_result_text(context, row, -1, sqlite3_free);
+    else sqlite3_result_error_nomem(context);
+}
+
+static void call_place(sqlite3_context *context, int count, sqlite3_value **values)
+{
+    question it;
+    if (!ask(context, count, values, &it)) return;
+    pelzaune_status reason = reason_of(&it.format, it.text);
+    if (!reason) return;
+    bytes given = { (const uint8_t *)"rfc3339", 7 };
+    if (count > 1) given = bytes_of(values[1]);
+    refusal why = placed(reason, given, it.text);
+    result_place(context, &why);
 }
 
 int sqlite3_pelzaunesqlite_init(sqlite3 *db, char **error, const sqlite3_api_routines *routines)
@@ -103,8 +126,11 @@ int sqlite3_pelzaunesqlite_init(sqlite3 *db, char **error, const sqlite3_api_rou
     const int flags = SQLITE_UTF8 | SQLITE_DETERMINISTIC | SQLITE_INNOCUOUS;
     SQLITE_EXTENSION_INIT2(routines);
     (void)error;
-    int status = sqlite3_create_function(db, "pelzaune_unix", 1, flags, NULL, call_unix, NULL, NULL);
-    if (!status) status = sqlite3_create_function(db, "pelzaune_unix", 2, flags, NULL, call_unix, NULL, NULL);
-    if (!status) status = sqlite3_create_function(db, "pelzaune_rfc3339", 2, flags, NULL, call_rfc3339, NULL, NULL);
+    static const struct { const char *name; int least; void (*call)(sqlite3_context *, int, sqlite3_value **); } functions[] = {
+        { "pelzaune_unix", 1, call_unix }, { "pelzaune_rfc3339", 2, call_rfc3339 }, { "pelzaune_place", 1, call_place } };
+    int status = SQLITE_OK;
+    for (size_t k = 0; !status && k < sizeof functions / sizeof *functions; k++)
+        for (int count = functions[k].least; !status && count <= 2; count++)
+            status = sqlite3_create_function(db, functions[k].name, count, flags, NULL, functions[k].call, NULL, NULL);
     return status;
 }

@@ -7,6 +7,11 @@ SELECT pelzaune_unix('1985-04-31T23:20:50Z'), pelzaune_unix(''), pelzaune_unix(N
 SELECT pelzaune_unix(x'ff'), pelzaune_unix(0), pelzaune_unix('1970-01-01T00:00:00Z' || char(0));
 SELECT pelzaune_rfc3339('Fri, 21 Nov 1997 09:55:06 -0600', 'rfc2822'), pelzaune_rfc3339('2020-W53-6T03:04:05,5Z', 'iso8601');
 SELECT pelzaune_rfc3339('+012345-06-07T08:09:10Z', 'iso8601'), pelzaune_rfc3339('x', 'rfc3339');
+SELECT pelzaune_place('2021-13-02T03:04:05Z'), pelzaune_place('2021-01-02T03:04:05Z'), pelzaune_place(NULL), pelzaune_place('x', NULL);
+SELECT json_extract(pelzaune_place('2021-02-30', '%Y-%m-%d'), '$.index'), json_extract(pelzaune_place('2021-02-30', '%Y-%m-%d'), '$.reason');
+SELECT pelzaune_place('', '"'), json_extract(pelzaune_place('x', '"'), '$.expectation');
+SELECT json_extract(pelzaune_place('x', char(10)), '$.expectation'), pelzaune_place('2021-01-02', '%Y-%m-%d'), pelzaune_place('12:34', '%H:%M');
+SELECT json_extract(pelzaune_place('2021-01-02T03:04:05Zx', 'rfc3339'), '$.expectation');
 CREATE TABLE log(at TEXT);
 INSERT INTO log VALUES ('1970-01-01T00:00:02Z'), ('1970-01-01T00:00:01+00:00'), ('?'), ('1970-01-01T01:00:00+01:00');
 SELECT count(*), count(pelzaune_unix(at)), group_concat(at) FROM (SELECT at FROM log ORDER BY pelzaune_unix(at));

@@ -1,0 +1,154 @@
+/* What the calls of the extension share: the arguments, the format that is kept from row to row, and errors. The server's own
+ * headers stand before it. */
+#ifndef PELZAUNE_ASKING_H
+#define PELZAUNE_ASKING_H
+
+#include "formats.h"
+
+/* How a call ends. */
+typedef enum { ANSWERED, NO_FORMAT, REFUSED, OUT_OF_RANGE } ending;
+
+/* What a call is asked, and why it has no answer: a status of the library, and for a format the index of its fault. */
+typedef struct {
+    bytes format, text;
+    const form *by;
+    pelzaune_status status;
+    size_t index;
+} question;
+
+/* A format that was read, and how it was written. A fixed one is the same for all calls by this expression. */
+typedef struct {
+    form by;
+    bool is_read, is_fixed;
+    size_t length, room;
+    uint8_t *written;
+} kept_form;
+
+static inline bytes bytes_of(const text *it)
+{
+    bytes found = { (const uint8_t *)VARDATA_ANY(it), VARSIZE_ANY_EXHDR(it) };
+    return found;
+}
+
+/* Reads a format into the place of the kept one. An error of the server leaves none. */
+static pelzaune_status keep(kept_form *kept, MemoryContext context, question *it)
+{
+    kept->is_read = false;
+    it->index = 0;
+    pelzaune_status status = read_form(it->format, &kept->by, &it->index);
+    if (status) return status;
+    if (kept->room < it->format.length) {
+        kept->room = 0;
+        if (kept->written) pfree(kept->written);
+        kept->written = NULL;
+        kept->written = MemoryContextAlloc(context, it->format.length);
+        kept->room = it->format.length;
+    }
+    if (it->format.length) memcpy(kept->written, it->format.at, it->format.length);
+    kept->length = it->format.length;
+    kept->is_read = true;
+    return PELZAUNE_OK;
+}
+
+/* Whether the second argument is a constant of the expression. A parameter isn't: one expression may get others. */
+static bool has_constant(const FmgrInfo *called)
+{
+    const FuncExpr *call = (const FuncExpr *)called->fn_expr;
+    return call && IsA(call, FuncExpr) && list_length(call->args) > 1 && IsA(lsecond(call->args), Const);
+}
+
+/* Takes the second argument, which is the format, where it isn't known to be that of the row before. */
+static ending ask_other_format(FunctionCallInfo fcinfo, question *it)
+{
+    FmgrInfo *called = fcinfo->flinfo;
+    kept_form *kept = called->fn_extra;
+    it->format = bytes_of(PG_GETARG_TEXT_PP(1));
+    if (!kept) kept = called->fn_extra = MemoryContextAllocZero(called->fn_mcxt, sizeof *kept);
+    it->by = &kept->by;
+    if (kept->is_read && kept->length == it->format.length && memcmp(kept->written, it->format.at, kept->length) == 0)
+        return ANSWERED;
+    it->status = keep(kept, called->fn_mcxt, it);
+    kept->is_fixed = kept->is_read && has_constant(called);
+    return it->status ? NO_FORMAT : ANSWERED;
+}
+
+static inline ending ask_format(FunctionCallInfo fcinfo, question *it)
+{
+    const kept_form *kept = fcinfo->flinfo->fn_extra;
+    if (!kept || !kept->is_fixed) return ask_other_format(fcinfo, it);
+    it->by = &kept->by;
+    it->format = (bytes){ kept->written, kept->length };
+    return ANSWERED;
+}
+
+/* The same, and the first argument, which is the text. */
+static inline ending ask(FunctionCallInfo fcinfo, question *it)
+{
+    it->text = bytes_of(PG_GETARG_TEXT_PP(0));
+    return ask_format(fcinfo, it);
+}
+
+/* The most bytes of a text that a message shows. */
+#define SHOWN_MOST 100
+
+/* A text as a message shows it: its front, control bytes as \x1b, and where the server's encoding tells no characters, as
+ * SQL_ASCII, the bytes above ASCII so, too. */
+static const char *shown(bytes it)
+{
+    int size = pg_mbcliplen((const char *)it.at, (int)it.length, SHOWN_MOST);
+    bool has_characters = GetDatabaseEncoding() != PG_SQL_ASCII;
+    StringInfoData out;
+    initStringInfo(&out);
+    for (int k = 0; k < size; k++) {
+        uint8_t byte = it.at[k];
+        if (byte < 32 || byte == 127 || (byte > 127 && !has_characters)) appendStringInfo(&out, "\\x%02x", byte);
+        else appendStringInfoChar(&out, (char)byte);
+    }
+    if ((size_t)size < it.length) appendStringInfoString(&out, "...");
+    return out.data;
+}
+
+static int sqlstate_of(pelzaune_status status)
+{
+    switch (PELZAUNE_KIND(status)) {
+    case PELZAUNE_RANGE:
+    case PELZAUNE_RANGE_OF_OTHERS:
+    case PELZAUNE_NO_TEXT:
+        return ERRCODE_DATETIME_FIELD_OVERFLOW;
+    default:
+        return ERRCODE_INVALID_DATETIME_FORMAT;
+    }
+}
+
+/* Where a text goes wrong, as a sentence. */
+static const char *detail_of(pelzaune_status status, bytes format, bytes text)
+{
+    refusal why = placed(status, format, text);
+    char wanted[EXPECTATION_ROOM];
+    if (!why.wanted) return psprintf("The text is \"%s\".", shown(text));
+    write_expectation(&why, wanted);
+    return psprintf("Expected %s at index %zu of \"%s\".", wanted, why.place.index, shown(text));
+}
+
+_Noreturn static void tell_refusal(pelzaune_status status, bytes format, bytes text)
+{
+    ereport(ERROR, (errcode(sqlstate_of(status)), errmsg_internal("%s", pelzaune_text(status)),
+        errdetail_internal("%s", detail_of(status, format, text))));
+}
+
+_Noreturn static void tell_fault(const question *it)
+{
+    ereport(ERROR, (errcode(ERRCODE_INVALID_DATETIME_FORMAT), errmsg_internal("%s", pelzaune_text(it->status)),
+        PELZAUNE_KIND(it->status) == PELZAUNE_TOO_LONG ? errdetail_internal("The format is \"%s\".", shown(it->format))
+            : errdetail_internal("At index %zu of the format \"%s\".", it->index, shown(it->format))));
+}
+
+/* Tells why a call has no answer. A value that the server's type can't hold has the server's own error. */
+_Noreturn static void tell(ending how, const question *it, const char *type)
+{
+    if (how == NO_FORMAT) tell_fault(it);
+    if (how == REFUSED) tell_refusal(it->status, it->format, it->text);
+    ereport(ERROR, (errcode(ERRCODE_DATETIME_VALUE_OUT_OF_RANGE), errmsg("%s out of range", type)));
+}
+
+#endif

@@ -1,0 +1,175 @@
+/* An extension of PostgreSQL: texts with dates and times as values of the server's types, and back. What users call is in
+ * pelzaune--1.0.sql; a function with `try_` in its name answers NULL where the other raises. */
+#include "postgres.h"
+#include "catalog/pg_type.h"
+#include "common/int.h"
+#include "fmgr.h"
+#include "funcapi.h"
+#include "mb/pg_wchar.h"
+#include "nodes/primnodes.h"
+#include "utils/builtins.h"
+#include "utils/date.h"
+#include "utils/numeric.h"
+#include "utils/timestamp.h"
+#include "asking.h"
+#include "writing.h"
+
+PG_MODULE_MAGIC;
+
+StaticAssertDecl(FIRST_SECOND * 1000000 == MIN_TIMESTAMP, "timestamps begin on another day");
+StaticAssertDecl(END_SECOND * 1000000 == END_TIMESTAMP, "timestamps end on another day");
+StaticAssertDecl(FIRST_SECOND / SECONDS_A_DAY == DATETIME_MIN_JULIAN - POSTGRES_EPOCH_JDATE, "dates begin on another day");
+
+static inline ending take_timestamptz(question *it, Datum *value)
+{
+    pelzaune_instant found;
+    int64_t count;
+    it->status = instant_by(it->by, it->text, &found);
+    if (it->status) return REFUSED;
+    if (!count_of_instant(&found, &count)) return OUT_OF_RANGE;
+    *value = TimestampTzGetDatum(count);
+    return ANSWERED;
+}
+
+static inline ending take_timestamp(question *it, Datum *value)
+{
+    pelzaune_local found;
+    int64_t count;
+    it->status = local_by(it->by, it->text, &found);
+    if (it->status) return REFUSED;
+    if (!count_of_local(&found, &count)) return OUT_OF_RANGE;
+    *value = TimestampGetDatum(count);
+    return ANSWERED;
+}
+
+static inline ending take_date(question *it, Datum *value)
+{
+    pelzaune_date found;
+    int32_t count;
+    it->status = date_by(it->by, it->text, &found);
+    if (it->status) return REFUSED;
+    if (!count_of_date(&found, &count)) return OUT_OF_RANGE;
+    *value = DateADTGetDatum(count);
+    return ANSWERED;
+}
+
+static inline ending take_time(question *it, Datum *value)
+{
+    pelzaune_time found;
+    it->status = time_by(it->by, it->text, &found);
+    if (it->status) return REFUSED;
+    *value = TimeADTGetDatum(count_of_time(&found));
+    return ANSWERED;
+}
+
+static Datum number_of(int64 value)
+{
+    return NumericGetDatum(int64_to_numeric(value));
+}
+
+/* The nanoseconds of an instant, of which 64 bits hold those from 1677 to 2262. */
+static Datum nanoseconds_of(const pelzaune_instant *it)
+{
+    int64 count;
+    if (!pg_mul_s64_overflow(it->seconds, 1000000000, &count) && !pg_add_s64_overflow(count, it->nanoseconds, &count))
+        return number_of(count);
+    Datum whole = DirectFunctionCall2(numeric_mul, number_of(it->seconds), number_of(1000000000));
+    return DirectFunctionCall2(numeric_add, whole, number_of(it->nanoseconds));
+}
+
+static inline ending take_unix_ns(question *it, Datum *value)
+{
+    pelzaune_instant found;
+    it->status = instant_by(it->by, it->text, &found);
+    if (it->status) return REFUSED;
+    *value = nanoseconds_of(&found);
+    return ANSWERED;
+}
+
+/* Two functions of SQL: one that raises an error of that type, and one that answers NULL in its place. */
+#define CALLS(name, type) \
+    PG_FUNCTION_INFO_V1(call_##name); \
+    Datum call_##name(PG_FUNCTION_ARGS) \
+    { \
+        question it; \
+        Datum value; \
+        ending how = ask(fcinfo, &it); \
+        if (how == ANSWERED) how = take_##name(&it, &value); \
+        if (how != ANSWERED) tell(how, &it, type); \
+        return value; \
+    } \
+    PG_FUNCTION_INFO_V1(call_try_##name); \
+    Datum call_try_##name(PG_FUNCTION_ARGS) \
+    { \
+        question it; \
+        Datum value; \
+        ending how = ask(fcinfo, &it); \
+        if (how == ANSWERED) how = take_##name(&it, &value); \
+        if (how != ANSWERED) PG_RETURN_NULL(); \
+        return value; \
+    }
+CALLS(timestamptz, "timestamp")
+CALLS(timestamp, "timestamp")
+CALLS(date, "date")
+CALLS(time, "time")
+CALLS(unix_ns, "numeric")
+
+/* A row of index, expectation and reason. The first two are NULL where the text is read, and its date or time isn't one. */
+static Datum row_of(FunctionCallInfo fcinfo, const refusal *why)
+{
+    TupleDesc row;
+    char wanted[EXPECTATION_ROOM];
+    bool is_null[3] = { !why->wanted, !why->wanted, false };
+    if (get_call_result_type(fcinfo, NULL, &row) != TYPEFUNC_COMPOSITE) elog(ERROR, "return type must be a row type");
+    write_expectation(why, wanted);
+    Datum values[3] = { Int64GetDatum((int64)why->place.index), CStringGetTextDatum(wanted),
+        CStringGetTextDatum(pelzaune_text(why->reason)) };
+    return HeapTupleGetDatum(heap_form_tuple(BlessTupleDesc(row), values, is_null));
+}
+
+PG_FUNCTION_INFO_V1(call_place);
+Datum call_place(PG_FUNCTION_ARGS)
+{
+    question it;
+    if (ask(fcinfo, &it) != ANSWERED) tell_fault(&it);
+    pelzaune_status reason = reason_of(it.by, it.text);
+    if (!reason) PG_RETURN_NULL();
+    refusal why = placed(reason, it.format, it.text);
+    return row_of(fcinfo, &why);
+}
+
+/* The seconds of an offset such as Z or +05:30. */
+static int32_t offset_of(bytes it)
+{
+    static const char form[] = "[offset_hour sign:mandatory]:[offset_minute]";
+    const bytes described = { (const uint8_t *)form, sizeof form - 1 };
+    int32_t seconds = 0;
+    if (is_word(it, "Z")) return seconds;
+    pelzaune_status status = pelzaune_read_offset(PELZAUNE_BRACKETS_2, described.at, described.length, it.at, it.length, &seconds);
+    if (status) tell_refusal(status, described, it);
+    return seconds;
+}
+
+/* Writes the moment by the format of the question. */
+static void write_moment(writing *it, const question *asked, int64_t count, int32_t offset)
+{
+    if (!asked->by->number) {
+        write_described(it, asked->format, count, offset);
+        return;
+    }
+    it->moment = moment_of_count(count, offset);
+    it->status = pelzaune_format_moment(asked->by->number, &it->moment, it->text, sizeof it->text, &it->length);
+}
+
+PG_FUNCTION_INFO_V1(call_text);
+Datum call_text(PG_FUNCTION_ARGS)
+{
+    TimestampTz at = PG_GETARG_TIMESTAMPTZ(0);
+    question asked;
+    writing it;
+    if (ask_format(fcinfo, &asked) != ANSWERED) tell_fault(&asked);
+    if (TIMESTAMP_NOT_FINITE(at)) tell(OUT_OF_RANGE, &asked, "timestamp");
+    write_moment(&it, &asked, at, offset_of(bytes_of(PG_GETARG_TEXT_PP(2))));
+    if (it.status) ereport(ERROR, (errcode(sqlstate_of(it.status)), errmsg_internal("%s", pelzaune_text(it.status))));
+    PG_RETURN_TEXT_P(cstring_to_text_with_len((const char *)it.text, (int)it.length));
+}

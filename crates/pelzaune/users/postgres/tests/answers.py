@@ -1,0 +1,141 @@
+"""Calls of the extension's functions, each with its answer, and errors, each with its state, message and detail.
+
+The answers are from the standards and by arithmetic that is shown, and none is the extension's own.
+"""
+TRAILING = "unexpected trailing characters; the end of input was expected"
+LITERAL = "a character literal was not valid"
+YEAR = "the 'year' component could not be parsed"
+MONTH = "the 'month' component could not be parsed"
+MISSING = "the `Parsed` struct did not include enough information to construct the type"
+NO_YEAR = "the 'year' component has no text in that format"
+LOG = "%d/%b/%Y:%H:%M:%S %z"
+
+ANSWERS = [
+    # RFC 3339's own examples, and each way to say a format
+    ("timestamptz('1985-04-12T23:20:50.52Z')", "1985-04-12 23:20:50.52+00"),
+    ("timestamptz('1996-12-19T16:39:57-08:00', 'rfc3339')", "1996-12-20 00:39:57+00"),
+    ("timestamptz('Fri, 21 Nov 1997 09:55:06 -0600', 'rfc2822')", "1997-11-21 15:55:06+00"),
+    ("timestamptz('Fri, 21 Nov 1997 09(comment):   55  :  06 -0600', 'rfc2822')", "1997-11-21 15:55:06+00"),
+    ("timestamptz('2020-W53-6T03:04:05,5Z', 'iso8601')", "2021-01-02 03:04:05.5+00"),
+    (f"timestamptz('02/Jan/2021:03:04:05 -0030', '{LOG}')", "2021-01-02 03:34:05+00"),
+    ("timestamptz('-1', '[unix_timestamp]')", "1969-12-31 23:59:59+00"),
+    ("timestamp('2021-01-02T03:04:05-08:30')", "2021-01-02 03:04:05"),
+    ("timestamp('2021-01-02 03:04', '[year]-[month]-[day] [hour]:[minute]')", "2021-01-02 03:04:00"),
+    ("timestamp('20210102T030405', 'iso8601')", "2021-01-02 03:04:05"),
+    ("date('12.04.1985', '%d.%m.%Y')", "1985-04-12"),
+    ("date('2021-01-02T23:04:05-08:30')", "2021-01-02"),
+    ("date('2020-366', 'iso8601')", "2020-12-31"),
+    ("time('03:04:05,25', 'iso8601')", "03:04:05.25"),
+    ("time('1:05 PM', '[hour repr:12 padding:none]:[minute] [period]')", "13:05:00"),
+    ("time('1985-04-12T23:20:50.52Z')", "23:20:50.52"),
+    # a microsecond is rounded down, also before 2000 and before 1970, and a leap second is the one before it
+    ("timestamptz('1999-12-31T23:59:59.9999999Z')", "1999-12-31 23:59:59.999999+00"),
+    ("timestamptz('2000-01-01T00:00:00.000000999Z')", "2000-01-01 00:00:00+00"),
+    ("timestamptz('1969-12-31T23:59:59.999999999Z')", "1969-12-31 23:59:59.999999+00"),
+    ("timestamptz('2016-12-31T23:59:60Z')", "2016-12-31 23:59:59.999999+00"),
+    ("timestamp('1999-12-31T23:59:59.9999999Z')", "1999-12-31 23:59:59.999999"),
+    ("time('23:59:59.9999999', '[hour]:[minute]:[second].[subsecond]')", "23:59:59.999999"),
+    # the year 0 is 1 BC; a timestamp goes from 4714-11-24 BC to 294276, and a date's years on to the library's last
+    ("timestamptz('0000-02-29T00:00:00Z')", "0001-02-29 00:00:00+00 BC"),
+    ("timestamptz('-004713-11-24T00:00:00Z', 'iso8601')", "4714-11-24 00:00:00+00 BC"),
+    ("timestamptz('-004713-11-23T23:59:00-00:01', 'iso8601')", "4714-11-24 00:00:00+00 BC"),
+    ("timestamptz('+294276-12-31T23:59:59.9999999Z', 'iso8601')", "294276-12-31 23:59:59.999999+00"),
+    ("timestamptz('+294277-01-01T00:00:00+00:01', 'iso8601')", "294276-12-31 23:59:00+00"),
+    ("timestamp('-004713-11-24T00:00:00', 'iso8601')", "4714-11-24 00:00:00 BC"),
+    ("timestamp('+294276-12-31T23:59:59,999999', 'iso8601')", "294276-12-31 23:59:59.999999"),
+    ("date('-004713-11-24', 'iso8601')", "4714-11-24 BC"),
+    ("date('0000-12-31', 'iso8601')", "0001-12-31 BC"),
+    ("date('+999999-12-31', 'iso8601')", "999999-12-31"),
+    # nanoseconds are exact: 2^63 - 1 is 9223372036854775807, and 330 years before 2300 have 80 leap days
+    ("unix_ns('1970-01-02T00:00:00Z')", "86400000000000"),
+    ("unix_ns('1969-12-31T23:59:59.999999999Z')", "-1"),
+    ("unix_ns('2262-04-11T23:47:16.854775807Z')", "9223372036854775807"),
+    ("unix_ns('2262-04-11T23:47:16.854775808Z')", "9223372036854775808"),
+    ("unix_ns('1677-09-21T00:12:43.145224192Z')", "-9223372036854775808"),
+    ("unix_ns('1677-09-21T00:12:43.145224191Z')", "-9223372036854775809"),
+    ("unix_ns('2300-01-01T00:00:00.000000001Z')", f"{(330 * 365 + 80) * 86400}000000001"),
+    # 719162 days from 0001-01-01 to 1970-01-01
+    ("unix_ns('0001-01-01T00:00:00Z')", f"-{719162 * 86400}000000000"),
+    # places: index, expectation and reason, or NULL
+    ("place('2021-13-02T03:04:05Z')", '(5,month,"month is out of range")'),
+    ("place('2021-01-02T03:04:05')", '(19,"offset hour","the \'offset hour\' component could not be parsed")'),
+    ("place('2021/01-02T03:04:05Z')", f"(4,'-',\"{LITERAL}\")"),
+    ("place('2021-01-02T03:04:05Zx')", f'(20,"the end","{TRAILING}")'),
+    ("place('2021-02-30', '[year]-[month]-[day]')", '(,,"day is out of range for the other components")'),
+    ("place('2021', '[year]')", f'(,,"{MISSING}")'),
+    ("place('2021-01-02T03:04:05Z')", "NULL"),
+    ("place('2021-01-02', '[year]-[month]-[day]')", "NULL"),
+    ("place('12:34', '[hour]:[minute]')", "NULL"),
+    ("place('1', '[unix_timestamp]')", "NULL"),
+    ("place('2016-12-31T23:59:60Z')", "NULL"),
+    (r"place('2021-01', E'[year]\n[month]')", f'(4,"\'\\\\x0a\'","{LITERAL}")'),
+    # texts
+    ("text('1985-04-12 23:20:50.52+00')", "1985-04-12T23:20:50.52Z"),
+    ("text('1985-04-12 23:20:50.52+00', 'rfc2822', '-08:30')", "Fri, 12 Apr 1985 14:50:50 -0830"),
+    ("text('1985-04-12 23:20:50.52+00', 'iso8601', '+00:00')", "1985-04-12T23:20:50.520000000Z"),
+    ("text('1999-12-31 23:30:00+00', 'rfc3339', '+05:30')", "2000-01-01T05:00:00+05:30"),
+    ("text('0001-01-01 00:00:00+00 BC')", "0000-01-01T00:00:00Z"),
+    ("text('9999-12-31 23:59:59.999999+00')", "9999-12-31T23:59:59.999999Z"),
+    ("text('1969-12-31 23:59:59.999999+00')", "1969-12-31T23:59:59.999999Z"),
+    # NULLs
+    ("timestamptz(NULL)", "NULL"), ("timestamp(NULL)", "NULL"), ("date(NULL)", "NULL"), ("time(NULL)", "NULL"),
+    ("unix_ns(NULL)", "NULL"), ("place(NULL)", "NULL"), ("text(NULL)", "NULL"), ("try_date(NULL)", "NULL"),
+    ("timestamptz('1985-04-12T23:20:50.52Z', NULL)", "NULL"), ("place('x', NULL)", "NULL"),
+    ("text('1985-04-12 23:20:50.52+00', NULL)", "NULL"), ("text('1985-04-12 23:20:50.52+00', 'rfc3339', NULL)", "NULL"),
+    ("try_timestamptz('1985-04-12T23:20:50.52Z')", "1985-04-12 23:20:50.52+00"),
+    ("try_timestamp('1985-04-12T23:20:50.52Z')", "1985-04-12 23:20:50.52"),
+    ("try_date('1985-04-12T23:20:50.52Z')", "1985-04-12"), ("try_time('1985-04-12T23:20:50.52Z')", "23:20:50.52"),
+    ("try_unix_ns('1970-01-02T00:00:00Z')", "86400000000000"),
+]
+
+ERRORS = [
+    ("timestamptz('2021-13-02T03:04:05Z')", "22008", "month is out of range",
+     'Expected month at index 5 of "2021-13-02T03:04:05Z".'),
+    ("date('2021-13-02T03:04:05Z')", "22007", MONTH, 'Expected month at index 5 of "2021-13-02T03:04:05Z".'),
+    ("timestamptz('')", "22007", YEAR, 'Expected year at index 0 of "".'),
+    ("timestamptz('infinity')", "22007", YEAR, 'Expected year at index 0 of "infinity".'),
+    ("date('2021-01-02', 'rfc3339')", "22007", "the 'separator' component could not be parsed",
+     'Expected separator at index 10 of "2021-01-02".'),
+    ("timestamptz('2021-01-02T03:04:05Zx')", "22007", TRAILING,
+     'Expected the end at index 20 of "2021-01-02T03:04:05Zx".'),
+    ("date('2021-02-30', '[year]-[month]-[day]')", "22008", "day is out of range for the other components", 'The text is "2021-02-30".'),
+    ("timestamptz('12:34', '[hour]:[minute]')", "22007", MISSING, 'The text is "12:34".'),
+    (r"date(E'2021-\x1b', '[year]-[month]')", "22007", MONTH, r'Expected month at index 5 of "2021-\x1b".'),
+    ("date(repeat('y', 101))", "22007", YEAR, f'Expected year at index 0 of "{"y" * 100}...".'),
+    ("date('2021', '[yaer]')", "22007", "no component has that name", 'At index 1 of the format "[yaer]".'),
+    ("date('2021', 'RFC3339')", "22007", LITERAL, "Expected 'R' at index 0 of \"2021\"."),
+    # of a description with a %, brackets are bytes as others
+    ("time('23:59:59.5', '%H:%M:%S.[subsecond]')", "22007", LITERAL, "Expected '[' at index 9 of \"23:59:59.5\"."),
+    ("date('', repeat('x', 65))", "22007", "the description is too long", f'The format is "{"x" * 65}".'),
+    ("date('2021', '%Q')", "22007", "no component has that name", 'At index 1 of the format "%Q".'),
+    # 24 is no hour
+    ("timestamptz('2021-01-02T24:00:00Z')", "22008", "hour is out of range", 'Expected hour at index 11 of "2021-01-02T24:00:00Z".'),
+    ("timestamp('2021-01-02T24:00:00', 'iso8601')", "22007", TRAILING, 'Expected hour at index 11 of "2021-01-02T24:00:00".'),
+    ("time('24:00', '[hour]:[minute]')", "22007", "the 'hour' component could not be parsed", 'Expected hour at index 0 of "24:00".'),
+    # beyond PostgreSQL's ranges
+    ("timestamptz('-004713-11-23T23:59:59.999999999Z', 'iso8601')", "22008", "timestamp out of range", ""),
+    ("timestamptz('-004713-11-24T00:00:00+00:01', 'iso8601')", "22008", "timestamp out of range", ""),
+    ("timestamptz('+294277-01-01T00:00:00Z', 'iso8601')", "22008", "timestamp out of range", ""),
+    ("timestamptz('+999999-12-31T23:59:59Z', 'iso8601')", "22008", "timestamp out of range", ""),
+    ("timestamptz('-999999-01-01T00:00:00Z', 'iso8601')", "22008", "timestamp out of range", ""),
+    ("timestamp('-004713-11-23T23:59:59', 'iso8601')", "22008", "timestamp out of range", ""),
+    ("timestamp('+294277-01-01T00:00:00', 'iso8601')", "22008", "timestamp out of range", ""),
+    ("date('-004713-11-23', 'iso8601')", "22008", "date out of range", ""),
+    ("date('-999999-01-01', 'iso8601')", "22008", "date out of range", ""),
+    ("unix_ns('x')", "22007", YEAR, 'Expected year at index 0 of "x".'),
+    ("unix_ns('x', '[')", "22007", "brackets have no component name", 'At index 0 of the format "[".'),
+]
+
+# These have no call that answers NULL in their place.
+ERRORS_ALONE = [
+    ("place('x', '[yaer]')", "22007", "no component has that name", 'At index 1 of the format "[yaer]".'),
+    ("text('infinity')", "22008", "timestamp out of range", ""),
+    ("text('-infinity')", "22008", "timestamp out of range", ""),
+    ("text('294276-12-31 23:59:59.999999+00')", "22008", NO_YEAR, ""),
+    ("text('4714-11-24 00:00:00+00 BC')", "22008", NO_YEAR, ""),
+    ("text('0001-01-01 00:00:00+00', 'rfc2822')", "22008", NO_YEAR, ""),
+    ("text('2021-01-02 00:00:00+00', 'rfc3339', '+24:00')", "22008", "the 'offset hour' component has no text in that format", ""),
+    ("text('2021-01-02 00:00:00+00', 'rfc3339', '05:30')", "22007", "the 'offset hour' component could not be parsed",
+     'Expected offset hour at index 0 of "05:30".'),
+    ("text('2021-01-02 00:00:00+00', '[yaer]')", "22007", "no component has that name", 'At index 1 of the format "[yaer]".'),
+]

@@ -1,0 +1,119 @@
+/* What the extensions of SQLite and PostgreSQL share: formats by their names, descriptions, and why a text has no value.
+ *
+ * A format is 'rfc3339', 'rfc2822', 'iso8601', or a description: one with a % as strftime has it, and any other in
+ * brackets. */
+#ifndef PELZAUNE_SQL_FORMATS_H
+#define PELZAUNE_SQL_FORMATS_H
+
+#include "pelzaune.h"
+#include <stdio.h>
+#include <string.h>
+
+/* A format: the number of one, or 0 and a description that was read. */
+typedef struct {
+    uint32_t number;
+    pelzaune_description held;
+} form;
+
+/* Bytes that somebody else holds. */
+typedef struct {
+    const uint8_t *at;
+    size_t length;
+} bytes;
+
+static inline int is_word(bytes it, const char *word)
+{
+    return it.length == strlen(word) && memcmp(it.at, word, it.length) == 0;
+}
+
+/* The number of the format that has that name, or 0. */
+static inline uint32_t number_of_format(bytes name)
+{
+    return is_word(name, "rfc3339") ? PELZAUNE_RFC3339 : is_word(name, "rfc2822") ? PELZAUNE_RFC2822
+        : is_word(name, "iso8601") ? PELZAUNE_ISO8601 : 0;
+}
+
+static inline uint32_t syntax_of(bytes description)
+{
+    return description.length && memchr(description.at, '%', description.length) ? PELZAUNE_STRFTIME : PELZAUNE_BRACKETS_2;
+}
+
+/* Reads a format. Where it is none, *out is unchanged, and *index is that of its fault. */
+static inline pelzaune_status read_form(bytes given, form *out, size_t *index)
+{
+    uint32_t number = number_of_format(given);
+    if (!number) {
+        pelzaune_status status = pelzaune_describe(syntax_of(given), given.at, given.length, &out->held, index);
+        if (status) return status;
+    }
+    out->number = number;
+    return PELZAUNE_OK;
+}
+
+/* Parses a text by a format into what the call's name says. */
+#define PARSED_BY_FORM(name, type) \
+    static inline pelzaune_status name##_by(const form *by, bytes it, type *out) \
+    { \
+        return by->number ? pelzaune_parse_##name(by->number, it.at, it.length, out) \
+            : pelzaune_described_##name(&by->held, it.at, it.length, out); \
+    }
+PARSED_BY_FORM(moment, pelzaune_moment)
+PARSED_BY_FORM(instant, pelzaune_instant)
+PARSED_BY_FORM(local, pelzaune_local)
+PARSED_BY_FORM(date, pelzaune_date)
+PARSED_BY_FORM(time, pelzaune_time)
+PARSED_BY_FORM(parts, pelzaune_parts)
+#undef PARSED_BY_FORM
+
+/* Why a text has no value: the reason, and, where `wanted` isn't 0, what was expected at a place of the text. */
+typedef struct {
+    pelzaune_status reason, wanted;
+    pelzaune_place place;
+} refusal;
+
+/* Finds the place of a text that a format, given as it is written, refuses for that reason. */
+static inline refusal placed(pelzaune_status reason, bytes given, bytes it)
+{
+    refusal found = { reason, PELZAUNE_OK, { 0, 0 } };
+    uint32_t number = number_of_format(given);
+    found.wanted = number ? pelzaune_locate(number, it.at, it.length, &found.place)
+        : pelzaune_read_locate(syntax_of(given), given.at, given.length, it.at, it.length, &found.place);
+    return found;
+}
+
+static inline int is_refused(pelzaune_status status)
+{
+    return status && PELZAUNE_KIND(status) != PELZAUNE_INSUFFICIENT;
+}
+
+/* Why a text has neither a moment, a date, a time nor an offset, or not the one that it says. 0: it has. */
+static inline pelzaune_status reason_of(const form *by, bytes it)
+{
+    pelzaune_moment moment;
+    pelzaune_parts parts = { .date_status = PELZAUNE_OK };
+    pelzaune_status none = moment_by(by, it, &moment);
+    if (!none) return PELZAUNE_OK;
+    if (parts_by(by, it, &parts)) return none;
+    const pelzaune_status each[] = { parts.date_status, parts.time_status, parts.offset_status };
+    for (int k = 0; k < 3; k++)
+        if (is_refused(each[k])) return each[k];
+    return each[0] && each[1] && each[2] ? none : PELZAUNE_OK;
+}
+
+/* The room for what `write_expectation` writes. */
+#define EXPECTATION_ROOM 24
+
+/* Writes what was expected at a place: the name of a component, 'T' for a byte (or '\x1b'), or the end. */
+static inline void write_expectation(const refusal *why, char *out)
+{
+    unsigned byte = why->place.byte;
+    const char *told = pelzaune_text(why->wanted), *name = strchr(told, '\'');
+    if (PELZAUNE_KIND(why->wanted) == PELZAUNE_TRAILING)
+        snprintf(out, EXPECTATION_ROOM, "the end");
+    else if (PELZAUNE_KIND(why->wanted) == PELZAUNE_INVALID_LITERAL)
+        snprintf(out, EXPECTATION_ROOM, byte >= 32 && byte < 127 ? "'%c'" : "'\\x%02x'", byte);
+    else
+        snprintf(out, EXPECTATION_ROOM, "%.*s", name ? (int)strcspn(name + 1, "'") : 0, name ? name + 1 : "");
+}
+
+#endif

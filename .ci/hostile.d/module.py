@@ -1,4 +1,4 @@
-"""Tries of the Python module: the same texts, by its calls and as columns, and moments that it writes.
+"""Tries of the Python module: the same texts, by its calls, as columns and as lists, and moments that it writes.
 
 A process of its own imports the module and answers, so that it may end in any way.
 """
@@ -29,10 +29,15 @@ for line in sys.stdin:
             answer = pelzaune.format_datetime(__import__("datetime").datetime.fromisoformat(given), form)
         else:
             form = form if isinstance(form, int) else bytes.fromhex(form)
-            answer = getattr(pelzaune, call)(bytes.fromhex(given), form)
-            answer = answer.tolist() if call == "column" else answer if call == "unix_ns" else repr(answer)
+            if call == "parse_many":
+                texts = [it if kind == "str" else bytes.fromhex(it) for kind, it in given[0]]
+                answer = pelzaune.parse_many(iter(texts) if given[1] == "iter" else texts, form, given[2])
+                answer = [it.tolist() for it in answer] if given[2] == "none" else answer.tolist()
+            else:
+                answer = getattr(pelzaune, call)(bytes.fromhex(given), form)
+                answer = answer.tolist() if call == "column" else answer if call == "unix_ns" else repr(answer)
     except (pelzaune.ParseError, pelzaune.FormatError) as error:
-        answer = [type(error).__name__, str(error), error.component, getattr(error, "index", None)]
+        answer = [type(error).__name__, str(error), error.component, getattr(error, "text_index", None), getattr(error, "index", None)]
     print(json.dumps(answer), flush=True)
 """
 
@@ -106,21 +111,42 @@ def answer(call, form, text):
             return repr(python_time(outcome(form, "time", text)))
         if call == "unix_ns":
             return instant(outcome(form, "datetime", text))
+        if call == "within":
+            return within(form, text)
         lines = text.split(b"\n")
         return [count(form, line) for line in (lines if lines[-1] else lines[:-1])]
     except Told as error:
-        return ["ParseError", *error.args, None]
+        return ["ParseError", *error.args, None, None]
     except Refused as fault:
         place = form.place(text, {})
-        return ["ParseError", fault.text(), fault.name, place and place[0]]
+        return ["ParseError", fault.text(), fault.name, None, place and place[0]]
+
+
+def within(form, text):
+    """The nanoseconds of a text, which 64 bits hold."""
+    found = instant(outcome(form, "datetime", text))
+    if not -2**63 <= found < 2**63:
+        raise Told("the instant is out of range of 64 bits of nanoseconds", None)
+    return found
 
 
 def count(form, line):
     try:
-        found = instant(outcome(form, "datetime", line))
-    except Refused:
+        return within(form, line)
+    except (Refused, Told):
         return NO_COUNT
-    return found if -2**63 <= found < 2**63 else NO_COUNT
+
+
+def answer_many(form, many, errors):
+    """What `parse_many` answers."""
+    found = [answer("within", form, it) for it in many]
+    refused = [at for at, it in enumerate(found) if isinstance(it, list)]
+    if errors == "none":
+        return [[NO_COUNT if at in refused else it for at, it in enumerate(found)], refused]
+    if not refused:
+        return found
+    kind, said, name, _, place = found[refused[0]]
+    return [kind, f"text {refused[0]}: {said}", name, refused[0], place]
 
 
 def written(value, name):
@@ -131,7 +157,7 @@ def written(value, name):
         return writing.of_form(name, "auto", None, moment).decode()
     except writing.Unwritable as why:
         part = str(why).split()[1].replace("_", " ")
-        return ["FormatError", f"the '{part}' component has no text in that format", part, None]
+        return ["FormatError", f"the '{part}' component has no text in that format", part, None, None]
 
 
 def random_form(rng):
@@ -163,15 +189,33 @@ def ask(rng):
     if rng.random() < 0.1:
         text = b"\n".join(texts.some_text(rng, made(rng)) for _ in range(rng.randint(0, 5))) + rng.choice([b"", b"\n"])
         return ["column", text.hex(), sent], answer("column", form, text)
+    if rng.random() < 0.1:
+        damaged = rng.random() < 0.5
+        many = [texts.some_text(rng, made(rng)) if damaged else made(rng) for _ in range(rng.randint(0, 5))]
+        errors = rng.choice(["raise", "none"])
+        given = [[kind_of(rng, it) for it in many], rng.choice(["list", "iter"]), errors]
+        return ["parse_many", given, sent], answer_many(form, many, errors)
     call, text = rng.choice(CALLS), texts.some_text(rng, made(rng))
     return [call, text.hex(), sent], answer(call, form, text)
+
+
+def kind_of(rng, text):
+    """Bytes, as they are sent, or as a str where they are UTF-8."""
+    try:
+        return ["str", text.decode()] if rng.random() < 0.7 else ["bytes", text.hex()]
+    except UnicodeDecodeError:
+        return ["bytes", text.hex()]
 
 
 def snippet(sent):
     call, text, form = sent
     if call == "format_datetime":
         return f"pelzaune.format_datetime(datetime.datetime.fromisoformat({text!r}), {form})"
-    return f"pelzaune.{call}({bytes.fromhex(text)!r}, {form if isinstance(form, int) else bytes.fromhex(form)!r})"
+    form = form if isinstance(form, int) else bytes.fromhex(form)
+    if call == "parse_many":
+        many = [it if kind == "str" else bytes.fromhex(it) for kind, it in text[0]]
+        return f"pelzaune.parse_many({many!r}, {form!r}, {text[2]!r})"
+    return f"pelzaune.{call}({bytes.fromhex(text)!r}, {form!r})"
 
 
 def calls(rng, tally, command, number=300):
@@ -187,5 +231,5 @@ def calls(rng, tally, command, number=300):
         tally.differ("python", f"{last}\n    ends with {status} and {log[-500:].decode(errors='replace')}")
     for (sent, wanted), found in zip(asked, got):
         if isinstance(wanted, list) and any in wanted and isinstance(found, list):
-            wanted, found = wanted[:3], found[:3]
+            wanted, found = wanted[:4], found[:4]
         tally.same("python", found, wanted, lambda sent=sent: snippet(sent))

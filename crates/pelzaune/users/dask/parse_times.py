@@ -7,22 +7,14 @@ The times are those of RFC 3339, in UTC: a text that is refused has none (NaT).
 import sys
 
 import dask.dataframe
-import numpy
-import pandas
-import pelzaune
 from count_days import cluster
 from distributed import Client
-
-
-def times(texts):
-    """The times of a partition of texts. A line end in one is no end of a line of the column."""
-    entries = pelzaune.column("".join(text.replace("\n", " ") + "\n" for text in texts))
-    return pandas.Series(numpy.frombuffer(entries, "datetime64[ns]"), texts.index, name=texts.name)
+from pelzaune.pandas import to_datetime
 
 
 def parse(column):
     """The times of a column of a table. A process parses a partition at a time."""
-    return column.map_partitions(times, meta=(column.name, "datetime64[ns]"))
+    return column.map_partitions(to_datetime, errors="none", meta=(column.name, "datetime64[ns, UTC]"))
 
 
 def main(name, paths):

@@ -1,13 +1,23 @@
 """Two processes of a cluster on this machine answer as one process does."""
 import os
 import random
+import re
+import subprocess
+import sys
+import tempfile
 import unittest
 from collections import Counter
 
 import dask.bag
+import dask.dataframe
+import pandas
 import pelzaune
 from count_days import cluster, count_days, days
 from distributed import Client
+from parse_times import parse
+from pelzaune.pandas import to_datetime
+
+HERE = os.path.dirname(os.path.abspath(__file__))
 
 
 def made_lines(count):
@@ -37,19 +47,29 @@ class Cluster(unittest.TestCase):
             self.assertEqual(count_days(bag), Counter(alone))
 
     def test_tables(self):
-        try:
-            import dask.dataframe
-            import pandas
-            from parse_times import parse, times
-        except ImportError as missing:
-            self.skipTest(str(missing))
-        texts = pandas.Series([line.split(" ")[0] for line in made_lines(20000)] + ["", "\n", "1970-01-01T00:00:01Z\n"], name="at")
-        alone = times(texts)
+        texts = pandas.Series([line.split(" ")[0] for line in made_lines(20000)] + ["", "\n", "1970-01-01T00:00:01Z", None], name="at")
+        alone = to_datetime(texts, errors="none")
         self.assertTrue(2000 < alone.isna().sum() < 8000)
-        self.assertEqual(times(pandas.Series(["1970-01-02T00:00:00Z", "\n", "x"])).astype("int64").tolist(), [86400 * 10**9] + [pelzaune.NO_COUNT] * 2)
         with cluster() as processes, Client(processes):
-            got = parse(dask.dataframe.from_pandas(texts.to_frame(), npartitions=8)["at"]).compute()
-        pandas.testing.assert_series_equal(got, alone)
+            table = dask.dataframe.from_pandas(texts.to_frame(), npartitions=8)
+            got = parse(table["at"])
+            self.assertEqual(str(got.dtype), "datetime64[ns, UTC]")
+            pandas.testing.assert_series_equal(got.compute(), alone)
+
+    def test_program(self):
+        """It prints what is in two files, of which one has a text that is refused."""
+        with tempfile.TemporaryDirectory() as folder:
+            for name, text in (("1.csv", "1970-01-01T00:00:01Z"), ("2.csv", "?")):
+                with open(f"{folder}/{name}", "w") as file:
+                    file.write(f"at\n{text}\n")
+            done = subprocess.run([sys.executable, f"{HERE}/parse_times.py", "at", f"{folder}/1.csv", f"{folder}/2.csv"], capture_output=True, text=True)
+        self.assertEqual((done.stdout, done.returncode), ("1970-01-01 00:00:01+00:00 1970-01-01 00:00:01+00:00 1 have no time\n", 0), done.stderr)
+
+    def test_page(self):
+        """The lines that the page quotes stand in the program."""
+        with open(f"{HERE}/../../README.md") as page, open(f"{HERE}/parse_times.py") as program:
+            quoted = re.findall(r"(?ms)^```text users/dask/parse_times.py\n(.*?)^```$", page.read())
+            self.assertEqual([it in program.read() for it in quoted], [True])
 
     def test_days(self):
         self.assertEqual(days(["1970-01-02T00:00:00Z a", "1969-12-31T23:59:59.9Z\n", "x\n"]), [1, -1, None])

@@ -24,7 +24,8 @@ for name in sorted(os.listdir(f"{folder}/pelzaune")):
 files[f"{info}/METADATA"] = (
     f"Metadata-Version: 2.1\nName: pelzaune\nVersion: {version}\n"
     "Summary: Parses date-time texts by RFC 3339, RFC 2822 and ISO 8601\n"
-    "License: MIT OR Apache-2.0\nRequires-Python: >=3.10\n").encode()
+    "License: MIT OR Apache-2.0\nRequires-Python: >=3.10\n"
+    "Provides-Extra: pandas\nRequires-Dist: pandas; extra == \"pandas\"\n").encode()
 files[f"{info}/WHEEL"] = f"Wheel-Version: 1.0\nGenerator: pelzaune\nRoot-Is-Purelib: false\nTag: {tag}\n".encode()
 record = ""
 for name, data in files.items():

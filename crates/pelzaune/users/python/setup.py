@@ -1,5 +1,6 @@
 """Builds the extension module over include/pelzaune.h and libpelzaune.a: in lib/ of this folder, as a source archive has
 it, or in out/ of the folder PELZAUNE_HOME, or else of the folder of the library, two above this one."""
+import glob
 import os
 
 from setuptools import Extension, setup
@@ -21,7 +22,7 @@ setup(
             extra_objects=[ARCHIVE],
             extra_compile_args=["-std=c99", "-Wall", "-Wextra", "-fvisibility=hidden"],
             extra_link_args=["-Wl,--exclude-libs,ALL"],
-            depends=[ARCHIVE, "pelzaune/asking.h", "pelzaune/columns.h", "pelzaune/describing.h"],
+            depends=[ARCHIVE, *sorted(glob.glob("pelzaune/*.h", root_dir=HERE))],
         )
     ]
 )

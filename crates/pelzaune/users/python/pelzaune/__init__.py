@@ -36,6 +36,16 @@ The lines of a file are a column of numbers, of which a line that is refused has
 >>> pelzaune.column(b"1970-01-02T00:00:00Z\\n1970-01-01T00:00:00.000000001Z\\n?\\n")
 array('q', [86400000000000, 1, -9223372036854775808])
 
+So are the texts of a list, of any other iterable, of an array of numpy or of a Series of pandas (for one that pandas gives
+back see `pelzaune.pandas`). One that is refused raises, or, where you say so, is told by a second array:
+
+>>> pelzaune.parse_many(["1970-01-02T00:00:00Z", "1970-13-01T00:00:00Z"])
+Traceback (most recent call last):
+    ...
+pelzaune.ParseError: text 1: month is out of range
+>>> pelzaune.parse_many(["1970-01-02T00:00:00Z", "1970-13-01T00:00:00Z"], errors="none")
+(array('q', [86400000000000, -9223372036854775808]), array('q', [1]))
+
 A datetime is written too:
 
 >>> pelzaune.format_datetime(pelzaune.parse("1985-04-12T23:20:50.52-08:30"), pelzaune.RFC2822)
@@ -57,6 +67,7 @@ from pelzaune._pelzaune import (
     format_datetime,
     parse,
     parse_date,
+    parse_many,
     parse_parts,
     parse_time,
     unix_ns,
@@ -64,6 +75,6 @@ from pelzaune._pelzaune import (
 
 __all__ = [
     "ISO8601", "NO_COUNT", "RFC2822", "RFC3339", "Description", "DescriptionError", "FormatError", "ParseError", "column", "column_into",
-    "format_datetime", "parse", "parse_date", "parse_parts", "parse_time", "unix_ns",
+    "format_datetime", "parse", "parse_date", "parse_many", "parse_parts", "parse_time", "unix_ns",
 ]
 __version__ = "1.1.0"

@@ -1,6 +1,6 @@
 import array
 import datetime
-from typing import Any, Final, Optional, Tuple, Union, final
+from typing import Any, Final, Iterable, Literal, Optional, Tuple, Union, final, overload
 
 RFC3339: Final[int]
 RFC2822: Final[int]
@@ -11,6 +11,7 @@ __version__: str
 class ParseError(ValueError):
     component: Optional[str]
     index: Optional[int]
+    text_index: Optional[int]
 
 class DescriptionError(ParseError): ...
 
@@ -33,6 +34,18 @@ def parse_parts(
     text: _Text, format: _Format = ...
 ) -> Tuple[Optional[datetime.date], Optional[datetime.time], Optional[datetime.timezone]]: ...
 def unix_ns(text: _Text, format: _Format = ...) -> int: ...
+
+# `texts` are those of a list, of any other iterable, of an array of numpy or of a Series of pandas.
+@overload
+def parse_many(texts: Iterable[_Text], format: _Format = ..., errors: Literal["raise"] = ...) -> "array.array[int]": ...
+@overload
+def parse_many(
+    texts: Iterable[_Text], format: _Format = ..., *, errors: Literal["none"]
+) -> Tuple["array.array[int]", "array.array[int]"]: ...
+@overload
+def parse_many(
+    texts: Iterable[_Text], format: _Format, errors: Literal["none"]
+) -> Tuple["array.array[int]", "array.array[int]"]: ...
 
 # `text` and `out` are any contiguous buffers, of bytes and of signed numbers of 64 bits.
 def column(text: Any, format: _Format = ...) -> "array.array[int]": ...

@@ -2,6 +2,7 @@
 #include "asking.h"
 #include "columns.h"
 #include "describing.h"
+#include "many.h"
 
 /* Python has the years 1 to 9999, and raises where there is none. */
 static inline int has_year(int32_t year)
@@ -209,6 +210,12 @@ static PyMethodDef methods[] = {
     CALL(column_into, "(text, out, format=RFC3339)", "Puts the nanoseconds of each line of a text into a writable buffer of numbers of 64 bits.\n\n"
         "As many lines are parsed as the buffer has numbers. Answers how many lines the text has, and how many of the\n"
         "parsed ones are refused and have NO_COUNT. Raises ParseError where the format is none."),
+    CALL(parse_many, "(texts, format=RFC3339, errors='raise')", "The nanoseconds of each text of an iterable, as array('q').\n\n"
+        "The texts are str or bytes, in a list or any other iterable, an array of numpy (of U, S or object) or a Series of\n"
+        "pandas. Other threads run while they are parsed. A text that is refused, or whose nanoseconds 64 bits don't hold,\n"
+        "raises ParseError, whose `text_index` is the index of the text. With errors='none' it has NO_COUNT, and the\n"
+        "answer is a pair: the array, and another with the indices of such texts. What is no text raises TypeError."),
+    CALL(_parse_present, "(texts, format, errors, missing)", "The same where some objects stand for a missing text, for pelzaune.pandas."),
     CALL(format_datetime, "(value, format=RFC3339)", "The text of a datetime with a zone. Raises FormatError where it has none in that format."),
     { NULL, NULL, 0, NULL },
 };
@@ -230,8 +237,8 @@ static int add_names(PyObject *made)
 {
     parse_error = add_error(made, "ParseError", PyExc_ValueError,
         "Why a text has no value. `component` is the name of the component that is wrong, and `index` that of the byte that\n"
-        "can't be read; or None. A part that the calendar refuses has no index.",
-        Py_BuildValue("{s:O,s:O}", "component", Py_None, "index", Py_None));
+        "can't be read; or None. A part that the calendar refuses has no index. `text_index` is the index of a text of many.",
+        Py_BuildValue("{s:O,s:O,s:O}", "component", Py_None, "index", Py_None, "text_index", Py_None));
     description_error = !parse_error ? NULL : add_error(made, "DescriptionError", parse_error,
         "Why a text is no description. `index` is that of its first fault, or None where it is too long.",
         NULL);

@@ -67,6 +67,14 @@ static int is_format(const question *asked)
     return 0;
 }
 
+/* An array('q') of so many numbers, whose buffer is held. */
+static PyObject *make_array(size_t count, Py_buffer *entries)
+{
+    PyObject *made = PySequence_Repeat(array_of_q, (Py_ssize_t)count);
+    if (made && PyObject_GetBuffer(made, entries, PyBUF_WRITABLE)) Py_CLEAR(made);
+    return made;
+}
+
 static PyObject *column(GIVEN)
 {
     static const char *const names[] = { "text", "format" };
@@ -76,8 +84,7 @@ static PyObject *column(GIVEN)
     size_t refused;
     (void)self;
     if (!arguments("column", names, 1, 2, given, count, named, values) || !take_lines(values[0], values[1], &these)) return NULL;
-    PyObject *made = is_format(&these.asked) ? PySequence_Repeat(array_of_q, (Py_ssize_t)read_lines(&these.asked, NULL, 0, &refused)) : NULL;
-    if (made && PyObject_GetBuffer(made, &entries, PyBUF_WRITABLE)) Py_CLEAR(made);
+    PyObject *made = is_format(&these.asked) ? make_array(read_lines(&these.asked, NULL, 0, &refused), &entries) : NULL;
     if (made) {
         read_lines(&these.asked, entries.buf, (size_t)entries.len / sizeof(int64_t), &refused);
         PyBuffer_Release(&entries);

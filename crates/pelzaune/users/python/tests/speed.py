@@ -1,8 +1,10 @@
 """Prints tables of the nanoseconds that calls take, the least of many rounds, beside those of the standard library and, where
-they are there, of ciso8601, udatetime and numpy (Debian: python3-ciso8601, python3-udatetime, python3-numpy)."""
+they are there, of ciso8601, udatetime, numpy and pandas (Debian: python3-ciso8601, python3-udatetime, python3-numpy,
+python3-pandas)."""
 import datetime
 import email.utils
 import importlib
+import random
 import timeit
 
 import pelzaune
@@ -17,6 +19,10 @@ ISO8601 = ("20210102T030405Z", "2020-W53-6T03:04:05Z", "2021-01-02T03:04:05", "2
 RFC2822 = ("Sat, 02 Jan 2021 03:04:05 +0607", "Sat, 02 Jan 2021 03:04:05 GMT")
 DESCRIBED = (("2021-01-02 03:04:05", "%Y-%m-%d %H:%M:%S"), ("02/Jan/2021:03:04:05 -0030", "%d/%b/%Y:%H:%M:%S %z"))
 LINES = 100000
+# Texts as strftime writes them, and the format by which they are read.
+LISTS = (("`2021-01-02T03:04:05Z`", "%Y-%m-%dT%H:%M:%SZ", pelzaune.RFC3339),
+         ("`2021-01-02T03:04:05.123456Z`", "%Y-%m-%dT%H:%M:%S.%fZ", pelzaune.RFC3339),
+         ("`02/Jan/2021:03:04:05 +0000`", "%d/%b/%Y:%H:%M:%S %z", pelzaune.Description("%d/%b/%Y:%H:%M:%S %z")))
 
 
 def least(call, *given):
@@ -28,9 +34,14 @@ def least(call, *given):
     return min(timeit.Timer(lambda: call(*given)).repeat(60, 2000)) / 2000 * 1e9
 
 
-def a_line(call):
+def a_line(call, repeat=12, lines=LINES):
     """Nanoseconds a line of a call that takes all lines."""
-    return min(timeit.repeat(call, number=1, repeat=12)) / LINES * 1e9
+    return min(timeit.repeat(call, number=1, repeat=repeat)) / lines * 1e9
+
+
+def in_turn(*calls):
+    """The same of calls that are made in turn, so that each is tried where the machine does little else."""
+    return [min(its) / LINES * 1e9 for its in zip(*([timeit.timeit(call, number=1) for call in calls] for _ in range(60)))]
 
 
 def row(*cells):
@@ -81,6 +92,38 @@ def columns():
         a_line(lambda: [email.utils.parsedate_to_datetime(it).timestamp() for it in many]))
 
 
-texts()
-descriptions()
-columns()
+def made(form):
+    """Texts of moments, all in UTC, of which few are the same."""
+    r, day = random.Random(3339), datetime.datetime(1970, 1, 1, tzinfo=datetime.timezone.utc)
+    return [(day + datetime.timedelta(microseconds=r.randrange(2**52))).strftime(form) for _ in range(LINES)]
+
+
+def of_texts(many, written, form):
+    """A text of a list joined, of `column`, of the list and of a Series; and of a Series by pandas, for the RFC that it knows and
+    by a format; each None where pandas isn't there."""
+    lines = "\n".join(many)
+    calls = [lambda: "\n".join(many), lambda: pelzaune.column(lines, form), lambda: pelzaune.parse_many(many, form)]
+    if not found("pandas", "Series"):
+        return in_turn(*calls) + [None] * 3
+    ours, theirs = importlib.import_module("pelzaune.pandas"), importlib.import_module("pandas")
+    texts, few = theirs.Series(many), theirs.Series(many[:LINES // 10])
+    known = a_line(lambda: theirs.to_datetime(few, utc=True), 20, len(few)) if form == pelzaune.RFC3339 else None
+    by_format = a_line(lambda: theirs.to_datetime(few, format=written, utc=True), 5, len(few))
+    return in_turn(*calls, lambda: ours.to_datetime(texts, form)) + [known, by_format]
+
+
+def lists():
+    rows = [[name, *of_texts(made(written), written, form)] for name, written, form in LISTS]
+    head("100000 texts as", "joined", "`column`", "`parse_many`", "`pelzaune.pandas`", "`pandas.to_datetime`", "with `format=`")
+    for it in rows:
+        row(*it)
+    head("Ratios", "`parse_many` beside `column`", "`pandas.to_datetime` beside `pelzaune.pandas`", "the same with `format=`")
+    for name, _, column, many, series, known, by_format in rows:
+        row(name, f"{many / column:.2f}", known and known / series, by_format and by_format / series)
+
+
+if __name__ == "__main__":
+    texts()
+    descriptions()
+    columns()
+    lists()

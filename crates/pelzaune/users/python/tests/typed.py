@@ -4,6 +4,7 @@ import datetime
 from typing import Optional, Tuple
 
 import pelzaune
+import pelzaune.pandas
 
 day = pelzaune.Description("[day].[month].[year]")
 text: str = "1985-04-12T23:20:50.52Z"
@@ -14,6 +15,10 @@ time: datetime.time = pelzaune.parse_time("23:20", "%H:%M")
 parts: Tuple[Optional[datetime.date], Optional[datetime.time], Optional[datetime.timezone]] = pelzaune.parse_parts(text, pelzaune.ISO8601)
 nanoseconds: int = pelzaune.unix_ns(text, format=pelzaune.RFC3339)
 entries: "array.array[int]" = pelzaune.column(text + "\n", pelzaune.RFC3339)
+many: "array.array[int]" = pelzaune.parse_many([text, b""], pelzaune.RFC3339, errors="raise")
+lenient: Tuple["array.array[int]", "array.array[int]"] = pelzaune.parse_many((it for it in [text]), errors="none")
+by_day: Tuple["array.array[int]", "array.array[int]"] = pelzaune.parse_many([text], day, "none")
+to_datetime = pelzaune.pandas.to_datetime
 counts: Tuple[int, int] = pelzaune.column_into(b"", entries)
 written: str = pelzaune.format_datetime(moment, pelzaune.RFC2822)
 version: str = pelzaune.__version__
@@ -24,5 +29,6 @@ except pelzaune.DescriptionError as fault:
     index: Optional[int] = fault.index
 except pelzaune.ParseError as refusal:
     component: Optional[str] = refusal.component
+    index = refusal.text_index
 except pelzaune.FormatError as unwritten:
     component = unwritten.component

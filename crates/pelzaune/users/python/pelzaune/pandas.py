@@ -1,0 +1,43 @@
+"""The texts of a Series of pandas, as times in UTC. Import it by hand; it needs pandas.
+
+>>> import pandas
+>>> import pelzaune.pandas
+>>> texts = pandas.Series(["1985-04-12T23:20:50.52-08:30", None, "1985-04-31T00:00:00Z"], name="seen")
+>>> pelzaune.pandas.to_datetime(texts, errors="none")
+0   1985-04-13 07:50:50.520000+00:00
+1                                NaT
+2                                NaT
+Name: seen, dtype: datetime64[ns, UTC]
+>>> pelzaune.pandas.to_datetime(texts)
+Traceback (most recent call last):
+    ...
+pelzaune.ParseError: text 2: day is out of range for the other components
+"""
+import numpy
+import pandas
+
+from pelzaune import RFC3339
+from pelzaune._pelzaune import _parse_present
+
+__all__ = ["to_datetime"]
+
+MISSING = (None, pandas.NaT, pandas.NA)
+
+
+def to_datetime(series, format=RFC3339, errors="raise"):
+    """The times of the texts of a Series, as a Series of datetime64[ns, UTC] with the same index and name.
+
+    The texts are str or bytes, in any dtype that holds these: object, string or category. The format is RFC3339, RFC2822,
+    ISO8601, a Description or the text of one, and a text needs an offset, or what else says an instant.
+
+    A missing value (None, NaN, NaT or pandas.NA) has NaT. A text that is refused raises ParseError, whose `text_index` is
+    its place in the Series, counted from 0; with errors="none" it has NaT. So is one whose instant datetime64[ns] can't
+    hold. Anything else in the Series raises TypeError.
+    """
+    if not isinstance(series, pandas.Series):
+        raise TypeError(f"series must be a pandas Series, not {type(series).__name__}")
+    counts = _parse_present(series.to_numpy(dtype=object), format, errors, MISSING)
+    if errors == "none":
+        counts, _ = counts
+    times = pandas.DatetimeIndex(numpy.asarray(counts).view("datetime64[ns]"), tz="UTC")
+    return pandas.Series(times, index=series.index, name=series.name)

@@ -1,0 +1,228 @@
+"""Tests of parse_many over what changes while it is read or tells lies, in threads, and of what is held after it."""
+import gc
+import itertools
+import random
+import signal
+import sys
+import threading
+import tracemalloc
+import unittest
+
+import pelzaune
+from test_many import LOG, MANY, TEXT, alone, made_texts, many
+
+
+class Lying(list):
+    """A list whose methods tell nothing of what it has."""
+    def __init__(self, texts, answer):
+        super().__init__(texts)
+        self.answer = answer
+
+    def __len__(self):
+        return self.answer
+
+    def __length_hint__(self):
+        return self.answer
+
+    def __iter__(self):
+        return iter([TEXT, TEXT])
+
+
+class Changed(unittest.TestCase):
+    def test_lies(self):
+        for answer in (-1, 0, 1, 2**62, 2**70, "5"):
+            self.assertEqual(many(Lying(["?"] * 5, answer)), [10**9] * 2)
+        for wrong in (None, 5, [], TEXT):
+            class Wrong:
+                def __iter__(self):
+                    return wrong
+
+            self.assertRaises(TypeError, pelzaune.parse_many, Wrong())
+
+        class Telling:
+            def to_numpy(self):
+                return self.answer
+
+        for answer in (None, 5, [5]):
+            Telling.answer = answer
+            self.assertRaises(TypeError, pelzaune.parse_many, Telling())
+        Telling.answer = [TEXT]
+        self.assertEqual(many(Telling()), [10**9])
+
+    def test_iterators_that_raise(self):
+        def raising(count, error):
+            yield from itertools.repeat(TEXT, count)
+            raise error
+
+        for count in (0, 1, 8192, MANY):
+            for error in (KeyError, UnicodeError, MemoryError, GeneratorExit):
+                for errors in ("raise", "none"):
+                    with self.assertRaises(error) as caught:
+                        pelzaune.parse_many(raising(count, error), errors=errors)
+                    self.assertFalse(hasattr(caught.exception, "text_index"))
+
+    def test_iterators_that_change_the_list(self):
+        texts = [TEXT] * MANY
+
+        def shortening():
+            for text in texts:
+                yield text
+                texts.pop()
+
+        self.assertEqual(len(many(shortening())), MANY // 2)
+
+        class Ending(str):
+            def __del__(self):
+                del texts[len(texts) // 2:]
+
+        texts[:] = [Ending(TEXT) for _ in range(MANY)]
+        iterator = iter(texts)
+        self.assertTrue(len(many(map(lambda _: Ending(TEXT), iterator))) <= MANY)
+        texts[:] = [TEXT] * MANY + [Ending(TEXT)]
+        texts[0] = Ending(TEXT)
+        self.assertTrue(len(many(texts)) > 0)
+
+    def test_calls_within_calls(self):
+        def nested(depth):
+            for _ in range(3):
+                if depth:
+                    self.assertEqual(many(nested(depth - 1)), [10**9] * 3)
+                yield TEXT
+
+        self.assertEqual(many(nested(5)), [10**9] * 3)
+
+    def test_other_threads_change_the_list(self):
+        texts, stop = [TEXT] * MANY, threading.Event()
+
+        def change():
+            r = random.Random(7)
+            while not stop.is_set():
+                r.choice((texts.clear, lambda: texts.extend(made_texts(50) * 400), lambda: texts.append("".join(["?"])),
+                          lambda: texts.__delitem__(slice(0, None, 2)), texts.reverse))()
+
+        thread = threading.Thread(target=change)
+        thread.start()
+        for _ in range(30):
+            counts, refused = pelzaune.parse_many(texts, errors="none")
+            self.assertTrue(all(counts[index] == pelzaune.NO_COUNT for index in refused))
+            if not texts:
+                texts.extend([TEXT] * MANY)
+        stop.set()
+        thread.join()
+
+    def test_interrupted(self):
+        class Alarm(Exception):
+            pass
+
+        def ring(*_):
+            raise Alarm
+
+        before = signal.signal(signal.SIGALRM, ring)
+        try:
+            signal.setitimer(signal.ITIMER_REAL, 0.05)
+            self.assertRaises(Alarm, pelzaune.parse_many, itertools.chain(itertools.repeat(TEXT, 10**8), itertools.repeat("?")), errors="none")
+        finally:
+            signal.setitimer(signal.ITIMER_REAL, 0)
+            signal.signal(signal.SIGALRM, before)
+
+
+class Threads(unittest.TestCase):
+    def test_others_run_meanwhile(self):
+        texts = ["02/Jan/2021:03:04:05 -0030"] * 200000
+        done, turns, found = threading.Event(), 0, []
+        thread = threading.Thread(target=lambda: (found.append(pelzaune.parse_many(texts, LOG)), done.set()))
+        thread.start()
+        while not done.is_set():
+            turns += 1
+        thread.join()
+        self.assertTrue(turns > 1000)
+        self.assertEqual(set(found[0]), {pelzaune.unix_ns(texts[0], LOG)})
+
+    def test_same_list_in_many_threads(self):
+        texts, form = made_texts(MANY), pelzaune.Description("[year]-[month]-[day]T[hour]:[minute]:[second]Z")
+        wanted, by_form = alone(texts), alone(texts, form)
+        differing = []
+
+        def read():
+            for _ in range(3):
+                if many(texts, errors="none") != wanted or many(texts, form, "none") != by_form:
+                    differing.append(1)
+
+        threads = [threading.Thread(target=read) for _ in range(4)]
+        for thread in threads:
+            thread.start()
+        for thread in threads:
+            thread.join()
+        self.assertEqual(differing, [])
+
+
+class Held(unittest.TestCase):
+    def calls(self):
+        text, byte, odd, wrong = "".join([TEXT]), bytes(bytearray(TEXT.encode())), "".join(["\u00e9", TEXT]), "".join([TEXT, "\ud800"])
+        form, other = pelzaune.Description(LOG), object()
+        return [text, byte, odd, wrong, form, other], [
+            lambda: pelzaune.parse_many([text, byte]),
+            lambda: pelzaune.parse_many(iter([text, byte, odd, wrong]), errors="none"),
+            lambda: pelzaune.parse_many([text] * 300),
+            lambda: pelzaune.parse_many([text, byte], form),
+            lambda: pelzaune.parse_many([byte, odd, text]),
+            lambda: pelzaune.parse_many([text, wrong]),
+            lambda: pelzaune.parse_many([text, byte, other]),
+            lambda: pelzaune.parse_many([text, odd, other]),
+            lambda: pelzaune.parse_many((text for _ in range(5) if text or other)),
+            lambda: pelzaune.parse_many([text, 1 / 0]),
+            lambda: pelzaune.parse_many(other),
+            lambda: pelzaune.parse_many([text], other),
+            lambda: pelzaune.parse_many([text], errors=other),
+            lambda: pelzaune._pelzaune._parse_present([text, None, other, 0.0], 1, "none", (None, other)),
+        ]
+
+    def ask(self, call):
+        try:
+            call()
+        except (ValueError, TypeError, ZeroDivisionError):
+            pass
+
+    def test_references(self):
+        values, calls = self.calls()
+        for call in calls:
+            before = [sys.getrefcount(it) for it in values]
+            for _ in range(20):
+                self.ask(call)
+            self.assertEqual([sys.getrefcount(it) for it in values], before)
+
+    def grown(self, call):
+        """The bytes that are held more after a hundred calls: the least of some rounds, as Python's own caches grow now and then."""
+        found = []
+        for _ in range(4):
+            gc.collect()
+            before = tracemalloc.get_traced_memory()[0]
+            for _ in range(100):
+                self.ask(call)
+            gc.collect()
+            found.append(tracemalloc.get_traced_memory()[0] - before)
+        return min(found)
+
+    def test_memory(self):
+        _, calls = self.calls()
+        tracemalloc.start()
+        try:
+            for number, call in enumerate(calls):
+                self.assertTrue(self.grown(call) < 800, number)
+        finally:
+            tracemalloc.stop()
+
+    def test_missing(self):
+        present = pelzaune._pelzaune._parse_present
+        texts, least = [TEXT, None, float("nan"), "?", Ellipsis], "1677-09-21T00:12:43.145224192Z"
+        answer = present(texts, 1, "none", (None, Ellipsis))
+        self.assertEqual([it.tolist() for it in answer], [[10**9] + [pelzaune.NO_COUNT] * 4, [3]])
+        self.assertRaisesRegex(TypeError, "text 4 must be str or bytes, not ellipsis", present, texts, 1, "none", (None,))
+        self.assertRaisesRegex(TypeError, "text 1 must be str or bytes, not float", present, [None, 1.5], 1, "none", (None,))
+        self.assertRaisesRegex(pelzaune.ParseError, "text 3", present, texts, 1, "raise", (None,))
+        self.assertRaisesRegex(pelzaune.ParseError, "text 1: the instant is out of range", present, [None, least], 1, "raise", (None,))
+        self.assertEqual([it.tolist() for it in present([None, least], 1, "none", (None,))], [[pelzaune.NO_COUNT] * 2, [1]])
+
+
+if __name__ == "__main__":
+    unittest.main()

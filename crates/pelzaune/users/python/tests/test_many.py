@@ -1,0 +1,188 @@
+"""Tests of parse_many: every kind of iterable and of text, and refusals."""
+import array
+import collections
+import random
+import unittest
+
+import pelzaune
+
+TEXT = "1970-01-01T00:00:01Z"
+LOG = "%d/%b/%Y:%H:%M:%S %z"
+MANY = 30000  # of which a batch is a part
+
+
+def many(*given, **named):
+    """The numbers that are answered, and, where it says so, the indices."""
+    answer = pelzaune.parse_many(*given, **named)
+    return tuple(it.tolist() for it in answer) if isinstance(answer, tuple) else answer.tolist()
+
+
+def made_texts(count):
+    """Texts of which some are damaged."""
+    r = random.Random(count)
+    return [f"20{r.randrange(100):02}-{r.randint(1, 13):02}-{r.randint(1, 31):02}T03:04:05{r.choice(['Z', '.5+05:30', '-08:00'])}"
+            for _ in range(count)]
+
+
+def alone(texts, form=pelzaune.RFC3339):
+    """What parse_many answers with errors="none", text by text."""
+    counts, refused = [], []
+    for index, text in enumerate(texts):
+        try:
+            counts.append(pelzaune.unix_ns(text, form))
+        except pelzaune.ParseError:
+            counts.append(pelzaune.NO_COUNT)
+            refused.append(index)
+    return counts, refused
+
+
+class Answers(unittest.TestCase):
+    def test_iterables(self):
+        texts = [TEXT, b"1970-01-01T00:00:02Z", "1969-12-31T23:59:59.999999999Z"]
+        counts = [10**9, 2 * 10**9, -1]
+        for it in (texts, tuple(texts), iter(texts), (text for text in texts), collections.deque(texts), dict.fromkeys(texts), map(lambda it: it, texts)):
+            answer = pelzaune.parse_many(it)
+            self.assertEqual((type(answer), answer.typecode, answer.tolist()), (array.array, "q", counts))
+        self.assertEqual(many({TEXT}), [10**9])
+        for empty in ([], (), iter([]), {}):
+            self.assertEqual(many(empty), [])
+            self.assertEqual(many(empty, errors="none"), ([], []))
+
+        class Indexed:
+            def __getitem__(self, index):
+                return texts[index]
+
+        self.assertEqual(many(Indexed()), counts)
+
+    def test_formats(self):
+        for form in ("%d.%m.%Y %z", b"%d.%m.%Y %z", pelzaune.Description("[day].[month].[year] [offset_hour sign:mandatory][offset_minute]")):
+            self.assertEqual(many(["02.01.1970 +0000", "01.01.1970 -0001"], form, "none"), ([pelzaune.NO_COUNT] * 2, [0, 1]))
+        for form in (LOG, LOG.encode(), pelzaune.Description(LOG)):
+            self.assertEqual(many(["02/Jan/1970:00:00:00 +0000", "01/Jan/1970:00:00:00 -0001"], form), [86400 * 10**9, 60 * 10**9])
+        self.assertEqual(many(texts=["Fri, 02 Jan 1970 00:00:00 GMT"], errors="raise", format=pelzaune.RFC2822), [86400 * 10**9])
+        self.assertEqual(many(["19700102T000000Z"], pelzaune.ISO8601), [86400 * 10**9])
+        self.assertEqual(many(["1", "-1"], "[unix_timestamp]"), [10**9, -(10**9)])
+
+    def test_each_text_as_alone(self):
+        for count in (1, 255, 8191, 8192, 8193, MANY):
+            texts = made_texts(count)
+            self.assertEqual(many(texts, errors="none"), alone(texts))
+            self.assertEqual(many(iter(texts), errors="none"), alone(texts))
+            self.assertEqual(pelzaune.parse_many(texts, errors="none")[0], pelzaune.column("\n".join(texts)))
+        logs = [f"{day:02}/{month}/2021:03:04:05 -0030" for day in range(33) for month in ("Jan", "Feb", "Mai")]
+        self.assertEqual(many(logs, LOG, "none"), alone(logs, LOG))
+
+    def test_ends_of_the_numbers(self):
+        least, below = "1677-09-21T00:12:43.145224192Z", "1677-09-21T00:12:43.145224191Z"
+        greatest, above = "2262-04-11T23:47:16.854775807Z", "2262-04-11T23:47:16.854775808Z"
+        self.assertEqual(many([least, greatest]), [-(2**63), 2**63 - 1])
+        self.assertEqual(many([least, below, above], errors="none"), ([pelzaune.NO_COUNT] * 3, [1, 2]))
+        for text in (below, above):
+            with self.assertRaisesRegex(pelzaune.ParseError, "text 1: the instant is out of range") as caught:
+                pelzaune.parse_many([TEXT, text])
+            self.assertEqual((caught.exception.text_index, caught.exception.index), (1, None))
+
+
+class Refusals(unittest.TestCase):
+    def refused(self, texts, *given):
+        with self.assertRaises(pelzaune.ParseError) as caught:
+            pelzaune.parse_many(texts, *given)
+        error = caught.exception
+        return str(error), error.component, error.text_index, error.index
+
+    def test_places(self):
+        self.assertEqual(self.refused([TEXT, "1970-13-01T00:00:00Z", "?"]), ("text 1: month is out of range", "month", 1, 5))
+        self.assertEqual(self.refused([TEXT] * MANY + [b"1970-02-30T00:00:00Z"]),
+                         (f"text {MANY}: day is out of range for the other components", "day", MANY, None))
+        self.assertEqual(self.refused(iter([""])), ("text 0: the 'year' component could not be parsed", "year", 0, 0))
+        self.assertEqual(self.refused(["02/Jan-2021"], "%d/%b/%Y"), ("text 0: a character literal was not valid", None, 0, 6))
+        self.assertIsNone(pelzaune.ParseError("text").text_index)
+        with self.assertRaises(pelzaune.ParseError) as caught:
+            pelzaune.parse("")
+        self.assertIsNone(caught.exception.text_index)
+
+    def test_first_error(self):
+        """The error is that of the first text that has one, and nothing is answered."""
+        self.assertEqual(self.refused(["?", 5])[2], 0)
+        self.assertEqual(self.refused([TEXT, "?", "\ud800"])[2], 1)
+        self.assertRaises(TypeError, pelzaune.parse_many, [5, "?"])
+        self.assertRaises(UnicodeEncodeError, pelzaune.parse_many, ["\ud800", "?", 5])
+
+        def raising():
+            yield "?"
+            raise KeyError
+
+        self.assertEqual(self.refused(raising())[2], 0)
+        self.assertRaises(KeyError, pelzaune.parse_many, raising(), errors="none")
+
+    def test_wrong_types(self):
+        for wrong in (None, 5, 1.5, [], bytearray(b"1970"), memoryview(b"1970"), object(), float("nan")):
+            for errors in ("raise", "none"):
+                for before in (0, 1, MANY):
+                    with self.assertRaises(TypeError) as caught:
+                        pelzaune.parse_many([TEXT] * before + [wrong], errors=errors)
+                    self.assertEqual(str(caught.exception), f"text {before} must be str or bytes, not {type(wrong).__name__}")
+                    self.assertEqual(caught.exception.text_index, before)
+        for wrong in (None, 5, TEXT, TEXT.encode(), object()):
+            self.assertRaises(TypeError, pelzaune.parse_many, wrong)
+        for wrong in (bytearray(b"1970"), memoryview(b"1970"), array.array("q", [1])):
+            self.assertRaisesRegex(TypeError, "text 0", pelzaune.parse_many, wrong)
+
+    def test_arguments(self):
+        for call in (pelzaune.parse_many, pelzaune._pelzaune._parse_present):
+            self.assertRaises(TypeError, call)
+            self.assertRaises(TypeError, call, [], 1, "none", (), 5)
+            self.assertRaises(TypeError, call, [], texts=[])
+            self.assertRaises(TypeError, call, [], 1, error="none")
+        for wrong in ("", "ignore", "coerce", None, 5, b"none", "none\0"):
+            self.assertRaises(ValueError, pelzaune.parse_many, [], errors=wrong)
+        self.assertRaises(TypeError, pelzaune._pelzaune._parse_present, [], 1, "none", None)
+        self.assertRaises(TypeError, pelzaune.parse_many, [], 1.5)
+        self.assertRaises(OverflowError, pelzaune.parse_many, [], -1)
+        for texts in ([], [TEXT]):
+            for errors in ("raise", "none"):
+                self.assertRaisesRegex(pelzaune.ParseError, "no format", pelzaune.parse_many, texts, 9, errors)
+                self.assertRaises(pelzaune.DescriptionError, pelzaune.parse_many, texts, "[year]-[moth]", errors)
+                self.assertRaises(UnicodeEncodeError, pelzaune.parse_many, texts, "%Y\ud800", errors)
+
+
+class Texts(unittest.TestCase):
+    def test_characters(self):
+        odd = [TEXT + "\0", "\0" + TEXT, TEXT + "\n", "1970-01-01T00:00:0\u0661Z", "\u00e9", "\U0001f550", "1970\u201301-01T00:00:00Z", b"\xff", ""]
+        for text in odd:
+            self.assertEqual(many([TEXT, text, TEXT], errors="none"), ([10**9, pelzaune.NO_COUNT, 10**9], [1]))
+            with self.assertRaises(pelzaune.ParseError) as caught:
+                pelzaune.parse_many([TEXT, text])
+            self.assertEqual(caught.exception.text_index, 1)
+        self.assertEqual(many(["1 Uhr \u00e9", "1 Uhr \u00e8", "1 Uhr \u00e9".encode()], "[unix_timestamp] Uhr \u00e9", "none"),
+                         ([10**9, pelzaune.NO_COUNT, 10**9], [1]))
+
+    def test_surrogates(self):
+        for text in ("\ud800", TEXT + "\udfff", "\ud83d\udd50"):
+            with self.assertRaises(UnicodeEncodeError) as caught:
+                pelzaune.parse_many([TEXT] * 3 + [text])
+            self.assertEqual(caught.exception.text_index, 3)
+            self.assertEqual(many([text, TEXT], errors="none"), ([pelzaune.NO_COUNT, 10**9], [0]))
+
+    def test_subclasses(self):
+        class Text(str):
+            def __str__(self):
+                return "?"
+
+            __len__ = __iter__ = __getitem__ = encode = __str__
+
+        class Bytes(bytes):
+            __len__ = __iter__ = __getitem__ = __bytes__ = lambda self: 1 / 0
+
+        texts = [Text(TEXT), Bytes(TEXT.encode()), Text("\u00e9"), Text("\ud800")]
+        self.assertEqual(many(texts, errors="none"), ([10**9, 10**9] + [pelzaune.NO_COUNT] * 2, [2, 3]))
+        self.assertEqual(many([Text("1 \u00e9")], "[unix_timestamp] \u00e9"), [10**9])
+
+    def test_long(self):
+        long = ["1970-01-01T00:00:01." + "0" * length + "Z" for length in (1, 9, 1000, 10**6)]
+        self.assertEqual(many(long), [10**9] * 4)
+        self.assertEqual(many(["x" * 10**7, TEXT], errors="none"), ([pelzaune.NO_COUNT, 10**9], [0]))
+
+
+if __name__ == "__main__":
+    unittest.main()

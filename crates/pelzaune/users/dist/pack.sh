@@ -26,7 +26,7 @@ cp users/dist/rust.md "$all/rust/README.md"
 cp out/libpelzaune.a "$all/rust/lib"
 
 cp users/dist/python.md "$all/python/README.md"
-"$python" users/dist/wheel.py out/c/python "$version.0" "$all/python"
+"$python" users/dist/wheel.py out/c/python "$version" "$all/python"
 source=$at/source
 cp -r users/python "$source"
 mkdir "$source/include" "$source/lib"

@@ -20,7 +20,7 @@ extern "C" {
 #endif
 
 /* 256 * major + minor. A program can't go on where pelzaune_version() has another major number than it was compiled for. */
-#define PELZAUNE_VERSION 0x0101u
+#define PELZAUNE_VERSION 0x0100u
 uint32_t pelzaune_version(void);
 
 /* Formats. Any other number is answered by PELZAUNE_UNKNOWN_FORMAT. */

@@ -31,9 +31,9 @@ use time_values::{Date, OffsetDateTime, PlainDateTime, Time, UtcDateTime, UtcOff
 /// minor number.
 #[unsafe(no_mangle)]
 pub extern "C" fn pelzaune_version() -> u32
-    ensures { result ≡ 0x0101 }
+    ensures { result ≡ 0x0100 }
 {
-    0x0101
+    0x0100
 }
 
 /// Writes what a status says over the front of the buffer, as far as the buffer goes, and answers how many bytes the

@@ -73,7 +73,7 @@ fn add_sections(alloc: Global, mut command: Command<'_>) -> Result<Command<'_>, 
 pub fn make_command<'a>(alloc: Global) -> Result<Command<'a>, AllocError> {
     let command = Command::new(alloc, "restamp")
         .bin_name("restamp")?
-        .version("0.1.0")
+        .version("1.0.0")
         .about(
             "Rewrites the time in each line of files, or of standard input, and leaves every\nother byte as it is.",
         )

@@ -66,7 +66,7 @@ fn follow(rt: &HostRuntime, words: &[String]) -> io::Result<u8> {
             Ok(0)
         }
         Command::Version => {
-            println!(rt; "time_parse 0.1.0")?;
+            println!(rt; "time_parse 1.0.0")?;
             Ok(0)
         }
         Command::Parse(question) => answer(rt, question),

@@ -1,13 +1,12 @@
 #!/bin/sh
-# Takes the archive as a user does, in an empty folder: unpacks it, and runs the commands of each page, which have to print
-# what the page says. The source of the Python module is built there too. The extension of PostgreSQL is tried on a server of
-# its own, where what builds it is there.
+# Takes the archive as a user does, in an empty folder: unpacks it, and follows the page of each language. The extension of
+# PostgreSQL is tried on a server of its own, where what builds it is there.
 #
 #     try.sh ARCHIVE [LANGUAGE..]
 set -e
 serving=$(realpath "$(dirname "$0")/../postgres/tests/server.py")
 unset CARGO_TARGET_DIR PELZAUNE_LIB PELZAUNE_HOME
-archive=$(realpath "$1")
+archive=$(realpath "$1") follow=$(realpath "$(dirname "$0")/follow.sh")
 shift
 at=$(mktemp -d)
 trap 'rm -rf "$at"' EXIT
@@ -30,12 +29,5 @@ run() {
 }
 
 for language in "$@"; do
-    (
-        cd "$language"
-        sed -n '/^```sh$/,/^```$/p' README.md | sed '/^```/d' > ../commands
-        test "$(wc -l < ../commands)" = 2
-        wanted=$(sed -n 's/^It prints `\(.*\)`\.$/\1/p' README.md)
-        got=$(run sh -e ../commands 2> ../log) || { cat ../log; exit 1; }
-        test "$got" = "$wanted" || { echo "$language: $got"; exit 1; }
-    )
+    (cd "$language" && run "$follow" README.md)
 done

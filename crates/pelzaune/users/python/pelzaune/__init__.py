@@ -77,4 +77,4 @@ __all__ = [
     "ISO8601", "NO_COUNT", "RFC2822", "RFC3339", "Description", "DescriptionError", "FormatError", "ParseError", "column", "column_into",
     "format_datetime", "parse", "parse_date", "parse_many", "parse_parts", "parse_time", "unix_ns",
 ]
-__version__ = "1.1.0"
+__version__ = "1.0.0"

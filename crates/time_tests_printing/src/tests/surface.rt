@@ -5,6 +5,7 @@ use time_readers::ParsedItem;
 mod components;
 mod errors;
 mod formats;
+mod moments;
 mod readers;
 mod records;
 mod values;

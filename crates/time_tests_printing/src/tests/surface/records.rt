@@ -1,11 +1,7 @@
-//! The setters, builders and getters of a record, and its values.
-use std::convert::TryFrom;
+//! The setters, builders and getters of a record.
 use std::num::NonZero;
 use time_record::Parsed;
-use time_values::error::TryFromParsed;
-use time_values::{
-    Date, Month, OffsetDateTime, PlainDateTime, Time, Timestamp, UtcDateTime, UtcOffset, Weekday,
-};
+use time_values::{Month, Weekday};
 
 // The record's years are those.
 fn has_years(parsed: &Parsed) -> bool {
@@ -283,19 +279,4 @@ fn with_timestamps(rt: HostRuntime) {
     let parsed: Option<Parsed> = Parsed::new().with_unix_timestamp_nanos(-1);
     let parsed: Parsed = parsed.expect(&rt, "a record");
     assert!(rt; has_timestamp(&parsed));
-}
-
-// What a record may be converted to.
-trait Value: TryFrom<Parsed, Error = TryFromParsed> {}
-
-impl<T: TryFrom<Parsed, Error = TryFromParsed>> Value for T {}
-
-// Types that a record may be converted to.
-fn are_values<A: Value, B: Value, C: Value, D: Value, E: Value, F: Value, G: Value>() {}
-
-#[test]
-fn values(rt: HostRuntime) {
-    are_values::<Date, Time, UtcOffset, PlainDateTime, OffsetDateTime, UtcDateTime, Timestamp>();
-    let date: Result<Date, TryFromParsed> = Date::try_from(Parsed::new());
-    assert!(rt; date == Err(TryFromParsed::InsufficientInformation));
 }

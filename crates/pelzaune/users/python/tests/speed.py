@@ -5,6 +5,7 @@ import datetime
 import email.utils
 import importlib
 import random
+import time
 import timeit
 
 import pelzaune
@@ -19,10 +20,12 @@ ISO8601 = ("20210102T030405Z", "2020-W53-6T03:04:05Z", "2021-01-02T03:04:05", "2
 RFC2822 = ("Sat, 02 Jan 2021 03:04:05 +0607", "Sat, 02 Jan 2021 03:04:05 GMT")
 DESCRIBED = (("2021-01-02 03:04:05", "%Y-%m-%d %H:%M:%S"), ("02/Jan/2021:03:04:05 -0030", "%d/%b/%Y:%H:%M:%S %z"))
 LINES = 100000
-# Texts as strftime writes them, and the format by which they are read.
-LISTS = (("`2021-01-02T03:04:05Z`", "%Y-%m-%dT%H:%M:%SZ", pelzaune.RFC3339),
-         ("`2021-01-02T03:04:05.123456Z`", "%Y-%m-%dT%H:%M:%S.%fZ", pelzaune.RFC3339),
-         ("`02/Jan/2021:03:04:05 +0000`", "%d/%b/%Y:%H:%M:%S %z", pelzaune.Description("%d/%b/%Y:%H:%M:%S %z")))
+# Texts as strftime writes them, with hours of their offsets, and the format by which they are read.
+LOG = "%d/%b/%Y:%H:%M:%S %z"
+LISTS = (("`2021-01-02T03:04:05Z`", "%Y-%m-%dT%H:%M:%SZ", (0,), pelzaune.RFC3339),
+         ("`2021-01-02T03:04:05.123456Z`", "%Y-%m-%dT%H:%M:%S.%fZ", (0,), pelzaune.RFC3339),
+         ("`02/Jan/2021:03:04:05 +0000`", LOG, (0,), pelzaune.Description(LOG)),
+         ("the same in ten zones", LOG, range(-5, 5), pelzaune.Description(LOG)))
 
 
 def least(call, *given):
@@ -35,13 +38,13 @@ def least(call, *given):
 
 
 def a_line(call, repeat=12, lines=LINES):
-    """Nanoseconds a line of a call that takes all lines."""
-    return min(timeit.repeat(call, number=1, repeat=repeat)) / lines * 1e9
+    """Nanoseconds of processor time a line, of a call that takes all lines."""
+    return min(timeit.repeat(call, number=1, repeat=repeat, timer=time.process_time)) / lines * 1e9
 
 
 def in_turn(*calls):
     """The same of calls that are made in turn, so that each is tried where the machine does little else."""
-    return [min(its) / LINES * 1e9 for its in zip(*([timeit.timeit(call, number=1) for call in calls] for _ in range(60)))]
+    return [min(its) / LINES * 1e9 for its in zip(*([timeit.timeit(call, number=1, timer=time.process_time) for call in calls] for _ in range(60)))]
 
 
 def row(*cells):
@@ -92,10 +95,11 @@ def columns():
         a_line(lambda: [email.utils.parsedate_to_datetime(it).timestamp() for it in many]))
 
 
-def made(form):
-    """Texts of moments, all in UTC, of which few are the same."""
-    r, day = random.Random(3339), datetime.datetime(1970, 1, 1, tzinfo=datetime.timezone.utc)
-    return [(day + datetime.timedelta(microseconds=r.randrange(2**52))).strftime(form) for _ in range(LINES)]
+def made(form, hours):
+    """Texts of moments, of which few are the same."""
+    r, zones = random.Random(3339), [datetime.timezone(datetime.timedelta(hours=it)) for it in hours]
+    return [(datetime.datetime(1970, 1, 1, tzinfo=r.choice(zones)) + datetime.timedelta(microseconds=r.randrange(2**52))).strftime(form)
+            for _ in range(LINES)]
 
 
 def of_texts(many, written, form):
@@ -113,7 +117,7 @@ def of_texts(many, written, form):
 
 
 def lists():
-    rows = [[name, *of_texts(made(written), written, form)] for name, written, form in LISTS]
+    rows = [[name, *of_texts(made(written, hours), written, form)] for name, written, hours, form in LISTS]
     head("100000 texts as", "joined", "`column`", "`parse_many`", "`pelzaune.pandas`", "`pandas.to_datetime`", "with `format=`")
     for it in rows:
         row(*it)

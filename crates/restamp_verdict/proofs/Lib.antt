@@ -2,6 +2,7 @@ pub mod Counts
 pub mod ReadingLemmas
 pub mod Completing
 pub mod AloneLemmas
+pub mod BeginsLemmas
 pub mod BareLemmas
 pub mod OneWriting
 pub mod OneVerdict

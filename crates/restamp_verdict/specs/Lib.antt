@@ -6,6 +6,7 @@ pub mod Lack
 pub mod LackSteps
 pub mod LackLaws
 pub mod Job
+pub mod Begins
 pub mod ReadBack
 pub mod Told
 pub mod Laws

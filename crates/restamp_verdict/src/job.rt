@@ -5,11 +5,11 @@ ghost use Rattle.restamp_verdict.specs.Job as spec;
 ghost use Rattle.restamp_verdict.specs.Reading.{Says};
 ghost use Rattle.restamp_verdict.specs.Reason.{seen, seen_read, seen_written};
 
-use crate::dated::{read_dated, read_further};
+use crate::dated::read_further;
 use crate::form::{Form, Writing, write_moment, write_named};
 use crate::reading::{Defaults, Reading, Said, read_once};
 use crate::reason::Reason;
-use restamp_place::{Place, body_of, find_span};
+use restamp_place::{Place, find_span};
 use std::cmp::Ordering;
 use time_values::OffsetDateTime;
 use time_values::text::Text;
@@ -77,16 +77,6 @@ fn is_before(moment: OffsetDateTime, bound: Option<OffsetDateTime>, otherwise: b
     }
 }
 
-// Whether an ASCII letter or digit stands right before a place of the line, and one right at it.
-fn is_inside(line: &[u8], place: usize) -> bool
-    ensures { result ≡ spec.is_inside line.now place }
-{
-    0 < place
-        && place < line.len()
-        && line[place - 1].is_ascii_alphanumeric()
-        && line[place].is_ascii_alphanumeric()
-}
-
 impl Said {
     // The verdict on a line that says a moment so in a part from that place on, by what is written of it.
     #[inline(always)]
@@ -120,7 +110,7 @@ impl Job<'_> {
 
     // The verdict on a line of which some bytes say a moment, in a part from that place on.
     #[inline(always)]
-    fn put(&self, start: usize, said: Said) -> Verdict
+    pub(crate) fn put(&self, start: usize, said: Said) -> Verdict
         requires { start + said.start + said.length + 1 < 2 ^ 64 }
         ensures put { spec.IsPut greatest_year self.now start said (spec.seen_verdict result) }
         ensures within { spec.IsWithin (start + said.start + said.length) (spec.seen_verdict result) }
@@ -165,7 +155,7 @@ impl Job<'_> {
     }
 
     // The verdict on a line that has no place for a time.
-    fn miss(&self) -> Verdict
+    pub(crate) fn miss(&self) -> Verdict
         ensures { spec.seen_verdict result ≡ spec.missed self.now }
     {
         if self.asks_for_times {
@@ -216,77 +206,6 @@ impl Job<'_> {
                 column: start + 1,
                 reason: why,
             },
-        }
-    }
-
-    // What the line says by that format from a byte on, unless it ends inside a word or a number.
-    fn read_alone(&self, line: &[u8], start: usize, reading: &Reading) -> Option<Said>
-        requires { start ≤ length line.now }
-        ensures said { spec.SaysAlone greatest_year self.now line.now start reading.now result }
-        ensures within { IfSome result (λ said. start + said.start + said.length ≤ length line.now) }
-    {
-        let rest = &line[start..];
-        let near = &rest[..REACH.min(rest.len())];
-        let Ok(said) = read_dated(reading, true, near, &self.defaults) else {
-            return None;
-        };
-        if is_inside(line, start + said.start + said.length) {
-            return None;
-        }
-        Some(said)
-    }
-
-    // The same by the first of the others by which it says something.
-    fn read_others(&self, line: &[u8], start: usize) -> Option<Said>
-        requires { start ≤ length line.now }
-        ensures said { spec.AreTriedAlone greatest_year self.now line.now start self.now.others.now result }
-        ensures within { IfSome result (λ said. start + said.start + said.length ≤ length line.now) }
-    {
-        for reading in self.others {
-            if let Some(said) = self.read_alone(line, start, reading) {
-                return Some(said);
-            }
-        }
-        None
-    }
-
-    // What the line says from a byte on that isn't inside a word or a number.
-    fn read_from(&self, line: &[u8], start: usize) -> Option<Said>
-        requires { start ≤ length line.now }
-        ensures said { spec.SaysFrom greatest_year self.now line.now start result }
-        ensures within { IfSome result (λ said. start + said.start + said.length ≤ length line.now) }
-    {
-        if is_inside(line, start) {
-            return None;
-        }
-        match self.read_alone(line, start, self.first) {
-            Some(said) => Some(said),
-            None => self.read_others(line, start),
-        }
-    }
-
-    // The first place of the line from which on it says a moment, and what it says.
-    fn find_first(&self, line: &[u8]) -> Option<(usize, Said)>
-        ensures first { spec.IsFirst greatest_year self.now line.now result }
-        ensures within { IfSome result (λ found. found.0 + found.1.start + found.1.length ≤ length line.now) }
-    {
-        for start in 0..line.len() {
-            if let Some(said) = self.read_from(line, start) {
-                return Some((start, said));
-            }
-        }
-        None
-    }
-
-    // The verdict on a line whose time may stand anywhere but in a CR at its end.
-    fn judge_anywhere(&self, line: &[u8]) -> Verdict
-        ensures verdict { spec.IsJudgedAnywhere greatest_year self.now line.now (spec.seen_verdict result) }
-        ensures within { spec.IsWithin (length line.now) (spec.seen_verdict result) }
-    {
-        let body = body_of(line);
-        match self.find_first(body) {
-            Some((start, said)) => self.put(start, said),
-            None => self.miss(),
         }
     }
 

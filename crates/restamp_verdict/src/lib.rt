@@ -1,6 +1,7 @@
 //! What becomes of a line whose time is read by one format and written by another.
 #![tactic(auto)]
 
+mod anywhere;
 mod dated;
 mod form;
 mod job;

@@ -1,0 +1,236 @@
+-- From a byte with which no text of a format begins nothing is said.
+use Rattle.std.proofs.Common.{◌≡◌, ℕ, zero, suc, ◌+◌, ◌-◌, ◌<◌, ◌≤◌, ◌==◌, ◌++◌, ℤ, pos, Bool, true, false, not, List, [], ◌∷◌, codes, length, get_or, take, drop, refl, sym, ap, subst, arith, inl, inr, get_or-drop, get_or-take, ◌∙◌, None, Some, Err}
+use Rattle.std.specs.Prelude.{Option, Result, ◌&&◌, ◌||◌, MatchBool, MatchOption, ◌-ℤ◌}
+use Rattle.std.specs.Char.{is_ascii_digit}
+use Rattle.std.proofs.lemmas.Bool.{and_from, and_right, le-leb, or_from, or_left, or_parts, or_right, true≢false}
+use Rattle.std.proofs.lemmas.List.{take_more}
+use Rattle.time_values.specs.Refusal.{Refusal, component as of_component}
+use Rattle.time_values.specs.declared.offset_date_time.OffsetDateTime.{OffsetDateTime}
+use Rattle.time_values.specs.declared.utc_offset.UtcOffset.{UtcOffset}
+use Rattle.time_digits.specs.Bytes.{sign_byte}
+use Rattle.time_digits.specs.Cuts.{NoCut}
+use Rattle.time_digits.specs.Digits.{IsDigit, IsDigitRun, IsPaddedRun}
+use Rattle.time_digits.specs.declared.Padding.{Padding}
+use Rattle.time_digits.specs.declared.Padding.TheVariants as padding
+use Rattle.time_digits.specs.declared.Sign.{Sign}
+use Rattle.time_digits.specs.declared.Sign.TheVariants.{Negative, Positive}
+use Rattle.time_components.specs.Spelling.{Value, Spells, IsSigned}
+use Rattle.time_components.specs.Steps.{steps_shape, trees_in}
+use Rattle.time_components.specs.Tree.{Tree, Trees, component, more, sequence}
+use Rattle.time_components.specs.declared.format_description.Component.{Component}
+use Rattle.time_components.specs.declared.format_description.Component.TheVariants as variant
+use Rattle.time_components.specs.declared.step.Step.{Step}
+use Rattle.time_components.specs.declared.step.Step.TheVariants as step
+use Rattle.time_readers.specs.Places.{Stand}
+use Rattle.time_readers.specs.Rfc3339.{Asks, FailsAt, nothing_read}
+use Rattle.time_readers.specs.declared.rfc3339.Place.TheVariants.{Year, YearDash, Month, MonthDash, Day, Separator, Hour, HourColon, Minute, MinuteColon, Second, Subsecond, OffsetHour, OffsetColon, OffsetMinute}
+use Rattle.time_record.specs.Components.{component_fault}
+use Rattle.time_record.specs.Reading.{IsFault, IsFaultAll, NoReading, Reads, ReadsAll, Refuses}
+use Rattle.time_record.specs.Record.{empty}
+use Rattle.restamp_verdict.specs.Begins.{IsInNone, component_firsts, digits, format_firsts, is_in, numbers, padded, steps_firsts}
+use Rattle.restamp_verdict.specs.Job.{AreTriedAlone, SaysAlone, SaysFrom, is_inside}
+use Rattle.restamp_verdict.specs.Reading.{AreYearsTried, IsDated, IsRead, Undated, in_year, undated, year_after}
+use Rattle.restamp_verdict.specs.Reason.{Reason, unread}
+use Rattle.restamp_verdict.specs.declared.anywhere.fast.Firsts.{Firsts}
+use Rattle.restamp_verdict.specs.declared.job.Job.{Job}
+use Rattle.restamp_verdict.specs.declared.job.TheConstants.{REACH}
+use Rattle.restamp_verdict.specs.declared.reading.Defaults.{Defaults}
+use Rattle.restamp_verdict.specs.declared.reading.Reading.{Reading}
+use Rattle.restamp_verdict.specs.declared.reading.Reading.TheVariants as reading
+use Rattle.restamp_verdict.specs.declared.reading.Said.{Said}
+
+-- the first byte of a text
+abbrev first : List ℕ → ℕ
+first text = get_or text 0 0
+
+digit-first : (c : ℕ) → IsDigit c → is_ascii_digit c ≡ true
+digit-first c h = and_from _ _ (le-leb _ _ h.0) (le-leb _ _ h.1)
+
+-- a run of digits begins with one
+run-first : (least most : ℕ) (text rest : List ℕ) (v : ℕ) → 1 ≤ least → IsDigitRun least most text rest v → is_ascii_digit (first (text ++ rest)) ≡ true
+run-first least most [] rest v some h = let enough = h.enough in absurd (omega arith)
+run-first least most (c ∷ cs) rest v some h = digit-first c h.digits.0
+
+digit-in : (f : Firsts) (x : ℕ) → is_ascii_digit x ≡ true → is_in f x ≡ true
+digit-in f x h = or_left _ _ (or_left _ _ h)
+
+-- and so does one of some width, where no spaces fill it up
+padded-first : (p : Padding) (f : Firsts) (least most : ℕ) (text rest : List ℕ) (v : ℕ) → 1 ≤ least → IsPaddedRun p least most text rest v
+    → is_in (padded p f) (first (text ++ rest)) ≡ true
+padded-first padding.Space f least most text rest v some h = or_right _ _ refl
+padded-first padding.Zero f least most text rest v some h = digit-in f (first (text ++ rest)) (run-first least most text rest v some h)
+padded-first padding.None f least most text rest v some h = digit-in f (first (text ++ rest)) (run-first 1 most text rest v (omega arith) h)
+
+sign-in : (s : Sign) → is_in numbers (sign_byte s) ≡ true
+sign-in Negative = refl
+sign-in Positive = refl
+
+sign-padded : (p : Padding) (s : Sign) → is_in (padded p numbers) (sign_byte s) ≡ true
+sign-padded padding.Space s = or_right _ _ refl
+sign-padded padding.Zero s = sign-in s
+sign-padded padding.None s = sign-in s
+
+-- a text whose first byte is the sign
+signed-first : (p : Padding) (s : Sign) (text tail rest : List ℕ) → text ≡ sign_byte s ∷ tail → is_in (padded p numbers) (first (text ++ rest)) ≡ true
+signed-first p s text tail rest e =
+    subst (λ (t : List ℕ). is_in (padded p numbers) (first (t ++ rest)) ≡ true) (sym e) (sign-padded p s)
+
+-- a component's text begins with a byte that it may begin with
+spelled-first : (c : Component) (text rest : List ℕ) (v : Value) → Spells false c text rest v → is_in (component_firsts c) (first (text ++ rest)) ≡ true
+spelled-first (variant.Day m) text rest v h = padded-first m.padding digits 2 2 text rest h.0 (omega arith) h.2.0
+spelled-first (variant.MonthNumerical m) text rest v h = padded-first m.padding digits 2 2 text rest _ (omega arith) h.2
+spelled-first (variant.Hour24 m) text rest v h = padded-first m.padding digits 2 2 text rest h.0 (omega arith) h.2
+spelled-first (variant.CalendarYearFullExtendedRange m) text rest v (a, is, inl h) = signed-first m.padding a.0 text h.0 rest h.1
+spelled-first (variant.CalendarYearFullExtendedRange m) text rest v (a, is, inr h) = padded-first m.padding numbers 4 4 text rest a.1 (omega arith) h.2
+spelled-first (variant.CalendarYearFullStandardRange m) text rest v (a, is, inl h) = signed-first m.padding a.0 text h.0 rest h.1
+spelled-first (variant.CalendarYearFullStandardRange m) text rest v (a, is, inr h) = padded-first m.padding numbers 4 4 text rest a.1 (omega arith) h.2
+spelled-first (variant.UnixTimestampSecond m) text rest v (a, is, inl h) = signed-first padding.Zero a.0 text h.0 rest h.1
+spelled-first (variant.UnixTimestampSecond m) text rest v (a, is, inr h) = padded-first padding.Zero numbers 1 14 text rest a.1 (omega arith) h.2
+spelled-first (variant.UnixTimestampMillisecond m) text rest v (a, is, inl h) = signed-first padding.Zero a.0 text h.0 rest h.1
+spelled-first (variant.UnixTimestampMillisecond m) text rest v (a, is, inr h) = padded-first padding.Zero numbers 1 17 text rest a.1 (omega arith) h.2
+spelled-first (variant.UnixTimestampMicrosecond m) text rest v (a, is, inl h) = signed-first padding.Zero a.0 text h.0 rest h.1
+spelled-first (variant.UnixTimestampMicrosecond m) text rest v (a, is, inr h) = padded-first padding.Zero numbers 1 20 text rest a.1 (omega arith) h.2
+spelled-first (variant.UnixTimestampNanosecond m) text rest v (a, is, inl h) = signed-first padding.Zero a.0 text h.0 rest h.1
+spelled-first (variant.UnixTimestampNanosecond m) text rest v (a, is, inr h) = padded-first padding.Zero numbers 1 23 text rest a.1 (omega arith) h.2
+spelled-first _ text rest v h = or_right _ _ refl
+
+-- no text in front of the bytes spells the component
+component-unread : (Y : ℕ) (c : Component) (bytes : List ℕ) → is_in (component_firsts c) (first bytes) ≡ false → NoReading Y (component false c) bytes empty
+unfolding Reads
+component-unread Y c bytes none rest r' h =
+    let in-front = subst (λ (b : List ℕ). is_in (component_firsts c) (first b) ≡ true) (sym h.cut) (spelled-first c h.text rest h.value h.spells) in
+    true≢false (sym in-front ∙ none)
+
+-- trees in turn are refused where the first, a component, is
+sequence-refuses : (Y : ℕ) (c : Component) (ts : Trees) (bytes : List ℕ) → is_in (component_firsts c) (first bytes) ≡ false
+    → Refuses Y (sequence (more (component false c) ts)) bytes empty (component_fault c)
+unfolding Reads ReadsAll IsFault IsFaultAll
+sequence-refuses Y c ts bytes none =
+    let here = component-unread Y c bytes none in
+    record { unread = λ rest r' h. here h.0 h.1 h.2; fault = inl (here, refl) }
+
+-- a description refuses bytes with which its text can't begin
+steps-refuse : (Y : ℕ) (steps : List Step) (bytes : List ℕ) → is_in (steps_firsts steps) (first bytes) ≡ false
+    → (e : Refusal) × Refuses Y (steps_shape steps) bytes empty e
+unfolding trees_in
+steps-refuse Y [] bytes none = absurd (true≢false (sym (or_right _ _ refl) ∙ none))
+steps-refuse Y (step.Literal b ∷ steps) bytes none = absurd (true≢false (sym (or_right _ _ refl) ∙ none))
+steps-refuse Y (step.More b ∷ steps) bytes none = absurd (true≢false (sym (or_right _ _ refl) ∙ none))
+steps-refuse Y (step.Group g n ∷ steps) bytes none = absurd (true≢false (sym (or_right _ _ refl) ∙ none))
+steps-refuse Y (step.Component c ∷ steps) bytes none = (component_fault c, sequence-refuses Y c (trees_in (length steps) steps) bytes none)
+
+-- and so does RFC 3339
+year-fails : (bytes : List ℕ) → is_in digits (first bytes) ≡ false → FailsAt true bytes Year
+unfolding Stand
+year-fails bytes none =
+    record {
+      before = [];
+      after = YearDash ∷ Month ∷ MonthDash ∷ Day ∷ Separator ∷ Hour ∷ HourColon ∷ Minute ∷ MinuteColon ∷ Second ∷ Subsecond ∷ OffsetHour ∷ OffsetColon ∷ OffsetMinute ∷ [];
+      place = refl;
+      mid = bytes;
+      numbers = nothing_read;
+      stand = (refl, refl);
+      stops = λ text rest v cut h.
+          true≢false (sym (subst (λ (b : List ℕ). is_in digits (first b) ≡ true) (sym cut) (digit-in digits (first (text ++ rest)) (run-first 4 4 text rest h.0 (omega arith) h.1))) ∙ none);
+    }
+
+-- A format refuses bytes with which no text of it begins, whatever stands for the rest.
+abbrev Refused : ℕ → Reading → List ℕ → Type 0
+Refused Y format text = (e : Refusal) × ((defaults : Defaults) → IsRead Y format true text defaults (Err e))
+
+refused : (Y : ℕ) (format : Reading) (text : List ℕ) → is_in (format_firsts format) (first text) ≡ false → Refused Y format text
+refused Y reading.Rfc3339 text none =
+    let e = of_component (codes "year") in
+    (e, λ defaults. (Err e, inl (Year, year-fails text none, refl), refl))
+refused Y reading.Rfc2822 text none = absurd (true≢false (sym (or_right _ _ refl) ∙ none))
+refused Y reading.Iso8601 text none = absurd (true≢false (sym (or_right _ _ refl) ∙ none))
+refused Y (reading.Described d) text none = let h = steps-refuse Y d text none in (h.0, λ defaults. (Err h.0, inl h.1, refl))
+refused Y (reading.Complete d) text none = let h = steps-refuse Y d text none in (h.0, λ defaults. (Err h.0, inl h.1, refl))
+refused Y (reading.Counted d) text none = let h = steps-refuse Y d text none in (h.0, λ defaults. (Err h.0, inl h.1, refl))
+
+-- the result of such a refusal
+abbrev refusal : Refusal → Result Said Reason
+refusal e = Err (unread e)
+
+-- in no year it says anything
+years-refuse : (Y : ℕ) (format : Reading) (text : List ℕ) (offset : Option UtcOffset) (latest : OffsetDateTime) (h : Refused Y format text) (n : ℕ) (year : ℤ)
+    → AreYearsTried Y (undated format true text offset latest) n year (unread h.0) (Err (unread h.0))
+unfolding AreYearsTried
+years-refuse Y format text offset latest h zero year = refl
+years-refuse Y format text offset latest h (suc n) year =
+    (Err (unread h.0), (Err h.0, h.1 (in_year year offset), refl), years-refuse Y format text offset latest h n (year -ℤ pos 1))
+
+latest-refused : (Y : ℕ) (format : Reading) (text : List ℕ) (offset : Option UtcOffset) (h : Refused Y format text) (latest : Option OffsetDateTime)
+    → MatchOption latest (refusal h.0 ≡ refusal h.0)
+    (λ v. AreYearsTried Y (undated format true text offset v) 10 (year_after v) (unread h.0) (Err (unread h.0)))
+latest-refused Y format text offset h None = refl
+latest-refused Y format text offset h (Some v) = years-refuse Y format text offset v h 10 (year_after v)
+
+dated-refused : (Y : ℕ) (format : Reading) (text : List ℕ) (defaults : Defaults) (h : Refused Y format text)
+    → IsDated Y format true text defaults (Err (unread h.0))
+dated-refused Y format text defaults h =
+    (Err (unread h.0), (Err h.0, h.1 defaults, refl), latest-refused Y format text defaults.offset h defaults.latest)
+
+near-first : (line : List ℕ) (k : ℕ) → first (take REACH (drop k line)) ≡ get_or line k 0
+near-first line k =
+    let from : k + 0 ≡ k = omega arith in
+    get_or-take REACH (drop k line) 0 0 (omega arith) ∙ get_or-drop k line 0 0 ∙ ap (λ (j : ℕ). get_or line j 0) from
+
+-- From a byte with which no text of the format begins the line says nothing by it.
+pub says-nothing : (Y : ℕ) (job : Job) (line : List ℕ) (k : ℕ) (format : Reading) → is_in (format_firsts format) (get_or line k 0) ≡ false
+    → SaysAlone Y job line k format None
+says-nothing Y job line k format none =
+    let text = take REACH (drop k line) in
+    let h = refused Y format text (ap (is_in (format_firsts format)) (near-first line k) ∙ none) in
+    (Err (unread h.0), dated-refused Y format text job.defaults h, refl)
+
+tried-nothing : (Y : ℕ) (job : Job) (line : List ℕ) (k : ℕ) (formats : List Reading) → IsInNone (get_or line k 0) formats
+    → AreTriedAlone Y job line k formats None
+tried-nothing Y job line k [] none = refl
+tried-nothing Y job line k (format ∷ formats) none =
+    (None, says-nothing Y job line k format none.0, tried-nothing Y job line k formats none.1)
+
+-- nothing is said
+abbrev nothing : Option Said
+nothing = None
+
+from-nothing : (Y : ℕ) (job : Job) (line : List ℕ) (k : ℕ) (inside within : Bool)
+    → (not inside && within) ≡ false → (within ≡ false → IsInNone (get_or line k 0) (job.first.now ∷ job.others.now))
+    → MatchBool inside (nothing ≡ nothing) (AreTriedAlone Y job line k (job.first.now ∷ job.others.now) None)
+from-nothing Y job line k true within none h = refl
+from-nothing Y job line k false within none h = tried-nothing Y job line k (job.first.now ∷ job.others.now) (h none)
+
+-- And from one that is inside a word or a number, or with which no text of any format begins, it says nothing at all.
+pub says-none : (Y : ℕ) (job : Job) (line : List ℕ) (f : Firsts)
+    → ((x : ℕ) → is_in f x ≡ false → IsInNone x (job.first.now ∷ job.others.now)) → (k : ℕ)
+    → (not (is_inside line k) && is_in f (get_or line k 0)) ≡ false → SaysFrom Y job line k None
+says-none Y job line f all k none = from-nothing Y job line k (is_inside line k) (is_in f (get_or line k 0)) none (all (get_or line k 0))
+
+joined_and : (p q s : Bool) → ((p || q) && s) ≡ false → ((p && s) ≡ false) × ((q && s) ≡ false)
+joined_and true q s h = (h, and_right q s h)
+joined_and false q s h = (refl, h)
+
+-- the bytes of one of two
+abbrev pub joined : Firsts → Firsts → Firsts
+joined a b = record { signs = a.signs || b.signs; others = a.others || b.others }
+
+-- a byte that isn't among these is in neither
+pub in-joined : (a b : Firsts) (x : ℕ) → is_in (joined a b) x ≡ false → (is_in a x ≡ false) × (is_in b x ≡ false)
+in-joined a b x none =
+    let outer = or_parts _ _ none in
+    let inner = or_parts _ _ outer.0 in
+    let signs = joined_and a.signs b.signs (x == 43 || x == 45) inner.1 in
+    let others = or_parts _ _ outer.1 in
+    (or_from _ _ (or_from _ _ inner.0 signs.0) others.0, or_from _ _ (or_from _ _ inner.0 signs.1) others.1)
+
+none-push : (x : ℕ) (formats : List Reading) (format : Reading) → IsInNone x formats → is_in (format_firsts format) x ≡ false
+    → IsInNone x (formats ++ format ∷ [])
+none-push x [] format none h = (h, tt)
+none-push x (first ∷ formats) format none h = (none.0, none-push x formats format none.1 h)
+
+-- one more format is none of which a text begins with the byte
+pub none-more : (x : ℕ) (formats : List Reading) (i : ℕ) (format : Reading) → i < length formats → format ≡ get_or formats i format
+    → IsInNone x (take i formats) → is_in (format_firsts format) x ≡ false → IsInNone x (take (i + 1) formats)
+none-more x formats i format below is none h =
+    let more : take (i + 1) formats ≡ take i formats ++ format ∷ [] = take_more formats i format below ∙ ap (λ (f : Reading). take i formats ++ f ∷ []) (sym is) in
+    subst (IsInNone x) (sym more) (none-push x (take i formats) format none h)

@@ -19,6 +19,7 @@ fn source_of(name: &[u8]) -> io::Result<Source<'static>> {
 }
 
 // Opens these files, and counts those that were not opened or not read to their end.
+#[derive(Drop)]
 struct Shelf {
     faults: u64,
 }

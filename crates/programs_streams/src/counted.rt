@@ -1,5 +1,5 @@
 //! Readers and writers of std, whose errors are counted.
-ghost use Rattle.std.specs.Prelude.{◌≡◌, ◌↔◌, IsTrue, None};
+ghost use Rattle.std.specs.Prelude.{◌≡◌, ◌≤◌, ◌↔◌, IsTrue, None};
 ghost use Rattle.programs_streams.specs.Faults.{Rises, IsCutOff};
 
 #[cfg(test)]
@@ -53,11 +53,25 @@ impl<T> Counted<T> {
         (inner, error)
     }
 
-    /// Whether a call has failed, or reads have given 18446744073709551615 bytes.
-    pub fn is_cut_off(&self) -> bool
+    // Whether a call has failed, or reads have given 18446744073709551615 bytes.
+    fn is_cut_off(&self) -> bool
         ensures { IsTrue result ↔ IsCutOff 0 self.now.faults self.now.given }
     {
         self.faults > 0 || self.given == u64::MAX
+    }
+
+    /// A count of readers that were cut off, and this one, where it was: a call of it has failed, or it has given
+    /// 18446744073709551615 bytes.
+    pub fn count_cut_off(&self, count: u64) -> u64
+        ensures cut_off { IsCutOff 0 self.now.faults self.now.given → Rises count result }
+        ensures whole { ¬ IsCutOff 0 self.now.faults self.now.given → result ≡ count }
+        ensures later { count ≤ result }
+    {
+        if self.is_cut_off() {
+            count.saturating_add(1)
+        } else {
+            count
+        }
     }
 
     // Counts a call that gave an error.

@@ -146,8 +146,6 @@ impl<'a, R: Files + Input + Clock + Eprint + AllocGlobal> Opening for Disk<'a, R
     }
 
     fn close(&mut self, input: Counted<Metered<'a, R, Source<R::File, R::Reader>>>) {
-        if input.is_cut_off() {
-            self.count_fault();
-        }
+        self.faults = input.count_cut_off(self.faults);
     }
 }

@@ -7,18 +7,19 @@ use std::io::ErrorKind;
 
 // What reads `a` and `b`, a file `half` whose second read fails, and no other.
 fn source_of(name: &[u8]) -> io::Result<Source<'static>> {
-        match name {
-            b"a" => Ok(make_source(b"@1\n!2\n", NEVER)),
-            b"b" => Ok(make_source(b"3\n!4", NEVER)),
-            b"half" => Ok(Source {
-                fails_at: 1,
-                ..make_source(b"@5\n@6", NEVER)
-            }),
-            _ => Err(io::Error::from(ErrorKind::NotFound)),
-        }
+    match name {
+        b"a" => Ok(make_source(b"@1\n!2\n", NEVER)),
+        b"b" => Ok(make_source(b"3\n!4", NEVER)),
+        b"half" => Ok(Source {
+            fails_at: 1,
+            ..make_source(b"@5\n@6", NEVER)
+        }),
+        _ => Err(io::Error::from(ErrorKind::NotFound)),
+    }
 }
 
 // Opens these files, and counts those that were not opened or not read to their end.
+#[derive(Drop)]
 struct Shelf {
     faults: u64,
 }
@@ -43,9 +44,7 @@ impl Opening for Shelf {
     }
 
     fn close(&mut self, input: Counted<Source<'static>>) {
-        if input.is_cut_off() {
-            self.faults = self.faults.saturating_add(1);
-        }
+        self.faults = input.count_cut_off(self.faults);
     }
 }
 

@@ -72,8 +72,8 @@ fn reports(rt: HostRuntime) {
             ..ALL
         };
         let out = Counted::new(Page::new(rt.alloc(), NEVER));
-        let log = Counted::new(Page::new(rt.alloc(), NEVER));
-        let mut stream = Stream::new(out, log);
+        let reported = Counted::new(Page::new(rt.alloc(), NEVER));
+        let mut stream = Stream::new(out, reported);
         let mut source = Counted::new(make_source(b"!\n!\n", NEVER));
         let ended = stream.serve(
             &Marks,

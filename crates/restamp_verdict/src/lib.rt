@@ -1,6 +1,7 @@
 //! What becomes of a line whose time is read by one format and written by another.
 #![tactic(auto)]
 
+mod clock;
 mod form;
 mod job;
 mod lack;
@@ -12,6 +13,7 @@ mod reading;
 mod reason;
 mod wrong;
 
+pub use clock::Clock;
 pub use form::{Form, Named, Unit, Writing, write_moment};
 pub use job::{Job, LIMIT, REACH, Verdict};
 pub use lack::{Lack, Part};

@@ -37,7 +37,7 @@ LINES = [
     ("time_readers", "time_parsing", None), ("time_record", "time_parsing", None), ("time_descriptions", "time_parsing", None),
     ("time_descriptions", "time_describing", None), ("time_parsing", "time_preparing", None), ("time_preparing", "time_locating", None),
     ("time_locating", "programs", None), ("time_locating", "restamp", None),
-    ("time_formatting", "restamp", 3.0), ("programs", "C", None),
+    ("time_formatting", "restamp", 3.0), ("time_zones", "restamp", 1.9), ("programs", "C", None),
 ]
 WIDE, HIGH, STEP, PITCH, LEFT, SMALL = 204, 30, 244, 112, 30, 6.1
 MEMBERS = {"programs": ("programs_answers", "time_lines", "time_parse"), "C": ("pelzaune_ffi", "pelzaune"),

@@ -1,12 +1,16 @@
 //! The completions of three shells.
 
 const BASH: &str = r#"# Completions of restamp for bash.
+_restamp_zones() {
+    local folder=${TZDIR:-/usr/share/zoneinfo}
+    [ -r "$folder/tzdata.zi" ] && awk '$1 == "Z" { print $2 } $1 == "L" { print $3 }' "$folder/tzdata.zi"
+}
 _restamp() {
     local word=${COMP_WORDS[COMP_CWORD]} before=${COMP_WORDS[COMP_CWORD - 1]} words=
     case $before in
         -f | --from) words='rfc3339 rfc2822 iso8601 unix unix-ms unix-us unix-ns common syslog' ;;
         -t | --to) words='rfc3339 rfc2822 iso8601 unix unix-ms unix-us unix-ns' ;;
-        -z | --zone) words='keep utc' ;;
+        -z | --zone) words="keep utc local $(_restamp_zones)" ;;
         --digits) words='auto 0 1 2 3 4 5 6 7 8 9' ;;
         --color) words='auto always never' ;;
         --completions) words='bash zsh fish' ;;
@@ -32,7 +36,10 @@ complete -o filenames -F _restamp restamp
 const ZSH: &str = r#"#compdef restamp
 # Completions of restamp for zsh.
 _restamp() {
-    local -a reads writes
+    local -a reads writes zones
+    local folder=${TZDIR:-/usr/share/zoneinfo}
+    zones=(keep utc local)
+    [[ -r $folder/tzdata.zi ]] && zones+=($(awk '$1 == "Z" { print $2 } $1 == "L" { print $3 }' $folder/tzdata.zi))
     writes=(rfc3339 rfc2822 iso8601 unix unix-ms unix-us unix-ns)
     reads=($writes common syslog)
     _arguments -s \
@@ -49,7 +56,7 @@ _restamp() {
         '(--year)--latest[times that have none are the latest not after it]:time:' \
         '--offset[the offset of times that have none]:offset:' \
         '(-t --to)'{-t,--to}'[the format that is written]:format:($writes)' \
-        '(-z --zone -u --utc)'{-z,--zone}'[the offset that is written]:zone:(keep utc)' \
+        '(-z --zone -u --utc)'{-z,--zone}'[the zone in which times are written]:zone:($zones)' \
         '(-z --zone -u --utc)'{-u,--utc}'[the same as --zone utc]' \
         '--digits[digits of a fraction]:digits:(auto 0 1 2 3 4 5 6 7 8 9)' \
         '(-o --only)'{-o,--only}'[writes the times alone]' \
@@ -72,6 +79,12 @@ _restamp "$@"
 
 const FISH: &str = r#"# Completions of restamp for fish.
 set -l writes rfc3339 rfc2822 iso8601 unix unix-ms unix-us unix-ns
+function __restamp_zones
+    printf '%s\n' keep utc local
+    set -l folder /usr/share/zoneinfo
+    set -q TZDIR; and set folder $TZDIR
+    test -r $folder/tzdata.zi; and awk '$1 == "Z" { print $2 } $1 == "L" { print $3 }' $folder/tzdata.zi
+end
 complete -c restamp -s l -l front -d 'The line begins with the time'
 complete -c restamp -l anywhere -d 'The first place where a format reads'
 complete -c restamp -s k -l field -x -d 'Field N, from 1'
@@ -85,7 +98,7 @@ complete -c restamp -l year -x -d 'The year of times that have none'
 complete -c restamp -l latest -x -d 'Times that have none are the latest not after it'
 complete -c restamp -l offset -x -d 'The offset of times that have none'
 complete -c restamp -s t -l to -x -a "$writes" -d 'The format that is written'
-complete -c restamp -s z -l zone -x -a 'keep utc' -d 'The offset that is written'
+complete -c restamp -s z -l zone -x -a '(__restamp_zones)' -d 'The zone in which times are written'
 complete -c restamp -s u -l utc -d 'The same as --zone utc'
 complete -c restamp -l digits -x -a 'auto 0 1 2 3 4 5 6 7 8 9' -d 'Digits of a fraction'
 complete -c restamp -s o -l only -d 'Writes the times alone'

@@ -135,7 +135,7 @@ fn follow(rt: &HostRuntime, matches: &ArgMatches<'_>) -> io::Result<u8> {
         return complete(rt, shell);
     }
     let names = names_of(rt, matches)?;
-    match Request::new(rt.alloc(), &Options::of(matches), shows_colors(rt)) {
+    match Request::new(rt, &Options::of(matches), shows_colors(rt)) {
         Ok(request) => answer(rt, &request, names.as_slice(), telling_of(rt, matches)),
         Err(fault) => tell(rt, fault),
     }

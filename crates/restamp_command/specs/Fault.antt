@@ -1,5 +1,7 @@
 -- What is wrong with an option, without where its value lies in memory, and how it is told.
 use Rattle.std.specs.Prelude.{ℕ, List, codes, Option, None, Some}
+use Rattle.time_zones.specs.Texts.{fault_text}
+use Rattle.time_zones.specs.declared.zone_fault.ZoneFault.{ZoneFault}
 use Rattle.restamp_verdict.specs.Lack.{lack_text}
 use Rattle.restamp_verdict.specs.Naming as naming
 use Rattle.restamp_verdict.specs.Reason.{Reason, seen, reason_text}
@@ -20,7 +22,7 @@ pub data Fault : Type 0 where
   unused_year : List ℕ → Fault
   unused_latest : List ℕ → Fault
   unused_offset : List ℕ → Fault
-  zone : List ℕ → Fault
+  zone : List ℕ → ZoneFault → Fault
   digits : List ℕ → Fault
   errors : List ℕ → Fault
   color : List ℕ → Fault
@@ -41,7 +43,7 @@ told (fault.Offset value) = offset value.now
 told (fault.UnusedYear value) = unused_year value.now
 told (fault.UnusedLatest value) = unused_latest value.now
 told (fault.UnusedOffset value) = unused_offset value.now
-told (fault.Zone value) = zone value.now
+told (fault.Zone value why) = zone value.now why
 told (fault.Digits value) = digits value.now
 told (fault.Errors value) = errors value.now
 told (fault.Color value) = color value.now
@@ -62,7 +64,7 @@ place_of (offset value) = Some (codes "--offset <OFFSET>", value)
 place_of (unused_year value) = Some (codes "--year <YEAR>", value)
 place_of (unused_latest value) = Some (codes "--latest <TIME>", value)
 place_of (unused_offset value) = Some (codes "--offset <OFFSET>", value)
-place_of (zone value) = Some (codes "--zone <ZONE>", value)
+place_of (zone value why) = Some (codes "--zone <ZONE>", value)
 place_of (digits value) = Some (codes "--digits <N>", value)
 place_of (errors value) = Some (codes "--errors <N>", value)
 place_of (color value) = Some (codes "--color <WHEN>", value)
@@ -83,7 +85,7 @@ why_text (offset value) = Some (codes "it is no offset such as +05:30")
 why_text (unused_year value) = Some (codes "each format reads a year")
 why_text (unused_latest value) = Some (codes "each format reads a year")
 why_text (unused_offset value) = Some (codes "each format reads an offset")
-why_text (zone value) = Some (codes "it is not keep, utc or an offset such as +05:30")
+why_text (zone value why) = fault_text why
 why_text (digits value) = Some (codes "it is not 0 to 9 or auto")
 why_text (errors value) = Some (codes "it is not a number from 0 to 18446744073709551615")
 why_text (color value) = Some (codes "it is not auto, always or never")

@@ -1,4 +1,5 @@
 pub mod Values
+pub mod Zones
 pub mod Fault
 pub mod Request
 pub mod Expected

@@ -27,7 +27,8 @@ use Rattle.time_values.specs.declared.offset_date_time.OffsetDateTime.{OffsetDat
 use Rattle.time_values.specs.declared.utc_offset.UtcOffset.{UtcOffset}
 use Rattle.restamp_command.specs.Fault as fault
 use Rattle.restamp_command.specs.Fault.{Fault}
-use Rattle.restamp_command.specs.Values.{delimiter_of, digits_of, shows_of, IsNumber, IsPositive, IsOffsetText, IsYear, IsZone, IsMomentText}
+use Rattle.restamp_command.specs.Values.{delimiter_of, digits_of, shows_of, IsNumber, IsPositive, IsOffsetText, IsYear, IsMomentText}
+use Rattle.restamp_command.specs.Zones.{IsZone, IsNoZone, IsClockOf}
 use Rattle.restamp_command.specs.declared.request.Request.{Request}
 use Rattle.restamp_command.specs.declared.style.Style.{Style}
 
@@ -146,7 +147,7 @@ zone_of o = if o.utc then codes "utc" else o.zone.now
 pub record IsStyle (Y : ℕ) (o : Options) (style : Style) : Type 0 where
   pub writing : MeansWriting o.to.now style.writing
   pub digits : digits_of o.digits.now ≡ Some style.digits
-  pub zone : IsZone Y (zone_of o) (Some style.offset)
+  pub zone : IsZone Y (zone_of o) style.zone
 
 -- the bound that a text's moment is
 abbrev pub bound_of : List ℕ → Result OffsetDateTime Reason → Result (Option OffsetDateTime) (List ℕ × Reason)
@@ -224,7 +225,7 @@ IsFault Y o (fault.offset value) = (text_behind o.offset ≡ Some value) × IsOf
 IsFault Y o (fault.unused_year value) = (text_behind o.year ≡ Some value) × HasNoUse o part.Year
 IsFault Y o (fault.unused_latest value) = (text_behind o.latest ≡ Some value) × HasNoUse o part.Year
 IsFault Y o (fault.unused_offset value) = (text_behind o.offset ≡ Some value) × HasNoUse o part.Offset
-IsFault Y o (fault.zone value) = (value ≡ zone_of o) × IsZone Y value None
+IsFault Y o (fault.zone value why) = (value ≡ zone_of o) × IsNoZone Y value why
 IsFault Y o (fault.digits value) = (value ≡ o.digits.now) × (digits_of value ≡ None)
 IsFault Y o (fault.errors value) = (value ≡ o.errors.now) × IsNumber value None
 IsFault Y o (fault.color value) = (value ≡ o.color.now) × ((is_terminal : Bool) → shows_of value is_terminal ≡ None)
@@ -240,7 +241,7 @@ pub record IsJobOf (r : Request) (job : Job) : Type 0 where
   pub defaults : job.defaults ≡ r.defaults
   pub writing : job.form.writing.now ≡ r.style.writing
   pub digits : job.form.digits ≡ r.style.digits
-  pub offset : job.form.offset ≡ r.style.offset
+  pub clock : IsClockOf r.style.zone job.form.clock
   pub since : job.since ≡ r.since
   pub until : job.until ≡ r.until
   pub asks_for_times : job.asks_for_times ≡ r.strict

@@ -20,7 +20,6 @@ use Rattle.restamp_verdict.specs.declared.reading.Reading.{Reading}
 use Rattle.restamp_verdict.specs.declared.reading.Reading.TheVariants.{Rfc3339}
 use Rattle.restamp_verdict.specs.declared.reading.Said.{Said}
 use Rattle.restamp_verdict.specs.declared.reading.Defaults.{Defaults}
-use Rattle.time_values.specs.Offsets as Offsets
 use Rattle.time_values.specs.Refusal.{Refusal}
 use Rattle.time_values.specs.declared.offset_date_time.OffsetDateTime.{OffsetDateTime}
 use Rattle.time_values.specs.declared.utc_offset.UtcOffset.{UtcOffset}
@@ -85,13 +84,6 @@ IsOffsetText Y text result =
     (outcome : Result UtcOffset Refusal)
     × IsOutcome IsOffset (Reads Y offset_tree) (Refuses Y offset_tree) text empty outcome
     × (result ≡ result_ok outcome)
-
--- The offset at which times are shown, or that they keep theirs, or that the text says neither.
-abbrev pub IsZone : ℕ → List ℕ → Option (Option UtcOffset) → Type 0
-IsZone Y text result =
-    MatchBool (bytes_eq text (codes "keep")) (result ≡ Some None)
-    (MatchBool (bytes_eq text (codes "utc")) (IsSomeAnd result (λ offset. IsSomeAnd offset Offsets.IsUtc))
-    ((offset : Option UtcOffset) × IsOffsetText Y text offset × (result ≡ option_map Some offset)))
 
 -- The year that a text says in decimal digits, with or without a sign, or none.
 abbrev pub IsYear : ℕ → List ℕ → Option ℤ → Type 0

@@ -5,9 +5,10 @@ ghost use Rattle.restamp_command.specs.Fault as spec;
 
 use restamp_verdict::{FormatFault, Lack, Reason};
 use std::fmt;
+use time_zones::ZoneFault;
 
 /// Why the options ask for nothing: an option that doesn't take its value.
-#[derive(Clone, Copy)]
+#[derive(Drop)]
 pub enum Fault<'a> {
     /// There is no memory for what they ask for.
     Memory,
@@ -31,8 +32,8 @@ pub enum Fault<'a> {
     UnusedLatest(&'a str),
     /// `--offset` has no use: each text of each format says the hour of an offset.
     UnusedOffset(&'a str),
-    /// `--zone` takes `keep`, `utc` or an offset.
-    Zone(&'a str),
+    /// `--zone` takes `keep`, `utc`, an offset or the name of a zone.
+    Zone(&'a str, ZoneFault),
     /// `--digits` takes 0 to 9, or `auto`.
     Digits(&'a str),
     /// `--errors` takes a number from 0 to 18446744073709551615.
@@ -52,7 +53,7 @@ impl<'a> Fault<'a> {
     pub fn place(&self) -> Option<(&'static str, &'a str)>
         ensures { option_map (λ place. (place.0.now, place.1.now)) result ≡ spec.place_of (spec.told self.now) }
     {
-        match *self {
+        match self {
             Fault::Memory => None,
             Fault::Field(value) => Some(("--field <N>", value)),
             Fault::Delimiter(value) => Some(("--delimiter <BYTE>", value)),
@@ -64,7 +65,7 @@ impl<'a> Fault<'a> {
             Fault::UnusedYear(value) => Some(("--year <YEAR>", value)),
             Fault::UnusedLatest(value) => Some(("--latest <TIME>", value)),
             Fault::UnusedOffset(value) => Some(("--offset <OFFSET>", value)),
-            Fault::Zone(value) => Some(("--zone <ZONE>", value)),
+            Fault::Zone(value, _) => Some(("--zone <ZONE>", value)),
             Fault::Digits(value) => Some(("--digits <N>", value)),
             Fault::Errors(value) => Some(("--errors <N>", value)),
             Fault::Latest(value, _) => Some(("--latest <TIME>", value)),
@@ -91,7 +92,7 @@ impl fmt::Display for Fault<'_> {
             Fault::UnusedYear(_) => write!(f, "each format reads a year"),
             Fault::UnusedLatest(_) => write!(f, "each format reads a year"),
             Fault::UnusedOffset(_) => write!(f, "each format reads an offset"),
-            Fault::Zone(_) => write!(f, "it is not keep, utc or an offset such as +05:30"),
+            Fault::Zone(_, why) => write!(f, "{why}"),
             Fault::Digits(_) => write!(f, "it is not 0 to 9 or auto"),
             Fault::Errors(_) => write!(f, "it is not a number from 0 to 18446744073709551615"),
             Fault::Latest(_, reason) => write!(f, "{reason}"),

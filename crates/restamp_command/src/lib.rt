@@ -11,8 +11,10 @@ mod rewriting;
 mod style;
 mod uses;
 mod values;
+mod zone;
 
 pub use fault::Fault;
 pub use request::Request;
 pub use rewriting::{Restamping, serve};
 pub use style::Style;
+pub use zone::Zone;

@@ -17,7 +17,7 @@ use restamp_options::Options;
 use restamp_place::{Fields, Place};
 use restamp_stream::{Output, Reports, Settings};
 use restamp_verdict::{Defaults, Form, Job, Reading, Reason};
-use std::alloc::Global;
+use std::rt::{Env, Files};
 use time_values::{OffsetDateTime, UtcOffset};
 
 /// What the options ask for.
@@ -208,13 +208,14 @@ fn find_settings<'a>(options: &Options<'_, 'a>) -> Result<Settings, Fault<'a>>
 }
 
 impl<'a> Request<'a> {
-    /// What the options ask for. Where `--color` is `auto`, colours are shown if reports go to a terminal.
+    /// What the options ask for. Where `--color` is `auto`, colours are shown if reports go to a terminal. A zone that they
+    /// name is read from its file.
     ///
     /// # Errors
     ///
     /// An option that doesn't take its value, or that memory is short.
-    pub fn new(
-        alloc: Global,
+    pub fn new<R: Env + Files + AllocGlobal>(
+        rt: &R,
         options: &Options<'_, 'a>,
         is_terminal: bool,
     ) -> Result<Request<'a>, Fault<'a>>
@@ -223,7 +224,7 @@ impl<'a> Request<'a> {
     {
         let place = find_place(options)?;
         let first = find_first(options)?;
-        let mut others = Vec::new(alloc);
+        let mut others = Vec::new(rt.alloc());
         let names = other_names(options);
         if let Err(fault) = add_formats(names, gives_year(options), &mut others) {
             return Err(fault);
@@ -235,7 +236,7 @@ impl<'a> Request<'a> {
         if let Some(fault) = find_unused(options, &first, others.as_slice()) {
             return Err(fault);
         }
-        let style = find_style(options)?;
+        let style = find_style(rt, options)?;
         let settings = find_settings(options)?;
         let Some(shows_lines) = find_shows(options.color, is_terminal) else {
             return Err(Fault::Color(options.color));
@@ -274,7 +275,7 @@ impl<'a> Request<'a> {
             form: Form {
                 writing: &self.style.writing,
                 digits: self.style.digits,
-                offset: self.style.offset,
+                clock: self.style.zone.clock(),
             },
             since: self.since,
             until: self.until,

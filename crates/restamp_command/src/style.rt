@@ -5,10 +5,11 @@ ghost use Rattle.restamp_command.specs.Fault.{told};
 ghost use Rattle.restamp_command.specs.Request as spec;
 
 use crate::fault::Fault;
-use crate::values::{find_digits, find_zone};
+use crate::values::find_digits;
+use crate::zone::{Zone, find_shown};
 use restamp_options::Options;
 use restamp_verdict::{Writing, find_writing};
-use time_values::UtcOffset;
+use std::rt::{Env, Files};
 use time_writing::FractionDigits;
 
 /// How a time is written.
@@ -18,8 +19,8 @@ pub struct Style {
     pub writing: Writing,
     /// How many digits of a fraction RFC 3339 has.
     pub digits: FractionDigits,
-    /// The offset at which the time is shown, or `None` for its own.
-    pub offset: Option<UtcOffset>,
+    /// The zone in which the time is shown.
+    pub zone: Zone,
 }
 
 // The zone that is given.
@@ -30,7 +31,10 @@ fn zone_of<'a>(options: &Options<'_, 'a>) -> &'a str
 }
 
 /// How a time is written.
-pub(crate) fn find_style<'a>(options: &Options<'_, 'a>) -> Result<Style, Fault<'a>>
+pub(crate) fn find_style<'a, R: Env + Files + AllocGlobal>(
+    rt: &R,
+    options: &Options<'_, 'a>,
+) -> Result<Style, Fault<'a>>
     ensures { MatchResult result (λ style. spec.IsStyle greatest_year options.now style)
         (λ fault. spec.IsFault greatest_year options.now (told fault)) }
 {
@@ -38,9 +42,10 @@ pub(crate) fn find_style<'a>(options: &Options<'_, 'a>) -> Result<Style, Fault<'
         Ok(writing) => writing,
         Err(why) => return Err(Fault::To(options.to, why)),
     };
-    let zone = zone_of(options);
-    let Some(offset) = find_zone(zone) else {
-        return Err(Fault::Zone(zone));
+    let name = zone_of(options);
+    let zone = match find_shown(rt, name) {
+        Ok(zone) => zone,
+        Err(why) => return Err(Fault::Zone(name, why)),
     };
     let Some(digits) = find_digits(options.digits) else {
         return Err(Fault::Digits(options.digits));
@@ -48,6 +53,6 @@ pub(crate) fn find_style<'a>(options: &Options<'_, 'a>) -> Result<Style, Fault<'
     Ok(Style {
         writing,
         digits,
-        offset,
+        zone,
     })
 }

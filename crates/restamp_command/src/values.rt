@@ -119,16 +119,3 @@ pub fn find_offset(text: &str) -> Option<UtcOffset>
         Err(_) => None,
     }
 }
-
-/// The offset at which times are shown, or `None` for each its own.
-pub fn find_zone(text: &str) -> Option<Option<UtcOffset>>
-    ensures { spec.IsZone greatest_year text.now result }
-{
-    if text == "keep" {
-        return Some(None);
-    }
-    if text == "utc" {
-        return Some(Some(UtcOffset::UTC));
-    }
-    Some(Some(find_offset(text)?))
-}

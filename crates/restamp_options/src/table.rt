@@ -2,6 +2,7 @@
 
 /// The end of the help.
 pub(crate) const EXAMPLES: &str = "Examples:
+  tail -f app.log | restamp -z local
   tail -f access.log | restamp -b [ ] -f common -u
   restamp -b [ ] -f common -u -t '%d/%b/%Y:%H:%M:%S %z' access.log
   restamp -a 'Date: ' -f rfc2822 mbox
@@ -158,7 +159,7 @@ const WRITING: &[Row] = &[
         letter: Some('z'),
         kind: Kind::Text("ZONE"),
         default: Some("keep"),
-        help: "keep, utc or an offset as +05:30",
+        help: "keep, utc, local, +05:30 or a name",
         ..FLAG
     },
     Row {

@@ -1,6 +1,8 @@
 //! Times that may stand anywhere in a line. They take words and numbers whole.
 use restamp_place::Place;
-use restamp_verdict::{Defaults, Form, Job, Reading, Verdict, Writing, find_reading, find_writing};
+use restamp_verdict::{
+    Clock, Defaults, Form, Job, Reading, Verdict, Writing, find_reading, find_writing,
+};
 use time_writing::FractionDigits;
 
 const DAY: &[u8] =
@@ -22,7 +24,7 @@ fn verdict_on<'a>(line: &[u8], first: &'a Reading, writing: &'a Writing) -> Verd
         form: Form {
             writing,
             digits: FractionDigits::Auto,
-            offset: None,
+            clock: Clock::Own,
         },
         since: None,
         until: None,

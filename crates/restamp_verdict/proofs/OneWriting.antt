@@ -3,6 +3,7 @@ use Rattle.std.proofs.Common.{◌≡◌, ℕ, ℤ, List, sym, ap, subst, refl, a
 use Rattle.std.specs.Prelude.{Option, Result, MatchOption}
 use Rattle.std.proofs.lemmas.Int.{ints}
 use Rattle.std.specs.Fmt.{signed_decimal}
+use Rattle.jiff_tz.specs.declared.timezone.TimeZone.{TimeZone}
 use Rattle.time_values.specs.Clocks.{shown_at}
 use Rattle.time_values.specs.Instants.{IsInstant, IsWhole, clock_nanos}
 use Rattle.time_values.specs.Moments.{offset_date, offset_time, offset_of, offset_instant}
@@ -13,11 +14,15 @@ use Rattle.time_values.specs.declared.utc_offset.UtcOffset.{UtcOffset}
 use Rattle.time_values.proofs.InstantLemmas.{instant_is, clock_nanos_range}
 use Rattle.time_values.proofs.NumberLemmas.{same_weekday}
 use Rattle.time_values.proofs.SameLemmas.{same_moment}
+use Rattle.time_zones.proofs.AnswerLemmas.{same_offset_by_seconds}
 use Rattle.time_writing.specs.Texts.{Writes, WritesSuch, IsMailText, mail_text}
 use Rattle.time_writing.specs.declared.fraction.FractionDigits.{FractionDigits}
 use Rattle.time_writing.specs.declared.unwritable.Unwritable.{Unwritable}
-use Rattle.restamp_verdict.specs.Form.{IsShown, IsCounted, IsNamedText, IsWrittenBy, IsWritten, unit_of, written}
-use Rattle.restamp_verdict.specs.Reason.{Reason, out_of_range}
+use Rattle.restamp_verdict.specs.Clock.{IsShownAt, IsShownIn, IsShown, why_unshown}
+use Rattle.restamp_verdict.specs.Form.{IsCounted, IsNamedText, IsWrittenBy, IsWritten, unit_of, written}
+use Rattle.restamp_verdict.specs.Reason.{Reason}
+use Rattle.restamp_verdict.specs.declared.clock.Clock.{Clock}
+use Rattle.restamp_verdict.specs.declared.clock.Clock.TheVariants as clock
 use Rattle.restamp_verdict.specs.declared.form.Form.{Form}
 use Rattle.restamp_verdict.specs.declared.form.Unit.{Unit as Unit_}
 use Rattle.restamp_verdict.specs.declared.form.Unit.TheVariants.{Seconds, Milliseconds, Microseconds, Nanoseconds}
@@ -44,17 +49,30 @@ same_shown v w e o =
 pub shown_in : (v : OffsetDateTime) → IsInstant greatest_year (shown_at (offset_instant greatest_year v) (offset_of v))
 shown_in v = subst (IsInstant greatest_year) (clock_is v) (clock_nanos_range (offset_date v) (offset_time v))
 
-pub one_shown : (offset : Option UtcOffset) (v : OffsetDateTime) (a b : Option OffsetDateTime)
-    → IsShown greatest_year offset v a → IsShown greatest_year offset v b → a ≡ b
-one_shown None v a b p q = p ∙ sym q
-one_shown (Some o) v None None p q = refl
-one_shown (Some o) v None (Some w) p q =
+one_shown_at : (o : UtcOffset) (v : OffsetDateTime) (a b : Option OffsetDateTime)
+    → IsShownAt greatest_year o v a → IsShownAt greatest_year o v b → a ≡ b
+one_shown_at o v None None p q = refl
+one_shown_at o v None (Some w) p q =
     absurd (p (subst (λ n. IsInstant greatest_year (shown_at n o)) q.0
     (subst (λ k. IsInstant greatest_year (shown_at (offset_instant greatest_year w) k)) q.1 (shown_in w))))
-one_shown (Some o) v (Some w) None p q =
+one_shown_at o v (Some w) None p q =
     absurd (q (subst (λ n. IsInstant greatest_year (shown_at n o)) p.0
     (subst (λ k. IsInstant greatest_year (shown_at (offset_instant greatest_year w) k)) p.1 (shown_in w))))
-one_shown (Some o) v (Some w) (Some x) p q = ap Some (same_shown w x (p.0 ∙ sym q.0) (p.1 ∙ sym q.1))
+one_shown_at o v (Some w) (Some x) p q = ap Some (same_shown w x (p.0 ∙ sym q.0) (p.1 ∙ sym q.1))
+
+one_shown_in : (zone : TimeZone) (v : OffsetDateTime) (a b : Option OffsetDateTime)
+    → IsShownIn greatest_year zone v a → IsShownIn greatest_year zone v b → a ≡ b
+one_shown_in zone v None None p q = refl
+one_shown_in zone v None (Some w) p q = absurd (p q.1)
+one_shown_in zone v (Some w) None p q = absurd (q p.1)
+one_shown_in zone v (Some w) (Some x) p q =
+    ap Some (same_shown w x (p.0 ∙ sym q.0) (same_offset_by_seconds (offset_of w) (offset_of x) (p.2 ∙ sym q.2)))
+
+pub one_shown : (on : Clock) (v : OffsetDateTime) (a b : Option OffsetDateTime)
+    → IsShown greatest_year on v a → IsShown greatest_year on v b → a ≡ b
+one_shown clock.Own v a b p q = p ∙ sym q
+one_shown (clock.Fixed o) v a b p q = one_shown_at o v a b p q
+one_shown (clock.Zone zone) v a b p q = one_shown_in zone v a b p q
 
 same_items : (s t : Items) → s.items ≡ t.items → s ≡ t
 same_items s t e = λ j. record { items = e j }
@@ -103,8 +121,8 @@ one_by (Named named) digits v a b p q = one_named named digits v a b p q
 one_by (Described d) digits v a b p q = p ∙ sym q
 
 one_at : (form : Form) (shown other : Option OffsetDateTime) (a b : Result Items Reason) → shown ≡ other
-    → MatchOption shown (a ≡ Err out_of_range) (λ w. IsWrittenBy greatest_year form.writing.now form.digits w a)
-    → MatchOption other (b ≡ Err out_of_range) (λ w. IsWrittenBy greatest_year form.writing.now form.digits w b) → a ≡ b
+    → MatchOption shown (a ≡ Err (why_unshown form.clock)) (λ w. IsWrittenBy greatest_year form.writing.now form.digits w a)
+    → MatchOption other (b ≡ Err (why_unshown form.clock)) (λ w. IsWrittenBy greatest_year form.writing.now form.digits w b) → a ≡ b
 one_at form None None a b e p q = p ∙ sym q
 one_at form None (Some w) a b e p q = absurd cc
 one_at form (Some v) None a b e p q = absurd cc
@@ -114,4 +132,4 @@ one_at form (Some v) (Some w) a b e p q =
 
 pub one_written : (form : Form) (v : OffsetDateTime) (a b : Result Items Reason)
     → IsWritten greatest_year form v a → IsWritten greatest_year form v b → a ≡ b
-one_written form v a b p q = one_at form p.0 q.0 a b (one_shown form.offset v p.0 q.0 p.1 q.1) p.2 q.2
+one_written form v a b p q = one_at form p.0 q.0 a b (one_shown form.clock v p.0 q.0 p.1 q.1) p.2 q.2

@@ -1,12 +1,13 @@
 -- A time that was written is read back, and written again as it was.
-use Rattle.std.proofs.Common.{◌≡◌, ℕ, ◌+◌, Bool, true, false, List, length, sym, ap, subst, refl, arith, None, Some, Ok, Err}
+use Rattle.std.proofs.Common.{◌≡◌, ℕ, ◌+◌, Bool, true, false, List, length, sym, ap, subst, refl, arith, ◌∙◌, None, Some, Ok, Err}
 use Rattle.std.specs.Prelude.{Option, Result, nat_lt, MatchOption, MatchBool, IsOkAnd, slice_range}
+use Rattle.jiff_core.specs.Timestamp.{IsTimestampNanos}
+use Rattle.jiff_tz.specs.Zone as Zone
 use Rattle.time_values.specs.Moments.{offset_time, offset_instant}
 use Rattle.time_values.specs.Range.{greatest_year}
 use Rattle.time_values.specs.Shown.{Items}
 use Rattle.time_values.specs.Times as Times
 use Rattle.time_values.specs.declared.offset_date_time.OffsetDateTime.{OffsetDateTime}
-use Rattle.time_values.specs.declared.utc_offset.UtcOffset.{UtcOffset}
 use Rattle.time_descriptions.specs.Description.{shape}
 use Rattle.time_writing.specs.Texts.{WritesSuch, IsMailText, moment_text, count_of, unwritable_3339, unwritable_2822}
 use Rattle.time_writing.specs.declared.fraction.FractionDigits.{FractionDigits}
@@ -25,11 +26,14 @@ use Rattle.time_parsing.proofs.WrittenBack.{read_back, auto-keeps, nine-keeps}
 use Rattle.restamp_place.specs.Cuts.{span_of, is_open}
 use Rattle.restamp_place.specs.declared.cuts.Place.{Place}
 use Rattle.restamp_place.specs.declared.fields.Span.{Span}
-use Rattle.restamp_verdict.specs.Form.{IsShown, IsNamedText, IsWrittenBy, IsWritten, written}
+use Rattle.restamp_verdict.specs.Clock.{IsShown, why_unshown}
+use Rattle.restamp_verdict.specs.Form.{IsNamedText, IsWrittenBy, IsWritten, written}
 use Rattle.restamp_verdict.specs.Job.{Verdict, IsPutWithin, IsPut, IsJudged, IsJudgedAt, IsJudgedAnywhere, IsJudgedPart, is_before, is_kept, missed, rewritten, dropped, refused}
 use Rattle.restamp_verdict.specs.Laws.{HasDigits, AutoHasAll, ReadsAll, IsReadable, ReadsRewrittenBack, WritesSameText, ChangesNothing}
 use Rattle.restamp_verdict.specs.Reading.{Says, IsReadInTurn, said}
-use Rattle.restamp_verdict.specs.Reason.{Reason, out_of_range, too_far}
+use Rattle.restamp_verdict.specs.Reason.{Reason, too_far}
+use Rattle.restamp_verdict.specs.declared.clock.Clock.{Clock}
+use Rattle.restamp_verdict.specs.declared.clock.Clock.TheVariants as clock
 use Rattle.restamp_verdict.specs.declared.form.Form.{Form}
 use Rattle.restamp_verdict.specs.declared.form.Named.{Named as Named_}
 use Rattle.restamp_verdict.specs.declared.form.Named.TheVariants.{Rfc3339, Rfc2822, Iso8601, Count}
@@ -101,21 +105,23 @@ by_back : (writing : Writing) (digits : FractionDigits) (v : OffsetDateTime) (te
 by_back (Named named) digits v text format defaults all p = named_back named digits v text format defaults all p
 by_back (Described d) digits v text format defaults all p = described_back format defaults (shape d) v text all p
 
--- a moment that is shown at an offset keeps its instant, and is shown there as it is
-shown_instant : (offset : Option UtcOffset) (v w : OffsetDateTime) → IsShown greatest_year offset v (Some w)
+-- a moment that is shown on a clock keeps its instant, and is shown there as it is
+shown_instant : (on : Clock) (v w : OffsetDateTime) → IsShown greatest_year on v (Some w)
     → offset_instant greatest_year w ≡ offset_instant greatest_year v
-shown_instant None v w p = let same : w ≡ v = cc in ap (offset_instant greatest_year) same
-shown_instant (Some o) v w p = p.0
+shown_instant clock.Own v w p = let same : w ≡ v = cc in ap (offset_instant greatest_year) same
+shown_instant (clock.Fixed o) v w p = p.0
+shown_instant (clock.Zone zone) v w p = p.0
 
-shown_again : (offset : Option UtcOffset) (v w : OffsetDateTime) → IsShown greatest_year offset v (Some w)
-    → IsShown greatest_year offset w (Some w)
-shown_again None v w p = refl
-shown_again (Some o) v w p = (refl, p.1)
+shown_again : (on : Clock) (v w : OffsetDateTime) → IsShown greatest_year on v (Some w) → IsShown greatest_year on w (Some w)
+shown_again clock.Own v w p = refl
+shown_again (clock.Fixed o) v w p = (refl, p.1)
+shown_again (clock.Zone zone) v w p =
+    (refl, subst IsTimestampNanos (sym p.0) p.1, p.2 ∙ ap (Zone.offset_at zone) (sym p.0))
 
 -- the moment as it is shown: it is what the text says, and is written as the text again
 record IsBack (format : Reading) (defaults : Defaults) (form : Form) (v : OffsetDateTime) (bytes : List ℕ)
     (w : OffsetDateTime) : Type 0 where
-  shown : IsShown greatest_year form.offset v (Some w)
+  shown : IsShown greatest_year form.clock v (Some w)
   says : SaysAll format defaults w bytes
   text : Items
   again : IsWritten greatest_year form w (Ok text)
@@ -124,16 +130,16 @@ record IsBack (format : Reading) (defaults : Defaults) (form : Form) (v : Offset
 back : (format : Reading) (defaults : Defaults) (form : Form) (v : OffsetDateTime) (bytes : List ℕ)
     → IsReadable greatest_year format defaults form v bytes → (w : OffsetDateTime) × IsBack format defaults form v bytes w
 back format defaults form v bytes ((w, shown, all), (text, (other, p, q), e)) =
-    let there = subst (λ (s : Option OffsetDateTime). MatchOption s (Ok text ≡ Err out_of_range)
+    let there = subst (λ (s : Option OffsetDateTime). MatchOption s (Ok text ≡ Err (why_unshown form.clock))
     (λ u. IsWrittenBy greatest_year form.writing.now form.digits u (Ok text)))
-    (one_shown form.offset v other (Some w) p shown) q in
+    (one_shown form.clock v other (Some w) p shown) q in
     let says = by_back form.writing.now form.digits w text format defaults all there in (
       w,
       record {
         shown = shown;
         says = subst (λ (b : List ℕ). SaysAll format defaults w b) (sym e) says;
         text = text;
-        again = (Some w, shown_again form.offset v w shown, there);
+        again = (Some w, shown_again form.clock v w shown, there);
         same = e;
       },
     )
@@ -144,7 +150,7 @@ auto_has_all v = auto-keeps (nanosecond_of v) (offset_time v).nanosecond_in
 pub reads_rewritten_back : ReadsRewrittenBack greatest_year
 reads_rewritten_back format defaults form v bytes read is says =
     let it = back format defaults form v bytes is in
-    subst (λ (r : Result Said Reason). IsOkAnd r (λ s. IsShown greatest_year form.offset v (Some s.moment) × (s.start ≡ 0) × (s.length ≡ length bytes)))
+    subst (λ (r : Result Said Reason). IsOkAnd r (λ s. IsShown greatest_year form.clock v (Some s.moment) × (s.start ≡ 0) × (s.length ≡ length bytes)))
     (one_says format false bytes defaults (Ok (said it.0 (length bytes))) read it.1.says says) (it.1.shown, refl, refl)
 
 pub writes_same_text : WritesSameText greatest_year
@@ -233,7 +239,7 @@ changes_nothing job place line span v bytes verdict at closed found part is judg
     let s = said it.0 (length bytes) in
     let far = nat_lt LIMIT (span.start + length bytes) in
     let put = put_back job far (is_kept greatest_year job v) span.start it.0 bytes it.1.text it.1.again it.1.same
-    (same_kept job v it.0 (shown_instant job.form.offset v it.0 it.1.shown)) refl in
+    (same_kept job v it.0 (shown_instant job.form.clock v it.0 it.1.shown)) refl in
     let first = judged job place line span bytes put.0 at closed found part (Ok s, in_turn job bytes s it.1.says, put.1) in
     subst (λ (u : Verdict). Put job far (is_kept greatest_year job v) span.start bytes u)
     (one_verdict job line put.0 verdict first judged_so) put.2

@@ -4,17 +4,17 @@ use Rattle.std.specs.Fmt.{signed_decimal}
 use Rattle.time_descriptions.specs.Description.{shape}
 use Rattle.time_formatting.specs.Texts.{text_of}
 use Rattle.time_formatting.specs.declared.unformattable.Unformattable.{Unformattable}
-use Rattle.time_values.specs.Clocks.{shown_at}
 use Rattle.time_values.specs.Instants.{IsInstant, IsWhole}
-use Rattle.time_values.specs.Moments.{offset_instant, offset_of, offset_time}
+use Rattle.time_values.specs.Moments.{offset_instant, offset_time}
 use Rattle.time_values.specs.Shown.{Items}
 use Rattle.time_values.specs.Times as Times
 use Rattle.time_values.specs.declared.offset_date_time.OffsetDateTime.{OffsetDateTime}
-use Rattle.time_values.specs.declared.utc_offset.UtcOffset.{UtcOffset}
 use Rattle.time_writing.specs.Texts.{Writes, WritesSuch, IsMailText, moment_text, count_of, unwritable_3339, unwritable_2822}
 use Rattle.time_writing.specs.declared.fraction.FractionDigits.{FractionDigits}
 use Rattle.time_writing.specs.declared.unwritable.Unwritable.{Unwritable}
+use Rattle.restamp_verdict.specs.Clock.{IsShown, why_unshown}
 use Rattle.restamp_verdict.specs.Reason.{Reason, unwritable, unformattable, out_of_range}
+use Rattle.restamp_verdict.specs.declared.clock.Clock.{Clock}
 use Rattle.restamp_verdict.specs.declared.form.Form.{Form}
 use Rattle.restamp_verdict.specs.declared.form.Named.{Named as Named_}
 use Rattle.restamp_verdict.specs.declared.form.Named.TheVariants.{Rfc3339, Rfc2822, Iso8601, Count}
@@ -32,13 +32,6 @@ written (Err why) = Err (unwritable why)
 abbrev pub described : Result (List ℕ) Unformattable → Result Items Reason
 described (Ok bytes) = Ok (record { items = bytes })
 described (Err why) = Err (unformattable why)
-
--- The moment on a clock with the offset, if one is given and the clock shows a date there.
-abbrev pub IsShown : ℕ → Option UtcOffset → OffsetDateTime → Option OffsetDateTime → Type 0
-IsShown Y None v result = result ≡ Some v
-IsShown Y (Some offset) v result =
-    MatchOption result (¬ IsInstant Y (shown_at (offset_instant Y v) offset))
-    (λ w. (offset_instant Y w ≡ offset_instant Y v) × (offset_of w ≡ offset))
 
 -- how many nanoseconds it has
 abbrev pub unit_of : Unit_ → ℕ
@@ -71,12 +64,12 @@ abbrev pub IsWrittenBy : ℕ → Writing → FractionDigits → OffsetDateTime �
 IsWrittenBy Y (Named named) digits v result = IsNamedText Y named digits v result
 IsWrittenBy Y (Described d) digits v result = result ≡ described (text_of Y v (shape d))
 
--- the same at an offset
-abbrev pub IsWrittenAt : ℕ → Writing → FractionDigits → Option UtcOffset → OffsetDateTime → Result Items Reason → Type 0
-IsWrittenAt Y writing digits offset v result =
-    (shown : Option OffsetDateTime) × IsShown Y offset v shown
-    × MatchOption shown (result ≡ Err out_of_range) (λ w. IsWrittenBy Y writing digits w result)
+-- the same as it is shown on a clock
+abbrev pub IsWrittenOn : ℕ → Writing → FractionDigits → Clock → OffsetDateTime → Result Items Reason → Type 0
+IsWrittenOn Y writing digits clock v result =
+    (shown : Option OffsetDateTime) × IsShown Y clock v shown
+    × MatchOption shown (result ≡ Err (why_unshown clock)) (λ w. IsWrittenBy Y writing digits w result)
 
 -- the same in the form that is asked for
 abbrev pub IsWritten : ℕ → Form → OffsetDateTime → Result Items Reason → Type 0
-IsWritten Y form v result = IsWrittenAt Y form.writing.now form.digits form.offset v result
+IsWritten Y form v result = IsWrittenOn Y form.writing.now form.digits form.clock v result

@@ -18,7 +18,8 @@ use Rattle.restamp_place.specs.Cuts.{span_of, is_open}
 use Rattle.restamp_place.specs.declared.cuts.Place.{Place}
 use Rattle.restamp_place.specs.declared.fields.Span.{Span}
 use Rattle.time_components.specs.Steps.{steps_shape}
-use Rattle.restamp_verdict.specs.Form.{IsShown, IsWritten}
+use Rattle.restamp_verdict.specs.Clock.{IsShown}
+use Rattle.restamp_verdict.specs.Form.{IsWritten}
 use Rattle.restamp_verdict.specs.Job.{Verdict, rewritten, dropped, refused, is_kept, IsJudged}
 use Rattle.restamp_verdict.specs.Naming.{way_of, common_text, meaning_of, Means, MeansWriting}
 use Rattle.restamp_verdict.specs.ReadBack.{pieces, AllStop, SaysMoment, ReadsTree}
@@ -63,18 +64,18 @@ ReadsAll Y format defaults (Described d) digits v = ReadsTree Y format defaults 
 -- The text is that of the moment in a form, and a format reads all of it, as it is shown there.
 abbrev pub IsReadable : ℕ → Reading → Defaults → Form → OffsetDateTime → List ℕ → Type 0
 IsReadable Y format defaults form v bytes =
-    ((w : OffsetDateTime) × IsShown Y form.offset v (Some w)
+    ((w : OffsetDateTime) × IsShown Y form.clock v (Some w)
     × ReadsAll Y format defaults form.writing.now form.digits w)
     × ((text : Items) × IsWritten Y form v (Ok text) × (bytes ≡ text.items))
 
--- Such a text says that moment, shown at the offset of its form, with all its bytes.
+-- Such a text says that moment, shown on the clock of its form, with all its bytes.
 abbrev pub ReadsRewrittenBack : ℕ → Type 0
 ReadsRewrittenBack Y =
     (format : Reading) (defaults : Defaults) (form : Form) (v : OffsetDateTime) (bytes : List ℕ)
     (read : Result Said Reason)
     → IsReadable Y format defaults form v bytes → Says Y format false bytes defaults read
     → IsOkAnd read
-    (λ said. IsShown Y form.offset v (Some said.moment) × (said.start ≡ 0) × (said.length ≡ length bytes))
+    (λ said. IsShown Y form.clock v (Some said.moment) × (said.start ≡ 0) × (said.length ≡ length bytes))
 
 -- What such a text says has that text in the form.
 abbrev pub WritesSameText : ℕ → Type 0

@@ -1,5 +1,6 @@
 pub mod Reason
 pub mod Reading
+pub mod Clock
 pub mod Form
 pub mod Naming
 pub mod Lack

@@ -11,12 +11,13 @@ use Rattle.restamp_verdict.specs.declared.reading.Said.{Said}
 use Rattle.restamp_verdict.specs.declared.reason.Reason as declared
 use Rattle.restamp_verdict.specs.declared.reason.Reason.TheVariants as variant
 
--- no format reads it, it has a fraction after a minus, it has no date at an offset, it has no text by a format or by a
--- description, it goes on too far, or has no place
+-- no format reads it, it has a fraction after a minus, it has no date at an offset, no time zone tells of it, it has no
+-- text by a format or by a description, it goes on too far, or has no place
 pub data Reason : Type 0 where
   unread : Refusal → Reason
   negative_fraction : Reason
   out_of_range : Reason
+  untold : Reason
   unwritable : Unwritable → Reason
   unformattable : Unformattable → Reason
   too_far : Reason
@@ -27,6 +28,7 @@ abbrev pub seen : declared.Reason → Reason
 seen (variant.Unread e) = unread (refusal_of e)
 seen variant.NegativeFraction = negative_fraction
 seen variant.OutOfRange = out_of_range
+seen variant.Untold = untold
 seen (variant.Unwritable why) = unwritable why
 seen (variant.Unformattable why) = unformattable why
 seen variant.TooFar = too_far
@@ -37,6 +39,7 @@ abbrev pub reason_text : Reason → List ℕ
 reason_text (unread e) = refusal_text e
 reason_text negative_fraction = codes "a fraction after a minus is read in two ways"
 reason_text out_of_range = codes "the time has no date at that offset"
+reason_text untold = codes "no time zone tells of that time"
 reason_text (unwritable why) = unwritable_text why
 reason_text (unformattable why) = unformattable_text why
 reason_text too_far = codes "the time goes on past byte 262144 of its line"

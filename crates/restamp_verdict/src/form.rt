@@ -11,11 +11,12 @@ ghost use Rattle.restamp_verdict.specs.declared.form.Unit.TheVariants.{Milliseco
 ghost use Rattle.restamp_verdict.specs.declared.form.Writing.TheVariants as writing;
 ghost use Rattle.restamp_verdict.specs.Reason.{out_of_range, seen, seen_written};
 
+use crate::clock::Clock;
 use crate::reading::MOST_STEPS;
 use crate::reason::Reason;
 use time_descriptions::Description;
 use time_formatting::format;
-use time_values::{OffsetDateTime, Timestamp, UtcOffset};
+use time_values::{OffsetDateTime, Timestamp};
 use time_writing::{FractionDigits, Text, Unwritable, text_2822, text_3339, text_8601};
 
 // The first second of the first day in UTC, and the last one of the last day, since 1970-01-01T00:00:00Z.
@@ -65,8 +66,8 @@ pub struct Form<'a> {
     pub writing: &'a Writing,
     /// How many digits of a fraction RFC 3339 has.
     pub digits: FractionDigits,
-    /// The offset at which the time is shown, or `None` for its own.
-    pub offset: Option<UtcOffset>,
+    /// The clock on which the time is shown.
+    pub clock: Clock<'a>,
 }
 
 // A text, or that there is none.
@@ -78,20 +79,6 @@ fn written(text: Result<Text, Unwritable>) -> Result<Text, Reason>
         Ok(text) => Ok(text),
         Err(why) => Err(Reason::Unwritable(why)),
     }
-}
-
-// The moment on a clock with the offset, if one is given.
-#[inline(always)]
-fn shown(moment: OffsetDateTime, offset: Option<UtcOffset>) -> Option<OffsetDateTime>
-    ensures { spec.IsShown greatest_year offset moment result }
-{
-    let Some(offset) = offset else {
-        return Some(moment);
-    };
-    if moment.offset() == offset {
-        return Some(moment);
-    }
-    moment.checked_to_offset(offset)
 }
 
 // A number that has at most 64 bits.
@@ -186,18 +173,18 @@ fn write_count(moment: OffsetDateTime, unit: Unit) -> Result<Text, Reason>
     }
 }
 
-/// The text of the moment by a named format, shown at the offset if one is given, or why it has none.
+/// The text of the moment by a named format, shown on the clock, or why it has none.
 #[inline(always)]
 pub(crate) fn write_named(
     moment: OffsetDateTime,
     named: Named,
     digits: FractionDigits,
-    offset: Option<UtcOffset>,
+    clock: &Clock<'_>,
 ) -> Result<Text, Reason>
-    ensures { spec.IsWrittenAt greatest_year (writing.Named named) digits offset moment (seen_written result) }
+    ensures { spec.IsWrittenOn greatest_year (writing.Named named) digits clock.now moment (seen_written result) }
 {
-    let Some(moment) = shown(moment, offset) else {
-        return Err(Reason::OutOfRange);
+    let Some(moment) = clock.show(moment) else {
+        return Err(clock.why_unshown());
     };
     match named {
         Named::Rfc3339 => written(text_3339(moment, digits)),
@@ -221,14 +208,14 @@ fn write_described(
 }
 
 /// The text of the moment, or why it has none.
-pub fn write_moment(moment: OffsetDateTime, form: Form<'_>) -> Result<Text, Reason>
-    ensures { spec.IsWritten greatest_year form.entry moment (seen_written result) }
+pub fn write_moment(moment: OffsetDateTime, form: &Form<'_>) -> Result<Text, Reason>
+    ensures { spec.IsWritten greatest_year form.now moment (seen_written result) }
 {
     match form.writing {
-        Writing::Named(named) => write_named(moment, *named, form.digits, form.offset),
-        Writing::Described(description) => match shown(moment, form.offset) {
+        Writing::Named(named) => write_named(moment, *named, form.digits, &form.clock),
+        Writing::Described(description) => match form.clock.show(moment) {
             Some(moment) => write_described(moment, description),
-            None => Err(Reason::OutOfRange),
+            None => Err(form.clock.why_unshown()),
         },
     }
 }

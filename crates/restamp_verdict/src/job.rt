@@ -139,7 +139,7 @@ impl Job<'_> {
         };
         said.replaced_by(
             start,
-            write_named(said.moment, *named, self.form.digits, self.form.offset),
+            write_named(said.moment, *named, self.form.digits, &self.form.clock),
         )
     }
 
@@ -151,7 +151,7 @@ impl Job<'_> {
         ensures put { spec.IsWrittenOver greatest_year self.now start said (spec.seen_verdict result) }
         ensures within { spec.IsWithin (start + said.start + said.length) (spec.seen_verdict result) }
     {
-        said.replaced_by(start, write_moment(said.moment, self.form))
+        said.replaced_by(start, write_moment(said.moment, &self.form))
     }
 
     // The verdict on a line that has no place for a time.

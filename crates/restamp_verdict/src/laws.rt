@@ -8,7 +8,7 @@ pub fn law_one_verdict()
 {}
 
 /// A time that was written by RFC 3339, RFC 2822 or ISO 8601 is read back by the same format as the same moment, at the
-/// offset at which it was shown, where each digit of its fraction that isn't 0 was written; and all bytes of the text
+/// offset that the clock has on which it was shown, where each digit of its fraction that isn't 0 was written; and all bytes of the text
 /// count. [`Auto`](time_writing::FractionDigits::Auto) leaves out no such digit.
 ///
 /// So is one that was written by a description, by a description of the same tree, where what the components say makes

@@ -2,6 +2,7 @@
 #![tactic(auto)]
 
 mod anywhere;
+mod clock;
 mod dated;
 mod form;
 mod job;
@@ -14,6 +15,7 @@ mod reading;
 mod reason;
 mod wrong;
 
+pub use clock::Clock;
 pub use dated::{read_dated, read_in_turn};
 pub use form::{Form, Named, Unit, Writing, write_moment};
 pub use job::{Job, LIMIT, REACH, Verdict};

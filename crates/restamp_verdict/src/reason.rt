@@ -16,6 +16,8 @@ pub enum Reason {
     NegativeFraction,
     /// It has no date at the offset that is asked for, or none in UTC that a number could count from.
     OutOfRange,
+    /// No time zone tells of it: it lies before the year -9999 or after 9999, or in their first or last day.
+    Untold,
     /// The format that is asked for has no text for it.
     Unwritable(Unwritable),
     /// The description that is asked for has no text for it.
@@ -36,6 +38,7 @@ impl fmt::Display for Reason {
                 write!(f, "a fraction after a minus is read in two ways")
             }
             Reason::OutOfRange => write!(f, "the time has no date at that offset"),
+            Reason::Untold => write!(f, "no time zone tells of that time"),
             Reason::Unwritable(why) => write!(f, "{why}"),
             Reason::Unformattable(why) => write!(f, "{why}"),
             Reason::TooFar => write!(f, "the time goes on past byte 262144 of its line"),

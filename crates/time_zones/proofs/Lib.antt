@@ -1,4 +1,5 @@
 pub mod TableLemmas
 pub mod ZoneLemmas
+pub mod RowLemmas
 pub mod AnswerLemmas
 pub mod NameLemmas

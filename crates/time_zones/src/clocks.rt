@@ -8,6 +8,7 @@ ghost use Rattle.time_values.specs.Offsets.{offset_seconds};
 ghost use Rattle.time_values.specs.Range.{greatest_year};
 ghost use Rattle.time_zones.specs.Zones.{HasClock, IsTold, HasZoneOffset, IsOnlyMoment, IsNotOne, HasOneSource, HasNoThird};
 
+use crate::rows::offset_by_rows;
 use crate::spread::spread_at;
 use jiff_core::civil::DateTime;
 use jiff_core::{Offset, Timestamp};
@@ -31,6 +32,9 @@ pub fn offset_at(zone: &TimeZone<'_>, moment: OffsetDateTime) -> Option<UtcOffse
     ensures told { IsSome result ↔ IsTold moment }
     ensures value { IfSome result (λ o. offset_seconds o ≡ Zone.offset_at zone.now (offset_instant greatest_year moment)) }
 {
+    if let Some(offset) = offset_by_rows(zone, moment.unix_timestamp()) {
+        return Some(offset_from(offset));
+    }
     let Ok(stamp) = Timestamp::from_nanosecond(moment.unix_timestamp_nanos()) else {
         return None;
     };

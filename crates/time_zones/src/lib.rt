@@ -6,6 +6,7 @@ mod files;
 mod finding;
 mod laws;
 mod place;
+mod rows;
 mod spread;
 mod zone_fault;
 

@@ -1,0 +1,82 @@
+"""Tries of `restamp` in the time zones of the system, held against Python's `zoneinfo`.
+
+Each zone is tried at, one second before and one second after each transition of its file, and at random moments, also
+past the last transition, where the rule of the file goes on.
+"""
+import datetime
+import struct
+import zoneinfo
+
+from programs import Cases, answers
+
+SHOWN = "[year]-[month]-[day]T[hour]:[minute]:[second][offset_hour sign:mandatory]:[offset_minute]:[offset_second]"
+EPOCH = datetime.datetime(1970, 1, 1, tzinfo=datetime.timezone.utc)
+SECOND = datetime.timedelta(seconds=1)
+MOST = 150  # zones in a round
+left = []
+
+
+def next_zones(count):
+    """The next zones in turn: after some rounds each was tried, and they begin anew."""
+    names = sorted(it for it in zoneinfo.available_timezones() if it != "localtime")
+    taken = []
+    while names and len(taken) < min(count, len(names)):
+        if not left:
+            left.extend(names)
+        taken.append(left.pop())
+    return taken
+
+
+def file_of(name):
+    for folder in zoneinfo.TZPATH:
+        try:
+            with open(f"{folder}/{name}", "rb") as file:
+                return file.read()
+        except OSError:
+            continue
+    return b""
+
+
+def transitions(name):
+    """The seconds of the transitions of a zone's file: those of its second block, where it has one (RFC 9636)."""
+    data, at, width = file_of(name), 0, 4
+    if data[:4] != b"TZif":
+        return []
+    counts = struct.unpack(">6L", data[20:44])
+    if data[4:5] >= b"2":
+        utc, std, leaps, times, types, letters = counts
+        at, width = 44 + times * 5 + types * 6 + letters + leaps * 8 + std + utc, 8
+        counts = struct.unpack(">6L", data[at + 20:at + 44])
+    times = counts[3]
+    return [int.from_bytes(data[at + 44 + i * width:at + 44 + (i + 1) * width], "big", signed=True) for i in range(times)]
+
+
+def shown(moment):
+    seconds = int(moment.utcoffset().total_seconds())
+    sign, size = "-" if seconds < 0 else "+", abs(seconds)
+    clock = moment.replace(tzinfo=None, microsecond=0).isoformat()
+    return f"{clock}{sign}{size // 3600:02}:{size // 60 % 60:02}:{size % 60:02}"
+
+
+def moments(rng, name):
+    for second in transitions(name):
+        yield from (second - 1, second, second + 1)
+    for _ in range(30):
+        yield rng.randint(-5_000_000_000, 20_000_000_000)
+
+
+def in_zone(rng, tally, command, name):
+    zone, lines, wanted = zoneinfo.ZoneInfo(name), [], []
+    for second in moments(rng, name):
+        try:
+            moment = (EPOCH + second * SECOND).astimezone(zone)
+        except OverflowError:
+            continue
+        lines.append(b"%d" % second)
+        wanted.append(shown(moment))
+    answers(tally, "zones", [*command, "-f", "unix", "-z", name, "-t", SHOWN], lines, wanted)
+
+
+def programs(rng, tally, command):
+    for name in next_zones(5 if isinstance(tally, Cases) else MOST):
+        in_zone(rng, tally, command, name)

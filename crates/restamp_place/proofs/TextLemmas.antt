@@ -118,7 +118,9 @@ pub stands-three : (text bytes : List ℕ) (n : ℕ) → OccursAt bytes text n �
     → ((get_or bytes n 0 == get_or text 0 0) && (get_or bytes (n + length text / 2) 0 == get_or text (length text / 2) 0)
     && (get_or bytes (n + (length text - 1)) 0 == get_or text (length text - 1) 0)) ≡ true
 stands-three text bytes n h some =
-    and_from _ _ (and_from _ _ (eq-eqb _ _ (stands-first text bytes n h some)) (stands-byte_at text bytes n (length text / 2) h (half_below (length text) some)))
+    and_from _ _
+    (and_from _ _ (eq-eqb _ _ (stands-first text bytes n h some))
+    (stands-byte_at text bytes n (length text / 2) h (half_below (length text) some)))
     (stands-byte_at text bytes n (length text - 1) h (omega arith))
 
 -- a text of one byte stands where that byte does

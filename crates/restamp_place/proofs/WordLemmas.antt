@@ -56,7 +56,9 @@ after_edge m line None = None
 after_edge m line (Some e) = further_on e (nth_field Blank m (drop e line))
 
 after_field : (m : ℕ) (line : List ℕ) (r : Option Field) → IfSome r (λ f. f.edge ≤ length line)
-    → option_and_then (λ f. let next = f.edge + 0 in if nat_le next (length line) then option_map (moved next) (nth_field Blank m (drop next line)) else None) r
+    → option_and_then
+    (λ f. let next = f.edge + 0 in
+        if nat_le next (length line) then option_map (moved next) (nth_field Blank m (drop next line)) else None) r
     ≡ after_edge m line (option_map (λ f. f.edge) r)
 after_field m line None h = refl
 after_field m line (Some f) h = let e : f.edge + 0 ≡ f.edge = omega arith in rw (e, le-leb _ _ h) refl
@@ -138,7 +140,8 @@ passes (suc k) (suc m) (x ∷ y ∷ rest) inside fewer =
     ∙ ap (λ j. further_on (suc k) (nth_field Blank j (drop k line))) both
 
 -- the same behind what was passed over
-pub passes-further : (n : ℕ) (line : List ℕ) (start left block ends : ℕ) → block < length (drop start line) → ends ≡ word_ends block (drop start line)
+pub passes-further : (n : ℕ) (line : List ℕ) (start left block ends : ℕ) → block < length (drop start line)
+    → ends ≡ word_ends block (drop start line)
     → ends < left → IsPassed n line (record { start = start; left = left }) → IsPassed n line (record { start = start + block; left = left - ends })
 passes-further n line start left block ends inside e fewer h =
     let rest = drop start line in

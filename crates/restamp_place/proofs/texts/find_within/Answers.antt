@@ -25,7 +25,10 @@ loop-at-preserved c k low high is =
     let here = subst (OccursAt bytes text) e is in
     elim c.else-bytes-at.branch [
       | else-bytes-at-via-then-bytes-at+else-begins_with w ↦
-          true≢false (sym (stands-begins text bytes at here) ∙ sym (ap (λ xs. occurs_at xs text 0) rest) ∙ sym w.begins_with.ensures ∙ w.if-begins_with.false)
+          true≢false (
+            sym (stands-begins text bytes at here) ∙ sym (ap (λ xs. occurs_at xs text 0) rest) ∙ sym w.begins_with.ensures
+                ∙ w.if-begins_with.false
+          )
       | else-bytes-at-via-else-bytes-at w ↦ w.if-bytes-at.false (stands-first text bytes at here c.requires.some)
     ])
     (cases_lt k at)

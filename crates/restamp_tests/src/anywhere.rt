@@ -1,8 +1,10 @@
 //! Times that may stand anywhere in a line. They take words and numbers whole.
 use restamp_place::Place;
 use restamp_verdict::{
-    Clock, Defaults, Form, Job, Reading, Verdict, Writing, find_reading, find_writing,
+    Clock, Defaults, Form, Job, REACH, Reading, Verdict, Writing, find_reading, find_writing,
+    read_dated,
 };
+use std::test::Fail;
 use time_writing::FractionDigits;
 
 const DAY: &[u8] =
@@ -87,4 +89,83 @@ fn found(rt: HostRuntime) {
     for (format, line, begin, many, seconds) in &ROWS {
         assert!(rt; is_found(format, line, *begin, *many, seconds), "{line:?}");
     }
+}
+
+// A format, and a line that has a time by it among what might begin one.
+type Sample = (&'static [u8], &'static [u8]);
+
+static SAMPLES: [Sample; 4] = [
+    (b"rfc3339", b"5 -2021-01-02T03:04:05Z x"),
+    (b"common", b"1/Oct 10/Oct/2000:13:55:36 -0700"),
+    (b"%Y-%m-%d %H:%M %z", b"7 -2021-01-02 03:04 +0000"),
+    (b"unix", b"x1 -60 +7 9y"),
+];
+
+const NOTHING_GIVEN: Defaults = Defaults {
+    year: None,
+    offset: None,
+    latest: None,
+};
+
+// Whether a letter or digit stands before a place, and one at it.
+fn is_inside(line: &[u8], place: usize) -> bool {
+    0 < place
+        && place < line.len()
+        && line[place - 1].is_ascii_alphanumeric()
+        && line[place].is_ascii_alphanumeric()
+}
+
+// Where the first time of the line begins and how many bytes it has, the format asked at each place.
+fn plain_first(line: &[u8], format: &Reading) -> Option<(usize, usize)> {
+    for start in 0..line.len() {
+        if is_inside(line, start) {
+            continue;
+        }
+        let rest = &line[start..];
+        let near = &rest[..REACH.min(rest.len())];
+        if let Ok(said) = read_dated(format, true, near, &NOTHING_GIVEN) {
+            let begin = start + said.start;
+            if !is_inside(line, begin + said.length) {
+                return Some((begin, said.length));
+            }
+        }
+    }
+    None
+}
+
+// Whether the verdict takes the time that is found so.
+fn is_plain(line: &[u8], format: &Reading, writing: &Writing) -> bool {
+    match verdict_on(line, format, writing) {
+        Verdict::Rewritten { start, length, .. } => {
+            plain_first(line, format) == Some((start, length))
+        }
+        Verdict::Without => plain_first(line, format).is_none(),
+        Verdict::Dropped | Verdict::Refused { .. } => false,
+    }
+}
+
+// Each byte of a line becomes each other byte.
+#[test]
+fn changed(rt: HostRuntime) -> Result<(), Fail> {
+    let Ok(writing) = find_writing(b"unix") else {
+        return Err("no format".into());
+    };
+    for (name, sample) in &SAMPLES {
+        let Ok(format) = find_reading(name) else {
+            return Err("no format".into());
+        };
+        for at in 0..sample.len().min(32) {
+            for byte in 0..=255 {
+                let mut line = [0; 32];
+                let many = sample.len().min(32);
+                line[..many].copy_from_slice(&sample[..many]);
+                line[at] = byte;
+                assert!(rt;
+                    is_plain(&line[..many], &format, &writing),
+                    "{name:?} {at} {byte}"
+                );
+            }
+        }
+    }
+    Ok(())
 }

@@ -1,5 +1,5 @@
 //! Where a time stands.
-use restamp_place::{Fields, Place, find_span, find_time};
+use restamp_place::{Fields, Place, Span, body_of, find_span, find_time};
 
 // A place, a line, and its three parts.
 type Row = (
@@ -162,4 +162,82 @@ fn missing(rt: HostRuntime) {
 #[test]
 fn open(rt: HostRuntime) {
     assert!(rt; Place::Front.is_open() && !Place::Between(b"a", b"b").is_open());
+}
+
+// A line that has words longer and shorter than sixteen bytes, and a text of which parts stand elsewhere.
+const CHANGED: [u8; 64] = *b"level=info\tmsg=\"a long request\"  at id=7 at 2021-01-02T03:04:05Z";
+
+// The word that so many others stand before, byte by byte.
+fn plain_word(line: &[u8], number: usize) -> Option<Span> {
+    let mut left = number;
+    let mut begun = None;
+    for (at, byte) in line.iter().enumerate() {
+        let blank = *byte == b' ' || *byte == b'\t';
+        match begun {
+            None if !blank => begun = Some(at),
+            Some(start) if blank => {
+                if left == 0 {
+                    return Some(Span { start, stop: at });
+                }
+                left -= 1;
+                begun = None;
+            }
+            _ => {}
+        }
+    }
+    match begun {
+        Some(start) if left == 0 => Some(Span {
+            start,
+            stop: line.len(),
+        }),
+        _ => None,
+    }
+}
+
+// What follows the text, which is looked for at each place.
+fn plain_rest(text: &[u8], line: &[u8]) -> Option<Span> {
+    for at in 0..line.len() {
+        if line[at..].starts_with(text) {
+            return Some(Span {
+                start: at + text.len(),
+                stop: line.len(),
+            });
+        }
+    }
+    None
+}
+
+// Whether words and texts are found in the line as they are byte by byte.
+fn is_plain(line: &[u8]) -> bool {
+    let body = body_of(line);
+    for number in 0..9 {
+        let word = find_span(Place::Field(Fields::Blank, number + 1), line);
+        if word != plain_word(body, number) {
+            return false;
+        }
+    }
+    for text in [
+        b" at 2".as_slice(),
+        b"id=",
+        b"5Z",
+        b"a long request\"  at id=7 at 2021-01",
+    ] {
+        if find_span(Place::After(text), line) != plain_rest(text, body) {
+            return false;
+        }
+    }
+    true
+}
+
+// Each byte of a line, and of its fronts, becomes each other byte.
+#[test]
+fn changed(rt: HostRuntime) {
+    for at in 0..CHANGED.len() {
+        for byte in 0..=255 {
+            let mut line = CHANGED;
+            line[at] = byte;
+            assert!(rt; is_plain(&line), "{at} {byte}");
+        }
+        assert!(rt; is_plain(&CHANGED[..at]), "{at}");
+    }
 }

@@ -125,13 +125,15 @@ unfolding Stand
 year-fails bytes none =
     record {
       before = [];
-      after = YearDash ∷ Month ∷ MonthDash ∷ Day ∷ Separator ∷ Hour ∷ HourColon ∷ Minute ∷ MinuteColon ∷ Second ∷ Subsecond ∷ OffsetHour ∷ OffsetColon ∷ OffsetMinute ∷ [];
+      after = YearDash ∷ Month ∷ MonthDash ∷ Day ∷ Separator ∷ Hour ∷ HourColon ∷ Minute ∷ MinuteColon ∷ Second ∷ Subsecond
+          ∷ OffsetHour ∷ OffsetColon ∷ OffsetMinute ∷ [];
       place = refl;
       mid = bytes;
       numbers = nothing_read;
       stand = (refl, refl);
       stops = λ text rest v cut h.
-          true≢false (sym (subst (λ (b : List ℕ). is_in digits (first b) ≡ true) (sym cut) (digit-in digits (first (text ++ rest)) (run-first 4 4 text rest h.0 (omega arith) h.1))) ∙ none);
+          true≢false (sym (subst (λ (b : List ℕ). is_in digits (first b) ≡ true) (sym cut)
+          (digit-in digits (first (text ++ rest)) (run-first 4 4 text rest h.0 (omega arith) h.1))) ∙ none);
     }
 
 -- A format refuses bytes with which no text of it begins, whatever stands for the rest.
@@ -232,5 +234,6 @@ none-push x (first ∷ formats) format none h = (none.0, none-push x formats for
 pub none-more : (x : ℕ) (formats : List Reading) (i : ℕ) (format : Reading) → i < length formats → format ≡ get_or formats i format
     → IsInNone x (take i formats) → is_in (format_firsts format) x ≡ false → IsInNone x (take (i + 1) formats)
 none-more x formats i format below is none h =
-    let more : take (i + 1) formats ≡ take i formats ++ format ∷ [] = take_more formats i format below ∙ ap (λ (f : Reading). take i formats ++ f ∷ []) (sym is) in
+    let more : take (i + 1) formats ≡ take i formats ++ format ∷ [] =
+        take_more formats i format below ∙ ap (λ (f : Reading). take i formats ++ f ∷ []) (sym is) in
     subst (IsInNone x) (sym more) (none-push x (take i formats) format none h)

@@ -235,5 +235,5 @@ pub none-more : (x : ℕ) (formats : List Reading) (i : ℕ) (format : Reading) 
     → IsInNone x (take i formats) → is_in (format_firsts format) x ≡ false → IsInNone x (take (i + 1) formats)
 none-more x formats i format below is none h =
     let more : take (i + 1) formats ≡ take i formats ++ format ∷ [] =
-        take_more formats i format below ∙ ap (λ (f : Reading). take i formats ++ f ∷ []) (sym is) in
+    take_more formats i format below ∙ ap (λ (f : Reading). take i formats ++ f ∷ []) (sym is) in
     subst (IsInNone x) (sym more) (none-push x (take i formats) format none h)

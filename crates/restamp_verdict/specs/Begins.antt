@@ -1,7 +1,7 @@
 -- No public contract rests on this file.
 --
 -- With which bytes the texts of a format may begin.
-use Rattle.std.specs.Prelude.{◌≡◌, ℕ, ◌<◌, ◌≤◌, Bool, true, false, not, ◌&&◌, ◌||◌, ◌==◌, List, [], ◌∷◌, slice_index, Option, None, Some}
+use Rattle.std.specs.Prelude.{◌≡◌, ℕ, Bool, true, false, not, ◌&&◌, ◌||◌, ◌==◌, List, [], ◌∷◌, slice_index}
 use Rattle.std.specs.Char.{is_ascii_digit}
 use Rattle.time_digits.specs.declared.Padding.{Padding}
 use Rattle.time_digits.specs.declared.Padding.TheVariants as padding
@@ -69,9 +69,3 @@ IsInNone x (format ∷ formats) = (is_in (format_firsts format) x ≡ false) × 
 -- a text may begin at that place of a line
 abbrev pub may_begin : Firsts → List ℕ → ℕ → Bool
 may_begin f line k = not (is_inside line k) && is_in f (slice_index line k)
-
--- the first such place of these, or there is none
-abbrev pub FindsBeginning : Firsts → List ℕ → ℕ → ℕ → Option ℕ → Type 0
-FindsBeginning f line from to None = (k : ℕ) → from ≤ k → k < to → may_begin f line k ≡ false
-FindsBeginning f line from to (Some n) =
-    (from ≤ n) × (n < to) × ((k : ℕ) → from ≤ k → k < n → may_begin f line k ≡ false)

@@ -154,19 +154,22 @@ fn may_begin_within(firsts: Firsts, line: &[u8], from: usize) -> bool
     may
 }
 
-// The first of these places at which a text may begin.
+// The first of these places at which a text may begin, or where they end.
 #[inline(always)]
-fn find_within(firsts: Firsts, line: &[u8], from: usize, to: usize) -> Option<usize>
+fn find_within(firsts: Firsts, line: &[u8], from: usize, to: usize) -> usize
     requires some { 0 < from }
+    requires ordered { from ≤ to }
     requires within { to ≤ length line.now }
-    ensures { begins.FindsBeginning firsts line.now from to result }
+    ensures low { from ≤ result }
+    ensures high { result ≤ to }
+    ensures passed { (k : ℕ) → from ≤ k → k < result → begins.may_begin firsts line.now k ≡ false }
 {
     for place in from..to {
         if may_begin(firsts, line, place) {
-            return Some(place);
+            return place;
         }
     }
-    None
+    to
 }
 
 // Where the next sixteen places end, or those that are left.
@@ -193,7 +196,8 @@ fn find_beginning(firsts: Firsts, line: &[u8], from: usize) -> usize
     while at < line.len() {
         let stop = next_stop(at, line.len());
         if stop - at < BLOCK || may_begin_within(firsts, line, at) {
-            if let Some(place) = find_within(firsts, line, at, stop) {
+            let place = find_within(firsts, line, at, stop);
+            if place < stop {
                 return place;
             }
         }

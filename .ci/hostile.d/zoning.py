@@ -63,6 +63,7 @@ def moments(rng, name):
         yield from (second - 1, second, second + 1)
     for _ in range(30):
         yield rng.randint(-5_000_000_000, 20_000_000_000)
+    yield 20_000_000_000  # the last line is no short one, as `answers` would send that without its LF
 
 
 def in_zone(rng, tally, command, name):

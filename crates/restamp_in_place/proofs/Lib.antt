@@ -1,0 +1,4 @@
+pub mod FolderLemmas
+pub mod PhaseLemmas
+pub mod StepLemmas
+pub mod ReplaceLemmas

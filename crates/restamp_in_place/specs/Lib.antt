@@ -1,0 +1,3 @@
+pub mod Folder
+pub mod Replacing
+pub mod Phases

@@ -1,0 +1,13 @@
+//! Replaces a file by another that is made from it, so that a stop at any moment leaves the one or the other whole.
+#![tactic(auto)]
+
+mod folder;
+mod making;
+mod replacing;
+mod step;
+
+pub use folder::{Failing, Folder, Original};
+pub use making::{Made, Making};
+
+pub use replacing::replace;
+pub use step::{Step, Unreplaced};

@@ -116,9 +116,9 @@ replaces-unmade makes (Some before) after name backup original error there did =
         } in
         replaces-reached aim makes after (did.0 ++ before) (Failed error) tt did.1 (is_made-reached aim (did.0 ++ before) (ap (λ (l : List Event). l ++ before) m.1.3))
 
-made_of : (makes : List ℕ → List ℕ → Type 0) (new : List ℕ) (known remaining : Option (List ℕ)) → IfSome known (λ bytes. remaining ≡ Some bytes) → IfSome remaining (λ old. makes old new) → IfSome known (λ old. makes old new)
-made_of makes new None remaining reads did = tt
-made_of makes new (Some old) remaining reads did = subst (λ (r : Option (List ℕ)). IfSome r (λ old. makes old new)) reads did
+made_of : (makes : List ℕ → List ℕ → Type 0) (new read : List ℕ) (known : Option (List ℕ)) → IfSome known (λ bytes. bytes ≡ read) → makes read new → IfSome known (λ old. makes old new)
+made_of makes new read None reads did = tt
+made_of makes new read (Some old) reads did = subst (λ (b : List ℕ). makes b new) (sym reads) did
 
 written : (contents after : Option (List ℕ)) (new : List ℕ) → contents ≡ Some [] → Appends contents after new → after ≡ Some new
 written None after new empty appends = absurd (cc empty)
@@ -130,7 +130,7 @@ written (Some old) (Some all) new empty appends = ap Some (appends ∙ ap (λ (l
 
 module _ {E : Type 0} (makes : List ℕ → List ℕ → Type 0) (after : Option (List Event)) (before more : List Event) (name temporary : List ℕ) (backup : Option (List ℕ)) (original : ℕ)
     (remaining contents contents' : Option (List ℕ)) (result : Result Made E)
-    (there : leads before name ≡ Some original) (reads : IfSome (stored before original) (λ bytes. remaining ≡ Some bytes)) (m : Makes temporary before more) (empty : contents ≡ Some []) where
+    (there : leads before name ≡ Some original) (read : List ℕ) (reads : remaining ≡ Some read) (same_read : IfSome (stored before original) (λ bytes. bytes ≡ read)) (m : Makes temporary before more) (empty : contents ≡ Some []) where
   abbrev aim_of : Option (List ℕ) → Aim
   aim_of new = record {
     before = before;
@@ -158,28 +158,29 @@ module _ {E : Type 0} (makes : List ℕ → List ℕ → Type 0) (after : Option
       let run = ends (aim_of new) refl refl refl refl writes (ap (λ (l : List Event). l ++ before) m.3) in
       replaces-reached (aim_of new) makes after run.0 result makes_it run.1 run.2
 
-  pub replaces : {S : Type 0} (how_made : Result Made S) → IfOk how_made (λ how. how ≡ Changed → (new : List ℕ) × Appends contents contents' new × IfSome remaining (λ old. makes old new))
+  pub replaces : {S : Type 0} (how_made : Result Made S) → IfOk how_made (λ how. how ≡ Changed → IfSome remaining (λ old. (new : List ℕ) × Appends contents contents' new × makes old new))
       → Ends how_made → Replaces makes before after name backup result
   replaces {S} (Ok Changed) did ends =
-      let d = did refl in
+      let d = subst (λ (r : Option (List ℕ)). IfSome r (λ old. (new : List ℕ) × Appends contents contents' new × makes old new)) reads (did refl) in
       let is : bytes_at before name ≡ stored before original = ap (option_and_then (stored before)) there in
-      ended {S = S} (Some d.0) (Ok Changed) (subst (λ (k : Option (List ℕ)). IfSome k (λ old. makes old d.0)) (sym is) (made_of makes d.0 (stored before original) remaining reads d.2)) ends
+      ended {S = S} (Some d.0) (Ok Changed) (subst (λ (k : Option (List ℕ)). IfSome k (λ old. makes old d.0)) (sym is) (made_of makes d.0 read (stored before original) same_read d.2)) ends
       (λ _. (d.0, written contents contents' d.0 empty d.1, refl))
   replaces {S} (Ok Made.Same) did ends = ended {S = S} None (Ok Made.Same) tt ends (λ changed. absurd (cc changed))
   replaces {S} (Err stop) did ends = ended {S = S} None (Err stop) tt ends tt
 
 pub replaces-all : {S E : Type 0} (makes : List ℕ → List ℕ → Type 0) (events mid after : Option (List Event)) (name temporary : List ℕ) (backup : Option (List ℕ)) (original : ℕ)
     (remaining contents contents' : Option (List ℕ)) (result : Result Made E) (how_made : Result Made S)
-    → IfSome events (λ done. (leads done name ≡ Some original) × IfSome (stored done original) (λ bytes. remaining ≡ Some bytes))
+    → IfSome events (λ done. (leads done name ≡ Some original)
+      × ((read : List ℕ) × (remaining ≡ Some read) × IfSome (stored done original) (λ bytes. bytes ≡ read)))
     → Does events mid (Makes temporary) → IfSome events (λ _. contents ≡ Some [])
-    → IfOk how_made (λ how. how ≡ Changed → (new : List ℕ) × Appends contents contents' new × IfSome remaining (λ old. makes old new))
+    → IfOk how_made (λ how. how ≡ Changed → IfSome remaining (λ old. (new : List ℕ) × Appends contents contents' new × makes old new))
     → ((aim : Aim) → aim.name ≡ name → aim.temporary ≡ temporary → aim.backup ≡ backup → aim.original ≡ original
       → IfOk how_made (λ how. how ≡ Changed → IsWritten aim contents')
       → Runs mid after (IsMade aim) (λ now. MatchResult result (λ how. IsEndOf aim how now) (λ _. Reached aim now)))
     → IfSome events (λ before. Replaces makes before after name backup result)
 replaces-all makes None mid after name temporary backup original remaining contents contents' result how_made opened created empty did ends = tt
 replaces-all makes (Some before) mid after name temporary backup original remaining contents contents' result how_made opened created empty did ends =
-    replaces makes after before created.0 name temporary backup original remaining contents contents' result opened.0 opened.1 created.2 empty how_made did
+    replaces makes after before created.0 name temporary backup original remaining contents contents' result opened.0 opened.1.0 opened.1.1 opened.1.2 created.2 empty how_made did
     (λ aim p q r s w. subst (λ (k : Option (List Event)). Runs k after (IsMade aim) (λ now. MatchResult result (λ how. IsEndOf aim how now) (λ _. Reached aim now))) created.1 (ends aim p q r s w))
 
 pub there_of : (events : Option (List Event)) (name : List ℕ) (original : ℕ) (Q : List Event → Type 0) → IfSome events (λ done. (leads done name ≡ Some original) × Q done) → IfSome events (λ done. leads done name ≡ Some original)

@@ -1,3 +1,5 @@
 pub mod Folder
 pub mod Replacing
+pub mod Lines
+pub mod Laws
 pub mod Phases

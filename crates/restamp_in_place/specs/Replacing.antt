@@ -60,8 +60,9 @@ pub record Replaces (makes : List ℕ → List ℕ → Type 0) (before : List Ev
   pub safe : IsAlwaysSafe before after name backup new
   pub ends : IfOk result (λ how. IfSome after (λ now. IsEnded how before now name backup new))
 
--- Where the old file was on the disk, the name leads to a file that has the old bytes or exactly the new ones.
-abbrev pub IsOldOrNew : List Event → List ℕ → Option (List ℕ) → List ℕ → List Event → Type 0
-IsOldOrNew before name new old after =
+-- Whatever a crash leaves under the name is a file that has the old bytes on the disk, or exactly the new ones.
+abbrev pub IsOldOrNew : List ℕ → Option (List ℕ) → List ℕ → List Event → Type 0
+IsOldOrNew name new old after =
     (file : Option ℕ) → MayLead after name file
-    → (number : ℕ) × (file ≡ Some number) × ((stored after number ≡ Some old) ⊎ ((bytes : List ℕ) × (new ≡ Some bytes) × (stored after number ≡ Some bytes)))
+    → (number : ℕ) × (bytes : List ℕ) × (file ≡ Some number) × (stored after number ≡ Some bytes)
+    × ((bytes ≡ old) ⊎ (new ≡ Some bytes))

@@ -1,5 +1,5 @@
 //! A folder, by the calls that the replacement of a file in it takes.
-ghost use Rattle.std.specs.Prelude.{◌≡◌, List, [], Option, Some, IfErr, IfOk, IfSome, true};
+ghost use Rattle.std.specs.Prelude.{◌≡◌, ℕ, List, [], Option, Some, IfErr, IfOk, IfSome, true};
 ghost use Rattle.std.specs.IoError.{error_kind};
 ghost use Rattle.restamp_in_place.specs.Folder.{Event, leads, stored, Tries, Makes, Stores, Links, Renames, Removes, Syncs};
 
@@ -51,7 +51,8 @@ pub trait Folder {
     fn open(&self, name: &str) -> io::Result<(Self::Old, Original)>
         ensures { IfOk result (λ opened. IfSome (events self.now) (λ done.
             (leads done name.now ≡ Some opened.1.number)
-            × IfSome (stored done opened.1.number) (λ bytes. Self.Old.remaining opened.0 ≡ Some bytes))) };
+            × ((read : List ℕ) × (Self.Old.remaining opened.0 ≡ Some read)
+            × IfSome (stored done opened.1.number) (λ bytes. bytes ≡ read)))) };
 
     /// Whether a name leads to that file, which is as it was when it was opened.
     fn is_at(&self, name: &str, original: &Original) -> io::Result<bool>

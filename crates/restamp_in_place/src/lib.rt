@@ -2,11 +2,15 @@
 #![tactic(auto)]
 
 mod folder;
+mod laws;
+mod lines;
 mod making;
 mod replacing;
 mod step;
 
 pub use folder::{Failing, Folder, Original};
+pub use laws::{law_now, law_old_or_new};
+pub use lines::Lines;
 pub use making::{Made, Making};
 
 pub use replacing::replace;

@@ -29,7 +29,6 @@ pub trait Making: Drop {
         input: &mut R,
         out: W,
     ) -> (Self, W, Result<Made, Self::Stop>)
-        ensures { IfOk result.2 (λ made. made ≡ Changed → (new : List ℕ)
-            × Appends (W.contents out) (W.contents result.1) new
-            × IfSome (R.remaining input.old) (λ old. makes self result.0 old new)) };
+        ensures { IfOk result.2 (λ made. made ≡ Changed → IfSome (R.remaining input.old) (λ old.
+            (new : List ℕ) × Appends (W.contents out) (W.contents result.1) new × makes self result.0 old new)) };
 }

@@ -17,8 +17,6 @@ pub struct Original {
     pub length: u64,
     /// When it was last written, in seconds since 1970, and how many nanoseconds after that.
     pub written: (i64, i64),
-    /// When it was last changed, also in its mode or owner.
-    pub changed: (i64, i64),
     /// Who may read and write it.
     pub mode: u32,
     /// The number of its owner.

@@ -5,6 +5,7 @@ mod folder;
 mod laws;
 mod lines;
 mod making;
+mod names;
 mod replacing;
 mod step;
 
@@ -13,5 +14,6 @@ pub use laws::{law_now, law_old_or_new};
 pub use lines::Lines;
 pub use making::{Made, Making};
 
+pub use names::backup_name;
 pub use replacing::replace;
 pub use step::{Step, Unreplaced};

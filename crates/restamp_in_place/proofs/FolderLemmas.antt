@@ -1,10 +1,10 @@
 -- What a thing that was done changes.
-use Rattle.std.proofs.Common.{◌≡◌, ◌⊎◌, inl, inr, ⊎_elim, ℕ, List, [], ◌∷◌, ◌++◌, refl, sym, ◌∙◌, ap, subst, Option, None, Some, Bool, true, false, arith, rules, if◌then◌else◌}
+use Rattle.std.proofs.Common.{◌≡◌, inl, inr, ℕ, List, [], ◌∷◌, refl, ◌∙◌, ap, Option, None, Some, Bool, true, false, arith, rules, if◌then◌else◌}
 use Rattle.std.specs.Bool.{Decides}
 use Rattle.std.specs.Str.{bytes_eq}
-use Rattle.std.specs.Prelude.{nat_eq, IfSome}
+use Rattle.std.specs.Prelude.{nat_eq}
 use Rattle.std.proofs.lemmas.Slice.Eq.{bytes_eq-Decides}
-use Rattle.restamp_in_place.specs.Folder.{Event, leads, stored, MayLead, IsFresh}
+use Rattle.restamp_in_place.specs.Folder.{Event, leads, stored, MayLead}
 use Rattle.restamp_in_place.specs.Folder.Event.{Leads, Stored, Synced}
 
 not_true : (b : Bool) (P : Type 0) → Decides b P → ¬ P → b ≡ false

@@ -1,9 +1,8 @@
 -- A file that is safe has the old bytes or the new ones.
-use Rattle.std.proofs.Common.{◌≡◌, ◌⊎◌, inl, inr, ⊎_elim, ℕ, List, refl, sym, ◌∙◌, ap, subst, Option, None, Some}
-use Rattle.std.specs.Prelude.{IfSome}
-use Rattle.restamp_in_place.specs.Folder.{Event, stored, MayLead}
+use Rattle.std.proofs.Common.{◌≡◌, ◌⊎◌, inl, inr, ⊎_elim, ℕ, List, refl, ◌∙◌, subst, Option, Some}
+use Rattle.restamp_in_place.specs.Folder.{stored, MayLead}
 use Rattle.restamp_in_place.specs.Replacing.{HasSameBytes, IsNew}
-use Rattle.restamp_in_place.specs.Laws.{IsOnDisk, SafeIsOldOrNew}
+use Rattle.restamp_in_place.specs.Laws.{SafeIsOldOrNew}
 
 pub safe-old_or_new : SafeIsOldOrNew
 safe-old_or_new before after name old number backup new disk safe file may = ⊎_elim kept made (safe file may)

@@ -1,14 +1,14 @@
 -- How the replacement of a file goes on.
-use Rattle.std.proofs.Common.{◌≡◌, ◌⊎◌, inl, inr, ⊎_elim, ℕ, List, [], ◌∷◌, ◌++◌, refl, sym, ◌∙◌, ap, subst, Option, None, Some, Bool, true, false, arith, rules}
+use Rattle.std.proofs.Common.{◌≡◌, ◌⊎◌, inl, inr, ⊎_elim, ℕ, List, [], ◌∷◌, refl, sym, ◌∙◌, ap, subst, Option, None, Some, Bool, true, false}
 use Rattle.std.specs.Bool.{Decides}
 use Rattle.std.specs.Str.{bytes_eq}
 use Rattle.std.specs.Prelude.{IfSome}
 use Rattle.std.proofs.lemmas.Slice.Eq.{bytes_eq-Decides}
-use Rattle.restamp_in_place.specs.Folder.{Event, leads, stored, MayLead, IsFresh, Renames}
+use Rattle.restamp_in_place.specs.Folder.{Event, leads, stored, MayLead}
 use Rattle.restamp_in_place.specs.Folder.Event.{Leads, Stored, Synced}
-use Rattle.restamp_in_place.specs.Replacing.{IsSafe, IsBackedUp, IsNew, IsReplaced, HasSameBytes, Throughout}
+use Rattle.restamp_in_place.specs.Replacing.{IsBackedUp, IsNew, HasSameBytes}
 use Rattle.restamp_in_place.specs.Phases.{Aim, Safe, Reached, Same, Kept, Ready, Linked, HasBackup, Backed, Loose, LooseBacked, Put, Done}
-use Rattle.restamp_in_place.proofs.FolderLemmas.{leads-at, leads-past, leads-either, may_now, stored-at, stored-past, names_differ}
+use Rattle.restamp_in_place.proofs.FolderLemmas.{leads-at, leads-past, may_now, stored-at, stored-past, names_differ}
 
 module _ (aim : Aim) where
   -- the file's name is not the new one's
@@ -154,7 +154,7 @@ module _ (aim : Aim) where
       backed = λ file may. (
         may ∙ l.linked,
         same_bytes (Synced ∷ done) file l.ready.kept.untouched.bytes
-        (λ is. original_apart aim.name (leads aim.before aim.name) (may_now aim.before aim.name) (sym l.linked ∙ sym may ∙ is)),
+            (λ is. original_apart aim.name (leads aim.before aim.name) (may_now aim.before aim.name) (sym l.linked ∙ sym may ∙ is)),
       );
     });
   }
@@ -241,7 +241,6 @@ module _ (aim : Aim) where
     backed = has-name aim.backup (Some aim.number) done b.backed;
   }
 
-
   reached-renamed : (done : List Event) → Backed aim done → Reached aim (Leads aim.temporary None ∷ Leads aim.name (Some aim.number) ∷ done)
   reached-renamed done b =
       let first = placed done b in
@@ -287,7 +286,7 @@ module _ (aim : Aim) where
         loose = record {
           reached = reached-renamed done b;
           safe = placed-safe (Leads aim.temporary None ∷ Leads aim.temporary None ∷ Leads aim.name (Some aim.number) ∷ done)
-            (placed-temporary (Leads aim.temporary None ∷ Leads aim.name (Some aim.number) ∷ done) both);
+              (placed-temporary (Leads aim.temporary None ∷ Leads aim.name (Some aim.number) ∷ done) both);
         };
         unbacked = never aim.backup;
       }

@@ -1,18 +1,16 @@
 -- The replacement of a file as a whole.
-use Rattle.std.proofs.Common.{◌≡◌, ◌⊎◌, inl, inr, ⊎_elim, ℕ, List, [], ◌∷◌, ◌++◌, refl, sym, ◌∙◌, ap, subst, Option, None, Some, Bool, true, false, Result, Ok, Err}
+use Rattle.std.proofs.Common.{◌≡◌, ◌⊎◌, inl, ⊎_elim, ℕ, List, [], ◌∷◌, ◌++◌, refl, sym, ◌∙◌, ap, subst, Option, None, Some, Bool, true, false, Result, Ok, Err}
 use Rattle.std.specs.Prelude.{IfOk, IfSome, MatchResult}
 use Rattle.std.specs.Option.{option_and_then}
 use Rattle.std.specs.Io.KnownBytes.{Appends}
 use Rattle.restamp_in_place.specs.declared.making.Made.{Made}
 use Rattle.restamp_in_place.specs.declared.making.Made.TheVariants.{Changed}
-use Rattle.restamp_in_place.specs.declared.making.Made.TheVariants as Made
-use Rattle.restamp_in_place.specs.Folder.{Event, leads, stored, bytes_at, MayLead, Does, Makes, Removes}
+use Rattle.restamp_in_place.specs.Folder.{Event, leads, stored, bytes_at, Does, Makes, Removes}
 use Rattle.restamp_in_place.specs.Folder.Event.{Leads}
-use Rattle.restamp_in_place.specs.Replacing.{HasSameBytes, IsSafe, IsEnded, IsUntouched, Replaces}
-use Rattle.restamp_in_place.specs.Phases.{Aim, IsWritten, Reached, Kept, Loose, Done, IsMade, IsEndOf, Runs}
-use Rattle.restamp_in_place.proofs.FolderLemmas.{leads-at, leads-past, leads-either, may_now}
+use Rattle.restamp_in_place.specs.Replacing.{HasSameBytes, IsEnded, IsUntouched, Replaces}
+use Rattle.restamp_in_place.specs.Phases.{Aim, IsWritten, Reached, Kept, Loose, IsMade, IsEndOf, Runs}
+use Rattle.restamp_in_place.proofs.FolderLemmas.{leads-at, leads-past}
 use Rattle.restamp_in_place.proofs.PhaseLemmas.{made, same-loose, removed}
-use Rattle.restamp_in_place.proofs.StepLemmas.{runs-into}
 use Rattle.std.specs.Bool.{Decides}
 use Rattle.std.specs.Str.{bytes_eq}
 use Rattle.std.proofs.lemmas.Slice.Eq.{bytes_eq-Decides}
@@ -171,12 +169,12 @@ module _ {E : Type 0} (makes : List ℕ → List ℕ → Type 0) (after : Option
 pub replaces-all : {S E : Type 0} (makes : List ℕ → List ℕ → Type 0) (events mid after : Option (List Event)) (name temporary : List ℕ) (backup : Option (List ℕ)) (original : ℕ)
     (remaining contents contents' : Option (List ℕ)) (result : Result Made E) (how_made : Result Made S)
     → IfSome events (λ done. (leads done name ≡ Some original)
-      × ((read : List ℕ) × (remaining ≡ Some read) × IfSome (stored done original) (λ bytes. bytes ≡ read)))
+    × ((read : List ℕ) × (remaining ≡ Some read) × IfSome (stored done original) (λ bytes. bytes ≡ read)))
     → Does events mid (Makes temporary) → IfSome events (λ _. contents ≡ Some [])
     → IfOk how_made (λ how. how ≡ Changed → IfSome remaining (λ old. (new : List ℕ) × Appends contents contents' new × makes old new))
     → ((aim : Aim) → aim.name ≡ name → aim.temporary ≡ temporary → aim.backup ≡ backup → aim.original ≡ original
-      → IfOk how_made (λ how. how ≡ Changed → IsWritten aim contents')
-      → Runs mid after (IsMade aim) (λ now. MatchResult result (λ how. IsEndOf aim how now) (λ _. Reached aim now)))
+    → IfOk how_made (λ how. how ≡ Changed → IsWritten aim contents')
+    → Runs mid after (IsMade aim) (λ now. MatchResult result (λ how. IsEndOf aim how now) (λ _. Reached aim now)))
     → IfSome events (λ before. Replaces makes before after name backup result)
 replaces-all makes None mid after name temporary backup original remaining contents contents' result how_made opened created empty did ends = tt
 replaces-all makes (Some before) mid after name temporary backup original remaining contents contents' result how_made opened created empty did ends =

@@ -1,10 +1,10 @@
 -- What each call does to the replacement of a file.
-use Rattle.std.proofs.Common.{◌≡◌, ◌⊎◌, inl, inr, ⊎_elim, ℕ, List, [], ◌∷◌, ◌++◌, refl, sym, ◌∙◌, ap, subst, Option, None, Some, Bool, true, false, Result, Ok, Err}
+use Rattle.std.proofs.Common.{◌≡◌, ◌⊎◌, ⊎_elim, ℕ, List, [], ◌∷◌, ◌++◌, refl, sym, ◌∙◌, ap, subst, Option, None, Some, Bool, true, false, Result, Ok, Err}
 use Rattle.std.specs.Prelude.{IfSome}
-use Rattle.restamp_in_place.specs.Folder.{Event, leads, stored, MayLead, Does, Makes, Stores, Links, Renames, Removes, Syncs}
-use Rattle.restamp_in_place.specs.Folder.Event.{Leads, Stored, Synced}
-use Rattle.restamp_in_place.specs.Phases.{Aim, IsWritten, Reached, Same, Kept, Ready, Linked, Backed, Loose, LooseBacked, Put, Done, Runs, Goes}
-use Rattle.restamp_in_place.proofs.PhaseLemmas.{ready, linked, backed, put, loose-renamed, loose-backed, loose-linked, same-loose, done-synced, removed}
+use Rattle.restamp_in_place.specs.Folder.{Event, leads, Does, Stores, Links, Renames, Removes, Syncs}
+use Rattle.restamp_in_place.specs.Folder.Event.{Leads, Stored}
+use Rattle.restamp_in_place.specs.Phases.{Aim, IsWritten, Reached, Kept, Ready, Linked, Backed, Loose, LooseBacked, Put, Done, Runs, Goes}
+use Rattle.restamp_in_place.proofs.PhaseLemmas.{ready, linked, backed, put, loose-renamed, loose-linked, same-loose, done-synced, removed}
 
 -- a call that was done
 pub runs-ok : (before after : Option (List Event)) (fact : List Event → List Event → Type 0) (from onto : List Event → Type 0)
@@ -118,7 +118,7 @@ module _ (aim : Aim) where
         tries.0 ++ done,
         tries.1,
         ⊎_elim (λ did. subst (λ (m : List Event). Loose aim (m ++ done)) (sym did) (unbacked aim.backup second done is l.unbacked there))
-        (λ failed. subst (λ (m : List Event). Loose aim (m ++ done)) (sym failed.1) l.loose) tries.2,
+            (λ failed. subst (λ (m : List Event). Loose aim (m ++ done)) (sym failed.1) l.loose) tries.2,
       )
 
   -- the name leads to the old file, where it was seen that it does

@@ -1,5 +1,5 @@
 -- What lines become in a file.
-use Rattle.std.specs.Prelude.{◌≡◌, ◌<◌, ℕ, List, [], Option, Some}
+use Rattle.std.specs.Prelude.{◌<◌, ℕ, List, [], Option, Some}
 use Rattle.restamp_stream.specs.declared.fate.Fate.{Fate}
 use Rattle.restamp_stream.specs.Answers.{job_of, state, DidAll}
 use Rattle.restamp_in_place.specs.declared.lines.Lines.{Lines}
@@ -9,5 +9,5 @@ use Rattle.restamp_in_place.specs.declared.lines.Lines.{Lines}
 pub record Rewrites {T L : Type 0} (is_fate : List ℕ → Fate → Type 0) (is_reason : List ℕ → ℕ → List ℕ → Type 0)
     (contents : L → Option (List ℕ)) (before after : Lines T L) (old new : List ℕ) : Type 0 where
   pub did : DidAll (job_of is_fate is_reason before.name.now before.settings)
-    (state (Some []) (contents before.log) before.tally) (state (Some new) (contents after.log) after.tally) old
+      (state (Some []) (contents before.log) before.tally) (state (Some new) (contents after.log) after.tally) old
   pub counts : before.tally.rewritten < after.tally.rewritten

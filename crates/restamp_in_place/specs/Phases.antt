@@ -1,11 +1,10 @@
 -- No public contract rests on this file.
 --
 -- How far the replacement of a file has come.
-use Rattle.std.specs.Prelude.{◌≡◌, ◌++◌, ℕ, List, [], ◌∷◌, Option, Some, None, IfSome, MatchResult, Result}
+use Rattle.std.specs.Prelude.{◌≡◌, ◌++◌, ℕ, List, ◌∷◌, Option, Some, None, IfSome, MatchResult, Result}
 use Rattle.std.specs.Option.{option_map}
 use Rattle.restamp_in_place.specs.declared.making.Made.{Made}
 use Rattle.restamp_in_place.specs.declared.making.Made.TheVariants.{Changed}
-use Rattle.restamp_in_place.specs.declared.making.Made.TheVariants as Made
 use Rattle.restamp_in_place.specs.declared.replacing.Plan.{Plan}
 use Rattle.restamp_in_place.specs.Folder.{Event, leads, stored, IsFresh, MayLead}
 use Rattle.restamp_in_place.specs.Folder.Event.{Leads}
@@ -47,7 +46,7 @@ pub record Kept (aim : Aim) (done : List Event) : Type 0 where
   pub temporary : leads done aim.temporary ≡ Some aim.number
   pub still : leads done aim.name ≡ leads aim.before aim.name
   pub others : (other : List ℕ) → ¬ (other ≡ aim.temporary) → ¬ (other ≡ aim.name) → ¬ (aim.backup ≡ Some other)
-    → leads done other ≡ leads aim.before other
+      → leads done other ≡ leads aim.before other
 
 -- The same, and the new file is on the disk.
 pub record Ready (aim : Aim) (done : List Event) : Type 0 where
@@ -85,7 +84,7 @@ pub record Loose (aim : Aim) (done : List Event) : Type 0 where
 pub record LooseBacked (aim : Aim) (done : List Event) : Type 0 where
   pub loose : Loose aim done
   pub unbacked : IfSome aim.backup (λ second.
-    leads done aim.name ≡ Some aim.original → Loose aim (Leads second None ∷ done))
+      leads done aim.name ≡ Some aim.original → Loose aim (Leads second None ∷ done))
 
 -- The new file is in its place.
 pub record Put (aim : Aim) (done : List Event) : Type 0 where
@@ -96,7 +95,7 @@ pub record Put (aim : Aim) (done : List Event) : Type 0 where
   pub whole : stored done aim.number ≡ Some bytes
   pub backed : IfSome aim.backup (HasBackup aim done)
   pub others : (other : List ℕ) → ¬ (other ≡ aim.name) → ¬ (aim.backup ≡ Some other)
-    → leads done other ≡ leads aim.before other
+      → leads done other ≡ leads aim.before other
 
 -- The new file is in its place, also on the disk.
 pub record Done (aim : Aim) (done : List Event) : Type 0 where

@@ -13,7 +13,6 @@ pub use folder::{Failing, Folder, Original};
 pub use laws::{law_now, law_old_or_new};
 pub use lines::Lines;
 pub use making::{Made, Making};
-
 pub use names::backup_name;
 pub use replacing::replace;
 pub use step::{Step, Unreplaced};

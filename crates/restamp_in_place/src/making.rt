@@ -24,11 +24,7 @@ pub trait Making: Drop {
     ghost makes: { Self → Self → List ℕ → List ℕ → Type 0 };
 
     /// Reads the old bytes to their end, and writes the new ones. The writer is given back.
-    fn make<R: Read, W: Write>(
-        self,
-        input: &mut R,
-        out: W,
-    ) -> (Self, W, Result<Made, Self::Stop>)
+    fn make<R: Read, W: Write>(self, input: &mut R, out: W) -> (Self, W, Result<Made, Self::Stop>)
         ensures { IfOk result.2 (λ made. made ≡ Changed → IfSome (R.remaining input.old) (λ old.
             (new : List ℕ) × Appends (W.contents out) (W.contents result.1) new × makes self result.0 old new)) };
 }

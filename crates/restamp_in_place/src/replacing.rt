@@ -162,7 +162,7 @@ fn finish_changed<F: Folder, S: Drop>(
 ) -> Result<Made, Unreplaced<S>>
     ensures { (aim : Aim) → IsPlanOf aim plan.now → IsWritten aim (F.New.contents new)
         → Runs (F.events folder.old) (F.events folder.new) (IsMade aim)
-            (λ now. MatchResult result (λ how. IsEndOf aim how now) (λ _. Reached aim now)) }
+        (λ now. MatchResult result (λ how. IsEndOf aim how now) (λ _. Reached aim now)) }
 {
     match put(folder, plan, new) {
         Ok(()) => Ok(Made::Changed),
@@ -172,13 +172,10 @@ fn finish_changed<F: Folder, S: Drop>(
 }
 
 // Removes the new file, which isn't needed.
-fn finish_same<F: Folder, S: Drop>(
-    folder: &mut F,
-    plan: &Plan<'_>,
-) -> Result<Made, Unreplaced<S>>
+fn finish_same<F: Folder, S: Drop>(folder: &mut F, plan: &Plan<'_>) -> Result<Made, Unreplaced<S>>
     ensures { (aim : Aim) → IsPlanOf aim plan.now
         → Runs (F.events folder.old) (F.events folder.new) (IsMade aim)
-            (λ now. MatchResult result (λ how. IsEndOf aim how now) (λ _. Reached aim now)) }
+        (λ now. MatchResult result (λ how. IsEndOf aim how now) (λ _. Reached aim now)) }
 {
     match folder.remove(plan.temporary) {
         Ok(()) => Ok(Made::Same),
@@ -213,7 +210,7 @@ fn finish<F: Folder, S: Drop>(
     ensures { (aim : Aim) → IsPlanOf aim plan.now
         → IfOk made (λ how. how ≡ Made.Changed → IsWritten aim (F.New.contents new))
         → Runs (F.events folder.old) (F.events folder.new) (IsMade aim)
-            (λ now. MatchResult result (λ how. IsEndOf aim how now) (λ _. Reached aim now)) }
+        (λ now. MatchResult result (λ how. IsEndOf aim how now) (λ _. Reached aim now)) }
 {
     let failure = new.failure();
     let how = match made {

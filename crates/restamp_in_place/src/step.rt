@@ -1,6 +1,5 @@
 //! Why a file wasn't replaced.
-use std::fmt;
-use std::io;
+use std::{fmt, io};
 
 /// What was to be done with a file.
 #[derive(Clone, Copy, Debug, PartialEq, Eq)]

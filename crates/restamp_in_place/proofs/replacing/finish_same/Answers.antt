@@ -1,4 +1,3 @@
-use Rattle.std.proofs.Common.{◌≡◌}
 use Rattle.restamp_in_place.specs.Replacing.{IsUntouched}
 use Rattle.restamp_in_place.specs.Phases.{IsMade, Reached}
 use Rattle.restamp_in_place.proofs.ReplaceLemmas.{is_made-removed, is_made-reached}

@@ -1,9 +1,9 @@
-use Rattle.std.proofs.Common.{refl, sym, subst}
-use Rattle.restamp_in_place.specs.Phases.{Aim, IsPlanOf, IsWritten, Kept, Ready, Linked, Backed, Loose, LooseBacked, Put, Done, Reached}
+use Rattle.std.proofs.Common.{sym}
+use Rattle.restamp_in_place.specs.Phases.{Kept, Ready, Backed, Loose, LooseBacked, Put}
 use Rattle.std.proofs.Common.{ap, ◌∙◌}
 use Rattle.std.specs.Option.{option_map}
 use Rattle.restamp_in_place.proofs.PhaseLemmas.{backed-none}
-use Rattle.restamp_in_place.proofs.StepLemmas.{runs-then, runs-into, goes-after, goes-into}
+use Rattle.restamp_in_place.proofs.StepLemmas.{runs-into, goes-after, goes-into}
 use Rattle.restamp_in_place.proofs.replacing.install.Goals as goal
 
 pub returns-in-Err : goal.returns-in-Err

@@ -1,6 +1,5 @@
-use Rattle.std.proofs.Common.{refl, sym, subst}
-use Rattle.restamp_in_place.specs.Phases.{Aim, IsPlanOf, IsWritten, Kept, Ready, Linked, Backed, Loose, LooseBacked, Put, Done, Reached}
-use Rattle.restamp_in_place.proofs.StepLemmas.{runs-ok, runs-any, runs-into, did_store, kept-loose, ready-loose}
+use Rattle.restamp_in_place.specs.Phases.{Kept, Ready, Loose}
+use Rattle.restamp_in_place.proofs.StepLemmas.{runs-ok, runs-any, did_store, kept-loose, ready-loose}
 use Rattle.restamp_in_place.proofs.replacing.prepare.Goals as goal
 
 pub returns-in-Err : goal.returns-in-Err

@@ -1,5 +1,4 @@
-use Rattle.std.proofs.Common.{refl, sym, subst}
-use Rattle.restamp_in_place.specs.Phases.{Aim, IsPlanOf, IsWritten, Kept, Ready, Linked, Backed, Loose, LooseBacked, Put, Done, Reached}
+use Rattle.restamp_in_place.specs.Phases.{Kept, Loose, Put, Done, Reached}
 use Rattle.restamp_in_place.proofs.StepLemmas.{runs-ok, runs-any, runs-then, did_remove, did_finish, finish_failed}
 use Rattle.restamp_in_place.proofs.replacing.put.Goals as goal
 

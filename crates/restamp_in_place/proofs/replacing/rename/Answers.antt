@@ -1,5 +1,4 @@
-use Rattle.std.proofs.Common.{refl, sym, subst}
-use Rattle.restamp_in_place.specs.Phases.{Aim, IsPlanOf, IsWritten, Kept, Ready, Linked, Backed, Loose, LooseBacked, Put, Done, Reached}
+use Rattle.restamp_in_place.specs.Phases.{Backed, LooseBacked, Put}
 use Rattle.restamp_in_place.proofs.PhaseLemmas.{loose-backed}
 use Rattle.restamp_in_place.proofs.StepLemmas.{runs-ok, runs-any, did_rename, rename_failed}
 use Rattle.restamp_in_place.proofs.replacing.rename.Goals as goal

@@ -1,5 +1,4 @@
-use Rattle.std.proofs.Common.{refl, sym, subst}
-use Rattle.restamp_in_place.specs.Phases.{Aim, IsPlanOf, IsWritten, Kept, Ready, Linked, Backed, Loose, LooseBacked, Put, Done, Reached}
+use Rattle.restamp_in_place.specs.Phases.{Ready, Linked, Loose, LooseBacked, Put}
 use Rattle.restamp_in_place.proofs.StepLemmas.{runs-ok, runs-any, runs-then, did_link, linked-loose, ready-loose}
 use Rattle.restamp_in_place.proofs.replacing.rename_backed.Goals as goal
 

@@ -1,5 +1,4 @@
-use Rattle.std.proofs.Common.{refl, sym, subst}
-use Rattle.restamp_in_place.specs.Phases.{Aim, IsPlanOf, IsWritten, Kept, Ready, Linked, Backed, Loose, LooseBacked, Put, Done, Reached}
+use Rattle.restamp_in_place.specs.Phases.{Linked, Backed, LooseBacked, Put}
 use Rattle.restamp_in_place.proofs.PhaseLemmas.{loose-backed, loose-linked}
 use Rattle.restamp_in_place.proofs.StepLemmas.{runs-ok, runs-any, goes-after, did_sync}
 use Rattle.restamp_in_place.proofs.replacing.rename_linked.Goals as goal

@@ -14,4 +14,4 @@ returns g c =
     replaces-all _ _ _ _ _ _ _ _ _ _ _ _ _ c.in-Ok.ensures c.in-Ok-create_beside.ensures.made c.in-Ok-create_beside.ensures.empty
     c.make-maker.ensures
     (λ aim p q r s written. c.finish-ended.ensures aim
-      (record { name = sym p; temporary = c.as_str.ensures.value ∙ sym q; backup = sym r; original = sym s }) written)
+    (record { name = sym p; temporary = c.as_str.ensures.value ∙ sym q; backup = sym r; original = sym s }) written)

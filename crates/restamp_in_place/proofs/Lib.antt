@@ -3,4 +3,3 @@ pub mod PhaseLemmas
 pub mod StepLemmas
 pub mod ReplaceLemmas
 pub mod LawLemmas
-pub mod LinesLemmas

@@ -3,7 +3,6 @@
 
 mod folder;
 mod laws;
-mod lines;
 mod making;
 mod names;
 mod replacing;
@@ -11,7 +10,6 @@ mod step;
 
 pub use folder::{Failing, Folder, Original};
 pub use laws::{law_now, law_old_or_new};
-pub use lines::Lines;
 pub use making::{Made, Making};
 pub use names::backup_name;
 pub use replacing::replace;

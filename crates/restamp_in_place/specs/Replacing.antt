@@ -14,7 +14,8 @@ IsBackedUp before after name second =
     (file : Option ℕ) → MayLead after second file → (file ≡ leads before name) × HasSameBytes before after file
 
 -- The file is there, and has exactly the new bytes on the disk. Where a backup is asked for, the old file is there.
-pub record IsNew (before after : List Event) (name : List ℕ) (backup new : Option (List ℕ)) (file : Option ℕ) : Type 0 where
+pub record IsNew (before after : List Event) (name : List ℕ) (backup new : Option (List ℕ))
+    (file : Option ℕ) : Type 0 where
   pub number : ℕ
   pub bytes : List ℕ
   pub is : file ≡ Some number

@@ -1,0 +1,5 @@
+pub mod FolderLemmas
+pub mod PhaseLemmas
+pub mod StepLemmas
+pub mod ReplaceLemmas
+pub mod LawLemmas

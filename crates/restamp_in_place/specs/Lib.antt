@@ -1,0 +1,5 @@
+pub mod Folder
+pub mod Replacing
+pub mod Names
+pub mod Laws
+pub mod Phases

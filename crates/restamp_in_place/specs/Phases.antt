@@ -1,0 +1,134 @@
+-- No public contract rests on this file.
+--
+-- How far the replacement of a file has come.
+use Rattle.std.specs.Prelude.{◌≡◌, ◌++◌, ℕ, List, ◌∷◌, Option, Some, None, IfSome, MatchResult, Result}
+use Rattle.std.specs.Option.{option_map}
+use Rattle.restamp_in_place.specs.declared.making.Made.{Made}
+use Rattle.restamp_in_place.specs.declared.making.Made.TheVariants.{Changed}
+use Rattle.restamp_in_place.specs.declared.replacing.Plan.{Plan}
+use Rattle.restamp_in_place.specs.Folder.{Event, leads, stored, IsFresh, MayLead}
+use Rattle.restamp_in_place.specs.Folder.Event.{Leads}
+use Rattle.restamp_in_place.specs.Replacing.{IsSafe, IsBackedUp, IsReplaced, IsUntouched, Throughout}
+
+-- What is to be done: what was done in the folder before, the name of the file, the new one's and the backup's, the
+-- numbers of both files, and the new bytes.
+pub record Aim : Type 0 where
+  pub before : List Event
+  pub name : List ℕ
+  pub temporary : List ℕ
+  pub backup : Option (List ℕ)
+  pub original : ℕ
+  pub number : ℕ
+  pub new : Option (List ℕ)
+  pub fresh : IsFresh before number
+  pub unused : leads before temporary ≡ None
+  pub there : leads before name ≡ Some original
+
+-- a crash leaves the file safe
+abbrev pub Safe : Aim → List Event → Type 0
+Safe aim done = IsSafe aim.before aim.name aim.backup aim.new done
+
+-- At each moment up to now a crash leaves the file safe.
+pub record Reached (aim : Aim) (done : List Event) : Type 0 where
+  pub more : List Event
+  pub is : done ≡ more ++ aim.before
+  pub safe : Throughout aim.before more (Safe aim)
+
+-- Nothing was done with the file.
+pub record Same (aim : Aim) (done : List Event) : Type 0 where
+  pub reached : Reached aim done
+  pub same : (file : Option ℕ) → MayLead done aim.name file → MayLead aim.before aim.name file
+  pub bytes : (number : ℕ) → ¬ (number ≡ aim.number) → stored done number ≡ stored aim.before number
+
+-- Nothing was done with the file, and the new one has a name.
+pub record Kept (aim : Aim) (done : List Event) : Type 0 where
+  pub untouched : Same aim done
+  pub temporary : leads done aim.temporary ≡ Some aim.number
+  pub still : leads done aim.name ≡ leads aim.before aim.name
+  pub others : (other : List ℕ) → ¬ (other ≡ aim.temporary) → ¬ (other ≡ aim.name) → ¬ (aim.backup ≡ Some other)
+      → leads done other ≡ leads aim.before other
+
+-- The same, and the new file is on the disk.
+pub record Ready (aim : Aim) (done : List Event) : Type 0 where
+  pub kept : Kept aim done
+  pub bytes : List ℕ
+  pub new : aim.new ≡ Some bytes
+  pub whole : stored done aim.number ≡ Some bytes
+
+-- The same, and the backup's name leads to the old file.
+pub record Linked (aim : Aim) (done : List Event) : Type 0 where
+  pub ready : Ready aim done
+  pub second : List ℕ
+  pub is : aim.backup ≡ Some second
+  pub linked : leads done second ≡ leads aim.before aim.name
+  pub apart : ¬ (second ≡ aim.temporary)
+  pub beside : ¬ (second ≡ aim.name)
+
+-- the backup is on the disk
+pub record HasBackup (aim : Aim) (done : List Event) (second : List ℕ) : Type 0 where
+  pub apart : ¬ (second ≡ aim.temporary)
+  pub beside : ¬ (second ≡ aim.name)
+  pub backed : IsBackedUp aim.before done aim.name second
+
+-- The new file is on the disk, and so is the backup where one is asked for.
+pub record Backed (aim : Aim) (done : List Event) : Type 0 where
+  pub ready : Ready aim done
+  pub backed : IfSome aim.backup (HasBackup aim done)
+
+-- The new file's own name may be taken away.
+pub record Loose (aim : Aim) (done : List Event) : Type 0 where
+  pub reached : Reached aim done
+  pub safe : Safe aim (Leads aim.temporary None ∷ done)
+
+-- The backup's may be, too, while the name leads to the old file.
+pub record LooseBacked (aim : Aim) (done : List Event) : Type 0 where
+  pub loose : Loose aim done
+  pub unbacked : IfSome aim.backup (λ second.
+      leads done aim.name ≡ Some aim.original → Loose aim (Leads second None ∷ done))
+
+-- The new file is in its place.
+pub record Put (aim : Aim) (done : List Event) : Type 0 where
+  pub reached : Reached aim done
+  pub is : leads done aim.name ≡ Some aim.number
+  pub bytes : List ℕ
+  pub new : aim.new ≡ Some bytes
+  pub whole : stored done aim.number ≡ Some bytes
+  pub backed : IfSome aim.backup (HasBackup aim done)
+  pub others : (other : List ℕ) → ¬ (other ≡ aim.name) → ¬ (aim.backup ≡ Some other)
+      → leads done other ≡ leads aim.before other
+
+-- The new file is in its place, also on the disk.
+pub record Done (aim : Aim) (done : List Event) : Type 0 where
+  pub reached : Reached aim done
+  pub replaced : IsReplaced aim.before done aim.name aim.backup aim.new
+
+-- the plan has that aim
+pub record IsPlanOf (aim : Aim) (plan : Plan) : Type 0 where
+  pub name : plan.name.now ≡ aim.name
+  pub temporary : plan.temporary.now ≡ aim.temporary
+  pub backup : option_map (λ second. second.now) plan.backup ≡ aim.backup
+  pub original : plan.original.number ≡ aim.original
+
+-- those bytes were written
+abbrev pub IsWritten : Aim → Option (List ℕ) → Type 0
+IsWritten aim known = (bytes : List ℕ) × (known ≡ Some bytes) × (aim.new ≡ Some bytes)
+
+-- the new file was made, and that is all
+abbrev pub IsMade : Aim → List Event → Type 0
+IsMade aim done = done ≡ Leads aim.temporary (Some aim.number) ∷ aim.before
+
+-- how it ends with a file that changed, and with one that stays the same
+abbrev pub IsEndOf : Aim → Made → List Event → Type 0
+IsEndOf aim Changed done = Done aim done
+IsEndOf aim Made.Same done = Reached aim done × IsUntouched aim.before done
+
+-- From there it comes there.
+abbrev pub Runs : Option (List Event) → Option (List Event) → (List Event → Type 0) → (List Event → Type 0) → Type 0
+Runs before after from onto =
+    IfSome before (λ done. from done → (now : List Event) × (after ≡ Some now) × onto now)
+
+-- From there it comes there, or where it fails there.
+abbrev pub Goes : {T E : Type 0} → Option (List Event) → Option (List Event) → Result T E
+    → (List Event → Type 0) → (List Event → Type 0) → (List Event → Type 0) → Type 0
+Goes before after result from onto failed =
+    Runs before after from (λ now. MatchResult result (λ _. onto now) (λ _. failed now))

@@ -1,0 +1,59 @@
+//! The name of a backup.
+ghost use Rattle.std.specs.Prelude.{◌≡◌, IfOk, string_bytes};
+ghost use Rattle.restamp_in_place.specs.Names as spec;
+
+use std::alloc::Global;
+use std::io;
+use std::io::ErrorKind;
+
+// Whether a `*` stands in a text.
+fn has_star(text: &[u8]) -> bool
+    ensures { result ≡ spec.has_star text.now }
+{
+    let mut left = text;
+    while let [first, rest @ ..] = left {
+        if *first == b'*' {
+            return true;
+        }
+        left = rest;
+    }
+    false
+}
+
+// The text with the name for each `*` in it.
+fn with_name(alloc: Global, name: &[u8], text: &[u8]) -> io::Result<Vec<u8>>
+    ensures { IfOk result (λ bytes. bytes.items ≡ spec.with_name name.now text.now) }
+{
+    let mut bytes = Vec::new(alloc);
+    let mut left = text;
+    while let [first, rest @ ..] = left {
+        if *first == b'*' {
+            bytes.extend_from_slice(name)?;
+        } else {
+            bytes.push(*first)?;
+        }
+        left = rest;
+    }
+    Ok(bytes)
+}
+
+/// The name of the backup of a file: its name and the suffix; or, where a `*` stands in the suffix, that with the name for
+/// each `*`.
+///
+/// # Errors
+///
+/// Memory is short.
+pub fn backup_name(alloc: Global, name: &str, suffix: &str) -> io::Result<String>
+    ensures { IfOk result (λ backup. string_bytes backup ≡ spec.backup_of name.now suffix.now) }
+{
+    if !has_star(suffix.as_bytes()) {
+        let mut backup = String::from_str(alloc, name)?;
+        backup.push_str(suffix)?;
+        return Ok(backup);
+    }
+    let bytes = with_name(alloc, name.as_bytes(), suffix.as_bytes())?;
+    match String::from_utf8(bytes) {
+        Ok(backup) => Ok(backup),
+        Err(_) => Err(io::Error::from(ErrorKind::InvalidData)),
+    }
+}

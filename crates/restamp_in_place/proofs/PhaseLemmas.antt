@@ -49,7 +49,8 @@ module _ (aim : Aim) where
   -- a name other than the file's leads elsewhere
   pub same-leads : (name : List ℕ) (led : Option ℕ) (done : List Event) → ¬ (name ≡ aim.name) → Same aim done → Same aim (Leads name led ∷ done)
   same-leads name led done differs s =
-      let still : (file : Option ℕ) → MayLead (Leads name led ∷ done) aim.name file → MayLead aim.before aim.name file = λ file may. ⊎_elim (λ here. absurd (differs here.0)) (s.same file) may in
+      let still : (file : Option ℕ) → MayLead (Leads name led ∷ done) aim.name file → MayLead aim.before aim.name file = λ file may. ⊎_elim
+      (λ here. absurd (differs here.0)) (s.same file) may in
       record {
         reached = goes_on (Leads name led) done s.reached (safe_same (Leads name led ∷ done) still s.bytes);
         same = still;
@@ -59,7 +60,8 @@ module _ (aim : Aim) where
   -- the new file gets on the disk
   pub same-stored : (bytes : List ℕ) (done : List Event) → Same aim done → Same aim (Stored aim.number bytes ∷ done)
   same-stored bytes done s =
-      let others : (number : ℕ) → ¬ (number ≡ aim.number) → stored (Stored aim.number bytes ∷ done) number ≡ stored aim.before number = λ number differs. stored-past aim.number number bytes done differs ∙ s.bytes number differs in
+      let others : (number : ℕ) → ¬ (number ≡ aim.number) → stored (Stored aim.number bytes ∷ done) number ≡ stored aim.before number = λ number
+      differs. stored-past aim.number number bytes done differs ∙ s.bytes number differs in
       record {
         reached = goes_on (Stored aim.number bytes) done s.reached (safe_same (Stored aim.number bytes ∷ done) s.same others);
         same = s.same;
@@ -69,7 +71,8 @@ module _ (aim : Aim) where
   -- the names get on the disk
   pub same-synced : (done : List Event) → Same aim done → Same aim (Synced ∷ done)
   same-synced done s =
-      let still : (file : Option ℕ) → MayLead (Synced ∷ done) aim.name file → MayLead aim.before aim.name file = λ file may. s.same file (subst (MayLead done aim.name) (sym may) (may_now done aim.name)) in
+      let still : (file : Option ℕ) → MayLead (Synced ∷ done) aim.name file → MayLead aim.before aim.name file = λ file may. s.same file
+      (subst (MayLead done aim.name) (sym may) (may_now done aim.name)) in
       record {
         reached = goes_on Synced done s.reached (safe_same (Synced ∷ done) still s.bytes);
         same = still;
@@ -121,7 +124,8 @@ module _ (aim : Aim) where
             untouched = same-leads second (Some aim.original) done (λ same. from_name (sym same)) r.kept.untouched;
             temporary = leads-past second aim.temporary (Some aim.original) done (λ same. from_new (sym same)) ∙ r.kept.temporary;
             still = leads-past second aim.name (Some aim.original) done (λ same. from_name (sym same)) ∙ r.kept.still;
-            others = λ other new old backup. leads-past second other (Some aim.original) done (λ same. backup (is ∙ ap Some same)) ∙ r.kept.others other new old backup;
+            others = λ other new old backup. leads-past second other (Some aim.original) done (λ same. backup (is ∙ ap Some same)) ∙ r.kept.others
+                other new old backup;
           };
           bytes = r.bytes;
           new = r.new;
@@ -164,7 +168,8 @@ module _ (aim : Aim) where
   backed-none done r none = record { ready = r; backed = subst (λ (b : Option (List ℕ)). IfSome b (HasBackup aim done)) (sym none) tt }
 
   -- what leads elsewhere leaves the backup
-  has-past : (second name : List ℕ) (led : Option ℕ) (done : List Event) → ¬ (name ≡ second) → HasBackup aim done second → HasBackup aim (Leads name led ∷ done) second
+  has-past : (second name : List ℕ) (led : Option ℕ) (done : List Event) → ¬ (name ≡ second) → HasBackup aim done second → HasBackup aim
+      (Leads name led ∷ done) second
   has-past second name led done differs h = record {
     apart = h.apart;
     beside = h.beside;
@@ -178,11 +183,13 @@ module _ (aim : Aim) where
     backed = λ file may. h.backed file (subst (MayLead done second) (sym may) (may_now done second));
   }
 
-  has-name : (backup : Option (List ℕ)) (led : Option ℕ) (done : List Event) → IfSome backup (HasBackup aim done) → IfSome backup (HasBackup aim (Leads aim.name led ∷ done))
+  has-name : (backup : Option (List ℕ)) (led : Option ℕ) (done : List Event) → IfSome backup (HasBackup aim done) → IfSome backup
+      (HasBackup aim (Leads aim.name led ∷ done))
   has-name None led done h = tt
   has-name (Some second) led done h = has-past second aim.name led done (λ is. h.beside (sym is)) h
 
-  has-temporary : (backup : Option (List ℕ)) (led : Option ℕ) (done : List Event) → IfSome backup (HasBackup aim done) → IfSome backup (HasBackup aim (Leads aim.temporary led ∷ done))
+  has-temporary : (backup : Option (List ℕ)) (led : Option ℕ) (done : List Event) → IfSome backup (HasBackup aim done) → IfSome backup
+      (HasBackup aim (Leads aim.temporary led ∷ done))
   has-temporary None led done h = tt
   has-temporary (Some second) led done h = has-past second aim.temporary led done (λ is. h.apart (sym is)) h
 
@@ -292,9 +299,11 @@ module _ (aim : Aim) where
       }
     where
       differs : ¬ (aim.number ≡ aim.original)
-      differs is = original_apart aim.name (Some aim.original) (subst (MayLead aim.before aim.name) aim.there (may_now aim.before aim.name)) (ap Some (sym is))
+      differs is = original_apart aim.name (Some aim.original) (subst (MayLead aim.before aim.name) aim.there (may_now aim.before aim.name))
+          (ap Some (sym is))
 
-      never : (backup : Option (List ℕ)) → IfSome backup (λ second. leads (Leads aim.temporary None ∷ Leads aim.name (Some aim.number) ∷ done) aim.name ≡ Some aim.original
+      never : (backup : Option (List ℕ)) → IfSome backup
+          (λ second. leads (Leads aim.temporary None ∷ Leads aim.name (Some aim.number) ∷ done) aim.name ≡ Some aim.original
           → Loose aim (Leads second None ∷ Leads aim.temporary None ∷ Leads aim.name (Some aim.number) ∷ done))
       never None = tt
       never (Some second) = λ still. absurd (differs (the_same (sym (leads-renamed done) ∙ still)))
@@ -321,7 +330,8 @@ module _ (aim : Aim) where
   pub loose-linked : (done : List Event) → Linked aim done → LooseBacked aim done
   loose-linked done l = record {
     loose = same-loose done l.ready.kept.untouched;
-    unbacked = loose-second aim.backup done l.ready.kept.untouched (subst (λ (b : Option (List ℕ)). IfSome b (λ second. ¬ (second ≡ aim.name))) (sym l.is) l.beside);
+    unbacked = loose-second aim.backup done l.ready.kept.untouched
+        (subst (λ (b : Option (List ℕ)). IfSome b (λ second. ¬ (second ≡ aim.name))) (sym l.is) l.beside);
   }
 
   -- and the names are on the disk

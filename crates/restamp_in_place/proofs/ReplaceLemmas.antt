@@ -43,10 +43,12 @@ module _ (aim : Aim) where
       → Reached aim (more ++ done) × IsUntouched aim.before (more ++ done)
   is_made-removed name named done more is gone =
       let all : more ++ done ≡ Leads aim.temporary None ∷ Leads aim.temporary (Some aim.number) ∷ aim.before =
-      ap (λ (m : List Event). m ++ done) gone ∙ ap (λ (d : List Event). Leads name None ∷ d) is ∙ ap (λ (n : List ℕ). Leads n None ∷ Leads aim.temporary (Some aim.number) ∷ aim.before) named in
+      ap (λ (m : List Event). m ++ done) gone ∙ ap (λ (d : List Event). Leads name None ∷ d) is ∙ ap
+      (λ (n : List ℕ). Leads n None ∷ Leads aim.temporary (Some aim.number) ∷ aim.before) named in
       (subst (Reached aim) (sym all) (removed aim _ (same-loose aim _ (made aim).untouched)), subst (IsUntouched aim.before) (sym all) untouched)
     where
-      past : (other : List ℕ) (b : Bool) → Decides b (other ≡ aim.temporary) → leads (Leads aim.temporary None ∷ Leads aim.temporary (Some aim.number) ∷ aim.before) other ≡ leads aim.before other
+      past : (other : List ℕ) (b : Bool) → Decides b (other ≡ aim.temporary) → leads
+          (Leads aim.temporary None ∷ Leads aim.temporary (Some aim.number) ∷ aim.before) other ≡ leads aim.before other
       past other true d =
           ap (leads (Leads aim.temporary None ∷ Leads aim.temporary (Some aim.number) ∷ aim.before)) (d.0 refl)
           ∙ leads-at aim.temporary None (Leads aim.temporary (Some aim.number) ∷ aim.before) ∙ sym aim.unused ∙ sym (ap (leads aim.before) (d.0 refl))
@@ -89,13 +91,15 @@ module _ (aim : Aim) where
   }
 
 -- a new file may have been made, though that failed
-pub replaces-unmade : {E : Type 0} (makes : List ℕ → List ℕ → Type 0) (events after : Option (List Event)) (name : List ℕ) (backup : Option (List ℕ)) (original : ℕ) (error : E)
+pub replaces-unmade : {E : Type 0} (makes : List ℕ → List ℕ → Type 0) (events after : Option (List Event)) (name : List ℕ) (backup : Option (List ℕ))
+    (original : ℕ) (error : E)
     → IfSome events (λ done. leads done name ≡ Some original)
     → Does events after (λ done more. (more ≡ []) ⊎ ((temporary : List ℕ) × Makes temporary done more))
     → IfSome events (λ before. Replaces makes before after name backup (Failed error))
 replaces-unmade makes None after name backup original error there did = tt
 replaces-unmade makes (Some before) after name backup original error there did =
-    ⊎_elim (λ none. subst (λ (a : Option (List Event)). Replaces makes before a name backup (Failed error)) (sym (did.1 ∙ ap (λ (m : List Event). Some (m ++ before)) none)) (replaces-nothing makes (Some before) name backup error))
+    ⊎_elim (λ none. subst (λ (a : Option (List Event)). Replaces makes before a name backup (Failed error))
+    (sym (did.1 ∙ ap (λ (m : List Event). Some (m ++ before)) none)) (replaces-nothing makes (Some before) name backup error))
     some did.2
   where
     some : (temporary : List ℕ) × Makes temporary before did.0 → Replaces makes before after name backup (Failed error)
@@ -112,9 +116,11 @@ replaces-unmade makes (Some before) after name backup original error there did =
           unused = m.1.2;
           there = there;
         } in
-        replaces-reached aim makes after (did.0 ++ before) (Failed error) tt did.1 (is_made-reached aim (did.0 ++ before) (ap (λ (l : List Event). l ++ before) m.1.3))
+        replaces-reached aim makes after (did.0 ++ before) (Failed error) tt did.1
+        (is_made-reached aim (did.0 ++ before) (ap (λ (l : List Event). l ++ before) m.1.3))
 
-made_of : (makes : List ℕ → List ℕ → Type 0) (new read : List ℕ) (known : Option (List ℕ)) → IfSome known (λ bytes. bytes ≡ read) → makes read new → IfSome known (λ old. makes old new)
+made_of : (makes : List ℕ → List ℕ → Type 0) (new read : List ℕ) (known : Option (List ℕ)) → IfSome known (λ bytes. bytes ≡ read) → makes read new →
+    IfSome known (λ old. makes old new)
 made_of makes new read None reads did = tt
 made_of makes new read (Some old) reads did = subst (λ (b : List ℕ). makes b new) (sym reads) did
 
@@ -126,9 +132,11 @@ written (Some old) (Some all) new empty appends = ap Some (appends ∙ ap (λ (l
     none : Some old ≡ Some [] → old ≡ []
     none is = cc is
 
-module _ {E : Type 0} (makes : List ℕ → List ℕ → Type 0) (after : Option (List Event)) (before more : List Event) (name temporary : List ℕ) (backup : Option (List ℕ)) (original : ℕ)
+module _ {E : Type 0} (makes : List ℕ → List ℕ → Type 0) (after : Option (List Event)) (before more : List Event) (name temporary : List ℕ)
+    (backup : Option (List ℕ)) (original : ℕ)
     (remaining contents contents' : Option (List ℕ)) (result : Result Made E)
-    (there : leads before name ≡ Some original) (read : List ℕ) (reads : remaining ≡ Some read) (same_read : IfSome (stored before original) (λ bytes. bytes ≡ read)) (m : Makes temporary before more) (empty : contents ≡ Some []) where
+    (there : leads before name ≡ Some original) (read : List ℕ) (reads : remaining ≡ Some read)
+    (same_read : IfSome (stored before original) (λ bytes. bytes ≡ read)) (m : Makes temporary before more) (empty : contents ≡ Some []) where
   abbrev aim_of : Option (List ℕ) → Aim
   aim_of new = record {
     before = before;
@@ -150,23 +158,27 @@ module _ {E : Type 0} (makes : List ℕ → List ℕ → Type 0) (after : Option
       → IfOk how_made (λ how. how ≡ Changed → IsWritten aim contents')
       → Runs (Some (more ++ before)) after (IsMade aim) (λ now. MatchResult result (λ how. IsEndOf aim how now) (λ _. Reached aim now))
 
-  ended : {S : Type 0} (new : Option (List ℕ)) (how_made : Result Made S) → IfSome new (λ bytes. IfSome (bytes_at before name) (λ old. makes old bytes)) → Ends how_made
+  ended : {S : Type 0} (new : Option (List ℕ)) (how_made : Result Made S) → IfSome new
+      (λ bytes. IfSome (bytes_at before name) (λ old. makes old bytes)) → Ends how_made
       → IfOk how_made (λ how. how ≡ Changed → IsWritten (aim_of new) contents') → Replaces makes before after name backup result
   ended new how_made makes_it ends writes =
       let run = ends (aim_of new) refl refl refl refl writes (ap (λ (l : List Event). l ++ before) m.3) in
       replaces-reached (aim_of new) makes after run.0 result makes_it run.1 run.2
 
-  pub replaces : {S : Type 0} (how_made : Result Made S) → IfOk how_made (λ how. how ≡ Changed → IfSome remaining (λ old. (new : List ℕ) × Appends contents contents' new × makes old new))
+  pub replaces : {S : Type 0} (how_made : Result Made S) → IfOk how_made
+      (λ how. how ≡ Changed → IfSome remaining (λ old. (new : List ℕ) × Appends contents contents' new × makes old new))
       → Ends how_made → Replaces makes before after name backup result
   replaces {S} (Ok Changed) did ends =
       let d = subst (λ (r : Option (List ℕ)). IfSome r (λ old. (new : List ℕ) × Appends contents contents' new × makes old new)) reads (did refl) in
       let is : bytes_at before name ≡ stored before original = ap (option_and_then (stored before)) there in
-      ended {S = S} (Some d.0) (Ok Changed) (subst (λ (k : Option (List ℕ)). IfSome k (λ old. makes old d.0)) (sym is) (made_of makes d.0 read (stored before original) same_read d.2)) ends
+      ended {S = S} (Some d.0) (Ok Changed) (subst (λ (k : Option (List ℕ)). IfSome k (λ old. makes old d.0)) (sym is)
+      (made_of makes d.0 read (stored before original) same_read d.2)) ends
       (λ _. (d.0, written contents contents' d.0 empty d.1, refl))
   replaces {S} (Ok Made.Same) did ends = ended {S = S} None (Ok Made.Same) tt ends (λ changed. absurd (cc changed))
   replaces {S} (Err stop) did ends = ended {S = S} None (Err stop) tt ends tt
 
-pub replaces-all : {S E : Type 0} (makes : List ℕ → List ℕ → Type 0) (events mid after : Option (List Event)) (name temporary : List ℕ) (backup : Option (List ℕ)) (original : ℕ)
+pub replaces-all : {S E : Type 0} (makes : List ℕ → List ℕ → Type 0) (events mid after : Option (List Event)) (name temporary : List ℕ)
+    (backup : Option (List ℕ)) (original : ℕ)
     (remaining contents contents' : Option (List ℕ)) (result : Result Made E) (how_made : Result Made S)
     → IfSome events (λ done. (leads done name ≡ Some original)
     × ((read : List ℕ) × (remaining ≡ Some read) × IfSome (stored done original) (λ bytes. bytes ≡ read)))
@@ -178,10 +190,13 @@ pub replaces-all : {S E : Type 0} (makes : List ℕ → List ℕ → Type 0) (ev
     → IfSome events (λ before. Replaces makes before after name backup result)
 replaces-all makes None mid after name temporary backup original remaining contents contents' result how_made opened created empty did ends = tt
 replaces-all makes (Some before) mid after name temporary backup original remaining contents contents' result how_made opened created empty did ends =
-    replaces makes after before created.0 name temporary backup original remaining contents contents' result opened.0 opened.1.0 opened.1.1 opened.1.2 created.2 empty how_made did
-    (λ aim p q r s w. subst (λ (k : Option (List Event)). Runs k after (IsMade aim) (λ now. MatchResult result (λ how. IsEndOf aim how now) (λ _. Reached aim now))) created.1 (ends aim p q r s w))
+    replaces makes after before created.0 name temporary backup original remaining contents contents' result opened.0 opened.1.0 opened.1.1 opened.1.2
+    created.2 empty how_made did
+    (λ aim p q r s w. subst (λ (k : Option (List Event)). Runs k after (IsMade aim)
+    (λ now. MatchResult result (λ how. IsEndOf aim how now) (λ _. Reached aim now))) created.1 (ends aim p q r s w))
 
-pub there_of : (events : Option (List Event)) (name : List ℕ) (original : ℕ) (Q : List Event → Type 0) → IfSome events (λ done. (leads done name ≡ Some original) × Q done) → IfSome events (λ done. leads done name ≡ Some original)
+pub there_of : (events : Option (List Event)) (name : List ℕ) (original : ℕ) (Q : List Event → Type 0) → IfSome events
+    (λ done. (leads done name ≡ Some original) × Q done) → IfSome events (λ done. leads done name ≡ Some original)
 there_of None name original Q opened = tt
 there_of (Some done) name original Q opened = opened.0
 
@@ -189,7 +204,8 @@ fallback : {S : Type 0} → Made → Result Made S → Made
 fallback other (Ok how) = how
 fallback other (Err stop) = other
 
-pub written_of : {S : Type 0} (how_made : Result Made S) (how : Made) (P : Type 0) → how_made ≡ Ok how → how ≡ Changed → IfOk how_made (λ how. how ≡ Changed → P) → P
+pub written_of : {S : Type 0} (how_made : Result Made S) (how : Made) (P : Type 0) → how_made ≡ Ok how → how ≡ Changed → IfOk how_made
+    (λ how. how ≡ Changed → P) → P
 unfolding fallback
 written_of (Ok other) how P is changed written = written (ap (fallback other) is ∙ changed)
 written_of (Err stop) how P is changed written = absurd (cc is)

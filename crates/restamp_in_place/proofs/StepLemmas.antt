@@ -8,28 +8,39 @@ use Rattle.restamp_in_place.proofs.PhaseLemmas.{ready, linked, backed, put, loos
 
 -- a call that was done
 pub runs-ok : (before after : Option (List Event)) (fact : List Event → List Event → Type 0) (from onto : List Event → Type 0)
-    → Does before after (λ done more. fact done more ⊎ ((false ≡ true) × (more ≡ []))) → ((done more : List Event) → from done → fact done more → onto (more ++ done)) → Runs before after from onto
+    → Does before after (λ done more. fact done more ⊎ ((false ≡ true) × (more ≡ []))) →
+    ((done more : List Event) → from done → fact done more → onto (more ++ done)) → Runs before after from onto
 runs-ok None after fact from onto tries step = tt
 runs-ok (Some done) after fact from onto tries step =
     λ is. (tries.0 ++ done, tries.1, ⊎_elim (λ did. step done tries.0 is did) (λ failed. absurd (cc failed.0)) tries.2)
 
 -- one that may have failed
 pub runs-any : (before after : Option (List Event)) (P : Type 0) (fact : List Event → List Event → Type 0) (from onto : List Event → Type 0)
-    → Does before after (λ done more. fact done more ⊎ (P × (more ≡ []))) → ((done more : List Event) → from done → fact done more → onto (more ++ done)) → ((done : List Event) → from done → onto done) → Runs before after from onto
+    → Does before after (λ done more. fact done more ⊎ (P × (more ≡ []))) →
+    ((done more : List Event) → from done → fact done more → onto (more ++ done)) → ((done : List Event) → from done → onto done) → Runs before
+    after from onto
 runs-any None after P fact from onto tries step stays = tt
 runs-any (Some done) after P fact from onto tries step stays =
-    λ is. (tries.0 ++ done, tries.1, ⊎_elim (λ did. step done tries.0 is did) (λ failed. subst (λ (more : List Event). onto (more ++ done)) (sym failed.1) (stays done is)) tries.2)
+    λ is. (
+      tries.0 ++ done,
+      tries.1,
+      ⊎_elim (λ did. step done tries.0 is did)
+          (λ failed. subst (λ (more : List Event). onto (more ++ done)) (sym failed.1) (stays done is)) tries.2,
+    )
 
-pub runs-then : (before between after : Option (List Event)) (from mid onto : List Event → Type 0) → Runs before between from mid → Runs between after mid onto → Runs before after from onto
+pub runs-then : (before between after : Option (List Event)) (from mid onto : List Event → Type 0) → Runs before between from mid → Runs between after
+    mid onto → Runs before after from onto
 runs-then None between after from mid onto first second = tt
 runs-then (Some done) between after from mid onto first second =
     λ is. let at = first is in (subst (λ (b : Option (List Event)). Runs b after mid onto) at.1 second) at.2
 
-pub runs-same : (before : Option (List Event)) (from onto : List Event → Type 0) → ((done : List Event) → from done → onto done) → Runs before before from onto
+pub runs-same : (before : Option (List Event)) (from onto : List Event → Type 0) → ((done : List Event) → from done → onto done) → Runs before before
+    from onto
 runs-same None from onto step = tt
 runs-same (Some done) from onto step = λ is. (done, refl, step done is)
 
-pub runs-into : (before after : Option (List Event)) (from mid onto : List Event → Type 0) → Runs before after from mid → ((done : List Event) → mid done → onto done) → Runs before after from onto
+pub runs-into : (before after : Option (List Event)) (from mid onto : List Event → Type 0) → Runs before after from mid →
+    ((done : List Event) → mid done → onto done) → Runs before after from onto
 runs-into None after from mid onto runs step = tt
 runs-into (Some done) after from mid onto runs step = λ is. let at = runs is in (at.0, at.1, step at.0 at.2)
 
@@ -38,7 +49,8 @@ pub goes-after : {T E : Type 0} (before between after : Option (List Event)) (re
 goes-after before between after (Ok value) from mid onto failed first second = runs-then before between after from mid onto first second
 goes-after before between after (Err e) from mid onto failed first second = runs-then before between after from mid failed first second
 
-pub runs-from : (before after : Option (List Event)) (from mid onto : List Event → Type 0) → ((done : List Event) → from done → mid done) → Runs before after mid onto → Runs before after from onto
+pub runs-from : (before after : Option (List Event)) (from mid onto : List Event → Type 0) → ((done : List Event) → from done → mid done) → Runs
+    before after mid onto → Runs before after from onto
 runs-from None after from mid onto step runs = tt
 runs-from (Some done) after from mid onto step runs = λ is. runs (step done is)
 
@@ -69,7 +81,8 @@ module _ (aim : Aim) where
   pub kept-loose : (done : List Event) → Kept aim done → Loose aim done
   kept-loose done k = same-loose aim done k.untouched
 
-  pub did_link : (name second : List ℕ) → name ≡ aim.name → aim.backup ≡ Some second → (done more : List Event) → Ready aim done → Links name second done more → Linked aim (more ++ done)
+  pub did_link : (name second : List ℕ) → name ≡ aim.name → aim.backup ≡ Some second → (done more : List Event) → Ready aim done → Links name second
+      done more → Linked aim (more ++ done)
   did_link name second is asked done more r l =
       let number : l.0 ≡ aim.original = same_number done aim.name l.0 aim.original (ap (leads done) (sym is) ∙ l.1) (r.kept.still ∙ aim.there) in
       let all : more ++ done ≡ Leads second (Some aim.original) ∷ done =
@@ -87,12 +100,15 @@ module _ (aim : Aim) where
   rename_is name onto from to done more b r =
       let number : r.0 ≡ aim.number = same_number done aim.temporary r.0 aim.number (ap (leads done) (sym from) ∙ r.1) b.ready.kept.temporary in
       ap (λ (m : List Event). m ++ done) r.2 ∙ ap (λ (n : ℕ). Leads name None ∷ Leads onto (Some n) ∷ done) number
-      ∙ ap (λ (m : List ℕ). Leads m None ∷ Leads onto (Some aim.number) ∷ done) from ∙ ap (λ (m : List ℕ). Leads aim.temporary None ∷ Leads m (Some aim.number) ∷ done) to
+      ∙ ap (λ (m : List ℕ). Leads m None ∷ Leads onto (Some aim.number) ∷ done) from ∙ ap
+      (λ (m : List ℕ). Leads aim.temporary None ∷ Leads m (Some aim.number) ∷ done) to
 
-  pub did_rename : (name onto : List ℕ) → name ≡ aim.temporary → onto ≡ aim.name → (done more : List Event) → Backed aim done → Renames name onto done more → Put aim (more ++ done)
+  pub did_rename : (name onto : List ℕ) → name ≡ aim.temporary → onto ≡ aim.name → (done more : List Event) → Backed aim done → Renames name onto done
+      more → Put aim (more ++ done)
   did_rename name onto from to done more b r = subst (Put aim) (sym (rename_is name onto from to done more b r)) (put aim done b)
 
-  pub rename_failed : (name onto : List ℕ) → name ≡ aim.temporary → onto ≡ aim.name → (done more : List Event) → Backed aim done → Renames name onto done more → LooseBacked aim (more ++ done)
+  pub rename_failed : (name onto : List ℕ) → name ≡ aim.temporary → onto ≡ aim.name → (done more : List Event) → Backed aim done → Renames name onto
+      done more → LooseBacked aim (more ++ done)
   rename_failed name onto from to done more b r = subst (LooseBacked aim) (sym (rename_is name onto from to done more b r)) (loose-renamed aim done b)
 
   pub did_remove : (name : List ℕ) → name ≡ aim.temporary → (done more : List Event) → Loose aim done → Removes name done more → Reached aim (more ++ done)
@@ -106,12 +122,15 @@ module _ (aim : Aim) where
   finish_failed done more p is = (did_finish done more p is).reached
 
   unbacked : (backup : Option (List ℕ)) (second : List ℕ) (done : List Event) → backup ≡ Some second
-      → IfSome backup (λ second. leads done aim.name ≡ Some aim.original → Loose aim (Leads second None ∷ done)) → leads done aim.name ≡ Some aim.original → Loose aim (Leads second None ∷ done)
-  unbacked backup second done is all = subst (λ (b : Option (List ℕ)). IfSome b (λ second. leads done aim.name ≡ Some aim.original → Loose aim (Leads second None ∷ done))) is all
+      → IfSome backup (λ second. leads done aim.name ≡ Some aim.original → Loose aim (Leads second None ∷ done)) → leads done aim.name ≡ Some
+      aim.original → Loose aim (Leads second None ∷ done)
+  unbacked backup second done is all = subst
+      (λ (b : Option (List ℕ)). IfSome b (λ second. leads done aim.name ≡ Some aim.original → Loose aim (Leads second None ∷ done))) is all
 
   -- the backup was taken away, where the name leads to the old file
   pub take-back : (before after : Option (List Event)) (P : Type 0) (second : List ℕ) → aim.backup ≡ Some second
-      → IfSome before (λ done. leads done aim.name ≡ Some aim.original) → Does before after (λ done more. Removes second done more ⊎ (P × (more ≡ []))) → Runs before after (LooseBacked aim) (Loose aim)
+      → IfSome before (λ done. leads done aim.name ≡ Some aim.original) → Does before after
+      (λ done more. Removes second done more ⊎ (P × (more ≡ []))) → Runs before after (LooseBacked aim) (Loose aim)
   take-back None after P second is there tries = tt
   take-back (Some done) after P second is there tries =
       λ l. (

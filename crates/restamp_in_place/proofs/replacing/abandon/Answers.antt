@@ -5,8 +5,10 @@ use Rattle.restamp_in_place.proofs.replacing.abandon.Goals as goal
 
 pub returns-in-Some : goal.returns-in-Some
 returns-in-Some g c aim plan =
-    runs-any _ _ _ _ (IsMade aim) (Reached aim) c.remove.ensures (λ done more is gone. (is_made-removed aim _ plan.temporary done more is gone).0) (is_made-reached aim)
+    runs-any _ _ _ _ (IsMade aim) (Reached aim) c.remove.ensures (λ done more is gone. (is_made-removed aim _ plan.temporary done more is gone).0)
+    (is_made-reached aim)
 
 pub returns-in-None : goal.returns-in-None
 returns-in-None g c aim plan =
-    runs-any _ _ _ _ (IsMade aim) (Reached aim) c.remove.ensures (λ done more is gone. (is_made-removed aim _ plan.temporary done more is gone).0) (is_made-reached aim)
+    runs-any _ _ _ _ (IsMade aim) (Reached aim) c.remove.ensures (λ done more is gone. (is_made-removed aim _ plan.temporary done more is gone).0)
+    (is_made-reached aim)

@@ -10,4 +10,5 @@ returns-in-Ok g c aim plan =
 
 pub returns-in-Err : goal.returns-in-Err
 returns-in-Err g c aim plan =
-    runs-any _ _ _ _ (IsMade aim) (Reached aim) c.in-Err.ensures (λ done more is gone. (is_made-removed aim _ plan.temporary done more is gone).0) (is_made-reached aim)
+    runs-any _ _ _ _ (IsMade aim) (Reached aim) c.in-Err.ensures (λ done more is gone. (is_made-removed aim _ plan.temporary done more is gone).0)
+    (is_made-reached aim)

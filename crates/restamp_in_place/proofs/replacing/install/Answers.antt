@@ -17,5 +17,6 @@ returns-in-Some g c aim plan written =
 pub returns-in-None : goal.returns-in-None
 returns-in-None g c aim plan written =
     goes-after _ _ _ _ (Kept aim) (Backed aim) (Put aim) (Loose aim)
-    (runs-into _ _ (Kept aim) (Ready aim) (Backed aim) (c.in-Ok.ensures aim plan written) (λ done r. backed-none aim done r (sym plan.backup ∙ ap (option_map (λ second. second.now)) c.in-None.is)))
+    (runs-into _ _ (Kept aim) (Ready aim) (Backed aim) (c.in-Ok.ensures aim plan written)
+    (λ done r. backed-none aim done r (sym plan.backup ∙ ap (option_map (λ second. second.now)) c.in-None.is)))
     (goes-into _ _ _ (Backed aim) (Put aim) (LooseBacked aim) (Loose aim) (c.rename.ensures aim plan) (λ done l. l.loose))

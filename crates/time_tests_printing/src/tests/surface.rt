@@ -3,6 +3,7 @@ use std::fmt::Debug;
 use time_readers::ParsedItem;
 
 mod components;
+mod digits;
 mod errors;
 mod formats;
 mod moments;

@@ -1,4 +1,6 @@
 //! Moments on the clocks of a zone.
+//!
+//! `fast` finds the offset of most moments in the rows of a table, and is asked first.
 ghost use Rattle.std.specs.Prelude.{◌≡◌, ◌↔◌, ℤ, ◌-ℤ◌, IsTrue, IsSome, IfSome, IfNone, IfOk, IfErr};
 ghost use Rattle.jiff_core.specs.DateTime.{civil_nanos, IsCivilNanos};
 ghost use Rattle.jiff_core.specs.Timestamp.{IsTimestampNanos, IsOffsetSeconds, nanos_of_seconds};
@@ -8,7 +10,8 @@ ghost use Rattle.time_values.specs.Offsets.{offset_seconds};
 ghost use Rattle.time_values.specs.Range.{greatest_year};
 ghost use Rattle.time_zones.specs.Zones.{HasClock, IsTold, HasZoneOffset, IsOnlyMoment, IsNotOne, HasOneSource, HasNoThird};
 
-use crate::rows::offset_by_rows;
+mod fast;
+
 use crate::spread::spread_at;
 use jiff_core::civil::DateTime;
 use jiff_core::{Offset, Timestamp};
@@ -32,7 +35,7 @@ pub fn offset_at(zone: &TimeZone<'_>, moment: OffsetDateTime) -> Option<UtcOffse
     ensures told { IsSome result ↔ IsTold moment }
     ensures value { IfSome result (λ o. offset_seconds o ≡ Zone.offset_at zone.now (offset_instant greatest_year moment)) }
 {
-    if let Some(offset) = offset_by_rows(zone, moment.unix_timestamp()) {
+    if let Some(offset) = fast::offset_by_rows(zone, moment.unix_timestamp()) {
         return Some(offset_from(offset));
     }
     let Ok(stamp) = Timestamp::from_nanosecond(moment.unix_timestamp_nanos()) else {

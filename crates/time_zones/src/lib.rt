@@ -6,7 +6,6 @@ mod files;
 mod finding;
 mod laws;
 mod place;
-mod rows;
 mod spread;
 mod zone_fault;
 

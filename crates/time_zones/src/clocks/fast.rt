@@ -28,7 +28,7 @@ fn offset_before(rows: &[Transition], place: usize, second: i64) -> Option<Offse
 
 /// The offset that clocks of the zone have in that second, where it lies between two rows of a table. Whole seconds take
 /// far less than nanoseconds.
-pub(crate) fn offset_by_rows(zone: &TimeZone<'_>, second: i64) -> Option<Offset>
+pub(super) fn offset_by_rows(zone: &TimeZone<'_>, second: i64) -> Option<Offset>
     ensures { IfSome result (λ o. (n : ℤ) → floor_second n ≡ second →
         IsTimestampNanos n × (o.seconds ≡ Zone.offset_at zone.now n)) }
 {

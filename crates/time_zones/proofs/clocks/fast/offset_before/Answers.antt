@@ -1,6 +1,6 @@
 use Rattle.std.proofs.Common.{refl, arith}
 use Rattle.std.proofs.lemmas.Int.{ints}
-use Rattle.time_zones.proofs.rows.offset_before.Goals as goal
+use Rattle.time_zones.proofs.clocks.fast.offset_before.Goals as goal
 
 pub returns : goal.returns
 returns c = record {

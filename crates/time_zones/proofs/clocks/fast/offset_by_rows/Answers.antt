@@ -5,7 +5,7 @@ use Rattle.std.proofs.lemmas.Int.{to_z-of_z}
 use Rattle.jiff_core.proofs.SignedLemmas.{signed_arith}
 use Rattle.time_zones.specs.Rows.{IsRowOffset}
 use Rattle.time_zones.proofs.RowLemmas.{if_some, row_offset, row_told, zone_row}
-use Rattle.time_zones.proofs.rows.offset_by_rows.Goals as goal
+use Rattle.time_zones.proofs.clocks.fast.offset_by_rows.Goals as goal
 
 pub returns : goal.returns
 returns c =

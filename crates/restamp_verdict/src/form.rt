@@ -187,12 +187,20 @@ pub(crate) fn write_soon(
         spec.IsWrittenOn greatest_year (writing.Named named) digits clock.now moment (Ok text.new)) }
 {
     let moment = clock.show(moment)?;
-    *text = match named {
-        Named::Rfc3339 => text_3339(moment, digits).ok()?,
-        Named::Count(Unit::Seconds) => number(seconds_of(moment)?),
-        Named::Rfc2822 | Named::Iso8601 | Named::Count(_) => return None,
-    };
-    Some(())
+    match named {
+        Named::Rfc3339 => match text_3339(moment, digits) {
+            Ok(found) => {
+                *text = found;
+                Some(())
+            }
+            Err(_) => None,
+        },
+        Named::Count(Unit::Seconds) => {
+            *text = number(seconds_of(moment)?);
+            Some(())
+        }
+        Named::Rfc2822 | Named::Iso8601 | Named::Count(_) => None,
+    }
 }
 
 // The text of the moment by a named format, shown on the clock, or why it has none.

@@ -17,6 +17,7 @@ use crate::request::Request;
 use programs_streams::{Sink, Unwritten};
 use restamp_stream::{Block, Fate, Opening, Rewriting, Stop, Stream};
 use restamp_verdict::{Job, Reason, Verdict, Why, Wrong};
+use time_values::text::Text;
 
 /// A job, which says which fate a line has, and how a refused line is told.
 #[derive(Clone, Copy)]
@@ -43,13 +44,10 @@ impl Rewriting for Restamping<'_> {
 
     #[inline(always)]
     fn fate(&self, front: &[u8]) -> Fate {
-        match self.job.judge(front) {
+        let mut text = Text::new();
+        match self.job.judge(front, &mut text) {
             Verdict::Without => Fate::Without,
-            Verdict::Rewritten {
-                start,
-                length,
-                text,
-            } => Fate::Rewritten {
+            Verdict::Rewritten { start, length } => Fate::Rewritten {
                 begin: start,
                 end: start + length,
                 text,
@@ -60,7 +58,7 @@ impl Rewriting for Restamping<'_> {
     }
 
     fn write_reason<L: Sink>(&self, front: &[u8], log: &mut L) -> Result<(), Unwritten> {
-        match self.job.judge(front) {
+        match self.job.judge(front, &mut Text::new()) {
             Verdict::Refused { column, reason } => self.write_wrong(front, column, reason, log),
             Verdict::Without => Ok(()),
             Verdict::Rewritten { .. } => Ok(()),

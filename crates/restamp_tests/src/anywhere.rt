@@ -5,15 +5,20 @@ use restamp_verdict::{
     read_dated,
 };
 use std::test::Fail;
-use time_writing::FractionDigits;
+use time_writing::{FractionDigits, Text};
 
 const DAY: &[u8] =
     b"[day padding:none] [month repr:long] [year] [hour]:[minute] [offset_hour sign:mandatory]";
 
 const ANYWHERE: Option<Place<'static>> = None;
 
-// The verdict on a line whose time may stand anywhere.
-fn verdict_on<'a>(line: &[u8], first: &'a Reading, writing: &'a Writing) -> Verdict {
+// The verdict on a line whose time may stand anywhere, with its text.
+fn verdict_on<'a>(
+    line: &[u8],
+    first: &'a Reading,
+    writing: &'a Writing,
+    text: &mut Text,
+) -> Verdict {
     let job = Job {
         place: ANYWHERE,
         first,
@@ -32,7 +37,7 @@ fn verdict_on<'a>(line: &[u8], first: &'a Reading, writing: &'a Writing) -> Verd
         until: None,
         asks_for_times: false,
     };
-    job.judge(line)
+    job.judge(line, text)
 }
 
 // Whether the first time of a line, by a format, is so many bytes from a place on, and is written so as seconds since 1970.
@@ -43,12 +48,11 @@ fn is_found(format: &[u8], line: &[u8], begin: usize, many: usize, seconds: &[u8
     let Ok(writing) = find_writing(b"unix") else {
         return false;
     };
-    match verdict_on(line, &first, &writing) {
-        Verdict::Rewritten {
-            start,
-            length,
-            text,
-        } => start == begin && length == many && text.as_bytes() == seconds,
+    let mut text = Text::new();
+    match verdict_on(line, &first, &writing, &mut text) {
+        Verdict::Rewritten { start, length } => {
+            start == begin && length == many && text.as_bytes() == seconds
+        }
         Verdict::Without => many == 0,
         Verdict::Dropped | Verdict::Refused { .. } => false,
     }
@@ -135,8 +139,8 @@ fn plain_first(line: &[u8], format: &Reading) -> Option<(usize, usize)> {
 
 // Whether the verdict takes the time that is found so.
 fn is_plain(line: &[u8], format: &Reading, writing: &Writing) -> bool {
-    match verdict_on(line, format, writing) {
-        Verdict::Rewritten { start, length, .. } => {
+    match verdict_on(line, format, writing, &mut Text::new()) {
+        Verdict::Rewritten { start, length } => {
             plain_first(line, format) == Some((start, length))
         }
         Verdict::Without => plain_first(line, format).is_none(),

@@ -24,12 +24,12 @@ pub data Verdict : Type 0 where
   dropped : Verdict
   refused : ℕ → Reason → Verdict
 
--- the verdict that a value stands for
-abbrev pub seen_verdict : declared.Verdict → Verdict
-seen_verdict variant.Without = without
-seen_verdict (variant.Rewritten start length text) = rewritten start length text.items
-seen_verdict variant.Dropped = dropped
-seen_verdict (variant.Refused column reason) = refused column (seen reason)
+-- the verdict that a value and a text stand for
+abbrev pub seen_verdict : declared.Verdict → Items → Verdict
+seen_verdict variant.Without text = without
+seen_verdict (variant.Rewritten start length) text = rewritten start length text.items
+seen_verdict variant.Dropped text = dropped
+seen_verdict (variant.Refused column reason) text = refused column (seen reason)
 
 -- the moment lies before a bound, where there is one
 abbrev pub is_before : ℕ → OffsetDateTime → Option OffsetDateTime → Bool → Bool

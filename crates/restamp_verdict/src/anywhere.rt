@@ -11,6 +11,7 @@ use crate::dated::read_dated;
 use crate::job::{Job, REACH, Verdict};
 use crate::reading::{Reading, Said};
 use restamp_place::body_of;
+use time_values::text::Text;
 
 // Whether an ASCII letter or digit stands right before a place of the line, and one right at it.
 fn is_inside(line: &[u8], place: usize) -> bool
@@ -111,13 +112,13 @@ impl Job<'_> {
     }
 
     // The verdict on a line whose time may stand anywhere but in a CR at its end.
-    pub(crate) fn judge_anywhere(&self, line: &[u8]) -> Verdict
-        ensures verdict { spec.IsJudgedAnywhere greatest_year self.now line.now (spec.seen_verdict result) }
-        ensures within { spec.IsWithin (length line.now) (spec.seen_verdict result) }
+    pub(crate) fn judge_anywhere(&self, line: &[u8], text: &mut Text) -> Verdict
+        ensures verdict { spec.IsJudgedAnywhere greatest_year self.now line.now (spec.seen_verdict result text.new) }
+        ensures within { spec.IsWithin (length line.now) (spec.seen_verdict result text.new) }
     {
         let body = body_of(line);
         match self.find_first(body) {
-            Some((start, said)) => self.put(start, said),
+            Some((start, said)) => self.put(start, said, text),
             None => self.miss(),
         }
     }

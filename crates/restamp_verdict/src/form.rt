@@ -1,5 +1,5 @@
 //! How a time is written.
-ghost use Rattle.std.specs.Prelude.{◌≡◌, ◌≤◌, length, codes, MatchOption, MatchResult};
+ghost use Rattle.std.specs.Prelude.{◌≡◌, ◌≤◌, length, codes, IfSome, MatchOption, MatchResult, Ok};
 ghost use Rattle.std.specs.Fmt.{signed_decimal};
 ghost use Rattle.time_values.specs.Range.{greatest_year};
 ghost use Rattle.time_descriptions.specs.Description.{shape};
@@ -173,9 +173,38 @@ fn write_count(moment: OffsetDateTime, unit: Unit) -> Result<Text, Reason>
     }
 }
 
-/// The text of the moment by a named format, shown on the clock, or why it has none.
+/// Puts the text of the moment in seconds or by RFC 3339, shown on the clock, in the place of another. `None` doesn't say
+/// that it has none.
 #[inline(always)]
-pub(crate) fn write_named(
+pub(crate) fn write_soon(
+    moment: OffsetDateTime,
+    named: Named,
+    digits: FractionDigits,
+    clock: &Clock<'_>,
+    text: &mut Text,
+) -> Option<()>
+    ensures { IfSome result (λ _.
+        spec.IsWrittenOn greatest_year (writing.Named named) digits clock.now moment (Ok text.new)) }
+{
+    let moment = clock.show(moment)?;
+    match named {
+        Named::Rfc3339 => match text_3339(moment, digits) {
+            Ok(found) => {
+                *text = found;
+                Some(())
+            }
+            Err(_) => None,
+        },
+        Named::Count(Unit::Seconds) => {
+            *text = number(seconds_of(moment)?);
+            Some(())
+        }
+        Named::Rfc2822 | Named::Iso8601 | Named::Count(_) => None,
+    }
+}
+
+// The text of the moment by a named format, shown on the clock, or why it has none.
+fn write_named(
     moment: OffsetDateTime,
     named: Named,
     digits: FractionDigits,
@@ -207,7 +236,8 @@ fn write_described(
     }
 }
 
-/// The text of the moment, or why it has none.
+/// The text of the moment, or why it has none. It isn't inlined, so that reasons take no place beside a text in line.
+#[inline(never)]
 pub fn write_moment(moment: OffsetDateTime, form: &Form<'_>) -> Result<Text, Reason>
     ensures { spec.IsWritten greatest_year form.now moment (seen_written result) }
 {

@@ -15,5 +15,5 @@ pub returns-in-None-clause-verdict : goal.returns-in-None-clause-verdict
 returns-in-None-clause-verdict c = (
   None,
   subst (λ (line : List ℕ). IsFirst greatest_year c.args.self.now line None) c.body_of-body.ensures.value c.in-None.ensures.first,
-  c.miss.ensures,
+  c.miss.ensures c.args.text.now,
 )

@@ -173,8 +173,22 @@ fn write_count(moment: OffsetDateTime, unit: Unit) -> Result<Text, Reason>
     }
 }
 
-/// Puts the text of the moment in seconds or by RFC 3339, shown on the clock, in the place of another. `None` doesn't say
-/// that it has none.
+// The text of the moment by a named format, or why it has none. It isn't inlined, so that its texts take no place beside
+// one in line.
+#[inline(never)]
+fn write_shown(moment: OffsetDateTime, named: Named, digits: FractionDigits) -> Result<Text, Reason>
+    ensures { spec.IsNamedText greatest_year named digits moment (seen_written result) }
+{
+    match named {
+        Named::Rfc3339 => written(text_3339(moment, digits)),
+        Named::Rfc2822 => written(text_2822(moment)),
+        Named::Iso8601 => written(text_8601(moment)),
+        Named::Count(unit) => write_count(moment, unit),
+    }
+}
+
+/// Puts the text of the moment by a named format, shown on the clock, in the place of another. `None` doesn't say that it
+/// has none. A reason beside a text would cost a line as much as the text does.
 #[inline(always)]
 pub(crate) fn write_soon(
     moment: OffsetDateTime,
@@ -199,7 +213,13 @@ pub(crate) fn write_soon(
             *text = number(seconds_of(moment)?);
             Some(())
         }
-        Named::Rfc2822 | Named::Iso8601 | Named::Count(_) => None,
+        named => match write_shown(moment, named, digits) {
+            Ok(found) => {
+                *text = found;
+                Some(())
+            }
+            Err(_) => None,
+        },
     }
 }
 
@@ -215,12 +235,7 @@ fn write_named(
     let Some(moment) = clock.show(moment) else {
         return Err(clock.why_unshown());
     };
-    match named {
-        Named::Rfc3339 => written(text_3339(moment, digits)),
-        Named::Rfc2822 => written(text_2822(moment)),
-        Named::Iso8601 => written(text_8601(moment)),
-        Named::Count(unit) => write_count(moment, unit),
-    }
+    write_shown(moment, named, digits)
 }
 
 // Its text by a description, or why it has none.
@@ -236,8 +251,7 @@ fn write_described(
     }
 }
 
-/// The text of the moment, or why it has none. It isn't inlined, so that reasons take no place beside a text in line.
-#[inline(never)]
+/// The text of the moment, or why it has none.
 pub fn write_moment(moment: OffsetDateTime, form: &Form<'_>) -> Result<Text, Reason>
     ensures { spec.IsWritten greatest_year form.now moment (seen_written result) }
 {

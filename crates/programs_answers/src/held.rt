@@ -1,5 +1,5 @@
 //! Bytes in an array.
-ghost use Rattle.std.specs.Prelude.{◌≡◌, ◌≤◌, [], ◌++◌, take, Some, IsTrue, false};
+ghost use Rattle.std.specs.Prelude.{◌≡◌, ◌+◌, ◌≤◌, ◌↔◌, [], ◌++◌, length, take, Some, IsTrue, false};
 ghost use Rattle.time_values.specs.Shown.{Items};
 
 use std::io;
@@ -51,6 +51,7 @@ impl<const N: usize> Held<N> {
     /// Puts all of these behind them, or answers `false` where they don't fit.
     #[inline(always)]
     pub fn append(&mut self, bytes: &[u8]) -> bool
+        ensures fits { IsTrue result ↔ (length self.old.items + length bytes.now ≤ N) }
         ensures all { IsTrue result → self.new.items ≡ self.old.items ++ bytes.now }
         ensures none { result ≡ false → self.new ≡ self.old }
     {

@@ -16,7 +16,9 @@ loop-rest-preserved g c =
       (
         so_far.0 ++ more.0,
         Appends-trans _ _ _ so_far.0 more.0 so_far.1 more.2,
-        AreAnswers-more (g.A.Answering.is_answer c.args.answering.now) _ _ _ _ _ more.0 c.first_line.ensures.line more.1 so_far.2,
+        AreAnswers-more (g.A.Answering.is_answer c.args.answering.now) (lines_of c.loop-rest.rest.now)
+            (lines_of c.first_line.result.1.now) (lines_of c.args.input.now) c.first_line.result.0.now so_far.0 more.0
+            c.first_line.ensures.line more.1 so_far.2,
       ),
       c.in_ok-add_line.ensures.cause ∙ c.loop-rest.invariant.1,
       c.in_ok-add_line.ensures.through ∙ c.loop-rest.invariant.2,

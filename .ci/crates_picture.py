@@ -6,7 +6,7 @@ where the lines aren't those of crates.txt.
 """
 from html import escape
 
-BANDS = ("values and texts of digits", "readers, descriptions and the record", "parsing, and what stands on it", "built of them")
+BANDS = ("values and texts of digits", "readers, descriptions and the record", "parsing, what stands on it, and streams", "built of them")
 # Each box: its band, row and column, its purpose, and further lines in it.
 BOXES = {
     "time_digits": (0, 0, 0, "digits, signs, single bytes"),
@@ -22,8 +22,9 @@ BOXES = {
     "time_describing": (2, 3, 2, "the text of a description"),
     "time_preparing": (2, 4, 0, "a description for many texts"),
     "time_locating": (2, 4, 1, "where a text goes wrong"),
+    "programs_streams": (2, 4, 2.15, "calls that fail, counted"),
     "programs": (3, 5, 0, "texts parsed line by line", "programs_answers", "time_lines", "time_parse"),
-    "restamp": (3, 5, 2.15, "times rewritten in lines", "programs_streams, restamp_place,", "restamp_verdict, restamp_stream,", "restamp_options,", "restamp_command, restamp"),
+    "restamp": (3, 5, 2.15, "times rewritten in lines", "restamp_place, restamp_verdict,", "restamp_stream, restamp_options,", "restamp_command, restamp"),
     "C": (3, 5, 1.1, "C, Rust, Python and SQL", "pelzaune_ffi", "pelzaune"),
     "tests and benches": (3, 5, 3.25, "stand on all of these", "time_tests_.., restamp_tests", "time_bench"),
 }
@@ -36,12 +37,13 @@ LINES = [
     ("time_writing", "time_formatting", None), ("time_writing", "time_parsing", 3.0),
     ("time_readers", "time_parsing", None), ("time_record", "time_parsing", None), ("time_descriptions", "time_parsing", None),
     ("time_descriptions", "time_describing", None), ("time_parsing", "time_preparing", None), ("time_preparing", "time_locating", None),
-    ("time_locating", "programs", None), ("time_locating", "restamp", None),
+    ("time_locating", "programs", None), ("programs_streams", "programs", None), ("programs_streams", "restamp", None),
+    ("time_locating", "restamp", None),
     ("time_formatting", "restamp", 3.0), ("time_zones", "restamp", 1.9), ("programs", "C", None),
 ]
 WIDE, HIGH, STEP, PITCH, LEFT, SMALL = 204, 30, 244, 112, 30, 6.1
 MEMBERS = {"programs": ("programs_answers", "time_lines", "time_parse"), "C": ("pelzaune_ffi", "pelzaune"),
-           "restamp": ("programs_streams", "restamp_place", "restamp_stream", "restamp_in_place", "restamp_verdict", "restamp_options", "restamp_command", "restamp")}
+           "restamp": ("restamp_place", "restamp_stream", "restamp_in_place", "restamp_verdict", "restamp_options", "restamp_command", "restamp")}
 
 
 def box_of(crate):

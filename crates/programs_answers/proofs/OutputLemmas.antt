@@ -1,6 +1,6 @@
 -- Answers, line by line.
 use Rattle.std.proofs.Common.{◌≡◌, ℕ, List, [], ◌∷◌, ◌++◌, refl, sym, ap, ◌∙◌, subst, append_assoc, append-nil, Option, None, Some, Result, Ok, Err, OnOk}
-use Rattle.std.proofs.KnownBytes.{Appends-trans}
+use Rattle.std.proofs.KnownBytes.{Appends-trans, Appends-kept}
 use Rattle.std.specs.Io.KnownBytes.{Appends, Keeps, append_known}
 use Rattle.time_components.specs.Tree.{Tree}
 use Rattle.programs_answers.specs.declared.formats.Target.{Target}
@@ -22,10 +22,10 @@ AreAnswers-more P lines others all line written more cut answered before text af
     (before (answer ++ 10 ∷ text) (subst (λ ls. AreAnswers P ls (answer ++ 10 ∷ text)) (sym cut) here))
 
 -- LF is written behind a text
-pub Writes-line_feed : {E : Type 0} (r : Result (Unit {0}) E) (P : List ℕ → Type 0) (a b c : Option (List ℕ))
+pub Writes_line_feed : {E : Type 0} (r : Result (Unit {0}) E) (P : List ℕ → Type 0) (a b c : Option (List ℕ))
     → Writes P a b → OnOk r (Appends b c (10 ∷ [])) → OnOk r (Writes (WithLineFeed P) a c)
-Writes-line_feed (Ok u) P a b c w more = (w.0 ++ 10 ∷ [], (w.0, w.1, refl), Appends-trans a b c w.0 (10 ∷ []) w.2 more)
-Writes-line_feed (Err e) P a b c w more = tt
+Writes_line_feed (Ok u) P a b c w more = (w.0 ++ 10 ∷ [], (w.0, w.1, refl), Appends-trans a b c w.0 (10 ∷ []) w.2 more)
+Writes_line_feed (Err e) P a b c w more = tt
 
 -- the outcome of a text by a tree is the one by an equal tree; `Y` is the greatest year
 pub Writes-described : {E : Type 0} (r : Result (Unit {0}) E) (Y : ℕ) (tree same : Tree) (target : Target) (bytes : List ℕ)
@@ -40,22 +40,7 @@ append_known-none None waiting e = tt
 append_known-none (Some s) waiting e = ap (λ t. s ++ t) e
 
 -- what waits is written in the end
-pub Writes-waiting : {E : Type 0} (r : Result (Unit {0}) E) (P : List ℕ → Type 0) (a b c : Option (List ℕ))
-    (waiting none : List ℕ) → Writes P a (append_known b waiting)
-    → OnOk r (Keeps (append_known b waiting) (append_known c none)) → OnOk r (none ≡ []) → OnOk r (Writes P a c)
-Writes-waiting (Err e) P a b c waiting none w kept is = tt
-Writes-waiting (Ok u) P None b c waiting none w kept is = (w.0, w.1, tt)
-Writes-waiting (Ok u) P (Some s) None c waiting none w kept is = absurd w.2
-Writes-waiting (Ok u) P (Some s) (Some t) None waiting none w kept is = absurd kept
-Writes-waiting (Ok u) P (Some s) (Some t) (Some v) waiting none w kept is =
-    (w.0, w.1, sym (append-nil v) ∙ ap (λ x. v ++ x) (sym is) ∙ kept ∙ w.2)
-
--- what is put behind what waits, after a write of what waited or none
-pub Appends-waiting : (a b c : Option (List ℕ)) (x y z written more : List ℕ) → Appends a (append_known b x) written
-    → Keeps (append_known b x) (append_known c y) → Appends (Some y) (Some z) more
-    → Appends a (append_known c z) (written ++ more)
-Appends-waiting None b c x y z written more p kept q = tt
-Appends-waiting (Some s) None c x y z written more p kept q = absurd p
-Appends-waiting (Some s) (Some t) None x y z written more p kept q = absurd kept
-Appends-waiting (Some s) (Some t) (Some v) x y z written more p kept q =
-    ap (λ l. v ++ l) q ∙ sym (append_assoc v y more) ∙ ap (λ l. l ++ more) (kept ∙ p) ∙ append_assoc s written more
+pub Writes_settled : {E : Type 0} (r : Result (Unit {0}) E) (P : List ℕ → Type 0) (a b c : Option (List ℕ))
+    → Writes P a b → OnOk r (Keeps b c) → OnOk r (Writes P a c)
+Writes_settled (Err e) P a b c w kept = tt
+Writes_settled (Ok u) P a b c w kept = (w.0, w.1, Appends-kept a b c w.0 w.2 kept)

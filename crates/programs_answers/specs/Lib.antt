@@ -4,3 +4,4 @@ pub mod Values
 pub mod Formats
 pub mod Output
 pub mod Pieces
+pub mod Causes

@@ -1,62 +1,62 @@
 //! The answer to a text.
-ghost use Rattle.std.specs.Prelude.{OnOk, codes, ◌++◌};
+ghost use Rattle.std.specs.Prelude.{◌≡◌, OnOk, codes, ◌++◌};
 ghost use Rattle.std.specs.Io.KnownBytes.{Appends};
 ghost use Rattle.time_values.specs.Range.{greatest_year};
 ghost use Rattle.time_values.specs.Refusal.{refusal_of};
 ghost use Rattle.time_values.specs.Texts.{refusal_text};
 ghost use Rattle.time_parsing.specs.Outcome.{seen};
+ghost use Rattle.programs_streams.specs.Faults.{HasCause};
 ghost use Rattle.programs_answers.specs.Output.{IsAnswerFor, Writes};
 ghost use Rattle.programs_answers.specs.Values.{printed};
 
 use crate::formats::Target;
 use crate::layout::Layout;
-use std::io::Write;
+use programs_streams::{Sink, Unwritten};
 use time_parsing::Parsable;
 use time_record::Parsed;
 use time_values::error::Parse;
 
-/// A write failed. It is small, since each line hands it on.
-#[derive(Clone, Copy, Debug, PartialEq, Eq)]
-pub struct Unwritten;
-
 // Writes the error of a parse.
 #[cold]
 #[inline(never)]
-fn write_error<W: Write>(error: Parse, out: &mut W) -> Result<(), Unwritten>
-    ensures { OnOk result (Appends (W.contents out.old) (W.contents out.new) (codes "error: " ++ refusal_text (refusal_of error))) }
+fn write_error<W: Sink>(error: Parse, out: &mut W) -> Result<(), Unwritten>
+    ensures bytes { OnOk result (Appends (W.contents out.old) (W.contents out.new) (codes "error: " ++ refusal_text (refusal_of error))) }
+    ensures cause { HasCause result (W.faults out.old) (W.faults out.new) }
+    ensures through { W.through out.new ≡ W.through out.old }
 {
-    write!(out, "error: {error}").map_err(|_| Unwritten)
+    write!(out, "error: {error}")
 }
 
 // Writes a value, or the error of its parse.
 #[inline(always)]
-fn write_outcome<V: Layout, W: Write>(
+fn write_outcome<V: Layout, W: Sink>(
     outcome: Result<V, Parse>,
     out: &mut W,
 ) -> Result<(), Unwritten>
-    ensures { OnOk result (Appends (W.contents out.old) (W.contents out.new) (printed V.text (seen outcome))) }
+    ensures bytes { OnOk result (Appends (W.contents out.old) (W.contents out.new) (printed V.text (seen outcome))) }
+    ensures cause { HasCause result (W.faults out.old) (W.faults out.new) }
+    ensures through { W.through out.new ≡ W.through out.old }
 {
     let value = match outcome {
         Ok(value) => value,
         Err(e) => return write_error(e, out),
     };
-    match value.write_to(out) {
-        Ok(()) => Ok(()),
-        Err(_) => Err(Unwritten),
-    }
+    value.write_to(out)
 }
 
 /// Writes the outcome of the text by the format for the target: the value, or `error: ` and why there is none.
 #[inline(always)]
-pub fn write_value<F: Parsable, W: Write>(
+pub fn write_value<F: Parsable, W: Sink>(
     format: &F,
     target: Target,
     text: &[u8],
     out: &mut W,
 ) -> Result<(), Unwritten>
-    ensures { OnOk result
+    ensures bytes { OnOk result
         (Writes (IsAnswerFor greatest_year target (F.path format.now) (F.reads format.now) (F.refuses format.now) text.now)
         (W.contents out.old) (W.contents out.new)) }
+    ensures cause { HasCause result (W.faults out.old) (W.faults out.new) }
+    ensures through { W.through out.new ≡ W.through out.old }
 {
     match target {
         Target::Date => write_outcome(format.parse_date(text, None), out),

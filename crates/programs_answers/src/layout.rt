@@ -1,6 +1,7 @@
 //! Lays values out as text.
 ghost use Rattle.std.specs.Prelude.{◌≡◌, ℕ, ◌<◌, List, ◌++◌, ◌∷◌, codes, OnOk};
 ghost use Rattle.std.specs.Io.KnownBytes.{Appends};
+ghost use Rattle.programs_streams.specs.Faults.{HasCause};
 ghost use Rattle.programs_answers.specs.Layout.{minus_if};
 ghost use Rattle.programs_answers.specs.Pieces.{leading_digits, year_front};
 ghost use Rattle.time_values.specs.Dates as Dates;
@@ -8,8 +9,7 @@ ghost use Rattle.time_values.specs.Moments.{offset_date};
 ghost use Rattle.time_values.specs.Shown.{fixed};
 ghost use Rattle.programs_answers.specs.Values.{is_negative, date_text, time_text, offset_text, date_time_text, plain_text, utc_text, offset_date_time_text, timestamp_text};
 
-use std::io;
-use std::io::Write;
+use programs_streams::{Sink, Unwritten};
 use time_values::digits::{four, nine, pair};
 use time_values::{Date, OffsetDateTime, PlainDateTime, Time, Timestamp, UtcDateTime, UtcOffset};
 
@@ -122,8 +122,10 @@ fn lay_moment(moment: OffsetDateTime) -> [u8; 39]
 }
 
 // Writes a minus before a negative year.
-fn write_sign<W: Write>(date: Date, out: &mut W) -> io::Result<()>
-    ensures { OnOk result (Appends (W.contents out.old) (W.contents out.new) (minus_if (is_negative (Dates.year date)))) }
+fn write_sign<W: Sink>(date: Date, out: &mut W) -> Result<(), Unwritten>
+    ensures bytes { OnOk result (Appends (W.contents out.old) (W.contents out.new) (minus_if (is_negative (Dates.year date)))) }
+    ensures cause { HasCause result (W.faults out.old) (W.faults out.new) }
+    ensures through { W.through out.new ≡ W.through out.old }
 {
     if date.year() < 0 {
         out.write_all(b"-")
@@ -133,8 +135,10 @@ fn write_sign<W: Write>(date: Date, out: &mut W) -> io::Result<()>
 }
 
 // Writes the digits of a year before its last four.
-fn write_leading_digits<W: Write>(year: u32, out: &mut W) -> io::Result<()>
-    ensures { OnOk result (Appends (W.contents out.old) (W.contents out.new) (leading_digits year)) }
+fn write_leading_digits<W: Sink>(year: u32, out: &mut W) -> Result<(), Unwritten>
+    ensures bytes { OnOk result (Appends (W.contents out.old) (W.contents out.new) (leading_digits year)) }
+    ensures cause { HasCause result (W.faults out.old) (W.faults out.new) }
+    ensures through { W.through out.new ≡ W.through out.old }
 {
     if year < 10_000 {
         return Ok(());
@@ -145,8 +149,10 @@ fn write_leading_digits<W: Write>(year: u32, out: &mut W) -> io::Result<()>
 
 // Writes what stands before the last four digits of a date's year: of most years nothing.
 #[inline(always)]
-fn write_year_front<W: Write>(date: Date, out: &mut W) -> io::Result<()>
-    ensures { OnOk result (Appends (W.contents out.old) (W.contents out.new) (year_front (Dates.year date))) }
+fn write_year_front<W: Sink>(date: Date, out: &mut W) -> Result<(), Unwritten>
+    ensures bytes { OnOk result (Appends (W.contents out.old) (W.contents out.new) (year_front (Dates.year date))) }
+    ensures cause { HasCause result (W.faults out.old) (W.faults out.new) }
+    ensures through { W.through out.new ≡ W.through out.old }
 {
     if date.year() >= 0 && date.year() < 10_000 {
         return Ok(());
@@ -161,8 +167,10 @@ pub trait Layout {
     ghost text: { Self → List ℕ };
 
     /// Writes the value's text.
-    fn write_to<W: Write>(self, out: &mut W) -> io::Result<()>
-        ensures { OnOk result (Appends (W.contents out.old) (W.contents out.new) (text self)) };
+    fn write_to<W: Sink>(self, out: &mut W) -> Result<(), Unwritten>
+        ensures bytes { OnOk result (Appends (W.contents out.old) (W.contents out.new) (text self)) }
+        ensures cause { HasCause result (W.faults out.old) (W.faults out.new) }
+        ensures through { W.through out.new ≡ W.through out.old };
 }
 
 /// `YYYY-MM-DD`, after a minus where the year is negative, and with all digits of a year past 9999.
@@ -170,7 +178,7 @@ impl Layout for Date {
     ghost text = { date_text };
 
     #[inline(always)]
-    fn write_to<W: Write>(self, out: &mut W) -> io::Result<()> {
+    fn write_to<W: Sink>(self, out: &mut W) -> Result<(), Unwritten> {
         write_year_front(self, out)?;
         out.write_all(&lay_date(self))
     }
@@ -181,7 +189,7 @@ impl Layout for Time {
     ghost text = { time_text };
 
     #[inline(always)]
-    fn write_to<W: Write>(self, out: &mut W) -> io::Result<()> {
+    fn write_to<W: Sink>(self, out: &mut W) -> Result<(), Unwritten> {
         out.write_all(&lay_time(self))
     }
 }
@@ -191,15 +199,17 @@ impl Layout for UtcOffset {
     ghost text = { offset_text };
 
     #[inline(always)]
-    fn write_to<W: Write>(self, out: &mut W) -> io::Result<()> {
+    fn write_to<W: Sink>(self, out: &mut W) -> Result<(), Unwritten> {
         out.write_all(&lay_offset(self))
     }
 }
 
 // Writes date and time with a space between them.
 #[inline(always)]
-fn write_date_time<W: Write>(date: Date, time: Time, out: &mut W) -> io::Result<()>
-    ensures { OnOk result (Appends (W.contents out.old) (W.contents out.new) (date_time_text date time)) }
+fn write_date_time<W: Sink>(date: Date, time: Time, out: &mut W) -> Result<(), Unwritten>
+    ensures bytes { OnOk result (Appends (W.contents out.old) (W.contents out.new) (date_time_text date time)) }
+    ensures cause { HasCause result (W.faults out.old) (W.faults out.new) }
+    ensures through { W.through out.new ≡ W.through out.old }
 {
     write_year_front(date, out)?;
     out.write_all(&lay_date_time(date, time))
@@ -210,7 +220,7 @@ impl Layout for PlainDateTime {
     ghost text = { plain_text };
 
     #[inline(always)]
-    fn write_to<W: Write>(self, out: &mut W) -> io::Result<()> {
+    fn write_to<W: Sink>(self, out: &mut W) -> Result<(), Unwritten> {
         write_date_time(self.date(), self.time(), out)
     }
 }
@@ -220,7 +230,7 @@ impl Layout for UtcDateTime {
     ghost text = { utc_text };
 
     #[inline(always)]
-    fn write_to<W: Write>(self, out: &mut W) -> io::Result<()> {
+    fn write_to<W: Sink>(self, out: &mut W) -> Result<(), Unwritten> {
         write_date_time(self.date(), self.time(), out)?;
         out.write_all(b" +00:00:00")
     }
@@ -231,7 +241,7 @@ impl Layout for OffsetDateTime {
     ghost text = { offset_date_time_text };
 
     #[inline(always)]
-    fn write_to<W: Write>(self, out: &mut W) -> io::Result<()> {
+    fn write_to<W: Sink>(self, out: &mut W) -> Result<(), Unwritten> {
         write_year_front(self.date(), out)?;
         out.write_all(&lay_moment(self))
     }
@@ -242,7 +252,7 @@ impl Layout for Timestamp {
     ghost text = { timestamp_text };
 
     #[inline(always)]
-    fn write_to<W: Write>(self, out: &mut W) -> io::Result<()> {
+    fn write_to<W: Sink>(self, out: &mut W) -> Result<(), Unwritten> {
         let mut buffer = itoa::Buffer::new();
         out.write_all(buffer.format(self.nanoseconds()).as_bytes())
     }

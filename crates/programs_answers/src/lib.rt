@@ -4,11 +4,15 @@
 mod answers;
 mod cuts;
 pub mod formats;
+mod held;
+mod laws;
 mod layout;
 mod named;
 mod serving;
 mod waiting;
 
-pub use answers::{Unwritten, write_value};
+pub use answers::write_value;
+pub use laws::law_done;
 pub use named::Named;
 pub use serving::{Answering, Stop, run, serve};
+pub use waiting::Waiting;

@@ -5,15 +5,16 @@ ghost use Rattle.time_components.specs.Shape.{borrowed_shape};
 ghost use Rattle.time_components.specs.Steps.{steps_shape};
 ghost use Rattle.time_components.specs.Tree.{first_of, sequence, trees};
 ghost use Rattle.time_preparing.specs.Items.{Prepares};
+ghost use Rattle.programs_streams.specs.Faults.{HasCause};
 ghost use Rattle.programs_answers.specs.Formats as formats;
 ghost use Rattle.programs_answers.specs.Output.{IsDescribed, IsParsed, Writes};
 
-use crate::answers::{Unwritten, write_value};
+use crate::answers::write_value;
 use crate::formats::{
     Format, Target, clock_items, compound, date_items, first, fraction_items, local_items,
     second_items, unix,
 };
-use std::io::Write;
+use programs_streams::{Sink, Unwritten};
 use std::marker::Model;
 use time_components::BorrowedFormatItem;
 use time_parsing::{Iso8601, Rfc2822, Rfc3339};
@@ -96,14 +97,16 @@ impl Named {
 
     // Writes the outcome of the text by a description of a date, time and offset, or of a year and its day.
     #[inline(always)]
-    fn write_local<W: Write>(
+    fn write_local<W: Sink>(
         &self,
         target: Target,
         text: &[u8],
         out: &mut W,
     ) -> Result<(), Unwritten>
-        ensures { OnOk result (Writes (IsDescribed greatest_year formats.local target text.now)
+        ensures bytes { OnOk result (Writes (IsDescribed greatest_year formats.local target text.now)
             (W.contents out.old) (W.contents out.new)) }
+        ensures cause { HasCause result (W.faults out.old) (W.faults out.new) }
+        ensures through { W.through out.new ≡ W.through out.old }
     {
         write_value(&self.local, target, text, out)
     }
@@ -111,15 +114,17 @@ impl Named {
     /// Writes the outcome of the text by a format that has a name for the target: the value, or `error: ` and why there is
     /// none.
     #[inline(always)]
-    pub fn write_parsed<W: Write>(
+    pub fn write_parsed<W: Sink>(
         &self,
         format: Format,
         target: Target,
         text: &[u8],
         out: &mut W,
     ) -> Result<(), Unwritten>
-        ensures { OnOk result (Writes (IsParsed greatest_year format target text.now)
+        ensures bytes { OnOk result (Writes (IsParsed greatest_year format target text.now)
             (W.contents out.old) (W.contents out.new)) }
+        ensures cause { HasCause result (W.faults out.old) (W.faults out.new) }
+        ensures through { W.through out.new ≡ W.through out.old }
     {
         match format {
             Format::Rfc3339 => write_value(&Rfc3339, target, text, out),

@@ -1,14 +1,15 @@
 //! Answers whole inputs.
-ghost use Rattle.std.specs.Prelude.{◌≡◌, ℕ, List, OnOk, IfOk, IfSome, Some};
+ghost use Rattle.std.specs.Io.KnownBytes.{append_known};
+ghost use Rattle.std.specs.Prelude.{◌≡◌, ◌≢◌, ℕ, List, [], OnOk, IfErr, IfOk, IfSome, Err};
+ghost use Rattle.programs_streams.specs.Faults.{HasCause};
+ghost use Rattle.programs_answers.specs.Causes.{HasReadCause, HasWriteCause};
 ghost use Rattle.programs_answers.specs.Output.{Writes, WritesAnswers};
 ghost use Rattle.programs_answers.specs.Pieces.{WithLineFeed};
 
-use crate::answers::Unwritten;
 use crate::cuts::first_line;
 use crate::waiting::Waiting;
+use programs_streams::{Sink, Source, Unwritten};
 use std::alloc::Allocator;
-use std::io;
-use std::io::{ErrorKind, Read, Write};
 
 /// Why the program stopped before its end.
 #[derive(Clone, Copy, Debug, PartialEq, Eq)]
@@ -41,61 +42,82 @@ pub trait Answering {
     ghost is_answer: { Self → List ℕ → List ℕ → Type 0 };
 
     /// Writes the answer to a line.
-    fn write_answer<W: Write>(&self, line: &[u8], out: &mut W) -> Result<(), Unwritten>
-        ensures { OnOk result (Writes (is_answer self.now line.now) (W.contents out.old) (W.contents out.new)) };
+    fn write_answer<W: Sink>(&self, line: &[u8], out: &mut W) -> Result<(), Unwritten>
+        ensures bytes { OnOk result (Writes (is_answer self.now line.now) (W.contents out.old) (W.contents out.new)) }
+        ensures cause { HasCause result (W.faults out.old) (W.faults out.new) }
+        ensures through { W.through out.new ≡ W.through out.old };
 }
 
-// Puts the answer to a line, and LF, behind what waits.
+// Writes the answer to a line, and LF.
 #[inline(always)]
-fn add_line<A: Answering>(
+fn add_line<A: Answering, W: Sink>(
     answering: &A,
     line: &[u8],
-    waiting: &mut Waiting,
+    out: &mut Waiting<W>,
 ) -> Result<(), Unwritten>
-    ensures { OnOk result (Writes (WithLineFeed (A.is_answer answering.now line.now))
-        (Some waiting.old.items) (Some waiting.new.items)) }
+    ensures bytes { OnOk result (Writes (WithLineFeed (A.is_answer answering.now line.now))
+        (append_known (W.contents out.old.sink) out.old.held.items) (append_known (W.contents out.new.sink) out.new.held.items)) }
+    ensures cause { HasCause result (W.faults out.old.sink) (W.faults out.new.sink) }
+    ensures through { W.through out.new.sink ≡ W.through out.old.sink }
 {
-    let Ok(()) = answering.write_answer(line, waiting) else {
-        return Err(Unwritten);
-    };
-    match waiting.write_all(b"\n") {
-        Ok(()) => Ok(()),
-        Err(_) => Err(Unwritten),
-    }
+    answering.write_answer(line, out)?;
+    out.write_all(b"\n")
 }
 
-/// Writes the answer to each line of the input, and allocates nothing.
-///
-/// Each line ends with LF, which the last one may lack. After an `Err`, that of a write, nothing is
-/// known of how much was written.
-pub fn run<A: Answering, W: Write>(answering: &A, input: &[u8], out: &mut W) -> io::Result<()>
-    ensures { OnOk result (WritesAnswers (A.is_answer answering.now) (W.contents out.old) (W.contents out.new) input.now) }
+// Answers all lines. The last answers may wait.
+#[inline(always)]
+fn answer_lines<A: Answering, W: Sink>(
+    answering: &A,
+    input: &[u8],
+    out: &mut Waiting<W>,
+) -> Result<(), Unwritten>
+    requires { out.old.held.items ≡ [] }
+    ensures answers { OnOk result (WritesAnswers (A.is_answer answering.now) (W.contents out.old.sink)
+        (append_known (W.contents out.new.sink) out.new.held.items) input.now) }
+    ensures cause { HasCause result (W.faults out.old.sink) (W.faults out.new.sink) }
+    ensures through { W.through out.new.sink ≡ W.through out.old.sink }
 {
-    let mut waiting = Waiting::new();
     let mut rest = input;
     while !rest.is_empty() {
         let (line, after) = first_line(rest);
-        if waiting.is_nearly_full() {
-            waiting.write_all_to(out)?;
-        }
-        let Ok(()) = add_line(answering, line, &mut waiting) else {
-            return Err(io::Error::from(ErrorKind::WriteZero));
-        };
+        add_line(answering, line, out)?;
         rest = after;
     }
-    waiting.write_all_to(out)
+    Ok(())
+}
+
+/// Writes the answer to each line of the input, and allocates nothing. What waited before is forgotten.
+///
+/// Each line ends with LF, which the last one may lack. After an `Err`, which only a write of the sink gives, nothing is
+/// known of how much was written.
+#[tactic(auto, using(crate::proofs::OutputLemmas::Writes_settled))]
+pub fn run<A: Answering, W: Sink>(
+    answering: &A,
+    input: &[u8],
+    out: &mut Waiting<W>,
+) -> Result<(), Unwritten>
+    ensures answers { OnOk result
+        (WritesAnswers (A.is_answer answering.now) (W.contents out.old.sink) (W.contents out.new.sink) input.now) }
+    ensures cause { HasCause result (W.faults out.old.sink) (W.faults out.new.sink) }
+    ensures through { W.through out.new.sink ≡ W.through out.old.sink }
+{
+    out.held.clear();
+    answer_lines(answering, input, out)?;
+    out.settle()
 }
 
 // After so many reads an input counts as one without an end.
 const MOST_READS: u64 = 4294967296;
 
-// Reads all that the reader has left. A failed read is not tried again.
-fn read_all<R: Read, A: Allocator>(alloc: A, input: &mut R) -> Result<Vec<u8, A>, Stop>
+// Reads all that the source has left. A failed read is not tried again.
+fn read_all<R: Source, G: Allocator>(alloc: G, input: &mut R) -> Result<Vec<u8, G>, Stop>
     ensures all { IfOk result (λ text. IfSome (R.remaining input.old) (λ bytes. text.items ≡ bytes)) }
+    ensures unwritten { IfErr result (λ stop. stop ≢ Stop.Unwritten) }
+    ensures cause { HasReadCause result (R.faults input.old) (R.faults input.new) (R.given input.old) (R.given input.new) }
 {
     let mut text = Vec::new(alloc);
     let mut piece = [0u8; 65536];
-    for _ in 0..MOST_READS {
+    for turn in 0..MOST_READS {
         match input.read(&mut piece) {
             Ok(0) => return Ok(text),
             Ok(n) => text
@@ -112,16 +134,19 @@ fn read_all<R: Read, A: Allocator>(alloc: A, input: &mut R) -> Result<Vec<u8, A>
 ///
 /// A failed read is not tried again, not even an interrupted one. After [`Stop::Unread`] or
 /// [`Stop::Memory`] nothing was written.
-pub fn serve<S: Answering, R: Read, W: Write, A: Allocator>(
-    answering: &S,
-    alloc: A,
+pub fn serve<A: Answering, R: Source, W: Sink, G: Allocator>(
+    answering: &A,
+    alloc: G,
     input: &mut R,
-    out: &mut W,
+    out: &mut Waiting<W>,
 ) -> Result<(), Stop>
     ensures ok { OnOk result (IfSome (R.remaining input.old)
-        (λ bytes. WritesAnswers (S.is_answer answering.now) (W.contents out.old) (W.contents out.new) bytes)) }
+        (λ bytes. WritesAnswers (A.is_answer answering.now) (W.contents out.old.sink) (W.contents out.new.sink) bytes)) }
     ensures unread { result ≡ Err Stop.Unread → out.new ≡ out.old }
     ensures memory { result ≡ Err Stop.Memory → out.new ≡ out.old }
+    ensures read { HasReadCause result (R.faults input.old) (R.faults input.new) (R.given input.old) (R.given input.new) }
+    ensures cause { HasWriteCause result (W.faults out.old.sink) (W.faults out.new.sink) }
+    ensures through { W.through out.new.sink ≡ W.through out.old.sink }
 {
     let text = read_all(alloc, input)?;
     run(answering, text.as_slice(), out).map_err(|_| Stop::Unwritten)

@@ -1,108 +1,120 @@
-//! Bytes that wait for one write.
-ghost use Rattle.std.specs.Io.KnownBytes.{Keeps, append_known};
-ghost use Rattle.std.specs.Prelude.{◌≡◌, ◌+◌, ◌<◌, ◌≤◌, ◌↔◌, [], ◌++◌, length, take, OnOk, Some, IsTrue, false};
-ghost use Rattle.time_values.specs.Shown.{Items};
-ghost use Rattle.programs_answers.specs.declared.waiting.TheConstants.{MOST, LONGEST};
+//! A sink whose bytes wait for one write.
+ghost use Rattle.std.specs.Io.KnownBytes.{Appends, Keeps, append_known};
+ghost use Rattle.std.specs.Prelude.{◌≡◌, [], IfSome, OnOk};
+ghost use Rattle.programs_streams.specs.Faults.{HasCause};
 
-use std::io;
-use std::io::{ErrorKind, Write};
-use std::marker::Model;
+use crate::held::Held;
+use programs_streams::{Sink, Unwritten};
+use std::fmt::Display;
+use std::io::Write;
 
 // How many bytes may wait.
 const MOST: usize = 65536;
 
-// More bytes than any answer has, with its LF.
+// More bytes than most texts have that are printed.
 const LONGEST: usize = 128;
 
-/// Bytes that wait to be written. It allocates nothing, and refuses what doesn't fit. To forget them costs nothing.
+/// A sink, and up to 65536 bytes that wait to be written to it. It allocates nothing.
 #[derive(Drop)]
-pub struct Waiting {
-    array: [u8; MOST],
-    len: usize,
+pub struct Waiting<W> {
+    /// The sink.
+    pub sink: W,
+    pub(crate) held: Held<MOST>,
 }
 
-impl Model for Waiting {
-    ghost Value = { Items };
-
-    ghost view = { λ w. record { items = take w.len w.array } };
-
-    ghost invariant = { λ w. w.len ≤ MOST };
-}
-
-impl Waiting {
-    /// Nothing waits.
-    pub fn new() -> Waiting
-        ensures { result.items ≡ [] }
+impl<W> Waiting<W> {
+    /// The sink, for which nothing waits.
+    pub fn new(sink: W) -> Waiting<W>
+        ensures sink { result.sink ≡ sink }
+        ensures none { result.held.items ≡ [] }
     {
         Waiting {
-            array: [0; MOST],
-            len: 0,
+            sink,
+            held: Held::new(),
         }
     }
 
-    // How many more fit.
-    #[inline(always)]
-    fn room(&self) -> usize
-        ensures { result + length self.now.items ≡ MOST }
+    /// The sink. What waits is forgotten.
+    pub fn into_sink(self) -> W
+        ensures { result ≡ self.sink }
     {
-        MOST - self.len
-    }
-
-    // Puts all of these behind what waits, or answers `false` where they don't fit.
-    #[inline(always)]
-    fn append(&mut self, bytes: &[u8]) -> bool
-        ensures all { IsTrue result → self.new.items ≡ self.old.items ++ bytes.now }
-        ensures none { result ≡ false → self.new ≡ self.old }
-    {
-        if self.room() < bytes.len() {
-            return false;
-        }
-        let end = self.len + bytes.len();
-        self.array[self.len..end].copy_from_slice(bytes);
-        self.len = end;
-        true
-    }
-
-    /// Writes what waits, and leaves nothing waiting.
-    pub fn write_all_to<W: Write>(&mut self, out: &mut W) -> io::Result<()>
-        ensures moved { OnOk result (Keeps (append_known (W.contents out.old) self.old.items)
-            (append_known (W.contents out.new) self.new.items)) }
-        ensures none { OnOk result (self.new.items ≡ []) }
-    {
-        out.write_all(&self.array[..self.len])?;
-        self.len = 0;
-        Ok(())
-    }
-
-    /// Whether an answer may not fit after what waits.
-    #[inline(always)]
-    pub fn is_nearly_full(&self) -> bool
-        ensures { IsTrue result ↔ (MOST < length self.now.items + LONGEST) }
-    {
-        self.room() < LONGEST
+        let Waiting { sink, held: _ } = self;
+        sink
     }
 }
 
-impl Write for Waiting {
-    ghost contents = { λ w. Some w.items };
-
-    fn write(&mut self, buf: &[u8]) -> io::Result<usize> {
-        if !self.append(buf) {
-            return Err(io::Error::from(ErrorKind::WriteZero));
-        }
-        Ok(buf.len())
-    }
-
-    fn flush(&mut self) -> io::Result<()> {
+impl<W: Sink> Waiting<W> {
+    /// Writes what waits.
+    pub fn settle(&mut self) -> Result<(), Unwritten>
+        ensures written { OnOk result (Keeps (append_known (W.contents self.old.sink) self.old.held.items) (W.contents self.new.sink)) }
+        ensures none { OnOk result (self.new.held.items ≡ []) }
+        ensures cause { HasCause result (W.faults self.old.sink) (W.faults self.new.sink) }
+        ensures through { W.through self.new.sink ≡ W.through self.old.sink }
+    {
+        self.sink.write_all(self.held.as_slice())?;
+        self.held.clear();
         Ok(())
     }
 
+    // Puts bytes behind what waits, which is written first.
+    #[cold]
+    #[inline(never)]
+    fn write_past(&mut self, bytes: &[u8]) -> Result<(), Unwritten>
+        ensures bytes { OnOk result (Appends (append_known (W.contents self.old.sink) self.old.held.items)
+            (append_known (W.contents self.new.sink) self.new.held.items) bytes.now) }
+        ensures cause { HasCause result (W.faults self.old.sink) (W.faults self.new.sink) }
+        ensures through { W.through self.new.sink ≡ W.through self.old.sink }
+    {
+        self.settle()?;
+        if self.held.append(bytes) {
+            return Ok(());
+        }
+        self.sink.write_all(bytes)
+    }
+
+    // Writes what waits, and then what is printed of a value.
+    #[cold]
+    #[inline(never)]
+    fn print_past<D: Display + Drop>(&mut self, text: D) -> Result<(), Unwritten>
+        ensures bytes { OnOk result (IfSome (D.output text) (Appends (append_known (W.contents self.old.sink) self.old.held.items)
+            (append_known (W.contents self.new.sink) self.new.held.items))) }
+        ensures cause { HasCause result (W.faults self.old.sink) (W.faults self.new.sink) }
+        ensures through { W.through self.new.sink ≡ W.through self.old.sink }
+    {
+        self.settle()?;
+        self.sink.write_fmt(text)
+    }
+}
+
+impl<W: Sink> Sink for Waiting<W> {
+    ghost contents = { λ waiting. append_known (W.contents waiting.sink) waiting.held.items };
+
+    ghost faults = { λ waiting. W.faults waiting.sink };
+
+    ghost through = { λ waiting. W.through waiting.sink };
+
     #[inline(always)]
-    fn write_all(&mut self, buf: &[u8]) -> io::Result<()> {
-        if self.append(buf) {
+    fn write_all(&mut self, bytes: &[u8]) -> Result<(), Unwritten> {
+        if self.held.append(bytes) {
             Ok(())
         } else {
-            Err(io::Error::from(ErrorKind::WriteZero))
+            self.write_past(bytes)
         }
+    }
+
+    fn write_fmt<D: Display>(&mut self, text: D) -> Result<(), Unwritten>
+    where
+        D: Drop,
+    {
+        let mut printed = Held::<LONGEST>::new();
+        match Write::write_fmt(&mut printed, &text) {
+            Ok(()) => self.write_all(printed.as_slice()),
+            Err(_) => self.print_past(text),
+        }
+    }
+
+    // What waits goes on waiting: of a write that fails nothing is known.
+    fn flush(&mut self) -> Result<(), Unwritten> {
+        self.sink.flush()
     }
 }

@@ -2,9 +2,11 @@
 #![tactic(auto)]
 
 mod counted;
+mod lent;
 mod sink;
 mod source;
 
 pub use counted::Counted;
+pub use lent::Lent;
 pub use sink::{Sink, Unwritten};
 pub use source::{Bytes, Source};

@@ -11,8 +11,8 @@ mod fast;
 
 use crate::cuts::cut_tab;
 use programs_answers::formats::{Format, Target, find_format, find_target};
-use programs_answers::{Answering, Named, Unwritten};
-use std::io::Write;
+use programs_answers::{Answering, Named};
+use programs_streams::{Sink, Unwritten};
 
 // What a line asks for: a format, a target and a text; or else what is wrong with it.
 type Request<'a> = Result<(Format, Target, &'a [u8]), &'static [u8]>;
@@ -60,17 +60,12 @@ impl Answering for Fields {
     ghost is_answer = { λ _. IsAnswer greatest_year };
 
     #[inline(always)]
-    fn write_answer<W: Write>(&self, line: &[u8], out: &mut W) -> Result<(), Unwritten> {
+    fn write_answer<W: Sink>(&self, line: &[u8], out: &mut W) -> Result<(), Unwritten> {
         let (format, target, text) = match fast::request(line) {
             Some(asked) => asked,
             None => match cut_request(line) {
                 Ok(asked) => asked,
-                Err(wrong) => {
-                    return match out.write_all(wrong) {
-                        Ok(()) => Ok(()),
-                        Err(_) => Err(Unwritten),
-                    };
-                }
+                Err(wrong) => return out.write_all(wrong),
             },
         };
         self.named.write_parsed(format, target, text, out)

@@ -1,14 +1,26 @@
 //! Answers whole inputs.
-ghost use Rattle.std.specs.Prelude.{◌≡◌, OnOk, IfSome};
+ghost use Rattle.std.specs.Prelude.{◌≡◌, Err, OnOk, IfSome};
 ghost use Rattle.time_values.specs.Range.{greatest_year};
+ghost use Rattle.programs_streams.specs.Faults.{HasCause};
+ghost use Rattle.programs_answers.specs.Causes.{HasReadCause, HasWriteCause};
 ghost use Rattle.programs_answers.specs.declared.serving.Stop.TheVariants as Stop;
 ghost use Rattle.time_lines.specs.Output.{WritesAnswers};
 
 use crate::answers::Fields;
-use programs_answers::Stop;
+use programs_answers::{Stop, Waiting};
+use programs_streams::{Counted, Lent, Sink, Source, Unwritten};
 use std::alloc::{Allocator, Global};
 use std::io;
 use std::io::{Read, Write};
+
+// Writes the answer to each line of the input to a sink.
+fn run_to<W: Sink>(input: &[u8], out: &mut Waiting<W>) -> Result<(), Unwritten>
+    ensures answers { OnOk result (WritesAnswers greatest_year (W.contents out.old.sink) (W.contents out.new.sink) input.now) }
+    ensures cause { HasCause result (W.faults out.old.sink) (W.faults out.new.sink) }
+    ensures through { W.through out.new.sink ≡ W.through out.old.sink }
+{
+    programs_answers::run(&Fields::new(), input, out)
+}
 
 /// Writes the answer to each line of the input, and allocates nothing.
 ///
@@ -17,7 +29,11 @@ use std::io::{Read, Write};
 pub fn run<W: Write>(input: &[u8], out: &mut W) -> io::Result<()>
     ensures { OnOk result (WritesAnswers greatest_year (W.contents out.old) (W.contents out.new) input.now) }
 {
-    programs_answers::run(&Fields::new(), input, out)
+    let mut waiting = Waiting::new(Lent::new(out));
+    match run_to(input, &mut waiting) {
+        Ok(()) => Ok(()),
+        Err(_) => Err(waiting.into_sink().into_error()),
+    }
 }
 
 /// Reads the input to its end, with 4294967296 reads at most, and writes the answer to each of its
@@ -44,6 +60,25 @@ pub(crate) fn serve_in<R: Read, W: Write, A: Allocator>(
         (λ bytes. WritesAnswers greatest_year (W.contents out.old) (W.contents out.new) bytes)) }
     ensures unread { result ≡ Err Stop.Unread → out.new ≡ out.old }
     ensures memory { result ≡ Err Stop.Memory → out.new ≡ out.old }
+{
+    let mut waiting = Waiting::new(Lent::new(out));
+    serve_to(alloc, &mut Counted::new(input), &mut waiting)
+}
+
+/// The same from a source to a sink. It stops before its end only after a read of that source or a write of that sink that
+/// gave an error, or where memory is short, or where 4294967296 reads didn't come to the end.
+pub(crate) fn serve_to<R: Source, W: Sink, A: Allocator>(
+    alloc: A,
+    input: &mut R,
+    out: &mut Waiting<W>,
+) -> Result<(), Stop>
+    ensures ok { OnOk result (IfSome (R.remaining input.old)
+        (λ bytes. WritesAnswers greatest_year (W.contents out.old.sink) (W.contents out.new.sink) bytes)) }
+    ensures unread { result ≡ Err Stop.Unread → out.new ≡ out.old }
+    ensures memory { result ≡ Err Stop.Memory → out.new ≡ out.old }
+    ensures read { HasReadCause result (R.faults input.old) (R.faults input.new) (R.given input.old) (R.given input.new) }
+    ensures cause { HasWriteCause result (W.faults out.old.sink) (W.faults out.new.sink) }
+    ensures through { W.through out.new.sink ≡ W.through out.old.sink }
 {
     programs_answers::serve(&Fields::new(), alloc, input, out)
 }

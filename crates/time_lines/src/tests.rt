@@ -381,16 +381,16 @@ fn failed_writes(rt: HostRuntime) {
 /// How many bytes the program reads at once.
 const BUFFER: usize = 65536;
 
-// 5446 answers of 12 bytes and four of 14 leave the room that one answer more may need, and no byte beyond it.
-const _: () = prove!(5446 * 12 + 4 * 14 == BUFFER - 128);
+// 5459 answers of 12 bytes and two of 14 fill the room for what waits.
+const _: () = prove!(5459 * 12 + 2 * 14 == BUFFER);
 
 #[test]
 fn full_buffer(rt: HostRuntime) {
-    for (more, writes) in [(0, 1), (1, 1), (2, 2), (3, 2)] {
-        let input: [Part<'_>; 3] = [(&[b"\n"], 5446), (&[b"x\ty\t\n"], 4), (&[b"\n"], more)];
+    for (more, writes) in [(0, 1), (1, 2), (2, 2)] {
+        let input: [Part<'_>; 3] = [(&[b"\n"], 5459), (&[b"x\ty\t\n"], 2), (&[b"\n"], more)];
         let output: [Part<'_>; 3] = [
-            (&[b"error: line\n"], 5446),
-            (&[b"error: format\n"], 4),
+            (&[b"error: line\n"], 5459),
+            (&[b"error: format\n"], 2),
             (&[b"error: line\n"], more),
         ];
         try_parts(&rt, &input, &output, writes);

@@ -12,6 +12,8 @@ mod serving;
 
 use arguments::{Command, Question, command_of};
 use fault::told;
+use programs_answers::Waiting;
+use programs_streams::Counted;
 use serving::{Failure, serve};
 use std::io::Write;
 use std::process::ExitCode;
@@ -34,12 +36,9 @@ or a failed read.";
 
 // Answers the lines of standard input, and gives the exit status.
 fn answer(rt: &HostRuntime, question: Question<'_>) -> io::Result<u8> {
-    match serve(
-        question,
-        rt.alloc(),
-        &mut rt.reader(),
-        &mut std::io::writer(rt),
-    ) {
+    let mut input = Counted::new(rt.reader());
+    let mut out = Waiting::new(Counted::new(io::writer(rt)));
+    match serve(question, rt.alloc(), &mut input, &mut out) {
         Ok(()) => Ok(0),
         Err(Failure::Stopped(stop)) => Ok(stop.status()),
         Err(Failure::Asked(fault)) => {

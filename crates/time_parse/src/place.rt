@@ -5,6 +5,7 @@ ghost use Rattle.std.specs.Option.{option_map};
 ghost use Rattle.time_values.specs.Range.{greatest_year};
 ghost use Rattle.time_values.specs.Refusal.{refusal_of};
 ghost use Rattle.time_parsing.specs.Outcome.{seen};
+ghost use Rattle.programs_streams.specs.Faults.{HasCause};
 ghost use Rattle.programs_answers.specs.Output.{Writes};
 ghost use Rattle.time_locating.specs.Located.{wants};
 ghost use Rattle.time_locating.specs.Misses.{all_bytes};
@@ -15,12 +16,12 @@ ghost use Rattle.time_parse.specs.Request.{meaning_of};
 
 use crate::fault::shown;
 use crate::request::{Chosen, Request};
+use programs_answers::Answering;
 use programs_answers::formats::{
     Format, Target, clock_items, compound, date_items, first, fraction_items, local_items,
     second_items, unix,
 };
-use programs_answers::{Answering, Unwritten};
-use std::io::Write;
+use programs_streams::{Sink, Unwritten};
 use time_locating::{Expected, Locate, locate_error};
 use time_parsing::{Iso8601, Parsable, Rfc2822, Rfc3339};
 use time_record::Parsed;
@@ -34,33 +35,33 @@ pub struct Placing {
 }
 
 // Writes the bytes as they are shown.
-fn write_shown<W: Write>(bytes: &[u8], out: &mut W) -> Result<(), Unwritten>
-    ensures { OnOk result (Appends (W.contents out.old) (W.contents out.new) (map fault.shown bytes.now)) }
+fn write_shown<W: Sink>(bytes: &[u8], out: &mut W) -> Result<(), Unwritten>
+    ensures bytes { OnOk result (Appends (W.contents out.old) (W.contents out.new) (map fault.shown bytes.now)) }
+    ensures cause { HasCause result (W.faults out.old) (W.faults out.new) }
+    ensures through { W.through out.new ≡ W.through out.old }
 {
     for byte in bytes {
-        let Ok(()) = out.write_all(&[shown(*byte)]) else {
-            return Err(Unwritten);
-        };
+        out.write_all(&[shown(*byte)])?;
     }
     Ok(())
 }
 
 // Writes what was expected.
-fn write_expected<W: Write>(expected: Expected<'_>, out: &mut W) -> Result<(), Unwritten>
-    ensures { OnOk result (Appends (W.contents out.old) (W.contents out.new) (expected_text (wants expected.entry))) }
+fn write_expected<W: Sink>(expected: Expected<'_>, out: &mut W) -> Result<(), Unwritten>
+    ensures bytes { OnOk result (Appends (W.contents out.old) (W.contents out.new) (expected_text (wants expected.entry))) }
+    ensures cause { HasCause result (W.faults out.old) (W.faults out.new) }
+    ensures through { W.through out.new ≡ W.through out.old }
 {
     let told: &[u8] = match expected {
         Expected::Component(name) => name.as_bytes(),
         Expected::End => b"the end",
         Expected::Literal(bytes) => {
-            let Ok(()) = out.write_all(b"'") else {
-                return Err(Unwritten);
-            };
+            out.write_all(b"'")?;
             write_shown(bytes, out)?;
             b"'"
         }
     };
-    out.write_all(told).map_err(|_| Unwritten)
+    out.write_all(told)
 }
 
 // The error of a parse.
@@ -91,24 +92,28 @@ fn refusal<F: Parsable>(format: &F, target: Target, text: &[u8]) -> Option<Parse
 }
 
 // Writes an index, or nothing.
-fn write_index<W: Write>(index: Option<usize>, out: &mut W) -> Result<(), Unwritten>
-    ensures { OnOk result (Appends (W.contents out.old) (W.contents out.new) (index_text index)) }
+fn write_index<W: Sink>(index: Option<usize>, out: &mut W) -> Result<(), Unwritten>
+    ensures bytes { OnOk result (Appends (W.contents out.old) (W.contents out.new) (index_text index)) }
+    ensures cause { HasCause result (W.faults out.old) (W.faults out.new) }
+    ensures through { W.through out.new ≡ W.through out.old }
 {
     let Some(index) = index else {
         return Ok(());
     };
-    write!(out, " at {index}").map_err(|_| Unwritten)
+    write!(out, " at {index}")
 }
 
 // Writes where the text goes wrong of which this is the error, or nothing.
-fn write_error_place<F: Locate, W: Write>(
+fn write_error_place<F: Locate, W: Sink>(
     format: &F,
     error: Option<Parse>,
     text: &[u8],
     out: &mut W,
 ) -> Result<(), Unwritten>
-    ensures { OnOk result (Writes (IsErrorPlace (F.reads format.now) (F.locates format.now) (F.marks format.now) text.now
+    ensures bytes { OnOk result (Writes (IsErrorPlace (F.reads format.now) (F.locates format.now) (F.marks format.now) text.now
         (option_map refusal_of error)) (W.contents out.old) (W.contents out.new)) }
+    ensures cause { HasCause result (W.faults out.old) (W.faults out.new) }
+    ensures through { W.through out.new ≡ W.through out.old }
 {
     match error {
         Some(error) => write_index(locate_error(format, text, None, error), out),
@@ -117,39 +122,43 @@ fn write_error_place<F: Locate, W: Write>(
 }
 
 // Writes where the text goes wrong by the format for the target, or nothing.
-fn write_place<F: Locate, W: Write>(
+fn write_place<F: Locate, W: Sink>(
     format: &F,
     target: Target,
     text: &[u8],
     out: &mut W,
 ) -> Result<(), Unwritten>
-    ensures { OnOk result (Writes
+    ensures bytes { OnOk result (Writes
         (IsPlace greatest_year target (F.path format.now) (F.reads format.now) (F.refuses format.now) (F.locates format.now)
         (F.marks format.now) text.now) (W.contents out.old) (W.contents out.new)) }
+    ensures cause { HasCause result (W.faults out.old) (W.faults out.new) }
+    ensures through { W.through out.new ≡ W.through out.old }
 {
     let Some(place) = format.locate(text, None) else {
         return write_error_place(format, refusal(format, target, text), text, out);
     };
     let index = place.index;
-    match write!(out, " at {index}: expected ") {
-        Ok(()) => write_expected(place.expected, out),
-        Err(_) => Err(Unwritten),
-    }
+    write!(out, " at {index}: expected ")?;
+    write_expected(place.expected, out)
 }
 
 // Writes where the text goes wrong by a description of a date.
-fn write_ymd_place<W: Write>(target: Target, text: &[u8], out: &mut W) -> Result<(), Unwritten>
-    ensures { OnOk result (Writes (IsTreePlace greatest_year all_bytes formats.ymd target text.now)
+fn write_ymd_place<W: Sink>(target: Target, text: &[u8], out: &mut W) -> Result<(), Unwritten>
+    ensures bytes { OnOk result (Writes (IsTreePlace greatest_year all_bytes formats.ymd target text.now)
         (W.contents out.old) (W.contents out.new)) }
+    ensures cause { HasCause result (W.faults out.old) (W.faults out.new) }
+    ensures through { W.through out.new ≡ W.through out.old }
 {
     let items = date_items();
     write_place(&compound(&items), target, text, out)
 }
 
 // The same by a description of a time on a clock of 12 hours.
-fn write_clock_place<W: Write>(target: Target, text: &[u8], out: &mut W) -> Result<(), Unwritten>
-    ensures { OnOk result (Writes (IsTreePlace greatest_year all_bytes formats.clock target text.now)
+fn write_clock_place<W: Sink>(target: Target, text: &[u8], out: &mut W) -> Result<(), Unwritten>
+    ensures bytes { OnOk result (Writes (IsTreePlace greatest_year all_bytes formats.clock target text.now)
         (W.contents out.old) (W.contents out.new)) }
+    ensures cause { HasCause result (W.faults out.old) (W.faults out.new) }
+    ensures through { W.through out.new ≡ W.through out.old }
 {
     let fraction = fraction_items();
     let fraction = compound(&fraction);
@@ -160,9 +169,11 @@ fn write_clock_place<W: Write>(target: Target, text: &[u8], out: &mut W) -> Resu
 }
 
 // The same by a description of a date, time and offset, or of a year and its day.
-fn write_local_place<W: Write>(target: Target, text: &[u8], out: &mut W) -> Result<(), Unwritten>
-    ensures { OnOk result (Writes (IsTreePlace greatest_year all_bytes formats.local target text.now)
+fn write_local_place<W: Sink>(target: Target, text: &[u8], out: &mut W) -> Result<(), Unwritten>
+    ensures bytes { OnOk result (Writes (IsTreePlace greatest_year all_bytes formats.local target text.now)
         (W.contents out.old) (W.contents out.new)) }
+    ensures cause { HasCause result (W.faults out.old) (W.faults out.new) }
+    ensures through { W.through out.new ≡ W.through out.old }
 {
     let items = local_items();
     let (date_time, ordinal) = items.split_at(15);
@@ -171,13 +182,15 @@ fn write_local_place<W: Write>(target: Target, text: &[u8], out: &mut W) -> Resu
 }
 
 // The same by a format that has a name.
-fn write_named_place<W: Write>(
+fn write_named_place<W: Sink>(
     format: Format,
     target: Target,
     text: &[u8],
     out: &mut W,
 ) -> Result<(), Unwritten>
-    ensures { OnOk result (Writes (IsNamedPlace greatest_year format target text.now) (W.contents out.old) (W.contents out.new)) }
+    ensures bytes { OnOk result (Writes (IsNamedPlace greatest_year format target text.now) (W.contents out.old) (W.contents out.new)) }
+    ensures cause { HasCause result (W.faults out.old) (W.faults out.new) }
+    ensures through { W.through out.new ≡ W.through out.old }
 {
     match format {
         Format::Rfc3339 => write_place(&Rfc3339, target, text, out),
@@ -191,14 +204,16 @@ fn write_named_place<W: Write>(
 }
 
 // The same by what is chosen.
-fn write_chosen_place<W: Write>(
+fn write_chosen_place<W: Sink>(
     chosen: &Chosen,
     target: Target,
     text: &[u8],
     out: &mut W,
 ) -> Result<(), Unwritten>
-    ensures { OnOk result (Writes (IsPlaceBy greatest_year (meaning_of chosen.now) target text.now)
+    ensures bytes { OnOk result (Writes (IsPlaceBy greatest_year (meaning_of chosen.now) target text.now)
         (W.contents out.old) (W.contents out.new)) }
+    ensures cause { HasCause result (W.faults out.old) (W.faults out.new) }
+    ensures through { W.through out.new ≡ W.through out.old }
 {
     match chosen {
         Chosen::Named(format, _) => write_named_place(*format, target, text, out),
@@ -209,7 +224,7 @@ fn write_chosen_place<W: Write>(
 impl Answering for Placing {
     ghost is_answer = { λ placing. IsPlacedAnswer greatest_year (meaning_of placing.request.chosen) placing.request.target };
 
-    fn write_answer<W: Write>(&self, line: &[u8], out: &mut W) -> Result<(), Unwritten> {
+    fn write_answer<W: Sink>(&self, line: &[u8], out: &mut W) -> Result<(), Unwritten> {
         self.request.write_answer(line, out)?;
         write_chosen_place(&self.request.chosen, self.request.target, line, out)
     }

@@ -11,8 +11,8 @@ ghost use Rattle.time_parse.specs.Request.{IsAnswer, IsFault, IsFaultBy, IsFault
 
 use crate::fault::Fault;
 use programs_answers::formats::{Format, Target, find_format, find_target};
-use programs_answers::{Answering, Named, Unwritten, write_value};
-use std::io::Write;
+use programs_answers::{Answering, Named, write_value};
+use programs_streams::{Sink, Unwritten};
 use time_descriptions::{Description, InvalidFormatDescription, parse_borrowed, parse_strftime};
 use time_preparing::Prepared;
 
@@ -154,7 +154,7 @@ impl Answering for Request {
     ghost is_answer = { λ request. IsAnswer greatest_year (meaning_of request.chosen) request.target };
 
     #[inline(always)]
-    fn write_answer<W: Write>(&self, line: &[u8], out: &mut W) -> Result<(), Unwritten> {
+    fn write_answer<W: Sink>(&self, line: &[u8], out: &mut W) -> Result<(), Unwritten> {
         match &self.chosen {
             Chosen::Named(format, named) => named.write_parsed(*format, self.target, line, out),
             Chosen::Described(prepared) => write_value(prepared, self.target, line, out),

@@ -1,10 +1,13 @@
 //! Answers whole inputs.
-ghost use Rattle.std.specs.Prelude.{◌≡◌, OnOk, IfSome};
+ghost use Rattle.std.specs.Prelude.{◌≡◌, Err, OnOk, IfSome};
 ghost use Rattle.time_values.specs.Range.{greatest_year};
+ghost use Rattle.programs_answers.specs.Causes.{HasReadCause, HasWriteCause, IsCounted, IsReadCounted};
+ghost use Rattle.programs_answers.specs.Output as output;
+ghost use Rattle.programs_answers.specs.declared.serving.Stop.{Stop as Stop_};
 ghost use Rattle.programs_answers.specs.declared.serving.Stop.TheVariants as Stop;
 ghost use Rattle.time_parse.specs.Fault.{reason_of};
-ghost use Rattle.time_parse.specs.Place.{WritesAnswers};
-ghost use Rattle.time_parse.specs.Request.{IsFault};
+ghost use Rattle.time_parse.specs.Place.{IsAnswerAsked, WritesAnswers};
+ghost use Rattle.time_parse.specs.Request.{IsFault, meaning_of};
 ghost use Rattle.time_parse.specs.declared.fault.Fault.{Fault as Fault_};
 ghost use Rattle.time_parse.specs.declared.serving.Failure.TheVariants as failure;
 
@@ -12,9 +15,9 @@ use crate::arguments::Question;
 use crate::fault::Fault;
 use crate::place::Placing;
 use crate::request::Request;
-use programs_answers::Stop;
+use programs_answers::{Stop, Waiting};
+use programs_streams::{Sink, Source};
 use std::alloc::Global;
-use std::io::{Read, Write};
 
 /// Why the program stopped before its end.
 #[derive(Clone, Copy)]
@@ -25,37 +28,61 @@ pub enum Failure<'a> {
     Stopped(Stop),
 }
 
+// Writes the answer to each line of the input, with its place where that is asked for.
+fn serve_asked<R: Source, W: Sink>(
+    request: Request,
+    tells_places: bool,
+    alloc: Global,
+    input: &mut R,
+    out: &mut Waiting<W>,
+) -> Result<(), Stop>
+    ensures ok { OnOk result (IfSome (R.remaining input.old)
+        (λ bytes. output.WritesAnswers (IsAnswerAsked tells_places greatest_year (meaning_of request.entry.chosen) request.entry.target)
+        (W.contents out.old.sink) (W.contents out.new.sink) bytes)) }
+    ensures unread { result ≡ Err Stop.Unread → out.new ≡ out.old }
+    ensures memory { result ≡ Err Stop.Memory → out.new ≡ out.old }
+    ensures read { HasReadCause result (R.faults input.old) (R.faults input.new) (R.given input.old) (R.given input.new) }
+    ensures cause { HasWriteCause result (W.faults out.old.sink) (W.faults out.new.sink) }
+{
+    if tells_places {
+        programs_answers::serve(&Placing { request }, alloc, input, out)
+    } else {
+        programs_answers::serve(&request, alloc, input, out)
+    }
+}
+
 /// Reads the input to its end, and writes the answer to each of its lines, by the format and for the target that are
 /// asked for. Where it is asked for, the answer says where the text goes wrong.
 ///
-/// Where the question has a fault, nothing was read and nothing was written.
-pub fn serve<'a, R: Read, W: Write>(
+/// It stops before its end only after a read of the source or a write of the sink that gave an error, or where memory is
+/// short, or where 4294967296 reads didn't come to the end. Where the question has a fault, nothing was read and nothing was
+/// written.
+pub fn serve<'a, R: Source, W: Sink>(
     question: Question<'a>,
     alloc: Global,
     input: &mut R,
-    out: &mut W,
+    out: &mut Waiting<W>,
 ) -> Result<(), Failure<'a>>
     ensures ok { OnOk result (IfSome (R.remaining input.old)
         (λ bytes. WritesAnswers greatest_year question.entry.tells_places question.entry.version question.entry.format.now question.entry.target.now
-        (W.contents out.old) (W.contents out.new) bytes)) }
+        (W.contents out.old.sink) (W.contents out.new.sink) bytes)) }
     ensures fault { (f : Fault_) → result ≡ Err (failure.Asked f)
         → IsFault question.entry.version question.entry.format.now question.entry.target.now (reason_of f)
         × (input.new ≡ input.old) × (out.new ≡ out.old) }
     ensures unread { result ≡ Err (failure.Stopped Stop.Unread) → out.new ≡ out.old }
     ensures memory { result ≡ Err (failure.Stopped Stop.Memory) → out.new ≡ out.old }
+    ensures read { (stop : Stop_) → result ≡ Err (failure.Stopped stop)
+        → IsReadCounted stop (R.faults input.old) (R.faults input.new) (R.given input.old) (R.given input.new) }
+    ensures cause { (stop : Stop_) → result ≡ Err (failure.Stopped stop)
+        → IsCounted stop (W.faults out.old.sink) (W.faults out.new.sink) }
+    ensures whole { OnOk result ((R.faults input.new ≡ R.faults input.old) × (W.faults out.new.sink ≡ W.faults out.old.sink)) }
 {
     let format = question.format.as_bytes();
     let request = match Request::new(question.version, format, question.target.as_bytes()) {
         Ok(request) => request,
         Err(fault) => return Err(Failure::Asked(fault)),
     };
-    if question.tells_places {
-        return match programs_answers::serve(&Placing { request }, alloc, input, out) {
-            Ok(()) => Ok(()),
-            Err(stop) => Err(Failure::Stopped(stop)),
-        };
-    }
-    match programs_answers::serve(&request, alloc, input, out) {
+    match serve_asked(request, question.tells_places, alloc, input, out) {
         Ok(()) => Ok(()),
         Err(stop) => Err(Failure::Stopped(stop)),
     }

@@ -1,5 +1,5 @@
 //! What is written, and calls that fail.
-use crate::{Bytes, Counted, Sink, Source, Unwritten};
+use crate::{Bytes, Counted, Lent, Sink, Source, Unwritten};
 use std::io;
 use std::io::{ErrorKind, Read, Write};
 
@@ -50,6 +50,19 @@ fn each_failed_call_is_counted(rt: HostRuntime) {
     assert!(rt; Source::read(&mut out, &mut [0; 4]).is_err() && out.faults == 4);
     let (_, error) = out.into_parts();
     assert!(rt; error.is_some_and(|e| e.kind() == ErrorKind::TimedOut));
+}
+
+#[test]
+fn what_is_lent_is_written(rt: HostRuntime) {
+    let mut text = Vec::new(rt.alloc());
+    let written = write_number(25, &mut Lent::new(&mut text));
+    assert!(rt; written == Ok(()) && text.as_slice() == b"[25]".as_slice());
+    let mut broken = Broken;
+    let mut out = Lent::new(&mut broken);
+    let n = 7u8;
+    assert!(rt; out.write_all(b"a") == Err(Unwritten) && write!(&mut out, "{n}") == Err(Unwritten));
+    assert!(rt; out.flush() == Err(Unwritten));
+    assert!(rt; out.into_error().kind() == ErrorKind::TimedOut);
 }
 
 #[test]

@@ -1,7 +1,12 @@
--- What is left began, before the loop, with what was read.
+-- What is left began, before the loop, with what was read, by reads of which none failed and each gave a byte at least.
 use Rattle.std.specs.Io.KnownBytes.{Consumes}
-use Rattle.std.proofs.Common.{◌≡◌, length}
+use Rattle.std.proofs.Common.{◌≡◌, ◌≤◌, length}
+use Rattle.programs_streams.specs.Faults.{count_more}
 use Rattle.programs_answers.proofs.serving.read_all.Given as goal
 
-abbrev pub invariant-loop : goal.invariant-loop
-invariant-loop g l = Consumes (g.R.Read.remaining l.initial.input) (g.R.Read.remaining l.input) l.text.items × (length l.piece ≡ 65536)
+abbrev pub invariant-loop-turn : goal.invariant-loop-turn
+invariant-loop-turn g l =
+    Consumes (g.R.Source.remaining l.initial.input) (g.R.Source.remaining l.input) l.text.items
+    × (length l.piece ≡ 65536)
+    × (g.R.Source.faults l.input ≡ g.R.Source.faults l.initial.input)
+    × (count_more (g.R.Source.given l.initial.input) l.turn ≤ g.R.Source.given l.input)

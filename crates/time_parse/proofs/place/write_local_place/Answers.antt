@@ -6,8 +6,8 @@ use Rattle.programs_answers.specs.Formats.{local, date_time_parts}
 use Rattle.time_parse.proofs.PlaceLemmas.{Writes-tree}
 use Rattle.time_parse.proofs.place.write_local_place.Goals as goal
 
-pub returns : goal.returns
-returns g c =
+pub returns-clause-bytes : goal.returns-clause-bytes
+returns-clause-bytes g c =
     let date_time =
     c.compound.ensures
     ∙ ap (λ xs. sequence (trees (map borrowed_shape xs))) c.split_at.ensures.front
@@ -20,4 +20,4 @@ returns g c =
     c.first.ensures
     ∙ ap (λ t. first_of (trees (t ∷ borrowed_shape c.compound-2.result ∷ []))) date_time
     ∙ ap (λ t. first_of (trees (sequence (trees date_time_parts) ∷ t ∷ []))) ordinal in
-    Writes-tree c.write_place.result (borrowed_shape c.first.result) local c.args.target c.args.text.now _ _ whole c.write_place.ensures
+    Writes-tree c.write_place.result (borrowed_shape c.first.result) local c.args.target c.args.text.now _ _ whole c.write_place.ensures.bytes

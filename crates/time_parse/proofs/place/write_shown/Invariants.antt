@@ -1,7 +1,11 @@
-use Rattle.std.proofs.Common.{map, take}
+-- The bytes so far were shown, and no write failed.
+use Rattle.std.proofs.Common.{◌≡◌, map, take}
 use Rattle.std.specs.Io.KnownBytes.{Appends}
 use Rattle.time_parse.specs.Fault.{shown}
 use Rattle.time_parse.proofs.place.write_shown.Given as goal
 
 abbrev pub invariant-loop-byte : goal.invariant-loop-byte
-invariant-loop-byte g l = Appends (g.W.Write.contents l.initial.out) (g.W.Write.contents l.out) (map shown (take l.byte-index l.bytes))
+invariant-loop-byte g l =
+    Appends (g.W.Sink.contents l.initial.out) (g.W.Sink.contents l.out) (map shown (take l.byte-index l.bytes))
+    × (g.W.Sink.faults l.out ≡ g.W.Sink.faults l.initial.out)
+    × (g.W.Sink.through l.out ≡ g.W.Sink.through l.initial.out)

@@ -10,27 +10,17 @@ use Rattle.time_parse.specs.declared.request.Version.{Version}
 use Rattle.time_parse.proofs.serving.serve.Goals as goal
 
 -- what answers by a meaning answers by the format that means it
-served : (asked_places tells_places : Bool) → asked_places ≡ tells_places
-    → (version : Version) (format target : List ℕ) (m : Meaning) (t : Target) (left old new : Option (List ℕ))
+served : (tells_places : Bool) (version : Version) (format target : List ℕ) (m : Meaning) (t : Target) (left old new : Option (List ℕ))
     → Means version format m × (target_named target ≡ Some t)
     → IfSome left (λ bytes. output.WritesAnswers (IsAnswerAsked tells_places greatest_year m t) old new bytes)
-    → IfSome left (λ bytes. WritesAnswers greatest_year asked_places version format target old new bytes)
-served asked_places tells_places same version format target m t None old new asked h = tt
-served asked_places tells_places same version format target m t (Some bytes) old new asked h =
-    subst (λ (p : Bool). WritesAnswers greatest_year p version format target old new bytes) (sym same) (m, t, asked.0, asked.1, h)
+    → IfSome left (λ bytes. WritesAnswers greatest_year tells_places version format target old new bytes)
+served tells_places version format target m t None old new asked h = tt
+served tells_places version format target m t (Some bytes) old new asked h = (m, t, asked.0, asked.1, h)
 
-pub returns-in-Ok-serve-clause-ok : goal.returns-in-Ok-serve-clause-ok
-returns-in-Ok-serve-clause-ok g c =
+pub returns-in-Ok-serve_asked-clause-ok : goal.returns-in-Ok-serve_asked-clause-ok
+returns-in-Ok-serve_asked-clause-ok g c =
     let asked = rw (c.as_bytes-format.ensures.value, c.as_bytes.ensures.value) at c.in-Ok.ensures in
-    served c.args.question.tells_places true c.if-question.true c.args.question.version c.args.question.format.now
+    served c.args.question.tells_places c.args.question.version c.args.question.format.now
     c.args.question.target.now (meaning_of c.in-Ok.request.chosen) c.in-Ok.request.target
-    (g.R.Read.remaining c.args.input.now) (g.W.Write.contents c.args.out.now) (g.W.Write.contents c.serve.new.out)
-    asked c.in-Ok-serve.ensures.ok
-
-pub returns-in-Ok-serve-2-clause-ok : goal.returns-in-Ok-serve-2-clause-ok
-returns-in-Ok-serve-2-clause-ok g c =
-    let asked = rw (c.as_bytes-format.ensures.value, c.as_bytes.ensures.value) at c.in-Ok.ensures in
-    served c.args.question.tells_places false c.if-question.false c.args.question.version c.args.question.format.now
-    c.args.question.target.now (meaning_of c.in-Ok.request.chosen) c.in-Ok.request.target
-    (g.R.Read.remaining c.args.input.now) (g.W.Write.contents c.args.out.now) (g.W.Write.contents c.serve-2.new.out)
-    asked c.in-Ok-serve-2.ensures.ok
+    (g.R.Source.remaining c.args.input.now) (g.W.Sink.contents c.args.out.now.sink) (g.W.Sink.contents c.serve_asked.new.out.sink)
+    asked c.in-Ok-serve_asked.ensures.ok

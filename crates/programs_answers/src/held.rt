@@ -1,5 +1,5 @@
 //! Bytes in an array.
-ghost use Rattle.std.specs.Prelude.{◌≡◌, ◌+◌, ◌≤◌, ◌↔◌, [], ◌++◌, length, take, Some, IsTrue, false};
+ghost use Rattle.std.specs.Prelude.{◌≡◌, ◌+◌, ◌≤◌, ◌↔◌, [], ◌++◌, length, take, Some, IsTrue};
 ghost use Rattle.time_values.specs.Shown.{Items};
 
 use std::io;
@@ -48,21 +48,24 @@ impl<const N: usize> Held<N> {
         self.len = 0;
     }
 
-    /// Puts all of these behind them, or answers `false` where they don't fit.
+    /// Whether all of these fit behind them.
     #[inline(always)]
-    pub fn append(&mut self, bytes: &[u8]) -> bool
-        ensures fits { IsTrue result ↔ (length self.old.items + length bytes.now ≤ N) }
-        ensures all { IsTrue result → self.new.items ≡ self.old.items ++ bytes.now }
-        ensures none { result ≡ false → self.new ≡ self.old }
+    pub fn has_room(&self, bytes: &[u8]) -> bool
+        ensures { IsTrue result ↔ (length self.now.items + length bytes.now ≤ N) }
     {
-        if N - self.len < bytes.len() {
-            return false;
-        }
+        bytes.len() <= N - self.len
+    }
+
+    /// Puts all of these behind them.
+    #[inline(always)]
+    pub fn append(&mut self, bytes: &[u8])
+        requires { length self.old.items + length bytes.now ≤ N }
+        ensures { self.new.items ≡ self.old.items ++ bytes.now }
+    {
         let end = self.len + bytes.len();
         let array = &mut self.array[..];
         array[self.len..end].copy_from_slice(bytes);
         self.len = end;
-        true
     }
 }
 
@@ -70,9 +73,10 @@ impl<const N: usize> Write for Held<N> {
     ghost contents = { λ held. Some held.items };
 
     fn write(&mut self, buf: &[u8]) -> io::Result<usize> {
-        if !self.append(buf) {
+        if !self.has_room(buf) {
             return Err(io::Error::from(ErrorKind::WriteZero));
         }
+        self.append(buf);
         Ok(buf.len())
     }
 

@@ -90,6 +90,7 @@ fn answer_lines<A: Answering, W: Sink>(
 ///
 /// Each line ends with LF, which the last one may lack. After an `Err`, which only a write of the sink gives, nothing is
 /// known of how much was written.
+#[inline(always)]
 #[tactic(auto, using(crate::proofs::OutputLemmas::Writes_settled))]
 pub fn run<A: Answering, W: Sink>(
     answering: &A,
@@ -134,6 +135,7 @@ fn read_all<R: Source, G: Allocator>(alloc: G, input: &mut R) -> Result<Vec<u8, 
 ///
 /// A failed read is not tried again, not even an interrupted one. After [`Stop::Unread`] or
 /// [`Stop::Memory`] nothing was written.
+#[inline(always)]
 pub fn serve<A: Answering, R: Source, W: Sink, G: Allocator>(
     answering: &A,
     alloc: G,

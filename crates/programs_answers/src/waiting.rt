@@ -45,6 +45,7 @@ impl<W> Waiting<W> {
 
 impl<W: Sink> Waiting<W> {
     /// Writes what waits.
+    #[inline(never)]
     pub fn settle(&mut self) -> Result<(), Unwritten>
         ensures written { OnOk result (Keeps (append_known (W.contents self.old.sink) self.old.held.items) (W.contents self.new.sink)) }
         ensures none { OnOk result (self.new.held.items ≡ []) }
@@ -56,7 +57,7 @@ impl<W: Sink> Waiting<W> {
         Ok(())
     }
 
-    // Puts bytes behind what waits, which is written first.
+    // Writes what waits, and then bytes that don't fit behind it.
     #[cold]
     #[inline(never)]
     fn write_past(&mut self, bytes: &[u8]) -> Result<(), Unwritten>
@@ -66,9 +67,6 @@ impl<W: Sink> Waiting<W> {
         ensures through { W.through self.new.sink ≡ W.through self.old.sink }
     {
         self.settle()?;
-        if self.held.append(bytes) {
-            return Ok(());
-        }
         self.sink.write_all(bytes)
     }
 
@@ -93,13 +91,18 @@ impl<W: Sink> Sink for Waiting<W> {
 
     ghost through = { λ waiting. W.through waiting.sink };
 
+    // Where few bytes don't fit, what waits is written first, and then they do. So they are laid where they wait, and nowhere
+    // before.
     #[inline(always)]
     fn write_all(&mut self, bytes: &[u8]) -> Result<(), Unwritten> {
-        if self.held.append(bytes) {
-            Ok(())
-        } else {
-            self.write_past(bytes)
+        if !self.held.has_room(bytes) {
+            if MOST < bytes.len() {
+                return self.write_past(bytes);
+            }
+            self.settle()?;
         }
+        self.held.append(bytes);
+        Ok(())
     }
 
     fn write_fmt<D: Display>(&mut self, text: D) -> Result<(), Unwritten>

@@ -14,6 +14,7 @@ use std::io;
 use std::io::{Read, Write};
 
 // Writes the answer to each line of the input to a sink.
+#[inline(always)]
 fn run_to<W: Sink>(input: &[u8], out: &mut Waiting<W>) -> Result<(), Unwritten>
     ensures answers { OnOk result (WritesAnswers greatest_year (W.contents out.old.sink) (W.contents out.new.sink) input.now) }
     ensures cause { HasCause result (W.faults out.old.sink) (W.faults out.new.sink) }
@@ -67,6 +68,7 @@ pub(crate) fn serve_in<R: Read, W: Write, A: Allocator>(
 
 /// The same from a source to a sink. It stops before its end only after a read of that source or a write of that sink that
 /// gave an error, or where memory is short, or where 4294967296 reads didn't come to the end.
+#[inline(always)]
 pub(crate) fn serve_to<R: Source, W: Sink, A: Allocator>(
     alloc: A,
     input: &mut R,

@@ -37,7 +37,7 @@ fn serve_asked<R: Source, W: Sink>(
     out: &mut Waiting<W>,
 ) -> Result<(), Stop>
     ensures ok { OnOk result (IfSome (R.remaining input.old)
-        (λ bytes. output.WritesAnswers (IsAnswerAsked tells_places greatest_year (meaning_of request.entry.chosen) request.entry.target)
+        (λ bytes. output.WritesAnswers (IsAnswerAsked tells_places greatest_year (meaning_of request.chosen) request.target)
         (W.contents out.old.sink) (W.contents out.new.sink) bytes)) }
     ensures unread { result ≡ Err Stop.Unread → out.new ≡ out.old }
     ensures memory { result ≡ Err Stop.Memory → out.new ≡ out.old }

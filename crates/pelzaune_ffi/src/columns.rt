@@ -1,30 +1,30 @@
 //! Columns: the lines of a text, each as the nanoseconds of its moment.
 ghost use Rattle.std.specs.Prelude.{◌≡◌, ◌≤◌, length, Some};
 ghost use Rattle.programs_answers.specs.Lines.{lines_of};
-ghost use Rattle.time_descriptions.specs.Description.{shape};
+ghost use Rattle.time_components.specs.Steps.{steps_shape};
 ghost use Rattle.pelzaune_ffi.specs.Columns.{Counting, IsColumn, refusing, by_tree};
 ghost use Rattle.pelzaune_ffi.specs.Columns as spec;
 ghost use Rattle.pelzaune_ffi.specs.Described as Described;
 ghost use Rattle.pelzaune_ffi.specs.Described.{HandsRead};
 ghost use Rattle.pelzaune_ffi.specs.Formats as Formats;
 ghost use Rattle.pelzaune_ffi.specs.Handed.{HandsCount, IsCountHanded, of_moment};
-ghost use Rattle.pelzaune_ffi.specs.Held.{held_tree};
+ghost use Rattle.pelzaune_ffi.specs.Held.{HandsHeld};
 
 use crate::cuts::{count_lines, first_line};
 use crate::descriptions::{MOST_STEPS, Syntax, fault_status, read_description, syntax_of};
 use crate::handing::count;
-use crate::held::HeldDescription;
+use crate::held::{HeldDescription, prepare};
 use crate::moments::count_by;
 use crate::parts::Nanoseconds;
 use crate::status::UNKNOWN_SYNTAX;
-use time_descriptions::Description;
+use time_preparing::Prepared;
 
-/// What hands over the nanoseconds of a line.
-pub trait Count {
+// What hands over the nanoseconds of a line.
+trait Count {
     // The status, and the entry before and after it.
     ghost hands: { Self → Counting };
 
-    /// Hands them over.
+    // Hands them over.
     fn count_line(&self, line: &[u8], entry: &mut Nanoseconds) -> u32
         ensures { hands self.now line.now result entry.old entry.new };
 }
@@ -42,19 +42,9 @@ impl Count for ByNumber {
     }
 }
 
-// By a description.
-impl Count for Description<MOST_STEPS> {
-    ghost hands = { λ s. by_tree (shape s) };
-
-    #[inline(always)]
-    fn count_line(&self, line: &[u8], entry: &mut Nanoseconds) -> u32 {
-        count(self, line, entry)
-    }
-}
-
-// By a description that is held.
-impl Count for HeldDescription {
-    ghost hands = { λ s. by_tree (held_tree s) };
+// By a description that is prepared.
+impl Count for Prepared<MOST_STEPS> {
+    ghost hands = { λ s. by_tree (steps_shape s) };
 
     #[inline(always)]
     fn count_line(&self, line: &[u8], entry: &mut Nanoseconds) -> u32 {
@@ -84,9 +74,9 @@ fn one_if_refused(status: u32) -> usize
     usize::from(status != 0)
 }
 
-/// Hands over the lines of a text, as many as there are entries, and answers how many the text has.
+// Hands over the lines of a text, as many as there are entries, and answers how many the text has.
 #[inline(always)]
-pub fn column<C: Count>(
+fn column<C: Count>(
     counting: &C,
     text: &[u8],
     entries: &mut [Nanoseconds],
@@ -142,7 +132,7 @@ fn described_column(
         entries.old entries.new refused.new }
 {
     match read_description(syntax, description) {
-        Ok(found) => column(&found, text, entries, refused),
+        Ok(found) => column(&Prepared::new(&found), text, entries, refused),
         Err(error) => column(&Refusing(fault_status(error)), text, entries, refused),
     }
 }
@@ -165,4 +155,19 @@ pub fn column_read(
         Some(syntax) => described_column(syntax, description, text, entries, refused),
         None => column(&Refusing(UNKNOWN_SYNTAX), text, entries, refused),
     }
+}
+
+/// The same by a description that is held, which is prepared once.
+#[inline(always)]
+pub fn column_held(
+    description: &HeldDescription,
+    text: &[u8],
+    entries: &mut [Nanoseconds],
+    refused: &mut usize,
+) -> usize
+    ensures lines { result ≡ length (lines_of text.now) }
+    ensures entries { IsColumn (HandsHeld IsCountHanded of_moment description.now) (lines_of text.now)
+        entries.old entries.new refused.new }
+{
+    column(&prepare(description), text, entries, refused)
 }

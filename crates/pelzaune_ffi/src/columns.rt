@@ -1,8 +1,8 @@
 //! Columns: the lines of a text, each as the nanoseconds of its moment.
-ghost use Rattle.std.specs.Prelude.{◌≡◌, ◌≤◌, length, Some};
+ghost use Rattle.std.specs.Prelude.{◌≡◌, ◌<◌, ◌≤◌, length, Some};
 ghost use Rattle.programs_answers.specs.Lines.{lines_of};
 ghost use Rattle.time_components.specs.Steps.{steps_shape};
-ghost use Rattle.pelzaune_ffi.specs.Columns.{Counting, IsColumn, refusing, by_tree};
+ghost use Rattle.pelzaune_ffi.specs.Columns.{Counting, CountsFirst, IsColumn, refusing, by_tree};
 ghost use Rattle.pelzaune_ffi.specs.Columns as spec;
 ghost use Rattle.pelzaune_ffi.specs.Described as Described;
 ghost use Rattle.pelzaune_ffi.specs.Described.{HandsRead};
@@ -14,7 +14,7 @@ use crate::cuts::{count_lines, first_line};
 use crate::descriptions::{MOST_STEPS, Syntax, fault_status, read_description, syntax_of};
 use crate::handing::count;
 use crate::held::{HeldDescription, prepare};
-use crate::moments::count_by;
+use crate::moments::{count_by, count_first_by};
 use crate::parts::Nanoseconds;
 use crate::status::UNKNOWN_SYNTAX;
 use time_preparing::Prepared;
@@ -27,6 +27,16 @@ trait Count {
     // Hands them over.
     fn count_line(&self, line: &[u8], entry: &mut Nanoseconds) -> u32
         ensures { hands self.now line.now result entry.old entry.new };
+
+    // Hands those of the first line of a text over, and answers what comes after the line, too.
+    #[inline(always)]
+    fn count_first<'a>(&self, text: &'a [u8], entry: &mut Nanoseconds) -> (u32, &'a [u8])
+        requires { 0 < length text.now }
+        ensures { CountsFirst (hands self.now) text.now result.0 result.1.now entry.old entry.new }
+    {
+        let (line, after) = first_line(text);
+        (self.count_line(line, entry), after)
+    }
 }
 
 // By the format of that number.
@@ -39,6 +49,11 @@ impl Count for ByNumber {
     #[inline(always)]
     fn count_line(&self, line: &[u8], entry: &mut Nanoseconds) -> u32 {
         count_by(self.0, line, entry)
+    }
+
+    #[inline(always)]
+    fn count_first<'a>(&self, text: &'a [u8], entry: &mut Nanoseconds) -> (u32, &'a [u8]) {
+        count_first_by(self.0, text, entry)
     }
 }
 
@@ -89,9 +104,9 @@ fn column<C: Count>(
     let mut index = 0;
     let mut without = 0;
     while index < entries.len() && !rest.is_empty() {
-        let (line, after) = first_line(rest);
         let mut entry = Nanoseconds { count: i64::MIN };
-        without += one_if_refused(counting.count_line(line, &mut entry));
+        let (status, after) = counting.count_first(rest, &mut entry);
+        without += one_if_refused(status);
         entries[index] = entry;
         index += 1;
         rest = after;

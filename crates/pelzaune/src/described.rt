@@ -8,7 +8,7 @@ ghost use Rattle.pelzaune_ffi.specs.Handed.{IsHanded, IsCountHanded, ArePartsHan
 ghost use Rattle.pelzaune_ffi.specs.Described as Described;
 ghost use Rattle.pelzaune_ffi.specs.Held.{HandsHeld, Holds};
 
-use pelzaune_ffi::columns::column;
+use pelzaune_ffi::columns::column_held;
 use pelzaune_ffi::handing::{count, hand, parts};
 use pelzaune_ffi::held::{HeldDescription, describe};
 use pelzaune_ffi::parts::{
@@ -150,5 +150,5 @@ pub extern "C" fn pelzaune_described_column(
     ensures entries { IsColumn (HandsHeld IsCountHanded of_moment description.now) (lines_of text.now)
         entries.old entries.new refused.new }
 {
-    column(description, text, entries, refused)
+    column_held(description, text, entries, refused)
 }

@@ -1,5 +1,6 @@
 -- Columns: the lines of a text, each as the nanoseconds of its moment.
-use Rattle.std.specs.Prelude.{◌≡◌, ℕ, ◌+◌, nat_eq, List, [], ◌∷◌, Ok, pos, neg_ℤ, if◌then◌else◌}
+use Rattle.std.specs.Prelude.{◌≡◌, ◌⊎◌, ℕ, ◌+◌, ◌<◌, nat_eq, List, [], ◌∷◌, length, Ok, pos, neg_ℤ, if◌then◌else◌}
+use Rattle.programs_answers.specs.Lines.{lines_of}
 use Rattle.time_components.specs.Tree.{Tree}
 use Rattle.pelzaune_ffi.specs.Described.{HandsByTree}
 use Rattle.pelzaune_ffi.specs.Handed.{IsCountHanded, of_moment}
@@ -34,3 +35,16 @@ IsColumn hands (line ∷ lines) (entry ∷ old) new refused =
     (status : ℕ) × (first : Nanoseconds) × hands line status no_count first
     × (others : List Nanoseconds) × (later : ℕ) × IsColumn hands lines old others later
     × (new ≡ first ∷ others) × (refused ≡ one_if_refused status + later)
+
+-- the line is the first of a text, and what comes after it has the others
+pub record IsFirstLine (line text after : List ℕ) : Type 0 where
+  pub lines : lines_of text ≡ line ∷ lines_of after
+  pub shorter : length after < length text
+
+-- a line ends here: with LF, or with the text
+abbrev pub EndsLine : List ℕ → List ℕ → Type 0
+EndsLine rest after = (rest ≡ 10 ∷ after) ⊎ ((rest ≡ []) × (after ≡ []))
+
+-- the first line of a text is handed over
+abbrev pub CountsFirst : Counting → List ℕ → ℕ → List ℕ → Nanoseconds → Nanoseconds → Type 0
+CountsFirst hands text status after old new = (line : List ℕ) × IsFirstLine line text after × hands line status old new

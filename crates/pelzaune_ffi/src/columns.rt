@@ -1,32 +1,42 @@
 //! Columns: the lines of a text, each as the nanoseconds of its moment.
-ghost use Rattle.std.specs.Prelude.{◌≡◌, ◌≤◌, length, Some};
+ghost use Rattle.std.specs.Prelude.{◌≡◌, ◌<◌, ◌≤◌, length, Some};
 ghost use Rattle.programs_answers.specs.Lines.{lines_of};
-ghost use Rattle.time_descriptions.specs.Description.{shape};
-ghost use Rattle.pelzaune_ffi.specs.Columns.{Counting, IsColumn, refusing, by_tree};
+ghost use Rattle.time_components.specs.Steps.{steps_shape};
+ghost use Rattle.pelzaune_ffi.specs.Columns.{Counting, CountsFirst, IsColumn, refusing, by_tree};
 ghost use Rattle.pelzaune_ffi.specs.Columns as spec;
 ghost use Rattle.pelzaune_ffi.specs.Described as Described;
 ghost use Rattle.pelzaune_ffi.specs.Described.{HandsRead};
 ghost use Rattle.pelzaune_ffi.specs.Formats as Formats;
 ghost use Rattle.pelzaune_ffi.specs.Handed.{HandsCount, IsCountHanded, of_moment};
-ghost use Rattle.pelzaune_ffi.specs.Held.{held_tree};
+ghost use Rattle.pelzaune_ffi.specs.Held.{HandsHeld};
 
 use crate::cuts::{count_lines, first_line};
 use crate::descriptions::{MOST_STEPS, Syntax, fault_status, read_description, syntax_of};
 use crate::handing::count;
-use crate::held::HeldDescription;
-use crate::moments::count_by;
+use crate::held::{HeldDescription, prepare};
+use crate::moments::{count_by, count_first_by};
 use crate::parts::Nanoseconds;
 use crate::status::UNKNOWN_SYNTAX;
-use time_descriptions::Description;
+use time_preparing::Prepared;
 
-/// What hands over the nanoseconds of a line.
-pub trait Count {
+// What hands over the nanoseconds of a line.
+trait Count {
     // The status, and the entry before and after it.
     ghost hands: { Self → Counting };
 
-    /// Hands them over.
+    // Hands them over.
     fn count_line(&self, line: &[u8], entry: &mut Nanoseconds) -> u32
         ensures { hands self.now line.now result entry.old entry.new };
+
+    // Hands those of the first line of a text over, and answers what comes after the line, too.
+    #[inline(always)]
+    fn count_first<'a>(&self, text: &'a [u8], entry: &mut Nanoseconds) -> (u32, &'a [u8])
+        requires { 0 < length text.now }
+        ensures { CountsFirst (hands self.now) text.now result.0 result.1.now entry.old entry.new }
+    {
+        let (line, after) = first_line(text);
+        (self.count_line(line, entry), after)
+    }
 }
 
 // By the format of that number.
@@ -40,21 +50,16 @@ impl Count for ByNumber {
     fn count_line(&self, line: &[u8], entry: &mut Nanoseconds) -> u32 {
         count_by(self.0, line, entry)
     }
-}
-
-// By a description.
-impl Count for Description<MOST_STEPS> {
-    ghost hands = { λ s. by_tree (shape s) };
 
     #[inline(always)]
-    fn count_line(&self, line: &[u8], entry: &mut Nanoseconds) -> u32 {
-        count(self, line, entry)
+    fn count_first<'a>(&self, text: &'a [u8], entry: &mut Nanoseconds) -> (u32, &'a [u8]) {
+        count_first_by(self.0, text, entry)
     }
 }
 
-// By a description that is held.
-impl Count for HeldDescription {
-    ghost hands = { λ s. by_tree (held_tree s) };
+// By a description that is prepared.
+impl Count for Prepared<MOST_STEPS> {
+    ghost hands = { λ s. by_tree (steps_shape s) };
 
     #[inline(always)]
     fn count_line(&self, line: &[u8], entry: &mut Nanoseconds) -> u32 {
@@ -84,9 +89,9 @@ fn one_if_refused(status: u32) -> usize
     usize::from(status != 0)
 }
 
-/// Hands over the lines of a text, as many as there are entries, and answers how many the text has.
+// Hands over the lines of a text, as many as there are entries, and answers how many the text has.
 #[inline(always)]
-pub fn column<C: Count>(
+fn column<C: Count>(
     counting: &C,
     text: &[u8],
     entries: &mut [Nanoseconds],
@@ -99,9 +104,9 @@ pub fn column<C: Count>(
     let mut index = 0;
     let mut without = 0;
     while index < entries.len() && !rest.is_empty() {
-        let (line, after) = first_line(rest);
         let mut entry = Nanoseconds { count: i64::MIN };
-        without += one_if_refused(counting.count_line(line, &mut entry));
+        let (status, after) = counting.count_first(rest, &mut entry);
+        without += one_if_refused(status);
         entries[index] = entry;
         index += 1;
         rest = after;
@@ -142,7 +147,7 @@ fn described_column(
         entries.old entries.new refused.new }
 {
     match read_description(syntax, description) {
-        Ok(found) => column(&found, text, entries, refused),
+        Ok(found) => column(&Prepared::new(&found), text, entries, refused),
         Err(error) => column(&Refusing(fault_status(error)), text, entries, refused),
     }
 }
@@ -165,4 +170,19 @@ pub fn column_read(
         Some(syntax) => described_column(syntax, description, text, entries, refused),
         None => column(&Refusing(UNKNOWN_SYNTAX), text, entries, refused),
     }
+}
+
+/// The same by a description that is held, which is prepared once.
+#[inline(always)]
+pub fn column_held(
+    description: &HeldDescription,
+    text: &[u8],
+    entries: &mut [Nanoseconds],
+    refused: &mut usize,
+) -> usize
+    ensures lines { result ≡ length (lines_of text.now) }
+    ensures entries { IsColumn (HandsHeld IsCountHanded of_moment description.now) (lines_of text.now)
+        entries.old entries.new refused.new }
+{
+    column(&prepare(description), text, entries, refused)
 }

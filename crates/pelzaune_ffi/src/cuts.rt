@@ -1,17 +1,32 @@
 //! Cuts a text into lines.
-ghost use Rattle.std.specs.Prelude.{◌≡◌, ◌∷◌, ◌<◌, ◌≤◌, length};
+mod fast;
+
+ghost use Rattle.std.specs.Prelude.{◌≡◌, ◌∷◌, ◌+◌, ◌<◌, ◌≤◌, [], length, take, drop, MatchOption};
 ghost use Rattle.programs_answers.specs.Lines.{lines_of};
+ghost use Rattle.pelzaune_ffi.specs.Columns.{IsFirstLine};
 
 use memchr::memchr;
+
+// Where the first line of a text ends with LF. `None`: the line is all of the text.
+#[inline(always)]
+fn line_end(text: &[u8]) -> Option<usize>
+    requires { 0 < length text.now }
+    ensures { MatchOption result (lines_of text.now ≡ text.now ∷ [])
+        (λ i. (i < length text.now) × (lines_of text.now ≡ take i text.now ∷ lines_of (drop (i + 1) text.now))) }
+{
+    match fast::line_end(text) {
+        Some(end) => Some(end),
+        None => memchr(b'\n', text),
+    }
+}
 
 /// The first line of a text that isn't empty, and what comes after its LF.
 #[inline]
 pub fn first_line(bytes: &[u8]) -> (&[u8], &[u8])
     requires { 0 < length bytes.now }
-    ensures line { lines_of bytes.now ≡ result.0.now ∷ lines_of result.1.now }
-    ensures shorter { length result.1.now < length bytes.now }
+    ensures { IsFirstLine result.0.now bytes.now result.1.now }
 {
-    match memchr(b'\n', bytes) {
+    match line_end(bytes) {
         Some(i) => (&bytes[..i], &bytes[i + 1..]),
         None => (bytes, &bytes[bytes.len()..]),
     }

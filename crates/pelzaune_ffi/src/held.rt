@@ -20,6 +20,7 @@ use arrayvec::ArrayVec;
 use std::convert::TryFrom;
 use time_components::Step;
 use time_parsing::Parsable;
+use time_preparing::Prepared;
 use time_record::Parsed;
 use time_values::OffsetDateTime;
 use time_values::error::{Parse, ParseFromDescription};
@@ -91,6 +92,16 @@ fn held_steps(held: &HeldDescription) -> &[HeldStep]
     ensures fits { length result.now ≤ MOST_STEPS }
 {
     &held.steps[..held.count.min(MOST_STEPS)]
+}
+
+/// The description, prepared for many texts.
+pub fn prepare(held: &HeldDescription) -> Prepared<MOST_STEPS>
+    ensures { result ≡ Held.steps_of held.now }
+{
+    match Prepared::from_steps(steps_of(held_steps(held)).as_slice()) {
+        Some(prepared) => prepared,
+        None => unreachable!(),
+    }
 }
 
 // Reads what is left by the walk over the steps of a description. The room for them is taken here alone.

@@ -4,13 +4,15 @@
 //! function of its own, so that it leaves the short cut its registers.
 mod fast;
 
-ghost use Rattle.std.specs.Prelude.{Some};
+ghost use Rattle.std.specs.Prelude.{◌<◌, Some, length};
 ghost use Rattle.time_values.specs.Range.{greatest_year};
 ghost use Rattle.time_record.specs.Resolution.{IsPlain};
+ghost use Rattle.pelzaune_ffi.specs.Columns.{CountsFirst};
 ghost use Rattle.pelzaune_ffi.specs.Formats as Formats;
 ghost use Rattle.pelzaune_ffi.specs.Handed.{Hands, HandsCount, HasPlain, IsCountHanded, IsHanded, IsHandedOver, of_moment, over_empty};
 ghost use Rattle.pelzaune_ffi.specs.declared.formats.Format.TheVariants.{Iso8601 as iso8601, Rfc2822 as rfc2822, Rfc3339 as rfc3339};
 
+use crate::cuts::first_line;
 use crate::formats::{Format, format_of};
 use crate::handing::{count, hand, hand_count};
 use crate::parts::{LocalParts, Nanoseconds};
@@ -144,6 +146,44 @@ pub fn count_by(format: u32, text: &[u8], out: &mut Nanoseconds) -> u32
         Some(Format::Rfc2822) => count_2822(text, out),
         Some(Format::Iso8601) => count_8601(text, out),
         None => UNKNOWN_FORMAT,
+    }
+}
+
+// Hands over the nanoseconds of the moment of RFC 3339 that a text's first line is, which is cut off first.
+#[inline(never)]
+fn count_cut_3339<'a>(text: &'a [u8], out: &mut Nanoseconds) -> (u32, &'a [u8])
+    requires { 0 < length text.now }
+    ensures { CountsFirst (HandsCount (Some rfc3339)) text.now result.0 result.1.now out.old out.new }
+{
+    let (line, after) = first_line(text);
+    (parsed_count(&Rfc3339, line, out), after)
+}
+
+// The same, from the front of the text where it is read there.
+#[inline(always)]
+fn count_first_3339<'a>(text: &'a [u8], out: &mut Nanoseconds) -> (u32, &'a [u8])
+    requires { 0 < length text.now }
+    ensures { CountsFirst (HandsCount (Some rfc3339)) text.now result.0 result.1.now out.old out.new }
+{
+    match fast::line(text) {
+        Some((value, after)) => (hand_count(value, out), after),
+        None => count_cut_3339(text, out),
+    }
+}
+
+/// Hands over the nanoseconds of the moment of a text's first line by the format of that number, and answers what comes
+/// after the line, too.
+#[inline(always)]
+pub fn count_first_by<'a>(format: u32, text: &'a [u8], out: &mut Nanoseconds) -> (u32, &'a [u8])
+    requires { 0 < length text.now }
+    ensures { CountsFirst (HandsCount (Formats.format_of format)) text.now result.0 result.1.now out.old out.new }
+{
+    match format_of(format) {
+        Some(Format::Rfc3339) => count_first_3339(text, out),
+        _ => {
+            let (line, after) = first_line(text);
+            (count_by(format, line, out), after)
+        }
     }
 }
 

@@ -228,7 +228,8 @@ pub fn nanoseconds_of(value: OffsetDateTime) -> Option<Nanoseconds>
     ensures { MatchOption result (¬ (Handed.IsCounted (offset_instant greatest_year value)))
         (λ n. Handed.HasCount value n) }
 {
-    let nanos = value.unix_timestamp_nanos();
+    let instant = Instant::from(value);
+    let nanos = instant.seconds as i128 * 1_000_000_000 + instant.nanoseconds as i128;
     if nanos < i64::MIN as i128 {
         return None;
     }

@@ -46,32 +46,60 @@ static void test_described_columns(void)
     EXPECT(pelzaune_read_column(PELZAUNE_STRFTIME, NULL, 0, TEXT("\nx"), entries, 3, &refused) == 2 && refused == 2);
 }
 
-/* A column of many lines is each of them parsed alone. */
+/* Whether a column is each of its lines parsed alone. */
+static int is_each_alone(const char *text, size_t length)
+{
+    static int64_t entries[PAGE];
+    size_t refused, without = 0, line = 0, start = 0;
+    int right = 1;
+    size_t count = pelzaune_column(PELZAUNE_RFC3339, at_end(text, length), length, entries, PAGE, &refused);
+    for (size_t k = 0; k <= length; k++) {
+        if (k < length && text[k] != '\n') continue;
+        int64_t alone = PELZAUNE_NO_COUNT;
+        if (k == length && k == start) break;
+        without += pelzaune_parse_nanoseconds(PELZAUNE_RFC3339, (const uint8_t *)text + start, k - start, &alone) != PELZAUNE_OK;
+        right &= line < count && entries[line++] == alone;
+        start = k + 1;
+    }
+    return right && line == count && without == refused;
+}
+
 static void test_each_line(void)
 {
     static char text[PAGE];
-    static int64_t entries[PAGE];
     uint64_t seed = 2822;
     int right = 1;
     for (int round = 0; round < 300; round++) {
-        size_t length = 0, refused, without = 0, line = 0, start = 0;
+        size_t length = 0;
         while (length < sizeof text - 40) {
             seed = seed * UINT64_C(6364136223846793005) + 1442695040888963407;
             length += (size_t)sprintf(text + length, "20%02d-0%d-%02dT03:04:0%dZ%s", (int)(seed >> 33) % 100, 1 + (int)(seed >> 40) % 9,
                 (int)(seed >> 45) % 40, (int)(seed >> 50) % 10, (seed >> 60) ? "\n" : "");
         }
-        size_t count = pelzaune_column(PELZAUNE_RFC3339, at_end(text, length), length, entries, PAGE, &refused);
-        for (size_t k = 0; k <= length; k++) {
-            if (k < length && text[k] != '\n') continue;
-            int64_t alone = PELZAUNE_NO_COUNT;
-            if (k == length && k == start) break;
-            without += pelzaune_parse_nanoseconds(PELZAUNE_RFC3339, (const uint8_t *)text + start, k - start, &alone) != PELZAUNE_OK;
-            right &= line < count && entries[line++] == alone;
-            start = k + 1;
-        }
-        right &= line == count && without == refused;
+        right &= is_each_alone(text, length);
     }
     EXPECT(right);
+}
+
+/* Lines with each of their bytes changed to each other one, and each of their beginnings. */
+static void test_changed_lines(void)
+{
+    static const char *const texts[] = { "2021-01-02T03:04:05Z", "2021-01-02T03:04:05Z\n1970-01-01T00:00:01Z\n",
+        "2021-01-02T03:04:05.123456789+05:30\n2021-01-02T03:04:05-00:30\n", "2021-01-02T03:04:05.5Z\n\n1970-01-01T00:00:01.25+00:00" };
+    for (size_t k = 0; k < sizeof texts / sizeof *texts; k++) {
+        size_t length = strlen(texts[k]);
+        int right = 1;
+        for (size_t at = 0; at < length; at++) {
+            right &= is_each_alone(texts[k], at);
+            for (int byte = 0; byte < 256; byte++) {
+                char changed[80];
+                memcpy(changed, texts[k], length);
+                changed[at] = (char)byte;
+                right &= is_each_alone(changed, length);
+            }
+        }
+        expect(right, texts[k], __LINE__);
+    }
 }
 
 /* The text of a moment, written at the end of the page. */
@@ -167,6 +195,7 @@ int main(void)
     test_columns();
     test_described_columns();
     test_each_line();
+    test_changed_lines();
     test_texts_of_moments();
     test_read_back();
     printf("%d passed, %d failed\n", passed, failed);

@@ -111,6 +111,62 @@ static void test_same_as_by_text(void)
     }
 }
 
+/* Descriptions whose texts have one form, and others that are near to one. */
+static const pair forms[] = {
+    { PELZAUNE_STRFTIME, "%Y-%m-%d", "2021-03-04" },
+    { PELZAUNE_BRACKETS_2, "[year range:standard]/[month]/[day]", "2021/03/04" },
+    { PELZAUNE_STRFTIME, "%d/%b/%Y", "04/Mar/2021" },
+    { PELZAUNE_STRFTIME, "%H:%M:%S", "05:06:07" },
+    { PELZAUNE_STRFTIME, "%Y-%m-%d %H:%M:%S", "2021-03-04 05:06:07" },
+    { PELZAUNE_STRFTIME, "%d/%b/%Y:%H:%M:%S %z", "04/Mar/2021:05:06:07 -0530" },
+    { PELZAUNE_STRFTIME, "%Y-%m-%dT%H:%M:%S%z", "2021-03-04T05:06:07+0530" },
+    { PELZAUNE_BRACKETS_2, "[year]-[month]-[day]T[hour].[minute].[second] [offset_hour sign:mandatory]:[offset_minute]", "2021-03-04T05.06.07 +05:30" },
+    { PELZAUNE_STRFTIME, "%Y-%m/%d", "2021-03/04" },
+    { PELZAUNE_BRACKETS_2, "[year]-[month padding:none]-[day]", "2021-03-04" },
+    { PELZAUNE_BRACKETS_2, "[year]-[month]-[day padding:space]", "2021-03-04" },
+    { PELZAUNE_BRACKETS_2, "[year sign:mandatory]-[month]-[day]", "+2021-03-04" },
+    { PELZAUNE_BRACKETS_2, "[day]/[month repr:short case_sensitive:false]/[year]", "04/Mar/2021" },
+    { PELZAUNE_BRACKETS_2, "[hour repr:12]:[minute]:[second]", "05:06:07" },
+    { PELZAUNE_STRFTIME, "%H:%M:%S.", "05:06:07." },
+    { PELZAUNE_BRACKETS_2, "[year]-[month]-[day] [hour]:[minute]:[second] [offset_hour]:[offset_minute]", "2021-03-04 05:06:07 +05:30" },
+};
+enum { FORMS = sizeof forms / sizeof *forms };
+
+/* Lines that a text is between are handed over as each alone, by the description that was read and by its text. */
+static int is_column(const pair *it, const pelzaune_description *d, const char *text)
+{
+    char lines[3 * 64];
+    int64_t alone = PELZAUNE_NO_COUNT, read[3] = { 7, 7, 7 }, entries[3] = { 7, 7, 7 };
+    size_t size = strlen(it->description), length = (size_t)sprintf(lines, "\n%s\n", text), refused, other;
+    int wrong = pelzaune_read_nanoseconds(it->syntax, described(it->description, size), size, at_end(text, strlen(text)), strlen(text), &alone) != PELZAUNE_OK;
+    int right = pelzaune_described_column(d, at_end(lines, length), length, entries, 3, &refused) == 2;
+    right &= pelzaune_read_column(it->syntax, described(it->description, size), size, at_front(lines, length), length, read, 3, &other) == 2;
+    return right && refused == (size_t)wrong + 1 && other == refused && entries[0] == PELZAUNE_NO_COUNT && entries[1] == alone
+        && entries[2] == 7 && memcmp(entries, read, sizeof read) == 0;
+}
+
+/* The text of a form, and with each of its bytes changed to each other one, and one byte more. */
+static void test_forms(void)
+{
+    static const int calls[] = { 0, 1, 3, 4 };
+    for (const pair *it = forms; it < forms + FORMS; it++) {
+        pelzaune_description d;
+        int right = describe(it->syntax, it->description, &d) && is_column(it, &d, it->text);
+        size_t length = strlen(it->text);
+        for (size_t at = 0; at <= length; at++)
+            for (int byte = 0; byte < 256; byte++) {
+                char changed[64];
+                strcpy(changed, it->text);
+                changed[at] = (char)byte;
+                size_t size = at < length ? length : length + 1;
+                for (size_t k = 0; k < sizeof calls / sizeof *calls; k++) right &= alike(calls[k], it, &d, changed, size);
+                changed[size] = 0;
+                if (byte && byte != '\n') right &= is_column(it, &d, changed);
+            }
+        expect(right, it->description, __LINE__);
+    }
+}
+
 /* Each text has a part of its description. */
 static void test_read(void)
 {
@@ -205,6 +261,7 @@ int main(void)
     if (!has_pages()) return 2;
     EXPECT(sizeof(pelzaune_description) == 1032);
     test_same_as_by_text();
+    test_forms();
     test_read();
     test_values();
     test_faults();

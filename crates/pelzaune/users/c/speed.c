@@ -1,12 +1,15 @@
 /* Parses a text many times, to count instructions.
  *
  *     speed moment|instant|nanoseconds|local FORMAT TIMES TEXT
- *     speed read|described|date|time|strptime|fields DESCRIPTION TIMES TEXT
+ *     speed read|described|clock|date|time|strptime|fields DESCRIPTION TIMES TEXT
+ *     speed column FORMAT TIMES TEXT
+ *     speed described_column DESCRIPTION TIMES TEXT
  *
  * FORMAT is the number of a format, DESCRIPTION a description of strftime. `read` is an instant by the text of the
- * description, which each call reads anew; `described`, `date` and `time` are an instant, a date and a time by one that was
- * read before. `strptime` is the seconds by strptime and timegm, `fields` strptime alone. The text and a copy of it are parsed
- * in turn, and a sum is printed to which each answer adds: so no part of a parse is done once for all. */
+ * description, which each call reads anew; `described`, `clock`, `date` and `time` are an instant, a date and time, a date
+ * and a time by one that was read before. `strptime` is the seconds by strptime and timegm, `fields` strptime alone. The text
+ * and a copy of it are parsed in turn, and a sum is printed to which each answer adds: so no part of a parse is done once for
+ * all. A column has a thousand lines of the text, and so many thousandths of TIMES are parsed. */
 #define _GNU_SOURCE
 #include "pelzaune.h"
 #include <stdio.h>
@@ -36,8 +39,9 @@ static int64_t seconds_of(struct tm tm)
     return (int64_t)timegm(&tm) - offset;
 }
 
-static const char *const calls[] = { "moment", "instant", "nanoseconds", "local", "read", "described", "date", "time", "strptime", "fields" };
-enum { MOMENT, INSTANT, NANOSECONDS, LOCAL, READ, DESCRIBED, DATE, TIME, STRPTIME, FIELDS, CALLS };
+static const char *const calls[] = { "moment", "instant", "nanoseconds", "local", "column", "read", "described", "clock", "date", "time",
+    "described_column", "strptime", "fields" };
+enum { MOMENT, INSTANT, NANOSECONDS, LOCAL, COLUMN, READ, DESCRIBED, CLOCK, DATE, TIME, DESCRIBED_COLUMN, STRPTIME, FIELDS, CALLS };
 
 /* A number of what a call answers. */
 static int64_t answer(int call, const how *it, const char *text, size_t length)
@@ -58,11 +62,31 @@ static int64_t answer(int call, const how *it, const char *text, size_t length)
     case READ: return pelzaune_read_instant(PELZAUNE_STRFTIME, (const uint8_t *)it->text, strlen(it->text), bytes, length, &instant)
         ? -1 : instant.seconds;
     case DESCRIBED: return pelzaune_described_instant(&it->held, bytes, length, &instant) ? -1 : instant.seconds;
+    case CLOCK: return pelzaune_described_local(&it->held, bytes, length, &local) ? -1 : local.second + local.day;
     case DATE: return pelzaune_described_date(&it->held, bytes, length, &date) ? -1 : date.day;
     case TIME: return pelzaune_described_time(&it->held, bytes, length, &time) ? -1 : time.minute;
     case STRPTIME: return by_strptime(text, it->text, &tm) ? seconds_of(tm) : -1;
     default: return by_strptime(text, it->text, &tm) ? tm.tm_mday + tm.tm_min : -1;
     }
+}
+
+enum { LINES = 1000 };
+
+/* A sum of what so many columns of that line answer. */
+static uint64_t sum_of_columns(int call, const how *it, const char *line, long times)
+{
+    static int64_t entries[LINES];
+    size_t length = strlen(line) + 1, refused;
+    uint8_t *text = malloc(LINES * length);
+    uint64_t sum = 0;
+    for (size_t k = 0; text && k < LINES * length; k++) text[k] = (uint8_t)(k % length == length - 1 ? '\n' : line[k % length]);
+    for (long k = 0; text && k < times; k++) {
+        sum += call == COLUMN ? pelzaune_column(it->format, text, LINES * length, entries, LINES, &refused)
+            : pelzaune_described_column(&it->held, text, LINES * length, entries, LINES, &refused);
+        sum += (uint64_t)entries[k % LINES] + refused;
+    }
+    free(text);
+    return sum;
 }
 
 int main(int argc, char **argv)
@@ -72,12 +96,13 @@ int main(int argc, char **argv)
     while (call < CALLS && strcmp(argv[1], calls[call])) call++;
     how it = { (uint32_t)strtoul(argv[2], NULL, 10), argv[2], { { 0 } } };
     size_t index, length = strlen(argv[4]);
-    if (call == CALLS || (call >= DESCRIBED && call <= TIME
+    if (call == CALLS || (call >= DESCRIBED && call <= DESCRIBED_COLUMN
         && pelzaune_describe(PELZAUNE_STRFTIME, (const uint8_t *)argv[2], strlen(argv[2]), &it.held, &index))) return 2;
     long times = strtol(argv[3], NULL, 10);
     char *texts[2] = { argv[4], strdup(argv[4]) };
     uint64_t sum = 0;
-    for (long k = 0; k < times; k++) sum += (uint64_t)answer(call, &it, texts[k % 2], length);
+    if (call == COLUMN || call == DESCRIBED_COLUMN) sum = sum_of_columns(call, &it, argv[4], times / LINES);
+    else for (long k = 0; k < times; k++) sum += (uint64_t)answer(call, &it, texts[k % 2], length);
     printf("%llu\n", (unsigned long long)sum);
     free(texts[1]);
     return 0;

@@ -22,10 +22,19 @@ row local 3 20210102T030405
 row local 3 2021-01-02T03:04:05
 row moment 3 2021-01-02T03:04:05Z
 row moment 1 2021-13-02T03:04:05Z
+row column 1 2021-01-02T03:04:05Z
+row column 1 2021-01-02T03:04:05.123456789+05:30
+row column 2 'Sat, 02 Jan 2021 03:04:05 +0607'
+row column 3 20210102T030405Z
 row date %Y-%m-%d 2021-03-04
 row fields %Y-%m-%d 2021-03-04
 row time %H:%M 23:59
 row fields %H:%M 23:59
+row time %H:%M:%S 23:59:59
+row fields %H:%M:%S 23:59:59
+row clock '%Y-%m-%d %H:%M:%S' '2021-03-04 05:06:07'
+row fields '%Y-%m-%d %H:%M:%S' '2021-03-04 05:06:07'
+row described_column '%d/%b/%Y:%H:%M:%S %z' '02/Jan/2021:03:04:05 -0030'
 for call in described read strptime; do
     row $call '%d/%b/%Y:%H:%M:%S %z' '02/Jan/2021:03:04:05 -0030'
     row $call %Y-%m-%dT%H:%M:%S%z 2021-01-02T03:04:05+0000

@@ -4,7 +4,7 @@
 pub(super) mod iso8601;
 pub(super) mod rfc2822;
 
-ghost use Rattle.std.specs.Prelude.{◌≡◌, ◌<◌, ◌≤◌, IfSome, Ok, None, [], false, pos};
+ghost use Rattle.std.specs.Prelude.{◌≡◌, ◌≢◌, ◌<◌, ◌≤◌, IfSome, List, ℕ, Ok, None, false, length, pos, slice_index};
 ghost use Rattle.time_values.specs.Offsets.{HasOffset, offset_refusal};
 ghost use Rattle.time_values.specs.Range.{greatest_year};
 ghost use Rattle.time_values.specs.Refusal.{Constructs};
@@ -12,10 +12,11 @@ ghost use Rattle.time_values.specs.Times.{HasClock, time_refusal};
 ghost use Rattle.time_digits.specs.Cuts.{Cut};
 ghost use Rattle.time_readers.specs.Direct.{HasDate, IsMade, RefusesRfc3339, date_refusal};
 ghost use Rattle.time_readers.specs.Places.{Stand};
-ghost use Rattle.time_readers.specs.Rfc3339.{Asks, offset_places};
+ghost use Rattle.time_readers.specs.Rfc3339.{Asks, HasForm, offset_places};
 ghost use Rattle.time_readers.specs.declared.rfc3339.Place.TheVariants as place;
 ghost use Rattle.time_parsing.specs.Outcome.{direct};
 ghost use Rattle.time_parsing.specs.Rfc3339.{Reads, Refuses};
+ghost use Rattle.pelzaune_ffi.specs.Columns.{EndsLine, IsFirstLine};
 ghost use Rattle.pelzaune_ffi.specs.Handed.{of_moment};
 
 use std::num::NonZero;
@@ -42,22 +43,23 @@ fn subsecond(numbers: Numbers, rest: &[u8]) -> Option<(Numbers, &[u8])>
     Some((numbers, found.0))
 }
 
-// The places of an offset with which the text ends. `None`: not this form.
+// The places of an offset, and what follows it. `None`: not this form.
 #[inline(always)]
-fn offset(numbers: Numbers, rest: &[u8]) -> Option<Numbers>
+fn offset(numbers: Numbers, rest: &[u8]) -> Option<(Numbers, &[u8])>
     requires utc { numbers.is_utc ≡ false }
     requires hour { numbers.offset_hour ≡ 0 }
     requires minute { numbers.offset_minute ≡ 0 }
-    ensures stands { IfSome result (λ found. Stand (Asks false) offset_places numbers rest.now [] found) }
-    ensures second { IfSome result (λ found. found.second ≡ numbers.second) }
-    ensures hour { IfSome result (λ found. found.offset_hour ≤ 23) }
-    ensures minute { IfSome result (λ found. found.offset_minute ≤ 59) }
+    ensures stands { IfSome result (λ found. Stand (Asks false) offset_places numbers rest.now found.1.now found.0) }
+    ensures second { IfSome result (λ found. found.0.second ≡ numbers.second) }
+    ensures hour { IfSome result (λ found. found.0.offset_hour ≤ 23) }
+    ensures minute { IfSome result (λ found. found.0.offset_minute ≤ 59) }
 {
-    if let [b'Z'] = rest {
-        return Some(Numbers {
+    if let [b'Z', after @ ..] = rest {
+        let numbers = Numbers {
             is_utc: true,
             ..numbers
-        });
+        };
+        return Some((numbers, after));
     }
     let [
         sign @ (b'-' | b'+'),
@@ -66,6 +68,7 @@ fn offset(numbers: Numbers, rest: &[u8]) -> Option<Numbers>
         b':',
         c @ b'0'..=b'5',
         d @ b'0'..=b'9',
+        after @ ..,
     ] = rest
     else {
         return None;
@@ -74,12 +77,13 @@ fn offset(numbers: Numbers, rest: &[u8]) -> Option<Numbers>
     if hour > 23 {
         return None;
     }
-    Some(Numbers {
+    let numbers = Numbers {
         offset_is_negative: *sign == b'-',
         offset_hour: hour,
         offset_minute: 10 * (*c - b'0') + (*d - b'0'),
         ..numbers
-    })
+    };
+    Some((numbers, after))
 }
 
 // The offset that is said. That of UTC is a constant. `None`: there is none.
@@ -131,11 +135,14 @@ fn made(said: Said) -> Option<OffsetDateTime>
     Some(OffsetDateTime::new_in_offset(date, time, offset))
 }
 
-// A whole moment. `None`: not this form.
+// The places of a moment, and what follows it. `None`: not this form.
 #[inline(always)]
-pub(super) fn moment(text: &[u8]) -> Option<OffsetDateTime>
-    ensures { IfSome result (λ v. of_moment (direct (RefusesRfc3339 greatest_year)) (Reads greatest_year)
-        (Refuses greatest_year) text.now (Ok v)) }
+fn places(text: &[u8]) -> Option<(Numbers, &[u8])>
+    ensures form { IfSome result (λ found. HasForm false text.now found.1.now found.0) }
+    ensures second { IfSome result (λ found. found.0.second < 60) }
+    ensures hour { IfSome result (λ found. found.0.offset_hour ≤ 23) }
+    ensures minute { IfSome result (λ found. found.0.offset_minute ≤ 59) }
+    ensures long { IfSome result (λ _. 20 ≤ length text.now) }
 {
     // One test of the length for all of the text.
     if text.len() < 20 {
@@ -144,5 +151,56 @@ pub(super) fn moment(text: &[u8]) -> Option<OffsetDateTime>
     let mut numbers = Numbers::NONE;
     let rest = to_second::<false>(text, &mut numbers)?;
     let (numbers, rest) = subsecond(numbers, rest)?;
-    made(said_rfc3339(offset(numbers, rest)?))
+    let found = offset(numbers, rest)?;
+    Some(found)
+}
+
+// A whole moment. `None`: not this form.
+#[inline(always)]
+pub(super) fn moment(text: &[u8]) -> Option<OffsetDateTime>
+    ensures { IfSome result (λ v. of_moment (direct (RefusesRfc3339 greatest_year)) (Reads greatest_year)
+        (Refuses greatest_year) text.now (Ok v)) }
+{
+    let (numbers, rest) = places(text)?;
+    if !rest.is_empty() {
+        return None;
+    }
+    made(said_rfc3339(numbers))
+}
+
+// What follows an LF, or nothing. `None`: another byte stands there.
+#[inline(always)]
+fn after_line(rest: &[u8]) -> Option<&[u8]>
+    ensures { IfSome result (λ after. EndsLine rest.now after.now) }
+{
+    match rest {
+        [] => Some(rest),
+        [b'\n', after @ ..] => Some(after),
+        _ => None,
+    }
+}
+
+// Whether a line ends where a date is followed by what separates it from its time, which may be any byte.
+#[inline(always)]
+fn breaks_at_separator(text: &[u8]) -> bool
+    requires { 20 ≤ length text.now }
+    ensures { result ≡ false → slice_index text.now 10 ≢ 10 }
+{
+    text[10] == b'\n'
+}
+
+// The moment that is the first line of a text, and the lines after it. `None`: not this form.
+#[inline(always)]
+pub(super) fn line(text: &[u8]) -> Option<(OffsetDateTime, &[u8])>
+    ensures { IfSome result (λ found. (line : List ℕ) × IsFirstLine line text.now found.1.now
+        × of_moment (direct (RefusesRfc3339 greatest_year)) (Reads greatest_year) (Refuses greatest_year) line
+        (Ok found.0)) }
+{
+    let (numbers, rest) = places(text)?;
+    if breaks_at_separator(text) {
+        return None;
+    }
+    let after = after_line(rest)?;
+    let value = made(said_rfc3339(numbers))?;
+    Some((value, after))
 }

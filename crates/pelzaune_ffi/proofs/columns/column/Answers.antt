@@ -9,19 +9,20 @@ use Rattle.pelzaune_ffi.proofs.columns.column.Goals.{then-loop-index-test+else-n
 pub loop-index-preserved : goal.loop-index-preserved
 loop-index-preserved g c =
     let so_far = c.loop-index.invariant in
-    let cut = c.first_line.ensures.line in
+    let handed = c.count_first-status in
+    let cut = handed.ensures.1.lines in
     let left : Ends (g.C.Count.hands c.args.counting.now) (lines_of c.args.text.now) c.args.entries.now
-    (lines_of c.first_line.result.1.now)
-    (drop (c.loop-index.index + 1) (slice_set c.loop-index.entries c.loop-index.index c.count_line.new.entry))
-    (take (c.loop-index.index + 1) (slice_set c.loop-index.entries c.loop-index.index c.count_line.new.entry))
-    (c.loop-index.without + spec.one_if_refused c.count_line.result) =
+    (lines_of handed.result.1.now)
+    (drop (c.loop-index.index + 1) (slice_set c.loop-index.entries c.loop-index.index handed.new.entry))
+    (take (c.loop-index.index + 1) (slice_set c.loop-index.entries c.loop-index.index handed.new.entry))
+    (c.loop-index.without + spec.one_if_refused handed.result.0) =
     Ends-more (g.C.Count.hands c.args.counting.now) (lines_of c.args.text.now) c.args.entries.now c.loop-index.entries
-    c.first_line.result.0.now (lines_of c.first_line.result.1.now) c.loop-index.index c.count_line.result c.loop-index.without
-    c.count_line.new.entry c.loop-index-test.true c.count_line.ensures (rw cut at so_far.4) in (
+    handed.ensures.0 (lines_of handed.result.1.now) c.loop-index.index handed.result.0 c.loop-index.without
+    handed.new.entry c.loop-index-test.true handed.ensures.2 (rw cut at so_far.4) in (
       grind (arith, common_steps, c.loop-index-test.true),
       omega (arith, so_far.1, c.one_if_refused-without.ensures.bound),
       grind (arith, common_steps, cut, so_far.2),
-      omega (arith, so_far.3, c.first_line.ensures.shorter),
+      omega (arith, so_far.3, handed.ensures.1.shorter),
       rw c.one_if_refused-without.ensures.one left,
     )
 

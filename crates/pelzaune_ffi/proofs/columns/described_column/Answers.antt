@@ -1,5 +1,6 @@
 use Rattle.std.proofs.Common.{◌∙◌, Some, Ok, Err}
 use Rattle.programs_answers.specs.Lines.{lines_of}
+use Rattle.time_components.specs.Steps.{steps_shape}
 use Rattle.time_descriptions.specs.Description.{shape}
 use Rattle.time_descriptions.specs.Refusal.{refusal_of}
 use Rattle.pelzaune_ffi.specs.Columns.{by_tree, refusing}
@@ -10,8 +11,8 @@ use Rattle.pelzaune_ffi.proofs.columns.described_column.Goals as goal
 
 pub returns-in-Ok-clause-entries : goal.returns-in-Ok-clause-entries
 returns-in-Ok-clause-entries c =
-    IsColumn-map (by_tree (shape c.in-Ok.found)) (HandsRead IsCountHanded of_moment (Some c.args.syntax) c.args.description.now)
-    (λ line status old new h. (Ok (shape c.in-Ok.found), c.in-Ok.ensures.ok, h))
+    IsColumn-map (by_tree (steps_shape c.new.result)) (HandsRead IsCountHanded of_moment (Some c.args.syntax) c.args.description.now)
+    (λ line status old new h. (Ok (shape c.in-Ok.found), c.in-Ok.ensures.ok, rw c.new.ensures at h))
     (lines_of c.args.text.now) c.args.entries.now c.column.new.entries c.column.new.refused c.column.ensures.entries
 
 pub returns-in-Err-clause-entries : goal.returns-in-Err-clause-entries

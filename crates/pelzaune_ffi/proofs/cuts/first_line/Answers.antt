@@ -1,12 +1,22 @@
-use Rattle.std.proofs.Common.{◌+◌, length}
+use Rattle.std.proofs.Common.{◌-◌, ◌+◌, drop, length, length-drop, length-take, arith}
 use Rattle.std.proofs.Math.Seq.{drop-length}
-use Rattle.programs_answers.proofs.LinesLemmas.{tail_range, lines_of-found, lines_of-none}
+use Rattle.programs_answers.proofs.LinesLemmas.{tail_range}
 use Rattle.pelzaune_ffi.proofs.cuts.first_line.Goals as goal
 
-pub returns-in-Some-clause-line : goal.returns-in-Some-clause-line
-returns-in-Some-clause-line c =
-    rw (tail_range (c.in-Some.i + 1) c.args.bytes.now) (lines_of-found c.args.bytes.now c.in-Some.i c.in-Some.ensures.0 c.in-Some.ensures.1)
+pub returns-in-Some : goal.returns-in-Some
+returns-in-Some c =
+    let bytes = c.args.bytes.now in
+    let next = c.in-Some.i + 1 in
+    record {
+      lines = rw (tail_range next bytes) c.in-Some.ensures.1;
+      shorter = omega (arith, length-take (length bytes - next) (drop next bytes), length-drop next bytes, c.in-Some.ensures.0);
+    }
 
-pub returns-in-None-clause-line : goal.returns-in-None-clause-line
-returns-in-None-clause-line c =
-    rw (tail_range (length c.args.bytes.now) c.args.bytes.now, drop-length) (lines_of-none c.args.bytes.now c.requires c.in-None.ensures)
+pub returns-in-None : goal.returns-in-None
+returns-in-None c =
+    let bytes = c.args.bytes.now in
+    let all = length bytes in
+    record {
+      lines = rw (tail_range all bytes, drop-length) c.in-None.ensures;
+      shorter = omega (arith, length-take (all - all) (drop all bytes), length-drop all bytes, c.requires);
+    }

@@ -1,0 +1,23 @@
+//! The ends of short lines, many bytes at once.
+ghost use Rattle.std.specs.Prelude.{◌≡◌, ◌∷◌, ◌+◌, ◌<◌, length, take, drop, IfSome};
+ghost use Rattle.programs_answers.specs.Lines.{lines_of};
+
+use std::simd::prelude::*;
+
+/// Where the first LF of a text stands. `None`: not in its first 32 bytes, or it has fewer.
+#[inline(always)]
+pub(super) fn line_end(text: &[u8]) -> Option<usize>
+    ensures within { IfSome result (λ i. i < length text.now) }
+    ensures cut { IfSome result (λ i. lines_of text.now ≡ take i text.now ∷ lines_of (drop (i + 1) text.now)) }
+{
+    if text.len() < 32 {
+        return None;
+    }
+    let ends = u8x32::from_slice(text)
+        .simd_eq(u8x32::splat(b'\n'))
+        .to_bitmask();
+    if ends == 0 {
+        return None;
+    }
+    Some(ends.trailing_zeros() as usize)
+}

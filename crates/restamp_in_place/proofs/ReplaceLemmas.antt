@@ -7,7 +7,7 @@ use Rattle.restamp_in_place.specs.declared.making.Made.{Made}
 use Rattle.restamp_in_place.specs.declared.making.Made.TheVariants.{Changed}
 use Rattle.restamp_in_place.specs.Folder.{Event, leads, stored, bytes_at, Does, Makes, Removes}
 use Rattle.restamp_in_place.specs.Folder.Event.{Leads}
-use Rattle.restamp_in_place.specs.Replacing.{HasSameBytes, IsEnded, IsUntouched, Replaces}
+use Rattle.restamp_in_place.specs.Replacing.{bytes_made, HasSameBytes, IsEnded, IsUntouched, Replaces}
 use Rattle.restamp_in_place.specs.Phases.{Aim, IsWritten, Reached, Kept, Loose, IsMade, IsEndOf, Runs}
 use Rattle.restamp_in_place.proofs.FolderLemmas.{leads-at, leads-past}
 use Rattle.restamp_in_place.proofs.PhaseLemmas.{made, same-loose, removed}
@@ -24,7 +24,8 @@ abbrev Failed : {E : Type 0} → E → Result Made E
 Failed error = Err error
 
 -- nothing was done
-pub replaces-nothing : {E : Type 0} (makes : List ℕ → List ℕ → Type 0) (events : Option (List Event)) (name : List ℕ) (backup : Option (List ℕ)) (error : E)
+pub replaces-nothing : {E : Type 0} (makes : List ℕ → Option (List ℕ) → Type 0) (events : Option (List Event)) (name : List ℕ)
+    (backup : Option (List ℕ)) (error : E)
     → IfSome events (λ before. Replaces makes before events name backup (Failed error))
 replaces-nothing makes None name backup error = tt
 replaces-nothing makes (Some before) name backup error = record {
@@ -32,6 +33,7 @@ replaces-nothing makes (Some before) name backup error = record {
   made = tt;
   safe = ([], refl, λ file may. inl (may, same before file));
   ends = tt;
+  same = tt;
 }
 
 -- where its making is known to end so
@@ -67,31 +69,35 @@ module _ (aim : Aim) where
   is_made-reached done is = (is_made-kept done is).untouched.reached
 
   -- what was reached is what is to be shown
-  pub replaces-reached : {E : Type 0} (makes : List ℕ → List ℕ → Type 0) (after : Option (List Event)) (now : List Event) (result : Result Made E)
-      → IfSome aim.new (λ bytes. IfSome (bytes_at aim.before aim.name) (λ old. makes old bytes))
+  pub replaces-reached : {E : Type 0} (makes : List ℕ → Option (List ℕ) → Type 0) (after : Option (List Event)) (now : List Event) (result : Result Made E)
+      → IfSome aim.new (λ bytes. IfSome (bytes_at aim.before aim.name) (λ old. makes old (Some bytes)))
+      → IfOk result (λ how. how ≡ Made.Same → IfSome (bytes_at aim.before aim.name) (λ old. makes old None))
       → after ≡ Some now → MatchResult result (λ how. IsEndOf aim how now) (λ _. Reached aim now)
       → Replaces makes aim.before after aim.name aim.backup result
-  replaces-reached makes after now (Ok Changed) makes_it is ends = record {
+  replaces-reached makes after now (Ok Changed) makes_it stays is ends = record {
     new = aim.new;
     made = makes_it;
     safe = (ends.reached.more, is ∙ ap Some ends.reached.is, ends.reached.safe);
     ends = subst (λ (a : Option (List Event)). IfSome a (λ now. IsEnded Changed aim.before now aim.name aim.backup aim.new)) (sym is) ends.replaced;
+    same = stays;
   }
-  replaces-reached makes after now (Ok Made.Same) makes_it is ends = record {
+  replaces-reached makes after now (Ok Made.Same) makes_it stays is ends = record {
     new = aim.new;
     made = makes_it;
     safe = (ends.0.more, is ∙ ap Some ends.0.is, ends.0.safe);
     ends = subst (λ (a : Option (List Event)). IfSome a (λ now. IsEnded Made.Same aim.before now aim.name aim.backup aim.new)) (sym is) ends.1;
+    same = stays;
   }
-  replaces-reached makes after now (Err error) makes_it is ends = record {
+  replaces-reached makes after now (Err error) makes_it stays is ends = record {
     new = aim.new;
     made = makes_it;
     safe = (ends.more, is ∙ ap Some ends.is, ends.safe);
     ends = tt;
+    same = stays;
   }
 
 -- a new file may have been made, though that failed
-pub replaces-unmade : {E : Type 0} (makes : List ℕ → List ℕ → Type 0) (events after : Option (List Event)) (name : List ℕ) (backup : Option (List ℕ))
+pub replaces-unmade : {E : Type 0} (makes : List ℕ → Option (List ℕ) → Type 0) (events after : Option (List Event)) (name : List ℕ) (backup : Option (List ℕ))
     (original : ℕ) (error : E)
     → IfSome events (λ done. leads done name ≡ Some original)
     → Does events after (λ done more. (more ≡ []) ⊎ ((temporary : List ℕ) × Makes temporary done more))
@@ -116,11 +122,11 @@ replaces-unmade makes (Some before) after name backup original error there did =
           unused = m.1.2;
           there = there;
         } in
-        replaces-reached aim makes after (did.0 ++ before) (Failed error) tt did.1
+        replaces-reached aim makes after (did.0 ++ before) (Failed error) tt tt did.1
         (is_made-reached aim (did.0 ++ before) (ap (λ (l : List Event). l ++ before) m.1.3))
 
-made_of : (makes : List ℕ → List ℕ → Type 0) (new read : List ℕ) (known : Option (List ℕ)) → IfSome known (λ bytes. bytes ≡ read) → makes read new →
-    IfSome known (λ old. makes old new)
+made_of : (makes : List ℕ → Option (List ℕ) → Type 0) (new : Option (List ℕ)) (read : List ℕ) (known : Option (List ℕ))
+    → IfSome known (λ bytes. bytes ≡ read) → makes read new → IfSome known (λ old. makes old new)
 made_of makes new read None reads did = tt
 made_of makes new read (Some old) reads did = subst (λ (b : List ℕ). makes b new) (sym reads) did
 
@@ -132,7 +138,17 @@ written (Some old) (Some all) new empty appends = ap Some (appends ∙ ap (λ (l
     none : Some old ≡ Some [] → old ≡ []
     none is = cc is
 
-module _ {E : Type 0} (makes : List ℕ → List ℕ → Type 0) (after : Option (List Event)) (before more : List Event) (name temporary : List ℕ)
+-- it doesn't stay the same where its maker says so
+not_same : {S E : Type 0} (P : Type 0) (how_made : Result Made S) (result : Result Made E) → IfOk result (λ how. how_made ≡ Ok how)
+    → ¬ (how_made ≡ Ok Made.Same) → IfOk result (λ how. how ≡ Made.Same → P)
+not_same P how_made (Ok how) is never = λ same. absurd (never (is ∙ ap Ok same))
+not_same P how_made (Err error) is never = tt
+
+stays_so : {E P : Type 0} (result : Result Made E) → P → IfOk result (λ how. how ≡ Made.Same → P)
+stays_so (Ok how) p = λ same. p
+stays_so (Err error) p = tt
+
+module _ {E : Type 0} (makes : List ℕ → Option (List ℕ) → Type 0) (after : Option (List Event)) (before more : List Event) (name temporary : List ℕ)
     (backup : Option (List ℕ)) (original : ℕ)
     (remaining contents contents' : Option (List ℕ)) (result : Result Made E)
     (there : leads before name ≡ Some original) (read : List ℕ) (reads : remaining ≡ Some read)
@@ -158,40 +174,55 @@ module _ {E : Type 0} (makes : List ℕ → List ℕ → Type 0) (after : Option
       → IfOk how_made (λ how. how ≡ Changed → IsWritten aim contents')
       → Runs (Some (more ++ before)) after (IsMade aim) (λ now. MatchResult result (λ how. IsEndOf aim how now) (λ _. Reached aim now))
 
-  ended : {S : Type 0} (new : Option (List ℕ)) (how_made : Result Made S) → IfSome new
-      (λ bytes. IfSome (bytes_at before name) (λ old. makes old bytes)) → Ends how_made
+  ended : {S : Type 0} (new : Option (List ℕ)) (how_made : Result Made S)
+      → IfSome new (λ bytes. IfSome (bytes_at before name) (λ old. makes old (Some bytes)))
+      → IfOk result (λ how. how ≡ Made.Same → IfSome (bytes_at before name) (λ old. makes old None)) → Ends how_made
       → IfOk how_made (λ how. how ≡ Changed → IsWritten (aim_of new) contents') → Replaces makes before after name backup result
-  ended new how_made makes_it ends writes =
+  ended new how_made makes_it stays ends writes =
       let run = ends (aim_of new) refl refl refl refl writes (ap (λ (l : List Event). l ++ before) m.3) in
-      replaces-reached (aim_of new) makes after run.0 result makes_it run.1 run.2
+      replaces-reached (aim_of new) makes after run.0 result makes_it stays run.1 run.2
 
-  pub replaces : {S : Type 0} (how_made : Result Made S) → IfOk how_made
-      (λ how. how ≡ Changed → IfSome remaining (λ old. (new : List ℕ) × Appends contents contents' new × makes old new))
-      → Ends how_made → Replaces makes before after name backup result
-  replaces {S} (Ok Changed) did ends =
-      let d = subst (λ (r : Option (List ℕ)). IfSome r (λ old. (new : List ℕ) × Appends contents contents' new × makes old new)) reads (did refl) in
-      let is : bytes_at before name ≡ stored before original = ap (option_and_then (stored before)) there in
-      ended {S = S} (Some d.0) (Ok Changed) (subst (λ (k : Option (List ℕ)). IfSome k (λ old. makes old d.0)) (sym is)
-      (made_of makes d.0 read (stored before original) same_read d.2)) ends
+  -- what the maker says of the bytes that were on the disk
+  did_at : (how : Made) → IfSome remaining (λ old. (text : List ℕ) × Appends contents contents' text × makes old (bytes_made how text))
+      → (text : List ℕ) × Appends contents contents' text × IfSome (bytes_at before name) (λ old. makes old (bytes_made how text))
+  did_at how did =
+      let d = subst (λ (r : Option (List ℕ)). IfSome r (λ old. (text : List ℕ) × Appends contents contents' text × makes old (bytes_made how text)))
+      reads did in
+      let is : bytes_at before name ≡ stored before original = ap (option_and_then (stored before)) there in (
+        d.0,
+        d.1,
+        subst (λ (k : Option (List ℕ)). IfSome k (λ old. makes old (bytes_made how d.0))) (sym is)
+            (made_of makes (bytes_made how d.0) read (stored before original) same_read d.2),
+      )
+
+  pub replaces : {S : Type 0} (how_made : Result Made S)
+      → IfOk how_made (λ how. IfSome remaining (λ old. (text : List ℕ) × Appends contents contents' text × makes old (bytes_made how text)))
+      → IfOk result (λ how. how_made ≡ Ok how) → Ends how_made → Replaces makes before after name backup result
+  replaces {S} (Ok Changed) did how ends =
+      let d = did_at Changed did in
+      ended {S = S} (Some d.0) (Ok Changed) d.2 (not_same _ (Ok Changed) result how (λ is. absurd (cc is))) ends
       (λ _. (d.0, written contents contents' d.0 empty d.1, refl))
-  replaces {S} (Ok Made.Same) did ends = ended {S = S} None (Ok Made.Same) tt ends (λ changed. absurd (cc changed))
-  replaces {S} (Err stop) did ends = ended {S = S} None (Err stop) tt ends tt
+  replaces {S} (Ok Made.Same) did how ends =
+      let d = did_at Made.Same did in
+      ended {S = S} None (Ok Made.Same) tt (stays_so result d.2) ends (λ changed. absurd (cc changed))
+  replaces {S} (Err stop) did how ends = ended {S = S} None (Err stop) tt (not_same _ (Err stop) result how (λ is. absurd (cc is))) ends tt
 
-pub replaces-all : {S E : Type 0} (makes : List ℕ → List ℕ → Type 0) (events mid after : Option (List Event)) (name temporary : List ℕ)
+pub replaces-all : {S E : Type 0} (makes : List ℕ → Option (List ℕ) → Type 0) (events mid after : Option (List Event)) (name temporary : List ℕ)
     (backup : Option (List ℕ)) (original : ℕ)
     (remaining contents contents' : Option (List ℕ)) (result : Result Made E) (how_made : Result Made S)
     → IfSome events (λ done. (leads done name ≡ Some original)
     × ((read : List ℕ) × (remaining ≡ Some read) × IfSome (stored done original) (λ bytes. bytes ≡ read)))
     → Does events mid (Makes temporary) → IfSome events (λ _. contents ≡ Some [])
-    → IfOk how_made (λ how. how ≡ Changed → IfSome remaining (λ old. (new : List ℕ) × Appends contents contents' new × makes old new))
+    → IfOk how_made (λ how. IfSome remaining (λ old. (text : List ℕ) × Appends contents contents' text × makes old (bytes_made how text)))
+    → IfOk result (λ how. how_made ≡ Ok how)
     → ((aim : Aim) → aim.name ≡ name → aim.temporary ≡ temporary → aim.backup ≡ backup → aim.original ≡ original
     → IfOk how_made (λ how. how ≡ Changed → IsWritten aim contents')
     → Runs mid after (IsMade aim) (λ now. MatchResult result (λ how. IsEndOf aim how now) (λ _. Reached aim now)))
     → IfSome events (λ before. Replaces makes before after name backup result)
-replaces-all makes None mid after name temporary backup original remaining contents contents' result how_made opened created empty did ends = tt
-replaces-all makes (Some before) mid after name temporary backup original remaining contents contents' result how_made opened created empty did ends =
+replaces-all makes None mid after name temporary backup original remaining contents contents' result how_made opened created empty did how ends = tt
+replaces-all makes (Some before) mid after name temporary backup original remaining contents contents' result how_made opened created empty did how ends =
     replaces makes after before created.0 name temporary backup original remaining contents contents' result opened.0 opened.1.0 opened.1.1 opened.1.2
-    created.2 empty how_made did
+    created.2 empty how_made did how
     (λ aim p q r s w. subst (λ (k : Option (List Event)). Runs k after (IsMade aim)
     (λ now. MatchResult result (λ how. IsEndOf aim how now) (λ _. Reached aim now))) created.1 (ends aim p q r s w))
 

@@ -1,8 +1,13 @@
 -- What a crash leaves of a file that is replaced.
-use Rattle.std.specs.Prelude.{◌≡◌, ◌⊎◌, ◌++◌, ℕ, List, [], ◌∷◌, Option, Some, IfOk, IfSome, Result}
+use Rattle.std.specs.Prelude.{◌≡◌, ◌⊎◌, ◌++◌, ℕ, List, [], ◌∷◌, Option, Some, None, IfOk, IfSome, Result}
 use Rattle.restamp_in_place.specs.declared.making.Made.{Made}
 use Rattle.restamp_in_place.specs.declared.making.Made.TheVariants.{Changed, Same}
 use Rattle.restamp_in_place.specs.Folder.{Event, leads, stored, bytes_at, MayLead}
+
+-- the new bytes that were made where that text was written: none of a file that stays the same
+abbrev pub bytes_made : Made → List ℕ → Option (List ℕ)
+bytes_made Changed text = Some text
+bytes_made Same text = None
 
 -- A file that is there has the bytes on the disk that it had before.
 abbrev pub HasSameBytes : List Event → List Event → Option ℕ → Type 0
@@ -53,13 +58,14 @@ abbrev pub IsEnded : Made → List Event → List Event → List ℕ → Option 
 IsEnded Changed before after name backup new = IsReplaced before after name backup new
 IsEnded Same before after name backup new = IsUntouched before after
 
--- The replacement of a file by bytes that are so made from those on the disk.
-pub record Replaces (makes : List ℕ → List ℕ → Type 0) (before : List Event) (after : Option (List Event))
+-- The replacement of a file by bytes that are so made from those on the disk, unless none are.
+pub record Replaces (makes : List ℕ → Option (List ℕ) → Type 0) (before : List Event) (after : Option (List Event))
     (name : List ℕ) (backup : Option (List ℕ)) {E : Type 0} (result : Result Made E) : Type 0 where
   pub new : Option (List ℕ)
-  pub made : IfSome new (λ bytes. IfSome (bytes_at before name) (λ old. makes old bytes))
+  pub made : IfSome new (λ bytes. IfSome (bytes_at before name) (λ old. makes old (Some bytes)))
   pub safe : IsAlwaysSafe before after name backup new
   pub ends : IfOk result (λ how. IfSome after (λ now. IsEnded how before now name backup new))
+  pub same : IfOk result (λ how. how ≡ Same → IfSome (bytes_at before name) (λ old. makes old None))
 
 -- Whatever a crash leaves under the name is a file that has the old bytes on the disk, or exactly the new ones.
 abbrev pub IsOldOrNew : List ℕ → Option (List ℕ) → List ℕ → List Event → Type 0

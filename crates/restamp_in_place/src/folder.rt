@@ -3,8 +3,9 @@ ghost use Rattle.std.specs.Prelude.{◌≡◌, ℕ, List, [], Option, Some, IfEr
 ghost use Rattle.std.specs.IoError.{error_kind};
 ghost use Rattle.restamp_in_place.specs.Folder.{Event, leads, stored, Tries, Makes, Stores, Links, Renames, Removes, Syncs};
 
+use programs_streams::{Counted, Sink, Source};
 use std::io;
-use std::io::{ErrorKind, Read, Write};
+use std::io::ErrorKind;
 
 /// A file as it was when it was opened.
 #[derive(Clone, Copy, Debug, PartialEq, Eq)]
@@ -27,8 +28,15 @@ pub struct Original {
 
 /// A writer that keeps why a write failed.
 pub trait Failing {
-    /// Why the last write that failed did, if one has.
-    fn failure(&self) -> Option<ErrorKind>;
+    /// The error of the last write that failed, if one has. The writer is let go.
+    fn into_failure(self) -> Option<io::Error>;
+}
+
+impl<W: Drop> Failing for Counted<W> {
+    fn into_failure(self) -> Option<io::Error> {
+        let (_, error) = self.into_parts();
+        error
+    }
 }
 
 /// A folder. Each call does one thing in it, and one that fails has done it or nothing.
@@ -37,10 +45,10 @@ pub trait Failing {
 /// of which these contracts are what is taken to be true.
 pub trait Folder {
     /// A file that is read.
-    type Old: Read + Drop;
+    type Old: Source + Drop;
 
     /// A new file, which is written. Until it is stored, a crash may leave any bytes in it.
-    type New: Write + Failing + Drop;
+    type New: Sink + Failing + Drop;
 
     // What was done in the folder so far, the last first, where it is known.
     ghost events: { Self → Option (List Event) };

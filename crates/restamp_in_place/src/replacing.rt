@@ -1,6 +1,6 @@
 //! Replaces a file.
 ghost use Rattle.std.specs.Option.{option_map};
-ghost use Rattle.std.specs.Prelude.{◌≡◌, ◌⊎◌, ◌∷◌, ℕ, List, [], Some, IfOk, IfSome, OnErr, MatchResult, string_bytes};
+ghost use Rattle.std.specs.Prelude.{◌≡◌, ◌⊎◌, ◌∷◌, ℕ, List, [], Some, Ok, IfOk, IfSome, OnErr, MatchResult, string_bytes};
 ghost use Rattle.restamp_in_place.specs.Folder.{Event, Does, Makes};
 ghost use Rattle.restamp_in_place.specs.Replacing.{Replaces};
 ghost use Rattle.restamp_in_place.specs.Phases.{Aim, IsPlanOf, IsWritten, Kept, Ready, Linked, Backed, Loose, LooseBacked, Put, Done, Reached, IsMade, IsEndOf, Runs, Goes};
@@ -160,9 +160,10 @@ fn finish_changed<F: Folder, S: Drop>(
     plan: &Plan<'_>,
     new: F::New,
 ) -> Result<Made, Unreplaced<S>>
-    ensures { (aim : Aim) → IsPlanOf aim plan.now → IsWritten aim (F.New.contents new)
+    ensures ends { (aim : Aim) → IsPlanOf aim plan.now → IsWritten aim (F.New.contents new)
         → Runs (F.events folder.old) (F.events folder.new) (IsMade aim)
         (λ now. MatchResult result (λ how. IsEndOf aim how now) (λ _. Reached aim now)) }
+    ensures how { IfOk result (λ how. how ≡ Made.Changed) }
 {
     match put(folder, plan, new) {
         Ok(()) => Ok(Made::Changed),
@@ -173,9 +174,10 @@ fn finish_changed<F: Folder, S: Drop>(
 
 // Removes the new file, which isn't needed.
 fn finish_same<F: Folder, S: Drop>(folder: &mut F, plan: &Plan<'_>) -> Result<Made, Unreplaced<S>>
-    ensures { (aim : Aim) → IsPlanOf aim plan.now
+    ensures ends { (aim : Aim) → IsPlanOf aim plan.now
         → Runs (F.events folder.old) (F.events folder.new) (IsMade aim)
         (λ now. MatchResult result (λ how. IsEndOf aim how now) (λ _. Reached aim now)) }
+    ensures how { IfOk result (λ how. how ≡ Made.Same) }
 {
     match folder.remove(plan.temporary) {
         Ok(()) => Ok(Made::Same),
@@ -187,7 +189,7 @@ fn finish_same<F: Folder, S: Drop>(folder: &mut F, plan: &Plan<'_>) -> Result<Ma
 fn abandon<F: Folder, S: Drop>(
     folder: &mut F,
     plan: &Plan<'_>,
-    failure: Option<ErrorKind>,
+    failure: Option<io::Error>,
     stop: S,
 ) -> Unreplaced<S>
     ensures { (aim : Aim) → IsPlanOf aim plan.now
@@ -195,7 +197,7 @@ fn abandon<F: Folder, S: Drop>(
 {
     let _ = folder.remove(plan.temporary);
     match failure {
-        Some(kind) => Unreplaced::Failed(Step::Write, io::Error::from(kind)),
+        Some(error) => Unreplaced::Failed(Step::Write, error),
         None => Unreplaced::Stopped(stop),
     }
 }
@@ -207,18 +209,15 @@ fn finish<F: Folder, S: Drop>(
     new: F::New,
     made: Result<Made, S>,
 ) -> Result<Made, Unreplaced<S>>
-    ensures { (aim : Aim) → IsPlanOf aim plan.now
+    ensures ends { (aim : Aim) → IsPlanOf aim plan.now
         → IfOk made (λ how. how ≡ Made.Changed → IsWritten aim (F.New.contents new))
         → Runs (F.events folder.old) (F.events folder.new) (IsMade aim)
         (λ now. MatchResult result (λ how. IsEndOf aim how now) (λ _. Reached aim now)) }
+    ensures how { IfOk result (λ how. made ≡ Ok how) }
 {
-    let failure = new.failure();
     let how = match made {
         Ok(how) => how,
-        Err(stop) => {
-            drop(new);
-            return Err(abandon(folder, plan, failure, stop));
-        }
+        Err(stop) => return Err(abandon(folder, plan, new.into_failure(), stop)),
     };
     match how {
         Made::Changed => finish_changed(folder, plan, new),

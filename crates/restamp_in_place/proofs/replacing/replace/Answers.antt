@@ -13,5 +13,6 @@ pub returns : goal.returns
 returns g c =
     replaces-all _ _ _ _ _ _ _ _ _ _ _ _ _ c.in-Ok.ensures c.in-Ok-create_beside.ensures.made c.in-Ok-create_beside.ensures.empty
     c.make-maker.ensures
-    (λ aim p q r s written. c.finish-ended.ensures aim
+    c.finish-ended.ensures.how
+    (λ aim p q r s written. c.finish-ended.ensures.ends aim
     (record { name = sym p; temporary = c.as_str.ensures.value ∙ sym q; backup = sym r; original = sym s }) written)

@@ -1,0 +1,87 @@
+//! What makes a file's new bytes.
+ghost use Rattle.std.specs.Prelude.{◌≡◌, IfSome, OnOk};
+ghost use Rattle.restamp_replacing.specs.Replacing.{made_of};
+ghost use Rattle.restamp_stream.specs.Answers.{job_of, state, DidAll};
+ghost use Rattle.restamp_stream.specs.Fates.{nothing_counted};
+
+use programs_streams::{Sink, Source};
+use restamp_in_place::{Made, Making};
+use restamp_stream::{Block, Rewriting, Settings, Stop, Stream, Tally};
+
+/// The lines of a file, which make its new bytes by what becomes of them.
+#[derive(Drop)]
+pub(crate) struct Lines<'a, T, L: Drop> {
+    pub(crate) rewriting: &'a T,
+    pub(crate) settings: Settings,
+    /// The file's name, for reports.
+    pub(crate) name: &'a [u8],
+    pub(crate) block: &'a mut Block,
+    /// The reports.
+    pub(crate) log: L,
+    /// The counts of the file's lines.
+    pub(crate) tally: Tally,
+}
+
+// Whether a file of those counts is to be replaced: where a time of it was rewritten.
+fn made_of(tally: &Tally) -> Made
+    ensures { result ≡ made_of tally.now }
+{
+    if tally.rewritten == 0 {
+        Made::Same
+    } else {
+        Made::Changed
+    }
+}
+
+impl<T: Rewriting, L: Sink + Drop> Lines<'_, T, L> {
+    // Answers all lines of the old bytes, and writes what they become.
+    fn answer<R: Source, W: Sink>(self, input: &mut R, out: W) -> (Self, W, Result<(), Stop>)
+        ensures { OnOk result.2 (IfSome (R.remaining input.old)
+            (DidAll (job_of (T.is_fate self.entry.rewriting.now) (T.is_reason self.entry.rewriting.now) self.entry.name.now self.entry.settings)
+            (state (W.contents out) (L.contents self.entry.log) nothing_counted)
+            (state (W.contents result.1) (L.contents result.0.log) result.0.tally))) }
+    {
+        let Lines {
+            rewriting,
+            settings,
+            name,
+            block,
+            log,
+            tally: _,
+        } = self;
+        let mut stream = Stream::new(out, log);
+        let answered = stream.serve(rewriting, settings, name, input, block);
+        let (out, log, tally) = stream.into_parts();
+        let lines = Lines {
+            rewriting,
+            settings,
+            name,
+            block,
+            log,
+            tally,
+        };
+        (lines, out, answered)
+    }
+}
+
+impl<T: Rewriting, L: Sink + Drop> Making for Lines<'_, T, L> {
+    ghost use Rattle.restamp_replacing.specs.Replacing.{Makes};
+    ghost use Rattle.restamp_stream.specs.Answers.{job_of};
+
+    type Stop = Stop;
+
+    ghost makes = { λ before after old made. Makes
+        (job_of (T.is_fate before.rewriting.now) (T.is_reason before.rewriting.now) before.name.now before.settings)
+        (L.contents before.log) (L.contents after.log) after.tally old made };
+
+    fn make<R: Source, W: Sink>(self, input: &mut R, out: W) -> (Self, W, Result<Made, Stop>) {
+        let (lines, out, answered) = self.answer(input, out);
+        match answered {
+            Ok(()) => {
+                let made = made_of(&lines.tally);
+                (lines, out, Ok(made))
+            }
+            Err(stop) => (lines, out, Err(stop)),
+        }
+    }
+}

@@ -1,0 +1,55 @@
+//! Replaces a file by what its lines become.
+ghost use Rattle.std.specs.Option.{option_map};
+ghost use Rattle.std.specs.Prelude.{IfSome};
+ghost use Rattle.restamp_in_place.specs.Replacing.{Replaces};
+ghost use Rattle.restamp_replacing.specs.Replacing.{Makes};
+ghost use Rattle.restamp_stream.specs.Answers.{job_of};
+
+use crate::lines::Lines;
+use programs_streams::Sink;
+use restamp_in_place::{Folder, Made, Unreplaced, replace};
+use restamp_stream::{Block, Rewriting, Settings, Stop, Tally};
+use std::alloc::Global;
+
+/// A file that is to be replaced.
+#[derive(Clone, Copy)]
+pub struct Target<'a> {
+    /// Its name in its folder.
+    pub name: &'a str,
+    /// The second name of the old file, where one is asked for.
+    pub backup: Option<&'a str>,
+    /// Its name, as reports show it.
+    pub shown: &'a [u8],
+}
+
+/// Replaces a file by what its lines become, unless no time of it is rewritten. The log is given back, and how many of
+/// the file's lines had which fate.
+///
+/// The file stays as it is where a line is refused and the work stops at the first, and where anything fails but to put
+/// the folder on the disk afterwards.
+pub fn replace_file<T: Rewriting, F: Folder, L: Sink + Drop>(
+    rewriting: &T,
+    settings: Settings,
+    target: Target<'_>,
+    folder: &mut F,
+    alloc: Global,
+    log: L,
+    block: &mut Block,
+) -> (L, Tally, Result<Made, Unreplaced<Stop>>)
+    ensures { IfSome (F.events folder.old) (λ before. Replaces
+        (Makes (job_of (T.is_fate rewriting.now) (T.is_reason rewriting.now) target.entry.shown.now settings)
+        (L.contents log) (L.contents result.0) result.1)
+        before (F.events folder.new) target.entry.name.now (option_map (λ second. second.now) target.entry.backup) result.2) }
+{
+    let lines = Lines {
+        rewriting,
+        settings,
+        name: target.shown,
+        block,
+        log,
+        tally: Tally::new(),
+    };
+    let (lines, ended) = replace(folder, alloc, target.name, target.backup, lines);
+    let Lines { log, tally, .. } = lines;
+    (log, tally, ended)
+}

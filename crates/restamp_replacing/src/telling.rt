@@ -1,0 +1,41 @@
+//! Tells why a file wasn't replaced.
+ghost use Rattle.std.specs.Io.KnownBytes.{Appends};
+ghost use Rattle.std.specs.Prelude.{ℕ, List, OnOk};
+ghost use Rattle.programs_streams.specs.Faults.{HasCause};
+ghost use Rattle.restamp_stream.specs.Reports.{unread_text};
+
+use programs_streams::{Sink, Unwritten};
+use restamp_in_place::Unreplaced;
+use restamp_stream::{Stop, write_name};
+use std::alloc::Global;
+
+// Writes the name of a file and why it wasn't replaced.
+fn write_why<L: Sink>(name: &[u8], why: &[u8], log: &mut L) -> Result<(), Unwritten>
+    ensures told { OnOk result (Appends (L.contents log.old) (L.contents log.new) (unread_text name.now why.now)) }
+    ensures cause { HasCause result (L.faults log.old) (L.faults log.new) }
+{
+    write_name(name, log)?;
+    log.write_all(b": ")?;
+    log.write_all(why)?;
+    log.write_all(b"\n")
+}
+
+/// Writes the name of a file and why it wasn't replaced.
+pub fn write_unreplaced<L: Sink>(
+    alloc: Global,
+    name: &[u8],
+    why: &Unreplaced<Stop>,
+    log: &mut L,
+) -> Result<(), Unwritten>
+    ensures told { OnOk result ((why : List ℕ) × Appends (L.contents log.old) (L.contents log.new) (unread_text name.now why)) }
+    ensures cause { HasCause result (L.faults log.old) (L.faults log.new) }
+{
+    match why {
+        Unreplaced::Stopped(_) => write_why(name, b"its lines were not answered", log),
+        Unreplaced::Changed => write_why(name, b"another program changed it meanwhile", log),
+        Unreplaced::Failed(step, error) => match format!(in alloc; "{step}: {error}") {
+            Ok(text) => write_why(name, text.as_bytes(), log),
+            Err(_) => write_why(name, b"it was not replaced, and memory is short", log),
+        },
+    }
+}

@@ -2,5 +2,9 @@
 #![tactic(auto)]
 
 pub mod done;
+#[cfg(test)]
+mod marks;
 pub mod memory;
 pub mod paper;
+#[cfg(test)]
+mod replacing;

@@ -48,6 +48,17 @@ impl Memory {
         }
     }
 
+    /// Puts a file of that number on the disk, under that name.
+    pub fn put(&mut self, name: &str, number: u64, bytes: &[u8]) -> io::Result<()> {
+        let mut copy = Vec::new(self.alloc);
+        copy.extend_from_slice(bytes)?;
+        self.done.insert(0, Done::Stored(number, copy))?;
+        let thing = Done::Leads(self.text(name)?, Some(number));
+        self.done.insert(0, thing)?;
+        self.done.insert(0, Done::Synced)?;
+        Ok(())
+    }
+
     /// What was done, the last first.
     pub fn done(&self) -> &[Done]
         ensures { result.now ≡ self.now.done.items }

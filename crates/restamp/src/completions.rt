@@ -21,7 +21,7 @@ _restamp() {
                 words='-l --front --anywhere -k --field -b --between -a --after -d --delimiter --blanks --csv
                     -f --from --year --latest --offset -t --to -z --zone -u --utc --digits -o --only
                     -s --since -e --until --drop-refused -q --quiet --errors -x --strict
-                    --keep-going --color --progress --completions -h --help -V --version'
+                    --keep-going --color -i --in-place --progress --completions -h --help -V --version'
             else
                 COMPREPLY=($(compgen -f -- "$word"))
                 return
@@ -68,6 +68,7 @@ _restamp() {
         '(-x --strict)'{-x,--strict}'[stops at the first refused line]' \
         '--keep-going[goes on under --strict]' \
         '--color[shows refused lines in colours]:when:(auto always never)' \
+        '(-i --in-place -o --only)'{-i=-,--in-place=-}'[replaces each file]::suffix:' \
         '--progress[tells how far a long file was read]' \
         '--completions[prints completions]:shell:(bash zsh fish)' \
         '(-h --help)'{-h,--help}'[prints help]' \
@@ -110,6 +111,7 @@ complete -c restamp -l errors -x -d 'Names the first refused lines of a file'
 complete -c restamp -s x -l strict -d 'Stops at the first refused line'
 complete -c restamp -l keep-going -d 'Goes on under --strict'
 complete -c restamp -l color -x -a 'auto always never' -d 'Shows refused lines in colours'
+complete -c restamp -s i -l in-place -d 'Replaces each file'
 complete -c restamp -l progress -d 'Tells how far a long file was read'
 complete -c restamp -l completions -x -a 'bash zsh fish' -d 'Prints completions'
 complete -c restamp -s h -l help -d 'Prints help'

@@ -2,6 +2,8 @@
 #![tactic(auto)]
 
 mod completions;
+mod folder;
+mod in_place;
 mod opening;
 mod output;
 mod progress;
@@ -9,6 +11,7 @@ mod words;
 
 use clap::ArgMatches;
 use completions::completions_of;
+use in_place::replace_all;
 use opening::Disk;
 use output::Erasing;
 use programs_streams::Counted;
@@ -129,15 +132,48 @@ fn telling_of(rt: &HostRuntime, matches: &ArgMatches<'_>) -> Telling {
     }
 }
 
-// Does what the options ask for.
-fn follow(rt: &HostRuntime, matches: &ArgMatches<'_>) -> io::Result<u8> {
-    if let Some(shell) = matches.get_str("completions") {
-        return complete(rt, shell);
+// Tells that standard input can't be replaced.
+fn tell_input(rt: &HostRuntime) -> io::Result<u8> {
+    eprintln!(rt;
+        "error: --in-place takes files, and not standard input\n\nFor more information, try '--help'."
+    )?;
+    Ok(2)
+}
+
+// Replaces the files, where none of them is standard input.
+#[inline(never)]
+fn follow_in_place(rt: &HostRuntime, matches: &ArgMatches<'_>) -> io::Result<u8> {
+    let names = names_of(rt, matches)?;
+    for name in names.as_slice() {
+        if *name == b"-".as_slice() {
+            return tell_input(rt);
+        }
     }
+    match Request::new(rt, &Options::of(matches), shows_colors(rt)) {
+        Ok(request) => replace_all(rt, &request, names.as_slice(), telling_of(rt, matches)),
+        Err(fault) => tell(rt, fault),
+    }
+}
+
+// Answers the files, or standard input.
+#[inline(never)]
+fn follow_lines(rt: &HostRuntime, matches: &ArgMatches<'_>) -> io::Result<u8> {
     let names = names_of(rt, matches)?;
     match Request::new(rt, &Options::of(matches), shows_colors(rt)) {
         Ok(request) => answer(rt, &request, names.as_slice(), telling_of(rt, matches)),
         Err(fault) => tell(rt, fault),
+    }
+}
+
+// Does what the options ask for. Each way has a frame of its own, since it holds the bytes that it reads.
+fn follow(rt: &HostRuntime, matches: &ArgMatches<'_>) -> io::Result<u8> {
+    if let Some(shell) = matches.get_str("completions") {
+        return complete(rt, shell);
+    }
+    if matches.get_str("in-place").is_some() {
+        follow_in_place(rt, matches)
+    } else {
+        follow_lines(rt, matches)
     }
 }
 

@@ -46,6 +46,22 @@ pub(crate) struct Metered<'a, R, S: Drop> {
     progress: &'a Progress<'a, R>,
 }
 
+impl<'a, R, S: Drop> Metered<'a, R, S> {
+    pub(crate) fn new(
+        source: S,
+        meter: Option<Meter>,
+        progress: &'a Progress<'a, R>,
+    ) -> Metered<'a, R, S>
+        ensures { result.source ≡ source }
+    {
+        Metered {
+            source,
+            meter,
+            progress,
+        }
+    }
+}
+
 impl<R: Clock + Eprint, S: Read + Drop> Read for Metered<'_, R, S> {
     ghost remaining = { λ metered. S.remaining metered.source };
 

@@ -29,6 +29,7 @@ pub data Fault : Type 0 where
   latest : List ℕ → Reason → Fault
   since : List ℕ → Reason → Fault
   until : List ℕ → Reason → Fault
+  in_place : List ℕ → Fault
 
 -- what a fault says
 abbrev pub told : declared.Fault → Fault
@@ -50,6 +51,7 @@ told (fault.Color value) = color value.now
 told (fault.Latest value why) = latest value.now (seen why)
 told (fault.Since value why) = since value.now (seen why)
 told (fault.Until value why) = until value.now (seen why)
+told (fault.InPlace value) = in_place value.now
 
 -- the option, and the value that it doesn't take
 abbrev pub place_of : Fault → Option (List ℕ × List ℕ)
@@ -71,6 +73,7 @@ place_of (color value) = Some (codes "--color <WHEN>", value)
 place_of (latest value why) = Some (codes "--latest <TIME>", value)
 place_of (since value why) = Some (codes "--since <TIME>", value)
 place_of (until value why) = Some (codes "--until <TIME>", value)
+place_of (in_place value) = Some (codes "--in-place[=<SUFFIX>]", value)
 
 -- what is printed of a fault; of a word that a description has nothing is said
 abbrev pub why_text : Fault → Option (List ℕ)
@@ -92,3 +95,4 @@ why_text (color value) = Some (codes "it is not auto, always or never")
 why_text (latest value why) = Some (reason_text why)
 why_text (since value why) = Some (reason_text why)
 why_text (until value why) = Some (reason_text why)
+why_text (in_place value) = Some (codes "it has a slash")

@@ -1,5 +1,5 @@
 -- What options ask for. `Y` is the greatest year.
-use Rattle.std.specs.Prelude.{◌≡◌, ℕ, ℤ, List, [], ◌∷◌, ◌++◌, codes, Bool, true, false, ◌&&◌, ◌||◌, not, if◌then◌else◌, ◌⊎◌, MatchBool, Option, None, Some, is_some, IsSomeAnd, Result, Ok, Err}
+use Rattle.std.specs.Prelude.{◌≡◌, ℕ, ℤ, List, [], ◌∷◌, ◌++◌, codes, Bool, true, false, ◌&&◌, ◌||◌, not, if◌then◌else◌, ◌==◌, ◌⊎◌, MatchBool, Option, None, Some, is_some, IfSome, IsSomeAnd, Result, Ok, Err}
 use Rattle.std.specs.Borrow.{Bor}
 use Rattle.std.specs.List.{list_any}
 use Rattle.std.specs.Option.{option_map}
@@ -183,6 +183,14 @@ AreSettings o settings =
       strict = o.strict && not o.keep_going;
     })
 
+-- a slash stands in a text
+abbrev pub has_slash : List ℕ → Bool
+has_slash text = list_any (λ b. b == 47) text
+
+-- The suffix of the backups of files that are to be replaced, which has no slash.
+abbrev pub IsSuffix : Options → Option (List ℕ) → Type 0
+IsSuffix o suffix = (suffix ≡ text_behind o.in_place) × IfSome suffix (λ text. has_slash text ≡ false)
+
 -- Options ask for a request, where reports go to a terminal or don't.
 pub record Asks (Y : ℕ) (o : Options) (is_terminal : Bool) (r : Request) : Type 0 where
   pub place : IsPlace o (seen_place r.place)
@@ -195,6 +203,7 @@ pub record Asks (Y : ℕ) (o : Options) (is_terminal : Bool) (r : Request) : Typ
   pub settings : AreSettings o r.settings
   pub shows_lines : shows_of o.color.now is_terminal ≡ Some r.shows_lines
   pub strict : r.strict ≡ o.strict
+  pub in_place : IsSuffix o (text_behind r.in_place)
 
 -- A bound's text says no moment by the formats and defaults of the options, for that reason.
 abbrev pub IsNoBound : ℕ → Options → Option (List ℕ) → List ℕ → Reason → Type 0
@@ -232,6 +241,7 @@ IsFault Y o (fault.color value) = (value ≡ o.color.now) × ((is_terminal : Boo
 IsFault Y o (fault.latest value reason) = IsNoLatest Y o value reason
 IsFault Y o (fault.since value reason) = IsNoBound Y o (text_behind o.since) value reason
 IsFault Y o (fault.until value reason) = IsNoBound Y o (text_behind o.until) value reason
+IsFault Y o (fault.in_place value) = (text_behind o.in_place ≡ Some value) × (has_slash value ≡ true)
 
 -- A job does what a request asks for.
 pub record IsJobOf (r : Request) (job : Job) : Type 0 where

@@ -46,6 +46,8 @@ pub enum Fault<'a> {
     Since(&'a str, Reason),
     /// `--until` takes a time.
     Until(&'a str, Reason),
+    /// `--in-place` takes a suffix with no slash.
+    InPlace(&'a str),
 }
 
 impl<'a> Fault<'a> {
@@ -72,6 +74,7 @@ impl<'a> Fault<'a> {
             Fault::Color(value) => Some(("--color <WHEN>", value)),
             Fault::Since(value, _) => Some(("--since <TIME>", value)),
             Fault::Until(value, _) => Some(("--until <TIME>", value)),
+            Fault::InPlace(value) => Some(("--in-place[=<SUFFIX>]", value)),
         }
     }
 }
@@ -99,6 +102,7 @@ impl fmt::Display for Fault<'_> {
             Fault::Color(_) => write!(f, "it is not auto, always or never"),
             Fault::Since(_, reason) => write!(f, "{reason}"),
             Fault::Until(_, reason) => write!(f, "{reason}"),
+            Fault::InPlace(_) => write!(f, "it has a slash"),
         }
     }
 }

@@ -15,6 +15,6 @@ mod zone;
 
 pub use fault::Fault;
 pub use request::Request;
-pub use rewriting::{Restamping, serve};
+pub use rewriting::{Restamping, replace, serve};
 pub use style::Style;
 pub use zone::Zone;

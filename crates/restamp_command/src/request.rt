@@ -43,6 +43,8 @@ pub struct Request<'a> {
     pub shows_lines: bool,
     /// Whether a refused line is a failure, and a line with no place for a time is refused.
     pub strict: bool,
+    /// The suffix of the backups of files that are to be replaced. An empty one asks for none.
+    pub in_place: Option<&'a str>,
 }
 
 // How a line has fields.
@@ -207,6 +209,20 @@ fn find_settings<'a>(options: &Options<'_, 'a>) -> Result<Settings, Fault<'a>>
     })
 }
 
+// The suffix of the backups of files that are to be replaced.
+fn find_in_place<'a>(options: &Options<'_, 'a>) -> Result<Option<&'a str>, Fault<'a>>
+    ensures { MatchResult result (λ suffix. spec.IsSuffix options.now (text_behind suffix))
+        (λ fault. spec.IsFault greatest_year options.now (told fault)) }
+{
+    let Some(suffix) = options.in_place else {
+        return Ok(None);
+    };
+    if suffix.as_bytes().contains(&b'/') {
+        return Err(Fault::InPlace(suffix));
+    }
+    Ok(Some(suffix))
+}
+
 impl<'a> Request<'a> {
     /// What the options ask for. Where `--color` is `auto`, colours are shown if reports go to a terminal. A zone that they
     /// name is read from its file.
@@ -238,6 +254,7 @@ impl<'a> Request<'a> {
         }
         let style = find_style(rt, options)?;
         let settings = find_settings(options)?;
+        let in_place = find_in_place(options)?;
         let Some(shows_lines) = find_shows(options.color, is_terminal) else {
             return Err(Fault::Color(options.color));
         };
@@ -260,6 +277,7 @@ impl<'a> Request<'a> {
             settings,
             shows_lines,
             strict: options.strict,
+            in_place,
         })
     }
 

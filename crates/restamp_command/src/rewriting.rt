@@ -1,7 +1,11 @@
 //! The answer to files.
-ghost use Rattle.std.specs.Prelude.{◌≡◌, ◌≢◌, IfErr, OnOk, map};
+ghost use Rattle.std.specs.Option.{option_map};
+ghost use Rattle.std.specs.Prelude.{◌≡◌, ◌≢◌, IfErr, IfSome, OnOk, map};
 ghost use Rattle.time_values.specs.Range.{greatest_year};
 ghost use Rattle.programs_streams.specs.Faults.{HasCause};
+ghost use Rattle.restamp_in_place.specs.Replacing.{Replaces};
+ghost use Rattle.restamp_replacing.specs.Replacing.{Makes};
+ghost use Rattle.restamp_stream.specs.Answers.{job_of};
 ghost use Rattle.restamp_stream.specs.Causes.{faults_of, HasWriteCause};
 ghost use Rattle.restamp_stream.specs.Fates.{WritesReason};
 ghost use Rattle.restamp_stream.specs.Files.{DidFiles, StoppedIn};
@@ -15,8 +19,11 @@ use crate::expected::write_expected;
 use crate::pointing::write_pointer;
 use crate::request::Request;
 use programs_streams::{Sink, Unwritten};
-use restamp_stream::{Block, Fate, Opening, Rewriting, Stop, Stream};
+use restamp_in_place::{Folder, Made, Unreplaced};
+use restamp_replacing::{Target, replace_file};
+use restamp_stream::{Block, Fate, Opening, Rewriting, Stop, Stream, Tally};
 use restamp_verdict::{Job, Reason, Verdict, Why, Wrong};
+use std::alloc::Global;
 use time_values::text::Text;
 
 /// A job, which says which fate a line has, and how a refused line is told.
@@ -129,4 +136,38 @@ pub fn serve<W: Sink, L: Sink, O: Opening>(
         shows_lines: request.shows_lines,
     };
     stream.serve_files(&rewriting, request.settings, names, opening, block)
+}
+
+/// Replaces a file by what its lines become as it is asked for, unless no time of it is rewritten. The log is given back,
+/// and how many of the file's lines had which fate.
+///
+/// At each moment a crash leaves under the file's name what it might have left before, or the new file, whole.
+pub fn replace<F: Folder, L: Sink + Drop>(
+    request: &Request<'_>,
+    target: Target<'_>,
+    folder: &mut F,
+    alloc: Global,
+    log: L,
+    block: &mut Block,
+) -> (L, Tally, Result<Made, Unreplaced<Stop>>)
+    ensures { (job : Job_) × IsJobOf request.now job
+        × IfSome (F.events folder.old) (λ before. Replaces
+        (Makes (job_of (IsFate greatest_year job) (IsReason greatest_year job request.now.shows_lines)
+        target.entry.shown.now request.now.settings) (L.contents log) (L.contents result.0) result.1)
+        before (F.events folder.new) target.entry.name.now (option_map (λ second. second.now) target.entry.backup) result.2) }
+{
+    let shows_lines = request.shows_lines;
+    let rewriting = Restamping {
+        job: request.job(),
+        shows_lines,
+    };
+    replace_file(
+        &rewriting,
+        request.settings,
+        target,
+        folder,
+        alloc,
+        log,
+        block,
+    )
 }

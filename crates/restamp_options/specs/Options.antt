@@ -70,3 +70,4 @@ pub record AreGiven (f : Found) (o : Options) : Type 0 where
   pub color : o.color.now ≡ text_given f (codes "color")
   pub strict : IsFlag f (codes "strict") o.strict
   pub keep_going : IsFlag f (codes "keep-going") o.keep_going
+  pub in_place : text_behind o.in_place ≡ first_value f (codes "in-place")

@@ -23,12 +23,22 @@ fn option<'a>(alloc: Global, row: &Row) -> Result<Arg<'a>, AllocError> {
         Kind::Text(value) => with_value(option, value),
         Kind::Texts(value) => with_value(option, value).action(ArgAction::Append),
         Kind::Pair(value) => with_value(option, value).num_args(2..=2),
+        Kind::Attached(value) => with_attached(option, value),
     })
 }
 
 // The option with a value of that name.
 fn with_value<'a>(option: Arg<'a>, name: &'static str) -> Arg<'a> {
     option.value_name(name).allow_hyphen_values(true)
+}
+
+// The option with a value of that name behind `=`, which may be left out.
+fn with_attached<'a>(option: Arg<'a>, name: &'static str) -> Arg<'a> {
+    option
+        .value_name(name)
+        .num_args(0..=1)
+        .require_equals(true)
+        .default_missing_value("")
 }
 
 // The words that are no options.

@@ -61,6 +61,8 @@ pub struct Options<'m, 'a> {
     pub strict: bool,
     /// `--keep-going`.
     pub keep_going: bool,
+    /// `--in-place`, with no suffix an empty one.
+    pub in_place: Option<&'a str>,
 }
 
 // The text of an option that has a default.
@@ -123,6 +125,7 @@ impl<'m, 'a> Options<'m, 'a> {
             color: text_of(matches, "color"),
             strict: matches.get_flag("strict"),
             keep_going: matches.get_flag("keep-going"),
+            in_place: matches.get_str("in-place"),
         }
     }
 }

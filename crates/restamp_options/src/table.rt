@@ -8,13 +8,14 @@ pub(crate) const EXAMPLES: &str = "Examples:
   restamp -a 'Date: ' -f rfc2822 mbox
   restamp -k 3 --csv -f '[day]/[month]/[year] [hour]:[minute]' orders.csv
   restamp -l -f syslog --year 2026 -s 2026-11-25T12:00:00Z syslog
+  restamp -i=.old -k 2 --csv -z utc orders.csv
 
 FORMAT is rfc3339, rfc2822, iso8601, unix, unix-ms, unix-us, unix-ns; or a
 description, as `[year]-[month]-[day]` or as strftime has it, `%Y-%m-%d`;
 for --from also common (access logs) or syslog.
 The status is 0 where a time was rewritten, 1 where none was, and 2 after a
-wrong option, a file that was not read, a failed write, or a line that is
-refused under --strict.";
+wrong option, a file that was not read or not replaced, a failed write, or a
+line that is refused under --strict.";
 
 /// What values an option has, and what help calls them.
 #[derive(Clone, Copy)]
@@ -27,6 +28,8 @@ pub(crate) enum Kind {
     Texts(&'static str),
     /// Two.
     Pair(&'static str),
+    /// One behind `=`, or the empty text.
+    Attached(&'static str),
 }
 
 /// An option.
@@ -257,6 +260,14 @@ pub(crate) static SECTIONS: [(&str, &[Row]); 5] = [
 
 /// The options under no heading.
 pub(crate) const OTHERS: &[Row] = &[
+    Row {
+        name: "in-place",
+        letter: Some('i'),
+        kind: Kind::Attached("SUFFIX"),
+        help: "Replaces each FILE; SUFFIX names a backup of it",
+        excludes: &["only"],
+        ..FLAG
+    },
     Row {
         name: "progress",
         help: "Tells how far a long file was read",

@@ -1,0 +1,170 @@
+//! The folders of a disk.
+use crate::opening::Metered;
+use crate::progress::{Meter, Progress};
+use programs_streams::Counted;
+use restamp_in_place::{Folder, Original};
+use std::fs::{Metadata, OpenFile, OpenOptions, Permissions};
+use std::io::ErrorKind;
+use std::os::unix::fs::{FileTypeExt, MetadataExt, OpenOptionsExt, PermissionsExt, lchown};
+use std::path::PathBuf;
+use std::rt::Files;
+use std::time::Clock;
+use std::{fs, io};
+
+// The bits of a mode that say who may read, write and run a file.
+const MODE: u32 = 0o7777;
+
+/// A folder of the system.
+#[derive(Drop)]
+pub(crate) struct DiskFolder<'a, R> {
+    rt: &'a R,
+    progress: &'a Progress<'a, R>,
+    path: PathBuf,
+    // The path of the file, as it was given.
+    shown: &'a str,
+}
+
+// Why a file of that kind isn't replaced.
+fn refusal_of(metadata: &Metadata) -> Option<&'static str> {
+    let kind = metadata.file_type();
+    if kind.is_file() {
+        return (metadata.nlink() > 1).then_some("it has more than one name (hard links)");
+    }
+    Some(if kind.is_dir() {
+        "it is a folder"
+    } else if kind.is_fifo() {
+        "it is a pipe"
+    } else if kind.is_socket() {
+        "it is a socket"
+    } else {
+        "it is a device"
+    })
+}
+
+// What a file was when it was looked at, where it is one that may be replaced.
+fn original_of(metadata: &Metadata) -> io::Result<Original> {
+    if let Some(why) = refusal_of(metadata) {
+        return Err(io::Error::new(ErrorKind::InvalidInput, why));
+    }
+    Ok(Original {
+        number: metadata.ino(),
+        device: metadata.dev(),
+        length: metadata.len(),
+        written: (metadata.mtime(), metadata.mtime_nsec()),
+        mode: metadata.mode() & MODE,
+        owner: metadata.uid(),
+        group: metadata.gid(),
+    })
+}
+
+/// The folder in which the file of a path stands, and its name there. A symbolic link is followed.
+pub(crate) fn find<'a, R: Files + AllocGlobal>(
+    rt: &'a R,
+    progress: &'a Progress<'a, R>,
+    path: &'a str,
+) -> io::Result<(DiskFolder<'a, R>, String)> {
+    let mut whole = fs::canonicalize(rt, path)?;
+    let name = match whole.file_name() {
+        Some(name) => String::from_str(rt.alloc(), name)?,
+        None => return Err(io::Error::new(ErrorKind::InvalidInput, "it is a folder")),
+    };
+    whole.pop();
+    let folder = DiskFolder {
+        rt,
+        progress,
+        path: whole,
+        shown: path,
+    };
+    Ok((folder, name))
+}
+
+impl<'a, R: Files + Clock + Eprint + AllocGlobal> DiskFolder<'a, R> {
+    // The path of a name in the folder.
+    fn path_of(&self, name: &str) -> io::Result<PathBuf> {
+        Ok(self.path.join(self.rt.alloc(), name)?)
+    }
+
+    // The meter of a file of that size, where its progress is to be told.
+    fn meter(&self, size: u64) -> Option<Meter> {
+        if !self.progress.is_wanted() {
+            return None;
+        }
+        let size = (size > 0).then_some(size);
+        self.progress.begin(self.rt.alloc(), self.shown, size)
+    }
+
+    // Gives a file the owner and the group of another, where that may be set.
+    fn keep_owner(&self, name: &str, original: &Original) -> io::Result<()> {
+        let path = self.path_of(name)?;
+        let made = fs::symlink_metadata(self.rt, path.as_path())?;
+        if made.gid() != original.group {
+            let _ = lchown(self.rt, path.as_path(), None, Some(original.group));
+        }
+        if made.uid() != original.owner {
+            let _ = lchown(self.rt, path.as_path(), Some(original.owner), None);
+        }
+        Ok(())
+    }
+}
+
+impl<'a, R: Files + Clock + Eprint + AllocGlobal> Folder for DiskFolder<'a, R> {
+    ghost use Rattle.std.specs.Prelude.{None};
+
+    type Old = Counted<Metered<'a, R, R::File>>;
+
+    type New = Counted<R::File>;
+
+    ghost events = { λ _. None };
+
+    fn open(&self, name: &str) -> io::Result<(Self::Old, Original)> {
+        self.progress.erase();
+        let path = self.path_of(name)?;
+        let seen = original_of(&fs::symlink_metadata(self.rt, path.as_path())?)?;
+        let file = fs::open(self.rt, path.as_path())?;
+        let original = original_of(&file.metadata()?)?;
+        if original != seen {
+            return Err(io::Error::new(ErrorKind::Other, "another program changed it meanwhile"));
+        }
+        let input = Metered::new(file, self.meter(original.length), self.progress);
+        Ok((Counted::new(input), original))
+    }
+
+    fn is_at(&self, name: &str, original: &Original) -> io::Result<bool> {
+        let path = self.path_of(name)?;
+        let seen = original_of(&fs::symlink_metadata(self.rt, path.as_path())?)?;
+        Ok(seen == *original)
+    }
+
+    fn create(&mut self, name: &str) -> io::Result<Self::New> {
+        let path = self.path_of(name)?;
+        let file = OpenOptions::new()
+            .write(true)
+            .create_new(true)
+            .mode(0o600)
+            .open(self.rt, path.as_path())?;
+        Ok(Counted::new(file))
+    }
+
+    fn store(&mut self, name: &str, new: Self::New, original: &Original) -> io::Result<()> {
+        self.keep_owner(name, original)?;
+        let (file, _) = new.into_parts();
+        file.set_permissions(Permissions::from_mode(original.mode))?;
+        file.sync_all()
+    }
+
+    fn link(&mut self, name: &str, second: &str) -> io::Result<()> {
+        fs::hard_link(self.rt, self.path_of(name)?, self.path_of(second)?)
+    }
+
+    fn rename(&mut self, name: &str, onto: &str) -> io::Result<()> {
+        fs::rename(self.rt, self.path_of(name)?, self.path_of(onto)?)
+    }
+
+    fn remove(&mut self, name: &str) -> io::Result<()> {
+        fs::remove_file(self.rt, self.path_of(name)?)
+    }
+
+    fn sync(&mut self) -> io::Result<()> {
+        fs::open(self.rt, self.path.as_path())?.sync_all()
+    }
+}

@@ -1,0 +1,114 @@
+//! Replaces files by what their lines become.
+use crate::folder::find;
+use crate::output::Erasing;
+use crate::progress::{Progress, Telling};
+use programs_streams::{Counted, Sink};
+use restamp_command::{Request, replace};
+use restamp_in_place::{Made, Step, Unreplaced, backup_name};
+use restamp_replacing::{Target, write_unreplaced};
+use restamp_stream::{Block, Stop, Tally, status};
+use std::alloc::Global;
+use std::io;
+use std::io::{BufWriter, ErrorKind};
+
+// The name of a file's backup, where one is asked for.
+fn backup_of(alloc: Global, name: &str, suffix: &str) -> io::Result<Option<String>> {
+    if suffix.is_empty() {
+        return Ok(None);
+    }
+    Ok(Some(backup_name(alloc, name, suffix)?))
+}
+
+// Replaces a file, where it is one that may be.
+fn try_to_replace<L: Sink + Drop>(
+    rt: &HostRuntime,
+    request: &Request<'_>,
+    shown: &[u8],
+    progress: &Progress<'_, HostRuntime>,
+    log: L,
+    block: &mut Block,
+) -> (L, Tally, Result<Made, Unreplaced<Stop>>) {
+    let Ok(path) = std::str::from_utf8(shown) else {
+        let error = io::Error::from(ErrorKind::InvalidInput);
+        return (
+            log,
+            Tally::new(),
+            Err(Unreplaced::Failed(Step::Open, error)),
+        );
+    };
+    let (mut folder, name) = match find(rt, progress, path) {
+        Ok(found) => found,
+        Err(e) => return (log, Tally::new(), Err(Unreplaced::Failed(Step::Open, e))),
+    };
+    let suffix = request.in_place.unwrap_or("");
+    let backup = match backup_of(rt.alloc(), name.as_str(), suffix) {
+        Ok(backup) => backup,
+        Err(e) => return (log, Tally::new(), Err(Unreplaced::Failed(Step::BackUp, e))),
+    };
+    let target = Target {
+        name: name.as_str(),
+        backup: match &backup {
+            Some(backup) => Some(backup.as_str()),
+            None => None,
+        },
+        shown,
+    };
+    replace(request, target, &mut folder, rt.alloc(), log, block)
+}
+
+// The same, and tells why it wasn't replaced. A file of which a read failed, or that wasn't replaced, stops nothing.
+fn replace_next<L: Sink + Drop>(
+    rt: &HostRuntime,
+    request: &Request<'_>,
+    shown: &[u8],
+    progress: &Progress<'_, HostRuntime>,
+    log: L,
+    block: &mut Block,
+) -> (L, Tally, Option<Stop>) {
+    let (mut log, mut tally, ended) = try_to_replace(rt, request, shown, progress, log, block);
+    let why = match ended {
+        Ok(_) | Err(Unreplaced::Stopped(Stop::Unread)) => return (log, tally, None),
+        Err(Unreplaced::Stopped(stop)) => return (log, tally, Some(stop)),
+        Err(why) => why,
+    };
+    tally.count_unread();
+    let told = match write_unreplaced(rt.alloc(), shown, &why, &mut log) {
+        Ok(()) => log.flush(),
+        Err(unwritten) => Err(unwritten),
+    };
+    let stop = told.is_err().then_some(Stop::Unwritten);
+    (log, tally, stop)
+}
+
+// Adds what was counted of a file.
+fn add(total: &mut Tally, file: &Tally) {
+    total.rewritten = total.rewritten.saturating_add(file.rewritten);
+    total.refused = total.refused.saturating_add(file.refused);
+    total.unread = total.unread.saturating_add(file.unread);
+}
+
+/// Replaces the files, one after the other, and gives the exit status.
+pub(crate) fn replace_all(
+    rt: &HostRuntime,
+    request: &Request<'_>,
+    names: &[&[u8]],
+    telling: Telling,
+) -> io::Result<u8> {
+    let progress = Progress::new(rt, telling);
+    let mut log = Counted::new(BufWriter::new(rt.alloc(), Erasing::new(rt.stderr(), &progress))?);
+    let mut block = Block::new();
+    let mut total = Tally::new();
+    let mut stop = None;
+    for name in names {
+        let (back, tally, ended) = replace_next(rt, request, name, &progress, log, &mut block);
+        log = back;
+        add(&mut total, &tally);
+        stop = ended;
+        if stop.is_some() {
+            break;
+        }
+    }
+    drop(log);
+    progress.erase();
+    Ok(status(&total, stop, request.strict))
+}

@@ -83,4 +83,13 @@ impl<const N: usize> Write for Held<N> {
     fn flush(&mut self) -> io::Result<()> {
         Ok(())
     }
+
+    #[inline(always)]
+    fn write_all(&mut self, buf: &[u8]) -> io::Result<()> {
+        if !self.has_room(buf) {
+            return Err(io::Error::from(ErrorKind::WriteZero));
+        }
+        self.append(buf);
+        Ok(())
+    }
 }

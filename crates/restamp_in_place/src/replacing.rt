@@ -136,6 +136,16 @@ fn install<F: Folder>(folder: &mut F, plan: &Plan<'_>, new: F::New) -> Result<()
     }
 }
 
+// Puts the folder on the disk, in which the new file is in its place.
+fn settle<F: Folder>(disk: &mut F) -> Result<(), Unput>
+    ensures { (aim : Aim) → Goes (F.events disk.old) (F.events disk.new) result (Put aim) (Done aim) (Reached aim) }
+{
+    match disk.sync() {
+        Ok(()) => Ok(()),
+        Err(e) => Err(Unput::Failed(Step::Sync, e)),
+    }
+}
+
 // The same, and puts the folder on the disk. Where the new file doesn't take its place, it is removed.
 fn put<F: Folder>(folder: &mut F, plan: &Plan<'_>, new: F::New) -> Result<(), Unput>
     ensures { (aim : Aim) → IsPlanOf aim plan.now → IsWritten aim (F.New.contents new)
@@ -148,10 +158,7 @@ fn put<F: Folder>(folder: &mut F, plan: &Plan<'_>, new: F::New) -> Result<(), Un
             return Err(unput);
         }
     }
-    match folder.sync() {
-        Ok(()) => Ok(()),
-        Err(e) => Err(Unput::Failed(Step::Sync, e)),
-    }
+    settle(folder)
 }
 
 // The same, of a file whose new bytes were made.

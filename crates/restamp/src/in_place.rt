@@ -20,11 +20,11 @@ fn backup_of(alloc: Global, name: &str, suffix: &str) -> io::Result<Option<Strin
 }
 
 // Replaces a file, where it is one that may be.
-fn try_to_replace<L: Sink + Drop>(
-    rt: &HostRuntime,
+fn try_to_replace<'a, L: Sink + Drop>(
+    rt: &'a HostRuntime,
     request: &Request<'_>,
-    shown: &[u8],
-    progress: &Progress<'_, HostRuntime>,
+    shown: &'a [u8],
+    progress: &'a Progress<'a, HostRuntime>,
     log: L,
     block: &mut Block,
 ) -> (L, Tally, Result<Made, Unreplaced<Stop>>) {
@@ -57,11 +57,11 @@ fn try_to_replace<L: Sink + Drop>(
 }
 
 // The same, and tells why it wasn't replaced. A file of which a read failed, or that wasn't replaced, stops nothing.
-fn replace_next<L: Sink + Drop>(
-    rt: &HostRuntime,
+fn replace_next<'a, L: Sink + Drop>(
+    rt: &'a HostRuntime,
     request: &Request<'_>,
-    shown: &[u8],
-    progress: &Progress<'_, HostRuntime>,
+    shown: &'a [u8],
+    progress: &'a Progress<'a, HostRuntime>,
     log: L,
     block: &mut Block,
 ) -> (L, Tally, Option<Stop>) {

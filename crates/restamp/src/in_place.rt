@@ -19,12 +19,21 @@ fn backup_of(alloc: Global, name: &str, suffix: &str) -> io::Result<Option<Strin
     Ok(Some(backup_name(alloc, name, suffix)?))
 }
 
+// A file of that name in its folder.
+fn target_of<'a>(name: &'a str, backup: Option<&'a str>, shown: &'a [u8]) -> Target<'a> {
+    Target {
+        name,
+        backup,
+        shown,
+    }
+}
+
 // Replaces a file, where it is one that may be.
-fn try_to_replace<L: Sink + Drop>(
-    rt: &HostRuntime,
+fn try_to_replace<'a, L: Sink + Drop>(
+    rt: &'a HostRuntime,
     request: &Request<'_>,
-    shown: &[u8],
-    progress: &Progress<'_, HostRuntime>,
+    shown: &'a [u8],
+    progress: &'a Progress<'a, HostRuntime>,
     log: L,
     block: &mut Block,
 ) -> (L, Tally, Result<Made, Unreplaced<Stop>>) {
@@ -45,23 +54,20 @@ fn try_to_replace<L: Sink + Drop>(
         Ok(backup) => backup,
         Err(e) => return (log, Tally::new(), Err(Unreplaced::Failed(Step::BackUp, e))),
     };
-    let target = Target {
-        name: name.as_str(),
-        backup: match &backup {
-            Some(backup) => Some(backup.as_str()),
-            None => None,
-        },
-        shown,
+    let second = match &backup {
+        Some(backup) => Some(backup.as_str()),
+        None => None,
     };
+    let target = target_of(name.as_str(), second, shown);
     replace(request, target, &mut folder, rt.alloc(), log, block)
 }
 
 // The same, and tells why it wasn't replaced. A file of which a read failed, or that wasn't replaced, stops nothing.
-fn replace_next<L: Sink + Drop>(
-    rt: &HostRuntime,
+fn replace_next<'a, L: Sink + Drop>(
+    rt: &'a HostRuntime,
     request: &Request<'_>,
-    shown: &[u8],
-    progress: &Progress<'_, HostRuntime>,
+    shown: &'a [u8],
+    progress: &'a Progress<'a, HostRuntime>,
     log: L,
     block: &mut Block,
 ) -> (L, Tally, Option<Stop>) {

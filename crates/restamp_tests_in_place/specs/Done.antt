@@ -8,7 +8,8 @@ use Rattle.restamp_tests_in_place.specs.declared.done.Done.TheVariants.{Leads, R
 -- a thing that was done, the last of it first
 abbrev pub events_of : Done → List Event
 events_of (Leads name file) = event.Leads (string_bytes name) file ∷ []
-events_of (Renamed name onto file) = event.Leads (string_bytes name) None ∷ event.Leads (string_bytes onto) (Some file) ∷ []
+events_of (Renamed name onto file) =
+    event.Leads (string_bytes name) None ∷ event.Leads (string_bytes onto) (Some file) ∷ []
 events_of (Stored file bytes) = event.Stored file bytes.items ∷ []
 events_of Synced = event.Synced ∷ []
 

@@ -1,7 +1,7 @@
 -- A moment of RFC 3339 that stands in front of a text up to the end of its first line.
-use Rattle.std.proofs.Common.{◌≡◌, ◌≢◌, ◌≤◌, ◌<◌, ◌+◌, ◌∙◌, ◌⊎◌, ℕ, Bool, true, false, Option, Some, None, Ok, List, [], ◌∷◌, ◌++◌, length, get_or, codes, ap, refl, sym, subst, inl, inr, arith, append_assoc, append-nil}
+use Rattle.std.proofs.Common.{◌≡◌, ◌≢◌, ◌≤◌, ◌+◌, ◌∙◌, ℕ, Bool, true, false, Option, Some, None, Ok, List, [], ◌∷◌, ◌++◌, length, get_or, ap, refl, sym, subst, inl, inr, arith, append_assoc, append-nil}
 use Rattle.std.proofs.lemmas.Bool.Decides.{nat_tests}
-use Rattle.std.proofs.lemmas.List.{get_or-append_right, get_or_append_left, length-append}
+use Rattle.std.proofs.lemmas.List.{get_or-append_right, length-append}
 use Rattle.programs_answers.specs.Lines.{lines_of, onto_first}
 use Rattle.std.specs.Char.{to_ascii_lowercase}
 use Rattle.time_digits.specs.Bytes.{sign_byte}
@@ -9,8 +9,7 @@ use Rattle.time_digits.specs.declared.Sign.{Sign}
 use Rattle.time_digits.specs.declared.Sign.TheVariants.{Negative, Positive}
 use Rattle.time_digits.specs.Digits.{AllDigits, IsDigitRun, IsFraction, NoDigitFirst}
 use Rattle.time_readers.specs.Places.{Stand}
-use Rattle.time_readers.specs.Ranges.{IsTwoDigits}
-use Rattle.time_readers.specs.Rfc3339.{Asks, HasForm, IsOffsetColon, IsOffsetMinute, IsSignedHour, IsSubsecond, NoDotFirst, date_places, nothing_read, offset_places}
+use Rattle.time_readers.specs.Rfc3339.{Asks, HasForm, IsOffsetColon, IsOffsetMinute, IsSubsecond, NoDotFirst, date_places, nothing_read, offset_places}
 use Rattle.time_readers.specs.declared.rfc3339.Numbers.{Numbers}
 use Rattle.time_readers.specs.declared.rfc3339.Place.{Place}
 use Rattle.time_readers.specs.declared.rfc3339.Place.TheVariants as place

@@ -1,7 +1,7 @@
 -- Moments of RFC 3339 that are read in place.
-use Rattle.std.proofs.Common.{◌≡◌, ◌≤◌, ◌<◌, ◌==◌, ◌∙◌, ℕ, true, false, Option, Some, None, IfSome, Ok, List, [], ◌∷◌, length, pos, ap, refl, arith}
+use Rattle.std.proofs.Common.{◌≡◌, ◌≤◌, ◌<◌, ◌==◌, ◌-◌, ◌∙◌, ℕ, false, Option, Some, None, IfSome, Ok, List, [], ◌∷◌, length, take, drop, pos, ap, refl, arith}
 use Rattle.std.proofs.lemmas.Bool.{ne_eqb}
-use Rattle.std.proofs.lemmas.Bool.Decides.{nat_tests}
+use Rattle.std.proofs.lemmas.List.{length-take-le}
 use Rattle.time_values.specs.DateRefusals.{calendar_date_refusal}
 use Rattle.time_values.specs.Dates as Dates
 use Rattle.time_values.specs.Moments.{offset_date, offset_time, offset_of}
@@ -62,10 +62,15 @@ unfolding Stand
 whole_stands bytes mid left rest n k m first fraction last =
     Stand-append (Asks false) to_second_places (Subsecond ∷ offset_places) nothing_read n m bytes mid rest first (left, k, fraction, last)
 
--- a text of no bytes
-pub no_bytes : (xs : List ℕ) → (length xs == 0) ≡ true → xs ≡ []
+no_bytes : (xs : List ℕ) → length xs ≤ 0 → xs ≡ []
 no_bytes [] none = refl
-no_bytes (x ∷ xs) none = absurd (grind (arith, nat_tests, none))
+no_bytes (x ∷ xs) none = absurd (omega arith)
+
+-- what follows all bytes
+pub nothing_left : (xs : List ℕ) (n : ℕ) → length xs ≡ n → take (length xs - n) (drop n xs) ≡ []
+nothing_left xs n all =
+    let none = length-take-le (length xs - n) (drop n xs) (omega arith) in
+    no_bytes (take (length xs - n) (drop n xs)) (omega arith)
 
 -- the moment of the numbers of a whole text is what a parse of the text answers
 pub outcome_of : (bytes : List ℕ) (n : Numbers) (o : Option OffsetDateTime) → HasForm false bytes [] n → n.offset_minute ≤ 59

@@ -1,5 +1,5 @@
 -- Where the first LF stands, by the mask of the bytes in front.
-use Rattle.std.proofs.Common.{eqb, ℕ, ap, sym, ◌∙◌, ◌≡◌, ◌+◌, ◌<◌, ◌≤◌, ◌∷◌, not, Bool, true, false, cond, List, [], map, length, take, drop, get_or, refl, inl, inr, ◌*◌, zero-add, arith}
+use Rattle.std.proofs.Common.{eqb, ℕ, ◌≡◌, ◌+◌, ◌<◌, ◌≤◌, ◌∷◌, not, Bool, true, false, cond, List, [], map, length, take, drop, get_or, refl, inl, inr, ◌*◌, zero-add, arith}
 use Rattle.std.proofs.lemmas.Bool.{cases_lt, eqb-true}
 use Rattle.std.specs.List.{prefix_len}
 use lib.Lanes.{chunk, mask_l}

@@ -4,7 +4,7 @@
 pub(super) mod iso8601;
 pub(super) mod rfc2822;
 
-ghost use Rattle.std.specs.Prelude.{◌≡◌, ◌≢◌, ◌<◌, ◌≤◌, IfSome, List, ℕ, Ok, None, false, length, pos, slice_index};
+ghost use Rattle.std.specs.Prelude.{◌≡◌, ◌≢◌, ◌<◌, ◌≤◌, IfSome, List, ℕ, Ok, None, [], false, length, pos, slice_index};
 ghost use Rattle.time_values.specs.Offsets.{HasOffset, offset_refusal};
 ghost use Rattle.time_values.specs.Range.{greatest_year};
 ghost use Rattle.time_values.specs.Refusal.{Constructs};
@@ -43,23 +43,22 @@ fn subsecond(numbers: Numbers, rest: &[u8]) -> Option<(Numbers, &[u8])>
     Some((numbers, found.0))
 }
 
-// The places of an offset, and what follows it. `None`: not this form.
+// The places of an offset with which the text ends. `None`: not this form.
 #[inline(always)]
-fn offset(numbers: Numbers, rest: &[u8]) -> Option<(Numbers, &[u8])>
+fn offset(numbers: Numbers, rest: &[u8]) -> Option<Numbers>
     requires utc { numbers.is_utc ≡ false }
     requires hour { numbers.offset_hour ≡ 0 }
     requires minute { numbers.offset_minute ≡ 0 }
-    ensures stands { IfSome result (λ found. Stand (Asks false) offset_places numbers rest.now found.1.now found.0) }
-    ensures second { IfSome result (λ found. found.0.second ≡ numbers.second) }
-    ensures hour { IfSome result (λ found. found.0.offset_hour ≤ 23) }
-    ensures minute { IfSome result (λ found. found.0.offset_minute ≤ 59) }
+    ensures stands { IfSome result (λ found. Stand (Asks false) offset_places numbers rest.now [] found) }
+    ensures second { IfSome result (λ found. found.second ≡ numbers.second) }
+    ensures hour { IfSome result (λ found. found.offset_hour ≤ 23) }
+    ensures minute { IfSome result (λ found. found.offset_minute ≤ 59) }
 {
-    if let [b'Z', after @ ..] = rest {
-        let numbers = Numbers {
+    if let [b'Z'] = rest {
+        return Some(Numbers {
             is_utc: true,
             ..numbers
-        };
-        return Some((numbers, after));
+        });
     }
     let [
         sign @ (b'-' | b'+'),
@@ -68,7 +67,6 @@ fn offset(numbers: Numbers, rest: &[u8]) -> Option<(Numbers, &[u8])>
         b':',
         c @ b'0'..=b'5',
         d @ b'0'..=b'9',
-        after @ ..,
     ] = rest
     else {
         return None;
@@ -77,13 +75,12 @@ fn offset(numbers: Numbers, rest: &[u8]) -> Option<(Numbers, &[u8])>
     if hour > 23 {
         return None;
     }
-    let numbers = Numbers {
+    Some(Numbers {
         offset_is_negative: *sign == b'-',
         offset_hour: hour,
         offset_minute: 10 * (*c - b'0') + (*d - b'0'),
         ..numbers
-    };
-    Some((numbers, after))
+    })
 }
 
 // The offset that is said. That of UTC is a constant. `None`: there is none.
@@ -135,14 +132,11 @@ fn made(said: Said) -> Option<OffsetDateTime>
     Some(OffsetDateTime::new_in_offset(date, time, offset))
 }
 
-// The places of a moment, and what follows it. `None`: not this form.
+// A whole moment. `None`: not this form.
 #[inline(always)]
-fn places(text: &[u8]) -> Option<(Numbers, &[u8])>
-    ensures form { IfSome result (λ found. HasForm false text.now found.1.now found.0) }
-    ensures second { IfSome result (λ found. found.0.second < 60) }
-    ensures hour { IfSome result (λ found. found.0.offset_hour ≤ 23) }
-    ensures minute { IfSome result (λ found. found.0.offset_minute ≤ 59) }
-    ensures long { IfSome result (λ _. 20 ≤ length text.now) }
+pub(super) fn moment(text: &[u8]) -> Option<OffsetDateTime>
+    ensures { IfSome result (λ v. of_moment (direct (RefusesRfc3339 greatest_year)) (Reads greatest_year)
+        (Refuses greatest_year) text.now (Ok v)) }
 {
     // One test of the length for all of the text.
     if text.len() < 20 {
@@ -151,21 +145,7 @@ fn places(text: &[u8]) -> Option<(Numbers, &[u8])>
     let mut numbers = Numbers::NONE;
     let rest = to_second::<false>(text, &mut numbers)?;
     let (numbers, rest) = subsecond(numbers, rest)?;
-    let found = offset(numbers, rest)?;
-    Some(found)
-}
-
-// A whole moment. `None`: not this form.
-#[inline(always)]
-pub(super) fn moment(text: &[u8]) -> Option<OffsetDateTime>
-    ensures { IfSome result (λ v. of_moment (direct (RefusesRfc3339 greatest_year)) (Reads greatest_year)
-        (Refuses greatest_year) text.now (Ok v)) }
-{
-    let (numbers, rest) = places(text)?;
-    if !rest.is_empty() {
-        return None;
-    }
-    made(said_rfc3339(numbers))
+    made(said_rfc3339(offset(numbers, rest)?))
 }
 
 // What follows an LF, or nothing. `None`: another byte stands there.
@@ -178,6 +158,72 @@ fn after_line(rest: &[u8]) -> Option<&[u8]>
         [b'\n', after @ ..] => Some(after),
         _ => None,
     }
+}
+
+// The places of an offset with which a line ends, and the lines after it. `None`: not this form.
+#[inline(always)]
+fn front_offset(numbers: Numbers, rest: &[u8]) -> Option<(Numbers, &[u8])>
+    requires utc { numbers.is_utc ≡ false }
+    requires hour { numbers.offset_hour ≡ 0 }
+    requires minute { numbers.offset_minute ≡ 0 }
+    ensures stands { IfSome result (λ found. (end : List ℕ) × Stand (Asks false) offset_places numbers rest.now end found.0
+        × EndsLine end found.1.now) }
+    ensures second { IfSome result (λ found. found.0.second ≡ numbers.second) }
+    ensures hour { IfSome result (λ found. found.0.offset_hour ≤ 23) }
+    ensures minute { IfSome result (λ found. found.0.offset_minute ≤ 59) }
+{
+    if let [b'Z', after @ ..] = rest {
+        let next = after_line(after)?;
+        let numbers = Numbers {
+            is_utc: true,
+            ..numbers
+        };
+        return Some((numbers, next));
+    }
+    let [
+        mark @ (b'-' | b'+'),
+        a @ b'0'..=b'2',
+        b @ b'0'..=b'9',
+        b':',
+        c @ b'0'..=b'5',
+        d @ b'0'..=b'9',
+        after @ ..,
+    ] = rest
+    else {
+        return None;
+    };
+    let hour = 10 * (*a - b'0') + (*b - b'0');
+    if hour > 23 {
+        return None;
+    }
+    let later = after_line(after)?;
+    let numbers = Numbers {
+        offset_is_negative: *mark == b'-',
+        offset_hour: hour,
+        offset_minute: 10 * (*c - b'0') + (*d - b'0'),
+        ..numbers
+    };
+    Some((numbers, later))
+}
+
+// The places of a moment with which a line ends, and the lines after it. `None`: not this form.
+#[inline(always)]
+fn places(text: &[u8]) -> Option<(Numbers, &[u8])>
+    ensures form { IfSome result (λ found. (end : List ℕ) × HasForm false text.now end found.0
+        × EndsLine end found.1.now) }
+    ensures second { IfSome result (λ found. found.0.second < 60) }
+    ensures hour { IfSome result (λ found. found.0.offset_hour ≤ 23) }
+    ensures minute { IfSome result (λ found. found.0.offset_minute ≤ 59) }
+    ensures long { IfSome result (λ _. 20 ≤ length text.now) }
+{
+    if text.len() < 20 {
+        return None;
+    }
+    let mut numbers = Numbers::NONE;
+    let rest = to_second::<false>(text, &mut numbers)?;
+    let (numbers, rest) = subsecond(numbers, rest)?;
+    let found = front_offset(numbers, rest)?;
+    Some(found)
 }
 
 // Whether a line ends where a date is followed by what separates it from its time, which may be any byte.
@@ -196,11 +242,10 @@ pub(super) fn line(text: &[u8]) -> Option<(OffsetDateTime, &[u8])>
         × of_moment (direct (RefusesRfc3339 greatest_year)) (Reads greatest_year) (Refuses greatest_year) line
         (Ok found.0)) }
 {
-    let (numbers, rest) = places(text)?;
+    let (numbers, after) = places(text)?;
     if breaks_at_separator(text) {
         return None;
     }
-    let after = after_line(rest)?;
     let value = made(said_rfc3339(numbers))?;
     Some((value, after))
 }

@@ -6,5 +6,9 @@ returns-clause-form c =
     let front = c.in_ok-rest in
     let middle = c.in_ok-numbers in
     let all = c.in_ok-found in
-    whole_stands c.args.text.now front.rest.now middle.rest.now all.found.1.now c.to_second.new.numbers middle.numbers all.found.0
-    front.ensures.stands middle.ensures all.ensures.stands
+    let last = all.ensures.stands in (
+      last.0,
+      whole_stands c.args.text.now front.rest.now middle.rest.now last.0 c.to_second.new.numbers middle.numbers all.found.0
+          front.ensures.stands middle.ensures last.1,
+      last.2,
+    )

@@ -1,0 +1,26 @@
+use Rattle.std.proofs.Common.{◌≡◌, ◌⊎◌, ◌-◌, ◌*◌, ◌+◌, drop, false, get_or, inl, inr, length, take, arith}
+use Rattle.std.proofs.lemmas.Bool.{cases_lt}
+use Rattle.time_readers.proofs.OffsetBytes.{offset_stands, zulu_stands}
+use Rattle.pelzaune_ffi.proofs.moments.fast.front_offset.Goals as goal
+
+pub returns-in-90-clause-stands : goal.returns-in-90-clause-stands
+returns-in-90-clause-stands c =
+    let rest = c.args.rest.now in (
+      take (length rest - 1) (drop 1 rest),
+      zulu_stands false c.args.numbers rest c.in-90.len_at_least (inl (omega arith)),
+      c.in_ok-next.ensures,
+    )
+
+pub returns-clause-stands : goal.returns-clause-stands
+returns-clause-stands c =
+    let rest = c.args.rest.now in
+    let sign : (get_or rest 0 0 ≡ 43) ⊎ (get_or rest 0 0 ≡ 45) =
+    elim (cases_lt (get_or rest 0 0) 44) [ inl low ↦ inl (omega arith) | inr high ↦ inr (omega arith) ] in
+    let hour = 10 * (get_or rest 1 0 - 48) + (get_or rest 2 0 - 48) in
+    let minute = 10 * (get_or rest 4 0 - 48) + (get_or rest 5 0 - 48) in (
+      take (length rest - 6) (drop 6 rest),
+      offset_stands false c.args.numbers rest hour minute c.in-45.len_at_least c.requires.utc sign (omega arith) (omega arith, omega arith)
+          (omega arith, omega arith) (omega arith, omega arith) (omega arith, omega arith) (omega arith) (omega arith) (omega arith)
+          (omega arith),
+      c.in_ok-later.ensures,
+    )

@@ -2,9 +2,9 @@
 
 /// The end of the help.
 pub(crate) const EXAMPLES: &str = "Examples:
-  tail -f app.log | restamp -z local
-  tail -f access.log | restamp -b [ ] -f common -u
-  restamp -b [ ] -f common -u -t '%d/%b/%Y:%H:%M:%S %z' access.log
+  tail -f app.log | restamp -l -z local
+  tail -f access.log | restamp -b '[' ']' -f common -u
+  restamp -b '[' ']' -f common -u -t '%d/%b/%Y:%H:%M:%S %z' access.log
   restamp -a 'Date: ' -f rfc2822 mbox
   restamp -k 3 --csv -f '[day]/[month]/[year] [hour]:[minute]' orders.csv
   restamp -l -f syslog --year 2026 -s 2026-11-25T12:00:00Z syslog

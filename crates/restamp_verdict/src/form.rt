@@ -1,5 +1,5 @@
 //! How a time is written.
-ghost use Rattle.std.specs.Prelude.{◌≡◌, ◌≤◌, length, codes, IfSome, MatchOption, MatchResult, Ok};
+ghost use Rattle.std.specs.Prelude.{◌≡◌, ◌≤◌, length, codes, MatchOption, MatchResult};
 ghost use Rattle.std.specs.Fmt.{signed_decimal};
 ghost use Rattle.time_values.specs.Range.{greatest_year};
 ghost use Rattle.time_descriptions.specs.Description.{shape};
@@ -81,9 +81,9 @@ fn written(text: Result<Text, Unwritable>) -> Result<Text, Reason>
     }
 }
 
-// A number that has at most 64 bits.
+/// A number that has at most 64 bits.
 #[inline(always)]
-fn number(count: i64) -> Text
+pub(crate) fn number(count: i64) -> Text
     ensures { result.items ≡ signed_decimal count }
 {
     let mut buffer = itoa::Buffer::new();
@@ -103,9 +103,9 @@ fn wide_number(count: i128) -> Text
     text
 }
 
-// The whole seconds of the moment since 1970, if it has a date in UTC. They cost far less than its nanoseconds.
+/// The whole seconds of the moment since 1970, if it has a date in UTC. They cost far less than its nanoseconds.
 #[inline(always)]
-fn seconds_of(moment: OffsetDateTime) -> Option<i64>
+pub(crate) fn seconds_of(moment: OffsetDateTime) -> Option<i64>
     ensures { MatchOption result (¬ IsInstant greatest_year (offset_instant greatest_year moment))
         (λ z. IsInstant greatest_year (offset_instant greatest_year moment)
         × IsWhole 1_000_000_000 (offset_instant greatest_year moment) z) }
@@ -173,10 +173,14 @@ fn write_count(moment: OffsetDateTime, unit: Unit) -> Result<Text, Reason>
     }
 }
 
-// The text of the moment by a named format, or why it has none. It isn't inlined, so that its texts take no place beside
-// one in line.
+/// The text of the moment by a named format, or why it has none. It isn't inlined, so that its texts take no place beside
+/// one in line.
 #[inline(never)]
-fn write_shown(moment: OffsetDateTime, named: Named, digits: FractionDigits) -> Result<Text, Reason>
+pub(crate) fn write_shown(
+    moment: OffsetDateTime,
+    named: Named,
+    digits: FractionDigits,
+) -> Result<Text, Reason>
     ensures { spec.IsNamedText greatest_year named digits moment (seen_written result) }
 {
     match named {
@@ -184,42 +188,6 @@ fn write_shown(moment: OffsetDateTime, named: Named, digits: FractionDigits) -> 
         Named::Rfc2822 => written(text_2822(moment)),
         Named::Iso8601 => written(text_8601(moment)),
         Named::Count(unit) => write_count(moment, unit),
-    }
-}
-
-/// Puts the text of the moment by a named format, shown on the clock, in the place of another. `None` doesn't say that it
-/// has none. A reason beside a text would cost a line as much as the text does.
-#[inline(always)]
-pub(crate) fn write_soon(
-    moment: OffsetDateTime,
-    named: Named,
-    digits: FractionDigits,
-    clock: &Clock<'_>,
-    text: &mut Text,
-) -> Option<()>
-    ensures { IfSome result (λ _.
-        spec.IsWrittenOn greatest_year (writing.Named named) digits clock.now moment (Ok text.new)) }
-{
-    let moment = clock.show(moment)?;
-    match named {
-        Named::Rfc3339 => match text_3339(moment, digits) {
-            Ok(found) => {
-                *text = found;
-                Some(())
-            }
-            Err(_) => None,
-        },
-        Named::Count(Unit::Seconds) => {
-            *text = number(seconds_of(moment)?);
-            Some(())
-        }
-        named => match write_shown(moment, named, digits) {
-            Ok(found) => {
-                *text = found;
-                Some(())
-            }
-            Err(_) => None,
-        },
     }
 }
 

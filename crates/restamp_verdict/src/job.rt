@@ -6,8 +6,10 @@ ghost use Rattle.restamp_verdict.specs.Job as spec;
 ghost use Rattle.restamp_verdict.specs.Reading.{Says};
 ghost use Rattle.restamp_verdict.specs.Reason.{seen, seen_read};
 
+mod fast;
+
 use crate::dated::read_further;
-use crate::form::{Form, Writing, write_moment, write_soon};
+use crate::form::{Form, Writing, write_moment};
 use crate::reading::{Defaults, Reading, Said, read_once};
 use crate::reason::Reason;
 use restamp_place::{Place, find_span};
@@ -30,7 +32,7 @@ pub struct Job<'a> {
     pub first: &'a Reading,
     /// The formats that are tried in turn where that one doesn't.
     pub others: &'a [Reading],
-    /// What stands for what a time leaves out.
+    /// Defaults for what a time omits.
     pub defaults: Defaults,
     /// How it is written.
     pub form: Form<'a>,
@@ -136,7 +138,7 @@ impl Job<'_> {
             return self.put_kept(start, said, text);
         };
         let form = &self.form;
-        match write_soon(said.moment, *named, form.digits, &form.clock, text) {
+        match fast::write_soon(said.moment, *named, form.digits, &form.clock, text) {
             Some(()) => said.rewritten_from(start),
             None => self.put_kept(start, said, text),
         }

@@ -26,7 +26,7 @@ pub fn law_second_run()
     ensures line { ChangesNothing greatest_year }
 {}
 
-/// What a record says all of stays with what stands for what a text doesn't say.
+/// A record that has all of a moment keeps it, whatever defaults are given.
 pub fn law_defaults()
     ensures { KeepsMoment greatest_year }
 {}

@@ -34,7 +34,7 @@ pub enum Reading {
     Counted(Prepared<MOST_STEPS>),
 }
 
-/// What stands for what a time leaves out.
+/// Defaults for what a time omits.
 #[derive(Clone, Copy)]
 pub struct Defaults {
     /// The year of a time that says no part of one.
@@ -280,8 +280,8 @@ pub(crate) fn read_once(
     Ok(said)
 }
 
-/// What the text says by the format; where it is open what a front of it says, as far as the format goes. Defaults
-/// stand for what the text leaves out.
+/// Parses a text by the format, with defaults for what it omits: all of it, or where `is_open` is true the front that the
+/// format takes.
 pub fn read(
     reading: &Reading,
     is_open: bool,

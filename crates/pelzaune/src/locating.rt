@@ -5,8 +5,8 @@ ghost use Rattle.pelzaune_ffi.specs.Places.{HandsPlace, HandsReadPlace};
 
 use pelzaune_ffi::locating::{Place, locate_by, locate_read};
 
-/// Hands over the place at which a text that the format of that number refuses goes wrong. The status says what was
-/// expected there, as the refusal of a text does. It is 0 where the whole text is read, and then `out` is unchanged.
+/// Writes to `out` where a text that the format of that number rejects goes wrong. The status says what was expected there,
+/// as that of a parse does. It is 0 where the format reads the whole text, and then `out` is unchanged.
 #[unsafe(no_mangle)]
 pub extern "C" fn pelzaune_locate(format: u32, text: &[u8], out: &mut Place) -> u32
     ensures { HandsPlace (Formats.format_of format) text.now result out.old out.new }
@@ -14,8 +14,8 @@ pub extern "C" fn pelzaune_locate(format: u32, text: &[u8], out: &mut Place) -> 
     locate_by(format, text, out)
 }
 
-/// The same by a description in the syntax of that number. A text that describes nothing is answered as
-/// `pelzaune_check_description` answers it.
+/// The same by a description in the syntax of that number. A malformed description has the status that
+/// `pelzaune_check_description` gives it, and `out` is unchanged.
 #[unsafe(no_mangle)]
 pub extern "C" fn pelzaune_read_locate(
     syntax: u32,

@@ -57,8 +57,8 @@ fn locate<F: Locate>(format: &F, text: &[u8], out: &mut Place) -> u32
     hand_place(format.locate(text, None), out)
 }
 
-/// Hands over the place at which a text that the format of that number refuses goes wrong. The status says what was
-/// expected there, as the refusal of a text does. It is 0 where the whole text is read, and then `out` is unchanged.
+/// Writes to `out` where a text that the format of that number rejects goes wrong. The status says what was expected there,
+/// as that of a parse does. It is 0 where the format reads the whole text, and then `out` is unchanged.
 #[inline(always)]
 pub fn locate_by(format: u32, text: &[u8], out: &mut Place) -> u32
     ensures { HandsPlace (Formats.format_of format) text.now result out.old out.new }
@@ -71,8 +71,8 @@ pub fn locate_by(format: u32, text: &[u8], out: &mut Place) -> u32
     }
 }
 
-/// The same by a description in the syntax of that number. A text that describes nothing is answered as
-/// [`check`](crate::descriptions::check) answers it.
+/// The same by a description in the syntax of that number. A malformed description has the status that
+/// [`check`](crate::descriptions::check) gives it, and `out` is unchanged.
 #[inline(always)]
 pub fn locate_read(syntax: u32, description: &[u8], text: &[u8], out: &mut Place) -> u32
     ensures { HandsReadPlace (Described.syntax_of syntax) description.now text.now result out.old out.new }

@@ -16,13 +16,12 @@ pub trait Locate: Parsable {
     // Where the whole of the bytes isn't read over a record: the place, with what was wanted there.
     ghost locates: { Self → Locating };
 
-    /// Where a text is refused that is read over the defaults: the index of the byte that no reading gets past, and what
-    /// was expected there. `None` where the whole text is read, also where no value is made of what it says.
+    /// Where parsing the text over the defaults goes wrong: the index of the byte that no reading gets past, and what was
+    /// expected there. `None` where the format reads the whole text, even if its parts make no value.
     ///
-    /// A leaf of the format, a literal or a component, is missed where it is tried and reads nothing: a component where it
-    /// begins, and a literal at its first byte that isn't there. The end of the text is missed where the format reads a
-    /// front of it. The place is the miss that leaves the fewest bytes, and of those at one index the one that the refusal
-    /// of the parse names, or else the first.
+    /// A component is missed where it begins, a literal at its first byte that differs, and the end of the text where the
+    /// format reads only a front of it. The answer is the miss furthest into the text; of several at one index, the one
+    /// that the error of the parse names, or else the first.
     fn locate<'a>(&'a self, input: &[u8], defaults: Option<Parsed>) -> Option<Located<'a>>
         ensures { IsLocated (Self.reads self.now) (locates self.now) input.now (begun defaults) result };
 
@@ -30,11 +29,11 @@ pub trait Locate: Parsable {
     // nothing where none is.
     ghost marks: { Self → Marking };
 
-    /// Where the component of this name begins in a text of which a front is read over the defaults: its index. `None`
-    /// where no component of that name is read, as where the defaults give it, or where nothing is read.
+    /// The index at which the component of this name begins, where the format parses a front of the text over the
+    /// defaults. `None` where it parses none, or none with such a component, as where the defaults give the value.
     ///
-    /// The name is one that an error tells, as `day` of `2021-02-30`. A component that the text says twice is told where
-    /// it begins last, since that value counts.
+    /// The name is one that an error has, as `day` for `2021-02-30`. Where the text has the component twice, the index is
+    /// that of the last one, whose value counts.
     fn locate_component(&self, input: &[u8], defaults: Option<Parsed>, name: &str) -> Option<usize>
         ensures { IsMarked (marks self.now) name.now input.now (begun defaults) result };
 

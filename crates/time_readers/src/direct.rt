@@ -43,11 +43,14 @@ pub struct Said {
 
 /// Parses a whole text of RFC 3339, section 5.6, as a moment.
 ///
-/// The first place that doesn't have its form is refused as it is by [`rfc3339::place_fault`], and then a
-/// minute of the offset above 59 as `minutes` out of range. Then bytes that remain are unexpected trailing
-/// characters. Then the first of `month`, `day` (conditional), `hour`, `minute` and `second` is refused that
-/// is out of its range. A leap second is read as the nanosecond before it, and refused as conditional
-/// `second` unless it is in UTC the last of a month. A fraction that doesn't stand is 0.
+/// A missing fraction is 0. A leap second is read as the nanosecond before it.
+///
+/// # Errors
+///
+/// In this order: the first part that isn't there, as [`rfc3339::place_fault`] names it; `minutes`, where the
+/// minute of the offset is above 59; unexpected trailing characters; the first of `month`, `day` (conditional),
+/// `hour`, `minute` and `second` that is out of range; conditional `second`, where a leap second isn't the last
+/// second of a month in UTC.
 pub fn rfc3339(input: &[u8]) -> Result<OffsetDateTime, Parse>
     ensures { DirectRfc3339 greatest_year input.now result }
 {

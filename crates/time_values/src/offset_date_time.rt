@@ -172,8 +172,7 @@ impl OffsetDateTime {
         }
     }
 
-    /// Whether a leap second may be told as this moment: in UTC it is the last nanosecond of a
-    /// month.
+    /// Whether this moment may stand for a leap second: in UTC it is the last nanosecond of a month.
     pub fn is_valid_leap_second_stand_in(self) -> bool
         ensures { IsTrue result ↔ Instants.IsLeapSecondMoment greatest_year (offset_instant greatest_year self) }
     {

@@ -140,7 +140,7 @@ impl UtcDateTime {
         })
     }
 
-    /// Whether a leap second may be told as this moment: the last nanosecond of a month.
+    /// Whether this moment may stand for a leap second: it is the last nanosecond of a month.
     pub fn is_valid_leap_second_stand_in(self) -> bool
         ensures { IsTrue result ↔ Instants.IsLeapSecondStandIn (utc_date self) (utc_time self) }
     {

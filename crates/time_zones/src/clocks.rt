@@ -29,8 +29,8 @@ fn offset_from(offset: Offset) -> UtcOffset
     }
 }
 
-/// The offset that clocks of the zone have at the moment, or `None` in years of which no zone tells: before -9999 and
-/// after 9999, and for a day at both ends.
+/// The offset of the zone at the moment. `None` before the year -9999 and after 9999, and within a day of either end,
+/// where no zone has one.
 pub fn offset_at(zone: &TimeZone<'_>, moment: OffsetDateTime) -> Option<UtcOffset>
     ensures told { IsSome result ↔ IsTold moment }
     ensures value { IfSome result (λ o. offset_seconds o ≡ Zone.offset_at zone.now (offset_instant greatest_year moment)) }
@@ -44,7 +44,7 @@ pub fn offset_at(zone: &TimeZone<'_>, moment: OffsetDateTime) -> Option<UtcOffse
     Some(offset_from(zone.to_offset(stamp)))
 }
 
-/// The same moment on the clocks of the zone, or `None` where no zone tells of it.
+/// The same moment at the offset of the zone. `None` where [`offset_at`] is.
 pub fn checked_to_zone(moment: OffsetDateTime, zone: &TimeZone<'_>) -> Option<OffsetDateTime>
     ensures told { IsSome result ↔ IsTold moment }
     ensures instant { IfSome result (λ v. offset_instant greatest_year v ≡ offset_instant greatest_year moment) }

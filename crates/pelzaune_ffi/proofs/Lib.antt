@@ -1,6 +1,7 @@
 pub mod ColumnLemmas
 pub mod Constructed
 pub mod FrontLines
+pub mod HeldForms
 pub mod HeldRows
 pub mod HeldSteps
 pub mod InPlace

@@ -1,13 +1,16 @@
 //! Descriptions that C holds by value: they are read once, and then parse many texts.
 mod fast;
 
-ghost use Rattle.std.specs.Prelude.{◌≡◌, ◌-◌, ◌<◌, ◌≤◌, true, false, length, map};
+ghost use Rattle.std.specs.Prelude.{◌≡◌, ◌⊎◌, ◌-◌, ◌<◌, ◌≤◌, [], Ok, Err, MatchResult, true, false, length, map};
 ghost use Rattle.time_values.specs.Range.{greatest_year};
+ghost use Rattle.time_values.specs.Refusal.{refusal_of_parsed};
+ghost use Rattle.time_values.specs.declared.error.TryFromParsed.{TryFromParsed as TryFromParsed_};
 ghost use Rattle.time_components.specs.Steps.{steps_shape, steps_trees};
 ghost use Rattle.time_record.specs.Answer.{Answers};
 ghost use Rattle.time_record.specs.Reading.{Reads, Refuses};
+ghost use Rattle.time_record.specs.Record.{Record};
 ghost use Rattle.time_record.specs.WalkSteps.{Goes};
-ghost use Rattle.time_parsing.specs.Outcome.{over_record};
+ghost use Rattle.time_parsing.specs.Outcome.{begun, IsWhole, over_record, seen};
 ghost use Rattle.time_parsing.specs.exact.DescriptionLaws.{tree_exact};
 ghost use Rattle.pelzaune_ffi.specs.Described as Described;
 ghost use Rattle.pelzaune_ffi.specs.Held.{Holds, held_tree};
@@ -19,11 +22,11 @@ use crate::steps::{HeldStep, held_step, step_of};
 use arrayvec::ArrayVec;
 use std::convert::TryFrom;
 use time_components::Step;
-use time_parsing::Parsable;
+use time_parsing::{Parsable, begin, value_before};
 use time_preparing::Prepared;
 use time_record::Parsed;
-use time_values::OffsetDateTime;
-use time_values::error::{Parse, ParseFromDescription};
+use time_values::error::{Parse, ParseFromDescription, TryFromParsed};
+use time_values::{Date, OffsetDateTime, PlainDateTime, Time};
 
 /// A description, as C holds it.
 #[repr(C)]
@@ -139,6 +142,28 @@ fn read_held<'a>(
     }
 }
 
+// The value of the whole input, read over a record that begins with the defaults.
+#[inline(always)]
+fn over_record<V: TryFrom<Parsed, Error = TryFromParsed> + Drop>(
+    held: &HeldDescription,
+    input: &[u8],
+    defaults: Option<Parsed>,
+) -> Result<V, Parse>
+    ensures { MatchResult (seen result)
+        (λ v. (r : Record) × Reads greatest_year (held_tree held.now) input.now (begun defaults) [] r
+        × V.try_from_gives r (Ok v))
+        (λ e. IsWhole (Reads greatest_year (held_tree held.now)) (Refuses greatest_year (held_tree held.now))
+        input.now (begun defaults) (Err e)
+        ⊎ ((r : Record) × Reads greatest_year (held_tree held.now) input.now (begun defaults) [] r
+        × ((f : TryFromParsed_) × V.try_from_gives r (Err f) × (e ≡ refusal_of_parsed f)))) }
+{
+    let mut parsed = begin(defaults);
+    match read_held(held, &mut parsed, input) {
+        Ok(rest) => value_before::<V>(rest, &parsed),
+        Err(fault) => Err(fault.into()),
+    }
+}
+
 impl Parsable for HeldDescription {
     ghost reads = { λ s. Reads greatest_year (held_tree s) };
 
@@ -154,15 +179,51 @@ impl Parsable for HeldDescription {
     }
 
     #[inline(always)]
+    fn parse_date(&self, input: &[u8], defaults: Option<Parsed>) -> Result<Date, Parse> {
+        if defaults.is_none() {
+            if let Some(value) = fast::date(held_steps(self), input) {
+                return Ok(value);
+            }
+        }
+        over_record::<Date>(self, input, defaults)
+    }
+
+    #[inline(always)]
+    fn parse_time(&self, input: &[u8], defaults: Option<Parsed>) -> Result<Time, Parse> {
+        if defaults.is_none() {
+            if let Some(value) = fast::time(held_steps(self), input) {
+                return Ok(value);
+            }
+        }
+        over_record::<Time>(self, input, defaults)
+    }
+
+    #[inline(always)]
+    fn parse_plain_date_time(
+        &self,
+        input: &[u8],
+        defaults: Option<Parsed>,
+    ) -> Result<PlainDateTime, Parse> {
+        if defaults.is_none() {
+            if let Some(value) = fast::date_time(held_steps(self), input) {
+                return Ok(value);
+            }
+        }
+        over_record::<PlainDateTime>(self, input, defaults)
+    }
+
+    #[inline(always)]
     fn parse_offset_date_time(
         &self,
         input: &[u8],
         defaults: Option<Parsed>,
     ) -> Result<OffsetDateTime, Parse> {
-        match self.parse_internal(input, defaults) {
-            Ok(parsed) => Ok(OffsetDateTime::try_from(parsed)?),
-            Err(error) => Err(error),
+        if defaults.is_none() {
+            if let Some(value) = fast::moment(held_steps(self), input) {
+                return Ok(value);
+            }
         }
+        over_record::<OffsetDateTime>(self, input, defaults)
     }
 
     ghost exact = { λ s. tree_exact greatest_year (held_tree s) };

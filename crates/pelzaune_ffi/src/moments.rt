@@ -174,7 +174,11 @@ fn count_first_3339<'a>(text: &'a [u8], out: &mut Nanoseconds) -> (u32, &'a [u8]
 /// Hands over the nanoseconds of the moment of a text's first line by the format of that number, and answers what comes
 /// after the line, too.
 #[inline(always)]
-pub fn count_first_by<'a>(format: u32, text: &'a [u8], out: &mut Nanoseconds) -> (u32, &'a [u8])
+pub(crate) fn count_first_by<'a>(
+    format: u32,
+    text: &'a [u8],
+    out: &mut Nanoseconds,
+) -> (u32, &'a [u8])
     requires { 0 < length text.now }
     ensures { CountsFirst (HandsCount (Formats.format_of format)) text.now result.0 result.1.now out.old out.new }
 {

@@ -173,6 +173,10 @@ leads (whole.Plain form between t) list steps is led =
     λ b r rest new h. led b r rest new (reads_form (whole.Plain form between t) list is b r rest new h)
 leads (whole.Moment m) list steps is led = λ b r rest new h. led b r rest new (reads_form (whole.Moment m) list is b r rest new h)
 
+-- The form leads its own steps.
+pub own : (w : Whole) → Leads w (whole_parts w)
+own w = leads w (whole_parts w) (whole_parts w) refl (λ b r rest new h. h)
+
 -- the use of it
 pub led : (w : Whole) (steps : List Step) → Leads w steps → w ≢ whole.Nothing → (b : List ℕ) (r : Record) (rest : List ℕ) (new : Record) →
     ReadsAll greatest_year (leaves (whole_parts w)) b r rest new → Reads greatest_year (steps_shape steps) b r rest new

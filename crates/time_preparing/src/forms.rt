@@ -10,7 +10,7 @@ use time_values::Month;
 
 /// A date, with one byte between its parts.
 #[derive(Clone, Copy, Debug, PartialEq, Eq)]
-pub(crate) enum Dated {
+pub enum Dated {
     /// A year of four digits, a month and a day, as `2021-03-04`.
     YearFirst(u8),
     /// The same by a description that takes no year of more digits.
@@ -21,7 +21,7 @@ pub(crate) enum Dated {
 
 /// A date, a time and an offset.
 #[derive(Clone, Copy, Debug, PartialEq, Eq)]
-pub(crate) struct InMoment {
+pub struct InMoment {
     /// The date.
     pub date: Dated,
     /// The byte before the time.

@@ -8,7 +8,7 @@ pub mod laws;
 mod parsable;
 mod prepared;
 mod walk;
-mod whole;
+pub mod whole;
 
 pub use items::Unprepared;
 pub use prepared::Prepared;

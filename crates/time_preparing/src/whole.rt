@@ -1,14 +1,14 @@
 //! Descriptions whose texts have one form each, from their first byte to their last.
 ghost use Rattle.time_preparing.specs.Whole.{Leads};
 
-pub(crate) mod fast;
+pub mod fast;
 
-use crate::forms::{Dated, InMoment};
+pub use crate::forms::{Dated, InMoment};
 use time_components::Step;
 
 /// The form of a whole text.
 #[derive(Clone, Copy, Debug, PartialEq, Eq)]
-pub(crate) enum Whole {
+pub enum Whole {
     /// None of these.
     Nothing,
     /// A date.

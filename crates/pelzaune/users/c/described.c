@@ -167,6 +167,58 @@ static void test_forms(void)
     }
 }
 
+static int same_date(pelzaune_date p, int year, int month, int day)
+{
+    return p.year == year && p.month == month && p.day == day;
+}
+
+static int same_time(pelzaune_time p, int hour, int minute, int second, uint32_t nanosecond)
+{
+    return p.hour == hour && p.minute == minute && p.second == second && p.nanosecond == nanosecond;
+}
+
+/* A date, a time, both and a moment are what the parts of the text say, which no form reads. */
+static int as_parts(const pelzaune_description *d, const uint8_t *text, size_t length)
+{
+    pelzaune_parts p;
+    pelzaune_date date;
+    pelzaune_time time;
+    pelzaune_local local;
+    pelzaune_moment m;
+    pelzaune_status status = pelzaune_described_parts(d, text, length, &p);
+    pelzaune_status of_date = pelzaune_described_date(d, text, length, &date), of_time = pelzaune_described_time(d, text, length, &time);
+    pelzaune_status of_local = pelzaune_described_local(d, text, length, &local), of_moment = pelzaune_described_moment(d, text, length, &m);
+    if (status) return of_date == status && of_time == status && of_local == status && of_moment == status;
+    int both = !p.date_status && !p.time_status, all = both && !p.offset_status;
+    return of_date == p.date_status && (of_date || same_date(p.date, date.year, date.month, date.day))
+        && of_time == p.time_status && (of_time || same_time(p.time, time.hour, time.minute, time.second, time.nanosecond))
+        && (of_local == PELZAUNE_OK) == both && (of_local || (same_date(p.date, local.year, local.month, local.day)
+            && same_time(p.time, local.hour, local.minute, local.second, local.nanosecond)))
+        && (of_moment == PELZAUNE_OK) == all && (of_moment || (same_date(p.date, m.year, m.month, m.day)
+            && same_time(p.time, m.hour, m.minute, m.second, m.nanosecond) && p.offset == m.offset));
+}
+
+/* A description of a form of which a byte is overwritten, and a copy of it that is put back: each call goes by what it finds. */
+static void test_overwritten(void)
+{
+    for (const pair *it = forms; it < forms + FORMS; it++) {
+        pelzaune_description d, copy;
+        int right = describe(it->syntax, it->description, &d);
+        size_t length = strlen(it->text);
+        copy = d;
+        for (size_t at = 0; at < 8 + 16 * (d.numbers[0] + 1); at++) {
+            uint8_t *byte = (uint8_t *)&copy + at;
+            for (int other = 0; other < 256; other += other == 36 ? 5 : other < 48 ? 1 : 23) { /* a timestamp, 37 to 40, makes a moment of no parts */
+                *byte = (uint8_t)other;
+                right &= as_parts(&copy, at_end(it->text, length), length);
+            }
+            *byte = ((const uint8_t *)&d)[at];
+            right &= alike(3, it, &copy, it->text, length) && alike(1, it, &copy, it->text, length);
+        }
+        expect(right, it->description, __LINE__);
+    }
+}
+
 /* Each text has a part of its description. */
 static void test_read(void)
 {
@@ -262,6 +314,7 @@ int main(void)
     EXPECT(sizeof(pelzaune_description) == 1032);
     test_same_as_by_text();
     test_forms();
+    test_overwritten();
     test_read();
     test_values();
     test_faults();

@@ -1,19 +1,67 @@
-//! The steps that are read where they lie, with no call for the commonest.
-ghost use Rattle.std.specs.Prelude.{◌≡◌, [], ◌∷◌, IfSome, false, map};
+//! Whole texts of one form, as values with no record, and the steps that are read where they lie, with no call for the
+//! commonest.
+ghost use Rattle.std.specs.Prelude.{◌≡◌, [], ◌∷◌, IfSome, Ok, false, map};
 ghost use Rattle.time_values.specs.Range.{greatest_year};
-ghost use Rattle.time_components.specs.Steps.{further, steps_after, steps_trees, tree_at};
+ghost use Rattle.time_components.specs.Steps.{further, steps_after, steps_shape, steps_trees, tree_at};
 ghost use Rattle.time_components.specs.Tree as tree;
 ghost use Rattle.time_components.specs.Tree.{literal};
-ghost use Rattle.time_record.specs.Record.{Record};
+ghost use Rattle.time_record.specs.Reading.{Reads, Refuses};
+ghost use Rattle.time_record.specs.Record.{Record, empty};
+ghost use Rattle.time_record.specs.Resolution.{IsDated, IsMoment, IsPlain, IsTimed};
 ghost use Rattle.time_record.specs.WalkFast.{IsLeaf, MayRead};
+ghost use Rattle.time_parsing.specs.Outcome.{IsOutcome};
 ghost use Rattle.pelzaune_ffi.specs.Held as Held;
+
+mod forms;
 
 use crate::steps::{HeldStep, step_of};
 use time_components::component::{
     parse_day, parse_hour_24, parse_minute, parse_month_numerical, parse_second,
 };
 use time_components::{Component, Step};
+use time_preparing::whole::fast::values;
 use time_record::Parsed;
+use time_values::{Date, OffsetDateTime, PlainDateTime, Time};
+
+/// The date of a whole text by these steps. `None`: not known by a form alone.
+#[inline(always)]
+pub(super) fn date(steps: &[HeldStep], input: &[u8]) -> Option<Date>
+    ensures { IfSome result (λ v. IsOutcome (IsDated greatest_year) (Reads greatest_year (steps_shape (map Held.step_of steps.now)))
+        (Refuses greatest_year (steps_shape (map Held.step_of steps.now))) input.now empty (Ok v)) }
+{
+    let form = forms::date(steps)?;
+    values::date(&form, input)
+}
+
+/// The time of a whole text by these steps. `None`: not known by a form alone.
+#[inline(always)]
+pub(super) fn time(steps: &[HeldStep], input: &[u8]) -> Option<Time>
+    ensures { IfSome result (λ v. IsOutcome IsTimed (Reads greatest_year (steps_shape (map Held.step_of steps.now)))
+        (Refuses greatest_year (steps_shape (map Held.step_of steps.now))) input.now empty (Ok v)) }
+{
+    let form = forms::time(steps)?;
+    values::time(&form, input)
+}
+
+/// The date and time of a whole text by these steps. `None`: not known by a form alone.
+#[inline(always)]
+pub(super) fn date_time(steps: &[HeldStep], input: &[u8]) -> Option<PlainDateTime>
+    ensures { IfSome result (λ v. IsOutcome (IsPlain greatest_year) (Reads greatest_year (steps_shape (map Held.step_of steps.now)))
+        (Refuses greatest_year (steps_shape (map Held.step_of steps.now))) input.now empty (Ok v)) }
+{
+    let form = forms::date_time(steps)?;
+    values::date_time(&form, input)
+}
+
+/// The moment of a whole text by these steps. `None`: not known by a form alone.
+#[inline(always)]
+pub(super) fn moment(steps: &[HeldStep], input: &[u8]) -> Option<OffsetDateTime>
+    ensures { IfSome result (λ v. IsOutcome (IsMoment greatest_year) (Reads greatest_year (steps_shape (map Held.step_of steps.now)))
+        (Refuses greatest_year (steps_shape (map Held.step_of steps.now))) input.now empty (Ok v)) }
+{
+    let form = forms::moment(steps)?;
+    values::moment(&form, input)
+}
 
 // Whether a literal goes on in these steps.
 #[inline(always)]

@@ -13,6 +13,8 @@ ghost use Rattle.time_preparing.specs.Walk.{leaves};
 ghost use Rattle.time_preparing.specs.Whole.{dated, IsLed, IsOf, IsWholeSecond, Leads, ReadsWhole, timed, whole_parts};
 ghost use Rattle.time_components.specs.declared.step.Step.TheVariants as step_;
 
+pub mod values;
+
 use super::Whole;
 use crate::forms::fast::{self, after, after_byte, clock, offset};
 use crate::forms::{

@@ -1,0 +1,8 @@
+use Rattle.time_values.specs.Range.{greatest_year}
+use Rattle.time_record.specs.Resolution.{IsPlain}
+use Rattle.time_preparing.proofs.Outcomes.{whole_outcome}
+use Rattle.time_preparing.proofs.Wholes.{own}
+use Rattle.time_preparing.proofs.whole.fast.values.date_time.Goals as goal
+
+pub returns : goal.returns
+returns c = whole_outcome (IsPlain greatest_year) c.args.whole.now _ _ _ (own c.args.whole.now) c.date_time.ensures

@@ -1,0 +1,50 @@
+//! Whole texts by a form that their description is known to have.
+//!
+//! Each function answers the value that the form's steps parse, or `None`: not known by the form alone.
+ghost use Rattle.std.specs.Prelude.{IfSome, Ok};
+ghost use Rattle.time_components.specs.Steps.{steps_shape};
+ghost use Rattle.time_record.specs.Reading.{Reads, Refuses};
+ghost use Rattle.time_record.specs.Record.{empty};
+ghost use Rattle.time_record.specs.Resolution.{IsDated, IsMoment, IsPlain, IsTimed};
+ghost use Rattle.time_values.specs.Range.{greatest_year};
+ghost use Rattle.time_parsing.specs.Outcome.{IsOutcome};
+ghost use Rattle.time_preparing.specs.Whole.{whole_parts};
+
+use super::Whole;
+use time_values::{Date, OffsetDateTime, PlainDateTime, Time};
+
+/// The date of a whole text of the form.
+#[inline(always)]
+pub fn date(whole: &Whole, input: &[u8]) -> Option<Date>
+    ensures { IfSome result (λ v. IsOutcome (IsDated greatest_year) (Reads greatest_year (steps_shape (whole_parts whole.now)))
+        (Refuses greatest_year (steps_shape (whole_parts whole.now))) input.now empty (Ok v)) }
+{
+    super::date(whole, input)
+}
+
+/// The time of a whole text of the form.
+#[inline(always)]
+pub fn time(whole: &Whole, input: &[u8]) -> Option<Time>
+    ensures { IfSome result (λ v. IsOutcome IsTimed (Reads greatest_year (steps_shape (whole_parts whole.now)))
+        (Refuses greatest_year (steps_shape (whole_parts whole.now))) input.now empty (Ok v)) }
+{
+    super::time(whole, input)
+}
+
+/// The date and time of a whole text of the form.
+#[inline(always)]
+pub fn date_time(whole: &Whole, input: &[u8]) -> Option<PlainDateTime>
+    ensures { IfSome result (λ v. IsOutcome (IsPlain greatest_year) (Reads greatest_year (steps_shape (whole_parts whole.now)))
+        (Refuses greatest_year (steps_shape (whole_parts whole.now))) input.now empty (Ok v)) }
+{
+    super::date_time(whole, input)
+}
+
+/// The moment of a whole text of the form.
+#[inline(always)]
+pub fn moment(whole: &Whole, input: &[u8]) -> Option<OffsetDateTime>
+    ensures { IfSome result (λ v. IsOutcome (IsMoment greatest_year) (Reads greatest_year (steps_shape (whole_parts whole.now)))
+        (Refuses greatest_year (steps_shape (whole_parts whole.now))) input.now empty (Ok v)) }
+{
+    super::moment(whole, input)
+}

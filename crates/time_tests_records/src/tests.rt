@@ -1,3 +1,0 @@
-mod conversions;
-mod descriptions;
-mod records;

@@ -3,3 +3,4 @@ pub mod Replacing
 pub mod Names
 pub mod Laws
 pub mod Phases
+pub mod Steps

@@ -1,6 +1,7 @@
 //! A folder, by the calls that the replacement of a file in it takes.
 ghost use Rattle.std.specs.Prelude.{◌≡◌, ℕ, List, [], Option, Some, IfErr, IfOk, IfSome, true};
 ghost use Rattle.std.specs.IoError.{error_kind};
+ghost use Rattle.std.specs.declared.io.Error.{Error};
 ghost use Rattle.restamp_in_place.specs.Folder.{Event, leads, stored, Tries, Makes, Stores, Links, Renames, Removes, Syncs};
 
 use programs_streams::{Counted, Sink, Source};
@@ -28,11 +29,17 @@ pub struct Original {
 
 /// A writer that keeps why a write failed.
 pub trait Failing {
+    // The error of the last write that failed, if one has.
+    ghost failure: { Self → Option Error };
+
     /// The error of the last write that failed, if one has. The writer is let go.
-    fn into_failure(self) -> Option<io::Error>;
+    fn into_failure(self) -> Option<io::Error>
+        ensures { result ≡ failure self };
 }
 
 impl<W: Drop> Failing for Counted<W> {
+    ghost failure = { λ counted. counted.error };
+
     fn into_failure(self) -> Option<io::Error> {
         let (_, error) = self.into_parts();
         error

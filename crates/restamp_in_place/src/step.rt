@@ -25,6 +25,11 @@ pub enum Step {
 }
 
 impl fmt::Display for Step {
+    ghost use Rattle.std.specs.Prelude.{Some};
+    ghost use Rattle.restamp_in_place.specs.Steps.{step_text};
+
+    ghost output = { λ step. Some (step_text step) };
+
     fn fmt<W: fmt::Write>(&self, f: &mut fmt::Formatter<W>) -> fmt::Result {
         f.write_str(match self {
             Step::Open => "it was not opened",

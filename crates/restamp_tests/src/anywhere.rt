@@ -26,6 +26,7 @@ fn verdict_on<'a>(
         defaults: Defaults {
             year: None,
             offset: None,
+            clocks: None,
             latest: None,
         },
         form: Form {
@@ -108,6 +109,7 @@ static SAMPLES: [Sample; 4] = [
 const NOTHING_GIVEN: Defaults = Defaults {
     year: None,
     offset: None,
+    clocks: None,
     latest: None,
 };
 

@@ -1,9 +1,17 @@
-//! Tests of where a time stands in a line, of what becomes of lines, and of streams that are rewritten line by line.
+//! Tests of where a time stands in a line, of what becomes of lines, of bounds by the clock, of streams that are rewritten
+//! line by line, and of files that are replaced in a folder in memory.
 #![tactic(auto)]
 
 #[cfg(test)]
 mod anywhere;
 #[cfg(test)]
+mod bounds;
+#[cfg(test)]
+mod clocks;
+pub mod memory;
+#[cfg(test)]
 mod places;
+#[cfg(test)]
+mod replacing;
 #[cfg(test)]
 mod stream;

@@ -1,0 +1,245 @@
+//! A folder in memory.
+ghost use Rattle.std.specs.Prelude.{◌≡◌, ◌∷◌, [], IfErr, IfOk, Some, string_bytes};
+ghost use Rattle.std.specs.IoError.{error_kind};
+ghost use Rattle.restamp_in_place.specs.Folder.{Tries};
+ghost use Rattle.restamp_tests.specs.Memory.{event_of, events_of};
+
+pub mod event;
+pub mod page;
+
+use crate::memory::event::{Event, is_unused, leads, stored};
+use crate::memory::page::Page;
+use programs_streams::Counted;
+use restamp_in_place::{Folder, Original};
+use std::alloc::Global;
+use std::cell::Cell;
+use std::collections::VecDeque;
+use std::io;
+use std::io::ErrorKind;
+
+/// The kind of the error of a call that fails though it did its one thing.
+pub const LATE: ErrorKind = ErrorKind::TimedOut;
+
+/// Which calls of a folder fail.
+#[derive(Clone, Copy, Debug)]
+pub struct Faults {
+    /// The first call that fails, of those from 0 on.
+    pub first: u64,
+    /// How many calls fail from there on.
+    pub count: u64,
+    /// Whether they do their one thing before, where they do one. The kind of the error is then `LATE`.
+    pub is_late: bool,
+    /// The kind of the error.
+    pub kind: ErrorKind,
+    /// How many writes to a new file don't fail.
+    pub writes: u64,
+    /// Whether another program writes the file before it is looked at again.
+    pub is_changed: bool,
+}
+
+/// A folder in memory, of which all is known that was done in it.
+#[derive(Drop)]
+pub struct Memory {
+    alloc: Global,
+    // What was done, the last first.
+    done: Vec<Event>,
+    // How many calls there were.
+    calls: Cell<u64>,
+    faults: Faults,
+}
+
+impl Memory {
+    /// An empty folder.
+    pub fn new(alloc: Global, faults: Faults) -> Memory
+        ensures { result.done.items ≡ [] }
+    {
+        Memory {
+            alloc,
+            done: Vec::new(alloc),
+            calls: Cell::new(0),
+            faults,
+        }
+    }
+
+    /// What was done so far, the last first.
+    pub fn done(&self) -> &[Event]
+        ensures { result.now ≡ self.now.done.items }
+    {
+        self.done.as_slice()
+    }
+
+    /// How many calls there were so far.
+    pub fn calls(&self) -> u64 {
+        self.calls.get()
+    }
+
+    // Begins a call, and says whether it is to fail once its thing is done.
+    fn begin(&self) -> io::Result<bool> {
+        let call = self.calls.get();
+        self.calls.set(call.saturating_add(1));
+        let Faults {
+            first,
+            count,
+            is_late,
+            kind,
+            ..
+        } = self.faults;
+        let fails = call >= first && call - first < count;
+        if fails && !is_late {
+            return Err(io::Error::from(kind));
+        }
+        Ok(fails)
+    }
+
+    /// Does a thing. It is an error where there is no memory for that, and where it is to be one nonetheless.
+    pub fn note(&mut self, event: Event, is_late: bool) -> io::Result<()>
+        ensures noted { Tries (Some (events_of self.old.done.items)) (Some (events_of self.new.done.items)) result
+            (λ _ more. more ≡ event_of event ∷ []) }
+        ensures kept { IfErr result (λ e. error_kind e ≡ ErrorKind.AlreadyExists → self.new.done.items ≡ self.old.done.items) }
+    {
+        self.done.insert(0, event)?;
+        end(is_late)
+    }
+
+    // The name in memory of its own.
+    fn copy(&self, name: &str) -> io::Result<String>
+        ensures { IfOk result (λ copy. string_bytes copy ≡ name.now) }
+    {
+        Ok(String::from_str(self.alloc, name)?)
+    }
+
+    // The same, of two things of which both are done or none.
+    fn note_both(&mut self, first: Event, last: Event, is_late: bool) -> io::Result<()>
+        ensures { Tries (Some (events_of self.old.done.items)) (Some (events_of self.new.done.items)) result
+            (λ _ more. more ≡ event_of last ∷ event_of first ∷ []) }
+    {
+        self.done.reserve(2)?;
+        self.done.insert(0, first)?;
+        self.done.insert(0, last)?;
+        end(is_late)
+    }
+}
+
+// Ends a call, which may be one that fails though its thing was done.
+fn end(is_late: bool) -> io::Result<()>
+    ensures { IfErr result (λ e. error_kind e ≡ ErrorKind.TimedOut) }
+{
+    if is_late {
+        Err(io::Error::from(LATE))
+    } else {
+        Ok(())
+    }
+}
+
+// What a file of that number and length is.
+fn original_of(number: u64, length: usize) -> Original
+    ensures { result.number ≡ number }
+{
+    Original {
+        number,
+        device: 1,
+        length: length as u64,
+        written: (0, 0),
+        mode: 0o644,
+        owner: 0,
+        group: 0,
+    }
+}
+
+fn not_found() -> io::Error {
+    io::Error::from(ErrorKind::NotFound)
+}
+
+impl Folder for Memory {
+    ghost use Rattle.std.specs.Prelude.{Some};
+    ghost use Rattle.restamp_tests.specs.Memory.{events_of};
+
+    type Old = Counted<VecDeque<u8>>;
+
+    type New = Counted<Page>;
+
+    ghost events = { λ memory. Some (events_of memory.done.items) };
+
+    fn open(&self, name: &str) -> io::Result<(Self::Old, Original)> {
+        let is_late = self.begin()?;
+        let Some(number) = leads(self.done.as_slice(), name) else {
+            return Err(not_found());
+        };
+        let Some(bytes) = stored(self.done.as_slice(), number) else {
+            return Err(not_found());
+        };
+        let copy = Vec::from_slice(self.alloc, bytes)?;
+        end(is_late)?;
+        let original = original_of(number, bytes.len());
+        Ok((Counted::new(VecDeque::from(copy)), original))
+    }
+
+    fn is_at(&self, name: &str, original: &Original) -> io::Result<bool> {
+        end(self.begin()?)?;
+        match leads(self.done.as_slice(), name) {
+            Some(number) => Ok(number == original.number && !self.faults.is_changed),
+            None => Ok(false),
+        }
+    }
+
+    fn create(&mut self, name: &str) -> io::Result<Self::New> {
+        let is_late = self.begin()?;
+        if leads(self.done.as_slice(), name).is_some() {
+            return Err(io::Error::from(ErrorKind::AlreadyExists));
+        }
+        let number = self.done.len() as u64;
+        if !is_unused(self.done.as_slice(), number) {
+            return Err(io::Error::from(ErrorKind::Other));
+        }
+        let name = self.copy(name)?;
+        self.note(Event::Leads(name, Some(number)), is_late)?;
+        let page = Page::new(self.alloc, self.faults.writes, self.faults.kind);
+        Ok(Counted::new(page))
+    }
+
+    fn store(&mut self, name: &str, new: Self::New, _original: &Original) -> io::Result<()> {
+        let is_late = self.begin()?;
+        let Some(number) = leads(self.done.as_slice(), name) else {
+            return Err(not_found());
+        };
+        let (page, _) = new.into_parts();
+        self.note(Event::Stored(number, page.bytes), is_late)
+    }
+
+    fn link(&mut self, name: &str, second: &str) -> io::Result<()> {
+        let is_late = self.begin()?;
+        let Some(number) = leads(self.done.as_slice(), name) else {
+            return Err(not_found());
+        };
+        if leads(self.done.as_slice(), second).is_some() {
+            return Err(io::Error::from(ErrorKind::AlreadyExists));
+        }
+        let second = self.copy(second)?;
+        self.note(Event::Leads(second, Some(number)), is_late)
+    }
+
+    fn rename(&mut self, name: &str, onto: &str) -> io::Result<()> {
+        let is_late = self.begin()?;
+        let Some(number) = leads(self.done.as_slice(), name) else {
+            return Err(not_found());
+        };
+        let onto = self.copy(onto)?;
+        let name = self.copy(name)?;
+        self.note_both(
+            Event::Leads(onto, Some(number)),
+            Event::Leads(name, None),
+            is_late,
+        )
+    }
+
+    fn remove(&mut self, name: &str) -> io::Result<()> {
+        let is_late = self.begin()?;
+        let name = self.copy(name)?;
+        self.note(Event::Leads(name, None), is_late)
+    }
+
+    fn sync(&mut self) -> io::Result<()> {
+        let is_late = self.begin()?;
+        self.note(Event::Synced, is_late)
+    }
+}

@@ -1,7 +1,8 @@
 """Tries of `restamp` in the time zones of the system, held against Python's `zoneinfo`.
 
 Each zone is tried at, one second before and one second after each transition of its file, and at random moments, also
-past the last transition, where the rule of the file goes on.
+past the last transition, where the rule of the file goes on. So are the dates and times that its clocks leave out or
+show twice there, by each `--fold`.
 """
 import datetime
 import struct
@@ -10,6 +11,7 @@ import zoneinfo
 from programs import Cases, answers
 
 SHOWN = "[year]-[month]-[day]T[hour]:[minute]:[second][offset_hour sign:mandatory]:[offset_minute]:[offset_second]"
+READ = "[year]-[month]-[day]T[hour]:[minute]:[second]"
 EPOCH = datetime.datetime(1970, 1, 1, tzinfo=datetime.timezone.utc)
 SECOND = datetime.timedelta(seconds=1)
 MOST = 150  # zones in a round
@@ -78,6 +80,45 @@ def in_zone(rng, tally, command, name):
     answers(tally, "zones", [*command, "-f", "unix", "-z", name, "-t", SHOWN], lines, wanted)
 
 
+def clocks(rng, zone, name):
+    """Dates and times around each transition, and random ones."""
+    for second in [*transitions(name), *(rng.randint(-5_000_000_000, 20_000_000_000) for _ in range(30))]:
+        for at in (second - 1, second):
+            try:
+                clock = (EPOCH + at * SECOND).astimezone(zone).replace(tzinfo=None, fold=0)
+                for hours in (-1, 0, 1):
+                    yield clock + (hours * 3600 + rng.choice([0, rng.randint(-1800, 1800)])) * SECOND
+            except OverflowError:
+                continue
+
+
+def meant(clock, zone, fold):
+    """The moment that a date and time means, or `None`. One that clocks leave out is shown at neither of its offsets."""
+    earlier, later = (clock.replace(tzinfo=zone, fold=it) for it in (0, 1))
+    if earlier.utcoffset() == later.utcoffset():
+        return earlier
+    if earlier.utcoffset() < later.utcoffset() or fold == "refuse":
+        return None
+    return earlier if fold == "earlier" else later
+
+
+def on_clocks(rng, tally, command, name):
+    zone = zoneinfo.ZoneInfo(name)
+    for fold in ("earlier", "later", "refuse"):
+        lines, wanted = [], []
+        for clock in clocks(rng, zone, name):
+            moment = meant(clock, zone, fold)
+            text = clock.isoformat()
+            if clock.year < 1000:
+                continue
+            lines.append(text.encode())
+            wanted.append(shown(moment) if moment else text)
+        lines.append(b"2021-01-01T00:00:00 is a line that is refused as a whole, and no short one")
+        wanted.append(lines[-1].decode())
+        answers(tally, "zones", [*command, "-f", READ, "--in", name, "--fold", fold, "-t", SHOWN, "-q"], lines, wanted)
+
+
 def programs(rng, tally, command):
     for name in next_zones(5 if isinstance(tally, Cases) else MOST):
         in_zone(rng, tally, command, name)
+        on_clocks(rng, tally, command, name)

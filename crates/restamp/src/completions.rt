@@ -11,15 +11,18 @@ _restamp() {
         -f | --from) words='rfc3339 rfc2822 iso8601 unix unix-ms unix-us unix-ns common syslog' ;;
         -t | --to) words='rfc3339 rfc2822 iso8601 unix unix-ms unix-us unix-ns' ;;
         -z | --zone) words="keep utc local $(_restamp_zones)" ;;
+        --in) words="local $(_restamp_zones)" ;;
+        --fold) words='earlier later refuse' ;;
         --digits) words='auto 0 1 2 3 4 5 6 7 8 9' ;;
         --color) words='auto always never' ;;
         --completions) words='bash zsh fish' ;;
         -k | --field | -b | --between | -a | --after | -d | --delimiter) return ;;
-        --year | --latest | --offset | -s | --since | -e | --until | --errors) return ;;
+        --latest | -s | --since | -e | --until) words='now today yesterday' ;;
+        --year | --offset | --errors) return ;;
         *)
             if [[ $word == -* ]]; then
                 words='-l --front --anywhere -k --field -b --between -a --after -d --delimiter --blanks --csv
-                    -f --from --year --latest --offset -t --to -z --zone -u --utc --digits -o --only
+                    -f --from --year --latest --offset --in --fold -t --to -z --zone -u --utc --digits -o --only
                     -s --since -e --until --drop-refused -q --quiet --errors -x --strict
                     --keep-going --color -i --in-place --progress --completions -h --help -V --version'
             else
@@ -38,7 +41,7 @@ const ZSH: &str = r#"#compdef restamp
 _restamp() {
     local -a reads writes zones
     local folder=${TZDIR:-/usr/share/zoneinfo}
-    zones=(keep utc local)
+    zones=(local)
     [[ -r $folder/tzdata.zi ]] && zones+=($(awk '$1 == "Z" { print $2 } $1 == "L" { print $3 }' $folder/tzdata.zi))
     writes=(rfc3339 rfc2822 iso8601 unix unix-ms unix-us unix-ns)
     reads=($writes common syslog)
@@ -53,15 +56,17 @@ _restamp() {
         '--csv[a field may stand in quotes]' \
         '*'{-f,--from}'[the format that is read]:format:($reads)' \
         '--year[the year of times that have none]:year:' \
-        '(--year)--latest[times that have none are the latest not after it]:time:' \
-        '--offset[the offset of times that have none]:offset:' \
+        '(--year)--latest[times that have none are the latest not after it]:time:(now today yesterday)' \
+        '(--in)--offset[the offset of times that have none]:offset:' \
+        '(--offset)--in[the zone of times that have no offset]:zone:($zones)' \
+        '--fold[which of two moments such a time means]:which:(earlier later refuse)' \
         '(-t --to)'{-t,--to}'[the format that is written]:format:($writes)' \
-        '(-z --zone -u --utc)'{-z,--zone}'[the zone in which times are written]:zone:($zones)' \
+        '(-z --zone -u --utc)'{-z,--zone}'[the zone in which times are written]:zone:(keep utc $zones)' \
         '(-z --zone -u --utc)'{-u,--utc}'[the same as --zone utc]' \
         '--digits[digits of a fraction]:digits:(auto 0 1 2 3 4 5 6 7 8 9)' \
         '(-o --only)'{-o,--only}'[writes the times alone]' \
-        '(-s --since)'{-s,--since}'[drops lines whose time is before]:time:' \
-        '(-e --until)'{-e,--until}'[drops lines whose time is not before]:time:' \
+        '(-s --since)'{-s,--since}'[drops lines whose time is before]:time:(now today yesterday)' \
+        '(-e --until)'{-e,--until}'[drops lines whose time is not before]:time:(now today yesterday)' \
         '--drop-refused[drops lines with no time or a refused one]' \
         '(-q --quiet)'{-q,--quiet}'[names no refused line]' \
         '--errors[names the first refused lines of a file]:number:' \
@@ -81,7 +86,7 @@ _restamp "$@"
 const FISH: &str = r#"# Completions of restamp for fish.
 set -l writes rfc3339 rfc2822 iso8601 unix unix-ms unix-us unix-ns
 function __restamp_zones
-    printf '%s\n' keep utc local
+    printf '%s\n' local
     set -l folder /usr/share/zoneinfo
     set -q TZDIR; and set folder $TZDIR
     test -r $folder/tzdata.zi; and awk '$1 == "Z" { print $2 } $1 == "L" { print $3 }' $folder/tzdata.zi
@@ -96,15 +101,17 @@ complete -c restamp -l blanks -d 'Fields are words between blanks'
 complete -c restamp -l csv -d 'A field may stand in quotes'
 complete -c restamp -s f -l from -x -a "$writes common syslog" -d 'The format that is read'
 complete -c restamp -l year -x -d 'The year of times that have none'
-complete -c restamp -l latest -x -d 'Times that have none are the latest not after it'
+complete -c restamp -l latest -x -a 'now today yesterday' -d 'Times that have none are the latest not after it'
 complete -c restamp -l offset -x -d 'The offset of times that have none'
+complete -c restamp -l in -x -a '(__restamp_zones)' -d 'The zone of times that have no offset'
+complete -c restamp -l fold -x -a 'earlier later refuse' -d 'Which of two moments such a time means'
 complete -c restamp -s t -l to -x -a "$writes" -d 'The format that is written'
-complete -c restamp -s z -l zone -x -a '(__restamp_zones)' -d 'The zone in which times are written'
+complete -c restamp -s z -l zone -x -a 'keep utc (__restamp_zones)' -d 'The zone in which times are written'
 complete -c restamp -s u -l utc -d 'The same as --zone utc'
 complete -c restamp -l digits -x -a 'auto 0 1 2 3 4 5 6 7 8 9' -d 'Digits of a fraction'
 complete -c restamp -s o -l only -d 'Writes the times alone'
-complete -c restamp -s s -l since -x -d 'Drops lines whose time is before'
-complete -c restamp -s e -l until -x -d 'Drops lines whose time is not before'
+complete -c restamp -s s -l since -x -a 'now today yesterday' -d 'Drops lines whose time is before'
+complete -c restamp -s e -l until -x -a 'now today yesterday' -d 'Drops lines whose time is not before'
 complete -c restamp -l drop-refused -d 'Drops lines with no time or a refused one'
 complete -c restamp -s q -l quiet -d 'Names no refused line'
 complete -c restamp -l errors -x -d 'Names the first refused lines of a file'

@@ -20,9 +20,12 @@ use restamp_command::{Fault, Request, serve};
 use restamp_options::{Options, make_command};
 use restamp_stream::{Block, Stop, Stream, status};
 use std::alloc::AllocError;
+use std::convert::TryFrom;
 use std::io::{BufWriter, ErrorKind, IsTerminal, Write};
 use std::process::ExitCode;
+use std::time::SystemTime;
 use std::{env, io};
+use time_values::UtcDateTime;
 use words::words_of;
 
 // The names of the files, or that of standard input where none is given.
@@ -107,6 +110,12 @@ fn complete(rt: &HostRuntime, shell: &str) -> io::Result<u8> {
     }
 }
 
+// The moment that the clock shows, where there is a date for it.
+fn now_of(rt: &HostRuntime) -> Option<UtcDateTime> {
+    let time = SystemTime::now(rt).ok()?;
+    UtcDateTime::try_from(time).ok()
+}
+
 // Whether reports go to a terminal that isn't dumb.
 fn has_terminal(rt: &HostRuntime) -> bool {
     let is_dumb = match env::var(rt, "TERM") {
@@ -149,7 +158,7 @@ fn follow_in_place(rt: &HostRuntime, matches: &ArgMatches<'_>) -> io::Result<u8>
             return tell_input(rt);
         }
     }
-    match Request::new(rt, &Options::of(matches), shows_colors(rt)) {
+    match Request::new(rt, &Options::of(matches), shows_colors(rt), now_of(rt)) {
         Ok(request) => replace_all(rt, &request, names.as_slice(), telling_of(rt, matches)),
         Err(fault) => tell(rt, fault),
     }
@@ -159,7 +168,7 @@ fn follow_in_place(rt: &HostRuntime, matches: &ArgMatches<'_>) -> io::Result<u8>
 #[inline(never)]
 fn follow_lines(rt: &HostRuntime, matches: &ArgMatches<'_>) -> io::Result<u8> {
     let names = names_of(rt, matches)?;
-    match Request::new(rt, &Options::of(matches), shows_colors(rt)) {
+    match Request::new(rt, &Options::of(matches), shows_colors(rt), now_of(rt)) {
         Ok(request) => answer(rt, &request, names.as_slice(), telling_of(rt, matches)),
         Err(fault) => tell(rt, fault),
     }

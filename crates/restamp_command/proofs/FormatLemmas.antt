@@ -1,8 +1,9 @@
 -- What is wrong with one of the formats is wrong with the options.
-use Rattle.std.proofs.Common.{◌≡◌, ℕ, List, Bool, inr, subst}
+use Rattle.std.proofs.Common.{◌≡◌, ℕ, List, Bool, Option, inr, subst}
+use Rattle.time_values.specs.declared.utc_date_time.UtcDateTime.{UtcDateTime}
 use Rattle.restamp_command.specs.Fault as fault
 use Rattle.restamp_command.specs.Fault.{Fault}
-use Rattle.restamp_command.specs.Request.{IsFault, IsFormatFault, gives_year}
+use Rattle.restamp_command.specs.Request.{IsFault, IsFaultAt, IsFormatFault, gives_year}
 use Rattle.restamp_options.specs.Options.{other_names}
 use Rattle.restamp_options.specs.declared.options.Options.{Options}
 
@@ -16,3 +17,10 @@ others_fault Y o has_year names f e n h =
     by_fault (fault.from value why) h = (inr h.0, h.1)
     by_fault (fault.lacking value lack) h = (inr h.0, h.1)
     by_fault f h = absurd h
+
+-- what is wrong whatever the clock shows is wrong at each moment
+pub fault_at : (Y : ℕ) (now : Option UtcDateTime) (o : Options) (f : Fault) → IsFault Y o f → IsFaultAt Y now o f
+fault_at Y now o (fault.latest value why) h = absurd h
+fault_at Y now o (fault.since value why) h = absurd h
+fault_at Y now o (fault.until value why) h = absurd h
+fault_at Y now o f h = h

@@ -1,3 +1,4 @@
+mod BoundsLemmas
 mod FateLemmas
 mod FormatLemmas
 mod PointingLemmas

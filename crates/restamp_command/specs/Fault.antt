@@ -8,6 +8,24 @@ use Rattle.restamp_verdict.specs.Reason.{Reason, seen, reason_text}
 use Rattle.restamp_verdict.specs.declared.lack.Lack.{Lack}
 use Rattle.restamp_command.specs.declared.fault.Fault as declared
 use Rattle.restamp_command.specs.declared.fault.Fault.TheVariants as fault
+use Rattle.restamp_command.specs.declared.fault.NoMoment as declared_none
+use Rattle.restamp_command.specs.declared.fault.NoMoment.TheVariants as none
+
+-- a text says no moment, for that reason; it names one that has no date; or it names one where the clock shows none
+pub data NoMoment : Type 0 where
+  unread : Reason → NoMoment
+  out_of_range : NoMoment
+  no_clock : NoMoment
+
+abbrev pub seen_none : declared_none.NoMoment → NoMoment
+seen_none (none.Unread reason) = unread (seen reason)
+seen_none none.OutOfRange = out_of_range
+seen_none none.NoClock = no_clock
+
+abbrev pub none_text : NoMoment → List ℕ
+none_text (unread reason) = reason_text reason
+none_text out_of_range = codes "it is before the year -999999 or after 999999"
+none_text no_clock = codes "the clock shows no time from 1970 to 999999"
 
 -- each with the value that its option doesn't take, and why
 pub data Fault : Type 0 where
@@ -19,16 +37,19 @@ pub data Fault : Type 0 where
   to : List ℕ → naming.Fault → Fault
   year : List ℕ → Fault
   offset : List ℕ → Fault
+  local : List ℕ → ZoneFault → Fault
+  fold : List ℕ → Fault
   unused_year : List ℕ → Fault
   unused_latest : List ℕ → Fault
   unused_offset : List ℕ → Fault
+  unused_local : List ℕ → Fault
   zone : List ℕ → ZoneFault → Fault
   digits : List ℕ → Fault
   errors : List ℕ → Fault
   color : List ℕ → Fault
-  latest : List ℕ → Reason → Fault
-  since : List ℕ → Reason → Fault
-  until : List ℕ → Reason → Fault
+  latest : List ℕ → NoMoment → Fault
+  since : List ℕ → NoMoment → Fault
+  until : List ℕ → NoMoment → Fault
   in_place : List ℕ → Fault
 
 -- what a fault says
@@ -41,16 +62,19 @@ told (fault.Lacking value lack) = lacking value.now lack
 told (fault.To value why) = to value.now (naming.fault_of why)
 told (fault.Year value) = year value.now
 told (fault.Offset value) = offset value.now
+told (fault.In value why) = local value.now why
+told (fault.Fold value) = fold value.now
 told (fault.UnusedYear value) = unused_year value.now
 told (fault.UnusedLatest value) = unused_latest value.now
 told (fault.UnusedOffset value) = unused_offset value.now
+told (fault.UnusedIn value) = unused_local value.now
 told (fault.Zone value why) = zone value.now why
 told (fault.Digits value) = digits value.now
 told (fault.Errors value) = errors value.now
 told (fault.Color value) = color value.now
-told (fault.Latest value why) = latest value.now (seen why)
-told (fault.Since value why) = since value.now (seen why)
-told (fault.Until value why) = until value.now (seen why)
+told (fault.Latest value why) = latest value.now (seen_none why)
+told (fault.Since value why) = since value.now (seen_none why)
+told (fault.Until value why) = until value.now (seen_none why)
 told (fault.InPlace value) = in_place value.now
 
 -- the option, and the value that it doesn't take
@@ -63,9 +87,12 @@ place_of (lacking value lack) = Some (codes "--from <FORMAT>", value)
 place_of (to value why) = Some (codes "--to <FORMAT>", value)
 place_of (year value) = Some (codes "--year <YEAR>", value)
 place_of (offset value) = Some (codes "--offset <OFFSET>", value)
+place_of (local value why) = Some (codes "--in <ZONE>", value)
+place_of (fold value) = Some (codes "--fold <WHICH>", value)
 place_of (unused_year value) = Some (codes "--year <YEAR>", value)
 place_of (unused_latest value) = Some (codes "--latest <TIME>", value)
 place_of (unused_offset value) = Some (codes "--offset <OFFSET>", value)
+place_of (unused_local value) = Some (codes "--in <ZONE>", value)
 place_of (zone value why) = Some (codes "--zone <ZONE>", value)
 place_of (digits value) = Some (codes "--digits <N>", value)
 place_of (errors value) = Some (codes "--errors <N>", value)
@@ -85,14 +112,17 @@ why_text (lacking value lack) = Some (lack_text lack)
 why_text (to value why) = naming.fault_text why
 why_text (year value) = Some (codes "it is not a year from -999999 to 999999")
 why_text (offset value) = Some (codes "it is no offset such as +05:30")
+why_text (local value why) = fault_text why
+why_text (fold value) = Some (codes "it is not earlier, later or refuse")
 why_text (unused_year value) = Some (codes "each format reads a year")
 why_text (unused_latest value) = Some (codes "each format reads a year")
 why_text (unused_offset value) = Some (codes "each format reads an offset")
+why_text (unused_local value) = Some (codes "each format reads an offset")
 why_text (zone value why) = fault_text why
 why_text (digits value) = Some (codes "it is not 0 to 9 or auto")
 why_text (errors value) = Some (codes "it is not a number from 0 to 18446744073709551615")
 why_text (color value) = Some (codes "it is not auto, always or never")
-why_text (latest value why) = Some (reason_text why)
-why_text (since value why) = Some (reason_text why)
-why_text (until value why) = Some (reason_text why)
+why_text (latest value why) = Some (none_text why)
+why_text (since value why) = Some (none_text why)
+why_text (until value why) = Some (none_text why)
 why_text (in_place value) = Some (codes "it has a slash")

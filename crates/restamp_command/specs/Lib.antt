@@ -1,6 +1,7 @@
+pub mod Fault
+pub mod Bounds
 pub mod Values
 pub mod Zones
-pub mod Fault
 pub mod Request
 pub mod Expected
 pub mod Pointing

@@ -10,11 +10,11 @@ use Rattle.restamp_place.specs.declared.fields.Fields.TheVariants.{Delimited, Bl
 use Rattle.restamp_verdict.specs.Lack.{format_lack, takes}
 use Rattle.restamp_verdict.specs.Naming as naming
 use Rattle.restamp_verdict.specs.Naming.{Means, MeansWriting, meaning_of, way_of}
-use Rattle.restamp_verdict.specs.Reason.{Reason, seen}
-use Rattle.restamp_verdict.specs.declared.reason.Reason as declared
 use Rattle.restamp_verdict.specs.declared.job.Job.{Job}
 use Rattle.restamp_verdict.specs.declared.lack.Part.{Part}
 use Rattle.restamp_verdict.specs.declared.lack.Part.TheVariants as part
+use Rattle.restamp_verdict.specs.declared.local.Fold.{Fold}
+use Rattle.restamp_verdict.specs.declared.local.Fold.TheVariants.{Refuse}
 use Rattle.restamp_verdict.specs.declared.reading.Defaults.{Defaults}
 use Rattle.restamp_verdict.specs.declared.reading.Reading.{Reading}
 use Rattle.restamp_options.specs.Options.{other_names, text_behind}
@@ -24,13 +24,18 @@ use Rattle.restamp_stream.specs.declared.settings.Reports.TheVariants.{Quiet, Fi
 use Rattle.restamp_stream.specs.declared.settings.Settings.{Settings}
 use Rattle.time_values.specs.Offsets.{IsUtc}
 use Rattle.time_values.specs.declared.offset_date_time.OffsetDateTime.{OffsetDateTime}
+use Rattle.time_values.specs.declared.utc_date_time.UtcDateTime.{UtcDateTime}
 use Rattle.time_values.specs.declared.utc_offset.UtcOffset.{UtcOffset}
 use Rattle.restamp_command.specs.Fault as fault
-use Rattle.restamp_command.specs.Fault.{Fault}
-use Rattle.restamp_command.specs.Values.{delimiter_of, digits_of, shows_of, IsNumber, IsPositive, IsOffsetText, IsYear, IsMomentText}
-use Rattle.restamp_command.specs.Zones.{IsZone, IsNoZone, IsClockOf}
+use Rattle.restamp_command.specs.Fault.{Fault, NoMoment, seen_none}
+use Rattle.restamp_command.specs.Values.{delimiter_of, digits_of, fold_of, shows_of, IsNumber, IsPositive, IsOffsetText, IsYear, IsMomentText}
+use Rattle.restamp_command.specs.Zones.{AreDefaultsOf, ComesOf, IsZone, IsNoZone, IsClockOf}
+use Rattle.restamp_command.specs.declared.fault.NoMoment as declared
 use Rattle.restamp_command.specs.declared.request.Request.{Request}
 use Rattle.restamp_command.specs.declared.style.Style.{Style}
+use Rattle.restamp_command.specs.declared.zone.Given.{Given}
+use Rattle.restamp_command.specs.declared.zone.Local.{Local}
+use Rattle.restamp_command.specs.declared.zone.Local.TheVariants as local
 
 -- a place in a line, without where its texts lie in memory, or any place
 pub data Where : Type 0 where
@@ -79,6 +84,10 @@ IsPlace o w = MatchBool o.front (w ≡ front) (MatchBool o.anywhere (w ≡ anywh
 abbrev pub gives_year : Options → Bool
 gives_year o = is_some o.year || is_some o.latest
 
+-- an offset is given for times that say none, or a zone
+abbrev pub gives_offset : Options → Bool
+gives_offset o = is_some o.offset || is_some o.local
+
 -- The format that has that name, or that the text describes. Some text says a moment by it, where a year is given or
 -- isn't.
 abbrev pub IsFormat : Bool → List ℕ → Reading → Type 0
@@ -119,11 +128,24 @@ abbrev pub IsOffsetGiven : ℕ → Option (List ℕ) → UtcOffset → Type 0
 IsOffsetGiven Y None offset = IsUtc offset
 IsOffsetGiven Y (Some text) offset = IsOffsetText Y text (Some offset)
 
--- The year and the offset that stand for those that a time leaves out.
-abbrev pub AreParts : ℕ → Options → Defaults → Type 0
-AreParts Y o parts =
-    IsYearGiven Y (text_behind o.year) parts.year
-    × IsSomeAnd parts.offset (IsOffsetGiven Y (text_behind o.offset)) × (parts.latest ≡ None)
+-- Which of two moments it is that the clocks of a zone show alike; without a text neither.
+abbrev pub IsFoldGiven : Option (List ℕ) → Fold → Type 0
+IsFoldGiven None fold = fold ≡ Refuse
+IsFoldGiven (Some text) fold = fold_of text ≡ Some fold
+
+-- What stands for an offset: the clocks of the zone of that name, or without one the offset that is given.
+abbrev pub IsLocalGiven : ℕ → Options → Option (List ℕ) → Local → Type 0
+IsLocalGiven Y o None (local.Offset offset) = IsOffsetGiven Y (text_behind o.offset) offset
+IsLocalGiven Y o None (local.Zone named fold) = ⊥
+IsLocalGiven Y o (Some name) (local.Offset offset) = ⊥
+IsLocalGiven Y o (Some name) (local.Zone named fold) =
+    ComesOf name (Ok named) × IsFoldGiven (text_behind o.fold) fold
+
+-- The year and what stands for an offset where a time leaves them out.
+abbrev pub AreParts : ℕ → Options → Given → Type 0
+AreParts Y o given =
+    IsYearGiven Y (text_behind o.year) given.year × IsLocalGiven Y o (text_behind o.local) given.local
+    × (given.latest ≡ None)
 
 -- A text of one of the formats may leave that part out.
 abbrev pub one_takes : Part → Reading → List Reading → Bool
@@ -132,7 +154,7 @@ one_takes p first others = takes p first || list_any (takes p) others
 -- What is given for a part of a time can be of use.
 pub record AreUsed (o : Options) (first : Reading) (others : List Reading) : Type 0 where
   pub year : gives_year o ≡ true → one_takes part.Year first others ≡ true
-  pub offset : is_some o.offset ≡ true → one_takes part.Offset first others ≡ true
+  pub offset : gives_offset o ≡ true → one_takes part.Offset first others ≡ true
 
 -- No text of a format that is asked for leaves that part out.
 abbrev pub HasNoUse : Options → Part → Type 0
@@ -150,29 +172,47 @@ pub record IsStyle (Y : ℕ) (o : Options) (style : Style) : Type 0 where
   pub zone : IsZone Y (zone_of o) style.zone
 
 -- the bound that a text's moment is
-abbrev pub bound_of : List ℕ → Result OffsetDateTime Reason → Result (Option OffsetDateTime) (List ℕ × Reason)
+abbrev pub bound_of : List ℕ → Result OffsetDateTime NoMoment → Result (Option OffsetDateTime) (List ℕ × NoMoment)
 bound_of text (Ok moment) = Ok (Some moment)
-bound_of text (Err reason) = Err (text, reason)
+bound_of text (Err why) = Err (text, why)
 
 -- a result, without where its texts lie in memory
-abbrev pub seen_bound : Result (Option OffsetDateTime) (Bor (List ℕ) × declared.Reason)
-    → Result (Option OffsetDateTime) (List ℕ × Reason)
+abbrev pub seen_bound : Result (Option OffsetDateTime) (Bor (List ℕ) × declared.NoMoment)
+    → Result (Option OffsetDateTime) (List ℕ × NoMoment)
 seen_bound (Ok bound) = Ok bound
-seen_bound (Err e) = Err (e.0.now, seen e.1)
+seen_bound (Err e) = Err (e.0.now, seen_none e.1)
 
--- A bound is the moment that a text says, if there is one; or the text says none, for that reason.
-abbrev pub IsBound : ℕ → Reading → List Reading → Defaults → Option (List ℕ)
-    → Result (Option OffsetDateTime) (List ℕ × Reason) → Type 0
-IsBound Y first others defaults None result = result ≡ Ok None
-IsBound Y first others defaults (Some text) result =
-    (moment : Result OffsetDateTime Reason) × IsMomentText Y first others text defaults moment
+-- A bound is the moment that a text says, if there is one; or the text says none, for that reason. `now` is the moment
+-- that the clock shows.
+abbrev pub IsBound : ℕ → Option UtcDateTime → Reading → List Reading → Defaults → Option (List ℕ)
+    → Result (Option OffsetDateTime) (List ℕ × NoMoment) → Type 0
+IsBound Y now first others defaults None result = result ≡ Ok None
+IsBound Y now first others defaults (Some text) result =
+    (moment : Result OffsetDateTime NoMoment) × IsMomentText Y now first others text defaults moment
     × (result ≡ bound_of text moment)
 
--- What stands for what a time leaves out: these parts, and the moment that a time with no year isn't after.
-abbrev pub AreDefaults : ℕ → Options → Reading → List Reading → Defaults → Type 0
-AreDefaults Y o first others defaults =
-    (parts : Defaults) × AreParts Y o parts × (defaults ≡ record parts { latest = defaults.latest })
-    × IsBound Y first others parts (text_behind o.latest) (Ok defaults.latest)
+-- The same by the defaults that are given.
+abbrev pub IsBoundBy : ℕ → Option UtcDateTime → Reading → List Reading → Given → Option (List ℕ)
+    → Result (Option OffsetDateTime) (List ℕ × NoMoment) → Type 0
+IsBoundBy Y now first others given text result =
+    (defaults : Defaults) × AreDefaultsOf given defaults × IsBound Y now first others defaults text result
+
+-- What is given for what a time leaves out: these parts, and the moment that a time with no year isn't after.
+abbrev pub IsGiven : ℕ → Option UtcDateTime → Options → Reading → List Reading → Given → Type 0
+IsGiven Y now o first others given =
+    (parts : Given) × AreParts Y o parts × (given ≡ record parts { latest = given.latest })
+    × IsBoundBy Y now first others parts (text_behind o.latest) (Ok given.latest)
+
+-- The bounds of the times of lines that are kept.
+abbrev pub AreBounds : ℕ → Option UtcDateTime → Options → Reading → List Reading → Given
+    → Option OffsetDateTime × Option OffsetDateTime → Type 0
+AreBounds Y now o first others given bounds =
+    IsBoundBy Y now first others given (text_behind o.since) (Ok bounds.0)
+    × IsBoundBy Y now first others given (text_behind o.until) (Ok bounds.1)
+
+-- Colours are shown, or aren't, where reports go to a terminal or don't.
+abbrev pub AreColors : Options → Bool → Bool → Type 0
+AreColors o is_terminal shows = shows_of o.color.now is_terminal ≡ Some shows
 
 -- How the lines of files are answered.
 abbrev pub AreSettings : Options → Settings → Type 0
@@ -191,35 +231,34 @@ has_slash text = list_any (λ b. b == 47) text
 abbrev pub IsSuffix : Options → Option (List ℕ) → Type 0
 IsSuffix o suffix = (suffix ≡ text_behind o.in_place) × IfSome suffix (λ text. has_slash text ≡ false)
 
--- Options ask for a request, where reports go to a terminal or don't.
-pub record Asks (Y : ℕ) (o : Options) (is_terminal : Bool) (r : Request) : Type 0 where
+-- Options ask for a request, where the clock shows that moment, and reports go to a terminal or don't.
+pub record Asks (Y : ℕ) (now : Option UtcDateTime) (o : Options) (is_terminal : Bool) (r : Request) : Type 0 where
   pub place : IsPlace o (seen_place r.place)
   pub formats : AreFormats o r.first r.others.items
   pub uses : AreUsed o r.first r.others.items
-  pub defaults : AreDefaults Y o r.first r.others.items r.defaults
+  pub given : IsGiven Y now o r.first r.others.items r.given
   pub style : IsStyle Y o r.style
-  pub since : IsBound Y r.first r.others.items r.defaults (text_behind o.since) (Ok r.since)
-  pub until : IsBound Y r.first r.others.items r.defaults (text_behind o.until) (Ok r.until)
+  pub bounds : AreBounds Y now o r.first r.others.items r.given (r.since, r.until)
   pub settings : AreSettings o r.settings
-  pub shows_lines : shows_of o.color.now is_terminal ≡ Some r.shows_lines
+  pub shows_lines : AreColors o is_terminal r.shows_lines
   pub strict : r.strict ≡ o.strict
   pub in_place : IsSuffix o (text_behind r.in_place)
 
--- A bound's text says no moment by the formats and defaults of the options, for that reason.
-abbrev pub IsNoBound : ℕ → Options → Option (List ℕ) → List ℕ → Reason → Type 0
-IsNoBound Y o text value reason =
-    (first : Reading) × (others : List Reading) × (defaults : Defaults)
-    × AreFormats o first others × AreDefaults Y o first others defaults
-    × IsBound Y first others defaults text (Err (value, reason))
+-- A bound's text says no moment by the formats and the defaults that are given, for that reason.
+abbrev pub IsNoBound : ℕ → Option UtcDateTime → Options → Option (List ℕ) → List ℕ → NoMoment → Type 0
+IsNoBound Y now o text value why =
+    (first : Reading) × (others : List Reading) × (given : Given)
+    × AreFormats o first others × IsGiven Y now o first others given
+    × IsBoundBy Y now first others given text (Err (value, why))
 
 -- The same of the moment that a time with no year isn't after, by the other defaults alone.
-abbrev pub IsNoLatest : ℕ → Options → List ℕ → Reason → Type 0
-IsNoLatest Y o value reason =
-    (first : Reading) × (others : List Reading) × (parts : Defaults)
+abbrev pub IsNoLatest : ℕ → Option UtcDateTime → Options → List ℕ → NoMoment → Type 0
+IsNoLatest Y now o value why =
+    (first : Reading) × (others : List Reading) × (parts : Given)
     × AreFormats o first others × AreParts Y o parts
-    × IsBound Y first others parts (text_behind o.latest) (Err (value, reason))
+    × IsBoundBy Y now first others parts (text_behind o.latest) (Err (value, why))
 
--- An option doesn't take its value, or memory was short.
+-- An option doesn't take its value, whatever the clock shows, or memory was short.
 abbrev pub IsFault : ℕ → Options → Fault → Type 0
 IsFault Y o fault.memory = Unit {0}
 IsFault Y o (fault.field value) = (text_behind o.field ≡ Some value) × IsPositive value None
@@ -231,24 +270,34 @@ IsFault Y o (fault.lacking value lack) =
 IsFault Y o (fault.to value why) = (value ≡ o.to.now) × naming.IsWritingFault value why
 IsFault Y o (fault.year value) = (text_behind o.year ≡ Some value) × IsYear Y value None
 IsFault Y o (fault.offset value) = (text_behind o.offset ≡ Some value) × IsOffsetText Y value None
+IsFault Y o (fault.local value why) = (text_behind o.local ≡ Some value) × ComesOf value (Err why)
+IsFault Y o (fault.fold value) = (text_behind o.fold ≡ Some value) × (fold_of value ≡ None)
 IsFault Y o (fault.unused_year value) = (text_behind o.year ≡ Some value) × HasNoUse o part.Year
 IsFault Y o (fault.unused_latest value) = (text_behind o.latest ≡ Some value) × HasNoUse o part.Year
 IsFault Y o (fault.unused_offset value) = (text_behind o.offset ≡ Some value) × HasNoUse o part.Offset
+IsFault Y o (fault.unused_local value) = (text_behind o.local ≡ Some value) × HasNoUse o part.Offset
 IsFault Y o (fault.zone value why) = (value ≡ zone_of o) × IsNoZone Y value why
 IsFault Y o (fault.digits value) = (value ≡ o.digits.now) × (digits_of value ≡ None)
 IsFault Y o (fault.errors value) = (value ≡ o.errors.now) × IsNumber value None
 IsFault Y o (fault.color value) = (value ≡ o.color.now) × ((is_terminal : Bool) → shows_of value is_terminal ≡ None)
-IsFault Y o (fault.latest value reason) = IsNoLatest Y o value reason
-IsFault Y o (fault.since value reason) = IsNoBound Y o (text_behind o.since) value reason
-IsFault Y o (fault.until value reason) = IsNoBound Y o (text_behind o.until) value reason
+IsFault Y o (fault.latest value why) = ⊥
+IsFault Y o (fault.since value why) = ⊥
+IsFault Y o (fault.until value why) = ⊥
 IsFault Y o (fault.in_place value) = (text_behind o.in_place ≡ Some value) × (has_slash value ≡ true)
+
+-- An option doesn't take its value, where the clock shows that moment, or memory was short.
+abbrev pub IsFaultAt : ℕ → Option UtcDateTime → Options → Fault → Type 0
+IsFaultAt Y now o (fault.latest value why) = IsNoLatest Y now o value why
+IsFaultAt Y now o (fault.since value why) = IsNoBound Y now o (text_behind o.since) value why
+IsFaultAt Y now o (fault.until value why) = IsNoBound Y now o (text_behind o.until) value why
+IsFaultAt Y now o f = IsFault Y o f
 
 -- A job does what a request asks for.
 pub record IsJobOf (r : Request) (job : Job) : Type 0 where
   pub place : job.place ≡ r.place
   pub first : job.first.now ≡ r.first
   pub others : job.others.now ≡ r.others.items
-  pub defaults : job.defaults ≡ r.defaults
+  pub defaults : AreDefaultsOf r.given job.defaults
   pub writing : job.form.writing.now ≡ r.style.writing
   pub digits : job.form.digits ≡ r.style.digits
   pub clock : IsClockOf r.style.zone job.form.clock

@@ -1,5 +1,5 @@
 -- What the values of options mean. `Y` is the greatest year.
-use Rattle.std.specs.Prelude.{◌≡◌, ℕ, ◌-◌, ◌^◌, ◌<◌, ℤ, nat_le, unsigned_abs, Bool, false, true, MatchBool, List, [], ◌∷◌, codes, if◌then◌else◌, Option, None, Some, SomeIff, Result, Ok, Err, MatchResult, IsSomeAnd, FitsSigned}
+use Rattle.std.specs.Prelude.{◌≡◌, ℕ, ◌-◌, ◌^◌, ◌<◌, ℤ, nat_le, unsigned_abs, Bool, false, true, MatchBool, List, [], ◌∷◌, codes, if◌then◌else◌, Option, None, Some, MatchOption, SomeIff, Result, Ok, Err, MatchResult, IsSomeAnd, FitsSigned}
 use Rattle.std.specs.Char.{is_ascii_digit}
 use Rattle.std.specs.Option.{option_and_then, option_map}
 use Rattle.std.specs.Result.{result_ok}
@@ -14,17 +14,23 @@ use Rattle.time_record.specs.Reading.{Reads, Refuses}
 use Rattle.time_record.specs.Record.{empty}
 use Rattle.time_record.specs.Resolution.{IsOffset}
 use Rattle.restamp_verdict.specs.Reading.{Says, IsReadInTurn}
-use Rattle.restamp_verdict.specs.Reason.{Reason, seen}
-use Rattle.restamp_verdict.specs.declared.reason.Reason as declared
+use Rattle.restamp_verdict.specs.Reason.{Reason}
+use Rattle.restamp_verdict.specs.declared.local.Fold.{Fold}
+use Rattle.restamp_verdict.specs.declared.local.Fold.TheVariants.{Refuse, Earlier, Later}
 use Rattle.restamp_verdict.specs.declared.reading.Reading.{Reading}
 use Rattle.restamp_verdict.specs.declared.reading.Reading.TheVariants.{Rfc3339}
 use Rattle.restamp_verdict.specs.declared.reading.Said.{Said}
 use Rattle.restamp_verdict.specs.declared.reading.Defaults.{Defaults}
 use Rattle.time_values.specs.Refusal.{Refusal}
 use Rattle.time_values.specs.declared.offset_date_time.OffsetDateTime.{OffsetDateTime}
+use Rattle.time_values.specs.declared.utc_date_time.UtcDateTime.{UtcDateTime}
 use Rattle.time_values.specs.declared.utc_offset.UtcOffset.{UtcOffset}
 use Rattle.time_writing.specs.declared.fraction.FractionDigits.{FractionDigits}
 use Rattle.time_writing.specs.declared.fraction.FractionDigits.TheVariants.{Auto, Exactly}
+use Rattle.restamp_command.specs.Bounds.{IsMomentOf, IsWord}
+use Rattle.restamp_command.specs.Fault.{NoMoment, seen_none, unread}
+use Rattle.restamp_command.specs.declared.bounds.Word.{Word}
+use Rattle.restamp_command.specs.declared.fault.NoMoment as declared
 
 -- The number of 64 bits that a text says in decimal digits, with or without a plus, or none.
 abbrev pub IsNumber : List ℕ → Option ℕ → Type 0
@@ -67,6 +73,13 @@ shows_of text is_terminal =
     if bytes_eq text (codes "always") then Some true else
     if bytes_eq text (codes "never") then Some false else None
 
+-- which of two moments a date and time means that clocks show twice
+abbrev pub fold_of : List ℕ → Option Fold
+fold_of text =
+    if bytes_eq text (codes "refuse") then Some Refuse else
+    if bytes_eq text (codes "earlier") then Some Earlier else
+    if bytes_eq text (codes "later") then Some Later else None
+
 -- an offset such as `+05:30`
 abbrev pub offset_parts : List Tree
 offset_parts =
@@ -91,16 +104,24 @@ IsYear Y text result =
     (number : Option ℤ) × IsSigned text number
     × (result ≡ option_and_then (λ n. if nat_le (unsigned_abs n) Y then Some n else None) number)
 
--- The moment that a text says by RFC 3339, or else by the first of the formats by which it says one; the reason why
--- it says none is that of RFC 3339.
-abbrev pub IsMomentText : ℕ → Reading → List Reading → List ℕ → Defaults → Result OffsetDateTime Reason → Type 0
-IsMomentText Y first others text defaults result =
+-- What a text that no format reads names by the clock; where it's no such word, it says nothing for that reason.
+abbrev pub IsNamedMoment : ℕ → Option UtcDateTime → Defaults → List ℕ → Reason → Result OffsetDateTime NoMoment → Type 0
+IsNamedMoment Y now defaults text reason result =
+    (word : Option Word) × IsWord text word
+    × MatchOption word (result ≡ Err (unread reason))
+    (λ w. IsMomentOf Y now defaults w result)
+
+-- The moment that a text says by RFC 3339, or else by the first of the formats by which it says one, or else names by
+-- the clock; the reason why it says none is that of RFC 3339.
+abbrev pub IsMomentText : ℕ → Option UtcDateTime → Reading → List Reading → List ℕ → Defaults
+    → Result OffsetDateTime NoMoment → Type 0
+IsMomentText Y now first others text defaults result =
     (plain : Result Said Reason) × Says Y Rfc3339 false text defaults plain
     × MatchResult plain (λ said. result ≡ Ok said.moment)
     (λ reason. (said : Result Said Reason) × IsReadInTurn Y first others false text defaults said
-    × MatchResult said (λ s. result ≡ Ok s.moment) (λ _. result ≡ Err reason))
+    × MatchResult said (λ s. result ≡ Ok s.moment) (λ _. IsNamedMoment Y now defaults text reason result))
 
 -- a result, its reason without where its texts lie in memory
-abbrev pub seen_moment : Result OffsetDateTime declared.Reason → Result OffsetDateTime Reason
+abbrev pub seen_moment : Result OffsetDateTime declared.NoMoment → Result OffsetDateTime NoMoment
 seen_moment (Ok moment) = Ok moment
-seen_moment (Err reason) = Err (seen reason)
+seen_moment (Err why) = Err (seen_none why)

@@ -1,5 +1,5 @@
 -- The zones that options name. `Y` is the greatest year.
-use Rattle.std.specs.Prelude.{◌≡◌, ◌≢◌, ◌↔◌, ℕ, List, codes, false, MatchBool, Option, None, MatchOption, Result, Ok, Err}
+use Rattle.std.specs.Prelude.{◌≡◌, ◌≢◌, ◌↔◌, ℕ, List, codes, false, MatchBool, Option, None, Some, MatchOption, Result, Ok, Err}
 use Rattle.std.specs.Str.{bytes_eq}
 use Rattle.time_values.specs.Offsets.{IsUtc}
 use Rattle.time_values.specs.declared.utc_offset.UtcOffset.{UtcOffset}
@@ -11,7 +11,13 @@ use Rattle.time_zones.specs.declared.zone_fault.ZoneFault.{ZoneFault}
 use Rattle.time_zones.specs.declared.zone_fault.ZoneFault.TheVariants.{NotAName}
 use Rattle.restamp_verdict.specs.declared.clock.Clock.{Clock}
 use Rattle.restamp_verdict.specs.declared.clock.Clock.TheVariants as on
+use Rattle.restamp_verdict.specs.declared.local.Clocks.{Clocks}
+use Rattle.restamp_verdict.specs.declared.local.Fold.{Fold}
+use Rattle.restamp_verdict.specs.declared.reading.Defaults.{Defaults}
 use Rattle.restamp_command.specs.Values.{IsOffsetText}
+use Rattle.restamp_command.specs.declared.zone.Given.{Given}
+use Rattle.restamp_command.specs.declared.zone.Local.{Local}
+use Rattle.restamp_command.specs.declared.zone.Local.TheVariants as local
 use Rattle.restamp_command.specs.declared.zone.Zone.{Zone}
 use Rattle.restamp_command.specs.declared.zone.Zone.TheVariants as kind
 
@@ -58,3 +64,17 @@ abbrev pub IsClockOf : Zone → Clock → Type 0
 IsClockOf kind.Keep clock = clock ≡ on.Own
 IsClockOf (kind.Fixed offset) clock = clock ≡ on.Fixed offset
 IsClockOf (kind.Named named) clock = IsClockIn named clock
+
+-- clocks are those of a named zone
+abbrev pub AreClocksIn : NamedZone → Fold → Option Clocks → Type 0
+AreClocksIn named fold None = ⊥
+AreClocksIn named fold (Some clocks) = IsZoneOf named clocks.zone × (clocks.fold ≡ fold)
+
+-- what stands for an offset that a time leaves out
+abbrev pub IsOfLocal : Local → Defaults → Type 0
+IsOfLocal (local.Offset offset) d = (d.offset ≡ Some offset) × (d.clocks ≡ None)
+IsOfLocal (local.Zone named fold) d = (d.offset ≡ None) × AreClocksIn named fold d.clocks
+
+-- Defaults are what is given.
+abbrev pub AreDefaultsOf : Given → Defaults → Type 0
+AreDefaultsOf given d = (d.year ≡ given.year) × IsOfLocal given.local d × (d.latest ≡ given.latest)

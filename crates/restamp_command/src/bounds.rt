@@ -1,18 +1,302 @@
-//! The times between which lines are kept.
+//! The times between which lines are kept, and the words that name them by the clock.
+ghost use Rattle.std.specs.Prelude.{◌≡◌, pos, neg_ℤ, ◌+ℤ◌, ◌-ℤ◌, ◌*ℤ◌, FitsSigned};
+ghost use Rattle.std.specs.Int.{w128, int_div_euclid};
+ghost use Rattle.time_values.specs.Calendar.{IsBetween};
+ghost use Rattle.time_values.specs.Instants.{nanos_per_day};
+ghost use Rattle.time_values.specs.Moments.{utc_instant};
+ghost use Rattle.time_values.specs.MovedClocks.{IsNear};
+ghost use Rattle.time_values.specs.Offsets.{offset_seconds};
 ghost use Rattle.time_values.specs.Range.{greatest_year};
+ghost use Rattle.restamp_verdict.specs.Clock.{IsShown};
+ghost use Rattle.restamp_verdict.specs.Reason.{seen};
+ghost use Rattle.restamp_verdict.specs.declared.clock.Clock.TheVariants as on;
+ghost use Rattle.restamp_command.specs.Bounds as words;
 ghost use Rattle.restamp_command.specs.Values as spec;
 
-use restamp_verdict::{Defaults, Reading, Reason, read, read_in_turn};
-use time_values::OffsetDateTime;
+use crate::fault::NoMoment;
+use restamp_verdict::{Clocks, Defaults, Reading, Reason, read, read_in_turn};
+use time_values::{OffsetDateTime, PlainDateTime, UtcDateTime, UtcOffset};
+use time_zones::{NotOne, assume_zone, checked_to_zone};
 
-/// The moment that the text says by RFC 3339, or else by one of the formats. The reason is that of RFC 3339.
+const NANOS_PER_SECOND: i128 = 1_000_000_000;
+
+const NANOS_PER_DAY: i128 = 86_400 * NANOS_PER_SECOND;
+
+/// A length of time.
+#[derive(Clone, Copy)]
+pub(crate) enum Unit {
+    /// `s`.
+    Second,
+    /// `m`.
+    Minute,
+    /// `h`.
+    Hour,
+    /// `d`, 24 hours.
+    Day,
+    /// `w`.
+    Week,
+}
+
+/// What a word names by the clock.
+#[derive(Clone, Copy)]
+pub(crate) enum Word {
+    /// The clock's moment, so many units later.
+    Later(i64, Unit),
+    /// The beginning of the day that the clock shows, or of the one so many days before.
+    Day(u8),
+}
+
+// The unit of a letter.
+fn find_unit(letter: u8) -> Option<Unit>
+    ensures { result ≡ words.unit_of letter }
+{
+    match letter {
+        b's' => Some(Unit::Second),
+        b'm' => Some(Unit::Minute),
+        b'h' => Some(Unit::Hour),
+        b'd' => Some(Unit::Day),
+        b'w' => Some(Unit::Week),
+        _ => None,
+    }
+}
+
+// A number with a sign, as so many units later.
+fn find_units(number: &str, unit: Unit) -> Option<Word>
+    ensures { words.AreUnits number.now unit result }
+{
+    let [b'+' | b'-', ..] = number.as_bytes() else {
+        return None;
+    };
+    let number = number.parse::<i64>().ok()?;
+    Some(Word::Later(number, unit))
+}
+
+// What `now` with this behind it names.
+fn find_shift(text: &str) -> Option<Word>
+    ensures { words.IsShift text.now result }
+{
+    let Some(letter) = text.as_bytes().last() else {
+        return Some(Word::Later(0, Unit::Second));
+    };
+    let unit = find_unit(*letter)?;
+    find_units(text.get(..text.len() - 1)?, unit)
+}
+
+// What a text names by the clock, if it does.
+fn find_word(text: &str) -> Option<Word>
+    ensures { words.IsWord text.now result }
+{
+    match text {
+        "today" => Some(Word::Day(0)),
+        "yesterday" => Some(Word::Day(1)),
+        _ => find_shift(text.strip_prefix("now")?),
+    }
+}
+
+// The seconds of so many units.
+fn seconds_of(number: i64, unit: Unit) -> i128
+    ensures value { result ≡ number *ℤ pos (words.seconds_of unit) }
+    ensures range { IsBetween (neg_ℤ (pos 6_000_000_000_000_000_000_000_000)) (pos 6_000_000_000_000_000_000_000_000) result }
+{
+    let number = number as i128;
+    match unit {
+        Unit::Second => number,
+        Unit::Minute => number * 60,
+        Unit::Hour => number * 3_600,
+        Unit::Day => number * 86_400,
+        Unit::Week => number * 604_800,
+    }
+}
+
+// The nanoseconds since 1970 of a moment.
+fn since_1970(moment: UtcDateTime) -> i128
+    ensures value { result ≡ utc_instant greatest_year moment }
+    ensures range { IsNear result }
+{
+    moment.unix_timestamp_nanos()
+}
+
+// So many seconds later.
+fn later(now: i128, seconds: i128) -> i128
+    requires now { IsNear now }
+    requires seconds { IsBetween (neg_ℤ (pos 6_000_000_000_000_000_000_000_000)) (pos 6_000_000_000_000_000_000_000_000) seconds }
+    ensures value { result ≡ now +ℤ seconds *ℤ pos 1_000_000_000 }
+    ensures fits { FitsSigned w128 result }
+{
+    now + seconds * NANOS_PER_SECOND
+}
+
+// The nanoseconds of an offset.
+fn ahead_of(offset: UtcOffset) -> i128
+    ensures value { result ≡ offset_seconds offset *ℤ pos 1_000_000_000 }
+    ensures range { IsBetween (neg_ℤ (pos 93_599_000_000_000)) (pos 93_599_000_000_000) result }
+{
+    offset.whole_seconds() as i128 * NANOS_PER_SECOND
+}
+
+// The day of a clock that shows so many nanoseconds since 1970-01-01T00:00:00.
+fn day_of(shown: i128) -> i128
+    requires { IsBetween (neg_ℤ (pos 33_000_000_000_000_000_000_000)) (pos 33_000_000_000_000_000_000_000) shown }
+    ensures value { result ≡ int_div_euclid shown (pos nanos_per_day) }
+    ensures range { IsBetween (neg_ℤ (pos 500_000_000)) (pos 500_000_000) result }
+{
+    shown.div_euclid(NANOS_PER_DAY)
+}
+
+// What a clock shows at the beginning of the day so many before that one.
+fn midnight(day: i128, back: u8) -> i128
+    requires { IsBetween (neg_ℤ (pos 500_000_000)) (pos 500_000_000) day }
+    ensures value { result ≡ (day -ℤ pos back) *ℤ pos nanos_per_day }
+    ensures range { IsBetween (neg_ℤ (pos 50_000_000_000_000_000_000_000)) (pos 50_000_000_000_000_000_000_000) result }
+{
+    (day - back as i128) * NANOS_PER_DAY
+}
+
+// The nanoseconds since 1970 that a word names where the clock shows so many, and days begin at that offset.
+fn nanos_of(word: Word, now: i128, offset: UtcOffset) -> i128
+    requires { IsNear now }
+    ensures value { result ≡ words.nanos_of now offset word }
+    ensures fits { FitsSigned w128 result }
+{
+    match word {
+        Word::Later(number, unit) => later(now, seconds_of(number, unit)),
+        Word::Day(back) => {
+            let ahead = ahead_of(offset);
+            midnight(day_of(now + ahead), back) - ahead
+        }
+    }
+}
+
+// The moment of that many nanoseconds since 1970, in UTC.
+fn moment_at(nanos: i128) -> Result<OffsetDateTime, NoMoment>
+    ensures { words.IsMomentAt greatest_year nanos (spec.seen_moment result) }
+{
+    match OffsetDateTime::from_unix_timestamp_nanos(nanos) {
+        Ok(moment) => Ok(moment),
+        Err(_) => Err(NoMoment::OutOfRange),
+    }
+}
+
+// The first moment at which the clocks show what a moment's own clock shows.
+fn first_like(moment: OffsetDateTime, clocks: &Clocks<'_>) -> Result<OffsetDateTime, NoMoment>
+    ensures { words.IsFirstLike clocks.now moment (spec.seen_moment result) }
+{
+    match assume_zone(
+        PlainDateTime::new(moment.date(), moment.time()),
+        &clocks.zone,
+    ) {
+        Ok(found) => Ok(found),
+        Err(NotOne::Fold { earlier, .. }) => Ok(earlier),
+        Err(NotOne::Gap) => Err(NoMoment::Unread(Reason::LeftOut)),
+        Err(NotOne::Untold) => Err(NoMoment::Unread(Reason::Untold)),
+    }
+}
+
+// The moment at the offset that the clocks have then.
+fn shown_in(moment: OffsetDateTime, clocks: &Clocks<'_>) -> Option<OffsetDateTime>
+    ensures { IsShown greatest_year (on.Zone clocks.now.zone) moment result }
+{
+    checked_to_zone(moment, &clocks.zone)
+}
+
+// What a clock with that offset shows at the beginning of the day so many before that which it shows now.
+fn midnight_at(now: UtcDateTime, offset: UtcOffset, back: u8) -> i128
+    ensures value { result ≡ (words.day_shown (utc_instant greatest_year now) offset -ℤ pos back) *ℤ pos nanos_per_day }
+    ensures fits { FitsSigned w128 result }
+{
+    midnight(day_of(since_1970(now) + ahead_of(offset)), back)
+}
+
+// The beginning of the day so many before that which the clocks show.
+fn begin_in(clocks: &Clocks<'_>, now: UtcDateTime, back: u8) -> Result<OffsetDateTime, NoMoment>
+    ensures { words.IsBegunIn greatest_year clocks.now now back (spec.seen_moment result) }
+{
+    let Some(shown) = shown_in(OffsetDateTime::from(now), clocks) else {
+        return Err(NoMoment::Unread(Reason::Untold));
+    };
+    match moment_at(midnight_at(now, shown.offset(), back)) {
+        Ok(begin) => first_like(begin, clocks),
+        Err(why) => Err(why),
+    }
+}
+
+// The offset at which days begin: that of times that say none.
+fn day_offset(offset: Option<UtcOffset>) -> UtcOffset
+    ensures { words.IsDayOffset offset result }
+{
+    match offset {
+        Some(offset) => offset,
+        None => UtcOffset::UTC,
+    }
+}
+
+// The moment that a word names where the clock shows that one, and days begin at that offset.
+fn named_at(
+    word: Word,
+    now: UtcDateTime,
+    offset: Option<UtcOffset>,
+) -> Result<OffsetDateTime, NoMoment>
+    ensures { words.IsNamedAt greatest_year now offset word (spec.seen_moment result) }
+{
+    moment_at(nanos_of(word, since_1970(now), day_offset(offset)))
+}
+
+// The moment that a word names where the clock shows that one.
+fn moment_from(
+    word: Word,
+    now: UtcDateTime,
+    defaults: &Defaults<'_>,
+) -> Result<OffsetDateTime, NoMoment>
+    ensures { words.IsMomentFrom greatest_year now defaults.now word (spec.seen_moment result) }
+{
+    match word {
+        Word::Later(..) => named_at(word, now, defaults.offset),
+        Word::Day(back) => match defaults.clocks {
+            Some(clocks) => begin_in(&clocks, now, back),
+            None => named_at(word, now, defaults.offset),
+        },
+    }
+}
+
+// The same where the clock may show none.
+fn moment_of(
+    word: Word,
+    now: Option<UtcDateTime>,
+    defaults: &Defaults<'_>,
+) -> Result<OffsetDateTime, NoMoment>
+    ensures { words.IsMomentOf greatest_year now defaults.now word (spec.seen_moment result) }
+{
+    match now {
+        Some(now) => moment_from(word, now, defaults),
+        None => Err(NoMoment::NoClock),
+    }
+}
+
+// The moment that a text names by the clock, or that reason.
+fn find_named(
+    now: Option<UtcDateTime>,
+    text: &str,
+    defaults: &Defaults<'_>,
+    reason: Reason,
+) -> Result<OffsetDateTime, NoMoment>
+    ensures { spec.IsNamedMoment greatest_year now defaults.now text.now (seen reason) (spec.seen_moment result) }
+{
+    match find_word(text) {
+        Some(word) => moment_of(word, now, defaults),
+        None => Err(NoMoment::Unread(reason)),
+    }
+}
+
+/// The moment that the text says by RFC 3339, or else by one of the formats, or else names by the clock, which shows
+/// `now`. A text that does none of these is refused for the reason of RFC 3339.
 pub fn find_moment(
+    now: Option<UtcDateTime>,
     first: &Reading,
     others: &[Reading],
     text: &str,
-    defaults: &Defaults,
-) -> Result<OffsetDateTime, Reason>
-    ensures { spec.IsMomentText greatest_year first.now others.now text.now defaults.now (spec.seen_moment result) }
+    defaults: &Defaults<'_>,
+) -> Result<OffsetDateTime, NoMoment>
+    ensures { spec.IsMomentText greatest_year now first.now others.now text.now defaults.now (spec.seen_moment result) }
 {
     let reason = match read(&Reading::Rfc3339, false, text.as_bytes(), defaults) {
         Ok(said) => return Ok(said.moment),
@@ -20,6 +304,6 @@ pub fn find_moment(
     };
     match read_in_turn(first, others, false, text.as_bytes(), defaults) {
         Ok(said) => Ok(said.moment),
-        Err(_) => Err(reason),
+        Err(_) => find_named(now, text, defaults, reason),
     }
 }

@@ -13,8 +13,8 @@ mod uses;
 mod values;
 mod zone;
 
-pub use fault::Fault;
+pub use fault::{Fault, NoMoment};
 pub use request::Request;
 pub use rewriting::{Restamping, replace, serve};
 pub use style::Style;
-pub use zone::Zone;
+pub use zone::{Given, Local, Zone};

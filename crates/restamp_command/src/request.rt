@@ -6,19 +6,21 @@ ghost use Rattle.restamp_command.specs.Fault.{told};
 ghost use Rattle.restamp_command.specs.Request as spec;
 
 use crate::bounds::find_moment;
-use crate::fault::Fault;
+use crate::fault::{Fault, NoMoment};
 use crate::formats::{add_formats, find_first, gives_year, other_names};
 use crate::style::{Style, find_style};
 use crate::uses::find_unused;
 use crate::values::{
-    find_delimiter, find_number, find_offset, find_positive, find_shows, find_year,
+    find_delimiter, find_fold, find_number, find_offset, find_positive, find_shows, find_year,
 };
+use crate::zone::{Given, Local};
 use restamp_options::Options;
 use restamp_place::{Fields, Place};
 use restamp_stream::{Output, Reports, Settings};
-use restamp_verdict::{Defaults, Form, Job, Reading, Reason};
+use restamp_verdict::{Defaults, Fold, Form, Job, Reading};
 use std::rt::{Env, Files};
-use time_values::{OffsetDateTime, UtcOffset};
+use time_values::{OffsetDateTime, UtcDateTime, UtcOffset};
+use time_zones::find_zone;
 
 /// What the options ask for.
 #[derive(Drop)]
@@ -29,8 +31,8 @@ pub struct Request<'a> {
     pub first: Reading,
     /// The formats that are tried in turn where that one doesn't.
     pub others: Vec<Reading>,
-    /// What stands for what a time leaves out.
-    pub defaults: Defaults,
+    /// What is given for what a time leaves out.
+    pub given: Given,
     /// How it is written.
     pub style: Style,
     /// Drops lines whose time is before.
@@ -128,59 +130,98 @@ fn find_given_offset<'a>(options: &Options<'_, 'a>) -> Result<UtcOffset, Fault<'
     }
 }
 
-// The year and the offset that stand for those that a time leaves out.
-fn find_parts<'a>(options: &Options<'_, 'a>) -> Result<Defaults, Fault<'a>>
+// Which of two moments it is that the clocks of a zone show alike; without a text neither.
+fn find_given_fold<'a>(options: &Options<'_, 'a>) -> Result<Fold, Fault<'a>>
+    ensures { MatchResult result (λ fold. spec.IsFoldGiven (text_behind options.now.fold) fold)
+        (λ fault. spec.IsFault greatest_year options.now (told fault)) }
+{
+    let Some(text) = options.fold else {
+        return Ok(Fold::Refuse);
+    };
+    match find_fold(text) {
+        Some(fold) => Ok(fold),
+        None => Err(Fault::Fold(text)),
+    }
+}
+
+// What stands for an offset that a time leaves out: the clocks of the zone that is named, or else the offset.
+fn find_local<'a, R: Env + Files + AllocGlobal>(
+    rt: &R,
+    options: &Options<'_, 'a>,
+) -> Result<Local, Fault<'a>>
+    ensures { MatchResult result (λ local. spec.IsLocalGiven greatest_year options.now (text_behind options.now.local) local)
+        (λ fault. spec.IsFault greatest_year options.now (told fault)) }
+{
+    let Some(name) = options.local else {
+        return Ok(Local::Offset(find_given_offset(options)?));
+    };
+    let fold = find_given_fold(options)?;
+    match find_zone(rt, name) {
+        Ok(named) => Ok(Local::Zone(named, fold)),
+        Err(why) => Err(Fault::In(name, why)),
+    }
+}
+
+// The year and what stands for an offset where a time leaves them out.
+fn find_parts<'a, R: Env + Files + AllocGlobal>(
+    rt: &R,
+    options: &Options<'_, 'a>,
+) -> Result<Given, Fault<'a>>
     ensures { MatchResult result (λ parts. spec.AreParts greatest_year options.now parts)
         (λ fault. spec.IsFault greatest_year options.now (told fault)) }
 {
     let year = find_given_year(options)?;
-    let offset = find_given_offset(options)?;
-    Ok(Defaults {
+    let local = find_local(rt, options)?;
+    Ok(Given {
         year,
-        offset: Some(offset),
+        local,
         latest: None,
     })
 }
 
-// The moment that a text says, if there is one.
+// The moment that a text says, if there is one, where the clock shows `now`.
 fn find_bound<'a>(
+    now: Option<UtcDateTime>,
     first: &Reading,
     others: &[Reading],
-    defaults: &Defaults,
+    defaults: &Defaults<'_>,
     text: Option<&'a str>,
-) -> Result<Option<OffsetDateTime>, (&'a str, Reason)>
-    ensures { spec.IsBound greatest_year first.now others.now defaults.now (text_behind text.entry) (spec.seen_bound result) }
+) -> Result<Option<OffsetDateTime>, (&'a str, NoMoment)>
+    ensures { spec.IsBound greatest_year now first.now others.now defaults.now (text_behind text.entry) (spec.seen_bound result) }
 {
     let Some(text) = text else {
         return Ok(None);
     };
-    match find_moment(first, others, text, defaults) {
+    match find_moment(now, first, others, text, defaults) {
         Ok(moment) => Ok(Some(moment)),
-        Err(reason) => Err((text, reason)),
+        Err(why) => Err((text, why)),
     }
 }
 
-// What stands for what a time leaves out, where these are the formats that the options mean.
-fn find_defaults<'a>(
+// What is given for what a time leaves out, where these are the formats that the options mean, and the clock shows `now`.
+#[tactic(auto, using(crate::proofs::FormatLemmas::fault_at))]
+fn find_given<'a, R: Env + Files + AllocGlobal>(
+    rt: &R,
     options: &Options<'_, 'a>,
+    now: Option<UtcDateTime>,
     first: &Reading,
     others: &[Reading],
-) -> Result<Defaults, Fault<'a>>
+) -> Result<Given, Fault<'a>>
     requires { spec.AreFormats options.now first.now others.now }
-    ensures { MatchResult result (λ defaults. spec.AreDefaults greatest_year options.now first.now others.now defaults)
-        (λ fault. spec.IsFault greatest_year options.now (told fault)) }
+    ensures { MatchResult result (λ given. spec.IsGiven greatest_year now options.now first.now others.now given)
+        (λ fault. spec.IsFaultAt greatest_year now options.now (told fault)) }
 {
-    let parts = match find_parts(options) {
+    let parts = match find_parts(rt, options) {
         Ok(parts) => parts,
         Err(fault) => return Err(fault),
     };
-    match find_bound(first, others, &parts, options.latest) {
-        Ok(latest) => Ok(Defaults {
+    match find_bound(now, first, others, &parts.defaults(), options.latest) {
+        Ok(latest) => Ok(Given {
             year: parts.year,
-            offset: parts.offset,
+            local: parts.local,
             latest,
         }),
-        Err((text, reason)) => Err(Fault::Latest(text, reason)),
+        Err((text, why)) => Err(Fault::Latest(text, why)),
     }
 }
 
@@ -223,54 +264,86 @@ fn find_in_place<'a>(options: &Options<'_, 'a>) -> Result<Option<&'a str>, Fault
     Ok(Some(suffix))
 }
 
+// Whether colours are shown.
+fn find_colors<'a>(options: &Options<'_, 'a>, is_terminal: bool) -> Result<bool, Fault<'a>>
+    ensures { MatchResult result (λ shows. spec.AreColors options.now is_terminal shows)
+        (λ fault. spec.IsFault greatest_year options.now (told fault)) }
+{
+    match find_shows(options.color, is_terminal) {
+        Some(shows) => Ok(shows),
+        None => Err(Fault::Color(options.color)),
+    }
+}
+
+// The bounds of the times of lines that are kept, by what is given for what a time leaves out.
+fn find_bounds<'a>(
+    options: &Options<'_, 'a>,
+    now: Option<UtcDateTime>,
+    first: &Reading,
+    others: &[Reading],
+    given: &Given,
+) -> Result<(Option<OffsetDateTime>, Option<OffsetDateTime>), Fault<'a>>
+    requires formats { spec.AreFormats options.now first.now others.now }
+    requires given { spec.IsGiven greatest_year now options.now first.now others.now given.now }
+    ensures { MatchResult result (λ bounds. spec.AreBounds greatest_year now options.now first.now others.now given.now bounds)
+        (λ fault. spec.IsFaultAt greatest_year now options.now (told fault)) }
+{
+    let defaults = given.defaults();
+    let since = match find_bound(now, first, others, &defaults, options.since) {
+        Ok(since) => since,
+        Err((text, why)) => return Err(Fault::Since(text, why)),
+    };
+    match find_bound(now, first, others, &defaults, options.until) {
+        Ok(until) => Ok((since, until)),
+        Err((text, why)) => Err(Fault::Until(text, why)),
+    }
+}
+
 impl<'a> Request<'a> {
     /// What the options ask for. Where `--color` is `auto`, colours are shown if reports go to a terminal. A zone that they
-    /// name is read from its file.
+    /// name is read from its file. The clock shows `now`, or `None` out of its range, which counts only where a bound is
+    /// a word.
     ///
     /// # Errors
     ///
     /// An option that doesn't take its value, or that memory is short.
+    #[tactic(auto, using(crate::proofs::FormatLemmas::fault_at))]
     pub fn new<R: Env + Files + AllocGlobal>(
         rt: &R,
         options: &Options<'_, 'a>,
         is_terminal: bool,
+        now: Option<UtcDateTime>,
     ) -> Result<Request<'a>, Fault<'a>>
-        ensures { MatchResult result (spec.Asks greatest_year options.now is_terminal)
-            (λ fault. spec.IsFault greatest_year options.now (told fault)) }
+        ensures { MatchResult result (spec.Asks greatest_year now options.now is_terminal)
+            (λ fault. spec.IsFaultAt greatest_year now options.now (told fault)) }
     {
         let place = find_place(options)?;
+        let settings = find_settings(options)?;
+        let in_place = find_in_place(options)?;
+        let shows_lines = find_colors(options, is_terminal)?;
         let first = find_first(options)?;
         let mut others = Vec::new(rt.alloc());
         let names = other_names(options);
         if let Err(fault) = add_formats(names, gives_year(options), &mut others) {
             return Err(fault);
         }
-        let defaults = match find_defaults(options, &first, others.as_slice()) {
-            Ok(defaults) => defaults,
+        let given = match find_given(rt, options, now, &first, others.as_slice()) {
+            Ok(given) => given,
             Err(fault) => return Err(fault),
         };
         if let Some(fault) = find_unused(options, &first, others.as_slice()) {
             return Err(fault);
         }
+        let (since, until) = match find_bounds(options, now, &first, others.as_slice(), &given) {
+            Ok(bounds) => bounds,
+            Err(fault) => return Err(fault),
+        };
         let style = find_style(rt, options)?;
-        let settings = find_settings(options)?;
-        let in_place = find_in_place(options)?;
-        let Some(shows_lines) = find_shows(options.color, is_terminal) else {
-            return Err(Fault::Color(options.color));
-        };
-        let since = match find_bound(&first, others.as_slice(), &defaults, options.since) {
-            Ok(since) => since,
-            Err((text, reason)) => return Err(Fault::Since(text, reason)),
-        };
-        let until = match find_bound(&first, others.as_slice(), &defaults, options.until) {
-            Ok(until) => until,
-            Err((text, reason)) => return Err(Fault::Until(text, reason)),
-        };
         Ok(Request {
             place,
             first,
             others,
-            defaults,
+            given,
             style,
             since,
             until,
@@ -289,7 +362,7 @@ impl<'a> Request<'a> {
             place: self.place,
             first: &self.first,
             others: self.others.as_slice(),
-            defaults: self.defaults,
+            defaults: self.given.defaults(),
             form: Form {
                 writing: &self.style.writing,
                 digits: self.style.digits,

@@ -1,5 +1,5 @@
 //! Whether what is given for a part of a time can be of use.
-ghost use Rattle.std.specs.Prelude.{◌≡◌, MatchOption, is_some, true};
+ghost use Rattle.std.specs.Prelude.{◌≡◌, MatchOption, true};
 ghost use Rattle.std.specs.List.{list_any};
 ghost use Rattle.time_values.specs.Range.{greatest_year};
 ghost use Rattle.restamp_verdict.specs.Lack.{takes};
@@ -44,7 +44,7 @@ fn find_unused_year<'a>(
     }
 }
 
-// The fault of the option that gives an offset, if there is one and none is left out.
+// The fault of an option that gives an offset or a zone, if there is one and no offset is left out.
 fn find_unused_offset<'a>(
     options: &Options<'_, 'a>,
     first: &Reading,
@@ -52,14 +52,17 @@ fn find_unused_offset<'a>(
 ) -> Option<Fault<'a>>
     requires { spec.AreFormats options.now first.now others.now }
     ensures { MatchOption result
-        (is_some options.now.offset ≡ true → spec.one_takes part.Offset first.now others.now ≡ true)
+        (spec.gives_offset options.now ≡ true → spec.one_takes part.Offset first.now others.now ≡ true)
         (λ fault. spec.IsFault greatest_year options.now (told fault)) }
 {
     if first.takes(Part::Offset) || one_takes(others, Part::Offset) {
         return None;
     }
-    match options.offset {
-        Some(text) => Some(Fault::UnusedOffset(text)),
+    if let Some(text) = options.offset {
+        return Some(Fault::UnusedOffset(text));
+    }
+    match options.local {
+        Some(name) => Some(Fault::UnusedIn(name)),
         None => None,
     }
 }

@@ -5,6 +5,7 @@ ghost use Rattle.time_components.specs.Shape.{borrowed_shape};
 ghost use Rattle.time_components.specs.Tree.{sequence, trees};
 ghost use Rattle.restamp_command.specs.Values as spec;
 
+use restamp_verdict::Fold;
 use time_components::{BorrowedFormatItem, Padding, item};
 use time_parsing::Parsable;
 use time_values::UtcOffset;
@@ -81,6 +82,18 @@ pub fn find_shows(text: &str, is_terminal: bool) -> Option<bool>
         "auto" => Some(is_terminal),
         "always" => Some(true),
         "never" => Some(false),
+        _ => None,
+    }
+}
+
+/// Which of two moments a date and time means that clocks show twice.
+pub fn find_fold(text: &str) -> Option<Fold>
+    ensures { result ≡ spec.fold_of text.now }
+{
+    match text {
+        "refuse" => Some(Fold::Refuse),
+        "earlier" => Some(Fold::Earlier),
+        "later" => Some(Fold::Later),
         _ => None,
     }
 }

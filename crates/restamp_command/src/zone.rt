@@ -4,9 +4,9 @@ ghost use Rattle.time_values.specs.Range.{greatest_year};
 ghost use Rattle.restamp_command.specs.Zones as spec;
 
 use crate::values::find_offset;
-use restamp_verdict::Clock;
+use restamp_verdict::{Clock, Clocks, Defaults, Fold};
 use std::rt::{Env, Files};
-use time_values::UtcOffset;
+use time_values::{OffsetDateTime, UtcOffset};
 use time_zones::{NamedZone, ZoneFault, find_zone};
 
 /// The zone in which times are shown.
@@ -29,6 +29,50 @@ impl Zone {
             Zone::Keep => Clock::Own,
             Zone::Fixed(offset) => Clock::Fixed(*offset),
             Zone::Named(named) => Clock::Zone(named.time_zone()),
+        }
+    }
+}
+
+/// What stands for an offset that a time leaves out.
+#[derive(Drop)]
+pub enum Local {
+    /// That offset.
+    Offset(UtcOffset),
+    /// The clocks of a named zone, and which of two moments it is that they show alike.
+    Zone(NamedZone, Fold),
+}
+
+/// What is given for what a time leaves out.
+#[derive(Drop)]
+pub struct Given {
+    /// The year of a time that says no part of one.
+    pub year: Option<i32>,
+    /// What stands for its offset.
+    pub local: Local,
+    /// A time that has no year either is the latest that isn't after this moment.
+    pub latest: Option<OffsetDateTime>,
+}
+
+impl Given {
+    /// The defaults by which times are read.
+    pub fn defaults(&self) -> Defaults<'_>
+        ensures { spec.AreDefaultsOf self.now result }
+    {
+        let (offset, clocks) = match &self.local {
+            Local::Offset(offset) => (Some(*offset), None),
+            Local::Zone(named, fold) => (
+                None,
+                Some(Clocks {
+                    zone: named.time_zone(),
+                    fold: *fold,
+                }),
+            ),
+        };
+        Defaults {
+            year: self.year,
+            offset,
+            clocks,
+            latest: self.latest,
         }
     }
 }

@@ -57,6 +57,8 @@ pub record AreGiven (f : Found) (o : Options) : Type 0 where
   pub year : text_behind o.year ≡ first_value f (codes "year")
   pub latest : text_behind o.latest ≡ first_value f (codes "latest")
   pub offset : text_behind o.offset ≡ first_value f (codes "offset")
+  pub local : text_behind o.local ≡ first_value f (codes "in")
+  pub fold : text_behind o.fold ≡ first_value f (codes "fold")
   pub to : o.to.now ≡ text_given f (codes "to")
   pub zone : o.zone.now ≡ text_given f (codes "zone")
   pub utc : IsFlag f (codes "utc") o.utc

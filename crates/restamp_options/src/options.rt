@@ -35,6 +35,10 @@ pub struct Options<'m, 'a> {
     pub latest: Option<&'a str>,
     /// `--offset`.
     pub offset: Option<&'a str>,
+    /// `--in`.
+    pub local: Option<&'a str>,
+    /// `--fold`.
+    pub fold: Option<&'a str>,
     /// `--to`.
     pub to: &'a str,
     /// `--zone`.
@@ -112,6 +116,8 @@ impl<'m, 'a> Options<'m, 'a> {
             year: matches.get_str("year"),
             latest: matches.get_str("latest"),
             offset: matches.get_str("offset"),
+            local: matches.get_str("in"),
+            fold: matches.get_str("fold"),
             to: text_of(matches, "to"),
             zone: text_of(matches, "zone"),
             utc: matches.get_flag("utc"),

@@ -13,6 +13,8 @@ pub(crate) const EXAMPLES: &str = "Examples:
 FORMAT is rfc3339, rfc2822, iso8601, unix, unix-ms, unix-us, unix-ns; or a
 description, as `[year]-[month]-[day]` or as strftime has it, `%Y-%m-%d`;
 for --from also common (access logs) or syslog.
+TIME is of RFC 3339 or as --from has it; or now, now-90m, now+2d (also s, h, w),
+today or yesterday.
 The status is 0 where a time was rewritten, 1 where none was, and 2 after a
 wrong option, a file that was not read or not replaced, a failed write, or a
 line that is refused under --strict.";
@@ -145,6 +147,20 @@ const READING: &[Row] = &[
         help: "The offset of times that have none [default: +00:00]",
         ..FLAG
     },
+    Row {
+        name: "in",
+        kind: Kind::Text("ZONE"),
+        help: "The zone of such times: local or a name",
+        excludes: &["offset"],
+        ..FLAG
+    },
+    Row {
+        name: "fold",
+        kind: Kind::Text("WHICH"),
+        help: "Of two moments: earlier, later or refuse",
+        needs: &["in"],
+        ..FLAG
+    },
 ];
 
 // How it is written.
@@ -193,14 +209,14 @@ const LINES: &[Row] = &[
         name: "since",
         letter: Some('s'),
         kind: Kind::Text("TIME"),
-        help: "Drops lines whose time is before",
+        help: "Drops lines before TIME, as now-90m or today",
         ..FLAG
     },
     Row {
         name: "until",
         letter: Some('e'),
         kind: Kind::Text("TIME"),
-        help: "Drops lines whose time is that or after it",
+        help: "Drops lines from TIME on, as now-2d",
         ..FLAG
     },
     Row {

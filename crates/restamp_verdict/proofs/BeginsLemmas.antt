@@ -1,7 +1,9 @@
 -- From a byte with which no text of a format begins nothing is said.
 use Rattle.std.proofs.Common.{◌≡◌, ℕ, zero, suc, ◌+◌, ◌-◌, ◌<◌, ◌≤◌, ◌==◌, ◌++◌, ℤ, pos, Bool, true, false, not, List, [], ◌∷◌, codes, length, get_or, take, drop, refl, sym, ap, subst, arith, inl, inr, get_or-drop, get_or-take, ◌∙◌, None, Some, Err}
-use Rattle.std.specs.Prelude.{Option, Result, ◌&&◌, ◌||◌, MatchBool, MatchOption, ◌-ℤ◌}
+use Rattle.std.specs.Prelude.{Option, Result, ◌&&◌, ◌||◌, MatchBool, MatchOption, ◌-ℤ◌, neg_ℤ}
 use Rattle.std.specs.Char.{is_ascii_digit}
+use Rattle.std.proofs.lemmas.Int.{ints}
+use Rattle.time_values.specs.Calendar.{IsBetween}
 use Rattle.std.proofs.lemmas.Bool.{and_from, and_right, le-leb, or_from, or_left, or_parts, or_right, true≢false}
 use Rattle.std.proofs.lemmas.List.{take_more}
 use Rattle.time_values.specs.Refusal.{Refusal, component as of_component}
@@ -29,7 +31,8 @@ use Rattle.time_record.specs.Reading.{IsFault, IsFaultAll, NoReading, Reads, Rea
 use Rattle.time_record.specs.Record.{empty}
 use Rattle.restamp_verdict.specs.Begins.{IsInNone, component_firsts, digits, format_firsts, is_in, numbers, padded, steps_firsts}
 use Rattle.restamp_verdict.specs.Job.{AreTriedAlone, SaysAlone, SaysFrom, is_inside}
-use Rattle.restamp_verdict.specs.Reading.{AreYearsTried, IsDated, IsRead, Undated, in_year, undated, year_after}
+use Rattle.restamp_verdict.specs.Reading.{AreYearsTried, IsDated, IsRead, SaysLocally, SaysOn, Undated, at_offset, in_year, undated, year_after}
+use Rattle.restamp_verdict.specs.declared.local.Clocks.{Clocks}
 use Rattle.restamp_verdict.specs.Reason.{Reason, unread}
 use Rattle.restamp_verdict.specs.declared.anywhere.fast.Firsts.{Firsts}
 use Rattle.restamp_verdict.specs.declared.job.Job.{Job}
@@ -154,24 +157,55 @@ refused Y (reading.Counted d) text none = let h = steps-refuse Y d text none in 
 abbrev refusal : Refusal → Result Said Reason
 refusal e = Err (unread e)
 
--- in no year it says anything
-years-refuse : (Y : ℕ) (format : Reading) (text : List ℕ) (offset : Option UtcOffset) (latest : OffsetDateTime) (h : Refused Y format text) (n : ℕ) (year : ℤ)
-    → AreYearsTried Y (undated format true text offset latest) n year (unread h.0) (Err (unread h.0))
-unfolding AreYearsTried
-years-refuse Y format text offset latest h zero year = refl
-years-refuse Y format text offset latest h (suc n) year =
-    (Err (unread h.0), (Err h.0, h.1 (in_year year offset), refl), years-refuse Y format text offset latest h n (year -ℤ pos 1))
+-- an offset of 0
+zero_within : (n : ℕ) → IsBetween (neg_ℤ (pos n)) (pos n) (pos 0)
+zero_within n = (omega (arith, ints), omega (arith, ints))
 
-latest-refused : (Y : ℕ) (format : Reading) (text : List ℕ) (offset : Option UtcOffset) (h : Refused Y format text) (latest : Option OffsetDateTime)
-    → MatchOption latest (refusal h.0 ≡ refusal h.0)
-    (λ v. AreYearsTried Y (undated format true text offset v) 10 (year_after v) (unread h.0) (Err (unread h.0)))
-latest-refused Y format text offset h None = refl
-latest-refused Y format text offset h (Some v) = years-refuse Y format text offset v h 10 (year_after v)
+no_offset : UtcOffset
+no_offset = record {
+  hours = pos 0;
+  minutes = pos 0;
+  seconds = pos 0;
+  hours_in = zero_within 25;
+  minutes_in = zero_within 59;
+  seconds_in = zero_within 59;
+  one_sign = (refl, refl);
+}
+
+-- on no clocks it says anything
+clocks-refuse : (Y : ℕ) (format : Reading) (text : List ℕ) (defaults : Defaults) (h : Refused Y format text) (clocks : Option Clocks)
+    → MatchOption clocks (refusal h.0 ≡ refusal h.0) (λ c. SaysOn Y c format true text defaults (Err (unread h.0)))
+unfolding no_offset
+clocks-refuse Y format text defaults h None = refl
+clocks-refuse Y format text defaults h (Some c) =
+    (no_offset, (refl, refl, refl), Err (unread h.0), (Err h.0, h.1 (at_offset no_offset defaults), refl), refl)
+
+locally-refused : (Y : ℕ) (format : Reading) (text : List ℕ) (defaults : Defaults) (h : Refused Y format text)
+    → SaysLocally Y format true text defaults (Err (unread h.0))
+locally-refused Y format text defaults h =
+    (Err (unread h.0), (Err h.0, h.1 defaults, refl), clocks-refuse Y format text defaults h defaults.clocks)
+
+-- nor in any year
+module _ (Y : ℕ) (format : Reading) (text : List ℕ) (offset : Option UtcOffset) (clocks : Option Clocks) (h : Refused Y format text) where
+  years-refuse : (latest : OffsetDateTime) (n : ℕ) (year : ℤ)
+      → AreYearsTried Y (undated format true text offset clocks latest) n year (unread h.0) (Err (unread h.0))
+  unfolding AreYearsTried
+  years-refuse latest zero year = refl
+  years-refuse latest (suc n) year = (
+    Err (unread h.0),
+    locally-refused Y format text (in_year year offset clocks) h,
+    (false, refl, years-refuse latest n (year -ℤ pos 1)),
+  )
+
+  latest-refused : (latest : Option OffsetDateTime) → MatchOption latest (refusal h.0 ≡ refusal h.0)
+      (λ v. AreYearsTried Y (undated format true text offset clocks v) 10 (year_after v) (unread h.0) (Err (unread h.0)))
+  latest-refused None = refl
+  latest-refused (Some v) = years-refuse v 10 (year_after v)
 
 dated-refused : (Y : ℕ) (format : Reading) (text : List ℕ) (defaults : Defaults) (h : Refused Y format text)
     → IsDated Y format true text defaults (Err (unread h.0))
 dated-refused Y format text defaults h =
-    (Err (unread h.0), (Err h.0, h.1 defaults, refl), latest-refused Y format text defaults.offset h defaults.latest)
+    (Err (unread h.0), locally-refused Y format text defaults h, latest-refused Y format text defaults.offset defaults.clocks h defaults.latest)
 
 near-first : (line : List ℕ) (k : ℕ) → first (take REACH (drop k line)) ≡ get_or line k 0
 near-first line k =

@@ -1,6 +1,6 @@
 -- By a format that lacks something no text says a moment. `Y` is the greatest year.
 use Rattle.std.proofs.Common.{◌≡◌, ℕ, zero, suc, ℤ, pos, Bool, true, false, List, [], None, Some, Ok, Err, inl, inr, refl, sym, ap, ◌∙◌}
-use Rattle.std.specs.Prelude.{Option, MatchOption, ◌-ℤ◌, ◌||◌, ◌&&◌, not, is_some, unwrap_or, if◌then◌else◌, ◌⊎◌}
+use Rattle.std.specs.Prelude.{Option, MatchOption, ◌-ℤ◌, ◌||◌, ◌&&◌, not, is_some, unwrap_or, if◌then◌else◌, ◌⊎◌, MatchBool}
 use Rattle.std.specs.Option.{option_and_then, option_or}
 use Rattle.std.proofs.lemmas.Bool.{and_from, and_parts, or_cases}
 use Rattle.time_components.specs.Steps.{steps_shape}
@@ -18,7 +18,7 @@ use Rattle.time_record.specs.Resolution.{Clock, IsDated as IsDatedRecord, IsMome
 use Rattle.time_record.specs.Rows.{Row, by_ordinal, by_month_and_day, by_iso_week, by_sunday_week, by_monday_week, row_of_two, row_of_three, first_row, full_year, full_iso_year, year_of}
 use Rattle.restamp_verdict.specs.Lack.{always, format_lack, is_of, lack_of, says, says_date, says_day, says_iso_day, says_iso_year, says_year}
 use Rattle.restamp_verdict.specs.LackLaws.{SaysNoMoment, gives_year}
-use Rattle.restamp_verdict.specs.Reading.{AreYearsTried, IsCompleted, IsRead, IsReadBy, IsReadWith, Says, completed, has_year, in_year, undated, with_offset, with_year, year_after}
+use Rattle.restamp_verdict.specs.Reading.{AreYearsTried, IsCompleted, IsRead, IsReadBy, IsReadWith, Says, SaysLocally, SaysOn, at_offset, completed, has_year, in_year, undated, with_offset, with_year, year_after}
 use Rattle.restamp_verdict.specs.ReadBack.{no_defaults}
 use Rattle.restamp_verdict.specs.Reason.{Reason}
 use Rattle.restamp_verdict.specs.declared.lack.Kind.{Kind}
@@ -26,6 +26,7 @@ use Rattle.restamp_verdict.specs.declared.lack.Kind.TheVariants as kind
 use Rattle.restamp_verdict.specs.declared.lack.Lack.{Lack}
 use Rattle.restamp_verdict.specs.declared.lack.Lack.TheVariants as lack
 use Rattle.restamp_verdict.specs.declared.lack.Part.TheVariants as part
+use Rattle.restamp_verdict.specs.declared.local.Clocks.{Clocks}
 use Rattle.restamp_verdict.specs.declared.reading.Defaults.{Defaults}
 use Rattle.restamp_verdict.specs.declared.reading.Reading.{Reading}
 use Rattle.restamp_verdict.specs.declared.reading.Reading.TheVariants as reading
@@ -459,26 +460,47 @@ module _ (Y : ℕ) (given : Bool) (l : Lack) (is_open : Bool) (text : List ℕ) 
   unsaid format defaults year s lacks (Ok read, h, is) = unread format defaults year read lacks h
   unsaid format defaults year s lacks (Err e, h, is) = absurd cc
 
-  -- nor does it in any year
-  untried : (format : Reading) (lacks : format_lack given format ≡ Some l) → given ≡ true → (offset : Option UtcOffset)
-      (latest : OffsetDateTime) (n : ℕ) (year : ℤ) (reason : Reason) (s : Said)
-      → AreYearsTried Y (undated format is_open text offset latest) n year reason (Ok s) → ⊥
-  unfolding AreYearsTried
-  untried format lacks is_given offset latest zero year reason s h = absurd cc
-  untried format lacks is_given offset latest (suc n) year reason s (Ok read, h, later) =
-      unsaid format (in_year year offset) (λ e. is_given) read lacks h
-  untried format lacks is_given offset latest (suc n) year reason s (Err why, h, later) =
-      untried format lacks is_given offset latest n (year -ℤ pos 1) why s later
+  -- nor on the clocks of a zone
+  module _ (format : Reading) (lacks : format_lack given format ≡ Some l) where
+    unplaced : (defaults : Defaults) → (is_some defaults.year ≡ true → given ≡ true) → (s : Said) (why : Reason) (clocks : Option Clocks)
+        → MatchOption clocks (Ok s ≡ Err why) (λ c. SaysOn Y c format is_open text defaults (Ok s)) → ⊥
+    unplaced defaults year s why None h = absurd cc
+    unplaced defaults year s why (Some c) (utc, is, Ok shown, h, later) = unsaid format (at_offset utc defaults) year shown lacks h
+    unplaced defaults year s why (Some c) (utc, is, Err e, h, later) = absurd cc
+
+    unlocal : (defaults : Defaults) → (is_some defaults.year ≡ true → given ≡ true) → (s : Said)
+        → SaysLocally Y format is_open text defaults (Ok s) → ⊥
+    unlocal defaults year s (Ok read, h, is) = unsaid format defaults year read lacks h
+    unlocal defaults year s (Err why, h, is) = unplaced defaults year s why defaults.clocks is
+
+    -- nor does it in any year
+    module _ (is_given : given ≡ true) (offset : Option UtcOffset) (clocks : Option Clocks) (latest : OffsetDateTime) where
+      passed : (n : ℕ) (year : ℤ) (why : Reason) (s : Said)
+          → (AreYearsTried Y (undated format is_open text offset clocks latest) n year why (Ok s) → ⊥) → (final : Bool)
+          → MatchBool final (Ok s ≡ Err why) (AreYearsTried Y (undated format is_open text offset clocks latest) n year why (Ok s)) → ⊥
+      passed n year why s none true h = absurd cc
+      passed n year why s none false h = none h
+
+      untried : (n : ℕ) (year : ℤ) (reason : Reason) (s : Said)
+          → AreYearsTried Y (undated format is_open text offset clocks latest) n year reason (Ok s) → ⊥
+      unfolding AreYearsTried
+      untried zero year reason s h = absurd cc
+      untried (suc n) year reason s (Ok read, h, later) = unlocal (in_year year offset clocks) (λ e. is_given) read h
+      untried (suc n) year reason s (Err why, h, (final, is, later)) =
+          passed n (year -ℤ pos 1) why s (λ h. untried n (year -ℤ pos 1) why s h) final later
 
 pub says_no_moment : (Y : ℕ) → SaysNoMoment Y
 says_no_moment Y format l is_open text defaults s lacks (Ok read, h, is) =
-    unsaid Y (gives_year defaults) l is_open text format defaults (λ e. or_left (is_some defaults.year) (is_some defaults.latest) e) read lacks h
+    unlocal Y (gives_year defaults) l is_open text format lacks defaults
+    (λ e. or_left (is_some defaults.year) (is_some defaults.latest) e) read h
 says_no_moment Y format l is_open text defaults s lacks (Err why, h, is) = by_latest defaults.latest refl is
   where
     by_latest : (latest : Option OffsetDateTime) → latest ≡ defaults.latest
         → MatchOption latest (Ok s ≡ Err why)
-        (λ latest. AreYearsTried Y (undated format is_open text defaults.offset latest) 10 (year_after latest) why (Ok s)) → ⊥
+        (λ latest. AreYearsTried Y (undated format is_open text defaults.offset defaults.clocks latest) 10 (year_after latest) why
+        (Ok s)) → ⊥
     by_latest None e p = absurd cc
     by_latest (Some latest) e p =
         untried Y (gives_year defaults) l is_open text format lacks
-        (or_right (is_some defaults.year) (is_some defaults.latest) (ap is_some (sym e))) defaults.offset latest 10 (year_after latest) why s p
+        (or_right (is_some defaults.year) (is_some defaults.latest) (ap is_some (sym e))) defaults.offset defaults.clocks latest 10
+        (year_after latest) why s p

@@ -1,5 +1,7 @@
 pub mod Counts
+pub mod Milliseconds
 pub mod ReadingLemmas
+pub mod LocalLemmas
 pub mod Completing
 pub mod AloneLemmas
 pub mod BeginsLemmas

@@ -1,11 +1,15 @@
 -- A line has one verdict.
 use Rattle.std.proofs.Common.{◌≡◌, ℕ, zero, suc, ℤ, pos, Bool, true, false, List, [], ◌∷◌, ◌+◌, ◌<◌, length, take, drop, sym, ap, subst, refl, arith, ◌∙◌, None, Some, Ok, Err}
 use Rattle.std.specs.Prelude.{Option, Result, nat_lt, ◌-ℤ◌, MatchOption, MatchResult, MatchBool, slice_range}
+use Rattle.std.proofs.lemmas.Int.{ints}
+use Rattle.time_values.specs.Moments.{offset_of}
+use Rattle.time_values.specs.Offsets.{IsUtc}
 use Rattle.time_values.specs.Range.{greatest_year}
 use Rattle.time_values.specs.Refusal.{Refusal}
 use Rattle.time_values.specs.Shown.{Items}
 use Rattle.time_values.specs.declared.offset_date_time.OffsetDateTime.{OffsetDateTime}
 use Rattle.time_values.specs.declared.utc_offset.UtcOffset.{UtcOffset}
+use Rattle.time_zones.proofs.AnswerLemmas.{one_answer, same_offset_by_seconds}
 use Rattle.restamp_place.specs.Cuts.{span_of, body_of, is_open}
 use Rattle.restamp_place.specs.declared.cuts.Place.{Place}
 use Rattle.restamp_place.specs.declared.fields.Span.{Span}
@@ -27,9 +31,11 @@ use Rattle.time_parsing.specs.exact.Rfc3339Laws.{rfc3339_exact}
 use Rattle.time_parsing.proofs.OneOutcome.{one_moment_outcome, one_outcome, one_front}
 use Rattle.restamp_verdict.specs.Job.{Verdict, IsPutWithin, IsPut, IsJudgedAt, IsJudgedAnywhere, is_inside, alone, SaysAlone, AreTriedAlone, SaysFrom, SaysNoneBefore, IsFirst, is_kept, missed, verdict_of, refused, dropped}
 use Rattle.restamp_verdict.specs.Laws.{OneVerdict}
-use Rattle.restamp_verdict.specs.Reading.{IsReadBy, IsReadWith, IsRead, Says, Undated, undated, completed, in_year, is_after, year_after, AreYearsTried, IsCompleted, IsDated, AreTried, IsReadInTurn, all_of, front_of, bare_where, guarded}
+use Rattle.restamp_verdict.specs.Reading.{IsReadBy, IsReadWith, IsRead, Says, SaysOn, SaysLocally, Undated, undated, at_offset, completed, in_year, is_after, is_early, is_of_clocks, IsEarly, IsFinal, year_after, AreYearsTried, IsCompleted, IsDated, AreTried, IsReadInTurn, all_of, front_of, bare_where, guarded}
 use Rattle.time_components.specs.Steps.{steps_shape}
+use Rattle.restamp_verdict.specs.Local.{IsOffsetWhen, clock_of, offset_by}
 use Rattle.restamp_verdict.specs.Reason.{Reason, too_far}
+use Rattle.restamp_verdict.specs.declared.local.Clocks.{Clocks}
 use Rattle.restamp_verdict.specs.declared.job.Job.{Job}
 use Rattle.restamp_verdict.specs.declared.job.TheConstants.{LIMIT, REACH}
 use Rattle.restamp_verdict.specs.declared.reading.Defaults.{Defaults}
@@ -94,15 +100,59 @@ one_says format is_open text defaults a b p q =
     p.2 ∙ ap (guarded format text) (one_read format is_open text defaults p.0 q.0 p.1 q.1) ∙ sym q.2
 
 -- what follows from one result is one
-one_after : {X : Type 0} (r s : Result Said Reason) (P : Said → X → Type 0) (Q : Reason → X → Type 0) (x y : X) → r ≡ s
-    → ((v : Said) → P v x → P v y → x ≡ y) → ((e : Reason) → Q e x → Q e y → x ≡ y)
+one_after : {V X : Type 0} (r s : Result V Reason) (P : V → X → Type 0) (Q : Reason → X → Type 0) (x y : X) → r ≡ s
+    → ((v : V) → P v x → P v y → x ≡ y) → ((e : Reason) → Q e x → Q e y → x ≡ y)
     → MatchResult r (λ v. P v x) (λ e. Q e x) → MatchResult s (λ v. P v y) (λ e. Q e y) → x ≡ y
-one_after (Ok v) (Ok w) P Q x y e one other p q =
-    let same : v ≡ w = cc in one w (subst (λ (u : Said). P u x) same p) q
+one_after {V} (Ok v) (Ok w) P Q x y e one other p q =
+    let same : v ≡ w = cc in one w (subst (λ (u : V). P u x) same p) q
 one_after (Ok v) (Err f) P Q x y e one other p q = absurd cc
 one_after (Err f) (Ok v) P Q x y e one other p q = absurd cc
 one_after (Err f) (Err g) P Q x y e one other p q =
     let same : f ≡ g = cc in other g (subst (λ (u : Reason). Q u x) same p) q
+
+-- the clocks of a zone have one offset when they show a date and time
+one_offset : (clocks : Clocks) (v : OffsetDateTime) (a b : Result UtcOffset Reason)
+    → IsOffsetWhen clocks v a → IsOffsetWhen clocks v b → a ≡ b
+one_offset clocks v a b p q =
+    p.2 ∙ ap (offset_by clocks.fold) (one_answer clocks.zone (clock_of v) p.0 q.0 p.1 q.1) ∙ sym q.2
+
+one_utc : (a b : UtcOffset) → IsUtc a → IsUtc b → a ≡ b
+one_utc a b p q = same_offset_by_seconds a b (omega (arith, ints, p.0, p.1, p.2, q.0, q.1, q.2))
+
+-- what a text says on them is one
+one_on : (clocks : Clocks) (format : Reading) (is_open : Bool) (text : List ℕ) (defaults : Defaults) (a b : Result Said Reason)
+    → SaysOn greatest_year clocks format is_open text defaults a → SaysOn greatest_year clocks format is_open text defaults b → a ≡ b
+one_on clocks format is_open text defaults a b p q =
+    let SaysAt : UtcOffset → Result Said Reason → Type 0 = λ o x. Says greatest_year format is_open text (at_offset o defaults) x in
+    let same : p.0 ≡ q.0 = one_utc p.0 q.0 p.1 q.1 in
+    one_after p.2 q.2
+    (λ s x. (offset : Result UtcOffset Reason) × IsOffsetWhen clocks s.moment offset
+    × MatchResult offset (λ o. SaysAt o x) (λ why. x ≡ Err why)) (λ why x. x ≡ Err why) a b
+    (one_says format is_open text (at_offset q.0 defaults) p.2 q.2 (subst (λ (o : UtcOffset). SaysAt o p.2) same p.3) q.3)
+    (λ s u v. one_after u.0 v.0 SaysAt (λ why x. x ≡ Err why) a b (one_offset clocks s.moment u.0 v.0 u.1 v.1)
+    (λ o i j. one_says format is_open text (at_offset o defaults) a b i j) (λ why i j. i ∙ sym j) u.2 v.2)
+    (λ why u v. u ∙ sym v) p.4 q.4
+
+one_unplaced : (clocks : Option Clocks) (format : Reading) (is_open : Bool) (text : List ℕ) (defaults : Defaults) (e : Reason)
+    (a b : Result Said Reason)
+    → MatchOption clocks (a ≡ Err e) (λ c. SaysOn greatest_year c format is_open text defaults a)
+    → MatchOption clocks (b ≡ Err e) (λ c. SaysOn greatest_year c format is_open text defaults b) → a ≡ b
+one_unplaced None format is_open text defaults e a b p q = p ∙ sym q
+one_unplaced (Some c) format is_open text defaults e a b p q = one_on c format is_open text defaults a b p q
+
+one_locally : (format : Reading) (is_open : Bool) (text : List ℕ) (defaults : Defaults) (a b : Result Said Reason)
+    → SaysLocally greatest_year format is_open text defaults a → SaysLocally greatest_year format is_open text defaults b → a ≡ b
+one_locally format is_open text defaults a b p q =
+    one_after p.0 q.0 (λ s x. x ≡ Ok s)
+    (λ e x. MatchOption defaults.clocks (x ≡ Err e) (λ c. SaysOn greatest_year c format is_open text defaults x)) a b
+    (one_says format is_open text defaults p.0 q.0 p.1 q.1) (λ s u v. u ∙ sym v)
+    (λ e u v. one_unplaced defaults.clocks format is_open text defaults e a b u v) p.2 q.2
+
+-- what follows from what was refused in a year
+abbrev Passes : ℕ → Undated → ℤ → Reason → Result Said Reason → Type 0
+Passes n u year why result =
+    (final : Bool) × IsFinal greatest_year u year why final
+    × MatchBool final (result ≡ Err why) (AreYearsTried greatest_year u n (year -ℤ pos 1) why result)
 
 -- what follows from what was read in a year
 abbrev Follows : ℕ → Undated → ℤ → Reason → Result Said Reason → Result Said Reason → Type 0
@@ -110,7 +160,7 @@ Follows n u year reason read result =
     MatchResult read
     (λ s. MatchBool (is_after greatest_year s.moment u.latest)
     (AreYearsTried greatest_year u n (year -ℤ pos 1) reason result) (result ≡ Ok s))
-    (λ why. AreYearsTried greatest_year u n (year -ℤ pos 1) why result)
+    (λ why. Passes n u year why result)
 
 -- the years before are tried with one result
 abbrev OneBefore : ℕ → Undated → ℤ → Type 0
@@ -123,11 +173,33 @@ one_late : (late : Bool) (n : ℕ) (u : Undated) (year : ℤ) (reason : Reason) 
 one_late true n u year reason s a b before p q = before reason a b p q
 one_late false n u year reason s a b before p q = p ∙ sym q
 
+one_passed : (final : Bool) (n : ℕ) (u : Undated) (year : ℤ) (why : Reason) (a b : Result Said Reason) → OneBefore n u year
+    → MatchBool final (a ≡ Err why) (AreYearsTried greatest_year u n (year -ℤ pos 1) why a)
+    → MatchBool final (b ≡ Err why) (AreYearsTried greatest_year u n (year -ℤ pos 1) why b) → a ≡ b
+one_passed true n u year why a b before p q = p ∙ sym q
+one_passed false n u year why a b before p q = before why a b p q
+
+one_final_by : (of_clocks : Bool) (u : Undated) (year : ℤ) (a b : Bool)
+    → MatchBool of_clocks (IsEarly greatest_year u year a) (a ≡ false)
+    → MatchBool of_clocks (IsEarly greatest_year u year b) (b ≡ false) → a ≡ b
+one_final_by true u year a b p q =
+    p.2 ∙ ap (is_early greatest_year u.latest)
+    (one_says u.format u.is_open u.text (at_offset (offset_of u.latest) (in_year year u.offset u.clocks)) p.0 q.0 p.1 q.1) ∙ sym q.2
+one_final_by false u year a b p q = p ∙ sym q
+
+one_passing : (n : ℕ) (u : Undated) (year : ℤ) (why : Reason) (a b : Result Said Reason) → OneBefore n u year
+    → Passes n u year why a → Passes n u year why b → a ≡ b
+one_passing n u year why a b before p q =
+    one_passed q.0 n u year why a b before
+    (subst (λ (final : Bool). MatchBool final (a ≡ Err why) (AreYearsTried greatest_year u n (year -ℤ pos 1) why a))
+    (one_final_by (is_of_clocks why) u year p.0 q.0 p.1 q.1) p.2) q.2
+
 one_following : (n : ℕ) (u : Undated) (year : ℤ) (reason : Reason) (read a b : Result Said Reason)
     → OneBefore n u year → Follows n u year reason read a → Follows n u year reason read b → a ≡ b
 one_following n u year reason (Ok s) a b before p q =
     one_late (is_after greatest_year s.moment u.latest) n u year reason s a b before p q
-one_following n u year reason (Err why) a b before p q = before why a b p q
+one_following n u year reason (Err why) a b before p q =
+    one_passing n u year why a b before p q
 
 one_years : (n : ℕ) (u : Undated) (year : ℤ) (reason : Reason) (a b : Result Said Reason)
     → AreYearsTried greatest_year u n year reason a → AreYearsTried greatest_year u n year reason b → a ≡ b
@@ -136,25 +208,26 @@ one_years zero u year reason a b p q = p ∙ sym q
 one_years (suc n) u year reason a b p q =
     one_following n u year reason q.0 a b (λ why x y. one_years n u (year -ℤ pos 1) why x y)
     (subst (λ (read : Result Said Reason). Follows n u year reason read a)
-    (one_says u.format u.is_open u.text (in_year year u.offset) p.0 q.0 p.1 q.1) p.2) q.2
+    (one_locally u.format u.is_open u.text (in_year year u.offset u.clocks) p.0 q.0 p.1 q.1) p.2) q.2
 
 -- what is read with no year given is one
-one_latest : (latest : Option OffsetDateTime) (format : Reading) (is_open : Bool) (text : List ℕ) (offset : Option UtcOffset) (e : Reason)
-    (a b : Result Said Reason)
-    → MatchOption latest (a ≡ Err e) (λ v. AreYearsTried greatest_year (undated format is_open text offset v) 10 (year_after v) e a)
-    → MatchOption latest (b ≡ Err e) (λ v. AreYearsTried greatest_year (undated format is_open text offset v) 10 (year_after v) e b)
+one_latest : (latest : Option OffsetDateTime) (format : Reading) (is_open : Bool) (text : List ℕ) (offset : Option UtcOffset) (clocks : Option Clocks)
+    (e : Reason) (a b : Result Said Reason)
+    → MatchOption latest (a ≡ Err e) (λ v. AreYearsTried greatest_year (undated format is_open text offset clocks v) 10 (year_after v) e a)
+    → MatchOption latest (b ≡ Err e) (λ v. AreYearsTried greatest_year (undated format is_open text offset clocks v) 10 (year_after v) e b)
     → a ≡ b
-one_latest None format is_open text offset e a b p q = p ∙ sym q
-one_latest (Some v) format is_open text offset e a b p q = one_years 10 (undated format is_open text offset v) (year_after v) e a b p q
+one_latest None format is_open text offset clocks e a b p q = p ∙ sym q
+one_latest (Some v) format is_open text offset clocks e a b p q =
+    one_years 10 (undated format is_open text offset clocks v) (year_after v) e a b p q
 
 one_dated : (format : Reading) (is_open : Bool) (text : List ℕ) (defaults : Defaults) (a b : Result Said Reason)
     → IsDated greatest_year format is_open text defaults a → IsDated greatest_year format is_open text defaults b → a ≡ b
 one_dated format is_open text defaults a b p q =
     one_after p.0 q.0 (λ s x. x ≡ Ok s)
     (λ e x. MatchOption defaults.latest (x ≡ Err e)
-    (λ v. AreYearsTried greatest_year (undated format is_open text defaults.offset v) 10 (year_after v) e x)) a b
-    (one_says format is_open text defaults p.0 q.0 p.1 q.1) (λ s u v. u ∙ sym v)
-    (λ e u v. one_latest defaults.latest format is_open text defaults.offset e a b u v) p.2 q.2
+    (λ v. AreYearsTried greatest_year (undated format is_open text defaults.offset defaults.clocks v) 10 (year_after v) e x)) a b
+    (one_locally format is_open text defaults p.0 q.0 p.1 q.1) (λ s u v. u ∙ sym v)
+    (λ e u v. one_latest defaults.latest format is_open text defaults.offset defaults.clocks e a b u v) p.2 q.2
 
 one_tried : (formats : List Reading) (is_open : Bool) (text : List ℕ) (defaults : Defaults) (reason : Reason)
     (a b : Result Said Reason)

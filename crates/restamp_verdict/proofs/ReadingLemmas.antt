@@ -5,7 +5,7 @@ use Rattle.std.specs.Int.{w32, cast_signed as to_z, cast_unsigned as of_z}
 use Rattle.std.proofs.lemmas.Int.{to_z-of_z}
 use Rattle.std.proofs.Math.Seq.{drop-cons}
 use Rattle.time_values.specs.declared.offset_date_time.OffsetDateTime.{OffsetDateTime}
-use Rattle.restamp_verdict.specs.Reading.{AreTried, Says, Undated, undated, is_after, year_after, IsReadInYear, AreYearsTried, IsDated, IsReadInTurn}
+use Rattle.restamp_verdict.specs.Reading.{AreTried, Says, SaysLocally, Undated, undated, is_after, IsFinal, year_after, IsReadInYear, AreYearsTried, IsDated, IsReadInTurn}
 use Rattle.restamp_verdict.specs.Reason.{Reason}
 use Rattle.restamp_verdict.specs.declared.reading.Defaults.{Defaults}
 use Rattle.restamp_verdict.specs.declared.reading.Reading.{Reading}
@@ -77,31 +77,40 @@ module _ (Y : ℕ) (u : Undated) (year : ℤ) (reason : Reason) (result : Result
   years-found zero s some read early = absurd (omega arith)
   years-found (suc n) s some read early = (Ok s, read, on_false (is_after Y s.moment u.latest) _ _ early refl)
 
-  pub years-refused : (n : ℕ) (why : Reason) → 0 < n → IsReadInYear Y u year (Err why)
+  pub years-final : (n : ℕ) (why : Reason) → 0 < n → IsReadInYear Y u year (Err why) → IsFinal Y u year why true
+      → AreYearsTried Y u n year reason (Err why)
+  unfolding AreYearsTried
+  years-final zero why some read final = absurd (omega arith)
+  years-final (suc n) why some read final = (Err why, read, (true, final, refl))
+
+  pub years-refused : (n : ℕ) (why : Reason) → 0 < n → IsReadInYear Y u year (Err why) → IsFinal Y u year why false
       → AreYearsTried Y u (n - 1) (year -ℤ pos 1) why result → AreYearsTried Y u n year reason result
   unfolding AreYearsTried
-  years-refused zero why some read later = absurd (omega arith)
-  years-refused (suc n) why some read later =
-      let k : suc n - 1 ≡ n = omega arith in
-      (Err why, read, subst (λ (m : ℕ). AreYearsTried Y u m (year -ℤ pos 1) why result) k later)
+  years-refused zero why some read passed later = absurd (omega arith)
+  years-refused (suc n) why some read passed later =
+      let k : suc n - 1 ≡ n = omega arith in (
+        Err why,
+        read,
+        (false, passed, subst (λ (m : ℕ). AreYearsTried Y u m (year -ℤ pos 1) why result) k later),
+      )
 
 -- what a text says by the first of several formats
 pub in_turn-first : (Y : ℕ) (format : Reading) (formats : List Reading) (is_open : Bool) (text : List ℕ) (defaults : Defaults) (s : Said)
     → Says Y format is_open text defaults (Ok s) → IsReadInTurn Y format formats is_open text defaults (Ok s)
-in_turn-first Y format formats is_open text defaults s says = (Ok s, (Ok s, says, refl), refl)
+in_turn-first Y format formats is_open text defaults s says = (Ok s, (Ok s, (Ok s, says, refl), refl), refl)
 
 -- what a text says that may leave its year out
 module _ (Y : ℕ) (format : Reading) (is_open : Bool) (text : List ℕ) (defaults : Defaults) (e : Reason) where
-  pub dated-none : defaults.latest ≡ None → Says Y format is_open text defaults (Err e) → IsDated Y format is_open text defaults (Err e)
+  pub dated-none : defaults.latest ≡ None → SaysLocally Y format is_open text defaults (Err e) → IsDated Y format is_open text defaults (Err e)
   dated-none none says = (Err e, says, on_none defaults.latest _ _ none refl)
 
   pub dated-years : (v : OffsetDateTime) (year : ℤ) (result : Result Said Reason) → defaults.latest ≡ Some v
-      → Says Y format is_open text defaults (Err e) → year ≡ year_after v
-      → AreYearsTried Y (undated format is_open text defaults.offset v) 10 year e result
+      → SaysLocally Y format is_open text defaults (Err e) → year ≡ year_after v
+      → AreYearsTried Y (undated format is_open text defaults.offset defaults.clocks v) 10 year e result
       → IsDated Y format is_open text defaults result
   dated-years v year result some says after tried = (
     Err e,
     says,
     on_some defaults.latest v _ _ some
-        (subst (λ (y : ℤ). AreYearsTried Y (undated format is_open text defaults.offset v) 10 y e result) after tried),
+        (subst (λ (y : ℤ). AreYearsTried Y (undated format is_open text defaults.offset defaults.clocks v) 10 y e result) after tried),
   )

@@ -218,7 +218,7 @@ put_back job false kept start w bytes text again same e f =
 -- the first format reads it
 in_turn : (job : Job) (bytes : List ℕ) (s : Said) → Says greatest_year job.first.now false bytes job.defaults (Ok s)
     → IsReadInTurn greatest_year job.first.now job.others.now false bytes job.defaults (Ok s)
-in_turn job bytes s says = (Ok s, (Ok s, says, refl), refl)
+in_turn job bytes s says = (Ok s, (Ok s, (Ok s, says, refl), refl), refl)
 
 -- a line whose place has the text is judged so
 judged : (job : Job) (place : Place) (line : List ℕ) (span : Span) (bytes : List ℕ) (verdict : Verdict)

@@ -1,4 +1,5 @@
 pub mod Reason
+pub mod Local
 pub mod Reading
 pub mod Clock
 pub mod Form

@@ -65,7 +65,7 @@ lack_in r = if says_date r then time_lack r else date_lack r
 -- what stands for what a time leaves out, with the year of a moment that one without a year isn't after
 abbrev pub dated_by : Defaults → Option OffsetDateTime → Defaults
 dated_by d None = d
-dated_by d (Some v) = in_year (Dates.year (offset_date v)) d.offset
+dated_by d (Some v) = in_year (Dates.year (offset_date v)) d.offset d.clocks
 
 abbrev pub dated : Defaults → Defaults
 dated d = dated_by d d.latest

@@ -69,7 +69,7 @@ pub record SaysMoment (Y : ℕ) (tree : Tree) (defaults : Defaults) (v : OffsetD
 
 -- nothing stands for what a text doesn't say
 abbrev pub no_defaults : Defaults
-no_defaults = record { year = None; offset = None; latest = None }
+no_defaults = record { year = None; offset = None; clocks = None; latest = None }
 
 -- The format reads by that tree, and by it all of a moment that is written so.
 abbrev pub ReadsTree : ℕ → Reading → Defaults → Tree → OffsetDateTime → Type 0

@@ -1,10 +1,11 @@
 -- How a time is read. `Y` is the greatest year.
-use Rattle.std.specs.Prelude.{◌≡◌, ℕ, zero, suc, ◌-◌, ℤ, pos, ◌+ℤ◌, ◌-ℤ◌, int_lt, Bool, true, false, MatchBool, ◌&&◌, ◌||◌, ◌==◌, List, [], ◌∷◌, length, take, drop, slice_index, if◌then◌else◌, Option, None, Some, MatchOption, is_some, unwrap_or, Result, Ok, Err, MatchResult}
+use Rattle.std.specs.Prelude.{◌≡◌, ℕ, zero, suc, ◌-◌, ℤ, pos, ◌+ℤ◌, ◌-ℤ◌, int_lt, Bool, true, false, not, MatchBool, ◌&&◌, ◌||◌, ◌==◌, List, [], ◌∷◌, length, take, drop, slice_index, if◌then◌else◌, Option, None, Some, MatchOption, is_some, unwrap_or, Result, Ok, Err, MatchResult}
 use Rattle.std.specs.Char.{is_ascii_whitespace}
 use Rattle.std.specs.List.{list_any, prefix_len, suffix_len}
 use Rattle.time_values.specs.Dates as Dates
-use Rattle.time_values.specs.Moments.{offset_date, offset_instant}
+use Rattle.time_values.specs.Moments.{offset_date, offset_instant, offset_of}
 use Rattle.time_values.specs.Offsets as Offsets
+use Rattle.time_values.specs.Offsets.{IsUtc}
 use Rattle.time_values.specs.Refusal.{Refusal, refusal_of}
 use Rattle.time_values.specs.declared.error.Parse.{Parse}
 use Rattle.time_values.specs.declared.offset_date_time.OffsetDateTime.{OffsetDateTime}
@@ -19,7 +20,9 @@ use Rattle.time_parsing.specs.Iso8601 as Iso8601
 use Rattle.time_parsing.specs.Rfc2822 as Rfc2822
 use Rattle.time_parsing.specs.Rfc3339 as Rfc3339
 use Rattle.time_components.specs.Steps.{steps_shape}
-use Rattle.restamp_verdict.specs.Reason.{Reason, unread, negative_fraction}
+use Rattle.restamp_verdict.specs.Local.{IsOffsetWhen}
+use Rattle.restamp_verdict.specs.Reason.{Reason, unread, negative_fraction, left_out, shown_twice}
+use Rattle.restamp_verdict.specs.declared.local.Clocks.{Clocks}
 use Rattle.restamp_verdict.specs.declared.reading.Reading.{Reading}
 use Rattle.restamp_verdict.specs.declared.reading.Reading.TheVariants as reading
 use Rattle.restamp_verdict.specs.declared.reading.Said.{Said}
@@ -162,58 +165,105 @@ Says Y format is_open text defaults result =
     (outcome : Result Said Refusal) × IsRead Y format is_open text defaults outcome
     × (result ≡ guarded format text outcome)
 
+-- the same defaults with that offset
+abbrev pub at_offset : UtcOffset → Defaults → Defaults
+at_offset o d = record { year = d.year; offset = Some o; clocks = None; latest = None }
+
+-- What a text says by a format on the clocks of a zone: what it says at the offset that they have when they show the
+-- date and time that it says in UTC.
+abbrev pub SaysOn : ℕ → Clocks → Reading → Bool → List ℕ → Defaults → Result Said Reason → Type 0
+SaysOn Y clocks format is_open text defaults result =
+    (utc : UtcOffset) × IsUtc utc
+    × (shown : Result Said Reason) × Says Y format is_open text (at_offset utc defaults) shown
+    × MatchResult shown
+    (λ s. (offset : Result UtcOffset Reason) × IsOffsetWhen clocks s.moment offset
+    × MatchResult offset (λ o. Says Y format is_open text (at_offset o defaults) result) (λ why. result ≡ Err why))
+    (λ why. result ≡ Err why)
+
+-- What a text says by a format; where it says nothing so, it may leave its offset to the clocks of a zone.
+abbrev pub SaysLocally : ℕ → Reading → Bool → List ℕ → Defaults → Result Said Reason → Type 0
+SaysLocally Y format is_open text defaults result =
+    (plain : Result Said Reason) × Says Y format is_open text defaults plain
+    × MatchResult plain (λ s. result ≡ Ok s)
+    (λ reason. MatchOption defaults.clocks (result ≡ Err reason)
+    (λ clocks. SaysOn Y clocks format is_open text defaults result))
+
 -- the one moment lies after the other
 abbrev pub is_after : ℕ → OffsetDateTime → OffsetDateTime → Bool
 is_after Y v w = int_lt (offset_instant Y w) (offset_instant Y v)
 
--- a text that is read by a format, the offset that stands for one that it leaves out, and the moment that it isn't
--- after
+-- a text that is read by a format, the offset that stands for one that it leaves out, the clocks of a zone that do, and
+-- the moment that it isn't after
 pub record Undated : Type 0 where
   pub format : Reading
   pub is_open : Bool
   pub text : List ℕ
   pub offset : Option UtcOffset
+  pub clocks : Option Clocks
   pub latest : OffsetDateTime
 
-abbrev pub undated : Reading → Bool → List ℕ → Option UtcOffset → OffsetDateTime → Undated
-undated format is_open text offset latest =
-    record { format = format; is_open = is_open; text = text; offset = offset; latest = latest }
+abbrev pub undated : Reading → Bool → List ℕ → Option UtcOffset → Option Clocks → OffsetDateTime → Undated
+undated format is_open text offset clocks latest =
+    record { format = format; is_open = is_open; text = text; offset = offset; clocks = clocks; latest = latest }
 
 -- the same of a value
 abbrev pub seen_undated : declared.Undated → Undated
-seen_undated u = undated u.reading.now u.is_open u.text.now u.offset u.latest
+seen_undated u = undated u.reading.now u.is_open u.text.now u.offset u.clocks u.latest
 
 -- the year after that of a moment on its clock
 abbrev pub year_after : OffsetDateTime → ℤ
 year_after v = Dates.year (offset_date v) +ℤ pos 1
 
--- that year, and that offset
-abbrev pub in_year : ℤ → Option UtcOffset → Defaults
-in_year year offset = record { year = Some year; offset = offset; latest = None }
+-- that year, and that offset or those clocks
+abbrev pub in_year : ℤ → Option UtcOffset → Option Clocks → Defaults
+in_year year offset clocks = record { year = Some year; offset = offset; clocks = clocks; latest = None }
 
 -- what a text says in a year
 abbrev pub IsReadInYear : ℕ → Undated → ℤ → Result Said Reason → Type 0
-IsReadInYear Y u year = Says Y u.format u.is_open u.text (in_year year u.offset)
+IsReadInYear Y u year = SaysLocally Y u.format u.is_open u.text (in_year year u.offset u.clocks)
 
--- What it says in the first of so many years, from that one down, in which it says a moment that isn't too late; or
--- else the last reason.
+-- the clocks of a zone refuse a date and time
+abbrev pub is_of_clocks : Reason → Bool
+is_of_clocks left_out = true
+is_of_clocks shown_twice = true
+is_of_clocks reason = false
+
+-- a moment that is said and isn't too late
+abbrev pub is_early : ℕ → OffsetDateTime → Result Said Reason → Bool
+is_early Y latest (Ok s) = not (is_after Y s.moment latest)
+is_early Y latest (Err why) = false
+
+-- Whether a text says in a year, at the offset of the given moment, one that isn't after that.
+abbrev pub IsEarly : ℕ → Undated → ℤ → Bool → Type 0
+IsEarly Y u year early =
+    (shown : Result Said Reason)
+    × Says Y u.format u.is_open u.text (at_offset (offset_of u.latest) (in_year year u.offset u.clocks)) shown
+    × (early ≡ is_early Y u.latest shown)
+
+-- Whether no year before one is tried: the clocks of a zone refuse a date and time that isn't too late.
+abbrev pub IsFinal : ℕ → Undated → ℤ → Reason → Bool → Type 0
+IsFinal Y u year why final = MatchBool (is_of_clocks why) (IsEarly Y u year final) (final ≡ false)
+
+-- What it says in the first of so many years, from that one down, in which it says a moment that isn't too late, or the
+-- clocks of a zone refuse such a one; or else the last reason.
 unfoldable pub AreYearsTried : ℕ → Undated → ℕ → ℤ → Reason → Result Said Reason → Type 0
 AreYearsTried Y u zero year reason result = result ≡ Err reason
 AreYearsTried Y u (suc n) year reason result =
     (read : Result Said Reason) × IsReadInYear Y u year read
     × MatchResult read
     (λ s. MatchBool (is_after Y s.moment u.latest) (AreYearsTried Y u n (year -ℤ pos 1) reason result) (result ≡ Ok s))
-    (λ why. AreYearsTried Y u n (year -ℤ pos 1) why result)
+    (λ why. (final : Bool) × IsFinal Y u year why final
+    × MatchBool final (result ≡ Err why) (AreYearsTried Y u n (year -ℤ pos 1) why result))
 
 -- What a text says by a format; where it says nothing so, it may leave its year out, and says the latest moment that
 -- isn't after a given one.
 abbrev pub IsDated : ℕ → Reading → Bool → List ℕ → Defaults → Result Said Reason → Type 0
 IsDated Y format is_open text defaults result =
-    (plain : Result Said Reason) × Says Y format is_open text defaults plain
+    (plain : Result Said Reason) × SaysLocally Y format is_open text defaults plain
     × MatchResult plain (λ s. result ≡ Ok s)
     (λ reason. MatchOption defaults.latest (result ≡ Err reason)
-    (λ latest. AreYearsTried Y (undated format is_open text defaults.offset latest) 10 (year_after latest) reason
-    result))
+    (λ latest. AreYearsTried Y (undated format is_open text defaults.offset defaults.clocks latest) 10 (year_after latest)
+    reason result))
 
 -- what it says by the first of these formats by which it says something, or else that reason
 abbrev pub AreTried : ℕ → List Reading → Bool → List ℕ → Defaults → Reason → Result Said Reason → Type 0

@@ -11,11 +11,14 @@ use Rattle.restamp_verdict.specs.declared.reading.Said.{Said}
 use Rattle.restamp_verdict.specs.declared.reason.Reason as declared
 use Rattle.restamp_verdict.specs.declared.reason.Reason.TheVariants as variant
 
--- no format reads it, it has a fraction after a minus, it has no date at an offset, no time zone tells of it, it has no
--- text by a format or by a description, it goes on too far, or has no place
+-- no format reads it, it has a fraction after a minus, the clocks of its zone leave it out or show it twice, it has no
+-- date at an offset, no time zone tells of it, it has no text by a format or by a description, it goes on too far, or has
+-- no place
 pub data Reason : Type 0 where
   unread : Refusal → Reason
   negative_fraction : Reason
+  left_out : Reason
+  shown_twice : Reason
   out_of_range : Reason
   untold : Reason
   unwritable : Unwritable → Reason
@@ -27,6 +30,8 @@ pub data Reason : Type 0 where
 abbrev pub seen : declared.Reason → Reason
 seen (variant.Unread e) = unread (refusal_of e)
 seen variant.NegativeFraction = negative_fraction
+seen variant.LeftOut = left_out
+seen variant.ShownTwice = shown_twice
 seen variant.OutOfRange = out_of_range
 seen variant.Untold = untold
 seen (variant.Unwritable why) = unwritable why
@@ -38,6 +43,8 @@ seen variant.Missing = missing
 abbrev pub reason_text : Reason → List ℕ
 reason_text (unread e) = refusal_text e
 reason_text negative_fraction = codes "a fraction after a minus is read in two ways"
+reason_text left_out = codes "the clocks of its zone leave it out"
+reason_text shown_twice = codes "the clocks of its zone show it twice"
 reason_text out_of_range = codes "the time has no date at that offset"
 reason_text untold = codes "no time zone tells of that time"
 reason_text (unwritable why) = unwritable_text why

@@ -4,6 +4,7 @@ ghost use Rattle.time_values.specs.Range.{greatest_year};
 ghost use Rattle.restamp_verdict.specs.Reading as spec;
 ghost use Rattle.restamp_verdict.specs.Reason.{seen, seen_read};
 
+use crate::local::{Clocks, read_local, read_unplaced};
 use crate::reading::{Defaults, Reading, Said, read};
 use crate::reason::Reason;
 use std::cmp::Ordering;
@@ -16,28 +17,64 @@ fn is_after(moment: OffsetDateTime, other: OffsetDateTime) -> bool
     moment.cmp_instant(other) == Ordering::Greater
 }
 
+// Whether clocks of a zone refuse a date and time.
+fn is_of_clocks(why: Reason) -> bool
+    ensures { result ≡ spec.is_of_clocks (seen why) }
+{
+    matches!(why, Reason::LeftOut | Reason::ShownTwice)
+}
+
 // A text with no year, and the moment that it isn't after.
 #[derive(Clone, Copy)]
-struct Undated<'a> {
+struct Undated<'a, 'z> {
     reading: &'a Reading,
     is_open: bool,
     text: &'a [u8],
     offset: Option<UtcOffset>,
+    clocks: Option<Clocks<'z>>,
     latest: OffsetDateTime,
 }
 
-impl Undated<'_> {
+impl<'z> Undated<'_, 'z> {
+    // The defaults for that year.
+    fn in_year(&self, year: i32) -> Defaults<'z>
+        ensures { result ≡ spec.in_year year self.now.offset self.now.clocks }
+    {
+        Defaults {
+            year: Some(year),
+            offset: self.offset,
+            clocks: self.clocks,
+            latest: None,
+        }
+    }
+
     // What the text says in that year.
     fn read_in_year(&self, year: i32) -> Result<Said, Reason>
         ensures said { spec.IsReadInYear greatest_year (spec.seen_undated self.now) year (seen_read result) }
         ensures within { IfOk result (λ said. said.start + said.length ≤ length self.now.text.now) }
     {
-        let dated = Defaults {
-            year: Some(year),
-            offset: self.offset,
-            latest: None,
-        };
-        read(self.reading, self.is_open, self.text, &dated)
+        read_local(self.reading, self.is_open, self.text, &self.in_year(year))
+    }
+
+    // Whether it says in that year, at the offset of the latest moment, one that isn't after that.
+    fn is_early(&self, year: i32) -> bool
+        ensures { spec.IsEarly greatest_year (spec.seen_undated self.now) year result }
+    {
+        let defaults = self.in_year(year).at(self.latest.offset());
+        match read(self.reading, self.is_open, self.text, &defaults) {
+            Ok(said) => !is_after(said.moment, self.latest),
+            Err(_) => false,
+        }
+    }
+
+    // Whether no year before is tried: clocks refuse a date and time that isn't too late.
+    fn is_final(&self, year: i32, why: Reason) -> bool
+        ensures { spec.IsFinal greatest_year (spec.seen_undated self.now) year (seen why) result }
+    {
+        if is_of_clocks(why) {
+            return self.is_early(year);
+        }
+        false
     }
 
     // What it says in the first of so many years, from that one down, in which it says a moment that isn't too late.
@@ -58,7 +95,12 @@ impl Undated<'_> {
                 }
                 Ok(said)
             }
-            Err(why) => self.read_years(before, count - 1, why),
+            Err(why) => {
+                if self.is_final(year, why) {
+                    return Err(why);
+                }
+                self.read_years(before, count - 1, why)
+            }
         }
     }
 }
@@ -68,10 +110,10 @@ fn read_undated(
     reading: &Reading,
     is_open: bool,
     text: &[u8],
-    defaults: &Defaults,
+    defaults: &Defaults<'_>,
     reason: Reason,
 ) -> Result<Said, Reason>
-    requires { spec.Says greatest_year reading.now is_open text.now defaults.now (Err (seen reason)) }
+    requires { spec.SaysLocally greatest_year reading.now is_open text.now defaults.now (Err (seen reason)) }
     ensures said { spec.IsDated greatest_year reading.now is_open text.now defaults.now (seen_read result) }
     ensures within { IfOk result (λ said. said.start + said.length ≤ length text.now) }
 {
@@ -83,9 +125,29 @@ fn read_undated(
         is_open,
         text,
         offset: defaults.offset,
+        clocks: defaults.clocks,
         latest,
     };
     undated.read_years(latest.year() + 1, 10, reason)
+}
+
+// What a text says that says nothing by the format as it stands, for that reason, unless it leaves its offset to clocks of
+// a zone, or the year out.
+fn read_unsaid(
+    reading: &Reading,
+    is_open: bool,
+    text: &[u8],
+    defaults: &Defaults<'_>,
+    reason: Reason,
+) -> Result<Said, Reason>
+    requires { spec.Says greatest_year reading.now is_open text.now defaults.now (Err (seen reason)) }
+    ensures said { spec.IsDated greatest_year reading.now is_open text.now defaults.now (seen_read result) }
+    ensures within { IfOk result (λ said. said.start + said.length ≤ length text.now) }
+{
+    match read_unplaced(reading, is_open, text, defaults, reason) {
+        Ok(said) => Ok(said),
+        Err(why) => read_undated(reading, is_open, text, defaults, why),
+    }
 }
 
 /// What the text says by the format; where it leaves the year out, the latest moment that isn't after the one that is
@@ -95,12 +157,12 @@ pub fn read_dated(
     reading: &Reading,
     is_open: bool,
     text: &[u8],
-    defaults: &Defaults,
+    defaults: &Defaults<'_>,
 ) -> Result<Said, Reason>
     ensures said { spec.IsDated greatest_year reading.now is_open text.now defaults.now (seen_read result) }
     ensures within { IfOk result (λ said. said.start + said.length ≤ length text.now) }
 {
-    match read(reading, is_open, text, defaults) {
+    match read_local(reading, is_open, text, defaults) {
         Ok(said) => Ok(said),
         Err(reason) => read_undated(reading, is_open, text, defaults, reason),
     }
@@ -111,7 +173,7 @@ fn read_others(
     readings: &[Reading],
     is_open: bool,
     text: &[u8],
-    defaults: &Defaults,
+    defaults: &Defaults<'_>,
     reason: Reason,
 ) -> Result<Said, Reason>
     ensures said { spec.AreTried greatest_year readings.now is_open text.now defaults.now (seen reason) (seen_read result) }
@@ -131,14 +193,14 @@ pub(crate) fn read_further(
     others: &[Reading],
     is_open: bool,
     text: &[u8],
-    defaults: &Defaults,
+    defaults: &Defaults<'_>,
     reason: Reason,
 ) -> Result<Said, Reason>
     requires { spec.Says greatest_year first.now is_open text.now defaults.now (Err (seen reason)) }
     ensures said { spec.IsReadInTurn greatest_year first.now others.now is_open text.now defaults.now (seen_read result) }
     ensures within { IfOk result (λ said. said.start + said.length ≤ length text.now) }
 {
-    match read_undated(first, is_open, text, defaults, reason) {
+    match read_unsaid(first, is_open, text, defaults, reason) {
         Ok(said) => Ok(said),
         Err(why) => read_others(others, is_open, text, defaults, why),
     }
@@ -151,7 +213,7 @@ pub fn read_in_turn(
     others: &[Reading],
     is_open: bool,
     text: &[u8],
-    defaults: &Defaults,
+    defaults: &Defaults<'_>,
 ) -> Result<Said, Reason>
     ensures said { spec.IsReadInTurn greatest_year first.now others.now is_open text.now defaults.now (seen_read result) }
     ensures within { IfOk result (λ said. said.start + said.length ≤ length text.now) }

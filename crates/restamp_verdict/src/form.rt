@@ -133,12 +133,26 @@ fn stamp_of(moment: OffsetDateTime) -> Result<Timestamp, Reason>
     }
 }
 
+// The whole milliseconds of the moment since 1970, if it has a date in UTC, with no number of more than 64 bits.
+#[inline(always)]
+fn milliseconds_of(moment: OffsetDateTime) -> Option<i64>
+    ensures { MatchOption result (¬ IsInstant greatest_year (offset_instant greatest_year moment))
+        (λ z. IsInstant greatest_year (offset_instant greatest_year moment)
+        × IsWhole 1_000_000 (offset_instant greatest_year moment) z) }
+{
+    let seconds = seconds_of(moment)?;
+    Some(seconds * 1_000 + i64::from(moment.time().nanosecond() / 1_000_000))
+}
+
 // Its milliseconds since 1970. None of these is inlined, so that their results take no place where seconds are written.
 #[inline(never)]
 fn write_milliseconds(moment: OffsetDateTime) -> Result<Text, Reason>
     ensures { spec.IsCounted greatest_year Milliseconds moment (seen_written result) }
 {
-    Ok(number(stamp_of(moment)?.as_milliseconds()))
+    match milliseconds_of(moment) {
+        Some(milliseconds) => Ok(number(milliseconds)),
+        None => Err(Reason::OutOfRange),
+    }
 }
 
 // Its microseconds since 1970.

@@ -33,7 +33,7 @@ pub struct Job<'a> {
     /// The formats that are tried in turn where that one doesn't.
     pub others: &'a [Reading],
     /// Defaults for what a time omits.
-    pub defaults: Defaults,
+    pub defaults: Defaults<'a>,
     /// How it is written.
     pub form: Form<'a>,
     /// Drops lines whose time is before.

@@ -105,7 +105,7 @@ fn lack_in(parsed: &Parsed) -> Lack
 }
 
 // What a text lacks that the format reads.
-fn lack_by<F: Parsable>(format: &F, defaults: &Defaults, text: &[u8]) -> Option<Lack>
+fn lack_by<F: Parsable>(format: &F, defaults: &Defaults<'_>, text: &[u8]) -> Option<Lack>
     ensures { spec.IsLackBy greatest_year (F.reads format.now) (F.refuses format.now) defaults.now text.now result }
 {
     let mut parsed = Parsed::new();
@@ -128,15 +128,16 @@ fn is_insufficient(reason: Reason) -> bool
     )
 }
 
-impl Defaults {
+impl<'a> Defaults<'a> {
     // The same where a year is given for a moment that a time isn't after: that moment's.
-    fn dated(&self) -> Defaults
+    fn dated(&self) -> Defaults<'a>
         ensures { result ≡ spec.dated self.now }
     {
         match self.latest {
             Some(latest) => Defaults {
                 year: Some(latest.year()),
                 offset: self.offset,
+                clocks: self.clocks,
                 latest: None,
             },
             None => *self,
@@ -147,7 +148,7 @@ impl Defaults {
 impl Reading {
     // What a text lacks that the format reads. RFC 3339 and RFC 2822 say all of a moment, and a complete description is read
     // alone.
-    fn lack_in_text(&self, defaults: &Defaults, text: &[u8]) -> Option<Lack>
+    fn lack_in_text(&self, defaults: &Defaults<'_>, text: &[u8]) -> Option<Lack>
         ensures { spec.IsLackPart greatest_year self.now defaults.now text.now result }
     {
         match self {

@@ -6,6 +6,7 @@ ghost use Rattle.time_parsing.specs.Outcome.{IsFront, IsOutcome, seen as seen_pa
 ghost use Rattle.restamp_verdict.specs.Reading as spec;
 ghost use Rattle.restamp_verdict.specs.Reason.{seen_read};
 
+use crate::local::Clocks;
 use crate::reason::Reason;
 use std::convert::TryFrom;
 use time_parsing::{Iso8601, Parsable, Rfc2822, Rfc3339, value_before};
@@ -36,11 +37,13 @@ pub enum Reading {
 
 /// Defaults for what a time omits.
 #[derive(Clone, Copy)]
-pub struct Defaults {
+pub struct Defaults<'a> {
     /// The year of a time that says no part of one.
     pub year: Option<i32>,
     /// The offset of a time that says no hour of one.
     pub offset: Option<UtcOffset>,
+    /// Where no offset is given, the clocks that show such a time.
+    pub clocks: Option<Clocks<'a>>,
     /// A time that has no year either is the latest that isn't after this moment.
     pub latest: Option<OffsetDateTime>,
 }
@@ -116,7 +119,7 @@ fn put_offset(offset: Option<UtcOffset>, parsed: &mut Parsed)
 
 // Puts what stands for what the text doesn't say into the record of what it says.
 #[inline(always)]
-pub(crate) fn complete(defaults: &Defaults, parsed: &mut Parsed)
+pub(crate) fn complete(defaults: &Defaults<'_>, parsed: &mut Parsed)
     ensures { parsed.new ≡ spec.completed greatest_year defaults.now parsed.old }
 {
     put_year(defaults.year, parsed);
@@ -156,7 +159,7 @@ fn read_by<F: Parsable>(format: &F, is_open: bool, text: &[u8]) -> Result<Said, 
 fn front_with<'a, F: Parsable>(
     format: &F,
     text: &'a [u8],
-    defaults: &Defaults,
+    defaults: &Defaults<'_>,
 ) -> Result<(OffsetDateTime, &'a [u8]), Parse>
     ensures { IsFront (spec.IsCompleted greatest_year defaults.now) (F.reads format.now) (F.refuses format.now) text.now
         empty (seen_front result) }
@@ -173,7 +176,7 @@ fn front_with<'a, F: Parsable>(
 fn whole_with<F: Parsable>(
     format: &F,
     text: &[u8],
-    defaults: &Defaults,
+    defaults: &Defaults<'_>,
 ) -> Result<OffsetDateTime, Parse>
     ensures { IsOutcome (spec.IsCompleted greatest_year defaults.now) (F.reads format.now) (F.refuses format.now) text.now
         empty (seen_parse result) }
@@ -190,7 +193,7 @@ fn read_with<F: Parsable>(
     format: &F,
     is_open: bool,
     text: &[u8],
-    defaults: &Defaults,
+    defaults: &Defaults<'_>,
 ) -> Result<Said, Parse>
     ensures said { spec.IsReadWith greatest_year is_open (F.reads format.now) (F.refuses format.now) text.now
         defaults.now (spec.seen_said result) }
@@ -237,7 +240,7 @@ fn read_plain(
     reading: &Reading,
     is_open: bool,
     text: &[u8],
-    defaults: &Defaults,
+    defaults: &Defaults<'_>,
 ) -> Result<Said, Parse>
     ensures said { spec.IsRead greatest_year reading.now is_open text.now defaults.now (spec.seen_said result) }
     ensures within { IfOk result (λ said. said.start + said.length ≤ length text.now) }
@@ -265,7 +268,7 @@ pub(crate) fn read_once(
     reading: &Reading,
     is_open: bool,
     text: &[u8],
-    defaults: &Defaults,
+    defaults: &Defaults<'_>,
 ) -> Result<Said, Reason>
     ensures said { spec.Says greatest_year reading.now is_open text.now defaults.now (seen_read result) }
     ensures within { IfOk result (λ said. said.start + said.length ≤ length text.now) }
@@ -286,7 +289,7 @@ pub fn read(
     reading: &Reading,
     is_open: bool,
     text: &[u8],
-    defaults: &Defaults,
+    defaults: &Defaults<'_>,
 ) -> Result<Said, Reason>
     ensures said { spec.Says greatest_year reading.now is_open text.now defaults.now (seen_read result) }
     ensures within { IfOk result (λ said. said.start + said.length ≤ length text.now) }

@@ -14,6 +14,10 @@ pub enum Reason {
     Unread(Parse),
     /// It is a number of seconds with a fraction after a minus, which some read forwards and some backwards.
     NegativeFraction,
+    /// The clocks of its zone leave its date and time out.
+    LeftOut,
+    /// They show its date and time twice.
+    ShownTwice,
     /// It has no date at the offset that is asked for, or none in UTC that a number could count from.
     OutOfRange,
     /// No time zone tells of it: it lies before the year -9999 or after 9999, or in their first or last day.
@@ -37,6 +41,8 @@ impl fmt::Display for Reason {
             Reason::NegativeFraction => {
                 write!(f, "a fraction after a minus is read in two ways")
             }
+            Reason::LeftOut => write!(f, "the clocks of its zone leave it out"),
+            Reason::ShownTwice => write!(f, "the clocks of its zone show it twice"),
             Reason::OutOfRange => write!(f, "the time has no date at that offset"),
             Reason::Untold => write!(f, "no time zone tells of that time"),
             Reason::Unwritable(why) => write!(f, "{why}"),

@@ -19,6 +19,6 @@ returns-in-Err-read_in_turn c = (
   (
     Err (seen c.in-Err-read_in_turn.field-0),
     rw c.as_bytes-2.ensures.value at c.in-Err-read_in_turn.ensures.said,
-    refl,
+    c.find_named.ensures,
   ),
 )

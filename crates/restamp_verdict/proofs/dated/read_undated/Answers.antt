@@ -14,7 +14,7 @@ returns-in_default-clause-said c =
 
 pub returns-clause-said : goal.returns-clause-said
 returns-clause-said c =
-    let u = undated c.args.reading.now c.args.is_open c.args.text.now c.args.defaults.now.offset c.in-Some.latest in
+    let u = undated c.args.reading.now c.args.is_open c.args.text.now c.args.defaults.now.offset c.args.defaults.now.clocks c.in-Some.latest in
     let tried = subst (λ (y : ℤ). AreYearsTried greatest_year u 10 y (seen c.args.reason) (seen_read c.read_years.result))
     (one_more c.year.result (omega (arith, ints)) (omega (arith, ints))) c.read_years.ensures.said in
     dated-years greatest_year c.args.reading.now c.args.is_open c.args.text.now c.args.defaults.now (seen c.args.reason)

@@ -1,9 +1,31 @@
+use Rattle.std.proofs.Common.{refl}
 use Rattle.time_values.specs.Range.{greatest_year}
 use Rattle.restamp_command.specs.Fault.{told}
-use Rattle.restamp_command.proofs.FormatLemmas.{others_fault}
+use Rattle.restamp_command.proofs.FormatLemmas.{fault_at, others_fault}
 use Rattle.restamp_command.proofs.request.Request.new.Goals as goal
 
 pub returns-in-Err : goal.returns-in-Err
 returns-in-Err g c =
-    others_fault greatest_year c.args.options.now c.gives_year.result _ (told c.in-Err.fault) c.gives_year.ensures c.other_names-names.ensures
-    c.in-Err.ensures.err
+    fault_at greatest_year c.args.now c.args.options.now (told c.in-Err.fault)
+    (others_fault greatest_year c.args.options.now c.gives_year.result _ (told c.in-Err.fault) c.gives_year.ensures
+    c.other_names-names.ensures c.in-Err.ensures.err)
+
+pub find_bounds-requires-clause-given : goal.find_bounds-requires-clause-given
+find_bounds-requires-clause-given g c = rw c.as_slice-3.ensures.value (rw c.as_slice.ensures.value at c.in-Ok.ensures)
+
+pub returns : goal.returns
+returns g c = record {
+  place = c.in_ok-place.ensures;
+  formats = (
+    c.in_ok-first.ensures,
+    rw (c.gives_year.ensures, c.other_names-names.ensures, c.new-others.ensures.items) at c.in_default.ensures.ok,
+  );
+  uses = rw c.as_slice-2.ensures.value at c.in_default-find_unused.ensures;
+  given = rw c.as_slice.ensures.value at c.in-Ok.ensures;
+  style = c.in_ok-style.ensures;
+  bounds = rw c.as_slice-3.ensures.value at c.in-Ok-find_bounds.ensures;
+  settings = c.in_ok-settings.ensures;
+  shows_lines = c.in_ok-shows_lines.ensures;
+  strict = refl;
+  in_place = c.in_ok-in_place.ensures;
+}

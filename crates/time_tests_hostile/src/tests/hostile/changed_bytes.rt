@@ -1,10 +1,10 @@
 //! Texts of the two RFC formats with each byte replaced by each other, and cut at each place.
 use super::super::parts;
+use crate::fields::same;
 use std::alloc::{AllocError, Global};
 use std::ops::Range;
 use time_parsing::{Parsable, Rfc2822, Rfc3339};
 use time_record::Parsed;
-use time_tests_records::fields::same;
 use time_values::Month;
 
 static STAMPS: [&[u8]; 10] = [

@@ -1,9 +1,9 @@
 //! Defaults of which a text leaves a part standing.
 use super::super::parts::{self, Clock};
+use crate::fields::{Field, record_of};
 use time_parsing::{Iso8601, Parsable, Rfc2822, Rfc3339};
 use time_readers::{BorrowedFormatItem, Component, Padding, SubsecondDigits, modifier};
 use time_record::Parsed;
-use time_tests_records::fields::{Field, record_of};
 use time_values::Month;
 use time_values::error::Parse;
 

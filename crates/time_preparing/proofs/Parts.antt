@@ -3,10 +3,10 @@ use Rattle.std.proofs.Common.{◌≡◌, ℕ, ◌≤◌, List, [], ◌∷◌, �
 use Rattle.std.specs.Prelude.{nat_le, unsigned_abs}
 use Rattle.std.proofs.lemmas.Bool.{le-leb}
 use Rattle.time_digits.specs.Cuts.{Cut}
-use Rattle.time_components.specs.Spelling.{Spells, Value, flagged, number, signed}
+use Rattle.time_components.specs.Spelling.{Spells, Value, flagged, number, period, signed}
 use Rattle.time_components.specs.Tree.{Tree, Trees, component, literal, optional, sequence, more, none}
 use Rattle.time_components.specs.declared.format_description.Component.{Component}
-use Rattle.time_components.specs.declared.format_description.Component.TheVariants.{CalendarYearFullExtendedRange, CalendarYearFullStandardRange, Day, Hour24, Minute, Second, Subsecond, OffsetHour, OffsetMinute}
+use Rattle.time_components.specs.declared.format_description.Component.TheVariants.{CalendarYearFullExtendedRange, CalendarYearFullStandardRange, Day, Hour12, Hour24, Minute, Period, Second, Subsecond, OffsetHour, OffsetMinute}
 use Rattle.time_components.specs.declared.modifier.Day.{Day as Day'}
 use Rattle.time_record.specs.Components.{put_value}
 use Rattle.time_record.specs.Reading.{Reads, ReadsAll}
@@ -14,8 +14,12 @@ use Rattle.time_record.specs.Record.{Record, Sets}
 use Rattle.time_record.specs.WalkFast.{MayRead}
 use Rattle.time_record.proofs.ComponentLemmas.{reads_literal}
 use Rattle.time_preparing.specs.Walk.{fraction_tree, leaves, MayReadAll, seconds_tree}
-use Rattle.time_preparing.specs.Forms.{bytes_of, offset_parts}
-use Rattle.time_preparing.specs.declared.forms.TheConstants.{YEAR, STANDARD_YEAR, HOUR, MINUTE, SECOND, SUBSECOND, OFFSET_HOUR, OFFSET_MINUTE}
+use Rattle.time_preparing.specs.Forms.{bytes_of, offset_parts, with_half, with_second}
+use Rattle.time_preparing.specs.Whole.{half_trees}
+use Rattle.time_preparing.specs.declared.forms.HalfNumbers.{HalfNumbers}
+use Rattle.time_preparing.specs.declared.forms.InHalf.{InHalf}
+use Rattle.time_preparing.specs.declared.forms.TheConstants.{YEAR, STANDARD_YEAR, HOUR_12, HOUR, MINUTE, SECOND, SUBSECOND, OFFSET_HOUR, OFFSET_MINUTE}
+use Rattle.time_preparing.proofs.Going.{reads_later}
 
 module _ (Y : ℕ) where
   -- nothing is left to read
@@ -128,6 +132,9 @@ module _ (Y : ℕ) where
   pub put_second : (n : ℕ) (r : Record) → n ≤ 60 → put_value Y (Second SECOND) (number n) r ≡ Some (record r { second = Some n })
   put_second n r within = rw (le-leb n 60 within) refl
 
+  pub put_hour_12 : (n : ℕ) (r : Record) → 1 ≤ n → n ≤ 12 → put_value Y (Hour12 HOUR_12) (number n) r ≡ Some (record r { hour_12 = Some n })
+  put_hour_12 n r some within = rw (le-leb 1 n some, le-leb n 12 within) refl
+
   pub put_subsecond : (n : ℕ) (r : Record) → n ≤ 999999999 →
       put_value Y (Subsecond SUBSECOND) (number n) r ≡ Some (record r { subsecond = Some n })
   put_subsecond n r within = rw (le-leb n 999999999 within) refl
@@ -176,3 +183,23 @@ module _ (Y : ℕ) where
       (component_read ts mid behind rest (Second SECOND) (number n) r s q cut puts
       (tree_read none behind rest rest (fraction_tree p) s q q fraction (read_all rest q)))))
       (read_all rest q)
+
+  -- a time by the halves of the day
+  pub half_read : (h : InHalf) (n : HalfNumbers) (b hour_rest minute_in minute_rest second_rest half_in rest : List ℕ) (r : Record) →
+      Cut (Spells false (Hour12 HOUR_12)) b hour_rest (number n.hour) → 1 ≤ n.hour → n.hour ≤ 12 → hour_rest ≡ h.in_time ∷ minute_in →
+      Cut (Spells false (Minute MINUTE)) minute_in minute_rest (number n.minute) → n.minute ≤ 59 →
+      ((q : Record) → ReadsAll Y (more (seconds_tree h.before_second h.point) none) minute_rest q second_rest (with_second n.second q)) →
+      second_rest ≡ h.before_half ∷ half_in → Cut (Spells false (Period h.half)) half_in rest (period n.half) →
+      ReadsAll Y (half_trees h) b r rest (with_half n r)
+  half_read h n b hour_rest minute_in minute_rest second_rest half_in rest r hour some most first minute within seconds second half =
+      let p : Record = record r { hour_12 = Some n.hour } in
+      let q : Record = record p { minute = Some n.minute } in
+      let s = with_second n.second q in
+      let later = more (component false (Period h.half)) none in
+      let behind = more (literal (h.before_half ∷ [])) later in
+      component_read _ b hour_rest rest (Hour12 HOUR_12) (number n.hour) r p (with_half n r) hour (put_hour_12 n.hour r some most)
+      (byte_read _ hour_rest minute_in rest h.in_time p (with_half n r) first
+      (component_read _ minute_in minute_rest rest (Minute MINUTE) (number n.minute) p q (with_half n r) minute (put_minute n.minute p within)
+      (reads_later Y behind (more (seconds_tree h.before_second h.point) none) minute_rest q second_rest s rest (with_half n r) (seconds q)
+      (byte_read later second_rest half_in rest h.before_half s (with_half n r) second
+      (component_read none half_in rest rest (Period h.half) (period n.half) s (with_half n r) (with_half n r) half refl (read_all rest (with_half n r)))))))

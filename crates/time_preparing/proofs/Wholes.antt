@@ -1,14 +1,16 @@
 -- Whole texts of one form: their steps, and the values of their records.
-use Rattle.std.proofs.Common.{◌≡◌, ◌≢◌, ℕ, ◌≤◌, List, [], ◌∷◌, ◌++◌, length, take, drop, get_or, true, false, Option, Some, None, Ok, pos, inr, refl, ap, sym, subst, arith}
-use Rattle.std.specs.Prelude.{◌==◌}
+use Rattle.std.proofs.Common.{◌≡◌, ◌≢◌, ℕ, ◌≤◌, List, [], ◌∷◌, ◌++◌, length, take, drop, get_or, true, false, Option, Some, None, Ok, Err, pos, inr, refl, ap, sym, ◌∙◌, subst, arith}
+use Rattle.std.specs.Prelude.{◌==◌, MatchOption, option_and_then}
 use Rattle.std.proofs.lemmas.Bool.{le-leb, eqb-true}
 use Rattle.std.proofs.lemmas.List.{take_all, drop_all}
 use Rattle.time_values.specs.Moments.{offset_date, offset_of, offset_time, plain_date, plain_time}
 use Rattle.time_values.specs.Offsets.{offset_refusal}
 use Rattle.time_values.specs.Range.{greatest_year}
-use Rattle.time_values.specs.Refusal.{Refusal, Constructs}
+use Rattle.time_values.specs.Refusal.{Refusal, Constructs, insufficient}
 use Rattle.time_values.specs.Sign.{signed_by}
+use Rattle.time_values.specs.Dates as Dates
 use Rattle.time_values.specs.Times as Times
+use Rattle.time_values.specs.Times.{HasClock, time_refusal}
 use Rattle.time_values.specs.declared.date.Date.{Date}
 use Rattle.time_values.specs.declared.offset_date_time.OffsetDateTime.{OffsetDateTime}
 use Rattle.time_values.specs.declared.plain_date_time.PlainDateTime.{PlainDateTime}
@@ -16,18 +18,25 @@ use Rattle.time_values.specs.declared.utc_offset.UtcOffset.{UtcOffset}
 use Rattle.time_values.specs.declared.time.Time.{Time}
 use Rattle.time_components.specs.Steps.{steps_shape, steps_trees}
 use Rattle.time_components.specs.Tree.{component, first_of, sequence, literal, more}
+use Rattle.time_components.specs.declared.format_description.Component.TheVariants.{Hour12, Minute, Period}
 use Rattle.time_components.specs.declared.step.Group.TheVariants.{First, List as List'}
 use Rattle.time_components.specs.declared.step.Step.{Step}
 use Rattle.time_components.specs.declared.step.Step.TheVariants as step
+use Rattle.time_record.specs.Components.{is_pm}
 use Rattle.time_record.specs.Reading.{Reads, ReadsAll}
 use Rattle.time_record.specs.Record.{Record, empty}
-use Rattle.time_record.specs.Resolution.{IsConstructed, IsDated, IsMoment, IsMomentOfParts, IsOffset, IsTimed, IsPlain}
+use Rattle.time_record.specs.Resolution.{Clock, clock_at, hour_of_half, IsConstructed, IsDated, IsMoment, IsMomentOfParts, IsOffset, IsTimed, IsPlain}
 use Rattle.time_record.proofs.StepRows.{behind_first, steps_trees-end}
 use Rattle.time_record.proofs.Steps.{first_of-some, ReadsSome-here}
-use Rattle.time_preparing.specs.Forms.{byte_parts, bytes_of, dated_parts, offset_parts, time_parts, with_offset}
-use Rattle.time_preparing.specs.Walk.{followed_by, leaves}
-use Rattle.time_preparing.specs.Whole.{dated, IsLed, IsOf, IsWholeSecond, Leads, ReadsWhole, timed, whole_parts}
+use Rattle.time_preparing.specs.Forms.{byte_parts, bytes_of, dated_parts, offset_parts, time_parts, with_half, with_offset, with_second}
+use Rattle.time_preparing.specs.Joined.{month_day_parts, second_parts}
+use Rattle.time_preparing.specs.Walk.{followed_by, leaves, seconds_tree}
+use Rattle.time_preparing.specs.Whole.{clock_second, dated, half_parts, half_trees, in_year, in_year_parts, IsLed, IsOf, IsWholeSecond, Leads, ReadsOver, ReadsWhole, timed, whole_parts, whole_trees}
+use Rattle.time_preparing.specs.declared.forms.HalfNumbers.{HalfNumbers}
+use Rattle.time_preparing.specs.declared.forms.InHalf.{InHalf}
 use Rattle.time_preparing.specs.declared.forms.InMoment.{InMoment}
+use Rattle.time_preparing.specs.declared.forms.InYear.{InYear}
+use Rattle.time_preparing.specs.declared.forms.TheConstants.{HOUR_12, MINUTE}
 use Rattle.time_preparing.specs.declared.forms.OffsetNumbers.{OffsetNumbers}
 use Rattle.time_preparing.specs.declared.forms.Dated.{Dated}
 use Rattle.time_preparing.specs.declared.forms.Dated.TheVariants.{YearFirst, StandardYearFirst, DayFirst}
@@ -35,7 +44,7 @@ use Rattle.time_preparing.specs.declared.whole.Whole.{Whole}
 use Rattle.time_preparing.specs.declared.whole.Whole.TheVariants as whole
 use Rattle.time_preparing.proofs.Parts.{byte_read}
 use Rattle.time_preparing.proofs.Going.{one_as_list, reads_later}
-use Rattle.time_preparing.proofs.Rows.{AllPlain, group_row, plain_alone}
+use Rattle.time_preparing.proofs.Rows.{AllPlain, group_row, plain_alone, plain_row, second_row}
 
 -- what was constructed
 pub made : {V : Type 0} (o : Option Refusal) (P : V → Type 0) (v : V) → Constructs o P (Ok v) → P v
@@ -74,6 +83,13 @@ module _ (t : Time) (exact : IsWholeSecond t) where
   is_plain d p same_date same_time =
       inr (d, (refl, refl, refl), inr (t, timed_by (dated d empty) refl, (same_date, same_time)))
 
+  -- in a year that is known
+  pub is_plain_in : (r : Record) (d : Date) (p : PlainDateTime) → r.year ≡ Some (Dates.year d) → r.ordinal ≡ None → r.subsecond ≡ None →
+      plain_date p ≡ d → plain_time p ≡ t → IsPlain greatest_year (timed t (in_year d r)) (Ok p)
+  unfolding IsPlain IsDated
+  is_plain_in r d p same_year no_ordinal no_fraction same_date same_time =
+      inr (d, rw (same_year, no_ordinal) (refl, refl, refl), inr (t, timed_by (in_year d r) no_fraction, (same_date, same_time)))
+
   -- and an offset
   module _ (d : Date) (n : OffsetNumbers) (o : UtcOffset) (of : IsOf n o) where
     is_offset : IsOffset (with_offset n (timed t (dated d empty))) (Ok o)
@@ -97,6 +113,31 @@ module _ (t : Time) (exact : IsWholeSecond t) where
             ),
           ),
         )
+
+-- a time by the halves of the day
+abbrev ShowsClock : Time → Option Clock → Type 0
+ShowsClock t clock = MatchOption clock (Ok t ≡ Err insufficient)
+    (λ c. IsConstructed (time_refusal c.hour c.minute c.second c.nanosecond) (HasClock c.hour c.minute c.second c.nanosecond) (Ok t))
+
+module _ (n : HalfNumbers) (hour : ℕ) (t : Time) (same : Some hour ≡ hour_of_half (Some n.hour) (Some (is_pm n.half))) where
+  shown : (s f : ℕ) → Constructs (time_refusal hour n.minute s f) (HasClock hour n.minute s f) (Ok t) →
+      IsConstructed (time_refusal hour n.minute s f) (HasClock hour n.minute s f) (Ok t)
+  shown s f h = constructed (time_refusal hour n.minute s f) (HasClock hour n.minute s f) t h
+
+  half_timed : (x : Option (ℕ × Option ℕ)) →
+      Constructs (time_refusal hour n.minute (clock_second x).0 (clock_second x).1) (HasClock hour n.minute (clock_second x).0 (clock_second x).1) (Ok t) →
+      IsTimed (record (with_second x (record empty { hour_12 = Some n.hour; minute = Some n.minute })) { hour_12_is_pm = Some (is_pm n.half) }) (Ok t)
+  unfolding IsTimed
+  half_timed None h =
+      subst (λ o. ShowsClock t (option_and_then (λ k. clock_at k (Some n.minute) None None) o)) same (shown 0 0 h)
+  half_timed (Some (s, None)) h =
+      subst (λ o. ShowsClock t (option_and_then (λ k. clock_at k (Some n.minute) (Some s) None) o)) same (shown s 0 h)
+  half_timed (Some (s, Some f)) h =
+      subst (λ o. ShowsClock t (option_and_then (λ k. clock_at k (Some n.minute) (Some s) (Some f)) o)) same (shown s f h)
+
+  pub is_half : Constructs (time_refusal hour n.minute (clock_second n.second).0 (clock_second n.second).1)
+      (HasClock hour n.minute (clock_second n.second).0 (clock_second n.second).1) (Ok t) → IsTimed (with_half n empty) (Ok t)
+  is_half h = half_timed n.second h
 
 -- rows of leaves
 
@@ -150,25 +191,39 @@ plain_end : (before b : Option ℕ) → AllPlain (byte_parts before ++ offset_pa
 plain_end None b = plain_offset b
 plain_end (Some x) b = plain_offset b
 
-plain_whole : (w : Whole) → AllPlain (whole_parts w)
-plain_whole whole.Nothing = tt
-plain_whole (whole.Date form) = plain_date_form form
-plain_whole (whole.Time b) = tt
-plain_whole (whole.Plain form between b) = plain_joined (dated_parts form) (step.Literal between ∷ time_parts b) (plain_date_form form) tt
-plain_whole (whole.Moment m) =
-    plain_joined (dated_parts m.date) (step.Literal m.between ∷ (time_parts m.in_time ++ (byte_parts m.before_offset ++ offset_parts m.in_offset)))
-    (plain_date_form m.date) (plain_end m.before_offset m.in_offset)
+half_row : (h : InHalf) → steps_trees (half_parts h) ≡ half_trees h
+half_row h =
+    let front = step.Component (Hour12 HOUR_12) ∷ step.Literal h.in_time ∷ step.Component (Minute MINUTE) ∷ [] in
+    let later = step.Literal h.before_half ∷ step.Component (Period h.half) ∷ [] in
+    plain_row front (second_parts h.before_second h.point ++ later) tt refl
+    ∙ ap (followed_by (leaves front)) (second_row h.before_second h.point later ∙ ap (more (seconds_tree h.before_second h.point)) (plain_alone later tt))
 
--- what the leaves of the form read, these steps read
+whole_row : (w : Whole) → steps_trees (whole_parts w) ≡ whole_trees w
+whole_row whole.Nothing = plain_alone [] tt
+whole_row (whole.Date form) = plain_alone (dated_parts form) (plain_date_form form)
+whole_row (whole.Time b) = plain_alone (time_parts b) tt
+whole_row (whole.Half h) = half_row h
+whole_row (whole.InYear y) = plain_alone (in_year_parts y) tt
+whole_row (whole.Plain form between b) =
+    plain_alone (dated_parts form ++ step.Literal between ∷ time_parts b)
+    (plain_joined (dated_parts form) (step.Literal between ∷ time_parts b) (plain_date_form form) tt)
+whole_row (whole.Moment m) =
+    let behind = step.Literal m.between ∷ (time_parts m.in_time ++ (byte_parts m.before_offset ++ offset_parts m.in_offset)) in
+    plain_alone (dated_parts m.date ++ behind)
+    (plain_joined (dated_parts m.date) behind (plain_date_form m.date) (plain_end m.before_offset m.in_offset))
+
+-- what the trees of the form read, these steps read
 reads_form : (w : Whole) (steps : List Step) → steps ≡ whole_parts w → (b : List ℕ) (r : Record) (rest : List ℕ) (new : Record) →
-    ReadsAll greatest_year (leaves (whole_parts w)) b r rest new → Reads greatest_year (steps_shape steps) b r rest new
+    ReadsAll greatest_year (whole_trees w) b r rest new → Reads greatest_year (steps_shape steps) b r rest new
 unfolding Reads
-reads_form w steps is b r rest new h = rw (is, plain_alone (whole_parts w) (plain_whole w)) h
+reads_form w steps is b r rest new h = rw (is, whole_row w) h
 
 pub leads : (w : Whole) (list steps : List Step) → list ≡ whole_parts w → IsLed list steps → Leads w steps
 leads whole.Nothing list steps is led = tt
 leads (whole.Date form) list steps is led = λ b r rest new h. led b r rest new (reads_form (whole.Date form) list is b r rest new h)
 leads (whole.Time t) list steps is led = λ b r rest new h. led b r rest new (reads_form (whole.Time t) list is b r rest new h)
+leads (whole.Half x) list steps is led = λ b r rest new h. led b r rest new (reads_form (whole.Half x) list is b r rest new h)
+leads (whole.InYear y) list steps is led = λ b r rest new h. led b r rest new (reads_form (whole.InYear y) list is b r rest new h)
 leads (whole.Plain form between t) list steps is led =
     λ b r rest new h. led b r rest new (reads_form (whole.Plain form between t) list is b r rest new h)
 leads (whole.Moment m) list steps is led = λ b r rest new h. led b r rest new (reads_form (whole.Moment m) list is b r rest new h)
@@ -179,10 +234,12 @@ own w = leads w (whole_parts w) (whole_parts w) refl (λ b r rest new h. h)
 
 -- the use of it
 pub led : (w : Whole) (steps : List Step) → Leads w steps → w ≢ whole.Nothing → (b : List ℕ) (r : Record) (rest : List ℕ) (new : Record) →
-    ReadsAll greatest_year (leaves (whole_parts w)) b r rest new → Reads greatest_year (steps_shape steps) b r rest new
+    ReadsAll greatest_year (whole_trees w) b r rest new → Reads greatest_year (steps_shape steps) b r rest new
 led whole.Nothing steps leads some = absurd (some refl)
 led (whole.Date form) steps leads some = leads
 led (whole.Time t) steps leads some = leads
+led (whole.Half x) steps leads some = leads
+led (whole.InYear y) steps leads some = leads
 led (whole.Plain form between t) steps leads some = leads
 led (whole.Moment m) steps leads some = leads
 
@@ -206,9 +263,13 @@ module _ (steps : List Step) (choice list : Step) (all len : ℕ) (some : 1 ≤ 
 
 -- whole texts
 
+over_end : (w : Whole) (b rest : List ℕ) (begin q : Record) (P : Record → Type 0) → w ≢ whole.Nothing →
+    ReadsAll greatest_year (whole_trees w) b begin rest q → rest ≡ [] → P q → ReadsOver w b begin P
+over_end w b rest begin q P some reads end p = (some, q, subst (λ x. ReadsAll greatest_year (whole_trees w) b begin x q) end reads, p)
+
 whole_end : (w : Whole) (b rest : List ℕ) (q : Record) (P : Record → Type 0) → w ≢ whole.Nothing →
-    ReadsAll greatest_year (leaves (whole_parts w)) b empty rest q → rest ≡ [] → P q → ReadsWhole w b P
-whole_end w b rest q P some reads end p = (some, q, subst (λ x. ReadsAll greatest_year (leaves (whole_parts w)) b empty x q) end reads, p)
+    ReadsAll greatest_year (whole_trees w) b empty rest q → rest ≡ [] → P q → ReadsWhole w b P
+whole_end w b rest q P some reads end p = over_end w b rest empty q P some reads end p
 
 date_some : (form : Dated) → whole.Date form ≢ whole.Nothing
 date_some form e = cc
@@ -240,6 +301,30 @@ whole_plain form gap between b mid behind rest d t p exact reads is read_time en
     whole_end (whole.Plain form gap between) b rest (timed t (dated d empty)) (λ r. IsPlain greatest_year r (Ok p)) (plain_some form gap between)
     (rows_read (dated_parts form) (time_parts between) gap b mid behind rest empty (dated d empty) (timed t (dated d empty))
     (reads empty) is (read_time (dated d empty))) end (is_plain t exact d p same_date same_time)
+
+half_some : (h : InHalf) → whole.Half h ≢ whole.Nothing
+half_some h e = cc
+
+pub whole_half : (h : InHalf) (b rest : List ℕ) (n : HalfNumbers) (t : Time) →
+    ((r : Record) → ReadsAll greatest_year (half_trees h) b r rest (with_half n r)) → rest ≡ [] → IsTimed (with_half n empty) (Ok t) →
+    ReadsWhole (whole.Half h) b (λ r. IsTimed r (Ok t))
+whole_half h b rest n t reads end is =
+    whole_end (whole.Half h) b rest (with_half n empty) (λ r. IsTimed r (Ok t)) (half_some h) (reads empty) end is
+
+in_year_some : (y : InYear) → whole.InYear y ≢ whole.Nothing
+in_year_some y e = cc
+
+pub whole_in_year : (y : InYear) (b mid behind rest : List ℕ) (known : Record) (d : Date) (t : Time) (p : PlainDateTime) → IsWholeSecond t →
+    known.year ≡ Some (Dates.year d) → known.ordinal ≡ None → known.subsecond ≡ None →
+    ((r : Record) → ReadsAll greatest_year (leaves (month_day_parts y.in_date)) b r mid (in_year d r)) → mid ≡ y.between ∷ behind →
+    ((r : Record) → ReadsAll greatest_year (leaves (time_parts y.in_time)) behind r rest (timed t r)) → rest ≡ [] →
+    plain_date p ≡ d → plain_time p ≡ t →
+    ReadsOver (whole.InYear y) b known (λ r. IsPlain greatest_year r (Ok p))
+whole_in_year y b mid behind rest known d t p exact same_year no_ordinal no_fraction reads is read_time end same_date same_time =
+    let q = in_year d known in
+    over_end (whole.InYear y) b rest known (timed t q) (λ r. IsPlain greatest_year r (Ok p)) (in_year_some y)
+    (rows_read (month_day_parts y.in_date) (time_parts y.in_time) y.between b mid behind rest known q (timed t q)
+    (reads known) is (read_time q)) end (is_plain_in t exact known d p same_year no_ordinal no_fraction same_date same_time)
 
 moment_some : (m : InMoment) → whole.Moment m ≢ whole.Nothing
 moment_some m e = cc

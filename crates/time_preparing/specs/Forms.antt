@@ -5,11 +5,13 @@ use Rattle.time_components.specs.declared.format_description.Component.{Componen
 use Rattle.time_components.specs.declared.format_description.Component.TheVariants.{CalendarYearFullExtendedRange, CalendarYearFullStandardRange, MonthNumerical, MonthShort, Day, Hour24, Minute, Second, OffsetHour, OffsetMinute}
 use Rattle.time_components.specs.declared.step.Step.{Step}
 use Rattle.time_components.specs.declared.step.Step.TheVariants as step
+use Rattle.time_record.specs.Components.{is_pm}
 use Rattle.time_record.specs.Record.{Record}
 use Rattle.time_preparing.specs.declared.forms.Dated.{Dated}
 use Rattle.time_preparing.specs.declared.forms.Dated.TheVariants.{YearFirst, StandardYearFirst, DayFirst}
 use Rattle.time_preparing.specs.declared.forms.DateNumbers.{DateNumbers}
 use Rattle.time_preparing.specs.declared.forms.ClockNumbers.{ClockNumbers}
+use Rattle.time_preparing.specs.declared.forms.HalfNumbers.{HalfNumbers}
 use Rattle.time_preparing.specs.declared.forms.OffsetNumbers.{OffsetNumbers}
 use Rattle.time_preparing.specs.declared.forms.TheConstants.{YEAR, STANDARD_YEAR, MONTH, MONTH_NAME, DAY, HOUR, MINUTE, SECOND, OFFSET_HOUR, OFFSET_MINUTE}
 
@@ -77,3 +79,14 @@ with_offset n r =
 abbrev pub with_subsecond : Option ℕ → Record → Record
 with_subsecond None r = r
 with_subsecond (Some n) r = record r { subsecond = Some n }
+
+-- with a second and its nanoseconds, where there is one
+abbrev pub with_second : Option (ℕ × Option ℕ) → Record → Record
+with_second None r = r
+with_second (Some (s, n)) r = with_subsecond n (record r { second = Some s })
+
+-- with an hour of a half day, a minute, a second where there is one, and the half
+abbrev pub with_half : HalfNumbers → Record → Record
+with_half n r =
+    let hour = record r { hour_12 = Some n.hour; minute = Some n.minute } in
+    record (with_second n.second hour) { hour_12_is_pm = Some (is_pm n.half) }

@@ -1,6 +1,8 @@
 -- Descriptions whose texts have one form each, from their first byte to their last.
-use Rattle.std.specs.Prelude.{◌≡◌, ◌≢◌, ℕ, List, [], ◌∷◌, ◌++◌, pos, Ok, Some}
+use Rattle.std.specs.Prelude.{◌≡◌, ◌≢◌, ℕ, List, [], ◌∷◌, ◌++◌, pos, Ok, Option, None, Some, unwrap_or, false}
 use Rattle.time_components.specs.Steps.{steps_shape}
+use Rattle.time_components.specs.Tree.{Trees, component, literal, none, more}
+use Rattle.time_components.specs.declared.format_description.Component.TheVariants.{Hour12, Minute, Period}
 use Rattle.time_components.specs.declared.step.Step.{Step}
 use Rattle.time_components.specs.declared.step.Step.TheVariants as step
 use Rattle.time_record.specs.Reading.{Reads, ReadsAll}
@@ -14,21 +16,49 @@ use Rattle.time_values.specs.Times as Times
 use Rattle.time_values.specs.declared.date.Date.{Date}
 use Rattle.time_values.specs.declared.time.Time.{Time}
 use Rattle.time_values.specs.declared.utc_offset.UtcOffset.{UtcOffset}
+use Rattle.time_preparing.specs.declared.forms.InHalf.{InHalf}
+use Rattle.time_preparing.specs.declared.forms.InYear.{InYear}
 use Rattle.time_preparing.specs.declared.forms.OffsetNumbers.{OffsetNumbers}
+use Rattle.time_preparing.specs.declared.forms.TheConstants.{HOUR_12, MINUTE}
 use Rattle.time_preparing.specs.Forms.{byte_parts, dated_parts, offset_parts, time_parts}
-use Rattle.time_preparing.specs.Walk.{leaves}
+use Rattle.time_preparing.specs.Joined.{month_day_parts, second_parts}
+use Rattle.time_preparing.specs.Walk.{leaves, seconds_tree}
 use Rattle.time_preparing.specs.declared.whole.Whole.{Whole}
 use Rattle.time_preparing.specs.declared.whole.Whole.TheVariants as whole
+
+-- the steps of a time by the halves of the day
+abbrev pub half_parts : InHalf → List Step
+half_parts h =
+    step.Component (Hour12 HOUR_12) ∷ step.Literal h.in_time ∷ step.Component (Minute MINUTE)
+    ∷ (second_parts h.before_second h.point ++ step.Literal h.before_half ∷ step.Component (Period h.half) ∷ [])
+
+-- and their trees
+abbrev pub half_trees : InHalf → Trees
+half_trees h =
+    more (component false (Hour12 HOUR_12)) (more (literal (h.in_time ∷ [])) (more (component false (Minute MINUTE))
+    (more (seconds_tree h.before_second h.point) (more (literal (h.before_half ∷ []))
+    (more (component false (Period h.half)) none)))))
+
+-- the steps of a date without its year, and a time
+abbrev pub in_year_parts : InYear → List Step
+in_year_parts y = month_day_parts y.in_date ++ step.Literal y.between ∷ time_parts y.in_time
 
 -- the steps of the form
 abbrev pub whole_parts : Whole → List Step
 whole_parts whole.Nothing = []
 whole_parts (whole.Date form) = dated_parts form
 whole_parts (whole.Time b) = time_parts b
+whole_parts (whole.Half h) = half_parts h
+whole_parts (whole.InYear y) = in_year_parts y
 whole_parts (whole.Plain form between b) = dated_parts form ++ step.Literal between ∷ time_parts b
 whole_parts (whole.Moment m) =
     dated_parts m.date ++ step.Literal m.between
     ∷ (time_parts m.in_time ++ (byte_parts m.before_offset ++ offset_parts m.in_offset))
+
+-- and their trees
+abbrev pub whole_trees : Whole → Trees
+whole_trees (whole.Half h) = half_trees h
+whole_trees w = leaves (whole_parts w)
 
 -- What the list of these steps reads, the list of the others reads.
 abbrev pub IsLed : List Step → List Step → Type 0
@@ -39,21 +69,34 @@ IsLed list steps = (bytes : List ℕ) (r : Record) (rest : List ℕ) (new : Reco
 abbrev pub Leads : Whole → List Step → Type 0
 Leads whole.Nothing steps = Unit {0}
 Leads w steps = (bytes : List ℕ) (r : Record) (rest : List ℕ) (new : Record)
-    → ReadsAll greatest_year (leaves (whole_parts w)) bytes r rest new
+    → ReadsAll greatest_year (whole_trees w) bytes r rest new
     → Reads greatest_year (steps_shape steps) bytes r rest new
 
--- The form reads the whole of the bytes over an empty record, which has that property then.
+-- The form reads the whole of the bytes over the first record, and the other one has that property then.
+abbrev pub ReadsOver : Whole → List ℕ → Record → (Record → Type 0) → Type 0
+ReadsOver w bytes begin P =
+    (w ≢ whole.Nothing) × (r : Record) × ReadsAll greatest_year (whole_trees w) bytes begin [] r × P r
+
+-- the same over an empty record
 abbrev pub ReadsWhole : Whole → List ℕ → (Record → Type 0) → Type 0
-ReadsWhole w bytes P =
-    (w ≢ whole.Nothing) × (r : Record) × ReadsAll greatest_year (leaves (whole_parts w)) bytes empty [] r × P r
+ReadsWhole w bytes P = ReadsOver w bytes empty P
 
 -- the record with a date
 abbrev pub dated : Date → Record → Record
 dated d r = record r { year = Some (Dates.year d); month = Some (Dates.month d); day = Some (Dates.day d) }
 
+-- with a month and a day alone
+abbrev pub in_year : Date → Record → Record
+in_year d r = record r { month = Some (Dates.month d); day = Some (Dates.day d) }
+
 -- with a time up to its second
 abbrev pub timed : Time → Record → Record
 timed t r = record r { hour_24 = Some (Times.hour t); minute = Some (Times.minute t); second = Some (Times.second t) }
+
+-- a second and its nanosecond, which are 0 where they are missing
+abbrev pub clock_second : Option (ℕ × Option ℕ) → ℕ × ℕ
+clock_second None = (0, 0)
+clock_second (Some (s, n)) = (s, unwrap_or n 0)
 
 -- no nanosecond
 abbrev pub IsWholeSecond : Time → Type 0

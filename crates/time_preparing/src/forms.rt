@@ -5,7 +5,7 @@ ghost use Rattle.time_preparing.specs.Forms.{date_parts, day_first_parts, offset
 pub(crate) mod fast;
 
 use std::num::NonZero;
-use time_components::{Component, Padding, Step, SubsecondDigits, modifier};
+use time_components::{Component, Padding, Period, Step, SubsecondDigits, modifier};
 use time_values::Month;
 
 /// A date, with one byte between its parts.
@@ -34,6 +34,32 @@ pub struct InMoment {
     pub in_offset: Option<u8>,
 }
 
+/// A time by the halves of the day, as `1:05:09.25 PM`; the second with its fraction, and the fraction, may be missing.
+#[derive(Clone, Copy, Debug, PartialEq, Eq)]
+pub struct InHalf {
+    /// The byte before the minute.
+    pub in_time: u8,
+    /// The byte before the second.
+    pub before_second: u8,
+    /// The byte before the fraction.
+    pub point: u8,
+    /// The byte before the half.
+    pub before_half: u8,
+    /// How the half is written.
+    pub half: modifier::Period,
+}
+
+/// A date without its year, and a time, as `Mar  4 05:06:07`.
+#[derive(Clone, Copy, Debug, PartialEq, Eq)]
+pub struct InYear {
+    /// The byte before the day.
+    pub in_date: u8,
+    /// The byte before the time.
+    pub between: u8,
+    /// The byte between the parts of the time.
+    pub in_time: u8,
+}
+
 /// The numbers of a date.
 #[derive(Clone, Copy)]
 pub(crate) struct DateNumbers {
@@ -48,6 +74,15 @@ pub(crate) struct ClockNumbers {
     pub hour: u8,
     pub minute: u8,
     pub second: u8,
+}
+
+/// The numbers of a time by the halves of the day. A second has its nanoseconds beside it, if there are any.
+#[derive(Clone, Copy)]
+pub(crate) struct HalfNumbers {
+    pub hour: u8,
+    pub minute: u8,
+    pub second: Option<(u8, Option<u32>)>,
+    pub half: Period,
 }
 
 /// The numbers of an offset: its hour with its sign, whether that is a minus, and its minute without one.
@@ -84,6 +119,10 @@ pub(crate) const DAY: modifier::Day = modifier::Day {
 
 pub(crate) const SPACED_DAY: modifier::Day = modifier::Day {
     padding: Padding::Space,
+};
+
+pub(crate) const HOUR_12: modifier::Hour12 = modifier::Hour12 {
+    padding: Padding::None,
 };
 
 pub(crate) const HOUR: modifier::Hour24 = modifier::Hour24 {
@@ -246,8 +285,10 @@ fn is_same_component(component: &Component, other: &Component) -> bool
         Component::MonthNumerical(month) => is_variant!(component, MonthNumerical, month),
         Component::MonthShort(month) => is_variant!(component, MonthShort, month),
         Component::Day(day) => is_variant!(component, Day, day),
+        Component::Hour12(hour) => is_variant!(component, Hour12, hour),
         Component::Hour24(hour) => is_variant!(component, Hour24, hour),
         Component::Minute(minute) => is_variant!(component, Minute, minute),
+        Component::Period(period) => is_variant!(component, Period, period),
         Component::Second(second) => is_variant!(component, Second, second),
         Component::Subsecond(fraction) => is_variant!(component, Subsecond, fraction),
         Component::OffsetHour(hour) => is_variant!(component, OffsetHour, hour),

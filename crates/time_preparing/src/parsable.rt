@@ -87,10 +87,8 @@ impl<const N: usize> Parsable for Prepared<N> {
         input: &[u8],
         defaults: Option<Parsed>,
     ) -> Result<PlainDateTime, Parse> {
-        if defaults.is_none() {
-            if let Some(value) = fast::date_time(self, input) {
-                return Ok(value);
-            }
+        if let Some(value) = fast::date_time(self, input, &defaults) {
+            return Ok(value);
         }
         over_record::<N, PlainDateTime>(self, input, &defaults)
     }

@@ -3,7 +3,7 @@ ghost use Rattle.time_preparing.specs.Whole.{Leads};
 
 pub mod fast;
 
-pub use crate::forms::{Dated, InMoment};
+pub use crate::forms::{Dated, InHalf, InMoment, InYear};
 use time_components::Step;
 
 /// The form of a whole text.
@@ -15,6 +15,10 @@ pub enum Whole {
     Date(Dated),
     /// A time with this byte between its parts.
     Time(u8),
+    /// A time by the halves of the day.
+    Half(InHalf),
+    /// A date without its year, and a time.
+    InYear(InYear),
     /// A date, this byte, and a time.
     Plain(Dated, u8, u8),
     /// A date, a time and an offset.

@@ -2,7 +2,7 @@
 //!
 //! Each answers the numbers and the rest that the form's steps read one after the other, each number in its range, or
 //! `None`: not this form.
-ghost use Rattle.std.specs.Prelude.{◌≡◌, ◌∷◌, ◌++◌, ◌≤◌, IfSome, ℕ, false, true, nat_le, pos, unsigned_abs, FitsSigned};
+ghost use Rattle.std.specs.Prelude.{◌≡◌, ◌∷◌, ◌++◌, ◌≤◌, IfSome, ℕ, List, false, true, nat_le, pos, unsigned_abs, FitsSigned};
 ghost use Rattle.std.specs.Int.{w8, w32};
 ghost use Rattle.time_values.specs.Range.{greatest_year};
 ghost use Rattle.time_digits.specs.Cuts.{Cut};
@@ -10,10 +10,11 @@ ghost use Rattle.time_digits.specs.Digits.{IsPaddedRun};
 ghost use Rattle.time_digits.specs.declared.Padding.TheVariants.{Space, Zero};
 ghost use Rattle.time_components.specs.Spelling.{Says, Spells, month as month_, number, signed};
 ghost use Rattle.time_components.specs.declared.format_description.Component.TheVariants as component;
+ghost use Rattle.time_components.specs.Tree.{more, none as none_};
 ghost use Rattle.time_record.specs.Record.{Record};
-ghost use Rattle.time_record.specs.Reading.{ReadsAll};
-ghost use Rattle.time_preparing.specs.Forms.{bytes_of, date_parts, day_first_parts, dated_parts, offset_parts, standard_date_parts, time_parts, with_clock, with_date, with_offset};
-ghost use Rattle.time_preparing.specs.Walk.{leaves};
+ghost use Rattle.time_record.specs.Reading.{Reads, ReadsAll};
+ghost use Rattle.time_preparing.specs.Forms.{bytes_of, date_parts, day_first_parts, dated_parts, offset_parts, standard_date_parts, time_parts, with_clock, with_date, with_offset, with_second, with_subsecond};
+ghost use Rattle.time_preparing.specs.Walk.{fraction_tree, leaves, seconds_tree};
 
 use super::{
     ClockNumbers, DAY, DateNumbers, Dated, MONTH, MONTH_NAME, OFFSET_HOUR, OFFSET_MINUTE,
@@ -22,7 +23,7 @@ use super::{
 use std::num::NonZero;
 use time_components::combinator::{four_digits, one_or_two_digits, two_digits};
 use time_components::component::fast;
-use time_components::{Padding, ParsedItem, modifier};
+use time_components::{Padding, ParsedItem, SubsecondDigits, modifier};
 use time_values::Month;
 
 /// What stands after this byte. `None`: another byte stands there.
@@ -259,4 +260,54 @@ pub(crate) fn offset(between: Option<u8>, input: &[u8]) -> Option<(OffsetNumbers
         minute: minute.1,
     };
     Some((numbers, minute.0))
+}
+
+// Whether this byte stands first.
+#[inline(always)]
+fn begins_with(input: &[u8], byte: u8) -> bool
+    ensures { result ≡ false → (rest : List ℕ) → input.now ≡ byte ∷ rest → ⊥ }
+{
+    match input {
+        [first, ..] => *first == byte,
+        _ => false,
+    }
+}
+
+/// The nanoseconds of a fraction after this byte, and the rest. Where that byte doesn't stand there is no fraction.
+#[inline(always)]
+pub(crate) fn fraction(input: &[u8], point: u8) -> Option<(Option<u32>, &[u8])>
+    ensures reads { IfSome result (λ f. (r : Record) → Reads greatest_year (fraction_tree point)
+        input.now r f.1.now (with_subsecond f.0 r)) }
+    ensures within { IfSome result (λ f. IfSome f.0 (λ n. n ≤ 999_999_999)) }
+{
+    if !begins_with(input, point) {
+        return Some((None, input));
+    }
+    let fraction = fast::subsecond(after(input, point)?, SubsecondDigits::OneOrMore)?;
+    if fraction.1 > 999_999_999 {
+        return None;
+    }
+    Some((Some(fraction.1), fraction.0))
+}
+
+/// A second after this byte with such a fraction, and the rest. Where that byte doesn't stand there is no second.
+#[inline(always)]
+pub(crate) fn second(
+    input: &[u8],
+    between: u8,
+    point: u8,
+) -> Option<(Option<(u8, Option<u32>)>, &[u8])>
+    ensures reads { IfSome result (λ f. (r : Record) → ReadsAll greatest_year (more (seconds_tree between point) none_)
+        input.now r f.1.now (with_second f.0 r)) }
+    ensures within { IfSome result (λ f. IfSome f.0 (λ s. (s.0 ≤ 60) × IfSome s.1 (λ n. n ≤ 999_999_999))) }
+{
+    if !begins_with(input, between) {
+        return Some((None, input));
+    }
+    let second = two_places(after(input, between)?, Padding::Zero)?;
+    let fraction = fraction(second.0, point)?;
+    if second.1 > 60 {
+        return None;
+    }
+    Some((Some((second.1, fraction.0)), fraction.1))
 }

@@ -7,10 +7,11 @@ ghost use Rattle.time_record.specs.Reading.{Reads, Refuses};
 ghost use Rattle.time_record.specs.Record.{empty};
 ghost use Rattle.time_record.specs.Resolution.{IsDated, IsMoment, IsPlain, IsTimed};
 ghost use Rattle.time_values.specs.Range.{greatest_year};
-ghost use Rattle.time_parsing.specs.Outcome.{IsOutcome};
+ghost use Rattle.time_parsing.specs.Outcome.{begun, IsOutcome};
 
 use crate::Prepared;
-use crate::whole::fast;
+use crate::whole::fast::{self, in_year};
+use time_record::Parsed;
 use time_values::{Date, OffsetDateTime, PlainDateTime, Time};
 
 /// The date of a whole text. `None`: not this form.
@@ -31,13 +32,21 @@ pub(super) fn time<const N: usize>(format: &Prepared<N>, input: &[u8]) -> Option
     fast::time(format.whole(), input)
 }
 
-/// The date and time of a whole text. `None`: not this form.
+/// The date and time of a whole text over the defaults. `None`: not this form.
 #[inline(always)]
-pub(super) fn date_time<const N: usize>(format: &Prepared<N>, input: &[u8]) -> Option<PlainDateTime>
+pub(super) fn date_time<const N: usize>(
+    format: &Prepared<N>,
+    input: &[u8],
+    defaults: &Option<Parsed>,
+) -> Option<PlainDateTime>
     ensures { IfSome result (λ v. IsOutcome (IsPlain greatest_year) (Reads greatest_year (steps_shape format.now))
-        (Refuses greatest_year (steps_shape format.now)) input.now empty (Ok v)) }
+        (Refuses greatest_year (steps_shape format.now)) input.now (begun defaults.now) (Ok v)) }
 {
-    fast::date_time(format.whole(), input)
+    let whole = format.whole();
+    match defaults {
+        Some(known) => in_year::date_time(whole, input, known),
+        None => fast::date_time(whole, input),
+    }
 }
 
 /// The moment of a whole text. `None`: not this form.

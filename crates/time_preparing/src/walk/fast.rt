@@ -10,15 +10,14 @@ ghost use Rattle.time_record.specs.Components.{is_pm as is_pm_};
 ghost use Rattle.time_record.specs.Record.{Record};
 ghost use Rattle.time_record.specs.Reading.{Reads};
 ghost use Rattle.time_record.specs.WalkFast.{MayRead};
-ghost use Rattle.time_preparing.specs.Forms.{with_subsecond};
+ghost use Rattle.time_preparing.specs.Forms.{with_second, with_subsecond};
 ghost use Rattle.time_preparing.specs.Walk.{fraction_tree, MayReadAll, seconds_tree};
 
-use crate::forms::SECOND;
-use crate::forms::fast::{self, after};
+use crate::forms::fast;
 use std::num::NonZero;
-use time_components::component::fast::{ordinal as three_digits, subsecond};
+use time_components::component::fast::ordinal as three_digits;
 use time_components::component::parse_period;
-use time_components::{Component, Period, SubsecondDigits, modifier};
+use time_components::{Component, Period, modifier};
 use time_record::Parsed;
 
 // Reads a component. The commonest ones are read with no call.
@@ -240,34 +239,6 @@ fn offset_minute<'a>(
     Some(found.0)
 }
 
-// The nanoseconds of a fraction after this byte, and the rest. Where that byte doesn't stand there is no fraction.
-#[inline(always)]
-fn fraction_of(input: &[u8], point: u8) -> Option<(Option<u32>, &[u8])>
-    ensures reads { IfSome result (λ f. (r : Record) → Reads greatest_year (fraction_tree point)
-        input.now r f.1.now (with_subsecond f.0 r)) }
-    ensures within { IfSome result (λ f. IfSome f.0 (λ n. n ≤ 999_999_999)) }
-{
-    if !begins_with(input, point) {
-        return Some((None, input));
-    }
-    let fraction = subsecond(after(input, point)?, SubsecondDigits::OneOrMore)?;
-    if fraction.1 > 999_999_999 {
-        return None;
-    }
-    Some((Some(fraction.1), fraction.0))
-}
-
-// Whether this byte stands first.
-#[inline(always)]
-fn begins_with(input: &[u8], byte: u8) -> bool
-    ensures { result ≡ false → (rest : List ℕ) → input.now ≡ byte ∷ rest → ⊥ }
-{
-    match input {
-        [first, ..] => *first == byte,
-        _ => false,
-    }
-}
-
 // Puts nanoseconds, if there are any.
 #[inline(always)]
 fn put_fraction(parsed: &mut Parsed, fraction: Option<u32>)
@@ -279,12 +250,24 @@ fn put_fraction(parsed: &mut Parsed, fraction: Option<u32>)
     }
 }
 
+// Puts a second with its nanoseconds, if there is one.
+#[inline(always)]
+fn put_second(parsed: &mut Parsed, second: Option<(u8, Option<u32>)>)
+    requires { IfSome second (λ s. (s.0 ≤ 60) × IfSome s.1 (λ n. n ≤ 999_999_999)) }
+    ensures { parsed.new ≡ with_second second parsed.old }
+{
+    if let Some((number, fraction)) = second {
+        parsed.set_second(number);
+        put_fraction(parsed, fraction);
+    }
+}
+
 // Reads a fraction that may be missing.
 #[inline(always)]
 pub(super) fn fraction<'a>(parsed: &mut Parsed, input: &'a [u8], point: u8) -> Option<&'a [u8]>
     ensures { MayReadAll greatest_year (more (fraction_tree point) none_) input.now parsed.old result parsed.new }
 {
-    let found = fraction_of(input, point)?;
+    let found = fast::fraction(input, point)?;
     put_fraction(parsed, found.0);
     Some(found.1)
 }
@@ -300,15 +283,7 @@ pub(super) fn seconds<'a>(
     ensures { MayReadAll greatest_year (more (seconds_tree between point) none_)
         input.now parsed.old result parsed.new }
 {
-    if !begins_with(input, between) {
-        return Some(input);
-    }
-    let second = fast::two_places(after(input, between)?, SECOND.padding)?;
-    let found = fraction_of(second.0, point)?;
-    if second.1 > 60 {
-        return None;
-    }
-    parsed.set_second(second.1)?;
-    put_fraction(parsed, found.0);
+    let found = fast::second(input, between, point)?;
+    put_second(parsed, found.0);
     Some(found.1)
 }

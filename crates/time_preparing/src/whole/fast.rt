@@ -13,6 +13,8 @@ ghost use Rattle.time_preparing.specs.Walk.{leaves};
 ghost use Rattle.time_preparing.specs.Whole.{dated, IsLed, IsOf, IsWholeSecond, Leads, ReadsWhole, timed, whole_parts};
 ghost use Rattle.time_components.specs.declared.step.Step.TheVariants as step_;
 
+mod halves;
+pub(crate) mod in_year;
 pub mod values;
 
 use super::Whole;
@@ -23,6 +25,13 @@ use crate::forms::{
 };
 use time_components::{Group, Step};
 use time_values::{Date, OffsetDateTime, PlainDateTime, Time, UtcOffset};
+
+// At least so many bytes has a text of a date, a time and an offset. Where they are there, no reader looks for their ends.
+const DATE_LEN: usize = 10;
+
+const TIME_LEN: usize = 8;
+
+const OFFSET_LEN: usize = 5;
 
 /// The form of the texts that these steps read; where they are a choice that begins with a list, of those that this reads.
 /// `None`: none of the known forms.
@@ -76,6 +85,12 @@ fn form(steps: &[Step]) -> Option<Whole>
 {
     if let Some(between) = time_form(steps) {
         return Some(Whole::Time(between));
+    }
+    if let Some(form) = halves::form(steps) {
+        return Some(Whole::Half(form));
+    }
+    if let Some(form) = in_year::form(steps) {
+        return Some(Whole::InYear(form));
     }
     if steps.len() < 5 {
         return None;
@@ -227,6 +242,9 @@ pub(crate) fn date(whole: &Whole, input: &[u8]) -> Option<Date>
     let Whole::Date(form) = whole else {
         return None;
     };
+    if input.len() < DATE_LEN {
+        return None;
+    }
     let (date, rest) = date_of(form, input)?;
     if !rest.is_empty() {
         return None;
@@ -240,8 +258,11 @@ pub(crate) fn time(whole: &Whole, input: &[u8]) -> Option<Time>
     ensures { IfSome result (λ v. ReadsWhole whole.now input.now (λ r. IsTimed r (Ok v))) }
 {
     let Whole::Time(between) = whole else {
-        return None;
+        return halves::time(whole, input);
     };
+    if input.len() < TIME_LEN {
+        return None;
+    }
     let (time, rest) = time_of(*between, input)?;
     if !rest.is_empty() {
         return None;
@@ -257,6 +278,9 @@ pub(crate) fn date_time(whole: &Whole, input: &[u8]) -> Option<PlainDateTime>
     let Whole::Plain(form, between, in_time) = whole else {
         return None;
     };
+    if input.len() < DATE_LEN + 1 + TIME_LEN {
+        return None;
+    }
     let (date, behind) = date_of(form, input)?;
     let (time, rest) = time_of(*in_time, after(behind, *between)?)?;
     if !rest.is_empty() {
@@ -271,6 +295,13 @@ pub(crate) fn moment(whole: &Whole, input: &[u8]) -> Option<OffsetDateTime>
     ensures { IfSome result (λ v. ReadsWhole whole.now input.now (λ r. IsMoment greatest_year r (Ok v))) }
 {
     let Whole::Moment(form) = whole else {
+        return None;
+    };
+    if input.len() < DATE_LEN + 1 + TIME_LEN + OFFSET_LEN {
+        return None;
+    }
+    // The minute of the offset is read last, so that it is looked at first.
+    let [.., b'0'..=b'5', b'0'..=b'9'] = input else {
         return None;
     };
     let (date, behind) = date_of(&form.date, input)?;

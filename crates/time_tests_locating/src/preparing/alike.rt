@@ -31,11 +31,17 @@ static TIMES: [Row; 4] = [
 const LOCAL: &[u8] =
     b"[first [[year]-[month]-[day] [hour]:[minute]:[second] [offset_hour sign:mandatory]:[offset_minute]] [[year]-[ordinal]]]";
 
-static GROUPS: [Row; 4] = [
-    (
-        b"[hour repr:12 padding:none]:[minute][optional [:[second][optional [.[subsecond]]]]] [period]",
-        b"1:05:09.25 PM",
-    ),
+const CLOCK: &[u8] =
+    b"[hour repr:12 padding:none]:[minute][optional [:[second][optional [.[subsecond]]]]] [period]";
+
+const EITHER_CASE: &[u8] =
+    b"[hour repr:12 padding:none]x[minute][optional [x[second][optional [x[subsecond]]]]]x[period case_sensitive:false]";
+
+static GROUPS: [Row; 7] = [
+    (CLOCK, b"1:05:09.25 PM"),
+    (CLOCK, b"12:59 AM"),
+    (EITHER_CASE, b"12x00x59x1xpm"),
+    (EITHER_CASE, b"2x30x60xAM"),
     (LOCAL, b"2021-01-02 03:04:05 -00:30"),
     (LOCAL, b"2020-366"),
     (
@@ -44,9 +50,11 @@ static GROUPS: [Row; 4] = [
     ),
 ];
 
-static MOMENTS: [Row; 5] = [
+static MOMENTS: [Row; 7] = [
     (b"%Y-%m-%dT%H:%M:%S%z", b"2021-01-02T23:59:60-0030"),
     (b"%b %e %H:%M:%S", b"Mar  4 05:06:07"),
+    (b"%b %e %H:%M:%S", b"Feb 29 23:59:60"),
+    (b"%b/%e/%H-%M-%S", b"Dec/31/00-00-00x"),
     (
         b"[year]-[month]-[day] [hour]:[minute]:[second]",
         b"2020-02-29 23:59:59",
@@ -143,9 +151,21 @@ pub fn values_of<F: Parsable>(format: &F, text: &[u8]) -> Values {
     )
 }
 
-// Whether both read the text alike over the record, and make the same of the whole text without it.
-fn is_alike_in_all(both: &Both, text: &[u8], known: Parsed) -> bool {
-    is_alike(both, text, known)
+// Whether both make the same date and time of the whole text over the record.
+fn is_alike_over(both: &Both, text: &[u8], known: Parsed) -> bool {
+    let walked = both.description.parse_plain_date_time(text, Some(known));
+    walked == both.prepared.parse_plain_date_time(text, Some(known))
+}
+
+// Whether both read the text alike over the last of the records, and make the same of the whole text over each and
+// without one.
+fn is_alike_in_all(both: &Both, text: &[u8], records: &[Parsed; 4]) -> bool {
+    for known in records {
+        if !is_alike_over(both, text, *known) {
+            return false;
+        }
+    }
+    is_alike(both, text, records[3])
         && values_of(&both.description, text) == values_of(&both.prepared, text)
 }
 
@@ -153,7 +173,7 @@ fn is_alike_in_all(both: &Both, text: &[u8], known: Parsed) -> bool {
 const ROOM: usize = 32;
 
 // Whether both read each text alike that differs from the first one in that byte alone.
-fn are_alike_at(both: &Both, text: &[u8], at: usize, known: Parsed) -> bool {
+fn are_alike_at(both: &Both, text: &[u8], at: usize, records: &[Parsed; 4]) -> bool {
     let mut bytes = [0; ROOM];
     let Some(changed) = bytes.get_mut(..text.len()) else {
         return false;
@@ -164,25 +184,37 @@ fn are_alike_at(both: &Both, text: &[u8], at: usize, known: Parsed) -> bool {
             return false;
         };
         *place = byte;
-        if !is_alike_in_all(both, changed, known) {
+        if !is_alike_in_all(both, changed, records) {
             return false;
         }
     }
     true
 }
 
+// Records that are known before: a year alone, with the fraction of a second, and with a day in it; and such a day alone.
+fn known_records() -> Option<[Parsed; 4]> {
+    let year = Parsed::new().with_year(2020)?;
+    Some([
+        year,
+        year.with_subsecond(1)?,
+        year.with_ordinal(NonZero::<u16>::MIN)?,
+        Parsed::new().with_ordinal(NonZero::<u16>::MIN)?,
+    ])
+}
+
 // Whether both read each text alike that differs from the first one in one byte, and each front of it.
 fn are_alike(both: &Both, text: &[u8]) -> bool {
-    let known = Parsed::new().with_ordinal(NonZero::<u16>::MIN);
-    let Some(known) = known else {
+    let Some(records) = known_records() else {
         return false;
     };
     for at in 0..text.len() {
-        if !is_alike_in_all(both, &text[..at], known) || !are_alike_at(both, text, at, known) {
+        if !is_alike_in_all(both, &text[..at], &records)
+            || !are_alike_at(both, text, at, &records)
+        {
             return false;
         }
     }
-    is_alike(both, text, Parsed::new())
+    is_alike_in_all(both, text, &records) && is_alike(both, text, Parsed::new())
 }
 
 fn assert_alike(rt: &impl Abort, rows: &[Row]) {

@@ -56,7 +56,7 @@ const HALVES: &[u8] =
 // A description, a text, and its hour, minute, second and nanosecond.
 type TimeRow = (&'static [u8], &'static str, Option<(u8, u8, u8, u32)>);
 
-static TIMES: [TimeRow; 11] = [
+static TIMES: [TimeRow; 15] = [
     (CLOCK, "23:59:58", Some((23, 59, 58, 0))),
     (CLOCK, "24:00:00", None),
     (CLOCK, "23:60:00", None),
@@ -68,6 +68,10 @@ static TIMES: [TimeRow; 11] = [
     (HALVES, "1:05:09.25 PM", Some((13, 5, 9, 250_000_000))),
     (HALVES, "1:05:09 PM", Some((13, 5, 9, 0))),
     (HALVES, "12:05 AM", Some((0, 5, 0, 0))),
+    (HALVES, "12:05:09.000000001 PM", Some((12, 5, 9, 1))),
+    (HALVES, "13:05 AM", None),
+    (HALVES, "0:05 AM", None),
+    (HALVES, "1:05:60 PM", None),
     (HALVES, "1:05: PM", None),
 ];
 

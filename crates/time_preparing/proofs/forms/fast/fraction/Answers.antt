@@ -1,7 +1,7 @@
 use Rattle.std.proofs.Common.{arith}
 use Rattle.time_values.specs.Range.{greatest_year}
 use Rattle.time_preparing.proofs.Parts.{fraction_read, no_fraction}
-use Rattle.time_preparing.proofs.walk.fast.fraction_of.Goals as goal
+use Rattle.time_preparing.proofs.forms.fast.fraction.Goals as goal
 
 pub returns-then-not-begins_with-clause-reads : goal.returns-then-not-begins_with-clause-reads
 returns-then-not-begins_with-clause-reads c = λ r.

@@ -2,6 +2,7 @@ mod calling;
 mod clocks;
 mod finding;
 mod moments;
+mod suffixes;
 
 use std::alloc::Global;
 use time_values::{Date, Month, OffsetDateTime, PlainDateTime, Time};

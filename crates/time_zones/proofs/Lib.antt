@@ -3,3 +3,9 @@ pub mod ZoneLemmas
 pub mod RowLemmas
 pub mod AnswerLemmas
 pub mod NameLemmas
+pub mod PassLemmas
+pub mod BracketLemmas
+pub mod SuffixTextLemmas
+pub mod SuffixLemmas
+pub mod LongestLemmas
+pub mod SuffixNameLemmas

@@ -30,7 +30,7 @@ split_first c [] ys h = rw (same_test c)
 split_first c (x ∷ xs) ys h = rw (head_differs c x xs h, split_first c xs ys (tail_lacks c x xs h))
 
 -- what holds of all of a list holds of its first and of the others
-all_cons : {X : Type 0} (P : X → Type 0) (x : X) (xs : List X) → P x → All P xs → All P (x ∷ xs)
+pub all_cons : {X : Type 0} (P : X → Type 0) (x : X) (xs : List X) → P x → All P xs → All P (x ∷ xs)
 all_cons P x xs first others zero d l = first
 all_cons P x xs first others (suc k) d l = others k d (omega arith)
 

@@ -2,5 +2,8 @@ pub mod Zones
 pub mod Spread
 pub mod Rows
 pub mod Names
+pub mod Suffix
+pub mod SuffixFronts
+pub mod SuffixValues
 pub mod Finding
 pub mod Texts

@@ -35,7 +35,7 @@ pub fn offset_at(zone: &TimeZone<'_>, moment: OffsetDateTime) -> Option<UtcOffse
     ensures told { IsSome result ↔ IsTold moment }
     ensures value { IfSome result (λ o. offset_seconds o ≡ Zone.offset_at zone.now (offset_instant greatest_year moment)) }
 {
-    if let Some(offset) = fast::offset_by_rows(zone, moment.unix_timestamp()) {
+    if let Some(offset) = fast::offset_in_second(zone, moment.unix_timestamp()) {
         return Some(offset_from(offset));
     }
     let Ok(stamp) = Timestamp::from_nanosecond(moment.unix_timestamp_nanos()) else {
@@ -52,6 +52,23 @@ pub fn checked_to_zone(moment: OffsetDateTime, zone: &TimeZone<'_>) -> Option<Of
 {
     let offset = offset_at(zone, moment)?;
     Some(moment.to_offset(offset))
+}
+
+// Whether the offsets are the same.
+fn is_same(a: UtcOffset, b: UtcOffset) -> bool
+    ensures { IsTrue result ↔ (offset_seconds a ≡ offset_seconds b) }
+{
+    a.whole_seconds() == b.whole_seconds()
+}
+
+/// Whether the moment has the offset of the zone, as the one of `2026-11-27T15:00:00+01:00[Europe/Berlin]` does. `None`
+/// where [`offset_at`] is. An offset of whole minutes is no offset that has seconds, as many had before 1920.
+pub fn has_zone_offset(moment: OffsetDateTime, zone: &TimeZone<'_>) -> Option<bool>
+    ensures told { IsSome result ↔ IsTold moment }
+    ensures value { IfSome result (λ same. IsTrue same ↔ HasZoneOffset zone.now moment) }
+{
+    let shown = offset_at(zone, moment)?;
+    Some(is_same(moment.offset(), shown))
 }
 
 /// Why a date and time isn't one moment on the clocks of a zone.

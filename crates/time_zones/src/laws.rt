@@ -1,5 +1,6 @@
 //! Laws of the clocks of zones: each contract is a law of what the function hands out.
 ghost use Rattle.std.specs.Prelude.{◌≡◌, ◌↔◌, Some, IsSome, IfSome, Result};
+ghost use Rattle.time_zones.specs.Suffix.{OneSuffix, NamesInFolder};
 ghost use Rattle.time_zones.specs.Zones.{IsTold, HasZoneOffset, IsAnswer, GivesBack};
 ghost use Rattle.time_zones.specs.declared.clocks.NotOne.{NotOne as NotOne_};
 ghost use Rattle.time_values.specs.declared.offset_date_time.OffsetDateTime.{OffsetDateTime as Moment};
@@ -33,3 +34,14 @@ pub fn law_one_answer(clock: PlainDateTime, zone: &TimeZone<'_>) -> Result<Offse
 {
     assume_zone(clock, zone)
 }
+
+/// A text is a suffix in one way: with one zone or none, and with one list of tags.
+pub fn law_one_suffix()
+    ensures { OneSuffix }
+{}
+
+/// The name of a zone in a suffix is that of a file in the folder of zones.
+#[tactic(auto, using(crate::proofs::SuffixNameLemmas::names_in_folder))]
+pub fn law_names_in_folder()
+    ensures { NamesInFolder }
+{}

@@ -1,4 +1,4 @@
-//! Moments on the clocks of named time zones.
+//! Moments on the clocks of named time zones, and the suffixes of times that name one.
 #![tactic(auto)]
 
 mod clocks;
@@ -7,11 +7,15 @@ mod finding;
 mod laws;
 mod place;
 mod spread;
+mod suffix;
 mod zone_fault;
 
-pub use clocks::{NotOne, assume_zone, checked_to_zone, offset_at};
+pub use clocks::{NotOne, assume_zone, checked_to_zone, has_zone_offset, offset_at};
 pub use files::{ReadFault, ZoneFiles};
 pub use finding::{NamedZone, find_zone, find_zone_in};
 pub use jiff_tz::TimeZone;
-pub use laws::{law_left_as_it_is, law_one_answer, law_read_back};
+pub use laws::{
+    law_left_as_it_is, law_names_in_folder, law_one_answer, law_one_suffix, law_read_back,
+};
+pub use suffix::{Suffixed, ZoneTag, ZoneText, read_suffix};
 pub use zone_fault::ZoneFault;

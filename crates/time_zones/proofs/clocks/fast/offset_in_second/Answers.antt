@@ -1,0 +1,26 @@
+use Rattle.std.proofs.Common.{◌∙◌, sym, arith}
+use Rattle.std.specs.Int.{w64}
+use Rattle.std.proofs.lemmas.Int.{to_z-of_z}
+use Rattle.jiff_core.proofs.SignedLemmas.{signed_arith}
+use Rattle.time_zones.specs.Rows.{HasOneOffset}
+use Rattle.time_zones.proofs.RowLemmas.{if_some, second_told, zone_row, zone_rule}
+use Rattle.time_zones.proofs.clocks.fast.offset_in_second.Goals as goal
+
+pub returns-in-Tzif : goal.returns-in-Tzif
+returns-in-Tzif c =
+    let kept = to_z-of_z w64 c.args.second c.ranges.second in
+    if_some c.offset_by_rows.result _ _
+    (λ o is_offset n is. (
+      second_told n c.args.second is (omega (arith, signed_arith, c.if-second-lt-FIRST_SECOND.false))
+          (omega (arith, signed_arith, c.if-second-gt-LAST_SECOND.false)),
+      zone_row c.args.zone.now c.in-Tzif.table n o.seconds c.in-Tzif.is (is_offset n (is ∙ sym kept)),
+    )) c.offset_by_rows.ensures
+
+pub returns-in-Posix : goal.returns-in-Posix
+returns-in-Posix c =
+    if_some c.rule_offset.result (HasOneOffset c.in-Posix.rule) _
+    (λ o one n is. (
+      second_told n c.args.second is (omega (arith, signed_arith, c.if-second-lt-FIRST_SECOND.false))
+          (omega (arith, signed_arith, c.if-second-gt-LAST_SECOND.false)),
+      zone_rule c.args.zone.now c.in-Posix.rule o n c.in-Posix.is one,
+    )) c.rule_offset.ensures

@@ -1,0 +1,15 @@
+use Rattle.std.proofs.Common.{◌==◌, rules, tests}
+use Rattle.std.proofs.lemmas.Iterator.{cases_from_all}
+use Rattle.std.proofs.lemmas.Iterator.Splits.{YieldsList-from_slice_split}
+use Rattle.std.specs.List.{slice_split}
+use Rattle.time_zones.specs.Suffix.{IsTimeZonePart}
+use Rattle.time_zones.proofs.PassLemmas.{true_of_all}
+use Rattle.time_zones.proofs.suffix.texts.is_zone_name.Goals as goal
+
+pub returns : goal.returns
+returns c =
+    true_of_all IsTimeZonePart (slice_split (λ b. b == 47) c.args.name.now) c.all.result
+    (cases_from_all _ _ _ IsTimeZonePart (λ part. IsTimeZonePart part → ⊥) c.all.ensures.ran
+    (YieldsList-from_slice_split _ (λ b. b == 47) c.args.name.now c.split.ensures.rest c.split.ensures.done c.split.ensures.closure
+    (λ x r q k. search (rules, tests)))
+    (λ x q k. search (rules, tests)) (λ x q k. search (rules, tests)))

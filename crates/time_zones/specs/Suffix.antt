@@ -1,0 +1,148 @@
+-- The suffix that RFC 9557, section 4.1, puts behind a time of RFC 3339. Each definition has the rule of its grammar.
+use Rattle.std.specs.Prelude.{◌≡◌, ◌≢◌, ◌⊎◌, ℕ, ◌+◌, ◌*◌, ◌/◌, ◌%◌, ◌<◌, ◌≤◌, Bool, true, false, ◌||◌, ◌==◌, IsTrue, List, [], ◌∷◌, ◌++◌, length, take, All, Option, Some, None, if◌then◌else◌, codes, pos, neg_ℤ}
+use Rattle.std.specs.Char.{is_ascii_alphabetic, is_ascii_alphanumeric, is_ascii_digit, is_ascii_lowercase}
+use Rattle.std.specs.List.{AllPass, slice_split}
+use Rattle.time_values.specs.Offsets.{offset_seconds}
+use Rattle.time_values.specs.declared.utc_offset.UtcOffset.{UtcOffset}
+use Rattle.time_zones.specs.Names.{IsZoneName}
+
+-- time-zone-initial: a letter, a dot or an underscore
+abbrev pub is_zone_initial : ℕ → Bool
+is_zone_initial b = is_ascii_alphabetic b || b == 46 || b == 95
+
+-- time-zone-char: one of these, a digit, a dash or a plus
+abbrev pub is_zone_char : ℕ → Bool
+is_zone_char b = is_zone_initial b || is_ascii_digit b || b == 45 || b == 43
+
+-- key-initial: a small letter or an underscore
+abbrev pub is_key_initial : ℕ → Bool
+is_key_initial b = is_ascii_lowercase b || b == 95
+
+-- key-char: one of these, a digit or a dash
+abbrev pub is_key_char : ℕ → Bool
+is_key_char b = is_key_initial b || is_ascii_digit b || b == 45
+
+-- a first byte of the one kind, and then any number of the other
+abbrev pub IsWord : (ℕ → Bool) → (ℕ → Bool) → List ℕ → Type 0
+IsWord initial char [] = ⊥
+IsWord initial char (b ∷ rest) = IsTrue (initial b) × AllPass char rest
+
+-- time-zone-part, which is neither "." nor ".."
+abbrev pub IsTimeZonePart : List ℕ → Type 0
+IsTimeZonePart part = IsWord is_zone_initial is_zone_char part × (part ≢ codes ".") × (part ≢ codes "..")
+
+-- time-zone-name: parts with slashes between them
+abbrev pub IsTimeZoneName : List ℕ → Type 0
+IsTimeZoneName name = All IsTimeZonePart (slice_split (λ b. b == 47) name)
+
+-- a number below 100 in two digits
+abbrev pub two_digits : ℕ → List ℕ
+two_digits n = (48 + n / 10) ∷ (48 + n % 10) ∷ []
+
+-- time-hour ":" time-minute, of so many seconds
+pub record IsHourMinute (text : List ℕ) (seconds : ℕ) : Type 0 where
+  pub hour : ℕ
+  pub minute : ℕ
+  pub hour_in : hour < 24
+  pub minute_in : minute < 60
+  pub whole : text ≡ two_digits hour ++ 58 ∷ two_digits minute
+  pub are_seconds : seconds ≡ hour * 3600 + minute * 60
+
+-- time-numoffset, of that offset: ahead of UTC after a plus, behind it after a minus
+pub record IsNumOffset (text : List ℕ) (o : UtcOffset) : Type 0 where
+  pub time : List ℕ
+  pub seconds : ℕ
+  pub is_time : IsHourMinute time seconds
+  pub signed : ((text ≡ 43 ∷ time) × (offset_seconds o ≡ pos seconds))
+      ⊎ ((text ≡ 45 ∷ time) × (offset_seconds o ≡ neg_ℤ (pos seconds)))
+
+-- a zone by its name, or by an offset
+pub data Zone : Type 0 where
+  named : List ℕ → Zone
+  at_offset : UtcOffset → Zone
+
+-- time-zone-name / time-numoffset
+abbrev pub IsZoneText : List ℕ → Zone → Type 0
+IsZoneText text (named name) = (text ≡ name) × IsTimeZoneName name
+IsZoneText text (at_offset o) = IsNumOffset text o
+
+-- suffix-key
+abbrev pub IsSuffixKey : List ℕ → Type 0
+IsSuffixKey key = IsWord is_key_initial is_key_char key
+
+-- suffix-value: letters and digits
+abbrev pub IsSuffixValue : List ℕ → Type 0
+IsSuffixValue value = (value ≢ []) × AllPass is_ascii_alphanumeric value
+
+-- suffix-values: values with dashes between them
+abbrev pub AreSuffixValues : List ℕ → Type 0
+AreSuffixValues text = All IsSuffixValue (slice_split (λ b. b == 45) text)
+
+-- critical-flag, before what stands in the brackets
+abbrev pub flagged : Bool → List ℕ → List ℕ
+flagged false text = text
+flagged true text = 33 ∷ text
+
+-- "[" critical-flag .. "]"
+abbrev pub bracketed : Bool → List ℕ → List ℕ
+bracketed is_critical text = 91 ∷ flagged is_critical text ++ 93 ∷ []
+
+-- a key with its values, and whether it is critical
+pub record Tag : Type 0 where
+  pub is_critical : Bool
+  pub key : List ℕ
+  pub values : List ℕ
+
+-- a zone, and whether it is critical
+pub record ZoneTag : Type 0 where
+  pub is_critical : Bool
+  pub zone : Zone
+
+-- time-zone
+pub record IsZoneTag (text : List ℕ) (z : ZoneTag) : Type 0 where
+  pub inside : List ℕ
+  pub whole : text ≡ bracketed z.is_critical inside
+  pub is_zone : IsZoneText inside z.zone
+
+-- [time-zone]
+abbrev pub IsZoneTagIfAny : List ℕ → Option ZoneTag → Type 0
+IsZoneTagIfAny text None = text ≡ []
+IsZoneTagIfAny text (Some z) = IsZoneTag text z
+
+-- suffix-tag: "[" critical-flag suffix-key "=" suffix-values "]"
+abbrev pub tag_text : Tag → List ℕ
+tag_text t = bracketed t.is_critical (t.key ++ 61 ∷ t.values)
+
+abbrev pub IsSuffixTag : Tag → Type 0
+IsSuffixTag t = IsSuffixKey t.key × AreSuffixValues t.values
+
+-- *suffix-tag
+abbrev pub tags_text : List Tag → List ℕ
+tags_text [] = []
+tags_text (t ∷ ts) = tag_text t ++ tags_text ts
+
+-- suffix, of that zone and these tags
+pub record IsSuffix (text : List ℕ) (zone : Option ZoneTag) (tags : List Tag) : Type 0 where
+  pub front : List ℕ
+  pub whole : text ≡ front ++ tags_text tags
+  pub is_zone : IsZoneTagIfAny front zone
+  pub are_tags : All IsSuffixTag tags
+
+-- the key of the first critical tag
+abbrev pub critical_key : List Tag → Option (List ℕ)
+critical_key [] = None
+critical_key (t ∷ ts) = if t.is_critical then Some t.key else critical_key ts
+
+-- no front of the text that is a suffix is longer
+abbrev pub IsLongest : List ℕ → ℕ → Type 0
+IsLongest text len = (n : ℕ) (zone : Option ZoneTag) (tags : List Tag) → n ≤ length text
+    → IsSuffix (take n text) zone tags → n ≤ len
+
+-- a text is a suffix in one way
+abbrev pub OneSuffix : Type 0
+OneSuffix = (text : List ℕ) (zone zone' : Option ZoneTag) (tags tags' : List Tag) → IsSuffix text zone tags
+    → IsSuffix text zone' tags' → (zone ≡ zone') × (tags ≡ tags')
+
+-- a name is one of a file in the folder of zones
+abbrev pub NamesInFolder : Type 0
+NamesInFolder = (name : List ℕ) → IsTimeZoneName name → IsZoneName name

@@ -1,0 +1,43 @@
+-- No public contract rests on this file.
+-- What stands in front of a text: brackets, a zone, a tag.
+use Rattle.std.specs.Prelude.{◌≡◌, ◌||◌, ◌==◌, ℕ, Bool, List, ◌∷◌, ◌++◌, All, Option, Some}
+use Rattle.std.specs.List.{AllPass}
+use Rattle.time_zones.specs.Suffix.{is_zone_char, IsSuffixKey, AreSuffixValues, bracketed, ZoneTag, Tag, IsZoneTagIfAny, tag_text, IsSuffixTag, tags_text}
+
+-- the bytes of what stands in brackets
+abbrev pub is_held : ℕ → Bool
+is_held b = is_zone_char b || b == 47 || b == 58 || b == 61
+
+-- suffix-key "=" suffix-values
+pub record IsKeyed (text key values : List ℕ) : Type 0 where
+  pub whole : text ≡ key ++ 61 ∷ values
+  pub is_key : IsSuffixKey key
+  pub are_values : AreSuffixValues values
+
+-- such brackets stand in front of the text, and so much is left
+pub record BeginsBracketed (text : List ℕ) (is_critical : Bool) (inside rest : List ℕ) : Type 0 where
+  pub whole : text ≡ bracketed is_critical inside ++ rest
+  pub are_held : AllPass is_held inside
+
+-- a zone or none stands in front of the text, and so much is left
+pub record BeginsWithZone (text : List ℕ) (zone : Option ZoneTag) (rest : List ℕ) : Type 0 where
+  pub front : List ℕ
+  pub whole : text ≡ front ++ rest
+  pub is_zone : IsZoneTagIfAny front zone
+
+abbrev pub HasNoZone : List ℕ → Type 0
+HasNoZone text = (z : ZoneTag) (rest : List ℕ) → BeginsWithZone text (Some z) rest → ⊥
+
+-- a tag
+pub record BeginsWithTag (text : List ℕ) (t : Tag) (rest : List ℕ) : Type 0 where
+  pub whole : text ≡ tag_text t ++ rest
+  pub is_tag : IsSuffixTag t
+
+abbrev pub HasNoTag : List ℕ → Type 0
+HasNoTag text = (t : Tag) (rest : List ℕ) → BeginsWithTag text t rest → ⊥
+
+-- tags, and no further one
+pub record BeginsWithTags (text : List ℕ) (tags : List Tag) (rest : List ℕ) : Type 0 where
+  pub whole : text ≡ tags_text tags ++ rest
+  pub are_tags : All IsSuffixTag tags
+  pub last : HasNoTag rest

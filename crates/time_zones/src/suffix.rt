@@ -1,0 +1,173 @@
+//! The suffix that RFC 9557, section 4.1, puts behind a time of RFC 3339.
+ghost use Rattle.std.specs.Prelude.{◌≡◌, ◌≢◌, ◌<◌, ◌≤◌, ℕ, Bool, false, List, [], ◌∷◌, Some, length, take, option_map, IfSome, IfNone};
+ghost use Rattle.std.specs.List.{prefix_len};
+ghost use Rattle.time_zones.specs.Suffix as suffix;
+ghost use Rattle.time_zones.specs.Suffix.{Zone, IsZoneText, Tag, critical_key, IsLongest};
+ghost use Rattle.time_zones.specs.SuffixFronts as fronts;
+ghost use Rattle.time_zones.specs.SuffixFronts.{BeginsBracketed, BeginsWithZone, HasNoZone, BeginsWithTag, HasNoTag, BeginsWithTags};
+ghost use Rattle.time_zones.specs.SuffixValues.{Says, zone_of, zone_tag_of};
+
+mod texts;
+
+use texts::{after, is_zone_char, is_zone_name, key_of, offset_of};
+use time_values::UtcOffset;
+
+/// How a suffix tells the zone.
+#[derive(Clone, Copy, Debug, PartialEq, Eq)]
+pub enum ZoneText<'a> {
+    /// By a name, which is ASCII.
+    Name(&'a [u8]),
+    /// By an offset of whole minutes, which is 0 for `-00:00` too.
+    Offset(UtcOffset),
+}
+
+// The zone that the text tells.
+fn zone_of(text: &[u8]) -> Option<ZoneText<'_>>
+    ensures some { IfSome result (λ z. IsZoneText text.now (zone_of z)) }
+    ensures none { IfNone result ((z : Zone) → IsZoneText text.now z → ⊥) }
+{
+    if is_zone_name(text) {
+        return Some(ZoneText::Name(text));
+    }
+    match offset_of(text) {
+        Some(offset) => Some(ZoneText::Offset(offset)),
+        None => None,
+    }
+}
+
+// Whether the byte may stand in brackets, after a flag.
+fn is_held(byte: u8) -> bool
+    ensures { result ≡ fronts.is_held byte }
+{
+    is_zone_char(byte) || matches!(byte, b'/' | b':' | b'=')
+}
+
+// How many such bytes stand in front of the text.
+fn held_len(text: &[u8]) -> usize
+    ensures count { result ≡ prefix_len fronts.is_held text.now }
+    ensures within { result ≤ length text.now }
+{
+    text.iter().take_while(|byte| is_held(**byte)).count()
+}
+
+// Whether a flag stands in front of the text, and what is left after it.
+fn flag(text: &[u8]) -> (bool, &[u8])
+    ensures whole { text.now ≡ suffix.flagged result.0 result.1.now }
+    ensures none { result.0 ≡ false → (rest : List ℕ) → text.now ≢ 33 ∷ rest }
+{
+    match after(text, b'!') {
+        Some(rest) => (true, rest),
+        None => (false, text),
+    }
+}
+
+/// What stands in brackets.
+#[derive(Clone, Copy)]
+struct Bracketed<'a> {
+    /// Whether a flag says that it is critical.
+    is_critical: bool,
+    /// What follows the flag.
+    inside: &'a [u8],
+}
+
+// What stands in the brackets in front of the text, and what is left after them.
+fn brackets(text: &[u8]) -> Option<(Bracketed<'_>, &[u8])>
+    ensures some { IfSome result (λ x. BeginsBracketed text.now x.0.is_critical x.0.inside.now x.1.now) }
+    ensures none { IfNone result ((is_critical : Bool) (inside rest : List ℕ)
+        → BeginsBracketed text.now is_critical inside rest → ⊥) }
+{
+    let (is_critical, begun) = flag(after(text, b'[')?);
+    let (inside, left) = begun.split_at(held_len(begun));
+    let rest = after(left, b']')?;
+    Some((
+        Bracketed {
+            is_critical,
+            inside,
+        },
+        rest,
+    ))
+}
+
+/// The zone of a suffix.
+#[derive(Clone, Copy, Debug, PartialEq, Eq)]
+pub struct ZoneTag<'a> {
+    /// Whether it is critical, as in `[!Europe/Berlin]`.
+    pub is_critical: bool,
+    /// Which zone.
+    pub zone: ZoneText<'a>,
+}
+
+// The zone in front of the text, and what is left after it.
+fn zone_in_front(text: &[u8]) -> Option<(ZoneTag<'_>, &[u8])>
+    ensures some { IfSome result (λ x. BeginsWithZone text.now (Some (zone_tag_of x.0)) x.1.now) }
+    ensures none { IfNone result (HasNoZone text.now) }
+{
+    let (found, rest) = brackets(text)?;
+    let zone = zone_of(found.inside)?;
+    let is_critical = found.is_critical;
+    Some((ZoneTag { is_critical, zone }, rest))
+}
+
+// The zone in front of the text, if there is one, and what is left after it.
+fn zone_if_any(text: &[u8]) -> (Option<ZoneTag<'_>>, &[u8])
+    ensures zone { BeginsWithZone text.now (option_map zone_tag_of result.0) result.1.now }
+    ensures none { IfNone result.0 (HasNoZone text.now) }
+{
+    match zone_in_front(text) {
+        Some((zone, rest)) => (Some(zone), rest),
+        None => (None, text),
+    }
+}
+
+// The tag in front of the text: its key if it is critical, and what is left after it.
+fn tag_in_front(text: &[u8]) -> Option<(Option<&[u8]>, &[u8])>
+    ensures some { IfSome result (λ x. (t : Tag) × BeginsWithTag text.now t x.1.now
+        × (option_map (λ key. key.now) x.0 ≡ critical_key (t ∷ []))) }
+    ensures none { IfNone result (HasNoTag text.now) }
+    ensures shorter { IfSome result (λ x. length x.1.now < length text.now) }
+{
+    let (found, rest) = brackets(text)?;
+    let key = key_of(found.inside)?;
+    Some((found.is_critical.then_some(key), rest))
+}
+
+// The first critical key of the tags in front of the text, and what is left after them.
+fn tags_in_front(text: &[u8]) -> (Option<&[u8]>, &[u8])
+    ensures { (tags : List Tag) × BeginsWithTags text.now tags result.1.now
+        × (option_map (λ key. key.now) result.0 ≡ critical_key tags) }
+{
+    let mut critical_key = None;
+    let mut rest = text;
+    'tags: while let Some((key, after)) = tag_in_front(rest) {
+        critical_key = critical_key.or(key);
+        rest = after;
+    }
+    (critical_key, rest)
+}
+
+/// What a suffix says.
+#[derive(Clone, Copy, Debug, PartialEq, Eq)]
+pub struct Suffixed<'a> {
+    /// How many bytes the suffix has.
+    pub len: usize,
+    /// Its zone, if it has one.
+    pub zone: Option<ZoneTag<'a>>,
+    /// The key of its first critical tag, if one is. Whoever doesn't know the key has to refuse the text.
+    pub critical_key: Option<&'a [u8]>,
+}
+
+/// Reads the longest front of the text that is a suffix by RFC 9557, section 4.1, such as `[Europe/Berlin][u-ca=gregory]`.
+/// It has no bytes where the text begins otherwise. Values aren't judged, nor whether there is such a zone.
+pub fn read_suffix(text: &[u8]) -> Suffixed<'_>
+    ensures within { result.len ≤ length text.now }
+    ensures says { Says (take result.len text.now) result }
+    ensures longest { IsLongest text.now result.len }
+{
+    let (zone, tags) = zone_if_any(text);
+    let (critical_key, rest) = tags_in_front(tags);
+    Suffixed {
+        len: text.len() - rest.len(),
+        zone,
+        critical_key,
+    }
+}

@@ -1,0 +1,183 @@
+//! What the texts of a suffix are: the names and offsets of zones, keys and values.
+ghost use Rattle.std.specs.Prelude.{◌≡◌, ◌≢◌, ◌↔◌, ◌<◌, ◌≤◌, ℕ, List, [], ◌∷◌, length, pos, neg_ℤ, IsTrue, IfSome, IfNone};
+ghost use Rattle.std.specs.List.{prefix_len};
+ghost use Rattle.jiff_core.specs.Calendar.{IsBetween};
+ghost use Rattle.time_values.specs.Offsets.{offset_seconds};
+ghost use Rattle.time_values.specs.declared.utc_offset.UtcOffset.{UtcOffset as Offset};
+ghost use Rattle.time_zones.specs.Suffix as suffix;
+ghost use Rattle.time_zones.specs.Suffix.{IsWord, IsTimeZonePart, IsTimeZoneName, IsHourMinute, IsNumOffset, IsSuffixKey, IsSuffixValue, AreSuffixValues};
+ghost use Rattle.time_zones.specs.SuffixFronts.{IsKeyed};
+
+use time_values::UtcOffset;
+
+/// What is left after the byte, where the text begins with it.
+pub(super) fn after(text: &[u8], byte: u8) -> Option<&[u8]>
+    ensures some { IfSome result (λ rest. text.now ≡ byte ∷ rest.now) }
+    ensures none { IfNone result ((rest : List ℕ) → text.now ≢ byte ∷ rest) }
+{
+    match text {
+        [first, rest @ ..] if *first == byte => Some(rest),
+        _ => None,
+    }
+}
+
+// Whether a part of a zone's name may begin with the byte.
+fn is_zone_initial(byte: u8) -> bool
+    ensures { result ≡ suffix.is_zone_initial byte }
+{
+    byte.is_ascii_alphabetic() || matches!(byte, b'.' | b'_')
+}
+
+/// Whether a part of a zone's name may go on with the byte.
+pub(super) fn is_zone_char(byte: u8) -> bool
+    ensures { result ≡ suffix.is_zone_char byte }
+{
+    is_zone_initial(byte) || byte.is_ascii_digit() || matches!(byte, b'-' | b'+')
+}
+
+// Whether the text has the bytes of a part of a zone's name.
+fn is_zone_word(text: &[u8]) -> bool
+    ensures { IsTrue result ↔ IsWord suffix.is_zone_initial suffix.is_zone_char text.now }
+{
+    match text {
+        [] => false,
+        [first, others @ ..] => {
+            is_zone_initial(*first) && others.iter().all(|byte| is_zone_char(*byte))
+        }
+    }
+}
+
+// Whether the text is a part of a zone's name.
+fn is_zone_part(text: &[u8]) -> bool
+    ensures { IsTrue result ↔ IsTimeZonePart text.now }
+{
+    !matches!(text, b"." | b"..") && is_zone_word(text)
+}
+
+/// Whether the text is a zone's name.
+pub(super) fn is_zone_name(name: &[u8]) -> bool
+    ensures { IsTrue result ↔ IsTimeZoneName name.now }
+{
+    name.split(|byte| *byte == b'/').all(is_zone_part)
+}
+
+// Whether a key may begin with the byte.
+fn is_key_initial(byte: u8) -> bool
+    ensures { result ≡ suffix.is_key_initial byte }
+{
+    byte.is_ascii_lowercase() || byte == b'_'
+}
+
+// Whether a key may go on with the byte.
+fn is_key_char(byte: u8) -> bool
+    ensures { result ≡ suffix.is_key_char byte }
+{
+    is_key_initial(byte) || byte.is_ascii_digit() || byte == b'-'
+}
+
+// Whether the text is a key.
+fn is_key(text: &[u8]) -> bool
+    ensures { IsTrue result ↔ IsSuffixKey text.now }
+{
+    match text {
+        [] => false,
+        [first, others @ ..] => {
+            is_key_initial(*first) && others.iter().all(|byte| is_key_char(*byte))
+        }
+    }
+}
+
+// Whether the text is one value.
+fn is_value(text: &[u8]) -> bool
+    ensures { IsTrue result ↔ IsSuffixValue text.now }
+{
+    !text.is_empty() && text.iter().all(|byte| byte.is_ascii_alphanumeric())
+}
+
+// Whether the text is values.
+fn are_values(text: &[u8]) -> bool
+    ensures { IsTrue result ↔ AreSuffixValues text.now }
+{
+    text.split(|byte| *byte == b'-').all(is_value)
+}
+
+// The number of two digits.
+fn two_digits(tens: u8, ones: u8) -> Option<u8>
+    ensures some { IfSome result (λ n. (n < 100) × (suffix.two_digits n ≡ tens ∷ ones ∷ [])) }
+    ensures none { IfNone result ((n : ℕ) → n < 100 → suffix.two_digits n ≢ tens ∷ ones ∷ []) }
+{
+    if !tens.is_ascii_digit() || !ones.is_ascii_digit() {
+        return None;
+    }
+    Some((tens - b'0') * 10 + (ones - b'0'))
+}
+
+// How many seconds the hours and minutes are that the text writes.
+fn seconds_of(text: &[u8]) -> Option<u32>
+    ensures some { IfSome result (IsHourMinute text.now) }
+    ensures bound { IfSome result (λ n. n < 86_400) }
+    ensures none { IfNone result ((n : ℕ) → IsHourMinute text.now n → ⊥) }
+{
+    let [hour_tens, hour_ones, b':', minute_tens, minute_ones] = text else {
+        return None;
+    };
+    let hour = two_digits(*hour_tens, *hour_ones)?;
+    let minute = two_digits(*minute_tens, *minute_ones)?;
+    if hour > 23 || minute > 59 {
+        return None;
+    }
+    Some(u32::from(hour) * 3600 + u32::from(minute) * 60)
+}
+
+// The offset of so many seconds, less than a day.
+fn offset_of_seconds(seconds: i32) -> UtcOffset
+    requires { IsBetween (neg_ℤ (pos 86_399)) (pos 86_399) seconds }
+    ensures { offset_seconds result ≡ seconds }
+{
+    match UtcOffset::from_whole_seconds(seconds) {
+        Ok(offset) => offset,
+        Err(_) => unreachable!(),
+    }
+}
+
+/// The offset that the text writes.
+pub(super) fn offset_of(text: &[u8]) -> Option<UtcOffset>
+    ensures some { IfSome result (IsNumOffset text.now) }
+    ensures none { IfNone result ((o : Offset) → IsNumOffset text.now o → ⊥) }
+{
+    if let Some(time) = after(text, b'+') {
+        let seconds = seconds_of(time)? as i32;
+        return Some(offset_of_seconds(seconds));
+    }
+    let time = after(text, b'-')?;
+    let seconds = seconds_of(time)? as i32;
+    Some(offset_of_seconds(-seconds))
+}
+
+// How many bytes in front of the text may stand in a key.
+fn key_len(text: &[u8]) -> usize
+    ensures count { result ≡ prefix_len suffix.is_key_char text.now }
+    ensures within { result ≤ length text.now }
+{
+    text.iter().take_while(|byte| is_key_char(**byte)).count()
+}
+
+// Whether the texts are a key and values.
+fn is_keyed(key: &[u8], values: &[u8]) -> bool
+    ensures { IsTrue result ↔ (IsSuffixKey key.now × AreSuffixValues values.now) }
+{
+    is_key(key) && are_values(values)
+}
+
+/// The key of the tag that the text is.
+pub(super) fn key_of(text: &[u8]) -> Option<&[u8]>
+    ensures some { IfSome result (λ key. (values : List ℕ) × IsKeyed text.now key.now values) }
+    ensures none { IfNone result ((key values : List ℕ) → IsKeyed text.now key values → ⊥) }
+{
+    let (key, left) = text.split_at(key_len(text));
+    let values = after(left, b'=')?;
+    if !is_keyed(key, values) {
+        return None;
+    }
+    Some(key)
+}

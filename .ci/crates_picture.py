@@ -43,7 +43,7 @@ LINES = [
 ]
 WIDE, HIGH, STEP, PITCH, LEFT, SMALL = 204, 30, 244, 112, 30, 6.1
 MEMBERS = {"programs": ("programs_answers", "time_lines", "time_parse"), "C": ("pelzaune_ffi", "pelzaune"),
-           "restamp": ("restamp_place", "restamp_stream", "restamp_in_place", "restamp_replacing", "restamp_verdict", "restamp_options", "restamp_command", "restamp")}
+           "restamp": ("restamp_place", "restamp_stream", "restamp_in_place", "restamp_verdict", "restamp_options", "restamp_command", "restamp")}
 
 
 def box_of(crate):

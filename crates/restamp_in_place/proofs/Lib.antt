@@ -3,3 +3,4 @@ pub mod PhaseLemmas
 pub mod StepLemmas
 pub mod ReplaceLemmas
 pub mod LawLemmas
+pub mod LineLemmas

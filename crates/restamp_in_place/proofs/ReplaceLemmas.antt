@@ -5,7 +5,7 @@ use Rattle.std.specs.Option.{option_and_then}
 use Rattle.std.specs.Io.KnownBytes.{Appends}
 use Rattle.restamp_in_place.specs.declared.making.Made.{Made}
 use Rattle.restamp_in_place.specs.declared.making.Made.TheVariants.{Changed}
-use Rattle.restamp_in_place.specs.Folder.{Event, leads, stored, bytes_at, Does, Makes, Removes}
+use Rattle.restamp_in_place.specs.Folder.{Event, leads, stored, bytes_at, Does, Creates, Removes}
 use Rattle.restamp_in_place.specs.Folder.Event.{Leads}
 use Rattle.restamp_in_place.specs.Replacing.{bytes_made, HasSameBytes, IsEnded, IsUntouched, Replaces}
 use Rattle.restamp_in_place.specs.Phases.{Aim, IsWritten, Reached, Kept, Loose, IsMade, IsEndOf, Runs}
@@ -100,7 +100,7 @@ module _ (aim : Aim) where
 pub replaces-unmade : {E : Type 0} (makes : List ℕ → Option (List ℕ) → Type 0) (events after : Option (List Event)) (name : List ℕ) (backup : Option (List ℕ))
     (original : ℕ) (error : E)
     → IfSome events (λ done. leads done name ≡ Some original)
-    → Does events after (λ done more. (more ≡ []) ⊎ ((temporary : List ℕ) × Makes temporary done more))
+    → Does events after (λ done more. (more ≡ []) ⊎ ((temporary : List ℕ) × Creates temporary done more))
     → IfSome events (λ before. Replaces makes before after name backup (Failed error))
 replaces-unmade makes None after name backup original error there did = tt
 replaces-unmade makes (Some before) after name backup original error there did =
@@ -108,7 +108,7 @@ replaces-unmade makes (Some before) after name backup original error there did =
     (sym (did.1 ∙ ap (λ (m : List Event). Some (m ++ before)) none)) (replaces-nothing makes (Some before) name backup error))
     some did.2
   where
-    some : (temporary : List ℕ) × Makes temporary before did.0 → Replaces makes before after name backup (Failed error)
+    some : (temporary : List ℕ) × Creates temporary before did.0 → Replaces makes before after name backup (Failed error)
     some m =
         let aim : Aim = record {
           before = before;
@@ -125,10 +125,10 @@ replaces-unmade makes (Some before) after name backup original error there did =
         replaces-reached aim makes after (did.0 ++ before) (Failed error) tt tt did.1
         (is_made-reached aim (did.0 ++ before) (ap (λ (l : List Event). l ++ before) m.1.3))
 
-made_of : (makes : List ℕ → Option (List ℕ) → Type 0) (new : Option (List ℕ)) (read : List ℕ) (known : Option (List ℕ))
+makes-known : (makes : List ℕ → Option (List ℕ) → Type 0) (new : Option (List ℕ)) (read : List ℕ) (known : Option (List ℕ))
     → IfSome known (λ bytes. bytes ≡ read) → makes read new → IfSome known (λ old. makes old new)
-made_of makes new read None reads did = tt
-made_of makes new read (Some old) reads did = subst (λ (b : List ℕ). makes b new) (sym reads) did
+makes-known makes new read None reads did = tt
+makes-known makes new read (Some old) reads did = subst (λ (b : List ℕ). makes b new) (sym reads) did
 
 written : (contents after : Option (List ℕ)) (new : List ℕ) → contents ≡ Some [] → Appends contents after new → after ≡ Some new
 written None after new empty appends = absurd (cc empty)
@@ -152,7 +152,7 @@ module _ {E : Type 0} (makes : List ℕ → Option (List ℕ) → Type 0) (after
     (backup : Option (List ℕ)) (original : ℕ)
     (remaining contents contents' : Option (List ℕ)) (result : Result Made E)
     (there : leads before name ≡ Some original) (read : List ℕ) (reads : remaining ≡ Some read)
-    (same_read : IfSome (stored before original) (λ bytes. bytes ≡ read)) (m : Makes temporary before more) (empty : contents ≡ Some []) where
+    (same_read : IfSome (stored before original) (λ bytes. bytes ≡ read)) (m : Creates temporary before more) (empty : contents ≡ Some []) where
   abbrev aim_of : Option (List ℕ) → Aim
   aim_of new = record {
     before = before;
@@ -192,7 +192,7 @@ module _ {E : Type 0} (makes : List ℕ → Option (List ℕ) → Type 0) (after
         d.0,
         d.1,
         subst (λ (k : Option (List ℕ)). IfSome k (λ old. makes old (bytes_made how d.0))) (sym is)
-            (made_of makes (bytes_made how d.0) read (stored before original) same_read d.2),
+            (makes-known makes (bytes_made how d.0) read (stored before original) same_read d.2),
       )
 
   pub replaces : {S : Type 0} (how_made : Result Made S)
@@ -212,7 +212,7 @@ pub replaces-all : {S E : Type 0} (makes : List ℕ → Option (List ℕ) → Ty
     (remaining contents contents' : Option (List ℕ)) (result : Result Made E) (how_made : Result Made S)
     → IfSome events (λ done. (leads done name ≡ Some original)
     × ((read : List ℕ) × (remaining ≡ Some read) × IfSome (stored done original) (λ bytes. bytes ≡ read)))
-    → Does events mid (Makes temporary) → IfSome events (λ _. contents ≡ Some [])
+    → Does events mid (Creates temporary) → IfSome events (λ _. contents ≡ Some [])
     → IfOk how_made (λ how. IfSome remaining (λ old. (text : List ℕ) × Appends contents contents' text × makes old (bytes_made how text)))
     → IfOk result (λ how. how_made ≡ Ok how)
     → ((aim : Aim) → aim.name ≡ name → aim.temporary ≡ temporary → aim.backup ≡ backup → aim.original ≡ original

@@ -54,8 +54,8 @@ Tries before after result fact =
     Does before after (λ done more. fact done more ⊎ (IsErr result × (more ≡ [])))
 
 -- A new file was made under a name that led to none.
-abbrev pub Makes : List ℕ → List Event → List Event → Type 0
-Makes name done more =
+abbrev pub Creates : List ℕ → List Event → List Event → Type 0
+Creates name done more =
     (number : ℕ) × IsFresh done number × (leads done name ≡ None) × (more ≡ Leads name (Some number) ∷ [])
 
 -- The bytes of the file to which the name leads are on the disk, and they are those where these are known.

@@ -4,3 +4,5 @@ pub mod Names
 pub mod Laws
 pub mod Phases
 pub mod Steps
+pub mod Lines
+pub mod Telling

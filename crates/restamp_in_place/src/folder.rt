@@ -2,7 +2,7 @@
 ghost use Rattle.std.specs.Prelude.{◌≡◌, ℕ, List, [], Option, Some, IfErr, IfOk, IfSome, true};
 ghost use Rattle.std.specs.IoError.{error_kind};
 ghost use Rattle.std.specs.declared.io.Error.{Error};
-ghost use Rattle.restamp_in_place.specs.Folder.{Event, leads, stored, Tries, Makes, Stores, Links, Renames, Removes, Syncs};
+ghost use Rattle.restamp_in_place.specs.Folder.{Event, leads, stored, Tries, Creates, Stores, Links, Renames, Removes, Syncs};
 
 use programs_streams::{Counted, Sink, Source};
 use std::io;
@@ -74,7 +74,7 @@ pub trait Folder {
 
     /// Makes a new file under a name that nothing has, which no other user may read.
     fn create(&mut self, name: &str) -> io::Result<Self::New>
-        ensures made { Tries (events self.old) (events self.new) result (Makes name.now) }
+        ensures made { Tries (events self.old) (events self.new) result (Creates name.now) }
         ensures taken { IfErr result (λ e. error_kind e ≡ ErrorKind.AlreadyExists → events self.new ≡ events self.old) }
         ensures empty { IfOk result (λ new. IfSome (events self.old) (λ _. Self.New.contents new ≡ Some [])) };
 

@@ -1,12 +1,15 @@
-//! Replaces a file by another that is made from it, so that a stop at any moment leaves the one or the other whole.
+//! Replaces a file by what its lines become, so that a stop at any moment leaves the old file or the new one whole.
 #![tactic(auto)]
 
 mod folder;
 mod laws;
+mod lines;
 mod making;
 mod names;
 mod replacing;
 mod step;
+mod target;
+mod telling;
 
 pub use folder::{Failing, Folder, Original};
 pub use laws::{law_now, law_old_or_new};
@@ -14,3 +17,5 @@ pub use making::{Made, Making};
 pub use names::backup_name;
 pub use replacing::replace;
 pub use step::{Step, Unreplaced};
+pub use target::{Target, replace_file};
+pub use telling::write_unreplaced;

@@ -1,7 +1,7 @@
-//! Replaces a file.
+//! Replaces a file by what a maker makes of it.
 ghost use Rattle.std.specs.Option.{option_map};
 ghost use Rattle.std.specs.Prelude.{◌≡◌, ◌⊎◌, ◌∷◌, ℕ, List, [], Some, Ok, IfOk, IfSome, OnErr, MatchResult, string_bytes};
-ghost use Rattle.restamp_in_place.specs.Folder.{Event, Does, Makes};
+ghost use Rattle.restamp_in_place.specs.Folder.{Event, Does, Creates};
 ghost use Rattle.restamp_in_place.specs.Replacing.{Replaces};
 ghost use Rattle.restamp_in_place.specs.Phases.{Aim, IsPlanOf, IsWritten, Kept, Ready, Linked, Backed, Loose, LooseBacked, Put, Done, Reached, IsMade, IsEndOf, Runs, Goes};
 
@@ -37,10 +37,10 @@ fn create_beside<F: Folder>(
     alloc: Global,
     name: &str,
 ) -> io::Result<(String, F::New)>
-    ensures made { IfOk result (λ made. Does (F.events folder.old) (F.events folder.new) (Makes (string_bytes made.0))) }
+    ensures made { IfOk result (λ made. Does (F.events folder.old) (F.events folder.new) (Creates (string_bytes made.0))) }
     ensures empty { IfOk result (λ made. IfSome (F.events folder.old) (λ _. F.New.contents made.1 ≡ Some [])) }
     ensures failed { OnErr result (Does (F.events folder.old) (F.events folder.new) (λ done more.
-        (more ≡ []) ⊎ ((temporary : List ℕ) × Makes temporary done more))) }
+        (more ≡ []) ⊎ ((temporary : List ℕ) × Creates temporary done more))) }
 {
     for number in 0..TRIES {
         let temporary = format!(in alloc; ".{name}.restamp-{number}")?;

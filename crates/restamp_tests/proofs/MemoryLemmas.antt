@@ -1,7 +1,7 @@
 -- What is done in a folder in memory is what the model says.
 use Rattle.std.proofs.Common.{◌≡◌, ◌≢◌, inl, inr, ⊎_elim, ℕ, Bool, true, false, List, [], ◌∷◌, refl, sym, ◌∙◌, ap, subst, Option, None, Some, Result, IsErr, is_some, rules, if◌then◌else◌, nat_eq}
 use Rattle.std.specs.Str.{bytes_eq}
-use Rattle.restamp_in_place.specs.Folder.{Event, Tries, Makes, MayLead, leads, stored}
+use Rattle.restamp_in_place.specs.Folder.{Event, Tries, Creates, MayLead, leads, stored}
 use Rattle.restamp_in_place.specs.Folder.Event.{Leads, Stored, Synced}
 use Rattle.restamp_tests.specs.Memory.{is_unused}
 
@@ -63,9 +63,9 @@ stored-unused (Stored file bytes ∷ done) number unused =
 stored-unused (Synced ∷ done) number unused = stored-unused done number unused
 
 -- a file of a number that nothing named, under a name that led to none, is new
-pub makes : (done : List Event) (name copy : List ℕ) (number : ℕ) → is_unused done number ≡ true → leads done name ≡ None → copy ≡ name
-    → Makes name done (Leads copy (Some number) ∷ [])
-makes done name copy number unused free same = (
+pub creates : (done : List Event) (name copy : List ℕ) (number : ℕ) → is_unused done number ≡ true → leads done name ≡ None → copy ≡ name
+    → Creates name done (Leads copy (Some number) ∷ [])
+creates done name copy number unused free same = (
   number,
   record { led = led-unused done number unused; empty = stored-unused done number unused },
   free,

@@ -1,4 +1,4 @@
--- What is made of a file.
+-- What a file's lines make of it.
 use Rattle.std.specs.Prelude.{◌≡◌, ℕ, List, [], Option, Some, if◌then◌else◌, ◌==◌}
 use Rattle.restamp_in_place.specs.declared.making.Made.{Made}
 use Rattle.restamp_in_place.specs.declared.making.Made.TheVariants.{Changed, Same}

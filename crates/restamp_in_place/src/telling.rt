@@ -3,11 +3,11 @@ ghost use Rattle.std.specs.Io.KnownBytes.{Appends};
 ghost use Rattle.std.specs.Prelude.{ℕ, List, ◌++◌, OnOk, codes};
 ghost use Rattle.programs_streams.specs.Faults.{HasCause};
 ghost use Rattle.restamp_in_place.specs.Steps.{step_text};
-ghost use Rattle.restamp_replacing.specs.Telling.{IsWhy};
+ghost use Rattle.restamp_in_place.specs.Telling.{IsWhy};
 ghost use Rattle.restamp_stream.specs.Reports.{unread_text};
 
+use crate::step::{Step, Unreplaced};
 use programs_streams::{Sink, Unwritten};
-use restamp_in_place::{Step, Unreplaced};
 use restamp_stream::{Stop, write_name};
 use std::alloc::Global;
 

@@ -1,11 +1,11 @@
-//! What makes a file's new bytes.
+//! The lines of a file, which make its new bytes.
 ghost use Rattle.std.specs.Prelude.{◌≡◌, IfSome, OnOk};
-ghost use Rattle.restamp_replacing.specs.Replacing.{made_of};
+ghost use Rattle.restamp_in_place.specs.Lines.{made_of};
 ghost use Rattle.restamp_stream.specs.Answers.{job_of, state, DidAll};
 ghost use Rattle.restamp_stream.specs.Fates.{nothing_counted};
 
+use crate::making::{Made, Making};
 use programs_streams::{Sink, Source};
-use restamp_in_place::{Made, Making};
 use restamp_stream::{Block, Rewriting, Settings, Stop, Stream, Tally};
 
 /// The lines of a file, which make its new bytes by what becomes of them.
@@ -65,7 +65,7 @@ impl<T: Rewriting, L: Sink + Drop> Lines<'_, T, L> {
 }
 
 impl<T: Rewriting, L: Sink + Drop> Making for Lines<'_, T, L> {
-    ghost use Rattle.restamp_replacing.specs.Replacing.{Makes};
+    ghost use Rattle.restamp_in_place.specs.Lines.{Makes};
     ghost use Rattle.restamp_stream.specs.Answers.{job_of};
 
     type Stop = Stop;

@@ -7,7 +7,7 @@ use Rattle.restamp_in_place.specs.Replacing.{bytes_made}
 use Rattle.restamp_stream.specs.declared.tally.Tally.{Tally}
 use Rattle.restamp_stream.specs.Fates.{nothing_counted}
 use Rattle.restamp_stream.specs.Answers.{Job, state, DidAll}
-use Rattle.restamp_replacing.specs.Replacing.{Makes, made_of}
+use Rattle.restamp_in_place.specs.Lines.{Makes, made_of}
 
 -- what was answered is known also where the writer holds nothing at first
 from_nothing : (job : Job) (out out' log log' : Option (List ℕ)) (tally : Tally) (bytes : List ℕ)

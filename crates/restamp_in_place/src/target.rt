@@ -1,13 +1,16 @@
 //! Replaces a file by what its lines become.
 ghost use Rattle.std.specs.Option.{option_map};
 ghost use Rattle.std.specs.Prelude.{IfSome};
+ghost use Rattle.restamp_in_place.specs.Lines.{Makes};
 ghost use Rattle.restamp_in_place.specs.Replacing.{Replaces};
-ghost use Rattle.restamp_replacing.specs.Replacing.{Makes};
 ghost use Rattle.restamp_stream.specs.Answers.{job_of};
 
+use crate::folder::Folder;
 use crate::lines::Lines;
+use crate::making::Made;
+use crate::replacing::replace;
+use crate::step::Unreplaced;
 use programs_streams::Sink;
-use restamp_in_place::{Folder, Made, Unreplaced, replace};
 use restamp_stream::{Block, Rewriting, Settings, Stop, Tally};
 use std::alloc::Global;
 

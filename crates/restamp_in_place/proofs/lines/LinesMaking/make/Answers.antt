@@ -1,5 +1,5 @@
-use Rattle.restamp_replacing.proofs.MakingLemmas.{makes, of_ok}
-use Rattle.restamp_replacing.proofs.lines.LinesMaking.make.Goals as goal
+use Rattle.restamp_in_place.proofs.LineLemmas.{makes, of_ok}
+use Rattle.restamp_in_place.proofs.lines.LinesMaking.make.Goals as goal
 
 pub returns-in-Ok : goal.returns-in-Ok
 returns-in-Ok g c =

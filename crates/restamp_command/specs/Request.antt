@@ -3,6 +3,7 @@ use Rattle.std.specs.Prelude.{◌≡◌, ℕ, ℤ, List, [], ◌∷◌, ◌++◌
 use Rattle.std.specs.Borrow.{Bor}
 use Rattle.std.specs.List.{list_any}
 use Rattle.std.specs.Option.{option_map}
+use Rattle.std.specs.Str.{bytes_eq}
 use Rattle.restamp_place.specs.declared.cuts.Place.{Place}
 use Rattle.restamp_place.specs.declared.cuts.Place.TheVariants as place
 use Rattle.restamp_place.specs.declared.fields.Fields.{Fields}
@@ -133,13 +134,17 @@ abbrev pub IsFoldGiven : Option (List ℕ) → Fold → Type 0
 IsFoldGiven None fold = fold ≡ Refuse
 IsFoldGiven (Some text) fold = fold_of text ≡ Some fold
 
+-- what the zone of that name is called in reports
+abbrev pub told_name : List ℕ → List ℕ
+told_name name = if bytes_eq name (codes "local") then codes "the local zone" else name
+
 -- What stands for an offset: the clocks of the zone of that name, or without one the offset that is given.
 abbrev pub IsLocalGiven : ℕ → Options → Option (List ℕ) → Local → Type 0
 IsLocalGiven Y o None (local.Offset offset) = IsOffsetGiven Y (text_behind o.offset) offset
-IsLocalGiven Y o None (local.Zone named fold) = ⊥
+IsLocalGiven Y o None (local.Zone named called fold) = ⊥
 IsLocalGiven Y o (Some name) (local.Offset offset) = ⊥
-IsLocalGiven Y o (Some name) (local.Zone named fold) =
-    ComesOf name (Ok named) × IsFoldGiven (text_behind o.fold) fold
+IsLocalGiven Y o (Some name) (local.Zone named called fold) =
+    ComesOf name (Ok named) × (called.now ≡ told_name name) × IsFoldGiven (text_behind o.fold) fold
 
 -- The year and what stands for an offset where a time leaves them out.
 abbrev pub AreParts : ℕ → Options → Given → Type 0

@@ -27,23 +27,24 @@ fate_of (refused column reason) = Refused
 abbrev pub IsFate : ℕ → Job → List ℕ → Fate → Type 0
 IsFate Y job front fate = (verdict : Verdict) × IsJudged Y job front verdict × (fate ≡ fate_of verdict)
 
--- how it is told that a front goes wrong there for a reason, or for what its time lacks: with what was expected, and
--- the line below it where it is to be shown
-abbrev pub told_wrong : Bool → List ℕ → Reason → Option Lack → Wrong → List ℕ
-told_wrong shows_lines front reason lack w =
-    told_reason shows_lines front w.column (why_text reason lack ++ expected_text w.wanted)
+-- how it is told that a front goes wrong there for a reason, about the clocks of a zone that is called so, or for what
+-- its time lacks: with what was expected, and the line below it where it is to be shown
+abbrev pub told_wrong : Bool → List ℕ → List ℕ → Reason → Option Lack → Wrong → List ℕ
+told_wrong shows_lines front zone reason lack w =
+    told_reason shows_lines front w.column (why_text zone reason lack ++ expected_text w.wanted)
 
--- A front that is refused at a column for a reason goes wrong at that one, and that text tells it.
-abbrev pub TellsWrong : ℕ → Job → Bool → List ℕ → ℕ → Reason → ℕ → List ℕ → Type 0
-TellsWrong Y job shows_lines front begin reason column text =
+-- A front that is refused at a column for a reason goes wrong at that one, and that text tells it, with what the zone
+-- is called.
+abbrev pub TellsWrong : ℕ → Job → List ℕ → Bool → List ℕ → ℕ → Reason → ℕ → List ℕ → Type 0
+TellsWrong Y job zone shows_lines front begin reason column text =
     (w : Wrong) × (lack : Option Lack) × IsWrong Y job front begin reason w × IsLack Y job front reason lack
-    × (column ≡ w.column) × (text ≡ told_wrong shows_lines front reason lack w)
+    × (column ≡ w.column) × (text ≡ told_wrong shows_lines front zone reason lack w)
 
 -- A front is refused, goes wrong at that column, and that text tells the reason.
-abbrev pub IsReason : ℕ → Job → Bool → List ℕ → ℕ → List ℕ → Type 0
-IsReason Y job shows_lines front column text =
+abbrev pub IsReason : ℕ → Job → List ℕ → Bool → List ℕ → ℕ → List ℕ → Type 0
+IsReason Y job zone shows_lines front column text =
     (begin : ℕ) × (reason : Reason) × IsJudged Y job front (refused begin reason)
-    × TellsWrong Y job shows_lines front begin reason column text
+    × TellsWrong Y job zone shows_lines front begin reason column text
 
 -- A front has one fate.
 pub one_fate : (job : Job) (front : List ℕ) (a b : Fate)
@@ -51,26 +52,28 @@ pub one_fate : (job : Job) (front : List ℕ) (a b : Fate)
 one_fate job front a b p q = p.2 ∙ ap fate_of (one_verdict job front p.0 q.0 p.1 q.1) ∙ sym q.2
 
 -- A front of that verdict goes wrong there, and that text tells it.
-Tells : Job → Bool → List ℕ → ℕ → List ℕ → Verdict → Type 0
-Tells job shows_lines front column text without = ⊥
-Tells job shows_lines front column text (rewritten start n bytes) = ⊥
-Tells job shows_lines front column text dropped = ⊥
-Tells job shows_lines front column text (refused begin reason) =
-    TellsWrong greatest_year job shows_lines front begin reason column text
+Tells : Job → List ℕ → Bool → List ℕ → ℕ → List ℕ → Verdict → Type 0
+Tells job zone shows_lines front column text without = ⊥
+Tells job zone shows_lines front column text (rewritten start n bytes) = ⊥
+Tells job zone shows_lines front column text dropped = ⊥
+Tells job zone shows_lines front column text (refused begin reason) =
+    TellsWrong greatest_year job zone shows_lines front begin reason column text
 
 -- A front is refused at one column and for one reason.
-pub one_reason : (job : Job) (shows_lines : Bool) (front : List ℕ) (column other : ℕ) (reason why : List ℕ)
-    → IsReason greatest_year job shows_lines front column reason
-    → IsReason greatest_year job shows_lines front other why
+pub one_reason : (job : Job) (zone : List ℕ) (shows_lines : Bool) (front : List ℕ) (column other : ℕ)
+    (reason why : List ℕ)
+    → IsReason greatest_year job zone shows_lines front column reason
+    → IsReason greatest_year job zone shows_lines front other why
     → (column ≡ other) × (reason ≡ why)
 unfolding Tells
-one_reason job shows_lines front column other reason why (begin, e, judged, told) (start, f, same_judged, same_told) =
+one_reason job zone shows_lines front column other reason why
+    (begin, e, judged, told) (start, f, same_judged, same_told) =
     let verdict = one_verdict job front (refused begin e) (refused start f) judged same_judged in
-    let there : TellsWrong greatest_year job shows_lines front start f column reason =
-    subst (λ (v : Verdict). Tells job shows_lines front column reason v) verdict told in
+    let there : TellsWrong greatest_year job zone shows_lines front start f column reason =
+    subst (λ (v : Verdict). Tells job zone shows_lines front column reason v) verdict told in
     let one = one_wrong job front start f there.0 same_told.0 there.2 same_told.2 in
     let lack = one_lack job front f there.1 same_told.1 there.3 same_told.3 in (
       there.4 ∙ ap (λ (w : Wrong). w.column) one ∙ sym same_told.4,
-      there.5 ∙ ap (λ (l : Option Lack). told_wrong shows_lines front f l there.0) lack
-          ∙ ap (told_wrong shows_lines front f same_told.1) one ∙ sym same_told.5,
+      there.5 ∙ ap (λ (l : Option Lack). told_wrong shows_lines front zone f l there.0) lack
+          ∙ ap (told_wrong shows_lines front zone f same_told.1) one ∙ sym same_told.5,
     )

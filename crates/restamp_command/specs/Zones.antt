@@ -73,8 +73,13 @@ AreClocksIn named fold (Some clocks) = IsZoneOf named clocks.zone × (clocks.fol
 -- what stands for an offset that a time leaves out
 abbrev pub IsOfLocal : Local → Defaults → Type 0
 IsOfLocal (local.Offset offset) d = (d.offset ≡ Some offset) × (d.clocks ≡ None)
-IsOfLocal (local.Zone named fold) d = (d.offset ≡ None) × AreClocksIn named fold d.clocks
+IsOfLocal (local.Zone named name fold) d = (d.offset ≡ None) × AreClocksIn named fold d.clocks
 
 -- Defaults are what is given.
 abbrev pub AreDefaultsOf : Given → Defaults → Type 0
 AreDefaultsOf given d = (d.year ≡ given.year) × IsOfLocal given.local d × (d.latest ≡ given.latest)
+
+-- what the zone is called whose clocks stand for offsets that times leave out
+abbrev pub zone_name : Local → List ℕ
+zone_name (local.Offset offset) = codes "its zone"
+zone_name (local.Zone named name fold) = name.now

@@ -32,7 +32,7 @@ pub struct Request<'a> {
     /// The formats that are tried in turn where that one doesn't.
     pub others: Vec<Reading>,
     /// What is given for what a time leaves out.
-    pub given: Given,
+    pub given: Given<'a>,
     /// How it is written.
     pub style: Style,
     /// Drops lines whose time is before.
@@ -144,11 +144,22 @@ fn find_given_fold<'a>(options: &Options<'_, 'a>) -> Result<Fold, Fault<'a>>
     }
 }
 
+// What the zone of that name is called in reports.
+fn told_name(name: &str) -> &str
+    ensures { result.now ≡ spec.told_name name.now }
+{
+    if name == "local" {
+        "the local zone"
+    } else {
+        name
+    }
+}
+
 // What stands for an offset that a time leaves out: the clocks of the zone that is named, or else the offset.
 fn find_local<'a, R: Env + Files + AllocGlobal>(
     rt: &R,
     options: &Options<'_, 'a>,
-) -> Result<Local, Fault<'a>>
+) -> Result<Local<'a>, Fault<'a>>
     ensures { MatchResult result (λ local. spec.IsLocalGiven greatest_year options.now (text_behind options.now.local) local)
         (λ fault. spec.IsFault greatest_year options.now (told fault)) }
 {
@@ -157,7 +168,7 @@ fn find_local<'a, R: Env + Files + AllocGlobal>(
     };
     let fold = find_given_fold(options)?;
     match find_zone(rt, name) {
-        Ok(named) => Ok(Local::Zone(named, fold)),
+        Ok(named) => Ok(Local::Zone(named, told_name(name), fold)),
         Err(why) => Err(Fault::In(name, why)),
     }
 }
@@ -166,7 +177,7 @@ fn find_local<'a, R: Env + Files + AllocGlobal>(
 fn find_parts<'a, R: Env + Files + AllocGlobal>(
     rt: &R,
     options: &Options<'_, 'a>,
-) -> Result<Given, Fault<'a>>
+) -> Result<Given<'a>, Fault<'a>>
     ensures { MatchResult result (λ parts. spec.AreParts greatest_year options.now parts)
         (λ fault. spec.IsFault greatest_year options.now (told fault)) }
 {
@@ -206,7 +217,7 @@ fn find_given<'a, R: Env + Files + AllocGlobal>(
     now: Option<UtcDateTime>,
     first: &Reading,
     others: &[Reading],
-) -> Result<Given, Fault<'a>>
+) -> Result<Given<'a>, Fault<'a>>
     requires { spec.AreFormats options.now first.now others.now }
     ensures { MatchResult result (λ given. spec.IsGiven greatest_year now options.now first.now others.now given)
         (λ fault. spec.IsFaultAt greatest_year now options.now (told fault)) }
@@ -281,7 +292,7 @@ fn find_bounds<'a>(
     now: Option<UtcDateTime>,
     first: &Reading,
     others: &[Reading],
-    given: &Given,
+    given: &Given<'_>,
 ) -> Result<(Option<OffsetDateTime>, Option<OffsetDateTime>), Fault<'a>>
     requires formats { spec.AreFormats options.now first.now others.now }
     requires given { spec.IsGiven greatest_year now options.now first.now others.now given.now }

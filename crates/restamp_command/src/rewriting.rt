@@ -14,6 +14,7 @@ ghost use Rattle.restamp_verdict.specs.Reason.{seen};
 ghost use Rattle.restamp_verdict.specs.declared.job.Job.{Job as Job_};
 ghost use Rattle.restamp_command.specs.Request.{IsJobOf};
 ghost use Rattle.restamp_command.specs.Rewriting.{IsFate, IsReason, TellsWrong};
+ghost use Rattle.restamp_command.specs.Zones.{zone_name};
 
 use crate::expected::write_expected;
 use crate::pointing::write_pointer;
@@ -30,6 +31,8 @@ use time_values::text::Text;
 pub struct Restamping<'a> {
     /// What is done with each line.
     pub job: Job<'a>,
+    /// What the zone is called whose clocks stand for offsets that times leave out.
+    pub zone: &'a str,
     /// Shows a refused line below its reason, with a caret under the column that is told, in colours.
     pub shows_lines: bool,
 }
@@ -41,12 +44,12 @@ impl Rewriting for Restamping<'_> {
     ghost is_fate = { λ restamping front fate. spec.IsFate greatest_year restamping.job front fate };
 
     ghost is_reason = { λ restamping front column reason.
-        spec.IsReason greatest_year restamping.job restamping.shows_lines front column reason };
+        spec.IsReason greatest_year restamping.job restamping.zone.now restamping.shows_lines front column reason };
 
     ghost one_fate = { λ restamping front a b p q. spec.one_fate restamping.job front a b p q };
 
     ghost one_reason = { λ restamping front column other reason why p q.
-        spec.one_reason restamping.job restamping.shows_lines front column other reason why p q };
+        spec.one_reason restamping.job restamping.zone.now restamping.shows_lines front column other reason why p q };
 
     #[inline(always)]
     fn fate(&self, front: &[u8]) -> Fate {
@@ -84,13 +87,17 @@ impl Restamping<'_> {
         reason: Reason,
         log: &mut L,
     ) -> Result<(), Unwritten>
-        ensures told { OnOk result (WritesReason (TellsWrong greatest_year self.now.job self.now.shows_lines front.now column (seen reason))
+        ensures told { OnOk result (WritesReason (TellsWrong greatest_year self.now.job self.now.zone.now self.now.shows_lines front.now column (seen reason))
             (L.contents log.old) (L.contents log.new)) }
         ensures cause { HasCause result (L.faults log.old) (L.faults log.new) }
     {
         let Wrong { column, expected } = self.job.find_wrong(front, column, reason);
         let lack = self.job.find_lack(front, reason);
-        let why = Why { reason, lack };
+        let why = Why {
+            reason,
+            lack,
+            zone: self.zone,
+        };
         if self.shows_lines {
             write!(log, "{column}: \x1b[31m{why}")?;
             write_expected(expected, log)?;
@@ -116,7 +123,7 @@ pub fn serve<W: Sink, L: Sink, O: Opening>(
     block: &mut Block,
 ) -> Result<(), Stop>
     ensures ok { (job : Job_) × IsJobOf request.now job
-        × OnOk result (DidFiles (IsFate greatest_year job) (IsReason greatest_year job request.now.shows_lines)
+        × OnOk result (DidFiles (IsFate greatest_year job) (IsReason greatest_year job (zone_name request.now.given.local) request.now.shows_lines)
         request.now.settings
         (O.bytes_of opening.old) (O.faults opening.old) (O.faults opening.new)
         (state_of W.contents L.contents stream.old) (state_of W.contents L.contents stream.new)
@@ -124,7 +131,7 @@ pub fn serve<W: Sink, L: Sink, O: Opening>(
     ensures unread { IfErr result (λ stop. stop ≢ Stop.Unread) }
     ensures refused { (job : Job_) × IsJobOf request.now job
         × IfErr result (λ stop. stop ≡ Stop.Refused →
-        StoppedIn (IsFate greatest_year job) (IsReason greatest_year job request.now.shows_lines) request.now.settings
+        StoppedIn (IsFate greatest_year job) (IsReason greatest_year job (zone_name request.now.given.local) request.now.shows_lines) request.now.settings
         (O.bytes_of opening.old) (O.faults opening.old) (O.faults opening.new)
         (state_of W.contents L.contents stream.old) (state_of W.contents L.contents stream.new)
         (map (λ name. name.now) names.now)) }
@@ -132,6 +139,7 @@ pub fn serve<W: Sink, L: Sink, O: Opening>(
 {
     let rewriting = Restamping {
         job: request.job(),
+        zone: request.given.local.zone_name(),
         shows_lines: request.shows_lines,
     };
     stream.serve_files(&rewriting, request.settings, names, opening, block)
@@ -151,13 +159,14 @@ pub fn replace<F: Folder, L: Sink + Drop>(
 ) -> (L, Tally, Result<Made, Unreplaced<Stop>>)
     ensures { (job : Job_) × IsJobOf request.now job
         × IfSome (F.events folder.old) (λ before. Replaces
-        (Makes (job_of (IsFate greatest_year job) (IsReason greatest_year job request.now.shows_lines)
+        (Makes (job_of (IsFate greatest_year job) (IsReason greatest_year job (zone_name request.now.given.local) request.now.shows_lines)
         target.entry.shown.now request.now.settings) (L.contents log) (L.contents result.0) result.1)
         before (F.events folder.new) target.entry.name.now (option_map (λ second. second.now) target.entry.backup) result.2) }
 {
     let shows_lines = request.shows_lines;
     let rewriting = Restamping {
         job: request.job(),
+        zone: request.given.local.zone_name(),
         shows_lines,
     };
     replace_file(

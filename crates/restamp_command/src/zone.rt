@@ -1,5 +1,5 @@
 //! The zones that options name.
-ghost use Rattle.std.specs.Prelude.{MatchResult};
+ghost use Rattle.std.specs.Prelude.{◌≡◌, MatchResult};
 ghost use Rattle.time_values.specs.Range.{greatest_year};
 ghost use Rattle.restamp_command.specs.Zones as spec;
 
@@ -35,32 +35,44 @@ impl Zone {
 
 /// What stands for an offset that a time leaves out.
 #[derive(Drop)]
-pub enum Local {
+pub enum Local<'a> {
     /// That offset.
     Offset(UtcOffset),
-    /// The clocks of a named zone, and which of two moments it is that they show alike.
-    Zone(NamedZone, Fold),
+    /// The clocks of a named zone, what it is called, and which of two moments it is that they show alike.
+    Zone(NamedZone, &'a str, Fold),
 }
 
 /// What is given for what a time leaves out.
 #[derive(Drop)]
-pub struct Given {
+pub struct Given<'a> {
     /// The year of a time that says no part of one.
     pub year: Option<i32>,
     /// What stands for its offset.
-    pub local: Local,
+    pub local: Local<'a>,
     /// A time that has no year either is the latest that isn't after this moment.
     pub latest: Option<OffsetDateTime>,
 }
 
-impl Given {
+impl Local<'_> {
+    /// What the zone is called whose clocks stand for offsets that times leave out, if there is one.
+    pub fn zone_name(&self) -> &str
+        ensures { result.now ≡ spec.zone_name self.now }
+    {
+        match self {
+            Local::Offset(_) => "its zone",
+            Local::Zone(_, name, _) => name,
+        }
+    }
+}
+
+impl Given<'_> {
     /// The defaults by which times are read.
     pub fn defaults(&self) -> Defaults<'_>
         ensures { spec.AreDefaultsOf self.now result }
     {
         let (offset, clocks) = match &self.local {
             Local::Offset(offset) => (Some(*offset), None),
-            Local::Zone(named, fold) => (
+            Local::Zone(named, _, fold) => (
                 None,
                 Some(Clocks {
                     zone: named.time_zone(),

@@ -99,8 +99,11 @@ fn found(rt: HostRuntime) {
 // A format, and a line that has a time by it among what might begin one.
 type Sample = (&'static [u8], &'static [u8]);
 
-static SAMPLES: [Sample; 4] = [
+static SAMPLES: [Sample; 7] = [
     (b"rfc3339", b"5 -2021-01-02T03:04:05Z x"),
+    (b"rfc3339", b"20 2021-01-02T03:04:05.25+01:00 "),
+    (b"rfc2822", b"m Fri, 2 Jan 1970 00:00:09 UT"),
+    (b"rfc2822", b"at 12 (c) 2 Jan 1970 00:00:09 UT"),
     (b"common", b"1/Oct 10/Oct/2000:13:55:36 -0700"),
     (b"%Y-%m-%d %H:%M %z", b"7 -2021-01-02 03:04 +0000"),
     (b"unix", b"x1 -60 +7 9y"),

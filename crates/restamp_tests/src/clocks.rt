@@ -27,7 +27,8 @@ fn berlin(alloc: Global) -> Option<NamedZone> {
 enum Answer {
     At(i64),
     LeftOut,
-    Twice,
+    // The offsets.
+    Twice([u8; 9], [u8; 9]),
     Otherwise,
 }
 
@@ -49,10 +50,12 @@ fn answer_of(
     match read_dated(&reading, false, text, &defaults) {
         Ok(said) => Answer::At(said.moment.unix_timestamp()),
         Err(Reason::LeftOut) => Answer::LeftOut,
-        Err(Reason::ShownTwice) => Answer::Twice,
+        Err(Reason::ShownTwice(offsets)) => Answer::Twice(offsets.earlier.0, offsets.later.0),
         Err(_) => Answer::Otherwise,
     }
 }
+
+const BOTH: Answer = Answer::Twice(*b"+02:00:00", *b"+01:00:00");
 
 type Row = (Fold, &'static [u8], Answer);
 
@@ -60,7 +63,7 @@ static ROWS: [Row; 8] = [
     (Fold::Refuse, b"2021-03-28 01:59", Answer::At(1_616_893_140)),
     (Fold::Later, b"2021-03-28 02:30", Answer::LeftOut),
     (Fold::Refuse, b"2021-03-28 03:00", Answer::At(1_616_893_200)),
-    (Fold::Refuse, b"2021-10-31 02:30", Answer::Twice),
+    (Fold::Refuse, b"2021-10-31 02:30", BOTH),
     (
         Fold::Earlier,
         b"2021-10-31 02:30",
@@ -90,7 +93,7 @@ fn on_clocks(rt: HostRuntime) {
 static UNDATED: [(i64, &[u8], Answer); 5] = [
     (1_638_316_800, b"Mar 28 02:30:00", Answer::LeftOut),
     (1_638_316_800, b"Mar 27 02:30:00", Answer::At(1_616_808_600)),
-    (1_638_316_800, b"Oct 31 02:30:00", Answer::Twice),
+    (1_638_316_800, b"Oct 31 02:30:00", BOTH),
     (1_612_137_600, b"Mar 28 02:30:00", Answer::At(1_585_359_000)),
     (1_612_137_600, b"Oct 31 02:30:00", Answer::At(1_604_107_800)),
 ];

@@ -8,6 +8,8 @@ mod anywhere;
 mod bounds;
 #[cfg(test)]
 mod clocks;
+#[cfg(test)]
+mod fronts;
 pub mod memory;
 #[cfg(test)]
 mod places;

@@ -1,37 +1,37 @@
 -- From a byte with which no text of a format begins nothing is said.
-use Rattle.std.proofs.Common.{◌≡◌, ℕ, zero, suc, ◌+◌, ◌-◌, ◌<◌, ◌≤◌, ◌==◌, ◌++◌, ℤ, pos, Bool, true, false, not, List, [], ◌∷◌, codes, length, get_or, take, drop, refl, sym, ap, subst, arith, inl, inr, get_or-drop, get_or-take, ◌∙◌, None, Some, Err}
-use Rattle.std.specs.Prelude.{Option, Result, ◌&&◌, ◌||◌, MatchBool, MatchOption, ◌-ℤ◌, neg_ℤ}
+use Rattle.std.proofs.Common.{◌≡◌, ℕ, zero, suc, ◌+◌, ◌<◌, ◌≤◌, ◌==◌, ◌++◌, ℤ, pos, Bool, true, false, not, List, [], ◌∷◌, codes, length, get_or, take, drop, refl, sym, ap, subst, arith, inl, inr, get_or-drop, get_or-take, ◌∙◌, None, Some, Err}
+use Rattle.std.specs.Prelude.{Option, Result, if◌then◌else◌, ◌&&◌, ◌||◌, MatchBool, MatchOption, ◌-ℤ◌, neg_ℤ}
 use Rattle.std.specs.Char.{is_ascii_digit}
 use Rattle.std.proofs.lemmas.Int.{ints}
 use Rattle.time_values.specs.Calendar.{IsBetween}
-use Rattle.std.proofs.lemmas.Bool.{and_from, and_right, le-leb, or_from, or_left, or_parts, or_right, true≢false}
+use Rattle.std.proofs.lemmas.Bool.{and_from, and_left, and_right, or_from, or_left, or_parts, or_right, true≢false}
 use Rattle.std.proofs.lemmas.List.{take_more}
 use Rattle.time_values.specs.Refusal.{Refusal, component as of_component}
 use Rattle.time_values.specs.declared.offset_date_time.OffsetDateTime.{OffsetDateTime}
 use Rattle.time_values.specs.declared.utc_offset.UtcOffset.{UtcOffset}
 use Rattle.time_digits.specs.Bytes.{sign_byte}
-use Rattle.time_digits.specs.Cuts.{NoCut}
-use Rattle.time_digits.specs.Digits.{IsDigit, IsDigitRun, IsPaddedRun}
+use Rattle.time_digits.specs.Digits.{IsDigitRun, IsPaddedRun}
 use Rattle.time_digits.specs.declared.Padding.{Padding}
 use Rattle.time_digits.specs.declared.Padding.TheVariants as padding
 use Rattle.time_digits.specs.declared.Sign.{Sign}
 use Rattle.time_digits.specs.declared.Sign.TheVariants.{Negative, Positive}
-use Rattle.time_components.specs.Spelling.{Value, Spells, IsSigned}
+use Rattle.time_components.specs.Spelling.{Value, Spells}
 use Rattle.time_components.specs.Steps.{steps_shape, trees_in}
-use Rattle.time_components.specs.Tree.{Tree, Trees, component, more, sequence}
+use Rattle.time_components.specs.Tree.{Trees, component, more, sequence}
 use Rattle.time_components.specs.declared.format_description.Component.{Component}
 use Rattle.time_components.specs.declared.format_description.Component.TheVariants as variant
 use Rattle.time_components.specs.declared.step.Step.{Step}
 use Rattle.time_components.specs.declared.step.Step.TheVariants as step
 use Rattle.time_readers.specs.Places.{Stand}
-use Rattle.time_readers.specs.Rfc3339.{Asks, FailsAt, nothing_read}
+use Rattle.time_readers.specs.Rfc3339.{FailsAt, nothing_read}
+use Rattle.time_readers.specs.declared.rfc2822.Place.TheVariants as mail_place
 use Rattle.time_readers.specs.declared.rfc3339.Place.TheVariants.{Year, YearDash, Month, MonthDash, Day, Separator, Hour, HourColon, Minute, MinuteColon, Second, Subsecond, OffsetHour, OffsetColon, OffsetMinute}
 use Rattle.time_record.specs.Components.{component_fault}
 use Rattle.time_record.specs.Reading.{IsFault, IsFaultAll, NoReading, Reads, ReadsAll, Refuses}
 use Rattle.time_record.specs.Record.{empty}
-use Rattle.restamp_verdict.specs.Begins.{IsInNone, component_firsts, digits, format_firsts, is_in, numbers, padded, steps_firsts}
+use Rattle.restamp_verdict.specs.Begins.{IsInNone, component_firsts, digits, format_firsts, has_year, is_gap, is_in, is_weekday, may_be_of, numbers, padded, steps_firsts}
 use Rattle.restamp_verdict.specs.Job.{AreTriedAlone, SaysAlone, SaysFrom, is_inside}
-use Rattle.restamp_verdict.specs.Reading.{AreYearsTried, IsDated, IsRead, SaysLocally, SaysOn, Undated, at_offset, in_year, undated, year_after}
+use Rattle.restamp_verdict.specs.Reading.{AreYearsTried, IsDated, IsRead, SaysLocally, SaysOn, at_offset, in_year, undated, year_after}
 use Rattle.restamp_verdict.specs.declared.local.Clocks.{Clocks}
 use Rattle.restamp_verdict.specs.Reason.{Reason, unread}
 use Rattle.restamp_verdict.specs.declared.anywhere.fast.Firsts.{Firsts}
@@ -41,21 +41,14 @@ use Rattle.restamp_verdict.specs.declared.reading.Defaults.{Defaults}
 use Rattle.restamp_verdict.specs.declared.reading.Reading.{Reading}
 use Rattle.restamp_verdict.specs.declared.reading.Reading.TheVariants as reading
 use Rattle.restamp_verdict.specs.declared.reading.Said.{Said}
+use Rattle.restamp_verdict.proofs.MailBegins.{digit-first, mail-fails, run-first}
 
 -- the first byte of a text
 abbrev first : List ℕ → ℕ
 first text = get_or text 0 0
 
-digit-first : (c : ℕ) → IsDigit c → is_ascii_digit c ≡ true
-digit-first c h = and_from _ _ (le-leb _ _ h.0) (le-leb _ _ h.1)
-
--- a run of digits begins with one
-run-first : (least most : ℕ) (text rest : List ℕ) (v : ℕ) → 1 ≤ least → IsDigitRun least most text rest v → is_ascii_digit (first (text ++ rest)) ≡ true
-run-first least most [] rest v some h = let enough = h.enough in absurd (omega arith)
-run-first least most (c ∷ cs) rest v some h = digit-first c h.digits.0
-
 digit-in : (f : Firsts) (x : ℕ) → is_ascii_digit x ≡ true → is_in f x ≡ true
-digit-in f x h = or_left _ _ (or_left _ _ h)
+digit-in f x h = or_left _ _ (or_left _ _ (or_left _ _ h))
 
 -- and so does one of some width, where no spaces fill it up
 padded-first : (p : Padding) (f : Firsts) (least most : ℕ) (text rest : List ℕ) (v : ℕ) → 1 ≤ least → IsPaddedRun p least most text rest v
@@ -122,8 +115,18 @@ steps-refuse Y (step.More b ∷ steps) bytes none = absurd (true≢false (sym (o
 steps-refuse Y (step.Group g n ∷ steps) bytes none = absurd (true≢false (sym (or_right _ _ refl) ∙ none))
 steps-refuse Y (step.Component c ∷ steps) bytes none = (component_fault c, sequence-refuses Y c (trees_in (length steps) steps) bytes none)
 
--- and so does RFC 3339
-year-fails : (bytes : List ℕ) → is_in digits (first bytes) ≡ false → FailsAt true bytes Year
+-- a year of RFC 3339 is four digits
+year-digits : (text rest : List ℕ) (v : ℕ) → IsDigitRun 4 4 text rest v → has_year (text ++ rest) ≡ true
+year-digits [] rest v h = let enough = h.enough in absurd (omega arith)
+year-digits (a ∷ []) rest v h = let enough = h.enough in absurd (omega arith)
+year-digits (a ∷ b ∷ []) rest v h = let enough = h.enough in absurd (omega arith)
+year-digits (a ∷ b ∷ c ∷ []) rest v h = let enough = h.enough in absurd (omega arith)
+year-digits (a ∷ b ∷ c ∷ d ∷ text) rest v h =
+    let all = h.digits in
+    and_from _ _ (and_from _ _ (and_from _ _ (digit-first a all.0) (digit-first b all.1.0)) (digit-first c all.1.1.0)) (digit-first d all.1.1.1.0)
+
+-- and so does RFC 3339 where no year stands
+year-fails : (bytes : List ℕ) → has_year bytes ≡ false → FailsAt true bytes Year
 unfolding Stand
 year-fails bytes none =
     record {
@@ -135,20 +138,21 @@ year-fails bytes none =
       numbers = nothing_read;
       stand = (refl, refl);
       stops = λ text rest v cut h.
-          true≢false (sym (subst (λ (b : List ℕ). is_in digits (first b) ≡ true) (sym cut)
-          (digit-in digits (first (text ++ rest)) (run-first 4 4 text rest h.0 (omega arith) h.1))) ∙ none);
+          true≢false (sym (subst (λ (b : List ℕ). has_year b ≡ true) (sym cut) (year-digits text rest h.0 h.1)) ∙ none);
     }
 
 -- A format refuses bytes with which no text of it begins, whatever stands for the rest.
 abbrev Refused : ℕ → Reading → List ℕ → Type 0
 Refused Y format text = (e : Refusal) × ((defaults : Defaults) → IsRead Y format true text defaults (Err e))
 
-refused : (Y : ℕ) (format : Reading) (text : List ℕ) → is_in (format_firsts format) (first text) ≡ false → Refused Y format text
+refused : (Y : ℕ) (format : Reading) (text : List ℕ) → may_be_of format text ≡ false → Refused Y format text
 refused Y reading.Rfc3339 text none =
     let e = of_component (codes "year") in
     (e, λ defaults. (Err e, inl (Year, year-fails text none, refl), refl))
-refused Y reading.Rfc2822 text none = absurd (true≢false (sym (or_right _ _ refl) ∙ none))
-refused Y reading.Iso8601 text none = absurd (true≢false (sym (or_right _ _ refl) ∙ none))
+refused Y reading.Rfc2822 text none =
+    let e = of_component (codes "day") in
+    (e, λ defaults. (Err e, (Err e, inl (mail_place.Day, mail-fails text none, refl), refl), refl))
+refused Y reading.Iso8601 text none = absurd (true≢false none)
 refused Y (reading.Described d) text none = let h = steps-refuse Y d text none in (h.0, λ defaults. (Err h.0, inl h.1, refl))
 refused Y (reading.Complete d) text none = let h = steps-refuse Y d text none in (h.0, λ defaults. (Err h.0, inl h.1, refl))
 refused Y (reading.Counted d) text none = let h = steps-refuse Y d text none in (h.0, λ defaults. (Err h.0, inl h.1, refl))
@@ -207,31 +211,69 @@ dated-refused : (Y : ℕ) (format : Reading) (text : List ℕ) (defaults : Defau
 dated-refused Y format text defaults h =
     (Err (unread h.0), locally-refused Y format text defaults h, latest-refused Y format text defaults.offset defaults.clocks h defaults.latest)
 
-near-first : (line : List ℕ) (k : ℕ) → first (take REACH (drop k line)) ≡ get_or line k 0
-near-first line k =
-    let from : k + 0 ≡ k = omega arith in
-    get_or-take REACH (drop k line) 0 0 (omega arith) ∙ get_or-drop k line 0 0 ∙ ap (λ (j : ℕ). get_or line j 0) from
+neither : (b p q : Bool) → b ≡ false → q ≡ false → (if b then p else q) ≡ false
+neither true p q other none = absurd (true≢false other)
+neither false p q other none = none
 
--- From a byte with which no text of the format begins the line says nothing by it.
-pub says-nothing : (Y : ℕ) (job : Job) (line : List ℕ) (k : ℕ) (format : Reading) → is_in (format_firsts format) (get_or line k 0) ≡ false
+no_digits : (a b c d : Bool) → a ≡ false → (a && b && c && d) ≡ false
+no_digits true b c d none = absurd (true≢false none)
+no_digits false b c d none = refl
+
+-- by the first bytes alone a format refuses what it refuses by more of them
+unlike : (format : Reading) (text : List ℕ) → is_in (format_firsts format) (first text) ≡ false → may_be_of format text ≡ false
+unlike reading.Rfc3339 text none =
+    let others = or_parts (is_ascii_digit (first text) || false || false) false none in
+    let mail = or_parts (is_ascii_digit (first text) || false) false others.0 in
+    let digit = or_parts (is_ascii_digit (first text)) false mail.0 in
+    no_digits (is_ascii_digit (first text)) _ _ _ digit.0
+unlike reading.Rfc2822 text none =
+    let outer = or_parts _ _ none in
+    let inner = or_parts _ _ outer.0 in
+    let letters = or_parts _ _ inner.1 in
+    let space : (first text == 32) ≡ false = (or_parts _ _ (or_parts _ _ (or_parts _ _ letters.0).0).0).0 in
+    neither (first text == 32) _ _ space
+    (or_from _ _ (or_from _ _ (or_parts _ _ inner.0).0 letters.0) (and_left _ _ letters.1))
+unlike reading.Iso8601 text none = absurd (true≢false (sym (or_right _ _ refl) ∙ none))
+unlike (reading.Described d) text none = none
+unlike (reading.Complete d) text none = none
+unlike (reading.Counted d) text none = none
+
+-- the first bytes of the part that is read
+near : (format : Reading) (text : List ℕ) → may_be_of format (take REACH text) ≡ may_be_of format text
+near reading.Rfc3339 text =
+    rw (
+      get_or-take REACH text 0 0 (omega arith),
+      get_or-take REACH text 1 0 (omega arith),
+      get_or-take REACH text 2 0 (omega arith),
+      get_or-take REACH text 3 0 (omega arith),
+    ) refl
+near reading.Rfc2822 text =
+    rw (get_or-take REACH text 0 0 (omega arith), get_or-take REACH text 1 0 (omega arith), get_or-take REACH text 2 0 (omega arith)) refl
+near reading.Iso8601 text = refl
+near (reading.Described d) text = rw (get_or-take REACH text 0 0 (omega arith)) refl
+near (reading.Complete d) text = rw (get_or-take REACH text 0 0 (omega arith)) refl
+near (reading.Counted d) text = rw (get_or-take REACH text 0 0 (omega arith)) refl
+
+-- From bytes with which no text of the format begins the line says nothing by it.
+pub says-nothing : (Y : ℕ) (job : Job) (line : List ℕ) (k : ℕ) (format : Reading) → may_be_of format (drop k line) ≡ false
     → SaysAlone Y job line k format None
 says-nothing Y job line k format none =
     let text = take REACH (drop k line) in
-    let h = refused Y format text (ap (is_in (format_firsts format)) (near-first line k) ∙ none) in
+    let h = refused Y format text (near format (drop k line) ∙ none) in
     (Err (unread h.0), dated-refused Y format text job.defaults h, refl)
 
-tried-nothing : (Y : ℕ) (job : Job) (line : List ℕ) (k : ℕ) (formats : List Reading) → IsInNone (get_or line k 0) formats
+tried-nothing : (Y : ℕ) (job : Job) (line : List ℕ) (k : ℕ) (formats : List Reading) → IsInNone (first (drop k line)) formats
     → AreTriedAlone Y job line k formats None
 tried-nothing Y job line k [] none = refl
 tried-nothing Y job line k (format ∷ formats) none =
-    (None, says-nothing Y job line k format none.0, tried-nothing Y job line k formats none.1)
+    (None, says-nothing Y job line k format (unlike format (drop k line) none.0), tried-nothing Y job line k formats none.1)
 
 -- nothing is said
 abbrev nothing : Option Said
 nothing = None
 
 from-nothing : (Y : ℕ) (job : Job) (line : List ℕ) (k : ℕ) (inside within : Bool)
-    → (not inside && within) ≡ false → (within ≡ false → IsInNone (get_or line k 0) (job.first.now ∷ job.others.now))
+    → (not inside && within) ≡ false → (within ≡ false → IsInNone (first (drop k line)) (job.first.now ∷ job.others.now))
     → MatchBool inside (nothing ≡ nothing) (AreTriedAlone Y job line k (job.first.now ∷ job.others.now) None)
 from-nothing Y job line k true within none h = refl
 from-nothing Y job line k false within none h = tried-nothing Y job line k (job.first.now ∷ job.others.now) (h none)
@@ -240,7 +282,12 @@ from-nothing Y job line k false within none h = tried-nothing Y job line k (job.
 pub says-none : (Y : ℕ) (job : Job) (line : List ℕ) (f : Firsts)
     → ((x : ℕ) → is_in f x ≡ false → IsInNone x (job.first.now ∷ job.others.now)) → (k : ℕ)
     → (not (is_inside line k) && is_in f (get_or line k 0)) ≡ false → SaysFrom Y job line k None
-says-none Y job line f all k none = from-nothing Y job line k (is_inside line k) (is_in f (get_or line k 0)) none (all (get_or line k 0))
+says-none Y job line f all k none =
+    let here = get_or-drop k line 0 0 in
+    let from : k + 0 ≡ k = omega arith in
+    let same : get_or line k 0 ≡ first (drop k line) = sym (here ∙ ap (λ (j : ℕ). get_or line j 0) from) in
+    from-nothing Y job line k (is_inside line k) (is_in f (get_or line k 0)) none
+    (λ within. subst (λ (x : ℕ). IsInNone x (job.first.now ∷ job.others.now)) same (all (get_or line k 0) within))
 
 joined_and : (p q s : Bool) → ((p || q) && s) ≡ false → ((p && s) ≡ false) × ((q && s) ≡ false)
 joined_and true q s h = (h, and_right q s h)
@@ -248,16 +295,20 @@ joined_and false q s h = (refl, h)
 
 -- the bytes of one of two
 abbrev pub joined : Firsts → Firsts → Firsts
-joined a b = record { signs = a.signs || b.signs; others = a.others || b.others }
+joined a b = record { signs = a.signs || b.signs; mail = a.mail || b.mail; others = a.others || b.others }
 
 -- a byte that isn't among these is in neither
 pub in-joined : (a b : Firsts) (x : ℕ) → is_in (joined a b) x ≡ false → (is_in a x ≡ false) × (is_in b x ≡ false)
 in-joined a b x none =
     let outer = or_parts _ _ none in
-    let inner = or_parts _ _ outer.0 in
+    let middle = or_parts _ _ outer.0 in
+    let inner = or_parts _ _ middle.0 in
     let signs = joined_and a.signs b.signs (x == 43 || x == 45) inner.1 in
-    let others = or_parts _ _ outer.1 in
-    (or_from _ _ (or_from _ _ inner.0 signs.0) others.0, or_from _ _ (or_from _ _ inner.0 signs.1) others.1)
+    let mail = joined_and a.mail b.mail (is_gap x || is_weekday x) middle.1 in
+    let others = or_parts _ _ outer.1 in (
+      or_from _ _ (or_from _ _ (or_from _ _ inner.0 signs.0) mail.0) others.0,
+      or_from _ _ (or_from _ _ (or_from _ _ inner.0 signs.1) mail.1) others.1,
+    )
 
 none-push : (x : ℕ) (formats : List Reading) (format : Reading) → IsInNone x formats → is_in (format_firsts format) x ≡ false
     → IsInNone x (formats ++ format ∷ [])

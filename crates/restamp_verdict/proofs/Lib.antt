@@ -4,6 +4,8 @@ pub mod ReadingLemmas
 pub mod LocalLemmas
 pub mod Completing
 pub mod AloneLemmas
+mod MailBegins
+mod FrontLemmas
 pub mod BeginsLemmas
 pub mod BareLemmas
 pub mod OneWriting
@@ -21,3 +23,4 @@ pub mod LackRecords
 pub mod LackTrees
 pub mod LackMoments
 pub mod LackUses
+pub mod LackClocks

@@ -1,6 +1,6 @@
 -- What a text says on the clocks of a zone.
-use Rattle.std.proofs.Common.{◌≡◌, ℕ, ℤ, Bool, true, List, refl, ap, subst, ◌∙◌, None, Some, Ok, Err}
-use Rattle.std.specs.Prelude.{Option, Result}
+use Rattle.std.proofs.Common.{◌≡◌, ℕ, ℤ, Bool, List, refl, ap, subst, ◌∙◌, None, Some, Ok, Err}
+use Rattle.std.specs.Prelude.{Result}
 use Rattle.time_values.specs.Moments.{offset_of}
 use Rattle.time_values.specs.Offsets.{IsUtc}
 use Rattle.time_values.specs.declared.utc_offset.UtcOffset.{UtcOffset}

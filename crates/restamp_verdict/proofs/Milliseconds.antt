@@ -58,7 +58,9 @@ module _ (v : OffsetDateTime) (z : ℤ) (within : IsInstant greatest_year (offse
   pub sum_whole : IsWhole 1_000_000 (offset_instant greatest_year v) (z *ℤ pos 1_000 +ℤ pos (nanosecond (offset_time v) / 1_000_000))
   sum_whole =
       millis (offset_instant greatest_year v)
-      ((pos (day_number greatest_year (offset_date v)) -ℤ pos 365_961_662) *ℤ pos 86_400 +ℤ pos (Times.hour (offset_time v) * 3600 + Times.minute (offset_time v) * 60 + Times.second (offset_time v)) -ℤ offset_seconds (offset_of v))
+      ((pos (day_number greatest_year (offset_date v)) -ℤ pos 365_961_662) *ℤ pos 86_400
+      +ℤ pos (Times.hour (offset_time v) * 3600 + Times.minute (offset_time v) * 60 + Times.second (offset_time v))
+      -ℤ offset_seconds (offset_of v))
       z ns q (ns % 1_000_000)
       (omega (arith, ints, instant_is (offset_date v) (offset_time v) (offset_of v), clock_nanos_is (offset_date v) (offset_time v)))
       (omega (arith, v.time.nanosecond_in)) (omega (arith, split)) rest_small whole
@@ -67,5 +69,8 @@ module _ (v : OffsetDateTime) (z : ℤ) (within : IsInstant greatest_year (offse
       ≡ z *ℤ pos 1_000 +ℤ pos (nanosecond (offset_time v) / 1_000_000)
   sum_kept = to_z-of_z w64 (z *ℤ pos 1_000 +ℤ pos (nanosecond (offset_time v) / 1_000_000)) sum_fits
 
-pub part_kept : (v : OffsetDateTime) → to_z w64 (of_z w64 (pos (nanosecond (offset_time v) / 1_000_000))) ≡ pos (nanosecond (offset_time v) / 1_000_000)
-part_kept v = to_z-of_z w64 (pos (nanosecond (offset_time v) / 1_000_000)) (omega (arith, ints, div-add-mod' (nanosecond (offset_time v)) 1_000_000, v.time.nanosecond_in))
+pub part_kept : (v : OffsetDateTime)
+    → to_z w64 (of_z w64 (pos (nanosecond (offset_time v) / 1_000_000))) ≡ pos (nanosecond (offset_time v) / 1_000_000)
+part_kept v =
+    to_z-of_z w64 (pos (nanosecond (offset_time v) / 1_000_000))
+    (omega (arith, ints, div-add-mod' (nanosecond (offset_time v)) 1_000_000, v.time.nanosecond_in))

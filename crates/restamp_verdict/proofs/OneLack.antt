@@ -1,5 +1,5 @@
 -- What the time of a refused line lacks is one.
-use Rattle.std.proofs.Common.{◌≡◌, ◌∙◌, ap, sym, subst, ℕ, Bool, true, false, List, Option, Some, None, inl, inr}
+use Rattle.std.proofs.Common.{◌≡◌, ◌∙◌, ap, sym, ℕ, Bool, true, false, List, Option, Some, None, inl, inr}
 use Rattle.std.specs.Prelude.{MatchBool, MatchOption, slice_range}
 use Rattle.time_values.specs.Range.{greatest_year}
 use Rattle.time_components.specs.Steps.{steps_shape}
@@ -9,9 +9,8 @@ use Rattle.time_parsing.specs.Outcome as Outcome
 use Rattle.time_parsing.specs.Outcome.{Refusing, IsExact}
 use Rattle.time_parsing.specs.exact.DescriptionLaws.{tree_exact}
 use Rattle.time_parsing.specs.exact.Iso8601Laws.{iso8601_exact}
-use Rattle.restamp_verdict.specs.Missing.{IsLack, IsLackBy, IsLackPart, OneLack, dated, is_insufficient, lack_in}
+use Rattle.restamp_verdict.specs.Missing.{IsLackBy, IsLackPart, OneLack, dated, is_insufficient, lack_in}
 use Rattle.restamp_verdict.specs.Reading.{completed}
-use Rattle.restamp_verdict.specs.declared.job.Job.{Job}
 use Rattle.restamp_verdict.specs.declared.lack.Lack.{Lack}
 use Rattle.restamp_verdict.specs.declared.reading.Defaults.{Defaults}
 use Rattle.restamp_verdict.specs.declared.reading.Reading.{Reading}

@@ -1,7 +1,7 @@
 -- No public contract rests on this file.
 --
 -- With which bytes the texts of a format may begin.
-use Rattle.std.specs.Prelude.{◌≡◌, ℕ, Bool, true, false, not, ◌&&◌, ◌||◌, ◌==◌, List, [], ◌∷◌, slice_index}
+use Rattle.std.specs.Prelude.{◌≡◌, ℕ, ◌-◌, Bool, true, false, not, if◌then◌else◌, ◌&&◌, ◌||◌, ◌==◌, List, [], ◌∷◌, slice_index}
 use Rattle.std.specs.Char.{is_ascii_digit}
 use Rattle.time_digits.specs.declared.Padding.{Padding}
 use Rattle.time_digits.specs.declared.Padding.TheVariants as padding
@@ -14,19 +14,40 @@ use Rattle.restamp_verdict.specs.declared.anywhere.fast.Firsts.{Firsts}
 use Rattle.restamp_verdict.specs.declared.reading.Reading.{Reading}
 use Rattle.restamp_verdict.specs.declared.reading.Reading.TheVariants as reading
 
--- digits; digits and signs; any byte
+-- digits; digits and signs; what a mail date may begin with; any byte
 abbrev pub digits : Firsts
-digits = record { signs = false; others = false }
+digits = record { signs = false; mail = false; others = false }
 
 abbrev pub numbers : Firsts
-numbers = record { signs = true; others = false }
+numbers = record { signs = true; mail = false; others = false }
+
+abbrev pub mail : Firsts
+mail = record { signs = false; mail = true; others = false }
 
 abbrev pub all : Firsts
-all = record { signs = true; others = true }
+all = record { signs = true; mail = false; others = true }
+
+-- blanks or a comment may begin with the byte
+abbrev pub is_gap : ℕ → Bool
+is_gap x = x == 32 || x == 9 || x == 13 || x == 40
+
+-- the byte is that letter, which is small, in either case
+abbrev pub is_letter : ℕ → ℕ → Bool
+is_letter x letter = x == letter || x == letter - 32
+
+-- the name of a weekday may begin with the byte
+abbrev pub is_weekday : ℕ → Bool
+is_weekday x = is_letter x 109 || is_letter x 116 || is_letter x 119 || is_letter x 102 || is_letter x 115
+
+-- it may go on with the byte
+abbrev pub is_weekday_second : ℕ → Bool
+is_weekday_second x =
+    is_letter x 111 || is_letter x 117 || is_letter x 101 || is_letter x 104 || is_letter x 114 || is_letter x 97
 
 -- a text may begin with the byte
 abbrev pub is_in : Firsts → ℕ → Bool
-is_in f x = is_ascii_digit x || (f.signs && (x == 43 || x == 45)) || f.others
+is_in f x =
+    is_ascii_digit x || (f.signs && (x == 43 || x == 45)) || (f.mail && (is_gap x || is_weekday x)) || f.others
 
 -- those bytes, where spaces don't fill up to a width
 abbrev pub padded : Padding → Firsts → Firsts
@@ -55,7 +76,7 @@ steps_firsts _ = all
 -- those of a format
 abbrev pub format_firsts : Reading → Firsts
 format_firsts reading.Rfc3339 = digits
-format_firsts reading.Rfc2822 = all
+format_firsts reading.Rfc2822 = mail
 format_firsts reading.Iso8601 = all
 format_firsts (reading.Described d) = steps_firsts d
 format_firsts (reading.Complete d) = steps_firsts d
@@ -69,3 +90,28 @@ IsInNone x (format ∷ formats) = (is_in (format_firsts format) x ≡ false) × 
 -- a text may begin at that place of a line
 abbrev pub may_begin : Firsts → List ℕ → ℕ → Bool
 may_begin f line k = not (is_inside line k) && is_in f (slice_index line k)
+
+-- four digits stand in front
+abbrev pub has_year : List ℕ → Bool
+has_year bytes =
+    is_ascii_digit (slice_index bytes 0) && is_ascii_digit (slice_index bytes 1) && is_ascii_digit (slice_index bytes 2)
+    && is_ascii_digit (slice_index bytes 3)
+
+-- a day or a weekday may begin with two bytes, or a comment or more blanks before them
+abbrev pub begins_day : ℕ → ℕ → Bool
+begins_day x y = is_ascii_digit x || is_gap x || (is_weekday x && is_weekday_second y)
+
+-- a mail date may stand in front, as far as three bytes tell
+abbrev pub may_be_mail : List ℕ → Bool
+may_be_mail bytes =
+    if slice_index bytes 0 == 32 then begins_day (slice_index bytes 1) (slice_index bytes 2)
+    else begins_day (slice_index bytes 0) (slice_index bytes 1)
+
+-- a text of the format may stand in front, as far as the first bytes tell
+abbrev pub may_be_of : Reading → List ℕ → Bool
+may_be_of reading.Rfc3339 bytes = has_year bytes
+may_be_of reading.Rfc2822 bytes = may_be_mail bytes
+may_be_of reading.Iso8601 bytes = true
+may_be_of (reading.Described d) bytes = is_in (steps_firsts d) (slice_index bytes 0)
+may_be_of (reading.Complete d) bytes = is_in (steps_firsts d) (slice_index bytes 0)
+may_be_of (reading.Counted d) bytes = is_in (steps_firsts d) (slice_index bytes 0)

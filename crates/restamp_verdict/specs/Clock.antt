@@ -1,5 +1,5 @@
 -- The clock on which a time is shown. `Y` is the greatest year.
-use Rattle.std.specs.Prelude.{◌≡◌, ℕ, Option, None, Some, MatchOption}
+use Rattle.std.specs.Prelude.{◌≡◌, ℕ, Option, Some, MatchOption}
 use Rattle.jiff_core.specs.Timestamp.{IsTimestampNanos}
 use Rattle.jiff_tz.specs.Zone as Zone
 use Rattle.jiff_tz.specs.declared.timezone.TimeZone.{TimeZone}

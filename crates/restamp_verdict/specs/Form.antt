@@ -1,5 +1,5 @@
 -- How a time is written. `Y` is the greatest year.
-use Rattle.std.specs.Prelude.{◌≡◌, ℕ, ℤ, List, Option, None, Some, Result, Ok, Err, MatchOption}
+use Rattle.std.specs.Prelude.{◌≡◌, ℕ, ℤ, List, Option, Result, Ok, Err, MatchOption}
 use Rattle.std.specs.Fmt.{signed_decimal}
 use Rattle.time_descriptions.specs.Description.{shape}
 use Rattle.time_formatting.specs.Texts.{text_of}

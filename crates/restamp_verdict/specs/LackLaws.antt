@@ -1,12 +1,13 @@
 -- Laws of what no text of a format says. `Y` is the greatest year.
-use Rattle.std.specs.Prelude.{◌≡◌, ℕ, Bool, true, ◌||◌, List, Some, is_some, Result, Ok}
+use Rattle.std.specs.Prelude.{◌≡◌, ℕ, Bool, true, false, ◌||◌, List, None, Some, is_some, Result, Ok}
 use Rattle.time_components.specs.Tree.{Tree}
 use Rattle.time_record.specs.Reading.{Reads}
 use Rattle.time_record.specs.Record.{Record, empty}
 use Rattle.time_values.specs.Refusal.{Refusal}
 use Rattle.time_values.specs.declared.offset_date_time.OffsetDateTime.{OffsetDateTime}
-use Rattle.restamp_verdict.specs.Lack.{always, format_lack}
-use Rattle.restamp_verdict.specs.Reading.{IsCompleted, IsDated}
+use Rattle.restamp_verdict.specs.Lack.{always, format_lack, takes}
+use Rattle.restamp_verdict.specs.Reading.{IsCompleted, IsDated, SaysLocally}
+use Rattle.restamp_verdict.specs.Reason.{Reason}
 use Rattle.restamp_verdict.specs.declared.lack.Lack.{Lack}
 use Rattle.restamp_verdict.specs.declared.lack.Part.{Part}
 use Rattle.restamp_verdict.specs.declared.lack.Part.TheVariants as part
@@ -36,3 +37,10 @@ HasNoUse Y =
     (result : Result OffsetDateTime Refusal)
     → always p tree ≡ true → Reads Y tree bytes empty rest r → SameBut p defaults others
     → IsCompleted Y defaults r result → IsCompleted Y others r result
+
+-- Where no text by a format leaves its offset out, it makes no difference whether the clocks of a zone stand for one.
+abbrev pub ClocksHaveNoUse : ℕ → Type 0
+ClocksHaveNoUse Y =
+    (format : Reading) (is_open : Bool) (text : List ℕ) (defaults : Defaults) (result : Result Said Reason)
+    → takes part.Offset format ≡ false → SaysLocally Y format is_open text defaults result
+    → SaysLocally Y format is_open text (record defaults { clocks = None }) result

@@ -13,7 +13,7 @@ use Rattle.time_values.specs.Refusal.{Refusal, insufficient}
 use Rattle.time_values.specs.declared.offset_date_time.OffsetDateTime.{OffsetDateTime}
 use Rattle.restamp_verdict.specs.Reading.{completed, has_year, in_year}
 use Rattle.restamp_verdict.specs.Lack.{lack_text}
-use Rattle.restamp_verdict.specs.Reason.{Reason, unread, reason_text}
+use Rattle.restamp_verdict.specs.Reason.{Reason, unread, text_with}
 use Rattle.restamp_verdict.specs.declared.job.Job.{Job}
 use Rattle.restamp_verdict.specs.declared.lack.Lack.{Lack}
 use Rattle.restamp_verdict.specs.declared.lack.Lack.TheVariants as lack
@@ -106,10 +106,11 @@ IsLack Y job line reason result =
     (λ span. IsLackPart Y job.first.now (dated job.defaults) (slice_range line span.start span.stop) result)))
     (result ≡ None)
 
--- what is printed of why a time isn't rewritten: the reason, or in its place what the time lacks
-abbrev pub why_text : Reason → Option Lack → List ℕ
-why_text reason None = reason_text reason
-why_text reason (Some lack) = lack_text lack
+-- what is printed of why a time isn't rewritten, with what its zone is called: the reason, or in its place what the
+-- time lacks
+abbrev pub why_text : List ℕ → Reason → Option Lack → List ℕ
+why_text zone reason None = text_with zone reason
+why_text zone reason (Some lack) = lack_text lack
 
 -- What the time of a line lacks is one.
 abbrev pub OneLack : ℕ → Type 0

@@ -225,7 +225,7 @@ IsReadInYear Y u year = SaysLocally Y u.format u.is_open u.text (in_year year u.
 -- the clocks of a zone refuse a date and time
 abbrev pub is_of_clocks : Reason → Bool
 is_of_clocks left_out = true
-is_of_clocks shown_twice = true
+is_of_clocks (shown_twice offsets) = true
 is_of_clocks reason = false
 
 -- a moment that is said and isn't too late
@@ -262,8 +262,8 @@ IsDated Y format is_open text defaults result =
     (plain : Result Said Reason) × SaysLocally Y format is_open text defaults plain
     × MatchResult plain (λ s. result ≡ Ok s)
     (λ reason. MatchOption defaults.latest (result ≡ Err reason)
-    (λ latest. AreYearsTried Y (undated format is_open text defaults.offset defaults.clocks latest) 10 (year_after latest)
-    reason result))
+    (λ latest. AreYearsTried Y (undated format is_open text defaults.offset defaults.clocks latest)
+    10 (year_after latest) reason result))
 
 -- what it says by the first of these formats by which it says something, or else that reason
 abbrev pub AreTried : ℕ → List Reading → Bool → List ℕ → Defaults → Reason → Result Said Reason → Type 0

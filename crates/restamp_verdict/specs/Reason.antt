@@ -1,24 +1,25 @@
 -- Why a time isn't rewritten.
-use Rattle.std.specs.Prelude.{List, codes, ℕ, Result, Ok, Err}
+use Rattle.std.specs.Prelude.{List, codes, ℕ, ◌/◌, ◌%◌, ◌∷◌, ◌++◌, ℤ, pos, int_lt, unsigned_abs, if◌then◌else◌, Result, Ok, Err}
 use Rattle.time_formatting.specs.Unformattable.{unformattable_text}
 use Rattle.time_formatting.specs.declared.unformattable.Unformattable.{Unformattable}
 use Rattle.time_values.specs.Refusal.{Refusal, refusal_of}
-use Rattle.time_values.specs.Shown.{Items}
+use Rattle.time_values.specs.Shown.{Items, fixed}
 use Rattle.time_values.specs.Texts.{refusal_text}
 use Rattle.time_writing.specs.Unwritable.{unwritable_text}
 use Rattle.time_writing.specs.declared.unwritable.Unwritable.{Unwritable}
 use Rattle.restamp_verdict.specs.declared.reading.Said.{Said}
+use Rattle.restamp_verdict.specs.declared.reason.TwoOffsets.{TwoOffsets}
 use Rattle.restamp_verdict.specs.declared.reason.Reason as declared
 use Rattle.restamp_verdict.specs.declared.reason.Reason.TheVariants as variant
 
--- no format reads it, it has a fraction after a minus, the clocks of its zone leave it out or show it twice, it has no
--- date at an offset, no time zone tells of it, it has no text by a format or by a description, it goes on too far, or has
--- no place
+-- no format reads it, it has a fraction after a minus, the clocks of its zone leave it out or show it twice, at these
+-- offsets, it has no date at an offset, no time zone tells of it, it has no text by a format or by a description, it
+-- goes on too far, or has no place
 pub data Reason : Type 0 where
   unread : Refusal → Reason
   negative_fraction : Reason
   left_out : Reason
-  shown_twice : Reason
+  shown_twice : TwoOffsets → Reason
   out_of_range : Reason
   untold : Reason
   unwritable : Unwritable → Reason
@@ -31,7 +32,7 @@ abbrev pub seen : declared.Reason → Reason
 seen (variant.Unread e) = unread (refusal_of e)
 seen variant.NegativeFraction = negative_fraction
 seen variant.LeftOut = left_out
-seen variant.ShownTwice = shown_twice
+seen (variant.ShownTwice offsets) = shown_twice offsets
 seen variant.OutOfRange = out_of_range
 seen variant.Untold = untold
 seen (variant.Unwritable why) = unwritable why
@@ -39,18 +40,40 @@ seen (variant.Unformattable why) = unformattable why
 seen variant.TooFar = too_far
 seen variant.Missing = missing
 
--- what it prints
+-- the sign of an offset of so many seconds
+abbrev pub sign_of : ℤ → ℕ
+sign_of s = if int_lt s (pos 0) then 45 else 43
+
+-- an offset of so many seconds, `+HH:MM:SS`
+abbrev pub offset_text : ℤ → List ℕ
+offset_text s =
+    sign_of s ∷ fixed 2 (unsigned_abs s / 3600) ++ codes ":"
+    ++ fixed 2 (unsigned_abs s / 60 % 60) ++ codes ":" ++ fixed 2 (unsigned_abs s % 60)
+
+-- two offsets
+abbrev pub offsets_text : TwoOffsets → List ℕ
+offsets_text offsets = offsets.earlier.0 ++ (codes " and " ++ offsets.later.0)
+
+-- what it prints, with what its zone is called
+abbrev pub text_with : List ℕ → Reason → List ℕ
+text_with zone (unread e) = refusal_text e
+text_with zone negative_fraction = codes "a fraction after a minus is read in two ways"
+text_with zone left_out = codes "the clocks of " ++ zone ++ codes " leave it out"
+text_with zone (shown_twice offsets) =
+    codes "the clocks of " ++ zone ++ codes " show it twice, at " ++ offsets_text offsets
+text_with zone out_of_range = codes "the time has no date at that offset"
+text_with zone untold = codes "no time zone tells of that time"
+text_with zone (unwritable why) = unwritable_text why
+text_with zone (unformattable why) = unformattable_text why
+text_with zone too_far = codes "the time goes on past byte 262144 of its line"
+text_with zone missing = codes "the line has no place for a time"
+
+-- what a zone is called that has no name
+abbrev pub its_zone : List ℕ
+its_zone = codes "its zone"
+
 abbrev pub reason_text : Reason → List ℕ
-reason_text (unread e) = refusal_text e
-reason_text negative_fraction = codes "a fraction after a minus is read in two ways"
-reason_text left_out = codes "the clocks of its zone leave it out"
-reason_text shown_twice = codes "the clocks of its zone show it twice"
-reason_text out_of_range = codes "the time has no date at that offset"
-reason_text untold = codes "no time zone tells of that time"
-reason_text (unwritable why) = unwritable_text why
-reason_text (unformattable why) = unformattable_text why
-reason_text too_far = codes "the time goes on past byte 262144 of its line"
-reason_text missing = codes "the line has no place for a time"
+reason_text reason = text_with its_zone reason
 
 -- results, with their errors so
 abbrev pub seen_read : Result Said declared.Reason → Result Said Reason

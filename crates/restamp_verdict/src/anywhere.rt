@@ -1,8 +1,9 @@
 //! Times that may stand anywhere in a line.
 //!
 //! `fast` passes over bytes with which none can begin.
-ghost use Rattle.std.specs.Prelude.{◌≡◌, ◌≤◌, ◌<◌, ◌+◌, ℕ, length, None, IfSome};
+ghost use Rattle.std.specs.Prelude.{◌≡◌, ◌≤◌, ◌<◌, ◌+◌, ◌∷◌, ℕ, length, false, None, IfSome};
 ghost use Rattle.time_values.specs.Range.{greatest_year};
+ghost use Rattle.restamp_verdict.specs.Begins as begins;
 ghost use Rattle.restamp_verdict.specs.Job as spec;
 
 mod fast;
@@ -10,6 +11,7 @@ mod fast;
 use crate::dated::read_dated;
 use crate::job::{Job, REACH, Verdict};
 use crate::reading::{Reading, Said};
+use fast::Firsts;
 use restamp_place::body_of;
 use time_values::text::Text;
 
@@ -84,13 +86,14 @@ impl Job<'_> {
     }
 
     // The first place from that one on with whose byte a time may begin, as far as is seen.
-    fn next_start(&self, line: &[u8], from: usize) -> usize
-        requires { from ≤ length line.now }
+    fn next_start(&self, firsts: Firsts, line: &[u8], from: usize) -> usize
+        requires from { from ≤ length line.now }
+        requires firsts { (x : ℕ) → begins.is_in firsts x ≡ false → begins.IsInNone x (self.now.first.now ∷ self.now.others.now) }
         ensures low { from ≤ result }
         ensures high { result ≤ length line.now }
         ensures passed { (k : ℕ) → from ≤ k → k < result → spec.SaysFrom greatest_year self.now line.now k None }
     {
-        match fast::next_start(self, line, from) {
+        match fast::next_start(firsts, line, from) {
             Some(next) => next,
             None => from,
         }
@@ -101,12 +104,13 @@ impl Job<'_> {
         ensures first { spec.IsFirst greatest_year self.now line.now result }
         ensures within { IfSome result (λ found. found.0 + found.1.start + found.1.length ≤ length line.now) }
     {
-        let mut start = self.next_start(line, 0);
+        let firsts = fast::all_firsts(self.first, self.others);
+        let mut start = self.next_start(firsts, line, 0);
         while start < line.len() {
             if let Some(said) = self.read_from(line, start) {
                 return Some((start, said));
             }
-            start = self.next_start(line, start + 1);
+            start = self.next_start(firsts, line, start + 1);
         }
         None
     }

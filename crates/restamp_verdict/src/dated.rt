@@ -21,7 +21,7 @@ fn is_after(moment: OffsetDateTime, other: OffsetDateTime) -> bool
 fn is_of_clocks(why: Reason) -> bool
     ensures { result ≡ spec.is_of_clocks (seen why) }
 {
-    matches!(why, Reason::LeftOut | Reason::ShownTwice)
+    matches!(why, Reason::LeftOut | Reason::ShownTwice(_))
 }
 
 // A text with no year, and the moment that it isn't after.

@@ -3,6 +3,7 @@ ghost use Rattle.time_values.specs.Range.{greatest_year};
 ghost use Rattle.restamp_verdict.specs.Laws.{OneVerdict, AutoHasAll, ReadsRewrittenBack, WritesSameText, ChangesNothing, KeepsMoment, SaysAllTold, SignsTell, OneTree, CommonReadsBack};
 
 /// A line has one verdict, whatever the job.
+#[tactic(auto, using(crate::proofs::OneVerdict::one_verdict))]
 pub fn law_one_verdict()
     ensures { OneVerdict greatest_year }
 {}
@@ -27,6 +28,7 @@ pub fn law_second_run()
 {}
 
 /// A record that has all of a moment keeps it, whatever defaults are given.
+#[tactic(auto, using(crate::proofs::Completing::keeps_moment))]
 pub fn law_defaults()
     ensures { KeepsMoment greatest_year }
 {}
@@ -34,18 +36,21 @@ pub fn law_defaults()
 /// What is written by a description says all of a moment where the record of what its components tell of the date, the
 /// time and the offset, with what stands for the rest, has all of it, and each component's text is read whole. The sign of
 /// an offset and the sizes of its parts tell them.
+#[tactic(auto, using(crate::proofs::Telling::says_all_told, crate::proofs::Telling::signs_tell))]
 pub fn law_all_told()
     ensures says { SaysAllTold greatest_year }
     ensures signs { SignsTell }
 {}
 
 /// A text that means a format to read times by, and describes one to write them by, means one tree.
+#[tactic(auto, using(crate::proofs::SameTree::one_tree))]
 pub fn law_one_tree()
     ensures { OneTree }
 {}
 
 /// A moment with no fraction, and with an offset of whole minutes, is read back by the format `common` where it was
 /// written by the same description, whatever the defaults.
+#[tactic(auto, using(crate::proofs::CommonBack::common_reads_back))]
 pub fn law_common_read_back()
     ensures { CommonReadsBack greatest_year }
 {}

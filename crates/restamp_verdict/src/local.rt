@@ -6,7 +6,7 @@ ghost use Rattle.restamp_verdict.specs.Reading.{Says, SaysOn, SaysLocally, at_of
 ghost use Rattle.restamp_verdict.specs.Reason.{seen, seen_read};
 
 use crate::reading::{Defaults, Reading, Said, read};
-use crate::reason::Reason;
+use crate::reason::{OffsetText, Reason, TwoOffsets};
 use time_values::{OffsetDateTime, PlainDateTime, UtcOffset};
 use time_zones::{NotOne, TimeZone, assume_zone};
 
@@ -43,7 +43,10 @@ impl Fold {
         ensures { spec.seen_offset result ≡ spec.of_two self earlier later }
     {
         match self {
-            Fold::Refuse => Err(Reason::ShownTwice),
+            Fold::Refuse => Err(Reason::ShownTwice(TwoOffsets {
+                earlier: OffsetText::of(earlier.offset().whole_seconds()),
+                later: OffsetText::of(later.offset().whole_seconds()),
+            })),
             Fold::Earlier => Ok(earlier.offset()),
             Fold::Later => Ok(later.offset()),
         }
@@ -63,7 +66,8 @@ impl Clocks<'_> {
         }
     }
 
-    // What a text says by the format on these clocks.
+    // What a text says by the format on these clocks. It isn't inlined, so that it takes no place where a line needs no zone.
+    #[inline(never)]
     fn read(
         &self,
         reading: &Reading,
@@ -100,8 +104,8 @@ impl Defaults<'_> {
 }
 
 /// What a text says that says nothing by the format as it stands, for that reason, unless it is the offset that it leaves
-/// to clocks of a zone. It isn't inlined, so that it takes no place where a line needs no zone.
-#[inline(never)]
+/// to clocks of a zone.
+#[inline(always)]
 pub(crate) fn read_unplaced(
     reading: &Reading,
     is_open: bool,

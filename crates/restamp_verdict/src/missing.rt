@@ -7,7 +7,7 @@ ghost use Rattle.restamp_verdict.specs.Reason.{seen};
 use crate::job::Job;
 use crate::lack::Lack;
 use crate::reading::{Defaults, Reading, complete, has_year};
-use crate::reason::Reason;
+use crate::reason::{Reason, Told};
 use restamp_place::find_span;
 use std::fmt;
 use time_parsing::{Iso8601, Parsable};
@@ -180,25 +180,34 @@ impl Job<'_> {
 
 /// Why a time isn't rewritten: the reason, or in its place what the time lacks.
 #[derive(Clone, Copy)]
-pub struct Why {
+pub struct Why<'a> {
     /// The reason.
     pub reason: Reason,
     /// What the time lacks, if that is the reason.
     pub lack: Option<Lack>,
+    /// What the zone is called whose clocks the reason may be about.
+    pub zone: &'a str,
 }
 
-impl fmt::Display for Why {
-    ghost output = { λ why. Some (spec.why_text (seen why.reason) why.lack) };
+impl fmt::Display for Why<'_> {
+    ghost output = { λ why. Some (spec.why_text why.zone.now (seen why.reason) why.lack) };
 
     fn fmt<W: fmt::Write>(&self, f: &mut fmt::Formatter<W>) -> fmt::Result {
         match self.lack {
             Some(lack) => write!(f, "{lack}"),
-            None => write!(f, "{}", self.reason),
+            None => {
+                let told = Told {
+                    reason: self.reason,
+                    zone: self.zone,
+                };
+                write!(f, "{told}")
+            }
         }
     }
 }
 
 /// What the time of a refused line lacks is one.
+#[tactic(auto, using(crate::proofs::OneLack::one_lack))]
 pub fn law_one_lack()
     ensures { spec.OneLack greatest_year }
 {}

@@ -2,9 +2,13 @@
 ghost use Rattle.std.specs.Prelude.{◌≡◌, ◌+◌, ◌-◌, ◌≤◌, length, IfOk};
 ghost use Rattle.time_values.specs.Range.{greatest_year};
 ghost use Rattle.time_record.specs.Record.{empty};
-ghost use Rattle.time_parsing.specs.Outcome.{IsFront, IsOutcome, seen as seen_parse, seen_front};
+ghost use Rattle.time_readers.specs.Direct.{RefusesRfc3339};
+ghost use Rattle.time_parsing.specs.Outcome.{direct, IsFront, IsOutcome, seen as seen_parse, seen_front};
+ghost use Rattle.time_parsing.specs.Rfc3339.{Reads, Refuses};
 ghost use Rattle.restamp_verdict.specs.Reading as spec;
 ghost use Rattle.restamp_verdict.specs.Reason.{seen_read};
+
+mod fast;
 
 use crate::local::Clocks;
 use crate::reason::Reason;
@@ -234,6 +238,21 @@ fn read_mail(is_open: bool, text: &[u8]) -> Result<Said, Parse>
     Ok(said)
 }
 
+// The same by RFC 3339, of which a front is first read with no record.
+#[inline(always)]
+fn read_3339(is_open: bool, text: &[u8]) -> Result<Said, Parse>
+    ensures said { spec.IsReadBy greatest_year is_open (direct (RefusesRfc3339 greatest_year)) (Reads greatest_year)
+        (Refuses greatest_year) text.now (spec.seen_said result) }
+    ensures within { IfOk result (λ said. said.start + said.length ≤ length text.now) }
+{
+    if is_open {
+        if let Some(said) = fast::front_3339(text) {
+            return Ok(said);
+        }
+    }
+    read_by(&Rfc3339, is_open, text)
+}
+
 // The same by any of the formats. Those that say all of a moment need no defaults.
 #[inline(always)]
 fn read_plain(
@@ -246,7 +265,7 @@ fn read_plain(
     ensures within { IfOk result (λ said. said.start + said.length ≤ length text.now) }
 {
     match reading {
-        Reading::Rfc3339 => read_by(&Rfc3339, is_open, text),
+        Reading::Rfc3339 => read_3339(is_open, text),
         Reading::Rfc2822 => read_mail(is_open, text),
         Reading::Iso8601 => read_with(&Iso8601, is_open, text, defaults),
         Reading::Described(described) => read_with(described, is_open, text, defaults),

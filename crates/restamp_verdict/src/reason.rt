@@ -1,11 +1,25 @@
 //! Why a time isn't rewritten.
-ghost use Rattle.std.specs.Prelude.{Some};
-ghost use Rattle.restamp_verdict.specs.Reason.{seen, reason_text};
+ghost use Rattle.std.specs.Prelude.{◌≡◌, Some};
+ghost use Rattle.time_values.specs.Shown.{fixed};
+ghost use Rattle.restamp_verdict.specs.Reason.{seen, offset_text, offsets_text, reason_text, sign_of, text_with};
 
-use std::fmt;
+use std::{fmt, str};
 use time_formatting::Unformattable;
 use time_values::error::Parse;
 use time_writing::Unwritable;
+
+/// The offsets of two moments that clocks show alike.
+#[derive(Clone, Copy, Debug, PartialEq, Eq)]
+pub struct TwoOffsets {
+    /// That of the first.
+    pub earlier: OffsetText,
+    /// That of the last.
+    pub later: OffsetText,
+}
+
+/// The text of an offset: `+HH:MM:SS`.
+#[derive(Clone, Copy, Debug, PartialEq, Eq)]
+pub struct OffsetText(pub [u8; 9]);
 
 /// Why a time isn't rewritten.
 #[derive(Clone, Copy, Debug)]
@@ -17,7 +31,7 @@ pub enum Reason {
     /// The clocks of its zone leave its date and time out.
     LeftOut,
     /// They show its date and time twice.
-    ShownTwice,
+    ShownTwice(TwoOffsets),
     /// It has no date at the offset that is asked for, or none in UTC that a number could count from.
     OutOfRange,
     /// No time zone tells of it: it lies before the year -9999 or after 9999, or in their first or last day.
@@ -32,17 +46,74 @@ pub enum Reason {
     Missing,
 }
 
-impl fmt::Display for Reason {
-    ghost output = { λ reason. Some (reason_text (seen reason)) };
+// The last two digits of a number.
+fn pair(number: u32) -> [u8; 2]
+    ensures { result ≡ fixed 2 number }
+{
+    [b'0' + (number / 10 % 10) as u8, b'0' + (number % 10) as u8]
+}
+
+// The sign of an offset.
+fn sign_of(seconds: i32) -> u8
+    ensures { result ≡ sign_of seconds }
+{
+    if seconds < 0 { b'-' } else { b'+' }
+}
+
+impl OffsetText {
+    // That of an offset of so many seconds.
+    pub(crate) fn of(seconds: i32) -> OffsetText
+        ensures { result.0 ≡ offset_text seconds }
+    {
+        let size = seconds.unsigned_abs();
+        let [h1, h2] = pair(size / 3600);
+        let [m1, m2] = pair(size / 60 % 60);
+        let [s1, s2] = pair(size % 60);
+        OffsetText([sign_of(seconds), h1, h2, b':', m1, m2, b':', s1, s2])
+    }
+}
+
+impl fmt::Display for OffsetText {
+    ghost output = { λ text. Some text.0 };
 
     fn fmt<W: fmt::Write>(&self, f: &mut fmt::Formatter<W>) -> fmt::Result {
-        match self {
+        f.write_str(str::from_utf8(&self.0).map_err(|_| fmt::Error)?)
+    }
+}
+
+impl fmt::Display for TwoOffsets {
+    ghost output = { λ offsets. Some (offsets_text offsets) };
+
+    fn fmt<W: fmt::Write>(&self, f: &mut fmt::Formatter<W>) -> fmt::Result {
+        let (earlier, later) = (self.earlier, self.later);
+        write!(f, "{earlier} and {later}")
+    }
+}
+
+// What a zone is called that has no name.
+const ITS_ZONE: &str = "its zone";
+
+// A reason, and what the zone is called whose clocks it may be about.
+#[derive(Clone, Copy)]
+pub(crate) struct Told<'a> {
+    pub(crate) reason: Reason,
+    pub(crate) zone: &'a str,
+}
+
+impl fmt::Display for Told<'_> {
+    ghost output = { λ told. Some (text_with told.zone.now (seen told.reason)) };
+
+    fn fmt<W: fmt::Write>(&self, f: &mut fmt::Formatter<W>) -> fmt::Result {
+        let zone = self.zone;
+        match self.reason {
             Reason::Unread(error) => write!(f, "{error}"),
             Reason::NegativeFraction => {
                 write!(f, "a fraction after a minus is read in two ways")
             }
-            Reason::LeftOut => write!(f, "the clocks of its zone leave it out"),
-            Reason::ShownTwice => write!(f, "the clocks of its zone show it twice"),
+            Reason::LeftOut => write!(f, "the clocks of {zone} leave it out"),
+            Reason::ShownTwice(offsets) => {
+                write!(f, "the clocks of {zone} show it twice, at {offsets}")
+            }
             Reason::OutOfRange => write!(f, "the time has no date at that offset"),
             Reason::Untold => write!(f, "no time zone tells of that time"),
             Reason::Unwritable(why) => write!(f, "{why}"),
@@ -50,5 +121,17 @@ impl fmt::Display for Reason {
             Reason::TooFar => write!(f, "the time goes on past byte 262144 of its line"),
             Reason::Missing => write!(f, "the line has no place for a time"),
         }
+    }
+}
+
+impl fmt::Display for Reason {
+    ghost output = { λ reason. Some (reason_text (seen reason)) };
+
+    fn fmt<W: fmt::Write>(&self, f: &mut fmt::Formatter<W>) -> fmt::Result {
+        let told = Told {
+            reason: *self,
+            zone: ITS_ZONE,
+        };
+        write!(f, "{told}")
     }
 }

@@ -140,6 +140,7 @@ impl<'a> Job<'a> {
 }
 
 /// The time of a refused line goes wrong at one column, where one thing was expected or nothing is told.
+#[tactic(auto, using(crate::proofs::OneWrong::one_wrong))]
 pub fn law_one_wrong()
     ensures { spec.OneWrong greatest_year }
 {}

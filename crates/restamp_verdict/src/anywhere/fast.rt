@@ -5,7 +5,7 @@ ghost use Rattle.std.specs.Prelude.{◌≡◌, ◌≤◌, ◌<◌, ◌+◌, ◌�
 ghost use Rattle.std.specs.Char.{is_ascii_digit, is_ascii_alphanumeric};
 ghost use Rattle.time_values.specs.Range.{greatest_year};
 ghost use Rattle.restamp_verdict.specs.Begins as begins;
-ghost use Rattle.restamp_verdict.specs.Job.{SaysAlone, SaysFrom, is_inside};
+ghost use Rattle.restamp_verdict.specs.Job.{SaysAlone, is_inside};
 
 use crate::job::Job;
 use crate::reading::Reading;
@@ -16,25 +16,36 @@ const BLOCK: usize = 16;
 
 // With which bytes besides digits texts may begin.
 #[derive(Clone, Copy)]
-struct Firsts {
+pub(super) struct Firsts {
     // With `+` and `-`.
     signs: bool,
+    // With what a mail date may.
+    mail: bool,
     // With any other byte.
     others: bool,
 }
 
 const DIGITS: Firsts = Firsts {
     signs: false,
+    mail: false,
     others: false,
 };
 
 const NUMBERS: Firsts = Firsts {
     signs: true,
+    mail: false,
+    others: false,
+};
+
+const MAIL: Firsts = Firsts {
+    signs: false,
+    mail: true,
     others: false,
 };
 
 const ALL: Firsts = Firsts {
     signs: true,
+    mail: false,
     others: true,
 };
 
@@ -87,7 +98,8 @@ fn format_firsts(reading: &Reading) -> Firsts
 {
     match reading {
         Reading::Rfc3339 => DIGITS,
-        Reading::Rfc2822 | Reading::Iso8601 => ALL,
+        Reading::Rfc2822 => MAIL,
+        Reading::Iso8601 => ALL,
         Reading::Described(description) => steps_firsts(description.steps()),
         Reading::Complete(description) => steps_firsts(description.steps()),
         Reading::Counted(description) => steps_firsts(description.steps()),
@@ -96,13 +108,14 @@ fn format_firsts(reading: &Reading) -> Firsts
 
 // With which bytes the texts of any of the formats may begin.
 #[inline(always)]
-fn all_firsts(first: &Reading, others: &[Reading]) -> Firsts
+pub(super) fn all_firsts(first: &Reading, others: &[Reading]) -> Firsts
     ensures { (x : ℕ) → begins.is_in result x ≡ false → begins.IsInNone x (first.now ∷ others.now) }
 {
     let mut firsts = format_firsts(first);
     for reading in others {
         let more = format_firsts(reading);
         firsts.signs |= more.signs;
+        firsts.mail |= more.mail;
         firsts.others |= more.others;
     }
     firsts
@@ -122,12 +135,57 @@ fn is_alphanumeric(byte: u8) -> bool
     is_digit(byte) | ((b'A' <= byte) & (byte <= b'Z')) | ((b'a' <= byte) & (byte <= b'z'))
 }
 
+// Whether blanks or a comment may begin with the byte.
+#[inline(always)]
+fn is_gap(byte: u8) -> bool
+    ensures { result ≡ begins.is_gap byte }
+{
+    (byte == b' ') | (byte == b'\t') | (byte == b'\r') | (byte == b'(')
+}
+
+// Whether the byte is that letter, which is small, in either case.
+#[inline(always)]
+fn is_letter(byte: u8, letter: u8) -> bool
+    requires { 97 ≤ letter }
+    ensures { result ≡ begins.is_letter byte letter }
+{
+    (byte == letter) | (byte == letter - 32)
+}
+
+// Whether the name of a weekday may begin with the byte.
+#[inline(always)]
+fn is_weekday(byte: u8) -> bool
+    ensures { result ≡ begins.is_weekday byte }
+{
+    is_letter(byte, b'm')
+        | is_letter(byte, b't')
+        | is_letter(byte, b'w')
+        | is_letter(byte, b'f')
+        | is_letter(byte, b's')
+}
+
+// Whether it may go on with the byte.
+#[inline(always)]
+fn is_weekday_second(byte: u8) -> bool
+    ensures { result ≡ begins.is_weekday_second byte }
+{
+    is_letter(byte, b'o')
+        | is_letter(byte, b'u')
+        | is_letter(byte, b'e')
+        | is_letter(byte, b'h')
+        | is_letter(byte, b'r')
+        | is_letter(byte, b'a')
+}
+
 // Whether a text may begin with the byte.
 #[inline(always)]
 fn is_in(firsts: Firsts, byte: u8) -> bool
     ensures { result ≡ begins.is_in firsts byte }
 {
-    is_digit(byte) | (firsts.signs & ((byte == b'+') | (byte == b'-'))) | firsts.others
+    is_digit(byte)
+        | (firsts.signs & ((byte == b'+') | (byte == b'-')))
+        | (firsts.mail & (is_gap(byte) | is_weekday(byte)))
+        | firsts.others
 }
 
 // Whether a text may begin at the place, which isn't the first.
@@ -140,18 +198,24 @@ fn may_begin(firsts: Firsts, line: &[u8], place: usize) -> bool
     !(is_alphanumeric(line[place - 1]) & is_alphanumeric(line[place])) & is_in(firsts, line[place])
 }
 
-// Whether a text may begin at one of sixteen places.
+// How many of sixteen places stand before the first at which a text may begin, or all.
 #[inline(always)]
-fn may_begin_within(firsts: Firsts, line: &[u8], from: usize) -> bool
+fn first_within(firsts: Firsts, line: &[u8], from: usize) -> u8
     requires some { 0 < from }
     requires within { from + 16 ≤ length line.now }
-    ensures { (k : ℕ) → from ≤ k → k < from + 16 → begins.may_begin firsts line.now k ≡ true → IsTrue result }
+    ensures most { result ≤ 16 }
+    ensures passed { (k : ℕ) → from ≤ k → k < from + result → begins.may_begin firsts line.now k ≡ false }
 {
-    let mut may = false;
+    let mut first = BLOCK as u8;
     for k in 0..BLOCK {
-        may |= may_begin(firsts, line, from + k);
+        let here = if may_begin(firsts, line, from + k) {
+            k as u8
+        } else {
+            BLOCK as u8
+        };
+        first = if here < first { here } else { first };
     }
-    may
+    first
 }
 
 // The first of these places at which a text may begin, or where they end.
@@ -172,17 +236,6 @@ fn find_within(firsts: Firsts, line: &[u8], from: usize, to: usize) -> usize
     to
 }
 
-// Where the next sixteen places end, or those that are left.
-#[inline(always)]
-fn next_stop(at: usize, end: usize) -> usize
-    requires { at < end }
-    ensures above { at < result }
-    ensures within { result ≤ end }
-    ensures near { result ≤ at + 16 }
-{
-    if BLOCK < end - at { at + BLOCK } else { end }
-}
-
 // The first place from that one on at which a text may begin, or the end of the line.
 #[inline(always)]
 fn find_beginning(firsts: Firsts, line: &[u8], from: usize) -> usize
@@ -193,30 +246,77 @@ fn find_beginning(firsts: Firsts, line: &[u8], from: usize) -> usize
     ensures passed { (k : ℕ) → from ≤ k → k < result → begins.may_begin firsts line.now k ≡ false }
 {
     let mut at = from;
-    while at < line.len() {
-        let stop = next_stop(at, line.len());
-        if stop - at < BLOCK || may_begin_within(firsts, line, at) {
-            let place = find_within(firsts, line, at, stop);
-            if place < stop {
-                return place;
-            }
+    while BLOCK <= line.len() - at {
+        let first = usize::from(first_within(firsts, line, at));
+        if first < BLOCK {
+            return at + first;
         }
-        at = stop;
+        at += BLOCK;
     }
-    at
+    find_within(firsts, line, at, line.len())
 }
 
 /// The first place from that one on at which a time may begin, or the end of the line.
 #[inline(always)]
-pub(super) fn next_start(job: &Job<'_>, line: &[u8], from: usize) -> Option<usize>
+pub(super) fn next_start(firsts: Firsts, line: &[u8], from: usize) -> Option<usize>
     requires { from ≤ length line.now }
     ensures within { IfSome result (λ next. (from ≤ next) × (next ≤ length line.now)) }
-    ensures passed { IfSome result (λ next. (k : ℕ) → from ≤ k → k < next → SaysFrom greatest_year job.now line.now k None) }
+    ensures passed { IfSome result (λ next. (k : ℕ) → from ≤ k → k < next → begins.may_begin firsts line.now k ≡ false) }
 {
     if from == 0 {
         return None;
     }
-    Some(find_beginning(all_firsts(job.first, job.others), line, from))
+    Some(find_beginning(firsts, line, from))
+}
+
+// Whether four digits stand in front of the bytes.
+#[inline(always)]
+fn has_year(bytes: &[u8]) -> bool
+    ensures { result ≡ begins.has_year bytes.now }
+{
+    if bytes.len() < 4 {
+        return false;
+    }
+    is_digit(bytes[0]) & is_digit(bytes[1]) & is_digit(bytes[2]) & is_digit(bytes[3])
+}
+
+// Whether a day or a weekday may begin with the bytes, or a comment or more blanks before them.
+#[inline(always)]
+fn begins_day(first: u8, second: u8) -> bool
+    ensures { result ≡ begins.begins_day first second }
+{
+    is_digit(first) | is_gap(first) | (is_weekday(first) & is_weekday_second(second))
+}
+
+// Whether a mail date may stand in front of the bytes, as far as the first three tell.
+#[inline(always)]
+fn may_be_mail(bytes: &[u8]) -> bool
+    ensures { result ≡ false → begins.may_be_mail bytes.now ≡ false }
+{
+    if bytes.len() < 3 {
+        return true;
+    }
+    if bytes[0] == b' ' {
+        begins_day(bytes[1], bytes[2])
+    } else {
+        begins_day(bytes[0], bytes[1])
+    }
+}
+
+// Whether a text of the format may stand in front of the bytes, as far as the first ones tell.
+#[inline(always)]
+fn may_be_of(reading: &Reading, bytes: &[u8]) -> bool
+    requires { 0 < length bytes.now }
+    ensures { result ≡ false → begins.may_be_of reading.now bytes.now ≡ false }
+{
+    match reading {
+        Reading::Rfc3339 => has_year(bytes),
+        Reading::Rfc2822 => may_be_mail(bytes),
+        Reading::Iso8601 => true,
+        Reading::Described(description) => is_in(steps_firsts(description.steps()), bytes[0]),
+        Reading::Complete(description) => is_in(steps_firsts(description.steps()), bytes[0]),
+        Reading::Counted(description) => is_in(steps_firsts(description.steps()), bytes[0]),
+    }
 }
 
 /// Whether the line says nothing by that format from a byte on.
@@ -230,7 +330,7 @@ pub(super) fn says_nothing(
     requires { start ≤ length line.now }
     ensures { IfSome result (λ _. SaysAlone greatest_year job.now line.now start reading.now None) }
 {
-    if start == line.len() || is_in(format_firsts(reading), line[start]) {
+    if start == line.len() || may_be_of(reading, &line[start..]) {
         return None;
     }
     Some(())

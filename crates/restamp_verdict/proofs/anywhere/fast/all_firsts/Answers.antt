@@ -1,4 +1,4 @@
-use Rattle.std.proofs.Common.{◌≡◌, List, length, take, sym, ap, subst, arith, ◌∙◌}
+use Rattle.std.proofs.Common.{◌≡◌, List, take, sym, ap, subst, arith, ◌∙◌}
 use Rattle.std.proofs.lemmas.List.{take_all}
 use Rattle.restamp_verdict.specs.Begins.{IsInNone, is_in}
 use Rattle.restamp_verdict.specs.declared.anywhere.fast.Firsts.{Firsts}

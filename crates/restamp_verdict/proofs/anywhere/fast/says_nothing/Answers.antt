@@ -1,11 +1,15 @@
-use Rattle.std.proofs.Common.{get_or, sym, ap, ◌∙◌}
+use Rattle.std.proofs.Common.{◌≡◌, ◌-◌, length, drop, take, sym, ap, arith, length-drop, ◌∙◌}
+use Rattle.std.proofs.lemmas.List.{take_all}
 use Rattle.time_values.specs.Range.{greatest_year}
-use Rattle.restamp_verdict.specs.Begins.{is_in}
-use Rattle.restamp_verdict.specs.declared.anywhere.fast.Firsts.{Firsts}
+use Rattle.restamp_verdict.specs.Begins.{may_be_of}
 use Rattle.restamp_verdict.proofs.BeginsLemmas.{says-nothing}
 use Rattle.restamp_verdict.proofs.anywhere.fast.says_nothing.Goals as goal
 
 pub returns : goal.returns
 returns c =
-    says-nothing greatest_year c.args.job.now c.args.line.now c.args.start c.args.reading.now
-    (ap (λ (f : Firsts). is_in f (get_or c.args.line.now c.args.start 0)) (sym c.format_firsts.ensures) ∙ sym c.is_in.ensures ∙ c.if-is_in.false)
+    let line = c.args.line.now in
+    let start = c.args.start in
+    let rest : take (length line - start) (drop start line) ≡ drop start line =
+    take_all (length line - start) (drop start line) (omega (arith, length-drop start line)) in
+    says-nothing greatest_year c.args.job.now line start c.args.reading.now
+    (ap (may_be_of c.args.reading.now) (sym rest) ∙ c.may_be_of.ensures c.if-may_be_of.false)

@@ -1,4 +1,4 @@
-use Rattle.std.proofs.Common.{ℤ, Bool, false, not, ap, refl, ◌∙◌, Ok, Err}
+use Rattle.std.proofs.Common.{ℤ, false, not, ap, refl, ◌∙◌, Ok, Err}
 use Rattle.std.specs.Int.{w32}
 use Rattle.std.proofs.lemmas.Int.{to_z-of_z}
 use Rattle.time_values.specs.Range.{greatest_year}

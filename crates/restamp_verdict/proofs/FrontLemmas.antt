@@ -1,0 +1,154 @@
+-- A moment of RFC 3339 that is the whole of some bytes is also one in front of more.
+use Rattle.std.proofs.Common.{◌≡◌, ◌≢◌, ◌≤◌, ◌-◌, ◌∙◌, ℕ, Bool, true, false, List, [], ◌∷◌, ◌++◌, length, take, drop, length-drop, take-append-drop, ap, refl, subst, inl, inr, arith, append_assoc, Option, Some, None, Ok}
+use Rattle.time_values.specs.Range.{greatest_year}
+use Rattle.time_values.specs.declared.offset_date_time.OffsetDateTime.{OffsetDateTime}
+use Rattle.time_digits.specs.Cuts.{Cut}
+use Rattle.time_digits.specs.Digits.{IsDigitRun, NoDigitFirst}
+use Rattle.time_readers.specs.Places.{Stand}
+use Rattle.time_readers.specs.Rfc3339.{Asks, HasForm, IsOffsetMinute, IsSubsecond, NoDotFirst, nothing_read, offset_places}
+use Rattle.time_readers.specs.Rfc3339Fast.{to_second_places}
+use Rattle.time_readers.specs.declared.rfc3339.Numbers.{Numbers}
+use Rattle.time_readers.specs.declared.rfc3339.Place.{Place}
+use Rattle.time_readers.specs.declared.rfc3339.Place.TheVariants as place
+use Rattle.time_readers.proofs.Walking.{Stand-append, Stand-split}
+use Rattle.time_record.specs.Record.{empty}
+use Rattle.time_record.specs.Resolution.{IsMoment}
+use Rattle.time_parsing.specs.Rfc3339.{Reads, Refuses}
+use Rattle.time_parsing.specs.Outcome.{IsOutcome, IsFront, direct}
+use Rattle.time_readers.specs.Direct.{RefusesRfc3339}
+use Rattle.restamp_verdict.specs.Reading.{IsReadBy, said}
+
+-- places without a fraction
+abbrev Plain : List Place → Type 0
+Plain [] = Unit {0}
+Plain (p ∷ ps) = (p ≢ place.Subsecond) × Plain ps
+
+to_second_plain : Plain to_second_places
+to_second_plain = (
+  λ is. absurd (cc),
+  (
+    λ is. absurd (cc),
+    (
+      λ is. absurd (cc),
+      (
+        λ is. absurd (cc),
+        (
+          λ is. absurd (cc),
+          (
+            λ is. absurd (cc),
+            (λ is. absurd (cc), (λ is. absurd (cc), (λ is. absurd (cc), (λ is. absurd (cc), (λ is. absurd (cc), tt))))),
+          ),
+        ),
+      ),
+    ),
+  ),
+)
+
+offset_plain : Plain offset_places
+offset_plain = (λ is. absurd (cc), (λ is. absurd (cc), (λ is. absurd (cc), tt)))
+
+module _ (tail : List ℕ) where
+  no_digit : (xs : List ℕ) → 1 ≤ length xs → NoDigitFirst xs → NoDigitFirst (xs ++ tail)
+  no_digit [] some first = absurd (omega (arith, some))
+  no_digit (x ∷ xs) some first = first
+
+  no_dot : (xs : List ℕ) → 1 ≤ length xs → NoDotFirst xs → NoDotFirst (xs ++ tail)
+  no_dot [] some first = absurd (omega (arith, some))
+  no_dot (x ∷ xs) some first = first
+
+  -- a run of one width
+  run : (width : ℕ) (text xs : List ℕ) (v : ℕ) → IsDigitRun width width text xs v → IsDigitRun width width text (xs ++ tail) v
+  run width text xs v h = record {
+    digits = h.digits;
+    enough = h.enough;
+    within = h.within;
+    ends = inl (omega (arith, h.enough, h.within));
+    is = h.is;
+  }
+
+  subsecond : (text xs : List ℕ) (v : Option ℕ) → 1 ≤ length xs → IsSubsecond text xs v → IsSubsecond text (xs ++ tail) v
+  subsecond text xs None some h = (h.0, no_dot xs some h.1)
+  subsecond text xs (Some v) some h =
+      (h.0, h.1, record { digits = h.2.digits; enough = h.2.enough; ends = no_digit xs some h.2.ends; is = h.2.is })
+
+  offset_minute : (utc : Bool) (n m : Numbers) (text xs : List ℕ) → IsOffsetMinute true utc n text xs m
+      → IsOffsetMinute true utc n text (xs ++ tail) m
+  offset_minute true n m text xs h = h
+  offset_minute false n m text xs h = (h.0, (run 2 text xs h.0 h.1.0, h.1.1), h.2)
+
+  -- what a place asks where more follows
+  asked : (p : Place) (n m : Numbers) (text xs : List ℕ) → (p ≡ place.Subsecond → 1 ≤ length xs) → Asks true p n text xs m
+      → Asks true p n text (xs ++ tail) m
+  asked place.Year n m text xs some h = (h.0, run 4 text xs h.0 h.1, h.2)
+  asked place.YearDash n m text xs some h = h
+  asked place.Month n m text xs some h = (h.0, (run 2 text xs h.0 h.1.0, h.1.1), h.2, h.3)
+  asked place.MonthDash n m text xs some h = h
+  asked place.Day n m text xs some h = (h.0, (run 2 text xs h.0 h.1.0, h.1.1), h.2)
+  asked place.Separator n m text xs some h = h
+  asked place.Hour n m text xs some h = (h.0, (run 2 text xs h.0 h.1.0, h.1.1), h.2)
+  asked place.HourColon n m text xs some h = h
+  asked place.Minute n m text xs some h = (h.0, (run 2 text xs h.0 h.1.0, h.1.1), h.2)
+  asked place.MinuteColon n m text xs some h = h
+  asked place.Second n m text xs some h = (h.0, (run 2 text xs h.0 h.1.0, h.1.1), h.2)
+  asked place.Subsecond n m text xs some h = (h.0, subsecond text xs h.0 (some refl) h.1, h.2)
+  asked place.OffsetHour n m text xs some (inl utc) = inl utc
+  asked place.OffsetHour n m text xs some (inr signed) = inr (record {
+    sign = signed.sign;
+    digits = signed.digits;
+    hour = signed.hour;
+    cut = signed.cut;
+    run = (run 2 signed.digits xs signed.hour signed.run.0, signed.run.1);
+    says = signed.says;
+  })
+  asked place.OffsetColon n m text xs some h = h
+  asked place.OffsetMinute n m text xs some h = offset_minute n.is_utc n m text xs h
+
+  cut : (p : Place) (n m : Numbers) (bytes xs : List ℕ) → (p ≡ place.Subsecond → 1 ≤ length xs) → Cut (Asks true p n) bytes xs m
+      → Cut (Asks true p n) (bytes ++ tail) (xs ++ tail) m
+  cut p n m bytes xs some h =
+      (h.0, ap (λ x. x ++ tail) h.1 ∙ append_assoc h.0 xs tail, asked p n m h.0 xs some h.2)
+
+  stand : (ps : List Place) (n m : Numbers) (bytes rest : List ℕ) → Plain ps → Stand (Asks true) ps n bytes rest m
+      → Stand (Asks true) ps n (bytes ++ tail) (rest ++ tail) m
+  unfolding Stand
+  stand [] n m bytes rest plain s = (ap (λ x. x ++ tail) s.0, s.1)
+  stand (p ∷ ps) n m bytes rest plain s =
+      (s.0 ++ tail, s.1, cut p n s.1 bytes s.0 (λ is. absurd (plain.0 is)) s.2, stand ps s.1 m s.0 rest plain.1 s.3)
+
+  -- an offset has a byte
+  offset_long : (n m : Numbers) (bytes rest : List ℕ) → Cut (Asks true place.OffsetHour n) bytes rest m → 1 ≤ length bytes
+  offset_long n m bytes rest (text, is, inl utc) =
+      let long : length bytes ≡ length (utc.0.0 ∷ rest) = ap length (is ∙ ap (λ x. x ++ rest) utc.0.1) in omega (arith, long)
+  offset_long n m bytes rest (text, is, inr signed) =
+      let long = ap length (is ∙ ap (λ x. x ++ rest) signed.cut) in omega (arith, long)
+
+  form : (bytes : List ℕ) (n : Numbers) → HasForm true bytes [] n → HasForm true (bytes ++ tail) tail n
+  unfolding Stand
+  form bytes n h =
+      let first = Stand-split (Asks true) to_second_places (place.Subsecond ∷ offset_places) nothing_read n bytes [] h in
+      let mid = first.0 in
+      let k = first.1.0 in
+      let s = first.1.2 in
+      let long = offset_long s.1 s.3.1 s.0 s.3.0 s.3.2 in
+      Stand-append (Asks true) to_second_places (place.Subsecond ∷ offset_places) nothing_read k n (bytes ++ tail) (mid ++ tail) tail
+      (stand to_second_places nothing_read k bytes mid to_second_plain first.1.1)
+      (s.0 ++ tail, s.1, cut place.Subsecond k s.1 mid s.0 (λ is. long) s.2, stand offset_places s.1 n s.0 [] offset_plain s.3)
+
+-- The moment of the whole bytes is that of a front of more.
+pub front-moment : (bytes tail : List ℕ) (v : OffsetDateTime)
+    → IsOutcome (IsMoment greatest_year) (Reads greatest_year) (Refuses greatest_year) bytes empty (Ok v)
+    → IsFront (IsMoment greatest_year) (Reads greatest_year) (Refuses greatest_year) (bytes ++ tail) empty (Ok (v, tail))
+front-moment bytes tail v (r, (n, m, whole, month, put), moment) = (r, (n, m, form tail bytes n whole, month, put), moment)
+
+-- so a front of a text says it
+pub front-said : (text : List ℕ) (end : ℕ) (v : OffsetDateTime) → end ≤ length text
+    → IsOutcome (IsMoment greatest_year) (Reads greatest_year) (Refuses greatest_year) (take end text) empty (Ok v)
+    → IsReadBy greatest_year true (direct (RefusesRfc3339 greatest_year)) (Reads greatest_year) (Refuses greatest_year) text (Ok (said v end))
+front-said text end v fits moment =
+    let rest = drop end text in
+    let long : end ≡ length text - length rest = omega (arith, fits, length-drop end text) in (
+      Ok (v, rest),
+      subst (λ (b : List ℕ). IsFront (IsMoment greatest_year) (Reads greatest_year) (Refuses greatest_year) b empty (Ok (v, rest)))
+          (take-append-drop end text) (front-moment (take end text) rest v moment),
+      ap (λ (k : ℕ). Ok (said v k)) long,
+    )

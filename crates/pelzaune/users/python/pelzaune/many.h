@@ -5,121 +5,201 @@
 #include "columns.h"
 #include "texts.h"
 
-/* Bytes of a batch with fewer are parsed sooner than the interpreter comes back. */
-enum { FEW_BYTES = 4096 };
-
-/* Numbers, as many as there is memory for. */
+/* Numbers in an array('q'), whose buffer is held so that nobody makes it longer or shorter. */
 typedef struct {
-    int64_t *items;
-    size_t count, room;
+    PyObject *array; /* NULL before there is room */
+    Py_buffer held;
+    size_t count;
 } numbers;
+
+static size_t room_of(const numbers *these)
+{
+    return these->array ? (size_t)these->held.len / sizeof(int64_t) : 0;
+}
+
+/* Where the next numbers go. */
+static int64_t *end_of(const numbers *these)
+{
+    return (int64_t *)these->held.buf + these->count;
+}
+
+/* Lets the numbers go. */
+static void drop(numbers *these)
+{
+    if (these->array) PyBuffer_Release(&these->held);
+    Py_CLEAR(these->array);
+}
 
 static int make_room(numbers *these, size_t more)
 {
-    if (these->items && more <= these->room - these->count) return 1;
-    size_t room = these->count + these->count / 2 + more;
-    int64_t *items = PyMem_Realloc(these->items, room * sizeof *items);
-    if (!items) {
-        PyErr_NoMemory();
-        return 0;
-    }
-    these->items = items;
-    these->room = room;
+    if (these->array && more <= room_of(these) - these->count) return 1;
+    numbers longer = { .count = these->count };
+    longer.array = make_array(these->count + these->count / 2 + more, &longer.held);
+    if (!longer.array) return 0;
+    if (these->count) memcpy(longer.held.buf, these->held.buf, these->count * sizeof(int64_t));
+    drop(these);
+    *these = longer;
     return 1;
 }
 
-/* The numbers as an array('q'). */
-static PyObject *array_of(const numbers *these)
+/* The array of the numbers, without what there is room for after them. */
+static PyObject *array_of(numbers *these)
 {
-    Py_buffer entries;
-    PyObject *made = make_array(these->count, &entries);
-    if (!made) return NULL;
-    if (these->count) memcpy(entries.buf, these->items, these->count * sizeof *these->items);
-    PyBuffer_Release(&entries);
-    return made;
+    size_t room = room_of(these);
+    PyObject *array = these->array;
+    PyBuffer_Release(&these->held);
+    these->array = NULL;
+    if (room > these->count && PySequence_DelSlice(array, (Py_ssize_t)these->count, (Py_ssize_t)room)) Py_CLEAR(array);
+    return array;
 }
 
-/* Parses the texts of a batch, and answers how many are refused: also one that has the number of a missing text. The
- * interpreter runs on meanwhile. */
-static size_t parse_batch(const source *from, question *asked, batch *these, int64_t *entries)
+/* Whether a text of a batch is missing. */
+static int is_none(const batch *these, size_t index)
+{
+    return these->places[index] == these->places[index + 1];
+}
+
+/* Asks a text of a batch. */
+static pelzaune_status ask_text(const batch *these, size_t index, question *asked, int64_t *entry)
+{
+    asked->bytes = these->column + these->places[index];
+    asked->length = these->places[index + 1] - these->places[index] - 1;
+    return ASK(nanoseconds, *asked, entry);
+}
+
+/* Parses the texts of a batch one by one, and answers how many are refused. */
+static size_t parse_each(const batch *these, question *asked, int64_t *entries)
 {
     size_t refused = 0;
-    PyThreadState *others = these->length < FEW_BYTES ? NULL : PyEval_SaveThread();
     for (size_t k = 0; k < these->count; k++) {
-        text *next = &these->texts[k];
-        asked->bytes = next->bytes;
-        asked->length = next->length;
-        if (next->bytes) next->status = ASK(nanoseconds, *asked, &entries[k]);
-        if (!next->bytes || next->status) entries[k] = PELZAUNE_NO_COUNT;
-        else if (from->missing && entries[k] == PELZAUNE_NO_COUNT) next->status = PELZAUNE_TOO_WIDE;
-        refused += next->status != PELZAUNE_OK;
+        int is_there = !is_none(these, k);
+        if (is_there && !ask_text(these, k, asked, &entries[k])) continue;
+        entries[k] = PELZAUNE_NO_COUNT;
+        refused += (size_t)is_there;
     }
+    return refused;
+}
+
+/* Moves the numbers of the texts that are there behind those that are missing before them. */
+static void spread(const batch *these, int64_t *entries)
+{
+    size_t to = these->count, from = to - these->missing;
+    while (from < to) {
+        to--;
+        entries[to] = is_none(these, to) ? PELZAUNE_NO_COUNT : entries[--from];
+    }
+}
+
+/* Parses the texts of a batch by a format, as the lines of a column, and answers how many are refused. There are more lines
+ * than texts where one of these has LF within: then each is parsed by itself. */
+static size_t parse_column(const batch *these, question *asked, int64_t *entries)
+{
+    size_t refused, there = these->count - these->missing;
+    if (pelzaune_column(asked->number, these->column, these->length, entries, there, &refused) != there)
+        return parse_each(these, asked, entries);
+    spread(these, entries);
+    return refused;
+}
+
+/* Parses the texts of a batch, and answers how many are refused. The interpreter runs on meanwhile. */
+static size_t parse_batch(const batch *these, question *asked, int64_t *entries)
+{
+    PyThreadState *others = these->length < FEW_BYTES ? NULL : PyEval_SaveThread();
+    size_t refused = asked->held ? parse_each(these, asked, entries) : parse_column(these, asked, entries);
     if (others) PyEval_RestoreThread(others);
     return refused;
 }
 
+/* How many entries have the number of a text that is refused, which is that of one instant too. */
+static size_t without_count(const int64_t *entries, size_t count)
+{
+    size_t found = 0;
+    for (size_t k = 0; k < count; k++) found += entries[k] == PELZAUNE_NO_COUNT;
+    return found;
+}
+
 /* Raises why a text is refused, with its index. */
-static void refuse_text(const text *refused, question *asked, size_t index)
+static void refuse_text(pelzaune_status status, question *asked, size_t index)
 {
     char said[128];
-    snprintf(said, sizeof said, "text %zu: %s", index, pelzaune_text(refused->status));
-    asked->bytes = refused->bytes;
-    asked->length = refused->length;
-    raise_at(parse_error, said, name_of(PELZAUNE_COMPONENT(refused->status)), index_of(asked));
+    snprintf(said, sizeof said, "text %zu: %s", index, pelzaune_text(status));
+    raise_at(parse_error, said, name_of(PELZAUNE_COMPONENT(status)), index_of(asked));
     tell_text(index);
 }
 
-/* Puts the numbers of a batch after the entries, and the indices of its refused texts after those of the others; or raises
- * why the first is refused. */
-static int read_batch(const source *from, question *asked, batch *these, numbers *entries, numbers *refused)
+/* Puts the indices of a batch's refused texts after those of the others, or raises why the first is refused. These are
+ * among the texts that have their number, and may be all of them. */
+static int tell_refused(const source *from, const batch *these, question *asked, int are_all, const numbers *entries,
+    numbers *refused)
 {
-    size_t before = entries->count;
-    if (!make_room(entries, these->count)) return 0;
-    size_t wrong = parse_batch(from, asked, these, entries->items + before);
-    entries->count += these->count;
-    if (wrong && from->refuses && !make_room(refused, wrong)) return 0;
-    for (size_t k = 0; wrong; k++) {
-        if (these->texts[k].status == PELZAUNE_OK) continue;
+    const int64_t *own = end_of(entries);
+    int64_t entry;
+    for (size_t k = 0; k < these->count; k++) {
+        if (own[k] != PELZAUNE_NO_COUNT || is_none(these, k)) continue;
+        pelzaune_status status = are_all && from->refuses ? PELZAUNE_TOO_WIDE : ask_text(these, k, asked, &entry);
+        if (!status && !are_all) continue;
         if (!from->refuses) {
-            PyErr_Clear(); /* of a text after it */
-            refuse_text(&these->texts[k], asked, before + k);
+            refuse_text(status ? status : PELZAUNE_TOO_WIDE, asked, entries->count + k);
             return 0;
         }
-        refused->items[refused->count++] = (int64_t)(before + k);
-        wrong--;
+        *end_of(refused) = (int64_t)(entries->count + k);
+        refused->count++;
     }
+    return 1;
+}
+
+/* Puts the numbers of a batch after the entries. Where texts may be missing, one with their number is refused. */
+static int read_batch(const source *from, const batch *these, question *asked, numbers *entries, numbers *refused)
+{
+    if (!make_room(entries, these->count)) return 0;
+    size_t wrong = parse_batch(these, asked, end_of(entries)), without = wrong;
+    if (wrong || from->missing) without = without_count(end_of(entries), these->count) - these->missing;
+    if (from->missing) wrong = without;
+    if (wrong && from->refuses && !make_room(refused, without)) return 0;
+    if (wrong && !tell_refused(from, these, asked, wrong == without, entries, refused)) return 0;
+    entries->count += these->count;
     return 1;
 }
 
 /* Reads all texts. An error is that of the first text that has one. */
 static int read_texts(source *from, question *asked, batch *these, numbers *entries, numbers *refused)
 {
-    int more = 1;
-    while (more == 1) {
-        more = gather(from, these);
-        if (!read_batch(from, asked, these, entries, refused)) more = -1;
-        drop(these);
-        if (more == 1 && PyErr_CheckSignals()) more = -1;
+    PyObject *type, *error, *trace;
+    int found = TEXT;
+    while (found == TEXT) {
+        found = gather(from, these);
+        PyErr_Fetch(&type, &error, &trace); /* of the text after the batch */
+        if (read_batch(from, these, asked, entries, refused)) PyErr_Restore(type, error, trace);
+        else {
+            found = ERROR;
+            Py_XDECREF(type);
+            Py_XDECREF(error);
+            Py_XDECREF(trace);
+        }
+        if (found == TEXT && PyErr_CheckSignals()) found = ERROR;
     }
-    return more == 0;
+    return found == NO_TEXT;
 }
 
 /* The numbers of all texts, and where a text may be refused the indices of those that are. */
 static PyObject *numbers_of(source *from, question *asked)
 {
-    numbers entries = { NULL, 0, 0 }, refused = { NULL, 0, 0 };
+    numbers entries = { .count = 0 }, refused = { .count = 0 };
     PyObject *answer = NULL, *indices = NULL;
     batch *these = PyMem_Malloc(sizeof *these);
     if (!these) return PyErr_NoMemory();
-    these->count = these->length = 0;
-    if (read_texts(from, asked, these, &entries, &refused)) answer = array_of(&entries);
+    these->column = NULL;
+    these->room = 0;
+    int fits = make_room(&entries, from->expected) && (!from->refuses || make_room(&refused, 0));
+    if (fits && read_texts(from, asked, these, &entries, &refused)) answer = array_of(&entries);
     if (answer && from->refuses) {
         indices = array_of(&refused);
         answer = indices ? Py_BuildValue("NN", answer, indices) : (Py_DECREF(answer), NULL);
     }
+    PyMem_Free(these->column);
     PyMem_Free(these);
-    PyMem_Free(entries.items);
-    PyMem_Free(refused.items);
+    drop(&entries);
+    drop(&refused);
     return answer;
 }
 

@@ -22,6 +22,7 @@ from pelzaune._pelzaune import _parse_present
 __all__ = ["to_datetime"]
 
 MISSING = (None, pandas.NaT, pandas.NA)
+IN_UTC = pandas.DatetimeTZDtype("ns", "UTC")
 
 
 def to_datetime(series, format=RFC3339, errors="raise"):
@@ -39,5 +40,5 @@ def to_datetime(series, format=RFC3339, errors="raise"):
     counts = _parse_present(series.to_numpy(dtype=object), format, errors, MISSING)
     if errors == "none":
         counts, _ = counts
-    times = pandas.DatetimeIndex(numpy.asarray(counts).view("datetime64[ns]"), tz="UTC")
-    return pandas.Series(times, index=series.index, name=series.name)
+    times = pandas.array(numpy.asarray(counts), dtype=IN_UTC, copy=False)
+    return pandas.Series(times, index=series.index, name=series.name, copy=False)

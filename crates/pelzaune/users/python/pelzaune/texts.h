@@ -3,42 +3,27 @@
 #define TEXTS_H
 
 #include <math.h>
-#include "asking.h"
+#include "batches.h"
 
-/* Texts of a batch: so many that a wait for the interpreter after each one is little, and that they stay in the caches. */
-enum { MOST_TEXTS = 8192 };
+/* So many texts ahead one is fetched into the caches while another is copied. */
+enum { AHEAD = 32 };
 
-/* The bytes of copies in a batch, where one text has no more. */
-enum { MOST_COPIES = 1 << 18 };
-
-/* A text whose bytes stay as they are while its owner is held. */
+/* Where texts come from: an iterator, or a list, a tuple or an array of numpy, whose elements are of fixed length or
+ * objects. */
 typedef struct {
-    PyObject *owner;        /* NULL where the bytes are a copy, or where there are none */
-    const uint8_t *bytes;   /* NULL where there is nothing to read, and then the status says whether that is a refusal */
-    size_t length;
-    pelzaune_status status;
-} text;
-
-/* Where texts come from: an iterator, or an array of numpy with elements of fixed length or objects. */
-typedef struct {
-    PyObject *iterator; /* NULL for an array */
-    PyObject *array;
-    Py_buffer held;     /* of the array, while a batch is gathered */
+    PyObject *iterator;
+    PyObject *elements; /* the list, tuple or array; or NULL */
+    Py_buffer held;     /* of the elements, while a batch is gathered */
+    Py_ssize_t extent;  /* of a list or a tuple */
     int kind;           /* of an element: 'S' for bytes, 'U' for characters, 'O' for an object */
     int is_swapped;     /* whether a character has its bytes in the other order than this processor */
-    uint8_t *copies;    /* of the elements of a batch */
-    uint32_t *wide;     /* the characters of one */
-    size_t width;       /* of an element, in bytes or characters, for which there is room */
+    uint32_t *wide;     /* the characters of an element */
+    size_t width;       /* of an element, in characters, for which there is room */
     size_t index;       /* of the next text */
+    size_t expected;    /* how many elements there were at first */
     PyObject *missing;  /* a tuple of the objects that stand for a missing text, as NaN does then; or NULL */
     int refuses;        /* whether a text is refused by an entry, and not by an error */
 } source;
-
-/* Some texts that were gathered. */
-typedef struct {
-    size_t count, length; /* of all texts */
-    text texts[MOST_TEXTS];
-} batch;
 
 /* Gives the error that is raised the index of a text. */
 static void tell_text(size_t index)
@@ -50,26 +35,15 @@ static void tell_text(size_t index)
     PyErr_Restore(type, error, trace);
 }
 
-/* How many texts a batch of an array has. */
-static size_t room_of(const source *from)
-{
-    size_t room = from->width ? MOST_COPIES / from->width : MOST_TEXTS;
-    if (!from->array || from->kind == 'O' || room > MOST_TEXTS) return MOST_TEXTS;
-    return room ? room : 1;
-}
-
-/* Makes room for the copies of elements of that width. */
+/* Makes room for the characters of an element. */
 static int widen(source *from, size_t width)
 {
-    if (from->copies && width <= from->width && (from->wide || from->kind != 'U')) return 1;
-    from->width = width;
-    PyMem_Free(from->copies);
+    if (from->wide && width <= from->width) return 1;
     PyMem_Free(from->wide);
-    from->copies = PyMem_Malloc(room_of(from) * width + 1);
-    from->wide = from->kind == 'U' ? PyMem_Malloc(width * sizeof(uint32_t) + 1) : NULL;
-    if (from->copies && (from->wide || from->kind != 'U')) return 1;
-    PyErr_NoMemory();
-    return 0;
+    from->width = width;
+    from->wide = PyMem_Malloc(width * sizeof *from->wide + 1);
+    if (!from->wide) PyErr_NoMemory();
+    return from->wide != NULL;
 }
 
 /* Reads the format of an array's elements, as 20w, >20w, 20s or O, and answers whether they may be texts. */
@@ -83,18 +57,34 @@ static int is_of_texts(source *from)
     return *format && strchr("wsO", *format) && !format[1] && from->held.ndim == 1;
 }
 
-/* Holds an array while a batch is gathered, in which nothing of Python runs: so it can be changed only between batches.
- * Answers -1 with an error, and 0 where its elements are no texts. */
+/* Whether an object is a list or a tuple, and none of a class that may give its elements another way. */
+static int is_list(PyObject *given)
+{
+    return PyList_CheckExact(given) || PyTuple_CheckExact(given);
+}
+
+/* Holds a list or a tuple, as an array of objects is held. */
+static int hold_list(source *from)
+{
+    static Py_ssize_t step = sizeof(PyObject *);
+    from->kind = 'O';
+    from->extent = PySequence_Fast_GET_SIZE(from->elements);
+    from->held = (Py_buffer){ .buf = PySequence_Fast_ITEMS(from->elements), .shape = &from->extent, .strides = &step };
+    return 1;
+}
+
+/* Holds elements while a batch is gathered, in which nothing of Python runs: so they can be changed only between batches.
+ * Answers -1 with an error, and 0 where the elements of an array are no texts. */
 static int hold(source *from)
 {
-    if (PyObject_GetBuffer(from->array, &from->held, PyBUF_RECORDS_RO)) {
+    if (is_list(from->elements)) return hold_list(from);
+    if (PyObject_GetBuffer(from->elements, &from->held, PyBUF_RECORDS_RO)) {
         if (PyErr_ExceptionMatches(PyExc_MemoryError)) return -1;
         PyErr_Clear();
         return 0;
     }
-    size_t size = (size_t)from->held.itemsize;
     int found = is_of_texts(from);
-    if (found && from->kind != 'O' && !widen(from, from->kind == 'U' ? size / sizeof(uint32_t) : size)) found = -1;
+    if (found && from->kind == 'U' && !widen(from, (size_t)from->held.itemsize / sizeof *from->wide)) found = -1;
     if (found != 1) PyBuffer_Release(&from->held);
     return found;
 }
@@ -123,11 +113,13 @@ static int open_source(PyObject *given, source *from)
     int asks = !PyList_Check(given) && !PyTuple_Check(given) && PyObject_HasAttrString(given, "to_numpy");
     PyObject *all = asks ? PyObject_CallMethod(given, "to_numpy", NULL) : Py_NewRef(given);
     if (!all) return 0;
-    if (is_array(all)) {
-        from->array = Py_NewRef(all);
+    if (is_list(all) || is_array(all)) {
+        from->elements = Py_NewRef(all);
         int found = hold(from);
-        if (found == 1) PyBuffer_Release(&from->held);
-        else Py_CLEAR(from->array);
+        if (found == 1) {
+            from->expected = (size_t)from->held.shape[0];
+            PyBuffer_Release(&from->held);
+        } else Py_CLEAR(from->elements);
         if (found) {
             Py_DECREF(all);
             return found == 1;
@@ -142,16 +134,8 @@ static int open_source(PyObject *given, source *from)
 static void close_source(source *from)
 {
     Py_XDECREF(from->iterator);
-    Py_XDECREF(from->array);
-    PyMem_Free(from->copies);
+    Py_XDECREF(from->elements);
     PyMem_Free(from->wide);
-}
-
-/* Lets go the texts of a batch. */
-static void drop(batch *these)
-{
-    these->length = 0;
-    while (these->count) Py_XDECREF(these->texts[--these->count].owner);
 }
 
 /* Whether an object stands for a missing text. */
@@ -164,41 +148,44 @@ static int is_missing(const source *from, PyObject *owner)
     return 0;
 }
 
-/* A text without bytes is refused where it is a str that has no UTF-8, as with half of a surrogate pair. Else its error
- * stays, with its index. */
-static int without_bytes(const source *from, text *into)
+/* A text without bytes is refused where it is a str that has no UTF-8, as with half of a surrogate pair, and ends its
+ * batch, since objects may have been collected while its error was made. Else the error stays, with its index. */
+static int without_bytes(const source *from, batch *into)
 {
     if (!from->refuses || !PyErr_ExceptionMatches(PyExc_UnicodeError)) {
         tell_text(from->index);
-        return -1;
+        return ERROR;
     }
     PyErr_Clear();
-    into->status = PELZAUNE_INVALID_LITERAL;
-    return 1;
+    return add_text(into, (const uint8_t *)"", 0) == TEXT ? LAST_TEXT : ERROR;
 }
 
-/* Takes an object, which is held from then on, as a text. */
-static int take_object(const source *from, PyObject *owner, text *into)
+/* Takes an object, which is let go, as a text. */
+static int take_object(const source *from, PyObject *owner, batch *into)
 {
-    into->owner = owner;
-    if (!PyUnicode_Check(owner) && !PyBytes_Check(owner)) {
-        if (is_missing(from, owner)) return 1;
+    int found = ERROR;
+    if (PyUnicode_Check(owner) || PyBytes_Check(owner)) {
+        size_t length;
+        const uint8_t *bytes = bytes_of(owner, "text", &length);
+        found = bytes ? add_text(into, bytes, length) : without_bytes(from, into);
+    } else if (is_missing(from, owner)) found = add_missing(into);
+    else {
         PyErr_Format(PyExc_TypeError, "text %zu must be str or bytes, not %s", from->index, Py_TYPE(owner)->tp_name);
-        return without_bytes(from, into);
+        tell_text(from->index);
     }
-    into->bytes = bytes_of(owner, "text", &into->length);
-    return into->bytes ? 1 : without_bytes(from, into);
+    Py_DECREF(owner);
+    return found;
 }
 
 /* Copies bytes without the NULs at their end, which numpy puts there. */
-static int take_bytes(const source *from, const uint8_t *element, uint8_t *copy, text *into)
+static int take_bytes(const source *from, const uint8_t *element, batch *into)
 {
     size_t length = (size_t)from->held.itemsize;
-    memcpy(copy, element, length);
-    while (length && !copy[length - 1]) length--;
-    into->bytes = copy;
-    into->length = length;
-    return 1;
+    uint8_t *place = make_place(into, length);
+    if (!place) return ERROR;
+    memcpy(place, element, length);
+    while (length && !place[length - 1]) length--;
+    return end_text(into, length);
 }
 
 /* Copies the characters of an element, in this processor's order of bytes, and answers all of their bits. */
@@ -215,7 +202,7 @@ static uint32_t copy_wide(const source *from, const uint8_t *element, size_t cou
 }
 
 /* Makes a str of characters of which one isn't ASCII. */
-static int take_wide(const source *from, size_t count, text *into)
+static int take_wide(const source *from, size_t count, batch *into)
 {
     for (size_t k = 0; k < count; k++)
         if (from->wide[k] > 0x10ffff) {
@@ -223,64 +210,87 @@ static int take_wide(const source *from, size_t count, text *into)
             return without_bytes(from, into);
         }
     PyObject *made = PyUnicode_FromKindAndData(PyUnicode_4BYTE_KIND, from->wide, (Py_ssize_t)count);
-    return made ? take_object(from, made, into) : -1;
+    return made ? take_object(from, made, into) : ERROR;
 }
 
 /* Copies characters without the NULs at their end. */
-static int take_characters(const source *from, const uint8_t *element, uint8_t *copy, text *into)
+static int take_characters(const source *from, const uint8_t *element, batch *into)
 {
     size_t count = (size_t)from->held.itemsize / sizeof(uint32_t);
     uint32_t bits = copy_wide(from, element, count);
     while (count && !from->wide[count - 1]) count--;
     if (bits >= 0x80) return take_wide(from, count, into);
-    for (size_t k = 0; k < count; k++) copy[k] = (uint8_t)from->wide[k];
-    into->bytes = copy;
-    into->length = count;
-    return 1;
+    uint8_t *place = make_place(into, count);
+    for (size_t k = 0; place && k < count; k++) place[k] = (uint8_t)from->wide[k];
+    return place ? end_text(into, count) : ERROR;
 }
 
-/* Takes the next element of an array that is held: 1, or 0 where there is none, or -1 with an error. */
-static int next_element(const source *from, size_t place, text *into)
+/* The object that an element is. */
+static PyObject *object_at(const uint8_t *element)
 {
-    if (from->index >= (size_t)from->held.shape[0]) return 0;
-    const uint8_t *element = (const uint8_t *)from->held.buf + (Py_ssize_t)from->index * from->held.strides[0];
-    uint8_t *copy = from->kind == 'O' ? NULL : from->copies + place * from->width;
     PyObject *owner;
-    if (from->kind == 'S') return take_bytes(from, element, copy, into);
-    if (from->kind == 'U') return take_characters(from, element, copy, into);
     memcpy(&owner, element, sizeof owner);
-    return take_object(from, Py_NewRef(owner ? owner : Py_None), into);
+    return owner ? owner : Py_None;
+}
+
+/* Takes the next element of those that are held. */
+static int next_element(const source *from, batch *into)
+{
+    if (from->index >= (size_t)from->held.shape[0]) return NO_TEXT;
+    const uint8_t *element = (const uint8_t *)from->held.buf + (Py_ssize_t)from->index * from->held.strides[0];
+    if (from->kind == 'S') return take_bytes(from, element, into);
+    if (from->kind == 'U') return take_characters(from, element, into);
+    return take_object(from, Py_NewRef(object_at(element)), into);
+}
+
+/* Has a text that is taken soon fetched, of which most are no longer than two lines of a cache. */
+static void fetch(const PyObject *owner)
+{
+    __builtin_prefetch(owner);
+    __builtin_prefetch((const char *)owner + 64);
+}
+
+/* Takes those of the next objects which are str of ASCII, as most are: nothing else is asked of these. */
+static int next_ascii(source *from, batch *into)
+{
+    const uint8_t *elements = from->held.buf;
+    const Py_ssize_t step = from->held.strides[0], all = from->held.shape[0];
+    Py_ssize_t k = (Py_ssize_t)from->index;
+    int found = TEXT;
+    while (found == TEXT && k < all && has_room(into)) {
+        PyObject *owner = object_at(elements + k * step);
+        if (AHEAD < all - k) fetch(object_at(elements + (k + AHEAD) * step));
+        if (!PyUnicode_CheckExact(owner) || !PyUnicode_IS_COMPACT_ASCII(owner)) break;
+        found = add_text(into, PyUnicode_1BYTE_DATA(owner), (size_t)PyUnicode_GET_LENGTH(owner));
+        k += found == TEXT;
+    }
+    from->index = (size_t)k;
+    return found;
 }
 
 /* Takes what the iterator gives next, as that does. */
-static int next_object(const source *from, text *into)
+static int next_object(const source *from, batch *into)
 {
     PyObject *owner = PyIter_Next(from->iterator);
     if (owner) return take_object(from, owner, into);
-    return PyErr_Occurred() ? -1 : 0;
+    return PyErr_Occurred() ? ERROR : NO_TEXT;
 }
 
-/* Fills a batch with the next texts: 1, or 0 where there are no more after them, or -1 with an error of the text after
- * them. */
+/* Fills a batch with the next texts: TEXT, or NO_TEXT where there are no more after them, or ERROR with that of the text
+ * after them. */
 static int gather(source *from, batch *into)
 {
-    int found = from->array ? hold(from) : 1;
+    int found = from->elements ? hold(from) : 1;
     if (found == 0) PyErr_SetString(PyExc_RuntimeError, "the array of texts was changed while it was read");
-    if (found != 1) return -1;
-    size_t room = room_of(from);
-    while (found == 1 && into->count < room) {
-        text *next = &into->texts[into->count];
-        *next = (text){ NULL, NULL, 0, PELZAUNE_OK };
-        found = from->array ? next_element(from, into->count, next) : next_object(from, next);
-        if (found == 1) {
-            into->count++;
-            into->length += next->length;
-            from->index++;
-            if (from->array && next->status) break; /* while its error was made, objects may have been collected */
-        } else Py_CLEAR(next->owner);
+    if (found != 1) return ERROR;
+    into->count = into->missing = into->length = into->places[0] = 0;
+    while (found == TEXT && has_room(into)) {
+        found = from->elements ? next_element(from, into) : next_object(from, into);
+        if (found >= TEXT) from->index++;
+        if (found == TEXT && from->elements && from->kind == 'O') found = next_ascii(from, into);
     }
-    if (from->array) PyBuffer_Release(&from->held);
-    return found;
+    if (from->elements) PyBuffer_Release(&from->held);
+    return found == LAST_TEXT ? TEXT : found;
 }
 
 #endif

@@ -111,9 +111,12 @@ def of_texts(many, written, form):
         return in_turn(*calls) + [None] * 3
     ours, theirs = importlib.import_module("pelzaune.pandas"), importlib.import_module("pandas")
     texts, few = theirs.Series(many), theirs.Series(many[:LINES // 10])
-    known = a_line(lambda: theirs.to_datetime(few, utc=True), 20, len(few)) if form == pelzaune.RFC3339 else None
-    by_format = a_line(lambda: theirs.to_datetime(few, format=written, utc=True), 5, len(few))
-    return in_turn(*calls, lambda: ours.to_datetime(texts, form)) + [known, by_format]
+    calls.append(lambda: ours.to_datetime(texts, form))
+    if form == pelzaune.RFC3339:
+        calls.append(lambda: theirs.to_datetime(texts, utc=True))
+    taken = in_turn(*calls)
+    by_format = a_line(lambda: theirs.to_datetime(few, format=written, utc=True), 20, len(few))
+    return taken + [None] * (5 - len(taken)) + [by_format]
 
 
 def lists():

@@ -223,6 +223,16 @@ class Held(unittest.TestCase):
         self.assertRaisesRegex(pelzaune.ParseError, "text 1: the instant is out of range", present, [None, least], 1, "raise", (None,))
         self.assertEqual([it.tolist() for it in present([None, least], 1, "none", (None,))], [[pelzaune.NO_COUNT] * 2, [1]])
 
+    def test_missing_among_others(self):
+        r, counts = random.Random(5), {TEXT: 10**9, TEXT.encode(): 10**9}
+        kinds = [*counts, None, float("nan"), Ellipsis, "?", b"?", "", "\u00e9", "\ud800", TEXT + "\n", "1677-09-21T00:12:43.145224192Z"]
+        for weights in ([1] * 12, [1000] + [1] * 11, [1000, 0, 1000] + [1] * 9, [1] * 5 + [0] * 7):
+            texts = r.choices(kinds, weights, k=MANY)
+            wanted = [counts.get(it, pelzaune.NO_COUNT) for it in texts], [k for k, it in enumerate(texts) if kinds.index(it) > 4]
+            for it in (texts, tuple(texts), iter(texts)):
+                answer = pelzaune._pelzaune._parse_present(it, 1, "none", (None, Ellipsis))
+                self.assertEqual(tuple(them.tolist() for them in answer), wanted)
+
 
 if __name__ == "__main__":
     unittest.main()

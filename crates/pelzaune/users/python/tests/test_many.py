@@ -77,6 +77,7 @@ class Answers(unittest.TestCase):
         greatest, above = "2262-04-11T23:47:16.854775807Z", "2262-04-11T23:47:16.854775808Z"
         self.assertEqual(many([least, greatest]), [-(2**63), 2**63 - 1])
         self.assertEqual(many([least, below, above], errors="none"), ([pelzaune.NO_COUNT] * 3, [1, 2]))
+        self.assertEqual(many([least, "?"] * MANY, errors="none"), ([pelzaune.NO_COUNT] * 2 * MANY, list(range(1, 2 * MANY, 2))))
         for text in (below, above):
             with self.assertRaisesRegex(pelzaune.ParseError, "text 1: the instant is out of range") as caught:
                 pelzaune.parse_many([TEXT, text])
@@ -157,6 +158,16 @@ class Texts(unittest.TestCase):
         self.assertEqual(many(["1 Uhr \u00e9", "1 Uhr \u00e8", "1 Uhr \u00e9".encode()], "[unix_timestamp] Uhr \u00e9", "none"),
                          ([10**9, pelzaune.NO_COUNT, 10**9], [1]))
 
+    def test_line_ends(self):
+        """A text with LF within is read as a whole, wherever it stands among others."""
+        for form in (pelzaune.RFC3339, "[unix_timestamp]\n", "[unix_timestamp][optional [\n]]", "[optional [\n]][unix_timestamp][optional [\n2]]"):
+            form = form if isinstance(form, int) else pelzaune.Description(form)
+            for count in (1, 3, 40, 8192, MANY):
+                for kinds in (["1\n"], ["1\n", "1", "\n1", "\n", "", "1\n2", "\n1\n2", TEXT, TEXT + "\n", TEXT + "\n" + TEXT]):
+                    texts = [kinds[k * k % len(kinds)] for k in range(count)]
+                    self.assertEqual(many(texts, form, "none"), alone(texts, form))
+                    self.assertEqual(many((it.encode() for it in texts), form, "none"), alone(texts, form))
+
     def test_surrogates(self):
         for text in ("\ud800", TEXT + "\udfff", "\ud83d\udd50"):
             with self.assertRaises(UnicodeEncodeError) as caught:
@@ -182,6 +193,9 @@ class Texts(unittest.TestCase):
         long = ["1970-01-01T00:00:01." + "0" * length + "Z" for length in (1, 9, 1000, 10**6)]
         self.assertEqual(many(long), [10**9] * 4)
         self.assertEqual(many(["x" * 10**7, TEXT], errors="none"), ([pelzaune.NO_COUNT, 10**9], [0]))
+        for length in (2**18 - 2, 2**18 - 1, 2**18, 2**19):
+            texts = [TEXT, "x" * length, TEXT[:-1] + ".0" + "0" * length + "Z", "", TEXT] * 3
+            self.assertEqual(many(texts, errors="none"), alone(texts))
 
 
 if __name__ == "__main__":

@@ -1,5 +1,5 @@
 //! How a time is read.
-ghost use Rattle.std.specs.Prelude.{◌≡◌, ◌+◌, ◌-◌, ◌≤◌, length, IfOk};
+ghost use Rattle.std.specs.Prelude.{◌≡◌, ◌+◌, ◌-◌, ◌≤◌, true, length, IfOk};
 ghost use Rattle.time_values.specs.Range.{greatest_year};
 ghost use Rattle.time_record.specs.Record.{empty};
 ghost use Rattle.time_readers.specs.Direct.{RefusesRfc3339};
@@ -238,7 +238,21 @@ fn read_mail(is_open: bool, text: &[u8]) -> Result<Said, Parse>
     Ok(said)
 }
 
-// The same by RFC 3339, of which a front is first read with no record.
+// What a front of the bytes says by RFC 3339, with no record where that can be. It isn't inlined, so that it takes no place
+// beside whole texts.
+#[inline(never)]
+fn read_front_3339(text: &[u8]) -> Result<Said, Parse>
+    ensures said { spec.IsReadBy greatest_year true (direct (RefusesRfc3339 greatest_year)) (Reads greatest_year)
+        (Refuses greatest_year) text.now (spec.seen_said result) }
+    ensures within { IfOk result (λ said. said.start + said.length ≤ length text.now) }
+{
+    if let Some(said) = fast::front_3339(text) {
+        return Ok(said);
+    }
+    read_by(&Rfc3339, true, text)
+}
+
+// The same by RFC 3339 of either.
 #[inline(always)]
 fn read_3339(is_open: bool, text: &[u8]) -> Result<Said, Parse>
     ensures said { spec.IsReadBy greatest_year is_open (direct (RefusesRfc3339 greatest_year)) (Reads greatest_year)
@@ -246,9 +260,7 @@ fn read_3339(is_open: bool, text: &[u8]) -> Result<Said, Parse>
     ensures within { IfOk result (λ said. said.start + said.length ≤ length text.now) }
 {
     if is_open {
-        if let Some(said) = fast::front_3339(text) {
-            return Ok(said);
-        }
+        return read_front_3339(text);
     }
     read_by(&Rfc3339, is_open, text)
 }

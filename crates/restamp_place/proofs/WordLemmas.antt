@@ -1,5 +1,5 @@
 -- Words of a line that are passed over.
-use Rattle.std.proofs.Common.{◌≡◌, ℕ, zero, suc, ◌+◌, ◌-◌, ◌<◌, ◌≤◌, ◌==◌, Bool, true, false, not, cond, if◌then◌else◌, List, [], ◌∷◌, length, get_or, drop, refl, sym, ap, ⊎_elim, arith, get_or-drop, ◌∙◌, None, Some}
+use Rattle.std.proofs.Common.{◌≡◌, ℕ, zero, suc, ◌+◌, ◌-◌, ◌<◌, ◌≤◌, ◌==◌, Bool, true, false, not, if◌then◌else◌, List, [], ◌∷◌, length, get_or, drop, refl, sym, ap, ⊎_elim, arith, get_or-drop, ◌∙◌, None, Some}
 use Rattle.std.specs.Prelude.{Option, IfSome, nat_le, ◌&&◌}
 use Rattle.std.specs.List.{position_or_len}
 use mir.Val.{bool_byte}

@@ -136,22 +136,26 @@ fn begins_with(text: &[u8], bytes: &[u8]) -> bool
     text.len() <= bytes.len() && &bytes[..text.len()] == text
 }
 
-// Whether the text may stand at one of sixteen places, as far as its first byte, one in its middle and its last tell.
+// How many of sixteen places stand before the first at which the text may stand, as far as its first byte, one in its middle
+// and its last tell, or all.
 #[inline(always)]
-fn may_stand(text: &[u8], bytes: &[u8], at: usize) -> bool
+fn first_in_block(text: &[u8], bytes: &[u8], at: usize) -> usize
     requires some { 0 < length text.now }
     requires within { at + 15 + length text.now ≤ length bytes.now }
-    ensures { (k : ℕ) → at ≤ k → k < at + 16 → OccursAt bytes.now text.now k → IsTrue result }
+    ensures most { result ≤ 16 }
+    ensures passed { Nowhere (OccursAt bytes.now text.now) at (at + result) }
 {
     let middle = text.len() / 2;
     let last = text.len() - 1;
-    let mut may = false;
-    for k in 0..BLOCK {
-        may |= (bytes[at + k] == text[0])
-            & (bytes[at + k + middle] == text[middle])
-            & (bytes[at + k + last] == text[last]);
+    let is_first = u8x16::from_slice(&bytes[at..]).simd_eq(u8x16::splat(text[0]));
+    let is_middle = u8x16::from_slice(&bytes[at + middle..]).simd_eq(u8x16::splat(text[middle]));
+    let is_last = u8x16::from_slice(&bytes[at + last..]).simd_eq(u8x16::splat(text[last]));
+    let hits = (is_first & is_middle & is_last).to_bitmask();
+    if hits == 0 {
+        BLOCK
+    } else {
+        hits.trailing_zeros() as usize
     }
-    may
 }
 
 // Where the text first stands of these places.
@@ -169,52 +173,20 @@ fn find_within(text: &[u8], bytes: &[u8], from: usize, to: usize) -> Option<usiz
     None
 }
 
-// Where the next sixteen places end, or those that are left.
+// Where the text first stands of the last places, which are at most sixteen.
 #[inline(always)]
-fn next_stop(at: usize, end: usize) -> usize
-    requires { at < end }
-    ensures above { at < result }
-    ensures within { result ≤ end }
-    ensures near { result ≤ at + 16 }
-{
-    if BLOCK < end - at { at + BLOCK } else { end }
-}
-
-// The places from that one on passed over by sixteen, as long as the text can't stand there. The loop calls nothing, so
-// what it compares with stays in registers.
-#[inline(always)]
-fn pass_over(text: &[u8], bytes: &[u8], from: usize, end: usize) -> usize
+fn find_last(text: &[u8], bytes: &[u8], from: usize, end: usize) -> Option<usize>
     requires some { 0 < length text.now }
-    requires ordered { from ≤ end }
-    requires within { end + length text.now ≤ length bytes.now + 1 }
-    ensures low { from ≤ result }
-    ensures high { result ≤ end }
-    ensures passed { Nowhere (OccursAt bytes.now text.now) from result }
+    requires near { end ≤ from + 16 }
+    requires within { end + length text.now ≡ length bytes.now + 1 }
+    ensures { IsFirst (OccursAt bytes.now text.now) from end result }
 {
-    let mut at = from;
-    while BLOCK <= end - at {
-        if may_stand(text, bytes, at) {
-            return at;
-        }
-        at += BLOCK;
+    if end < BLOCK {
+        return find_within(text, bytes, from, end);
     }
-    at
-}
-
-// Where the text first stands of at most sixteen places.
-#[inline(always)]
-fn find_near(text: &[u8], bytes: &[u8], from: usize, to: usize) -> Option<usize>
-    requires some { 0 < length text.now }
-    requires near { to ≤ from + 16 }
-    requires within { to + length text.now ≤ length bytes.now + 1 }
-    ensures { IsFirst (OccursAt bytes.now text.now) from to result }
-{
-    if BLOCK <= to {
-        if !may_stand(text, bytes, to - BLOCK) {
-            return None;
-        }
-    }
-    find_within(text, bytes, from, to)
+    let begin = end - BLOCK;
+    let place = begin + first_in_block(text, bytes, begin);
+    find_within(text, bytes, from.max(place), end)
 }
 
 // Where the text first stands in the bytes, sixteen places at a time.
@@ -224,15 +196,18 @@ fn find_short(text: &[u8], bytes: &[u8]) -> Option<usize>
     ensures { FindsNeedle bytes.now text.now 0 result }
 {
     let end = bytes.len() - text.len() + 1;
-    let mut at = pass_over(text, bytes, 0, end);
-    while at < end {
-        let stop = next_stop(at, end);
-        if let Some(found) = find_near(text, bytes, at, stop) {
-            return Some(found);
+    let mut at = 0;
+    while BLOCK <= end - at {
+        let before = first_in_block(text, bytes, at);
+        at += before;
+        if before < BLOCK {
+            if begins_with(text, &bytes[at..]) {
+                return Some(at);
+            }
+            at += 1;
         }
-        at = pass_over(text, bytes, stop, end);
     }
-    None
+    find_last(text, bytes, at, end)
 }
 
 /// Where the text first stands in the bytes. A search by a long text lays it out first, which costs some three hundred

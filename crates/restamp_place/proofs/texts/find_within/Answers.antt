@@ -1,4 +1,4 @@
-use Rattle.std.proofs.Common.{◌≡◌, ℕ, ◌+◌, ◌<◌, ◌≤◌, true, get_or, drop, sym, ap, subst, arith, ⊎_elim, ◌∙◌}
+use Rattle.std.proofs.Common.{◌≡◌, sym, ap, subst, arith, ⊎_elim, ◌∙◌}
 use Rattle.std.proofs.lemmas.Bool.{cases_lt, true≢false}
 use Rattle.memchr.specs.Find.{OccursAt, occurs_at}
 use Rattle.restamp_place.proofs.FieldLemmas.{tail_range}

@@ -1,7 +1,7 @@
 -- What the values of options mean. `Y` is the greatest year.
-use Rattle.std.specs.Prelude.{◌≡◌, ℕ, ◌-◌, ◌^◌, ◌<◌, ℤ, nat_le, unsigned_abs, Bool, false, true, MatchBool, List, [], ◌∷◌, codes, if◌then◌else◌, Option, None, Some, MatchOption, SomeIff, Result, Ok, Err, MatchResult, IsSomeAnd, FitsSigned}
+use Rattle.std.specs.Prelude.{◌≡◌, ℕ, ◌-◌, ◌^◌, ◌<◌, ℤ, nat_le, unsigned_abs, Bool, false, true, List, [], ◌∷◌, codes, if◌then◌else◌, Option, None, Some, MatchOption, SomeIff, Result, Ok, Err, MatchResult, FitsSigned}
 use Rattle.std.specs.Char.{is_ascii_digit}
-use Rattle.std.specs.Option.{option_and_then, option_map}
+use Rattle.std.specs.Option.{option_and_then}
 use Rattle.std.specs.Result.{result_ok}
 use Rattle.std.specs.Int.{w32}
 use Rattle.std.specs.Str.{bytes_eq}

@@ -1,5 +1,7 @@
 //! Times that leave their offset to the clocks of a zone.
-use restamp_verdict::{Clocks, Defaults, Fold, Reason, find_reading, read_dated};
+use restamp_verdict::{
+    Clocks, Defaults, Fold, OffsetParts, Reason, TwoOffsets, find_reading, read_dated,
+};
 use std::alloc::Global;
 use time_values::OffsetDateTime;
 use time_zones::{NamedZone, ReadFault, ZoneFiles, find_zone_in};
@@ -28,7 +30,7 @@ enum Answer {
     At(i64),
     LeftOut,
     // The offsets.
-    Twice([u8; 9], [u8; 9]),
+    Twice(TwoOffsets),
     Otherwise,
 }
 
@@ -50,12 +52,21 @@ fn answer_of(
     match read_dated(&reading, false, text, &defaults) {
         Ok(said) => Answer::At(said.moment.unix_timestamp()),
         Err(Reason::LeftOut) => Answer::LeftOut,
-        Err(Reason::ShownTwice(offsets)) => Answer::Twice(offsets.earlier.0, offsets.later.0),
+        Err(Reason::ShownTwice(offsets)) => Answer::Twice(offsets),
         Err(_) => Answer::Otherwise,
     }
 }
 
-const BOTH: Answer = Answer::Twice(*b"+02:00:00", *b"+01:00:00");
+const BOTH: Answer = Answer::Twice(TwoOffsets {
+    earlier: OffsetParts {
+        is_behind: false,
+        seconds: 7200,
+    },
+    later: OffsetParts {
+        is_behind: false,
+        seconds: 3600,
+    },
+});
 
 type Row = (Fold, &'static [u8], Answer);
 

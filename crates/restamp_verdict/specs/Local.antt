@@ -8,7 +8,7 @@ use Rattle.time_values.specs.declared.utc_offset.UtcOffset.{UtcOffset}
 use Rattle.time_zones.specs.Zones.{IsAnswer}
 use Rattle.time_zones.specs.declared.clocks.NotOne.{NotOne}
 use Rattle.time_zones.specs.declared.clocks.NotOne.TheVariants as not_one
-use Rattle.restamp_verdict.specs.Reason.{Reason, left_out, shown_twice, untold, offset_text, seen}
+use Rattle.restamp_verdict.specs.Reason.{Reason, left_out, shown_twice, untold, parts_of, seen}
 use Rattle.restamp_verdict.specs.declared.local.Clocks.{Clocks}
 use Rattle.restamp_verdict.specs.declared.local.Fold.{Fold}
 use Rattle.restamp_verdict.specs.declared.local.Fold.TheVariants as by
@@ -22,8 +22,8 @@ clock_of v = record { date = offset_date v; time = offset_time v }
 -- the offsets of two moments, as reports show them
 abbrev pub offsets : OffsetDateTime → OffsetDateTime → TwoOffsets
 offsets earlier later = record {
-  earlier = record { 0 = offset_text (offset_seconds (offset_of earlier)) };
-  later = record { 0 = offset_text (offset_seconds (offset_of later)) };
+  earlier = parts_of (offset_seconds (offset_of earlier));
+  later = parts_of (offset_seconds (offset_of later));
 }
 
 -- which of two moments it is that the clocks show alike

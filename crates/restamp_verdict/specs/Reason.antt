@@ -8,6 +8,7 @@ use Rattle.time_values.specs.Texts.{refusal_text}
 use Rattle.time_writing.specs.Unwritable.{unwritable_text}
 use Rattle.time_writing.specs.declared.unwritable.Unwritable.{Unwritable}
 use Rattle.restamp_verdict.specs.declared.reading.Said.{Said}
+use Rattle.restamp_verdict.specs.declared.reason.OffsetParts.{OffsetParts}
 use Rattle.restamp_verdict.specs.declared.reason.TwoOffsets.{TwoOffsets}
 use Rattle.restamp_verdict.specs.declared.reason.Reason as declared
 use Rattle.restamp_verdict.specs.declared.reason.Reason.TheVariants as variant
@@ -40,19 +41,19 @@ seen (variant.Unformattable why) = unformattable why
 seen variant.TooFar = too_far
 seen variant.Missing = missing
 
--- the sign of an offset of so many seconds
-abbrev pub sign_of : ℤ → ℕ
-sign_of s = if int_lt s (pos 0) then 45 else 43
+-- so many seconds ahead of UTC, or behind it where they are below 0
+abbrev pub parts_of : ℤ → OffsetParts
+parts_of s = record { is_behind = int_lt s (pos 0); seconds = unsigned_abs s }
 
--- an offset of so many seconds, `+HH:MM:SS`
-abbrev pub offset_text : ℤ → List ℕ
-offset_text s =
-    sign_of s ∷ fixed 2 (unsigned_abs s / 3600) ++ codes ":"
-    ++ fixed 2 (unsigned_abs s / 60 % 60) ++ codes ":" ++ fixed 2 (unsigned_abs s % 60)
+-- such an offset, `+HH:MM:SS`
+abbrev pub offset_text : OffsetParts → List ℕ
+offset_text o =
+    (if o.is_behind then 45 else 43) ∷ fixed 2 (o.seconds / 3600) ++ codes ":"
+    ++ fixed 2 (o.seconds / 60 % 60) ++ codes ":" ++ fixed 2 (o.seconds % 60)
 
 -- two offsets
 abbrev pub offsets_text : TwoOffsets → List ℕ
-offsets_text offsets = offsets.earlier.0 ++ (codes " and " ++ offsets.later.0)
+offsets_text offsets = offset_text offsets.earlier ++ (codes " and " ++ offset_text offsets.later)
 
 -- what it prints, with what its zone is called
 abbrev pub text_with : List ℕ → Reason → List ℕ

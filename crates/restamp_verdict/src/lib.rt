@@ -25,5 +25,5 @@ pub use local::{Clocks, Fold};
 pub use missing::{Why, law_one_lack};
 pub use naming::{FormatFault, find_reading, find_writing};
 pub use reading::{Defaults, MOST_STEPS, Reading, Said, read};
-pub use reason::{OffsetText, Reason, TwoOffsets};
+pub use reason::{OffsetParts, Reason, TwoOffsets};
 pub use wrong::{Wrong, law_one_wrong};

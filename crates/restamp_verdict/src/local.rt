@@ -6,7 +6,7 @@ ghost use Rattle.restamp_verdict.specs.Reading.{Says, SaysOn, SaysLocally, at_of
 ghost use Rattle.restamp_verdict.specs.Reason.{seen, seen_read};
 
 use crate::reading::{Defaults, Reading, Said, read};
-use crate::reason::{OffsetText, Reason, TwoOffsets};
+use crate::reason::{OffsetParts, Reason, TwoOffsets};
 use time_values::{OffsetDateTime, PlainDateTime, UtcOffset};
 use time_zones::{NotOne, TimeZone, assume_zone};
 
@@ -44,8 +44,8 @@ impl Fold {
     {
         match self {
             Fold::Refuse => Err(Reason::ShownTwice(TwoOffsets {
-                earlier: OffsetText::of(earlier.offset().whole_seconds()),
-                later: OffsetText::of(later.offset().whole_seconds()),
+                earlier: OffsetParts::of(earlier.offset().whole_seconds()),
+                later: OffsetParts::of(later.offset().whole_seconds()),
             })),
             Fold::Earlier => Ok(earlier.offset()),
             Fold::Later => Ok(later.offset()),

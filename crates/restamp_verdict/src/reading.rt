@@ -4,6 +4,7 @@ ghost use Rattle.time_values.specs.Range.{greatest_year};
 ghost use Rattle.time_record.specs.Record.{empty};
 ghost use Rattle.time_readers.specs.Direct.{RefusesRfc3339};
 ghost use Rattle.time_parsing.specs.Outcome.{direct, IsFront, IsOutcome, seen as seen_parse, seen_front};
+ghost use Rattle.time_parsing.specs.Iso8601 as iso8601;
 ghost use Rattle.time_parsing.specs.Rfc3339.{Reads, Refuses};
 ghost use Rattle.restamp_verdict.specs.Reading as spec;
 ghost use Rattle.restamp_verdict.specs.Reason.{seen_read};
@@ -225,8 +226,9 @@ fn bare(said: Said, text: &[u8]) -> Said
     }
 }
 
-// The same by RFC 2822, which has blanks before a date and after it: where it is open they stay around it.
-#[inline(always)]
+// The same by RFC 2822, which has blanks before a date and after it: where it is open they stay around it. It isn't inlined,
+// so that the other formats are.
+#[inline(never)]
 fn read_mail(is_open: bool, text: &[u8]) -> Result<Said, Parse>
     ensures said { spec.IsReadMail greatest_year is_open text.now (spec.seen_said result) }
     ensures within { IfOk result (λ said. said.start + said.length ≤ length text.now) }
@@ -265,6 +267,16 @@ fn read_3339(is_open: bool, text: &[u8]) -> Result<Said, Parse>
     read_by(&Rfc3339, is_open, text)
 }
 
+// The same by ISO 8601, with defaults. It isn't inlined either.
+#[inline(never)]
+fn read_8601(is_open: bool, text: &[u8], defaults: &Defaults<'_>) -> Result<Said, Parse>
+    ensures said { spec.IsReadWith greatest_year is_open (iso8601.Reads greatest_year) (iso8601.Refuses greatest_year) text.now
+        defaults.now (spec.seen_said result) }
+    ensures within { IfOk result (λ said. said.start + said.length ≤ length text.now) }
+{
+    read_with(&Iso8601, is_open, text, defaults)
+}
+
 // The same by any of the formats. Those that say all of a moment need no defaults.
 #[inline(always)]
 fn read_plain(
@@ -279,10 +291,11 @@ fn read_plain(
     match reading {
         Reading::Rfc3339 => read_3339(is_open, text),
         Reading::Rfc2822 => read_mail(is_open, text),
-        Reading::Iso8601 => read_with(&Iso8601, is_open, text, defaults),
-        Reading::Described(described) => read_with(described, is_open, text, defaults),
+        Reading::Iso8601 => read_8601(is_open, text, defaults),
         Reading::Complete(described) => read_by(described, is_open, text),
-        Reading::Counted(described) => read_with(described, is_open, text, defaults),
+        Reading::Described(described) | Reading::Counted(described) => {
+            read_with(described, is_open, text, defaults)
+        }
     }
 }
 

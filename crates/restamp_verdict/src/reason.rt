@@ -1,7 +1,7 @@
 //! Why a time isn't rewritten.
 ghost use Rattle.std.specs.Prelude.{◌≡◌, Some};
 ghost use Rattle.time_values.specs.Shown.{fixed};
-ghost use Rattle.restamp_verdict.specs.Reason.{seen, offset_text, offsets_text, reason_text, sign_of, text_with};
+ghost use Rattle.restamp_verdict.specs.Reason.{seen, offset_text, offsets_text, parts_of, reason_text, text_with};
 
 use std::{fmt, str};
 use time_formatting::Unformattable;
@@ -12,14 +12,19 @@ use time_writing::Unwritable;
 #[derive(Clone, Copy, Debug, PartialEq, Eq)]
 pub struct TwoOffsets {
     /// That of the first.
-    pub earlier: OffsetText,
+    pub earlier: OffsetParts,
     /// That of the last.
-    pub later: OffsetText,
+    pub later: OffsetParts,
 }
 
-/// The text of an offset: `+HH:MM:SS`.
+/// By how much clocks are ahead of UTC, or behind it. Each field has a word of memory, so that a [`Reason`] is copied by words.
 #[derive(Clone, Copy, Debug, PartialEq, Eq)]
-pub struct OffsetText(pub [u8; 9]);
+pub struct OffsetParts {
+    /// Whether they are behind.
+    pub is_behind: bool,
+    /// By how many seconds.
+    pub seconds: u64,
+}
 
 /// Why a time isn't rewritten.
 #[derive(Clone, Copy, Debug)]
@@ -47,37 +52,41 @@ pub enum Reason {
 }
 
 // The last two digits of a number.
-fn pair(number: u32) -> [u8; 2]
+fn pair(number: u64) -> [u8; 2]
     ensures { result ≡ fixed 2 number }
 {
     [b'0' + (number / 10 % 10) as u8, b'0' + (number % 10) as u8]
 }
 
-// The sign of an offset.
-fn sign_of(seconds: i32) -> u8
-    ensures { result ≡ sign_of seconds }
-{
-    if seconds < 0 { b'-' } else { b'+' }
-}
-
-impl OffsetText {
-    // That of an offset of so many seconds.
-    pub(crate) fn of(seconds: i32) -> OffsetText
-        ensures { result.0 ≡ offset_text seconds }
+impl OffsetParts {
+    // By so many seconds ahead, or behind where they are below 0.
+    pub(crate) fn of(seconds: i32) -> OffsetParts
+        ensures { result ≡ parts_of seconds }
     {
-        let size = seconds.unsigned_abs();
-        let [h1, h2] = pair(size / 3600);
-        let [m1, m2] = pair(size / 60 % 60);
-        let [s1, s2] = pair(size % 60);
-        OffsetText([sign_of(seconds), h1, h2, b':', m1, m2, b':', s1, s2])
+        OffsetParts {
+            is_behind: seconds < 0,
+            seconds: u64::from(seconds.unsigned_abs()),
+        }
+    }
+
+    // The text of such an offset, `+HH:MM:SS`.
+    fn text(self) -> [u8; 9]
+        ensures { result ≡ offset_text self }
+    {
+        let sign = if self.is_behind { b'-' } else { b'+' };
+        let [h1, h2] = pair(self.seconds / 3600);
+        let [m1, m2] = pair(self.seconds / 60 % 60);
+        let [s1, s2] = pair(self.seconds % 60);
+        [sign, h1, h2, b':', m1, m2, b':', s1, s2]
     }
 }
 
-impl fmt::Display for OffsetText {
-    ghost output = { λ text. Some text.0 };
+impl fmt::Display for OffsetParts {
+    ghost output = { λ offset. Some (offset_text offset) };
 
     fn fmt<W: fmt::Write>(&self, f: &mut fmt::Formatter<W>) -> fmt::Result {
-        f.write_str(str::from_utf8(&self.0).map_err(|_| fmt::Error)?)
+        let text = self.text();
+        f.write_str(str::from_utf8(&text).map_err(|_| fmt::Error)?)
     }
 }
 

@@ -12,7 +12,8 @@ returns-then-begins_with c =
       record {
         low = omega arith;
         high = omega arith;
-        before = λ k low below is. ⊎_elim (λ h. c.loop-at.invariant.1 k low h is) (λ h. c.first_in_block-before.ensures.passed k h below is) (cases_lt k c.loop-at.at);
+        before = λ k low below is. ⊎_elim (λ h. c.loop-at.invariant.1 k low h is)
+            (λ h. c.first_in_block-before.ensures.passed k h below is) (cases_lt k c.loop-at.at);
       },
       begins-stands c.args.text.now c.args.bytes.now at (omega arith)
           (sym (ap (λ xs. occurs_at xs c.args.text.now 0) rest) ∙ sym c.begins_with.ensures ∙ c.if-begins_with.true),

@@ -8,7 +8,8 @@ returns-then-hits-eq0-clause-passed c =
 
 pub returns-else-hits-eq0-clause-most : goal.returns-else-hits-eq0-clause-most
 returns-else-hits-eq0-clause-most c =
-    first-le _ (λ x. rw (eq-eqb x x refl) refl) c.args.bytes.now c.args.text.now c.args.at c.requires.some c.requires.within (omega (arith, c.if-hits-eq0.false))
+    first-le _ (λ x. rw (eq-eqb x x refl) refl) c.args.bytes.now c.args.text.now c.args.at c.requires.some c.requires.within
+    (omega (arith, c.if-hits-eq0.false))
 
 pub returns-else-hits-eq0-clause-passed : goal.returns-else-hits-eq0-clause-passed
 returns-else-hits-eq0-clause-passed c =

@@ -1,2 +1,3 @@
 pub mod Progress
+pub mod Origins
 pub mod Words

@@ -110,7 +110,7 @@ impl<'a, R: Files + Clock + Eprint + AllocGlobal> DiskFolder<'a, R> {
 impl<'a, R: Files + Clock + Eprint + AllocGlobal> Folder for DiskFolder<'a, R> {
     ghost use Rattle.std.specs.Prelude.{None};
 
-    type Old = Counted<Metered<'a, R, R::File>>;
+    type Old = Metered<'a, R, Counted<R::File>>;
 
     type New = Counted<R::File>;
 
@@ -125,8 +125,8 @@ impl<'a, R: Files + Clock + Eprint + AllocGlobal> Folder for DiskFolder<'a, R> {
         if original != seen {
             return Err(io::Error::new(ErrorKind::Other, "another program changed it meanwhile"));
         }
-        let input = Metered::new(file, self.meter(original.length), self.progress);
-        Ok((Counted::new(input), original))
+        let meter = self.meter(original.length);
+        Ok((Metered::new(Counted::new(file), meter, self.progress), original))
     }
 
     fn is_at(&self, name: &str, original: &Original) -> io::Result<bool> {

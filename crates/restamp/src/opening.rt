@@ -1,12 +1,12 @@
 //! Files and standard input, by their names.
-ghost use Rattle.std.specs.Prelude.{◌≡◌};
-ghost use Rattle.programs_streams.specs.Faults.{Rises};
+ghost use Rattle.std.specs.Prelude.{◌≡◌, ◌≤◌, IfOk};
+ghost use Rattle.programs_streams.specs.Faults.{IsCutOff, Rises};
+ghost use Rattle.restamp.specs.Origins.{faults_of, given_of};
 
 use crate::progress::{Meter, Progress};
-use programs_streams::Counted;
+use programs_streams::{Counted, Source};
 use restamp_stream::Opening;
 use std::fs::{Metadata, OpenFile};
-use std::io::Read;
 use std::rt::Files;
 use std::time::Clock;
 use std::{fs, io};
@@ -22,23 +22,45 @@ pub(crate) struct Disk<'a, R> {
 
 /// What is read.
 #[derive(Drop)]
-pub(crate) enum Source<F: Drop, I: Drop> {
+pub(crate) enum Origin<F: Drop, I: Drop> {
     /// A file.
     File(F),
     /// Standard input.
     Input(I),
 }
 
-impl<F: Read + Drop, I: Read + Drop> Read for Source<F, I> {
-    fn read(&mut self, buf: &mut [u8]) -> io::Result<usize> {
+impl<F: Source + Drop, I: Source + Drop> Source for Origin<F, I> {
+    ghost use Rattle.restamp.specs.Origins.{of_either};
+
+    ghost remaining = { of_either F.remaining I.remaining };
+
+    ghost faults = { of_either F.faults I.faults };
+
+    ghost given = { of_either F.given I.given };
+
+    fn read(&mut self, buffer: &mut [u8]) -> io::Result<usize> {
         match self {
-            Source::File(file) => file.read(buf),
-            Source::Input(input) => input.read(buf),
+            Origin::File(file) => file.read(buffer),
+            Origin::Input(input) => input.read(buffer),
         }
     }
 }
 
-/// A reader that tells how far it has come.
+impl<F: Drop, I: Drop> Origin<Counted<F>, Counted<I>> {
+    // A count of what was cut off, and this one, where it was.
+    fn count_cut_off(&self, count: u64) -> u64
+        ensures cut_off { IsCutOff 0 (faults_of self.now) (given_of self.now) → Rises count result }
+        ensures whole { ¬ IsCutOff 0 (faults_of self.now) (given_of self.now) → result ≡ count }
+        ensures later { count ≤ result }
+    {
+        match self {
+            Origin::File(file) => file.count_cut_off(count),
+            Origin::Input(input) => input.count_cut_off(count),
+        }
+    }
+}
+
+/// A source that tells how far it has come.
 #[derive(Drop)]
 pub(crate) struct Metered<'a, R, S: Drop> {
     source: S,
@@ -62,18 +84,22 @@ impl<'a, R, S: Drop> Metered<'a, R, S> {
     }
 }
 
-impl<R: Clock + Eprint, S: Read + Drop> Read for Metered<'_, R, S> {
+impl<R: Clock + Eprint, S: Source + Drop> Source for Metered<'_, R, S> {
     ghost remaining = { λ metered. S.remaining metered.source };
+
+    ghost faults = { λ metered. S.faults metered.source };
+
+    ghost given = { λ metered. S.given metered.source };
 
     // Before a read all that was read is answered and every report is written to its end. It is left on its own, as the
     // loop that calls it is compiled by its size.
     #[inline(never)]
-    fn read(&mut self, buf: &mut [u8]) -> io::Result<usize> {
+    fn read(&mut self, buffer: &mut [u8]) -> io::Result<usize> {
         let Some(meter) = &mut self.meter else {
-            return self.source.read(buf);
+            return self.source.read(buffer);
         };
         self.progress.tell(meter);
-        let n = self.source.read(buf)?;
+        let n = self.source.read(buffer)?;
         meter.count(n);
         Ok(n)
     }
@@ -96,38 +122,37 @@ impl<'a, R: Files + Input + Clock + Eprint + AllocGlobal> Disk<'a, R> {
         }
     }
 
-    // The source, whose progress is told where that is wanted.
-    fn metered(
-        &self,
-        name: &str,
-        source: Source<R::File, R::Reader>,
-    ) -> Metered<'a, R, Source<R::File, R::Reader>> {
+    // The source, of that size if it is known, whose progress is told where that is wanted.
+    fn metered<S: Drop>(&self, name: &str, source: S, size: Option<u64>) -> Metered<'a, R, S>
+        ensures { result.source ≡ source }
+    {
         let meter = if self.progress.is_wanted() {
-            let size = match &source {
-                Source::File(file) => size_of(file.metadata()),
-                Source::Input(_) => size_of(fs::metadata(self.rt, "/dev/stdin")),
-            };
             self.progress.begin(self.rt.alloc(), name, size)
         } else {
             None
         };
-        Metered {
-            source,
-            meter,
-            progress: self.progress,
-        }
+        Metered::new(source, meter, self.progress)
     }
 
     // Opens the file of a name.
-    fn open_once(&self, name: &[u8]) -> io::Result<Metered<'a, R, Source<R::File, R::Reader>>> {
+    fn open_once(
+        &self,
+        name: &[u8],
+    ) -> io::Result<Metered<'a, R, Origin<Counted<R::File>, Counted<R::Reader>>>>
+        ensures { IfOk result (λ input. faults_of input.source ≡ 0) }
+    {
         self.progress.erase();
         if name == b"-".as_slice() {
-            return Ok(self.metered("-", Source::Input(self.rt.reader())));
+            let size = size_of(fs::metadata(self.rt, "/dev/stdin"));
+            let input = Counted::new(self.rt.reader());
+            return Ok(self.metered("-", Origin::Input(input), size));
         }
         let Ok(path) = std::str::from_utf8(name) else {
             return Err(io::Error::from(io::ErrorKind::InvalidInput));
         };
-        Ok(self.metered(path, Source::File(fs::open(self.rt, path)?)))
+        let file = fs::open(self.rt, path)?;
+        let size = size_of(file.metadata());
+        Ok(self.metered(path, Origin::File(Counted::new(file)), size))
     }
 
     // Counts a file that was not opened, or cut off.
@@ -139,8 +164,9 @@ impl<'a, R: Files + Input + Clock + Eprint + AllocGlobal> Disk<'a, R> {
 }
 
 impl<'a, R: Files + Input + Clock + Eprint + AllocGlobal> Opening for Disk<'a, R> {
-    type Input = Counted<Metered<'a, R, Source<R::File, R::Reader>>>;
+    type Input = Metered<'a, R, Origin<Counted<R::File>, Counted<R::Reader>>>;
 
+    // Nothing is known of what files hold.
     ghost bytes_of = { λ _ _. None };
 
     ghost faults = { λ disk. disk.faults };
@@ -151,9 +177,9 @@ impl<'a, R: Files + Input + Clock + Eprint + AllocGlobal> Opening for Disk<'a, R
     fn open(
         &mut self,
         name: &[u8],
-    ) -> io::Result<Counted<Metered<'a, R, Source<R::File, R::Reader>>>> {
+    ) -> io::Result<Metered<'a, R, Origin<Counted<R::File>, Counted<R::Reader>>>> {
         match self.open_once(name) {
-            Ok(input) => Ok(Counted::new(input)),
+            Ok(input) => Ok(input),
             Err(error) => {
                 self.count_fault();
                 Err(error)
@@ -161,7 +187,7 @@ impl<'a, R: Files + Input + Clock + Eprint + AllocGlobal> Opening for Disk<'a, R
         }
     }
 
-    fn close(&mut self, input: Counted<Metered<'a, R, Source<R::File, R::Reader>>>) {
-        self.faults = input.count_cut_off(self.faults);
+    fn close(&mut self, input: Metered<'a, R, Origin<Counted<R::File>, Counted<R::Reader>>>) {
+        self.faults = input.source.count_cut_off(self.faults);
     }
 }

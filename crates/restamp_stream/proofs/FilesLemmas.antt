@@ -1,5 +1,5 @@
 -- What was done to files, and then to one more, or where the work stopped in that one.
-use Rattle.std.proofs.Common.{ℕ, zero, suc, ◌+◌, ◌<◌, ◌≤◌, List, [], ◌∷◌, ◌++◌, length, take, map, get_or, refl, sym, subst, Option, Ok, Err, inl, inr, arith, ◌≡◌, ◌⊎◌, ◌∙◌}
+use Rattle.std.proofs.Common.{ℕ, zero, suc, ◌+◌, ◌<◌, ◌≤◌, List, [], ◌∷◌, ◌++◌, length, take, map, get_or, refl, sym, subst, Option, None, Some, Ok, Err, inl, inr, arith, ◌≡◌, ◌⊎◌, ◌∙◌}
 use Rattle.std.specs.Prelude.{Result, IfErr, IfSome, OnOk}
 use Rattle.std.proofs.lemmas.List.{map_more}
 use Rattle.programs_streams.specs.Faults.{Rises, IsCutOff}
@@ -19,15 +19,30 @@ if_refused (Ok done) stop P Q e refused follows = tt
 if_refused (Err s) stop P Q e refused follows =
     let same : s ≡ stop = cc in λ is. follows (refused (sym same ∙ is))
 
+-- What a source gave is of the bytes that a file has, where they are known.
+of_known : (job : Job) (bytes remaining left : Option (List ℕ)) (a b : State) → IfSome bytes (λ bs. remaining ≡ Some bs)
+    → DidSome job remaining left a b → DidSome job bytes left a b
+of_known job None remaining left a b known did = record {
+  rest = did.rest;
+  held = did.held;
+  answered = did.answered;
+  failed = did.failed;
+  served = record { read = did.served.read; consumed = tt; kept = did.served.kept; answered = did.served.answered };
+  fails = did.fails;
+  closed = did.closed;
+}
+of_known job (Some bs) remaining left a b known did = subst (λ (r : Option (List ℕ)). DidSome job r left a b) known did
+
 -- a file that was opened was cut off
 pub cut_off : (result : Result (Unit {0}) Stop) (job : Job) (bytes remaining left : Option (List ℕ)) (a b : State) (f0 f1 given n0 n1 n2 : ℕ)
-    → remaining ≡ bytes → f0 ≡ 0 → n1 ≡ n0 → IfErr result (λ stop. stop ≡ Unread → DidSome job remaining left a b)
+    → IfSome bytes (λ bs. remaining ≡ Some bs) → f0 ≡ 0 → n1 ≡ n0
+    → IfErr result (λ stop. stop ≡ Unread → DidSome job remaining left a b)
     → IfErr result (λ stop. stop ≡ Unread → IsCutOff f0 f1 given) → (IsCutOff 0 f1 given → Rises n1 n2)
     → IfErr result (λ stop. stop ≡ Unread → DidCutOff job bytes n0 n2 a b)
-cut_off (Ok done) job bytes remaining left a b f0 f1 given n0 n1 n2 same none kept did is closed = tt
-cut_off (Err stop) job bytes remaining left a b f0 f1 given n0 n1 n2 same none kept did is closed = λ e. (
+cut_off (Ok done) job bytes remaining left a b f0 f1 given n0 n1 n2 known none kept did is closed = tt
+cut_off (Err stop) job bytes remaining left a b f0 f1 given n0 n1 n2 known none kept did is closed = λ e. (
   subst (λ (n : ℕ). Rises n n2) kept (closed (subst (λ (f : ℕ). IsCutOff f f1 given) none (is e))),
-  inl (left, subst (λ (r : Option (List ℕ)). DidSome job r left a b) same (did e)),
+  inl (left, of_known job bytes remaining left a b known (did e)),
 )
 
 DidFile-same : (job : Job) (bytes : Option (List ℕ)) (a b c : State) (n k m : ℕ) → a ≡ b → n ≡ k → DidFile job bytes k m b c → DidFile job bytes n m a c

@@ -1,5 +1,5 @@
 //! Answers several files, one after the other.
-ghost use Rattle.std.specs.Prelude.{◌≡◌, ◌≢◌, ◌≤◌, ℕ, List, IfErr, IfOk, IfSome, OnOk, map, Option};
+ghost use Rattle.std.specs.Prelude.{◌≡◌, ◌≢◌, ◌≤◌, ℕ, List, IfErr, IfOk, IfSome, OnOk, map, Option, Some};
 ghost use Rattle.programs_streams.specs.Faults.{HasCause, IsCutOff, Rises};
 ghost use Rattle.restamp_stream.specs.Answers.{DidAll, job_of};
 ghost use Rattle.restamp_stream.specs.Causes.{faults_of, HasWriteCause};
@@ -27,7 +27,7 @@ pub trait Opening {
 
     /// Opens the file of a name, of which no call has failed yet.
     fn open(&mut self, name: &[u8]) -> io::Result<Self::Input>
-        ensures bytes { IfOk result (λ input. Self.Input.remaining input ≡ bytes_of self.old name.now) }
+        ensures bytes { IfOk result (λ input. IfSome (bytes_of self.old name.now) (λ bytes. Self.Input.remaining input ≡ Some bytes)) }
         ensures begun { IfOk result (λ input. Self.Input.faults input ≡ 0) }
         ensures cause { HasCause result (faults self.old) (faults self.new) }
         ensures same { bytes_of self.new ≡ bytes_of self.old };

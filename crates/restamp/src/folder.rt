@@ -126,7 +126,10 @@ impl<'a, R: Files + Clock + Eprint + AllocGlobal> Folder for DiskFolder<'a, R> {
             return Err(io::Error::new(ErrorKind::Other, "another program changed it meanwhile"));
         }
         let meter = self.meter(original.length);
-        Ok((Metered::new(Counted::new(file), meter, self.progress), original))
+        Ok((
+            Metered::new(Counted::new(file), meter, self.progress),
+            original,
+        ))
     }
 
     fn is_at(&self, name: &str, original: &Original) -> io::Result<bool> {

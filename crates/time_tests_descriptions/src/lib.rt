@@ -8,14 +8,8 @@ mod describing;
 #[cfg(test)]
 mod formatting;
 #[cfg(test)]
-mod owned;
-#[cfg(test)]
-mod room;
-#[cfg(test)]
 mod slow;
 #[cfg(test)]
 mod steps;
-#[cfg(test)]
-mod strftime;
 #[cfg(test)]
 mod tests;

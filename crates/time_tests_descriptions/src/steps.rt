@@ -1,4 +1,5 @@
-//! Steps of descriptions of both versions, and each fault with its index.
+//! Steps of descriptions of both versions and as strftime has them, each fault with its index, and texts as items that
+//! own their parts.
 use time_components::{Component, Padding, modifier};
 use time_descriptions::{Description, Group, InvalidFormatDescription, Step, parse_borrowed};
 
@@ -250,5 +251,379 @@ fn each_fault(rt: HostRuntime) {
             "{}",
             text.escape_ascii()
         );
+    }
+}
+
+// Descriptions as strftime has them, and each fault with its index.
+mod strftime {
+    use super::{Wanted, has_steps};
+    use time_components::Padding;
+    use time_descriptions::{InvalidFormatDescription, parse_borrowed, parse_strftime};
+
+    // Texts, each with its steps.
+    static STEPS: [(&[u8], &[Wanted]); 5] = [
+        (b"", &[]),
+        (b"a%%", &[Wanted::Byte(b'a'), Wanted::Byte(b'%')]),
+        (
+            b"%_d.d",
+            &[
+                Wanted::Day(Padding::Space),
+                Wanted::Byte(b'.'),
+                Wanted::Byte(b'd'),
+            ],
+        ),
+        (b"%R", &[Wanted::Hour, Wanted::Byte(b':'), Wanted::Minute]),
+        (b"%z", &[Wanted::OffsetHour, Wanted::OffsetMinute]),
+    ];
+
+    #[test]
+    fn steps_of_texts(rt: HostRuntime) {
+        for (text, wanted) in &STEPS {
+            assert!(rt;
+                has_steps(parse_strftime::<64>(text), wanted),
+                "{}",
+                text.escape_ascii()
+            );
+        }
+    }
+
+    // Texts, each with a description of version 2 that has the same steps.
+    static DESCRIPTIONS: [(&[u8], &[u8]); 44] = [
+        (b"%a", b"[weekday repr:short]"),
+        (b"%A", b"[weekday]"),
+        (b"%b", b"[month repr:short]"),
+        (b"%h", b"[month repr:short]"),
+        (b"%B", b"[month repr:long]"),
+        (b"%C", b"[year repr:century]"),
+        (b"%g", b"[year repr:last_two base:iso_week]"),
+        (b"%G", b"[year base:iso_week]"),
+        (b"%y", b"[year repr:last_two]"),
+        (b"%Y", b"[year]"),
+        (b"%d", b"[day]"),
+        (b"%e", b"[day padding:space]"),
+        (b"%j", b"[ordinal]"),
+        (b"%H", b"[hour]"),
+        (b"%k", b"[hour padding:space]"),
+        (b"%I", b"[hour repr:12]"),
+        (b"%l", b"[hour repr:12 padding:space]"),
+        (b"%m", b"[month]"),
+        (b"%M", b"[minute]"),
+        (b"%S", b"[second]"),
+        (b"%p", b"[period]"),
+        (b"%P", b"[period case:lower]"),
+        (b"%s", b"[unix_timestamp]"),
+        (b"%u", b"[weekday repr:monday]"),
+        (b"%w", b"[weekday repr:sunday one_indexed:false]"),
+        (b"%U", b"[week_number repr:sunday]"),
+        (b"%V", b"[week_number]"),
+        (b"%W", b"[week_number repr:monday]"),
+        (b"%z", b"[offset_hour sign:mandatory][offset_minute]"),
+        (b"%n", b"\n"),
+        (b"%t", b"\t"),
+        (b"%%", b"%"),
+        (b"%D", b"[month]/[day]/[year repr:last_two]"),
+        (b"%x", b"[month]/[day]/[year repr:last_two]"),
+        (b"%F", b"[year]-[month]-[day]"),
+        (b"%R", b"[hour]:[minute]"),
+        (b"%T", b"[hour]:[minute]:[second]"),
+        (b"%X", b"[hour]:[minute]:[second]"),
+        (b"%r", b"[hour repr:12]:[minute]:[second] [period]"),
+        (
+            b"%c",
+            b"[weekday repr:short] [month repr:short] [day padding:space] [hour]:[minute]:[second] [year]",
+        ),
+        (b"%FT%T", b"[year]-[month]-[day]T[hour]:[minute]:[second]"),
+        (
+            b"%d/%b/%Y:%H:%M:%S %z",
+            b"[day]/[month repr:short]/[year]:[hour]:[minute]:[second] [offset_hour sign:mandatory][offset_minute]",
+        ),
+        (
+            b"%b %e %H:%M:%S",
+            b"[month repr:short] [day padding:space] [hour]:[minute]:[second]",
+        ),
+        (
+            b"%-d%_d%0e",
+            b"[day padding:none][day padding:space][day padding:zero]",
+        ),
+    ];
+
+    // Whether the text has the steps of the description.
+    fn is_described_as(text: &[u8], description: &[u8]) -> bool {
+        match (
+            parse_strftime::<64>(text),
+            parse_borrowed::<2, 64>(description),
+        ) {
+            (Ok(left), Ok(right)) => left.steps() == right.steps(),
+            _ => false,
+        }
+    }
+
+    #[test]
+    fn letters_and_shorthands(rt: HostRuntime) {
+        for (text, description) in &DESCRIPTIONS {
+            assert!(rt;
+                is_described_as(text, description),
+                "{}",
+                text.escape_ascii()
+            );
+        }
+    }
+
+    // Texts, each with its first fault.
+    static FAULTS: [(&[u8], InvalidFormatDescription<'static>); 10] = [
+        (
+            b"ab%",
+            InvalidFormatDescription::InvalidComponentName {
+                name: b"",
+                index: 3,
+            },
+        ),
+        (
+            b"ab%-",
+            InvalidFormatDescription::InvalidComponentName {
+                name: b"",
+                index: 4,
+            },
+        ),
+        (
+            b"ab%q%Z",
+            InvalidFormatDescription::InvalidComponentName {
+                name: b"q",
+                index: 3,
+            },
+        ),
+        (
+            b"ab%-_d",
+            InvalidFormatDescription::InvalidComponentName {
+                name: b"_",
+                index: 4,
+            },
+        ),
+        (
+            b"a%Z",
+            InvalidFormatDescription::NotSupported {
+                what: "this conversion",
+                context: "a strftime description",
+                index: 1,
+            },
+        ),
+        (
+            b"a%Ey",
+            InvalidFormatDescription::NotSupported {
+                what: "this conversion",
+                context: "a strftime description",
+                index: 1,
+            },
+        ),
+        (
+            b"a%-Od",
+            InvalidFormatDescription::NotSupported {
+                what: "this conversion",
+                context: "a strftime description",
+                index: 1,
+            },
+        ),
+        (
+            b"a%-b",
+            InvalidFormatDescription::InvalidModifier {
+                value: b"-",
+                index: 2,
+            },
+        ),
+        (
+            b"%_F",
+            InvalidFormatDescription::InvalidModifier {
+                value: b"_",
+                index: 1,
+            },
+        ),
+        (
+            b"%0z",
+            InvalidFormatDescription::InvalidModifier {
+                value: b"0",
+                index: 1,
+            },
+        ),
+    ];
+
+    #[test]
+    fn faults(rt: HostRuntime) {
+        for (text, fault) in &FAULTS {
+            assert!(rt;
+                parse_strftime::<64>(text).err() == Some(*fault),
+                "{}",
+                text.escape_ascii()
+            );
+        }
+    }
+
+    #[test]
+    fn room_of_shorthands(rt: HostRuntime) {
+        assert!(rt; parse_strftime::<4>(b"%F").err() == Some(InvalidFormatDescription::TooLong));
+        assert!(rt; parse_strftime::<5>(b"%F").is_ok());
+    }
+}
+
+// Texts as items that own their parts.
+mod owned {
+    use std::alloc::{AllocError, Global};
+    use time_descriptions::{InvalidFormatDescription, OwnedError, parse_owned};
+
+    // The text was written, and is that.
+    fn is_text(text: Result<String, AllocError>, wanted: &str) -> bool {
+        match text {
+            Ok(text) => text.as_str() == wanted,
+            Err(_) => false,
+        }
+    }
+
+    // Texts, and what the items of each print for debugging.
+    static ITEMS: [(&[u8], &str); 5] = [
+        (b"", "Compound([])"),
+        (
+            b"[day]ab",
+            "Compound([Component(Day(Day { padding: Zero })), Literal([97, 98])])",
+        ),
+        (b"\\[]", "Compound([Literal([91]), Literal([93])])"),
+        (
+            b"[optional [-[day padding:none]]]",
+            "Compound([Optional(Compound([Literal([45]), Component(Day(Day { padding: None }))]))])",
+        ),
+        (
+            b"[first [[minute]] [] [x]]",
+            "Compound([First([Compound([Component(Minute(Minute { padding: Zero }))]), Compound([]), Compound([Literal([120])])])])",
+        ),
+    ];
+
+    // The items of the text print that.
+    fn has_items(alloc: Global, text: &[u8], wanted: &str) -> bool {
+        match parse_owned::<2>(alloc, text) {
+            Ok(item) => is_text(format!(in alloc; "{item:?}"), wanted),
+            Err(_) => false,
+        }
+    }
+
+    #[test]
+    fn owned_items(rt: HostRuntime) {
+        for (text, wanted) in &ITEMS {
+            assert!(rt; has_items(rt.alloc(), text, wanted), "{wanted}");
+        }
+    }
+
+    // What stands behind a literal of more bytes than a `Description` is likely to have room for, and the error.
+    static ENDS: [(&[u8], Option<OwnedError<'static>>); 2] = [
+        (b"", None),
+        (
+            b"[x]",
+            Some(OwnedError::Invalid(InvalidFormatDescription::InvalidComponentName {
+                name: b"x",
+                index: 10_001,
+            })),
+        ),
+    ];
+
+    // A literal of ten thousand bytes, and that behind it.
+    fn long_text(alloc: Global, end: &[u8]) -> Result<Vec<u8>, AllocError> {
+        let mut text = vec![in alloc; b'x'; 10_000]?;
+        text.extend_from_slice(end)?;
+        Ok(text)
+    }
+
+    // The long text with that end has this error, or none.
+    fn ends_in(alloc: Global, end: &[u8], error: Option<OwnedError<'_>>) -> bool {
+        match long_text(alloc, end) {
+            Ok(text) => parse_owned::<1>(alloc, &text).err() == error,
+            Err(_) => false,
+        }
+    }
+
+    #[test]
+    fn long_texts(rt: HostRuntime) {
+        for (end, error) in &ENDS {
+            assert!(rt; ends_in(rt.alloc(), end, *error));
+        }
+    }
+
+    static ERRORS: [(OwnedError<'static>, &str); 2] = [
+        (
+            OwnedError::Invalid(InvalidFormatDescription::UnclosedOpeningBracket { index: 2 }),
+            "unclosed opening bracket at byte index 2",
+        ),
+        (OwnedError::Memory(AllocError), "memory is short"),
+    ];
+
+    #[test]
+    fn shown_errors(rt: HostRuntime) {
+        for (error, wanted) in &ERRORS {
+            assert!(rt; is_text(format!(in rt.alloc(); "{error}"), wanted));
+        }
+    }
+}
+
+// Texts with room for the steps that they begin, and for one step less.
+mod room {
+    use time_descriptions::{InvalidFormatDescription, parse_borrowed};
+
+    // Texts, how many steps each begins up to its end or its first fault, and that fault.
+    static TEXTS: [(&[u8], usize, Option<InvalidFormatDescription<'static>>); 9] = [
+        // A component is one step, each byte of a literal is one, and so is a group and each list of a choice.
+        (b"[ year  padding:space sign:mandatory ]", 1, None),
+        (b"[day]abc[month]", 5, None),
+        (b"abc", 3, None),
+        (b"\\[\\]\\\\", 3, None),
+        // The group, a byte and a component.
+        (b"[optional [ [second]]]", 3, None),
+        // The group, and two lists of one component and of none.
+        (b"[first [[day]] []]", 4, None),
+        // One component, and no step of what follows the first fault.
+        (
+            b"[day][x][year]-[month]",
+            1,
+            Some(InvalidFormatDescription::InvalidComponentName {
+                name: b"x",
+                index: 6,
+            }),
+        ),
+        // The open group, two lists of it, a component and a byte.
+        (
+            b"[first [[day]] [a]",
+            5,
+            Some(InvalidFormatDescription::UnclosedOpeningBracket { index: 0 }),
+        ),
+        // A group that doesn't open begins no step.
+        (
+            b"[day][optional day]",
+            1,
+            Some(InvalidFormatDescription::Expected {
+                what: "an opening bracket",
+                index: 15,
+            }),
+        ),
+    ];
+
+    // The error of the text in room for so many steps, which are at most five.
+    fn error_in(text: &[u8], room: usize) -> Option<InvalidFormatDescription<'_>> {
+        match room {
+            0 => parse_borrowed::<2, 0>(text).err(),
+            1 => parse_borrowed::<2, 1>(text).err(),
+            2 => parse_borrowed::<2, 2>(text).err(),
+            3 => parse_borrowed::<2, 3>(text).err(),
+            4 => parse_borrowed::<2, 4>(text).err(),
+            _ => parse_borrowed::<2, 5>(text).err(),
+        }
+    }
+
+    #[test]
+    fn room_of_texts(rt: HostRuntime) {
+        for (text, steps, fault) in &TEXTS {
+            let less = steps.saturating_sub(1);
+            assert!(rt; error_in(text, *steps) == *fault, "{}", text.escape_ascii());
+            assert!(rt;
+                error_in(text, less) == Some(InvalidFormatDescription::TooLong),
+                "{}",
+                text.escape_ascii()
+            );
+        }
+        assert!(rt; error_in(b"", 0).is_none());
     }
 }

@@ -1,17 +1,614 @@
-mod answers;
-mod described;
-mod formats;
-mod front_moments;
-mod fronts;
-mod iso_fronts;
+//! What the tests share: the formats of their tables, the refusals, and the texts of RFC 3339 and RFC 2822 with their
+//! answers, which each path gives.
 mod iso_texts;
-mod long_texts;
-mod mail_blanks;
-mod mail_dates;
-mod mail_fronts;
+mod mail;
+mod parses;
 mod records;
-mod refusals;
-mod short_cuts;
-mod slow_stamps;
-mod two_paths;
-mod whole_parses;
+mod stamps;
+
+// The formats of the tables, and what a text says by each, in plain numbers.
+mod formats {
+    use super::refusals::DESCRIPTION;
+    use time_descriptions::{Description, parse_borrowed};
+    use time_parsing::{Iso8601, Parsable, Rfc2822, Rfc3339};
+    use time_readers::{BorrowedFormatItem, Component, Padding, modifier};
+    use time_record::Parsed;
+    use time_values::error::Parse;
+    use time_values::{Month, OffsetDateTime};
+
+    /// The format of a text.
+    #[derive(Clone, Copy)]
+    pub(super) enum Format {
+        /// RFC 3339.
+        Stamp,
+        /// RFC 3339 by a reference, which takes no direct path.
+        StampByReference,
+        /// RFC 2822.
+        Mail,
+        /// ISO 8601.
+        Iso,
+        /// The description of that text, of version 2.
+        Described(&'static [u8]),
+    }
+
+    /// What is asked of a text.
+    #[derive(Clone, Copy)]
+    pub(super) enum Part {
+        Date,
+        Time,
+        Offset,
+        Plain,
+        Utc,
+        Moment,
+    }
+
+    /// Year, month and day, then hour, minute, second and nanosecond, then the offset's hours, minutes and seconds.
+    pub(super) type Numbers = ((i32, Month, u8), (u8, u8, u8, u32), (i8, i8, i8));
+
+    /// The date of a part that has none.
+    pub(super) const NO_DATE: (i32, Month, u8) = (0, Month::January, 1);
+
+    /// The time of a part that has none.
+    pub(super) const NO_TIME: (u8, u8, u8, u32) = (0, 0, 0, 0);
+
+    /// The offset of a part that has none.
+    pub(super) const NO_OFFSET: (i8, i8, i8) = (0, 0, 0);
+
+    /// The numbers of a moment.
+    pub(super) fn numbers(moment: OffsetDateTime) -> Numbers {
+        (
+            moment.to_calendar_date(),
+            moment.to_hms_nano(),
+            moment.offset().as_hms(),
+        )
+    }
+
+    /// The description of the text, of version 2.
+    pub(super) fn described(text: &[u8]) -> Option<Description<80>> {
+        parse_borrowed::<2, 80>(text).ok()
+    }
+
+    /// The numbers of a part of the text over the defaults, or the refusal.
+    pub(super) fn said_by<F: Parsable>(
+        format: &F,
+        part: Part,
+        text: &[u8],
+        defaults: Option<Parsed>,
+    ) -> Result<Numbers, Parse> {
+        match part {
+            Part::Date => {
+                let date = format.parse_date(text, defaults)?;
+                Ok((date.to_calendar_date(), NO_TIME, NO_OFFSET))
+            }
+            Part::Time => {
+                let time = format.parse_time(text, defaults)?;
+                Ok((NO_DATE, time.as_hms_nano(), NO_OFFSET))
+            }
+            Part::Offset => {
+                let offset = format.parse_offset(text, defaults)?;
+                Ok((NO_DATE, NO_TIME, offset.as_hms()))
+            }
+            Part::Plain => {
+                let plain = format.parse_plain_date_time(text, defaults)?;
+                Ok(numbers(plain.assume_utc()))
+            }
+            Part::Utc => {
+                let utc = format.parse_utc_date_time(text, defaults)?;
+                Ok((utc.to_calendar_date(), utc.as_hms_nano(), NO_OFFSET))
+            }
+            Part::Moment => Ok(numbers(format.parse_offset_date_time(text, defaults)?)),
+        }
+    }
+
+    // The same by the description of that text.
+    fn said_as_described(
+        description: &[u8],
+        part: Part,
+        text: &[u8],
+        defaults: Option<Parsed>,
+    ) -> Result<Numbers, Parse> {
+        match described(description) {
+            Some(description) => said_by(&description, part, text, defaults),
+            None => Err(DESCRIPTION),
+        }
+    }
+
+    /// The same by the format of that name.
+    pub(super) fn said(
+        format: Format,
+        part: Part,
+        text: &[u8],
+        defaults: Option<Parsed>,
+    ) -> Result<Numbers, Parse> {
+        match format {
+            Format::Stamp => said_by(&Rfc3339, part, text, defaults),
+            Format::StampByReference => said_by(&&Rfc3339, part, text, defaults),
+            Format::Mail => said_by(&Rfc2822, part, text, defaults),
+            Format::Iso => said_by(&Iso8601, part, text, defaults),
+            Format::Described(description) => said_as_described(description, part, text, defaults),
+        }
+    }
+
+    /// The items of a year of that component, a month and a day, with that literal before the day.
+    pub(super) fn date_items(
+        year: Component,
+        hyphen: BorrowedFormatItem<'static>,
+    ) -> [BorrowedFormatItem<'static>; 5] {
+        let month = Component::MonthNumerical(modifier::MonthNumerical {
+            padding: Padding::Zero,
+        });
+        let day = Component::Day(modifier::Day {
+            padding: Padding::Zero,
+        });
+        [
+            BorrowedFormatItem::Component(year),
+            BorrowedFormatItem::Literal(b"-"),
+            BorrowedFormatItem::Component(month),
+            hyphen,
+            BorrowedFormatItem::Component(day),
+        ]
+    }
+}
+
+// The refusals of the tables.
+mod refusals {
+    use time_values::error::{ComponentRange, Parse, ParseFromDescription, TryFromParsed};
+
+    // The refusal of a component that can't be read.
+    macro_rules! unread {
+        ($name:literal) => {
+            Parse::ParseFromDescription(ParseFromDescription::InvalidComponent($name))
+        };
+    }
+
+    // The refusal of a component out of its range, which others narrow or not.
+    macro_rules! out {
+        ($name:literal, $conditional:literal) => {
+            Parse::TryFromParsed(TryFromParsed::ComponentRange(ComponentRange {
+                name: $name,
+                conditional: $conditional,
+            }))
+        };
+    }
+
+    /// A literal doesn't stand where it should.
+    pub(super) const LITERAL: Parse = Parse::ParseFromDescription(
+        ParseFromDescription::InvalidLiteral,
+    );
+
+    /// Bytes are left.
+    pub(super) const TRAILING: Parse = Parse::ParseFromDescription(
+        ParseFromDescription::UnexpectedTrailingCharacters,
+    );
+
+    /// What was read doesn't say the value.
+    pub(super) const MISSING: Parse = Parse::TryFromParsed(TryFromParsed::InsufficientInformation);
+
+    // What a place's text isn't.
+    pub(super) const YEAR: Parse = unread!("year");
+
+    pub(super) const MONTH: Parse = unread!("month");
+
+    pub(super) const DAY: Parse = unread!("day");
+
+    pub(super) const ORDINAL: Parse = unread!("ordinal");
+
+    pub(super) const WEEK: Parse = unread!("week");
+
+    pub(super) const WEEKDAY: Parse = unread!("weekday");
+
+    pub(super) const HOUR: Parse = unread!("hour");
+
+    pub(super) const MINUTE: Parse = unread!("minute");
+
+    pub(super) const SECOND: Parse = unread!("second");
+
+    pub(super) const OFFSET_HOUR: Parse = unread!("offset hour");
+
+    pub(super) const OFFSET_MINUTE: Parse = unread!("offset minute");
+
+    pub(super) const DESCRIPTION: Parse = unread!("description");
+
+    // What there isn't of that number.
+    pub(super) const NO_MONTH: Parse = out!("month", false);
+
+    pub(super) const NO_DAY: Parse = out!("day", true);
+
+    pub(super) const NO_ORDINAL: Parse = out!("ordinal", true);
+
+    pub(super) const NO_WEEK: Parse = out!("week", true);
+
+    pub(super) const NO_WEEKDAY: Parse = out!("weekday", true);
+
+    pub(super) const NO_HOUR: Parse = out!("hour", false);
+
+    pub(super) const NO_MINUTE: Parse = out!("minute", false);
+
+    pub(super) const NO_SECOND: Parse = out!("second", false);
+
+    pub(super) const NO_LEAP_SECOND: Parse = out!("second", true);
+
+    pub(super) const NO_HOURS: Parse = out!("hours", false);
+
+    pub(super) const NO_MINUTES: Parse = out!("minutes", false);
+}
+
+// Texts of RFC 3339 and RFC 2822, and what each says directly and over an empty record.
+mod answers {
+    use self::Answer::{Moment, Refused};
+    use super::formats::Format::{self, Mail, Stamp};
+    use super::formats::{Numbers, Part, numbers, said};
+    use super::refusals::{
+        DAY, HOUR, LITERAL, MINUTE, MONTH, NO_DAY, NO_HOUR, NO_HOURS, NO_LEAP_SECOND, NO_MINUTE,
+        NO_MINUTES, NO_MONTH, NO_SECOND, OFFSET_HOUR, OFFSET_MINUTE, SECOND, TRAILING, YEAR,
+    };
+    use time_readers::direct;
+    use time_record::Parsed;
+    use time_values::Month::{self, April, December, January};
+    use time_values::error::Parse;
+
+    /// What a text says.
+    #[derive(Clone, Copy)]
+    pub(super) enum Answer {
+        /// One moment: its date, its time, and the hours and minutes of its offset.
+        Moment((i32, Month, u8), (u8, u8, u8, u32), (i8, i8)),
+        /// None: the refusal without a record, and the one over an empty record.
+        Refused(Parse, Parse),
+    }
+
+    /// The answer without a record, and over an empty one.
+    pub(super) fn both_ways(answer: Answer) -> (Result<Numbers, Parse>, Result<Numbers, Parse>) {
+        match answer {
+            Moment(date, time, (hours, minutes)) => {
+                let said = Ok((date, time, (hours, minutes, 0)));
+                (said, said)
+            }
+            Refused(without, over) => (Err(without), Err(over)),
+        }
+    }
+
+    // What the text says without a record.
+    fn directly(format: Format, text: &[u8]) -> Result<Numbers, Parse> {
+        match format {
+            Stamp => Ok(numbers(direct::rfc3339(text)?)),
+            Mail => Ok(numbers(direct::rfc2822(text)?)),
+            // No other format has a path without a record.
+            _ => Err(LITERAL),
+        }
+    }
+
+    /// The text has this answer by the format without defaults, by the direct path, and over an empty record.
+    pub(super) fn is_answered(format: Format, text: &[u8], wanted: Answer) -> bool {
+        let (wanted, wanted_over_a_record) = both_ways(wanted);
+        let staged = said(format, Part::Moment, text, Some(Parsed::new()));
+        said(format, Part::Moment, text, None) == wanted
+            && directly(format, text) == wanted
+            && staged == wanted_over_a_record
+    }
+
+    /// The first of the texts that doesn't have its answer by the format, if there is one.
+    pub(super) fn unanswered(format: Format, rows: &[Row]) -> Option<&'static [u8]> {
+        for (text, wanted) in rows {
+            if !is_answered(format, text, *wanted) {
+                return Some(*text);
+            }
+        }
+        None
+    }
+
+    /// The first mail date that doesn't have its answer, if there is one. A function for each table keeps its rows apart.
+    pub(super) fn unanswered_mail_date() -> Option<&'static [u8]> {
+        for text in [
+            unanswered_moment(),
+            unanswered_refusal(),
+            unanswered_form(),
+            unanswered_return(),
+        ] {
+            if text.is_some() {
+                return text;
+            }
+        }
+        None
+    }
+
+    fn unanswered_moment() -> Option<&'static [u8]> {
+        unanswered(Mail, &MAIL_DATES)
+    }
+
+    fn unanswered_refusal() -> Option<&'static [u8]> {
+        unanswered(Mail, &MAIL_REFUSED)
+    }
+
+    fn unanswered_form() -> Option<&'static [u8]> {
+        unanswered(Mail, &MAIL_NOT_IN_FORM)
+    }
+
+    fn unanswered_return() -> Option<&'static [u8]> {
+        unanswered(Mail, &MAIL_RETURNS)
+    }
+
+    /// A text and its answer.
+    pub(super) type Row = (&'static [u8], Answer);
+
+    /// Texts of RFC 3339.
+    pub(super) static STAMPS: [Row; 20] = [
+        (
+            b"1985-04-12T23:20:50.52Z",
+            Moment((1985, April, 12), (23, 20, 50, 520_000_000), (0, 0)),
+        ),
+        (
+            b"1990-12-31T15:59:60-08:00",
+            Moment((1990, December, 31), (15, 59, 59, 999_999_999), (-8, 0)),
+        ),
+        (
+            b"1990-12-31T23:59:60Z",
+            Moment((1990, December, 31), (23, 59, 59, 999_999_999), (0, 0)),
+        ),
+        (
+            b"9999-12-31T23:59:59.999999999-23:59",
+            Moment((9999, December, 31), (23, 59, 59, 999_999_999), (-23, -59)),
+        ),
+        (
+            b"2021-01-02T03:04:05.1234567899Z",
+            Moment((2021, January, 2), (3, 4, 5, 123_456_789), (0, 0)),
+        ),
+        (
+            b"2021-01-02T03:04:05Z",
+            Moment((2021, January, 2), (3, 4, 5, 0), (0, 0)),
+        ),
+        (
+            b"2021-01-02t03:04:05.1234567899-05:30",
+            Moment((2021, January, 2), (3, 4, 5, 123_456_789), (-5, -30)),
+        ),
+        (
+            b"1990-12-30T23:59:60Z",
+            Refused(NO_LEAP_SECOND, NO_LEAP_SECOND),
+        ),
+        (b"2021-13-01T00:00:00Z", Refused(NO_MONTH, MONTH)),
+        (b"2021-13-01T00:00:00Zx", Refused(TRAILING, MONTH)),
+        (b"2021-01-02\xc3\xa903:04:05Z", Refused(HOUR, HOUR)),
+        (b"", Refused(YEAR, YEAR)),
+        (b"2021-00-01T00:00:00Z", Refused(MONTH, MONTH)),
+        (b"2021-01-00T00:00:00Z", Refused(NO_DAY, DAY)),
+        (b"2021-01-32T25:00:00Z", Refused(NO_DAY, DAY)),
+        (b"2021-01-02T24:04:05Z", Refused(NO_HOUR, HOUR)),
+        (b"2021-01-02T03:60:05Z", Refused(NO_MINUTE, MINUTE)),
+        (b"2021-01-02T03:04:61Z", Refused(NO_SECOND, SECOND)),
+        (
+            b"2021-01-02T03:04:05+24:00",
+            Refused(OFFSET_HOUR, OFFSET_HOUR),
+        ),
+        (
+            b"2021-01-02T03:04:05+05:60x",
+            Refused(NO_MINUTES, OFFSET_MINUTE),
+        ),
+    ];
+
+    /// Texts of RFC 2822 that say a moment.
+    static MAIL_DATES: [Row; 21] = [
+        (
+            b"Mon, 02 Jan 2021 03:04:05 +0607",
+            Moment((2021, January, 2), (3, 4, 5, 0), (6, 7)),
+        ),
+        (
+            b"02 Jan 49 03:04 EST",
+            Moment((2049, January, 2), (3, 4, 0, 0), (-5, 0)),
+        ),
+        (
+            b"02 Jan 2021 03:04 -0030",
+            Moment((2021, January, 2), (3, 4, 0, 0), (0, -30)),
+        ),
+        (
+            b"02 Jan 2021 03:04 GMT (x)",
+            Moment((2021, January, 2), (3, 4, 0, 0), (0, 0)),
+        ),
+        (
+            b"02 (a(b\\)c)) Jan 2021 03:04 +0000",
+            Moment((2021, January, 2), (3, 4, 0, 0), (0, 0)),
+        ),
+        // A comment of 31 levels, the most that are read.
+        (
+            b"02 ((((((((((((((((((((((((((((((())))))))))))))))))))))))))))))) Jan 2021 03:04 +0000",
+            Moment((2021, January, 2), (3, 4, 0, 0), (0, 0)),
+        ),
+        (
+            b"1 Jan 99 00:00 Z",
+            Moment((1999, January, 1), (0, 0, 0, 0), (0, 0)),
+        ),
+        (
+            b"1 Jan 99 00:00 UT",
+            Moment((1999, January, 1), (0, 0, 0, 0), (0, 0)),
+        ),
+        (
+            b"1 Jan 21(x)03:04 GMT",
+            Moment((2021, January, 1), (3, 4, 0, 0), (0, 0)),
+        ),
+        (
+            b"1 Jan 2021\r\n 03:04 GMT",
+            Moment((2021, January, 1), (3, 4, 0, 0), (0, 0)),
+        ),
+        (
+            b"31 Dec 2016 23:59:60 GMT",
+            Moment((2016, December, 31), (23, 59, 59, 999_999_999), (0, 0)),
+        ),
+        (
+            b"31 Dec 1990 15:59:60 -0800",
+            Moment((1990, December, 31), (15, 59, 59, 999_999_999), (-8, 0)),
+        ),
+        (
+            b"1 Jan 2021 03:04 -2500",
+            Moment((2021, January, 1), (3, 4, 0, 0), (-25, 0)),
+        ),
+        (
+            b"1 Jan 00 00:00 GMT",
+            Moment((2000, January, 1), (0, 0, 0, 0), (0, 0)),
+        ),
+        (
+            b"1 Jan 49 00:00 GMT",
+            Moment((2049, January, 1), (0, 0, 0, 0), (0, 0)),
+        ),
+        (
+            b"1 Jan 50 00:00 GMT",
+            Moment((1950, January, 1), (0, 0, 0, 0), (0, 0)),
+        ),
+        (
+            b"1 Jan 1900 00:00 GMT",
+            Moment((1900, January, 1), (0, 0, 0, 0), (0, 0)),
+        ),
+        (
+            b"1 Jan 9999 00:00 GMT",
+            Moment((9999, January, 1), (0, 0, 0, 0), (0, 0)),
+        ),
+        (
+            b"Mon, 02 Jan 2021 03:04 GMT",
+            Moment((2021, January, 2), (3, 4, 0, 0), (0, 0)),
+        ),
+        (
+            b" (x)sAt,2 jAN 2021 03 : 04 gmt",
+            Moment((2021, January, 2), (3, 4, 0, 0), (0, 0)),
+        ),
+        (
+            b"Sat, 02 Jan 2021 03:04:05 PST (x)",
+            Moment((2021, January, 2), (3, 4, 5, 0), (-8, 0)),
+        ),
+    ];
+
+    /// Texts of RFC 2822 with a part that is not read, or out of its range.
+    static MAIL_REFUSED: [Row; 27] = [
+        // A comment of 32 levels.
+        (
+            b"02 (((((((((((((((((((((((((((((((()))))))))))))))))))))))))))))))) Jan 2021 03:04 +0000",
+            Refused(MONTH, MONTH),
+        ),
+        (b"02 Jan 1899 03:04 +0000", Refused(YEAR, YEAR)),
+        (b"1 Jan 99 00:00 J", Refused(OFFSET_HOUR, OFFSET_HOUR)),
+        (b"1 Jan 99 00:00 Z (x)", Refused(OFFSET_HOUR, OFFSET_HOUR)),
+        (b"1 Jan 2021 03:04 -2600", Refused(NO_HOURS, OFFSET_HOUR)),
+        (b"0 Jan 2021 03:04 GMT", Refused(NO_DAY, DAY)),
+        (b"32 Jan 2021 03:04 GMT", Refused(NO_DAY, DAY)),
+        (b"1 Jan 2021 24:00 GMT", Refused(NO_HOUR, HOUR)),
+        (b"1 Jan 2021 03:60 GMT", Refused(NO_MINUTE, MINUTE)),
+        (b"1 Jan 2021 03:04:61 GMT", Refused(NO_SECOND, SECOND)),
+        (
+            b"1 Jan 2021 03:04 -2560",
+            Refused(NO_MINUTES, OFFSET_MINUTE),
+        ),
+        (b"1 Jan 2021 03:04 +2600", Refused(NO_HOURS, OFFSET_HOUR)),
+        (
+            b"1 Jan 2021 03:04 +0060",
+            Refused(NO_MINUTES, OFFSET_MINUTE),
+        ),
+        (
+            b"31 Dec 1990 15:58:60 -0800",
+            Refused(NO_LEAP_SECOND, NO_LEAP_SECOND),
+        ),
+        (
+            b"30 Dec 2016 23:59:60 GMT",
+            Refused(NO_LEAP_SECOND, NO_LEAP_SECOND),
+        ),
+        (b"1 Jan 1899 00:00 GMT", Refused(YEAR, YEAR)),
+        (b"1 Jan 9 00:00 GMT", Refused(YEAR, YEAR)),
+        (b"Mot, 02 Jan 2021 03:04 GMT", Refused(DAY, DAY)),
+        (b"", Refused(DAY, DAY)),
+        (b"x Jan 2021 03:04 GMT", Refused(DAY, DAY)),
+        (b"1 Jxn 2021 03:04 GMT", Refused(MONTH, MONTH)),
+        (b"1 Jan x 03:04 GMT", Refused(YEAR, YEAR)),
+        (b"1 Jan 2021 3:04 GMT", Refused(HOUR, HOUR)),
+        (b"1 Jan 2021 03:04: GMT", Refused(SECOND, SECOND)),
+        (b"1 Jan 2021 03:04 XYZ", Refused(OFFSET_HOUR, OFFSET_HOUR)),
+        (b"1 Jan 2021 03:04 0000", Refused(OFFSET_HOUR, OFFSET_HOUR)),
+        (
+            b"1 Jan 2021 03:04 +00",
+            Refused(OFFSET_MINUTE, OFFSET_MINUTE),
+        ),
+    ];
+
+    /// Texts of RFC 2822 with a literal that does not stand, or with bytes behind them.
+    static MAIL_NOT_IN_FORM: [Row; 17] = [
+        (b"02 Jan 2021\r03:04 +0000", Refused(LITERAL, LITERAL)),
+        (b"1 Jan 99 00:00 Zx", Refused(TRAILING, TRAILING)),
+        (b"Mon 02 Jan 2021 03:04 +0000", Refused(LITERAL, LITERAL)),
+        (b"1 Jan 2021(x)03:04 GMT", Refused(LITERAL, LITERAL)),
+        (b"1 Jan 2021 \r\n03:04 GMT", Refused(LITERAL, LITERAL)),
+        (b"32 Jan 2021 03:04 Zx", Refused(TRAILING, DAY)),
+        (b"1 Jan 199 00:00 GMT", Refused(LITERAL, LITERAL)),
+        (b"Monday, 02 Jan 2021 03:04 GMT", Refused(LITERAL, LITERAL)),
+        (b"1Jan 2021 03:04 GMT", Refused(LITERAL, LITERAL)),
+        (b"1 Jan2021 03:04 GMT", Refused(LITERAL, LITERAL)),
+        (b"1 Jan 202103:04 GMT", Refused(LITERAL, LITERAL)),
+        (b"1 Jan 2021 03.04 GMT", Refused(LITERAL, LITERAL)),
+        (b"1 Jan 2021 03:04", Refused(LITERAL, LITERAL)),
+        (b"1 Jan 2021 03:04GMT", Refused(LITERAL, LITERAL)),
+        (b"1 Jan 2021 03:04:05+0000", Refused(LITERAL, LITERAL)),
+        (b"1 Jan 2021 03:04 +0000 x", Refused(TRAILING, TRAILING)),
+        (b"1 Jan 2021 03:04 +00000", Refused(TRAILING, TRAILING)),
+    ];
+
+    /// A carriage return in place of each blank of a text of RFC 2822.
+    static MAIL_RETURNS: [Row; 14] = [
+        (b"\rSat, 02 Jan 2021 03 : 04 : 05 +0000 ", Refused(DAY, DAY)),
+        (b" Sat,\r02 Jan 2021 03 : 04 : 05 +0000 ", Refused(DAY, DAY)),
+        (
+            b" Sat, 02\rJan 2021 03 : 04 : 05 +0000 ",
+            Refused(LITERAL, LITERAL),
+        ),
+        (
+            b" Sat, 02 Jan\r2021 03 : 04 : 05 +0000 ",
+            Refused(LITERAL, LITERAL),
+        ),
+        (
+            b" Sat, 02 Jan 2021\r03 : 04 : 05 +0000 ",
+            Refused(LITERAL, LITERAL),
+        ),
+        (
+            b" Sat, 02 Jan 21\r03 : 04 : 05 +0000 ",
+            Refused(LITERAL, LITERAL),
+        ),
+        (
+            b" Sat, 02 Jan 2021 03\r: 04 : 05 +0000 ",
+            Refused(LITERAL, LITERAL),
+        ),
+        (
+            b" Sat, 02 Jan 2021 03 :\r04 : 05 +0000 ",
+            Refused(MINUTE, MINUTE),
+        ),
+        (
+            b" Sat, 02 Jan 2021 03 : 04\r: 05 +0000 ",
+            Refused(LITERAL, LITERAL),
+        ),
+        (
+            b" Sat, 02 Jan 2021 03 : 04 :\r05 +0000 ",
+            Refused(SECOND, SECOND),
+        ),
+        (
+            b" Sat, 02 Jan 2021 03 : 04 : 05\r+0000 ",
+            Refused(LITERAL, LITERAL),
+        ),
+        (
+            b" Sat, 02 Jan 2021 03 : 04\r+0000 ",
+            Refused(LITERAL, LITERAL),
+        ),
+        (
+            b" Sat, 02 Jan 2021 03 : 04 : 05 +0000\r",
+            Refused(TRAILING, TRAILING),
+        ),
+        (
+            b" Sat, 02 Jan 2021 03 : 04 : 05 +0000 \r",
+            Refused(TRAILING, TRAILING),
+        ),
+    ];
+}
+
+// The direct paths of RFC 3339 and RFC 2822, beside their parses over an empty record.
+mod two_paths {
+    use super::answers::{STAMPS, unanswered, unanswered_mail_date};
+    use super::formats::Format::Stamp;
+
+    #[test]
+    fn two_paths(rt: HostRuntime) {
+        let text = unanswered(Stamp, &STAMPS);
+        assert!(rt; text == None, "{text:?}");
+        let text = unanswered_mail_date();
+        assert!(rt; text == None, "{text:?}");
+    }
+}

@@ -1,11 +1,7 @@
-mod arithmetic;
-mod conversions;
-mod orders;
-mod parts;
-mod printed;
-mod read_back;
+//! Values by their numbers, which the tests share.
 mod surface;
 mod texts;
+mod values;
 
 use time_values::error::ComponentRange;
 use time_values::{Date, Month, OffsetDateTime, PlainDateTime, Time, UtcDateTime, UtcOffset};

@@ -8,10 +8,6 @@ use super::refusals::{
 use time_values::Month::{December, January, March};
 use time_values::error::Parse;
 
-mod fractions;
-mod offsets;
-mod time_records;
-
 macro_rules! date {
     ($year:expr, $month:expr, $day:expr) => {
         Ok((($year, $month, $day), NO_TIME, NO_OFFSET))
@@ -198,4 +194,443 @@ static DATES_WITH_TIMES: [Row; 12] = [
 fn iso_dates_with_times(rt: HostRuntime) {
     let text = unlike(&DATES_WITH_TIMES);
     assert!(rt; text == None, "{text:?}");
+}
+
+// Fractions of a unit.
+mod fractions {
+    use self::Rounding::{Floor, HalfUp};
+    use time_readers::combinator::leading_digits;
+    use time_readers::iso8601::{floor_fraction, round_fraction};
+
+    // How a fraction becomes a whole number.
+    #[derive(Clone, Copy)]
+    enum Rounding {
+        Floor,
+        HalfUp,
+    }
+
+    // How many whole parts of the unit the digits behind its point are, if they are digits and an hour has those parts.
+    fn whole(rounding: Rounding, digits: &[u8], unit: u64) -> Option<u64> {
+        let count = leading_digits(digits, digits.len());
+        if count < digits.len() || unit < 1 || 3_600_000_000_000 < unit {
+            return None;
+        }
+        let digits = &digits[..count];
+        Some(match rounding {
+            Floor => floor_fraction(digits, unit),
+            HalfUp => round_fraction(digits, unit),
+        })
+    }
+
+    // Digits, the parts that a unit has, and how many of them are whole.
+    static FRACTIONS: [(Rounding, &[u8], u64, u64); 23] = [
+        (Floor, b"0001", 3_600_000_000_000, 360_000_000),
+        (
+            Floor,
+            b"99999999999999999999",
+            60_000_000_000,
+            59_999_999_999,
+        ),
+        (Floor, b"", 3_600_000_000_000, 0),
+        (Floor, b"5", 1, 0),
+        (Floor, &[b'9'; 1000], 3_600_000_000_000, 3_599_999_999_999),
+        (HalfUp, b"9999999994", 1_000_000_000, 999_999_999),
+        (HalfUp, b"9999999995", 1_000_000_000, 1_000_000_000),
+        (HalfUp, b"49999999999999999999999999999999999999999", 1, 0),
+        (HalfUp, b"5", 1, 1),
+        (HalfUp, b"", 1, 0),
+        (HalfUp, b"", 3_600_000_000_000, 0),
+        // Forty digits, of which the last says on which side of the next whole number the fraction is: a third of a
+        // unit of 3 is 1, and so is 1 of the 3600000000000 parts of an hour.
+        (Floor, b"3333333333333333333333333333333333333333", 3, 0),
+        (Floor, b"3333333333333333333333333333333333333334", 3, 1),
+        (
+            Floor,
+            b"0000000000002777777777777777777777777777",
+            3_600_000_000_000,
+            0,
+        ),
+        (
+            Floor,
+            b"0000000000002777777777777777777777777778",
+            3_600_000_000_000,
+            1,
+        ),
+        (
+            Floor,
+            b"4999999999999999999999999999999999999999",
+            60_000_000_000,
+            29_999_999_999,
+        ),
+        (
+            Floor,
+            b"5000000000000000000000000000000000000000",
+            60_000_000_000,
+            30_000_000_000,
+        ),
+        // The same for half of a whole number.
+        (HalfUp, b"1666666666666666666666666666666666666666", 3, 0),
+        (HalfUp, b"1666666666666666666666666666666666666667", 3, 1),
+        (
+            HalfUp,
+            b"0000000000001388888888888888888888888888",
+            3_600_000_000_000,
+            0,
+        ),
+        (
+            HalfUp,
+            b"0000000000001388888888888888888888888889",
+            3_600_000_000_000,
+            1,
+        ),
+        (
+            HalfUp,
+            b"0000000004999999999999999999999999999999",
+            1_000_000_000,
+            0,
+        ),
+        (
+            HalfUp,
+            b"0000000005000000000000000000000000000000",
+            1_000_000_000,
+            1,
+        ),
+    ];
+
+    #[test]
+    fn iso_fractions(rt: HostRuntime) {
+        for (rounding, digits, unit, wanted) in &FRACTIONS {
+            assert!(rt;
+                whole(*rounding, digits, *unit) == Some(*wanted),
+                "{digits:?}"
+            );
+        }
+    }
+}
+
+// The reader of the offsets of ISO 8601 by what stands before them.
+mod offsets {
+    use time_readers::iso8601::{ExtendedKind, OffsetNumbers, offset};
+
+    // The hours and minutes of an offset, if it isn't `Z`, and the unread rest.
+    type Found = (Option<(i8, i8)>, &'static [u8]);
+
+    // The offset in front of the text.
+    fn found(text: &'static [u8], kind: ExtendedKind) -> Option<Found> {
+        let found = offset(text, kind)?;
+        match found.1 {
+            OffsetNumbers::Numeric(hours, minutes) => Some((Some((hours, minutes)), found.0)),
+            OffsetNumbers::Zulu => Some((None, found.0)),
+        }
+    }
+
+    // Texts, what is found behind a basic form, in which no colon is read, and what behind an extended or unknown one.
+    static TEXTS: [(&[u8], Option<Found>, Option<Found>); 13] = [
+        (
+            b"-05",
+            Some((Some((-5, 0)), b"")),
+            Some((Some((-5, 0)), b"")),
+        ),
+        (
+            b"-0030x",
+            Some((Some((0, -30)), b"x")),
+            Some((Some((0, -30)), b"x")),
+        ),
+        (
+            b"+251",
+            Some((Some((25, 0)), b"1")),
+            Some((Some((25, 0)), b"1")),
+        ),
+        (b"", None, None),
+        (b"z", None, None),
+        (b"05", None, None),
+        (b"+5", None, None),
+        (b"+26", None, None),
+        (b"+0560", None, None),
+        (
+            b"-05:30",
+            Some((Some((-5, 0)), b":30")),
+            Some((Some((-5, -30)), b"")),
+        ),
+        (b"-05:", Some((Some((-5, 0)), b":")), None),
+        (b"-05:3", Some((Some((-5, 0)), b":3")), None),
+        (b"-05:60", Some((Some((-5, 0)), b":60")), None),
+    ];
+
+    #[test]
+    fn iso_offsets_of_each_kind(rt: HostRuntime) {
+        for (text, basic, extended) in &TEXTS {
+            assert!(rt;
+                found(text, ExtendedKind::Basic) == *basic
+                    && found(text, ExtendedKind::Extended) == *extended
+                    && found(text, ExtendedKind::Unknown) == *extended,
+                "{text:?}"
+            );
+        }
+    }
+}
+
+// Each row of the table of times under each kind before it, read into a record behind a date of that kind, and offsets
+// behind times.
+mod time_records {
+    use crate::tests::records::{NO_OFFSET, NO_TIME, OffsetCells, TimeCells, stored_by};
+    use time_parsing::Iso8601;
+    use time_record::Parsed;
+
+    // Texts, what is left of each, and the cells of the time and of the offset. Where there is no time all from its `T` on
+    // is left.
+    static TIMES: [(&[u8], &[u8], TimeCells, OffsetCells); 35] = [
+        // Behind basic dates.
+        (
+            b"20210102T03,5x",
+            b"x",
+            (Some(3), Some(30), Some(0), Some(0)),
+            NO_OFFSET,
+        ),
+        (
+            b"20210102T03",
+            b"",
+            (Some(3), Some(0), Some(0), Some(0)),
+            NO_OFFSET,
+        ),
+        (
+            b"20210102T0304.5",
+            b"",
+            (Some(3), Some(4), Some(30), Some(0)),
+            NO_OFFSET,
+        ),
+        (b"20210102T03:04.5", b"T03:04.5", NO_TIME, NO_OFFSET),
+        (
+            b"20210102T0304",
+            b"",
+            (Some(3), Some(4), Some(0), Some(0)),
+            NO_OFFSET,
+        ),
+        (b"20210102T03:04", b"T03:04", NO_TIME, NO_OFFSET),
+        (
+            b"20210102T030405.25",
+            b"",
+            (Some(3), Some(4), Some(5), Some(250_000_000)),
+            NO_OFFSET,
+        ),
+        (
+            b"20210102T0304:05",
+            b":05",
+            (Some(3), Some(4), Some(0), Some(0)),
+            NO_OFFSET,
+        ),
+        (b"20210102T03:04:05", b"T03:04:05", NO_TIME, NO_OFFSET),
+        // Behind extended dates.
+        (
+            b"2021-01-02T03,5x",
+            b"x",
+            (Some(3), Some(30), Some(0), Some(0)),
+            NO_OFFSET,
+        ),
+        (
+            b"2021-01-02T03",
+            b"",
+            (Some(3), Some(0), Some(0), Some(0)),
+            NO_OFFSET,
+        ),
+        (
+            b"2021-01-02T0304.5",
+            b"",
+            (Some(3), Some(4), Some(30), Some(0)),
+            NO_OFFSET,
+        ),
+        (
+            b"2021-01-02T03:04.5",
+            b"",
+            (Some(3), Some(4), Some(30), Some(0)),
+            NO_OFFSET,
+        ),
+        (
+            b"2021-01-02T0304",
+            b"",
+            (Some(3), Some(4), Some(0), Some(0)),
+            NO_OFFSET,
+        ),
+        (
+            b"2021-01-02T03:04",
+            b"",
+            (Some(3), Some(4), Some(0), Some(0)),
+            NO_OFFSET,
+        ),
+        (
+            b"2021-01-02T030405",
+            b"05",
+            (Some(3), Some(4), Some(0), Some(0)),
+            NO_OFFSET,
+        ),
+        (
+            b"2021-01-02T0304:05",
+            b"",
+            (Some(3), Some(4), Some(5), Some(0)),
+            NO_OFFSET,
+        ),
+        (
+            b"2021-01-02T03:04:05,25",
+            b"",
+            (Some(3), Some(4), Some(5), Some(250_000_000)),
+            NO_OFFSET,
+        ),
+        // Without dates.
+        (
+            b"03,5x",
+            b"x",
+            (Some(3), Some(30), Some(0), Some(0)),
+            NO_OFFSET,
+        ),
+        (b"03", b"", (Some(3), Some(0), Some(0), Some(0)), NO_OFFSET),
+        (
+            b"0304.5",
+            b"",
+            (Some(3), Some(4), Some(30), Some(0)),
+            NO_OFFSET,
+        ),
+        (
+            b"03:04.5",
+            b"",
+            (Some(3), Some(4), Some(30), Some(0)),
+            NO_OFFSET,
+        ),
+        (
+            b"0304",
+            b"",
+            (Some(3), Some(4), Some(0), Some(0)),
+            NO_OFFSET,
+        ),
+        (
+            b"03:04",
+            b"",
+            (Some(3), Some(4), Some(0), Some(0)),
+            NO_OFFSET,
+        ),
+        (
+            b"030405",
+            b"",
+            (Some(3), Some(4), Some(5), Some(0)),
+            NO_OFFSET,
+        ),
+        (
+            b"0304:05",
+            b":05",
+            (Some(3), Some(4), Some(0), Some(0)),
+            NO_OFFSET,
+        ),
+        (
+            b"03:04:05,25",
+            b"",
+            (Some(3), Some(4), Some(5), Some(250_000_000)),
+            NO_OFFSET,
+        ),
+        (b"T03", b"", (Some(3), Some(0), Some(0), Some(0)), NO_OFFSET),
+        // The kind behind a time is handed on to the offset.
+        (
+            b"0304+05:06",
+            b":06",
+            (Some(3), Some(4), Some(0), Some(0)),
+            (Some(5), Some(0)),
+        ),
+        (
+            b"03:04+05:06",
+            b"",
+            (Some(3), Some(4), Some(0), Some(0)),
+            (Some(5), Some(6)),
+        ),
+        (
+            b"03+05:06",
+            b"",
+            (Some(3), Some(0), Some(0), Some(0)),
+            (Some(5), Some(6)),
+        ),
+        (
+            b"0304.5+05:06",
+            b":06",
+            (Some(3), Some(4), Some(30), Some(0)),
+            (Some(5), Some(0)),
+        ),
+        (
+            b"2021-01-02T0304+05:06",
+            b"",
+            (Some(3), Some(4), Some(0), Some(0)),
+            (Some(5), Some(6)),
+        ),
+        (
+            b"20210102T03+05:06",
+            b":06",
+            (Some(3), Some(0), Some(0), Some(0)),
+            (Some(5), Some(0)),
+        ),
+        // A date that can't be read leaves the kind unknown.
+        (
+            b"1234-05:30",
+            b":30",
+            (Some(12), Some(34), Some(0), Some(0)),
+            (Some(-5), Some(0)),
+        ),
+    ];
+
+    #[test]
+    fn iso_times_in_records(rt: HostRuntime) {
+        for (text, left, time, offset) in &TIMES {
+            let mut record = Parsed::new();
+            let (found, cells) = stored_by(&Iso8601, text, &mut record);
+            assert!(rt;
+                found == Ok(*left) && cells.2 == *time && cells.3 == *offset,
+                "{text:?}"
+            );
+        }
+    }
+}
+
+// Texts of ISO 8601 with each byte at each place, beside the same with a year of six digits, which isn't read at once.
+mod iso_fronts {
+    use crate::tests::formats::{Format, Numbers, Part, said};
+    use time_record::Parsed;
+
+    static TEXTS: [&[u8]; 3] = [
+        b"2021-01-02T03:04:05Z",
+        b"20210102T030405Z",
+        b"2021-12-31T23:59:60,123456789-05:30",
+    ];
+
+    // The part of the text over the defaults, if it says one.
+    fn value(part: Part, text: &[u8], defaults: Option<Parsed>) -> Option<Numbers> {
+        said(Format::Iso, part, text, defaults).ok()
+    }
+
+    // Both texts have the same value, or none.
+    fn is_right(text: &[u8], with_sign: &[u8]) -> bool {
+        let moment = value(Part::Moment, with_sign, None);
+        value(Part::Moment, text, None) == moment
+            && value(Part::Moment, text, Some(Parsed::new())) == moment
+            && value(Part::Plain, text, None) == value(Part::Plain, with_sign, None)
+    }
+
+    // Whether both are so with each byte at that place; or a byte with which they are not.
+    fn with_each_byte(text: &[u8], place: usize) -> Result<(), u8> {
+        let mut both = *b"+00                                   ";
+        let both = both.get_mut(..text.len().saturating_add(3)).ok_or(0)?;
+        both.get_mut(3..).ok_or(0)?.copy_from_slice(text);
+        for byte in 0..=u8::MAX {
+            *both.get_mut(place.saturating_add(3)).ok_or(byte)? = byte;
+            let changed = both.get(3..).ok_or(byte)?;
+            if !is_right(changed, both) {
+                return Err(byte);
+            }
+        }
+        Ok(())
+    }
+
+    #[test]
+    fn iso_fronts(rt: HostRuntime) {
+        for text in &TEXTS {
+            for place in 0..text.len() {
+                let outcome = with_each_byte(text, place);
+                assert!(rt; outcome == Ok(()), "{text:?} {place} {outcome:?}");
+            }
+        }
+    }
 }

@@ -1,4 +1,4 @@
-//! The record of what was read: its options, their ranges, setters and builders.
+//! Records: their options, the walk that counts, and the laws of parsing.
 use crate::fields::{Field, RANGES, get, set, with};
 use std::num::NonZero;
 use time_record::Parsed;
@@ -115,5 +115,242 @@ fn signs_of_centuries(rt: HostRuntime) {
     for (century, sign, is_negative) in &ENDS {
         assert!(rt; century_sign(*century, *sign) == Some(*is_negative));
         assert!(rt; iso_century_sign(*century, *sign) == Some(*is_negative));
+    }
+}
+
+// The walk that counts, and the laws of parsing.
+mod counted_and_laws {
+    use std::cell::Cell;
+    use std::test::Fail;
+    use time_parsing::laws::text_3339;
+    use time_parsing::{Parsable, Rfc3339};
+    use time_readers::modifier::{Hour24, Minute};
+    use time_readers::{BorrowedFormatItem, Component, Padding, direct};
+    use time_record::{AnyFormatItem, Parsed, Tries};
+    use time_values::error::ParseFromDescription;
+    use time_values::{Date, Month, OffsetDateTime, Time, UtcOffset};
+
+    const HOUR: BorrowedFormatItem<'static> = BorrowedFormatItem::Component(Component::Hour24(
+        Hour24 {
+            padding: Padding::Zero,
+        },
+    ));
+
+    const COLON: BorrowedFormatItem<'static> = BorrowedFormatItem::StringLiteral(":");
+
+    const MINUTE: BorrowedFormatItem<'static> = BorrowedFormatItem::Component(Component::Minute(
+        Minute {
+            padding: Padding::Zero,
+        },
+    ));
+
+    // The unread rest, or what isn't there.
+    type Read<'a> = Result<&'a [u8], ParseFromDescription>;
+
+    // What an answer is, how many items were begun, and the hour and the minute of the record behind it.
+    type Seen<'a> = (Read<'a>, u64, Option<u8>, Option<u8>);
+
+    // Which items a text is read by.
+    enum Items {
+        // An hour, a colon and a minute, or else an hour.
+        Choice,
+        // A minute that may be missing.
+        Option,
+        Colon,
+    }
+
+    // Reads the items over a record of the hour 7.
+    fn read<'a>(input: &'a [u8], items: &[BorrowedFormatItem<'_>]) -> Seen<'a> {
+        let mut parsed = Parsed::new();
+        let _ = parsed.set_hour_24(7);
+        let mut tries = Tries::new();
+        let answer = parsed.parse_items_counted(input, items, &mut tries);
+        (answer, tries.count(), parsed.hour_24(), parsed.minute())
+    }
+
+    fn seen<'a>(input: &'a [u8], items: &Items) -> Seen<'a> {
+        match items {
+            Items::Choice => {
+                let whole = [HOUR, COLON, MINUTE];
+                let choice = [BorrowedFormatItem::Compound(&whole), HOUR];
+                read(input, &[BorrowedFormatItem::First(&choice)])
+            }
+            Items::Option => read(input, &[BorrowedFormatItem::Optional(&MINUTE)]),
+            Items::Colon => read(input, &[COLON]),
+        }
+    }
+
+    const NO_HOUR: ParseFromDescription = ParseFromDescription::InvalidComponent("hour");
+
+    const NO_COLON: ParseFromDescription = ParseFromDescription::InvalidLiteral;
+
+    static SEEN: [(Items, &[u8], Seen<'static>); 5] = [
+        (Items::Choice, b"12x", (Ok(b"x"), 5, Some(12), None)),
+        (Items::Choice, b"1x", (Err(NO_HOUR), 4, Some(7), None)),
+        (Items::Choice, b"12:34", (Ok(b""), 5, Some(12), Some(34))),
+        (Items::Option, b"x", (Ok(b"x"), 2, Some(7), None)),
+        (Items::Colon, b"x", (Err(NO_COLON), 1, Some(7), None)),
+    ];
+
+    #[test]
+    fn counted(rt: HostRuntime) {
+        for (items, input, answer) in &SEEN {
+            assert!(rt; seen(input, items) == *answer, "{input:?}");
+        }
+    }
+
+    // The count goes on from call to call, and a call that doesn't count answers the same.
+    #[test]
+    fn counted_on(rt: HostRuntime) {
+        let mut parsed = Parsed::new();
+        let mut tries = Tries::new();
+        for begun in [1, 2] {
+            let answer = COLON.parse_item_counted(&mut parsed, b"x", &mut tries);
+            assert!(rt; answer == Err(ParseFromDescription::InvalidLiteral));
+            assert!(rt; tries.count() == begun);
+        }
+        let option = [BorrowedFormatItem::Optional(&MINUTE)];
+        assert!(rt; parsed.parse_items(b"x", &option) == Ok(b"x".as_slice()));
+    }
+
+    // An item that hands on to a borrowed one, and counts how often it is asked to.
+    #[derive(Drop)]
+    struct Watched<'b> {
+        item: BorrowedFormatItem<'b>,
+        calls: &'b Cell<u32>,
+    }
+
+    impl AnyFormatItem for Watched<'_> {
+        ghost use Rattle.time_components.specs.Shape.{borrowed_shape};
+
+        ghost shape = { λ w. borrowed_shape w.item };
+
+        fn parse_item_counted<'a>(
+            &self,
+            parsed: &mut Parsed,
+            input: &'a [u8],
+            tries: &mut Tries,
+        ) -> Result<&'a [u8], ParseFromDescription> {
+            self.calls.set(self.calls.get().saturating_add(1));
+            self.item.parse_item_counted(parsed, input, tries)
+        }
+    }
+
+    // A list of an hour, a colon and a minute, whose items count how often each is asked.
+    fn clock_of(input: &[u8], calls: &[Cell<u32>; 3]) -> (bool, u64) {
+        let [hour, colon, minute] = calls;
+        let items = [
+            Watched {
+                item: HOUR,
+                calls: hour,
+            },
+            Watched {
+                item: COLON,
+                calls: colon,
+            },
+            Watched {
+                item: MINUTE,
+                calls: minute,
+            },
+        ];
+        let mut tries = Tries::new();
+        let answer = Parsed::new().parse_items_counted(input, &items, &mut tries);
+        (
+            answer == Err(ParseFromDescription::InvalidLiteral),
+            tries.count(),
+        )
+    }
+
+    #[test]
+    fn begun_once(rt: HostRuntime) {
+        let calls = [Cell::new(0), Cell::new(0), Cell::new(0)];
+        assert!(rt; clock_of(b"12x", &calls) == (true, 2));
+        let [hour, colon, minute] = &calls;
+        assert!(rt; (hour.get(), colon.get(), minute.get()) == (1, 1, 0));
+    }
+
+    // Items that are read over an empty record: the answer, and the hour and the minute behind it.
+    fn answered<'a>(
+        input: &'a [u8],
+        items: &[BorrowedFormatItem<'_>],
+    ) -> (Read<'a>, Option<u8>, Option<u8>) {
+        let mut parsed = Parsed::new();
+        let answer = parsed.parse_items(input, items);
+        (answer, parsed.hour_24(), parsed.minute())
+    }
+
+    // A list that is two lists joined is read as the one, and then as the other.
+    fn is_joined(input: &[u8]) -> bool {
+        let mut parsed = Parsed::new();
+        let joined = match parsed.parse_items(input, &[HOUR, COLON]) {
+            Ok(rest) => parsed.parse_items(rest, &[MINUTE]),
+            Err(fault) => Err(fault),
+        };
+        answered(input, &[HOUR, COLON, MINUTE]).0 == joined
+    }
+
+    // A list inside a list is flattened.
+    fn is_flattened(input: &[u8]) -> bool {
+        let inside = [COLON, MINUTE];
+        answered(input, &[HOUR, BorrowedFormatItem::Compound(&inside)])
+            == answered(input, &[HOUR, COLON, MINUTE])
+    }
+
+    // Items of one shape answer alike, and what they leave is a suffix.
+    fn is_alike(input: &[u8]) -> bool {
+        let bytes = [HOUR, BorrowedFormatItem::Literal(b":"), MINUTE];
+        let answer = answered(input, &[HOUR, COLON, MINUTE]);
+        let is_suffix = match answer.0 {
+            Ok(rest) => input.ends_with(rest),
+            Err(_) => true,
+        };
+        is_suffix && answered(input, &bytes) == answer
+    }
+
+    static CLOCKS: [&[u8]; 6] = [b"12:34", b"12:34x", b"12:x", b"12x", b"x", b""];
+
+    #[test]
+    fn laws(rt: HostRuntime) {
+        for input in &CLOCKS {
+            assert!(rt; is_joined(input), "{input:?}");
+            assert!(rt; is_flattened(input), "{input:?}");
+            assert!(rt; is_alike(input), "{input:?}");
+        }
+    }
+
+    // Whether that is written, and is read back by the direct path and over an empty record.
+    fn is_canonical(value: OffsetDateTime, written: [u8; 35], text: &[u8; 35]) -> bool {
+        written == *text
+            && Rfc3339.parse_offset_date_time(text, None) == Ok(value)
+            && Rfc3339.parse_offset_date_time(text, Some(Parsed::new())) == Ok(value)
+            && direct::rfc3339(text) == Ok(value)
+    }
+
+    #[test]
+    fn canonical_texts(rt: HostRuntime) -> Result<(), Fail> {
+        let date = Date::from_calendar_date(2021, Month::January, 2)?;
+        let time = Time::from_hms_nano(3, 4, 5, 500_000_000)?;
+        let behind = OffsetDateTime::new_in_offset(date, time, UtcOffset::from_hms(0, -30, 0)?);
+        let text = b"2021-01-02T03:04:05.500000000-00:30";
+        assert!(rt; is_canonical(behind, text_3339(behind), text));
+        let utc = OffsetDateTime::new_in_offset(date, time, UtcOffset::UTC);
+        let text = b"2021-01-02T03:04:05.500000000+00:00";
+        assert!(rt; is_canonical(utc, text_3339(utc), text));
+        Ok(())
+    }
+
+    #[test]
+    fn canonical_ends(rt: HostRuntime) -> Result<(), Fail> {
+        let date = Date::from_calendar_date(0, Month::January, 1)?;
+        let time = Time::from_hms_nano(0, 0, 0, 0)?;
+        let first = OffsetDateTime::new_in_offset(date, time, UtcOffset::from_hms(-23, -59, 0)?);
+        let text = b"0000-01-01T00:00:00.000000000-23:59";
+        assert!(rt; is_canonical(first, text_3339(first), text));
+        let date = Date::from_calendar_date(9999, Month::December, 31)?;
+        let time = Time::from_hms_nano(23, 59, 59, 999_999_999)?;
+        let last = OffsetDateTime::new_in_offset(date, time, UtcOffset::from_hms(23, 59, 0)?);
+        let text = b"9999-12-31T23:59:59.999999999+23:59";
+        assert!(rt; is_canonical(last, text_3339(last), text));
+        Ok(())
     }
 }

@@ -1,15 +1,9 @@
 //! Every public call of the layers of parsing by its name, with its type, so that none of them goes missing.
-use std::fmt::Debug;
-use time_readers::ParsedItem;
-
-mod components;
-mod digits;
-mod errors;
-mod formats;
-mod moments;
 mod readers;
 mod records;
-mod values;
+
+use std::fmt::Debug;
+use time_readers::ParsedItem;
 
 // What is copied, compared and printed for a programmer.
 trait Plain: Copy + Debug + Eq {}
@@ -50,4 +44,552 @@ fn are_whole<T: PartialEq + Copy>(all: &[Option<ParsedItem<'_, T>>], value: T) -
         }
     }
     true
+}
+
+// Months, weekdays, dates, times and offsets.
+mod values {
+    use super::are_plain;
+    use std::num::NonZero;
+    use time_values::error::ComponentRange;
+    use time_values::{
+        Date, Month, OffsetDateTime, PlainDateTime, Time, UtcDateTime, UtcOffset, Weekday,
+    };
+
+    static MONTHS: [Month; 12] = [
+        Month::January,
+        Month::February,
+        Month::March,
+        Month::April,
+        Month::May,
+        Month::June,
+        Month::July,
+        Month::August,
+        Month::September,
+        Month::October,
+        Month::November,
+        Month::December,
+    ];
+
+    #[test]
+    fn months(rt: HostRuntime) {
+        let two = NonZero::<u8>::new(2).expect(&rt, "a number");
+        let month: Result<Month, ComponentRange> = Month::from_number(two);
+        assert!(rt; month == Ok(Month::February));
+        let length: u8 = Month::February.length(2024);
+        let number: u8 = u8::from(Month::February);
+        assert!(rt; (length, number) == (29, 2));
+        assert!(rt; MONTHS[1] == Month::February);
+    }
+
+    static WEEKDAYS: [Weekday; 7] = [
+        Weekday::Monday,
+        Weekday::Tuesday,
+        Weekday::Wednesday,
+        Weekday::Thursday,
+        Weekday::Friday,
+        Weekday::Saturday,
+        Weekday::Sunday,
+    ];
+
+    #[test]
+    fn weekdays(rt: HostRuntime) {
+        let from_monday: u8 = WEEKDAYS[6].number_days_from_monday();
+        let from_sunday: u8 = WEEKDAYS[6].number_days_from_sunday();
+        assert!(rt; (from_monday, from_sunday) == (6, 0));
+    }
+
+    // The year, the month, the day, the day of the year and the weekday.
+    fn parts(date: Date) -> (i32, Month, u8, u16, Weekday) {
+        let year: i32 = date.year();
+        let month: Month = date.month();
+        let day: u8 = date.day();
+        let ordinal: u16 = date.ordinal();
+        let weekday: Weekday = date.weekday();
+        (year, month, day, ordinal, weekday)
+    }
+
+    // The weeks of the three ways to count them.
+    fn weeks(date: Date) -> (u8, (i32, u8, Weekday), u8, u8) {
+        let iso_week: u8 = date.iso_week();
+        let week_date: (i32, u8, Weekday) = date.to_iso_week_date();
+        let sunday_week: u8 = date.sunday_based_week();
+        let monday_week: u8 = date.monday_based_week();
+        (iso_week, week_date, sunday_week, monday_week)
+    }
+
+    #[test]
+    fn dates(rt: HostRuntime) {
+        let date: Result<Date, ComponentRange> = Date::from_calendar_date(2021, Month::January, 2);
+        let by_day: Result<Date, ComponentRange> = Date::from_ordinal_date(2021, 2);
+        let by_week: Result<Date, ComponentRange> = Date::from_iso_week_date(
+            2020,
+            53,
+            Weekday::Saturday,
+        );
+        assert!(rt; by_day.is_ok() && by_week.is_ok());
+        let date = date.expect(&rt, "a date");
+        assert!(rt; parts(date) == (2021, Month::January, 2, 2, Weekday::Saturday));
+        assert!(rt; weeks(date) == (53, (2020, 53, Weekday::Saturday), 0, 0));
+    }
+
+    #[test]
+    fn constants(rt: HostRuntime) {
+        are_plain::<
+            Month,
+            Weekday,
+            Date,
+            Time,
+            UtcOffset,
+            PlainDateTime,
+            OffsetDateTime,
+            UtcDateTime,
+        >();
+        are_plain::<time_values::Timestamp, (), (), (), (), (), (), ()>();
+        let first: Date = Date::MIN;
+        let last: Date = Date::MAX;
+        let utc: UtcOffset = UtcOffset::UTC;
+        assert!(rt; (first.year(), last.year()) == (-999_999, 999_999));
+        assert!(rt; utc.as_hms() == (0, 0, 0));
+    }
+
+    // The parts of a time.
+    fn clock(time: Time) -> (u8, u8, u8, u32) {
+        let hour: u8 = time.hour();
+        let minute: u8 = time.minute();
+        let second: u8 = time.second();
+        let nanosecond: u32 = time.nanosecond();
+        (hour, minute, second, nanosecond)
+    }
+
+    #[test]
+    fn times(rt: HostRuntime) {
+        let time: Result<Time, ComponentRange> = Time::from_hms_nano(3, 4, 5, 6);
+        assert!(rt; clock(time.expect(&rt, "a time")) == (3, 4, 5, 6));
+    }
+
+    #[test]
+    fn offsets(rt: HostRuntime) {
+        let offset: Result<UtcOffset, ComponentRange> = UtcOffset::from_hms(-1, 30, 0);
+        let parts: (i8, i8, i8) = offset.expect(&rt, "an offset").as_hms();
+        assert!(rt; parts == (-1, -30, 0));
+    }
+}
+
+// Date-times, moments and timestamps, and the values of a record.
+mod moments {
+    use std::convert::TryFrom;
+    use time_record::Parsed;
+    use time_values::error::{ComponentRange, TryFromParsed};
+    use time_values::{
+        Date, OffsetDateTime, PlainDateTime, Time, Timestamp, UtcDateTime, UtcOffset,
+    };
+
+    // The nanoseconds of a day.
+    const DAY: i128 = 86_400_000_000_000;
+
+    // The date and the time, taken from a date-time.
+    fn plain(date: Date, time: Time) -> (Date, Time) {
+        let plain: PlainDateTime = PlainDateTime::new(date, time);
+        let date: Date = plain.date();
+        let time: Time = plain.time();
+        (date, time)
+    }
+
+    // The date and the time, taken from a moment in UTC.
+    fn utc(date: Date, time: Time) -> (Date, Time) {
+        let utc: UtcDateTime = UtcDateTime::new(date, time);
+        let date: Date = utc.date();
+        let time: Time = utc.time();
+        (date, time)
+    }
+
+    // The date, the time and the offset, taken from a moment.
+    fn moment(date: Date, time: Time, offset: UtcOffset) -> (Date, Time, UtcOffset) {
+        let moment: OffsetDateTime = OffsetDateTime::new_in_offset(date, time, offset);
+        let date: Date = moment.date();
+        let time: Time = moment.time();
+        let offset: UtcOffset = moment.offset();
+        (date, time, offset)
+    }
+
+    #[test]
+    fn parts(rt: HostRuntime) {
+        let time = Time::from_hms_nano(3, 4, 5, 6).expect(&rt, "a time");
+        assert!(rt; plain(Date::MIN, time) == (Date::MIN, time));
+        assert!(rt; utc(Date::MIN, time) == (Date::MIN, time));
+        assert!(rt; moment(Date::MIN, time, UtcOffset::UTC) == (Date::MIN, time, UtcOffset::UTC));
+    }
+
+    // The nanoseconds of a moment in UTC, of its timestamp too, and whether it may stand for a leap second.
+    fn utc_nanos(utc: UtcDateTime) -> (i128, i128, bool) {
+        let nanos: i128 = utc.unix_timestamp_nanos();
+        let timestamp: Timestamp = Timestamp::from(utc);
+        let stamped: i128 = timestamp.nanoseconds();
+        let stands_in: bool = utc.is_valid_leap_second_stand_in();
+        (nanos, stamped, stands_in)
+    }
+
+    #[test]
+    fn utc_moments(rt: HostRuntime) {
+        let utc: Result<UtcDateTime, ComponentRange> = UtcDateTime::from_unix_timestamp_nanos(DAY);
+        let utc = utc.expect(&rt, "a moment");
+        assert!(rt; utc_nanos(utc) == (DAY, DAY, false));
+        let later: Result<UtcDateTime, ComponentRange> = utc.replace_nanosecond(1);
+        assert!(rt; later.is_ok());
+        let timestamp: Result<Timestamp, ComponentRange> = Timestamp::from_nanoseconds(DAY);
+        assert!(rt; timestamp == Ok(Timestamp::from(utc)));
+    }
+
+    // The nanoseconds of a moment, the moment in UTC, and whether it may stand for a leap second.
+    fn offset_nanos(moment: OffsetDateTime) -> (i128, Option<UtcDateTime>, bool) {
+        let nanos: i128 = moment.unix_timestamp_nanos();
+        let utc: Option<UtcDateTime> = moment.checked_to_utc();
+        let stands_in: bool = moment.is_valid_leap_second_stand_in();
+        (nanos, utc, stands_in)
+    }
+
+    #[test]
+    fn moments(rt: HostRuntime) {
+        let moment: Result<OffsetDateTime, ComponentRange> =
+            OffsetDateTime::from_unix_timestamp_nanos(DAY);
+        let moment = moment.expect(&rt, "a moment");
+        let (nanos, utc, stands_in) = offset_nanos(moment);
+        assert!(rt; (nanos, utc.is_some(), stands_in) == (DAY, true, false));
+        let later: Result<OffsetDateTime, ComponentRange> = moment.replace_nanosecond(1);
+        assert!(rt; later.is_ok());
+    }
+
+    // What a record may be converted to.
+    trait Value: TryFrom<Parsed, Error = TryFromParsed> {}
+
+    impl<T: TryFrom<Parsed, Error = TryFromParsed>> Value for T {}
+
+    // Types that a record may be converted to.
+    fn are_values<A: Value, B: Value, C: Value, D: Value, E: Value, F: Value, G: Value>() {}
+
+    #[test]
+    fn values(rt: HostRuntime) {
+        are_values::<
+            Date,
+            Time,
+            UtcOffset,
+            PlainDateTime,
+            OffsetDateTime,
+            UtcDateTime,
+            Timestamp,
+        >();
+        let date: Result<Date, TryFromParsed> = Date::try_from(Parsed::new());
+        assert!(rt; date == Err(TryFromParsed::InsufficientInformation));
+    }
+}
+
+// Errors, what they print, and how one is made of another.
+mod errors {
+    use super::{are_plain, are_printed};
+    use std::alloc::Global;
+    use std::convert::TryFrom;
+    use time_values::error::{
+        ComponentRange, DifferentVariant, Error, Parse, ParseFromDescription, TryFromParsed,
+    };
+
+    const RANGE: ComponentRange = ComponentRange {
+        name: "day",
+        conditional: true,
+    };
+
+    const MISSING: TryFromParsed = TryFromParsed::InsufficientInformation;
+
+    const OUT_OF_RANGE: TryFromParsed = TryFromParsed::ComponentRange(RANGE);
+
+    const LITERAL: ParseFromDescription = ParseFromDescription::InvalidLiteral;
+
+    const DAY: ParseFromDescription = ParseFromDescription::InvalidComponent("day");
+
+    const TRAILING: ParseFromDescription = ParseFromDescription::UnexpectedTrailingCharacters;
+
+    #[test]
+    fn plain_types(rt: HostRuntime) {
+        are_plain::<
+            ComponentRange,
+            DifferentVariant,
+            ParseFromDescription,
+            TryFromParsed,
+            Parse,
+            (),
+            (),
+            (),
+        >();
+        are_printed::<Error, (), ()>();
+        let name: &'static str = RANGE.name;
+        let is_conditional: bool = RANGE.conditional;
+        assert!(rt; name == "day" && is_conditional);
+        assert!(rt; LITERAL != TRAILING);
+    }
+
+    // What an error of any type prints.
+    fn prints<E: std::error::Error>(alloc: Global, e: &E, wanted: &str) -> bool {
+        match e.to_string(alloc) {
+            Ok(text) => text.as_str() == wanted,
+            Err(_) => false,
+        }
+    }
+
+    #[test]
+    fn texts(rt: HostRuntime) {
+        let text = "day is out of range for the other components";
+        assert!(rt; prints(rt.alloc(), &RANGE, text));
+        assert!(rt; prints(rt.alloc(), &OUT_OF_RANGE, text));
+        assert!(rt; prints(rt.alloc(), &Parse::TryFromParsed(OUT_OF_RANGE), text));
+        let text = "the 'day' component could not be parsed";
+        assert!(rt; prints(rt.alloc(), &DAY, text));
+        assert!(rt; prints(rt.alloc(), &Parse::ParseFromDescription(DAY), text));
+        let text = "value was of a different variant than required";
+        assert!(rt; prints(rt.alloc(), &DifferentVariant, text));
+    }
+
+    static JOINT_ERRORS: [(Error, &str); 3] = [
+        (
+            Error::ComponentRange(RANGE),
+            "day is out of range for the other components",
+        ),
+        (
+            Error::TryFromParsed(OUT_OF_RANGE),
+            "day is out of range for the other components",
+        ),
+        (
+            Error::ParseFromDescription(LITERAL),
+            "a character literal was not valid",
+        ),
+    ];
+
+    #[test]
+    fn joint_texts(rt: HostRuntime) {
+        for (e, text) in &JOINT_ERRORS {
+            assert!(rt; prints(rt.alloc(), e, text));
+        }
+    }
+
+    #[test]
+    fn conversions_of_ranges(rt: HostRuntime) {
+        let resolved: TryFromParsed = TryFromParsed::from(RANGE);
+        assert!(rt; resolved == OUT_OF_RANGE);
+        let range: Result<ComponentRange, DifferentVariant> = ComponentRange::try_from(resolved);
+        assert!(rt; range == Ok(RANGE));
+        let range: Result<ComponentRange, DifferentVariant> = ComponentRange::try_from(MISSING);
+        assert!(rt; range == Err(DifferentVariant));
+    }
+
+    #[test]
+    fn conversions_of_parses(rt: HostRuntime) {
+        let unresolved: Parse = Parse::from(MISSING);
+        let unread: Parse = Parse::from(LITERAL);
+        assert!(rt; unresolved == Parse::TryFromParsed(MISSING));
+        let missing: Result<TryFromParsed, DifferentVariant> = TryFromParsed::try_from(unresolved);
+        let literal: Result<ParseFromDescription, DifferentVariant> =
+            ParseFromDescription::try_from(unread);
+        assert!(rt; (missing, literal) == (Ok(MISSING), Ok(LITERAL)));
+    }
+
+    #[test]
+    fn conversions_of_joint_errors(rt: HostRuntime) {
+        let missing: Error = Error::from(MISSING);
+        let missing: Result<TryFromParsed, DifferentVariant> = TryFromParsed::try_from(missing);
+        assert!(rt; missing == Ok(MISSING));
+        let literal: Error = Error::from(LITERAL);
+        let literal: Result<ParseFromDescription, DifferentVariant> =
+            ParseFromDescription::try_from(literal);
+        assert!(rt; literal == Ok(LITERAL));
+        let parse: Error = Error::from(Parse::from(LITERAL));
+        let parse: Result<Parse, DifferentVariant> = Parse::try_from(parse);
+        assert!(rt; parse == Ok(Parse::from(LITERAL)));
+        let range: Error = Error::from(RANGE);
+        let none: Result<Parse, DifferentVariant> = Parse::try_from(range);
+        assert!(rt; none == Err(DifferentVariant));
+    }
+}
+
+// Formats, the variants of descriptions, and the laws of parsing.
+mod formats {
+    use super::{are_copied, are_printed};
+    use std::test::Fail;
+    use time_parsing::laws::{
+        law_equal_shapes, law_flattened, law_joined_lists, law_kept_readings,
+        law_optional_as_first, law_read_back, law_suffix, law_whole_characters, text_3339,
+    };
+    use time_parsing::{Iso8601, Items, Parsable, Rfc2822, Rfc3339};
+    use time_readers::{
+        BorrowedFormatItem, Component, FormatDescriptionV3, FormatDescriptionV3Inner,
+        OwnedFormatItem,
+    };
+    use time_record::{AnyFormatItem, Parsed};
+    use time_values::error::Parse;
+    use time_values::{
+        Date, Month, OffsetDateTime, PlainDateTime, Time, Timestamp, UtcDateTime, UtcOffset,
+    };
+
+    // The text has all parts of a moment.
+    fn has_parts<F: Parsable>(format: &F, text: &[u8]) -> [bool; 4] {
+        let date: Result<Date, Parse> = format.parse_date(text, None);
+        let time: Result<Time, Parse> = format.parse_time(text, None);
+        let offset: Result<UtcOffset, Parse> = format.parse_offset(text, None);
+        let plain: Result<PlainDateTime, Parse> = format.parse_plain_date_time(text, None);
+        [date.is_ok(), time.is_ok(), offset.is_ok(), plain.is_ok()]
+    }
+
+    // The text is a moment.
+    fn is_moment<F: Parsable>(format: &F, text: &[u8]) -> [bool; 3] {
+        let utc: Result<UtcDateTime, Parse> = format.parse_utc_date_time(text, None);
+        let moment: Result<OffsetDateTime, Parse> = format.parse_offset_date_time(text, None);
+        let timestamp: Result<Timestamp, Parse> = format.parse_timestamp(text, None);
+        [utc.is_ok(), moment.is_ok(), timestamp.is_ok()]
+    }
+
+    // The text is read into a record.
+    fn is_read<F: Parsable>(format: &F, text: &[u8], parsed: &mut Parsed) -> [bool; 2] {
+        let rest: Result<&[u8], Parse> = format.parse_into(text, parsed);
+        let record: Result<Parsed, Parse> = format.parse_internal(text, None);
+        [rest.is_ok(), record.is_ok()]
+    }
+
+    const STAMP: &[u8] = b"1970-01-02T00:00:00Z";
+
+    #[test]
+    fn texts(rt: HostRuntime) {
+        let mut parsed = Parsed::new();
+        assert!(rt; has_parts(&Rfc3339, STAMP) == [true; 4]);
+        assert!(rt; is_moment(&Rfc3339, STAMP) == [true; 3]);
+        assert!(rt; is_read(&Rfc3339, STAMP, &mut parsed) == [true; 2]);
+    }
+
+    // Types that parse texts.
+    fn are_formats<A: Parsable, B: Parsable, C: Parsable, D: Parsable>() {}
+
+    #[test]
+    fn formats(rt: HostRuntime) {
+        are_copied::<Rfc2822, Rfc3339, Iso8601, Items<'_, BorrowedFormatItem<'_>>>();
+        are_formats::<Rfc2822, Rfc3339, Iso8601, &Rfc3339>();
+        are_formats::<
+            BorrowedFormatItem<'_>,
+            OwnedFormatItem,
+            FormatDescriptionV3<'_>,
+            Items<'_, BorrowedFormatItem<'_>>,
+        >();
+        let hyphen = [BorrowedFormatItem::Literal(b"-")];
+        let items: Items<'_, BorrowedFormatItem<'_>> = Items(&hyphen);
+        assert!(rt; items.0.len() == 1);
+    }
+
+    // The variants of an item that borrows its parts.
+    fn borrowed<'a>(
+        bytes: &'a [u8],
+        text: &'a str,
+        component: Component,
+        items: &'a [BorrowedFormatItem<'a>],
+        item: &'a BorrowedFormatItem<'a>,
+    ) -> [BorrowedFormatItem<'a>; 6] {
+        [
+            BorrowedFormatItem::Literal(bytes),
+            BorrowedFormatItem::StringLiteral(text),
+            BorrowedFormatItem::Component(component),
+            BorrowedFormatItem::Compound(items),
+            BorrowedFormatItem::Optional(item),
+            BorrowedFormatItem::First(items),
+        ]
+    }
+
+    // The variants of an item that owns its parts.
+    fn owned(
+        bytes: Vec<u8>,
+        text: String,
+        component: Component,
+        items: Vec<OwnedFormatItem>,
+        item: Box<OwnedFormatItem>,
+        choice: Vec<OwnedFormatItem>,
+    ) -> [OwnedFormatItem; 6] {
+        [
+            OwnedFormatItem::Literal(bytes),
+            OwnedFormatItem::StringLiteral(text),
+            OwnedFormatItem::Component(component),
+            OwnedFormatItem::Compound(items),
+            OwnedFormatItem::Optional(item),
+            OwnedFormatItem::First(choice),
+        ]
+    }
+
+    // The item reads the empty text.
+    fn reads_nothing<I: AnyFormatItem>(item: &I) -> bool {
+        Parsed::new().parse_item(b"", item).is_ok()
+    }
+
+    #[test]
+    fn items(rt: HostRuntime) {
+        are_printed::<OwnedFormatItem, FormatDescriptionV3, FormatDescriptionV3Inner>();
+        assert!(rt; reads_nothing(&BorrowedFormatItem::Literal(b"")));
+        assert!(rt; reads_nothing(&OwnedFormatItem::First(Vec::new(rt.alloc()))));
+    }
+
+    // The variants of version 3 that borrow their parts.
+    fn v3_borrowed<'a>(
+        component: Component,
+        text: &'a str,
+        items: &'a [FormatDescriptionV3Inner<'a>],
+        format: bool,
+        item: &'a FormatDescriptionV3Inner<'a>,
+    ) -> [FormatDescriptionV3Inner<'a>; 5] {
+        [
+            FormatDescriptionV3Inner::Component(component),
+            FormatDescriptionV3Inner::BorrowedLiteral(text),
+            FormatDescriptionV3Inner::BorrowedCompound(items),
+            FormatDescriptionV3Inner::BorrowedOptional { format, item },
+            FormatDescriptionV3Inner::BorrowedFirst(items),
+        ]
+    }
+
+    // Those that own them.
+    fn v3_owned<'a>(
+        text: String,
+        items: Vec<FormatDescriptionV3Inner<'a>>,
+        format: bool,
+        item: Box<FormatDescriptionV3Inner<'a>>,
+        choice: Vec<FormatDescriptionV3Inner<'a>>,
+    ) -> [FormatDescriptionV3Inner<'a>; 4] {
+        [
+            FormatDescriptionV3Inner::OwnedLiteral(text),
+            FormatDescriptionV3Inner::OwnedCompound(items),
+            FormatDescriptionV3Inner::OwnedOptional { format, item },
+            FormatDescriptionV3Inner::OwnedFirst(choice),
+        ]
+    }
+
+    #[test]
+    fn version_3(rt: HostRuntime) {
+        let inner = FormatDescriptionV3Inner::BorrowedLiteral("-");
+        let description = FormatDescriptionV3 { inner };
+        let inner: FormatDescriptionV3Inner<'_> = description.inner;
+        assert!(rt; Parsed::new().parse_v3(b"-", &inner).is_ok());
+    }
+
+    #[test]
+    fn laws_of_trees(rt: HostRuntime) {
+        law_joined_lists();
+        law_flattened();
+        law_optional_as_first();
+        law_whole_characters();
+        law_suffix();
+        let bytes = BorrowedFormatItem::Literal(b"-");
+        let text = BorrowedFormatItem::StringLiteral("-");
+        law_equal_shapes(&bytes, &text);
+        law_read_back();
+        law_kept_readings();
+    }
+
+    #[test]
+    fn canonical_text(rt: HostRuntime) -> Result<(), Fail> {
+        let date = Date::from_calendar_date(2021, Month::January, 2)?;
+        let time = Time::from_hms_nano(3, 4, 5, 6)?;
+        let moment = OffsetDateTime::new_in_offset(date, time, UtcOffset::UTC);
+        let text: [u8; 35] = text_3339(moment);
+        assert!(rt; text == *b"2021-01-02T03:04:05.000000006+00:00");
+        Ok(())
+    }
 }

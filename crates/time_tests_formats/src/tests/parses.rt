@@ -1,0 +1,692 @@
+//! Parses of whole texts, and of the front of one.
+
+// The parse of a whole text, by each type of format.
+mod whole_parses {
+    use self::Defaults::{Epoch, FirstDay, OffsetSecond, Seconds, Signed, Stamped};
+    use crate::tests::formats::Part::{Date, Moment, Offset, Time, Utc};
+    use crate::tests::formats::{
+        Format, NO_DATE, NO_OFFSET, NO_TIME, Numbers, Part, date_items, said, said_by,
+    };
+    use crate::tests::refusals::{MISSING, MONTH, NO_SECOND, TRAILING, YEAR};
+    use std::alloc::{AllocError, Global};
+    use std::num::NonZero;
+    use std::test::Fail;
+    use time_parsing::{Items, Parsable, Rfc3339};
+    use time_readers::{
+        BorrowedFormatItem, Component, FormatDescriptionV3, FormatDescriptionV3Inner,
+        OwnedFormatItem, Padding, modifier,
+    };
+    use time_record::Parsed;
+    use time_values::Month::{January, March};
+    use time_values::error::{Parse, ParseFromDescription};
+
+    // What the defaults have.
+    #[derive(Clone, Copy)]
+    enum Defaults {
+        // A timestamp of 0, by a builder or by a setter.
+        Stamped,
+        Epoch,
+        // The first day of a year.
+        FirstDay,
+        // 15 seconds of an offset, with 7 of a time or without.
+        Seconds,
+        OffsetSecond,
+        // A negative offset of five hours, with the sign that was read.
+        Signed,
+    }
+
+    fn negative_offset() -> Option<Parsed> {
+        let mut record = Parsed::new();
+        let hour = Component::OffsetHour(modifier::OffsetHour {
+            padding: Padding::Zero,
+            sign_is_mandatory: false,
+        });
+        let rest = record.parse_component(b"-05", hour).ok()?;
+        if rest.is_empty() { Some(record) } else { None }
+    }
+
+    fn epoch() -> Option<Parsed> {
+        let mut record = Parsed::new();
+        record.set_unix_timestamp_nanos(0)?;
+        Some(record)
+    }
+
+    fn record(defaults: Defaults) -> Option<Parsed> {
+        match defaults {
+            Stamped => Parsed::new().with_unix_timestamp_nanos(0),
+            Epoch => epoch(),
+            FirstDay => Parsed::new().with_ordinal(NonZero::<u16>::new(1)?),
+            Seconds => Parsed::new().with_second(7)?.with_offset_second_signed(15),
+            OffsetSecond => Parsed::new().with_offset_second_signed(15),
+            Signed => negative_offset(),
+        }
+    }
+
+    const HALF_SECOND: Numbers = ((1970, January, 1), (0, 0, 0, 500_000_000), NO_OFFSET);
+
+    // Texts, and what each says of a part.
+    static WHOLE: [(Format, Part, &[u8], Result<Numbers, Parse>); 9] = [
+        // A moment whose day in UTC is the first of the year 10000, a leap second, and a comment behind a zone name.
+        (
+            Format::Stamp,
+            Utc,
+            b"9999-12-31T23:59:59.999999999-23:59",
+            Ok(((10_000, January, 1), (23, 58, 59, 999_999_999), NO_OFFSET)),
+        ),
+        (Format::Stamp, Time, b"1990-12-31T23:59:60Z", Err(NO_SECOND)),
+        (
+            Format::Mail,
+            Utc,
+            b"02 Jan 2021 03:04 GMT (x)",
+            Ok(((2021, January, 2), (3, 4, 0, 0), NO_OFFSET)),
+        ),
+        (
+            Format::Mail,
+            Offset,
+            b"1 Jan 2021 03:04 +2559",
+            Ok((NO_DATE, NO_TIME, (25, 59, 0))),
+        ),
+        (
+            Format::Mail,
+            Offset,
+            b"1 Jan 2021 03:04 -0030",
+            Ok((NO_DATE, NO_TIME, (0, -30, 0))),
+        ),
+        // A reference to a format takes no direct path.
+        (
+            Format::StampByReference,
+            Moment,
+            b"2021-13-01T00:00:00Z",
+            Err(MONTH),
+        ),
+        (Format::StampByReference, Utc, b"x", Err(YEAR)),
+        (Format::Stamp, Utc, b"x", Err(YEAR)),
+        (
+            Format::StampByReference,
+            Time,
+            b"1985-04-12T23:20:50.52Z",
+            Ok((NO_DATE, (23, 20, 50, 520_000_000), NO_OFFSET)),
+        ),
+    ];
+
+    #[test]
+    fn whole_parses(rt: HostRuntime) {
+        for (format, part, text, wanted) in &WHOLE {
+            let said = said(*format, *part, text, None);
+            assert!(rt; said == *wanted, "{text:?}");
+        }
+    }
+
+    // The nanoseconds since 1970 that the text says.
+    fn timestamp<F: Parsable>(format: &F, text: &[u8]) -> Option<i128> {
+        let timestamp = format.parse_timestamp(text, None).ok()?;
+        Some(timestamp.nanoseconds())
+    }
+
+    // 1985-04-12 is 15 years, 4 of them leap years, and 101 days after the start of 1970, which are 5580 days.
+    static TIMESTAMPS: [(&[u8], i128); 2] = [
+        (b"1985-04-12T23:20:50.52Z", 482_196_050_520_000_000),
+        (
+            b"9999-12-31T23:59:59.999999999-23:59",
+            253_402_387_139_999_999_999,
+        ),
+    ];
+
+    // A format and a reference to it give the same.
+    #[test]
+    fn timestamps(rt: HostRuntime) {
+        for (text, wanted) in &TIMESTAMPS {
+            let both = (timestamp(&Rfc3339, text), timestamp(&&Rfc3339, text));
+            assert!(rt; both == (Some(*wanted), Some(*wanted)), "{text:?}");
+        }
+    }
+
+    // Texts over defaults, and what each says of a part.
+    static OVER_DEFAULTS: [(Format, Part, &[u8], Defaults, Numbers); 13] = [
+        // A timestamp of the defaults counts.
+        (
+            Format::Stamp,
+            Moment,
+            b"2021-01-02T03:04:05.5Z",
+            Stamped,
+            HALF_SECOND,
+        ),
+        (
+            Format::Stamp,
+            Moment,
+            b"2021-01-02T03:04:05.5Z",
+            Epoch,
+            HALF_SECOND,
+        ),
+        (
+            Format::Stamp,
+            Date,
+            b"2021-03-04T00:00:00Z",
+            FirstDay,
+            ((2021, January, 1), NO_TIME, NO_OFFSET),
+        ),
+        // A number keeps the second of the defaults and none keeps their sign.
+        (
+            Format::Mail,
+            Time,
+            b"1 Jan 2021 03:04 GMT",
+            Seconds,
+            (NO_DATE, (3, 4, 7, 0), NO_OFFSET),
+        ),
+        (
+            Format::Mail,
+            Offset,
+            b"1 Jan 2021 03:04 +0030",
+            Seconds,
+            (NO_DATE, NO_TIME, (0, 30, 15)),
+        ),
+        (
+            Format::Mail,
+            Offset,
+            b"1 Jan 2021 03:04 GMT",
+            Seconds,
+            (NO_DATE, NO_TIME, (0, 0, 0)),
+        ),
+        (
+            Format::Mail,
+            Offset,
+            b"1 Jan 2021 03:04 +0030",
+            Signed,
+            (NO_DATE, NO_TIME, (0, 30, 0)),
+        ),
+        (
+            Format::Stamp,
+            Offset,
+            b"2021-01-02T03:04:05+00:30",
+            Signed,
+            (NO_DATE, NO_TIME, (0, 30, 0)),
+        ),
+        (
+            Format::Iso,
+            Offset,
+            b"+0030",
+            OffsetSecond,
+            (NO_DATE, NO_TIME, (0, 30, 15)),
+        ),
+        (
+            Format::Iso,
+            Offset,
+            b"03:04+01",
+            OffsetSecond,
+            (NO_DATE, NO_TIME, (1, 0, 15)),
+        ),
+        (
+            Format::Iso,
+            Offset,
+            b"Z",
+            OffsetSecond,
+            (NO_DATE, NO_TIME, (0, 0, 0)),
+        ),
+        (
+            Format::Iso,
+            Offset,
+            b"+0030",
+            Signed,
+            (NO_DATE, NO_TIME, (0, 30, 0)),
+        ),
+        (
+            Format::Iso,
+            Offset,
+            b"Z",
+            Signed,
+            (NO_DATE, NO_TIME, (0, 0, 0)),
+        ),
+    ];
+
+    #[test]
+    fn whole_parses_over_defaults(rt: HostRuntime) {
+        for (format, part, text, defaults, wanted) in &OVER_DEFAULTS {
+            let defaults = record(*defaults);
+            assert!(rt;
+                defaults.is_some() && said(*format, *part, text, defaults) == Ok(*wanted),
+                "{text:?}"
+            );
+        }
+    }
+
+    const YEAR_COMPONENT: Component = Component::CalendarYearFullStandardRange(
+        modifier::CalendarYearFullStandardRange {
+            padding: Padding::Zero,
+            sign_is_mandatory: false,
+        },
+    );
+
+    const MONTH_COMPONENT: Component = Component::MonthNumerical(modifier::MonthNumerical {
+        padding: Padding::Zero,
+    });
+
+    const DAY_COMPONENT: Component = Component::Day(modifier::Day {
+        padding: Padding::Zero,
+    });
+
+    // The format reads `2021-03-04`, and refuses bytes behind it.
+    fn reads_a_date<F: Parsable>(format: &F) -> bool {
+        let date = said_by(format, Date, b"2021-03-04", None);
+        date == Ok(((2021, March, 4), NO_TIME, NO_OFFSET))
+            && said_by(format, Date, b"2021-03-04 ", None) == Err(TRAILING)
+    }
+
+    // The items have too little for a date.
+    fn know_too_little(items: &[BorrowedFormatItem<'_>], text: &[u8]) -> bool {
+        Items(items).parse_date(text, None) == Err(MISSING)
+    }
+
+    // Each type of description, with the same items, gives the same date, and the same refusals.
+    #[test]
+    fn descriptions_alike(rt: HostRuntime) {
+        let items = date_items(YEAR_COMPONENT, BorrowedFormatItem::StringLiteral("-"));
+        let compound = BorrowedFormatItem::Compound(&items);
+        assert!(rt;
+            reads_a_date(&compound) && reads_a_date(&&compound) && reads_a_date(&Items(&items))
+        );
+        // The first three are a year and a month, and the last three a month and a day.
+        assert!(rt; know_too_little(&items[..3], b"2021-03"));
+        assert!(rt; know_too_little(&items[2..], b"03-04"));
+    }
+
+    fn owned_hyphen(alloc: Global) -> Result<OwnedFormatItem, AllocError> {
+        Ok(OwnedFormatItem::Literal(vec![in alloc; b'-']?))
+    }
+
+    fn owned_items(alloc: Global) -> Result<OwnedFormatItem, AllocError> {
+        let first = owned_hyphen(alloc)?;
+        let second = owned_hyphen(alloc)?;
+        let items = vec![in alloc;
+            OwnedFormatItem::Component(YEAR_COMPONENT),
+            first,
+            OwnedFormatItem::Component(MONTH_COMPONENT),
+            second,
+            OwnedFormatItem::Component(DAY_COMPONENT),
+        ]?;
+        Ok(OwnedFormatItem::Compound(items))
+    }
+
+    #[test]
+    fn descriptions_alike_if_owned(rt: HostRuntime) -> Result<(), Fail> {
+        let items = owned_items(rt.alloc())?;
+        assert!(rt; reads_a_date(&items));
+        Ok(())
+    }
+
+    fn version_3(alloc: Global) -> Result<FormatDescriptionV3<'static>, AllocError> {
+        let items = vec![in alloc;
+            FormatDescriptionV3Inner::Component(YEAR_COMPONENT),
+            FormatDescriptionV3Inner::BorrowedLiteral("-"),
+            FormatDescriptionV3Inner::Component(MONTH_COMPONENT),
+            FormatDescriptionV3Inner::BorrowedLiteral("-"),
+            FormatDescriptionV3Inner::Component(DAY_COMPONENT),
+        ]?;
+        Ok(FormatDescriptionV3 {
+            inner: FormatDescriptionV3Inner::OwnedCompound(items),
+        })
+    }
+
+    #[test]
+    fn descriptions_alike_in_version_3(rt: HostRuntime) -> Result<(), Fail> {
+        let description = version_3(rt.alloc())?;
+        assert!(rt; reads_a_date(&description));
+        Ok(())
+    }
+
+    const IGNORED: Parse = Parse::ParseFromDescription(ParseFromDescription::InvalidComponent(
+        "ignore",
+    ));
+
+    // Both bytes of a character.
+    const CHARACTER: &[u8] = b"\xC3\xA9";
+
+    // What a component leaves that skips a byte, and how a description of it refuses the same text.
+    fn skipped(ignore: Component) -> (Option<&'static [u8]>, Option<Parse>) {
+        let rest = Parsed::new().parse_component(CHARACTER, ignore).ok();
+        let description = FormatDescriptionV3 {
+            inner: FormatDescriptionV3Inner::Component(ignore),
+        };
+        (
+            rest,
+            description.parse_into(CHARACTER, &mut Parsed::new()).err(),
+        )
+    }
+
+    #[test]
+    fn skipped_bytes(rt: HostRuntime) -> Result<(), Fail> {
+        let count = NonZero::<u16>::new(1).ok_or("zero")?;
+        let ignore = Component::Ignore(modifier::Ignore { count });
+        assert!(rt; skipped(ignore) == (Some(&CHARACTER[1..]), Some(IGNORED)));
+        Ok(())
+    }
+}
+
+// The parse of a whole text by a description that was read from a text.
+mod described {
+    use crate::tests::formats::Part::{Date, Offset, Time};
+    use crate::tests::formats::{
+        Format, NO_DATE, NO_OFFSET, NO_TIME, Numbers, Part, date_items, described, said,
+    };
+    use crate::tests::refusals::{DAY, LITERAL, MONTH, TRAILING, YEAR};
+    use time_descriptions::Description;
+    use time_parsing::{Items, Parsable};
+    use time_readers::{BorrowedFormatItem, Component, Padding, modifier};
+    use time_record::{Parsed, Tries};
+    use time_values::Month::January;
+    use time_values::error::Parse;
+
+    const YEAR_COMPONENT: Component = Component::CalendarYearFullExtendedRange(
+        modifier::CalendarYearFullExtendedRange {
+            padding: Padding::Zero,
+            sign_is_mandatory: false,
+        },
+    );
+
+    const SECOND_OF_JANUARY: Result<Numbers, Parse> = Ok(((2021, January, 2), NO_TIME, NO_OFFSET));
+
+    // The date of the text by the items.
+    fn date_by(items: &[BorrowedFormatItem<'_>], text: &[u8]) -> Result<Numbers, Parse> {
+        let date = Items(items).parse_date(text, None)?;
+        Ok((date.to_calendar_date(), NO_TIME, NO_OFFSET))
+    }
+
+    static DATES: [(&[u8], Result<Numbers, Parse>); 6] = [
+        (b"2021-01-02", SECOND_OF_JANUARY),
+        (b"2021-13-02", Err(MONTH)),
+        (b"2021/01-02", Err(LITERAL)),
+        (b"2021-01-02x", Err(TRAILING)),
+        (b"2021-01-", Err(DAY)),
+        (b"", Err(YEAR)),
+    ];
+
+    #[test]
+    fn dates(rt: HostRuntime) {
+        let items = date_items(YEAR_COMPONENT, BorrowedFormatItem::Literal(b"-"));
+        for (text, wanted) in &DATES {
+            let by_description = said(Format::Described(b"[year]-[month]-[day]"), Date, text, None);
+            let by_items = date_by(&items, text);
+            assert!(rt;
+                (by_description, by_items) == (*wanted, *wanted),
+                "{text:?}"
+            );
+        }
+    }
+
+    const WORDED: &[u8] = b"[year], Day [day] of [month]";
+
+    const CLOCK: &[u8] = b"[hour]:[minute][optional [:[second]]]";
+
+    // Descriptions, and what a text says of a part by each.
+    static TEXTS: [(&[u8], Part, &[u8], Result<Numbers, Parse>); 10] = [
+        (WORDED, Date, b"2021, Day 02 of 01", SECOND_OF_JANUARY),
+        (WORDED, Date, b"2021, Day 02 of 13", Err(MONTH)),
+        (WORDED, Date, b"2021, Day 32 of 01", Err(DAY)),
+        (WORDED, Date, b"2021, Tag 02 of 01", Err(LITERAL)),
+        (WORDED, Date, b"2021, Da", Err(LITERAL)),
+        (WORDED, Date, b"2021, Day 02 of 01.", Err(TRAILING)),
+        (
+            CLOCK,
+            Time,
+            b"03:04",
+            Ok((NO_DATE, (3, 4, 0, 0), NO_OFFSET)),
+        ),
+        (
+            CLOCK,
+            Time,
+            b"03:04:05",
+            Ok((NO_DATE, (3, 4, 5, 0), NO_OFFSET)),
+        ),
+        (
+            b"[offset_hour sign:mandatory]:[offset_minute]",
+            Offset,
+            b"-05:30",
+            Ok((NO_DATE, NO_TIME, (-5, -30, 0))),
+        ),
+        // 11 in the second half of the day is 11 + 12.
+        (
+            b"[hour repr:12] [period case:lower]",
+            Time,
+            b"11 pm",
+            Ok((NO_DATE, (23, 0, 0, 0), NO_OFFSET)),
+        ),
+    ];
+
+    #[test]
+    fn texts(rt: HostRuntime) {
+        for (description, part, text, wanted) in &TEXTS {
+            let said = said(Format::Described(description), *part, text, None);
+            assert!(rt; said == *wanted, "{text:?}");
+        }
+    }
+
+    // How many items are tried until the text is read, where no byte of it is left.
+    fn tries_of(description: &Description<80>, text: &[u8]) -> Option<u64> {
+        let mut tries = Tries::new();
+        let rest = Parsed::new()
+            .parse_steps_counted(text, description.steps(), &mut tries)
+            .ok()?;
+        if rest.is_empty() {
+            Some(tries.count())
+        } else {
+            None
+        }
+    }
+
+    // The row, three leaves, the optional item, its list, and two leaves: 1 + 3 + 1 + 1 + 2.
+    #[test]
+    fn optional_second(rt: HostRuntime) {
+        let description = described(CLOCK).expect(&rt, "a description");
+        assert!(rt; tries_of(&description, b"03:04:05") == Some(8));
+    }
+}
+
+// Texts with a part that stands in them a hundred thousand times.
+mod long_texts {
+    use crate::tests::answers::Answer::{self, Moment, Refused};
+    use crate::tests::answers::is_answered;
+    use crate::tests::formats::{Format, NO_DATE, NO_OFFSET, Part, said};
+    use crate::tests::refusals::HOUR;
+    use std::alloc::{AllocError, Global};
+    use std::test::Fail;
+    use time_values::Month::January;
+
+    // The part so many times between a front and an end.
+    fn repeated(
+        alloc: Global,
+        front: &[u8],
+        part: &[u8],
+        end: &[u8],
+    ) -> Result<Vec<u8>, AllocError> {
+        let mut text = Vec::new(alloc);
+        text.extend_from_slice(front)?;
+        for _ in 0..100_000_u32 {
+            text.extend_from_slice(part)?;
+        }
+        text.extend_from_slice(end)?;
+        Ok(text)
+    }
+
+    const MOMENT: Answer = Moment((2021, January, 1), (3, 4, 0, 0), (0, 0));
+
+    // Parts between the year and the hour of a mail date.
+    static PARTS: [(&[u8], Answer); 3] = [
+        (b"\r\n ", MOMENT),
+        (b"(a)", MOMENT),
+        (b"(", Refused(HOUR, HOUR)),
+    ];
+
+    #[test]
+    fn long_mail_dates(rt: HostRuntime) -> Result<(), Fail> {
+        for (part, wanted) in &PARTS {
+            let text = repeated(rt.alloc(), b"1 Jan 21 ", part, b"03:04 GMT")?;
+            assert!(rt; is_answered(Format::Mail, &text, *wanted), "{part:?}");
+        }
+        Ok(())
+    }
+
+    #[test]
+    fn iso_fractions_of_many_digits(rt: HostRuntime) -> Result<(), Fail> {
+        let text = repeated(rt.alloc(), b"03:04:05,", b"4", b"")?;
+        let wanted = (NO_DATE, (3, 4, 5, 444_444_444), NO_OFFSET);
+        assert!(rt; said(Format::Iso, Part::Time, &text, None) == Ok(wanted));
+        Ok(())
+    }
+}
+
+// The moment at the front of a text, and what stands after it.
+mod front_moments {
+    use crate::tests::formats::{Format, Numbers, described, numbers};
+    use crate::tests::refusals::{DESCRIPTION, HOUR, LITERAL, MISSING, MONTH, NO_DAY};
+    use time_parsing::{Iso8601, Parsable, Rfc2822, Rfc3339};
+    use time_record::Parsed;
+    use time_values::Month::{January, March};
+    use time_values::error::Parse;
+
+    // The moment in front of the text over the defaults, and the unread rest.
+    fn front_by<'a, F: Parsable>(
+        format: &F,
+        text: &'a [u8],
+        defaults: Option<Parsed>,
+    ) -> Result<(Numbers, &'a [u8]), Parse> {
+        let (moment, rest) = format.parse_front(text, defaults)?;
+        Ok((numbers(moment), rest))
+    }
+
+    // The same by the format of that name.
+    fn front(format: Format, text: &[u8]) -> Result<(Numbers, &[u8]), Parse> {
+        match format {
+            Format::Stamp => front_by(&Rfc3339, text, None),
+            Format::StampByReference => front_by(&&Rfc3339, text, None),
+            Format::Mail => front_by(&Rfc2822, text, None),
+            Format::Iso => front_by(&Iso8601, text, None),
+            Format::Described(description) => match described(description) {
+                Some(description) => front_by(&description, text, None),
+                None => Err(DESCRIPTION),
+            },
+        }
+    }
+
+    const LOGGED: &[u8] =
+        b"[day]/[month repr:short]/[year]:[hour]:[minute]:[second] [offset_hour sign:mandatory][offset_minute]";
+
+    // A line of an access log, from after the bracket that opens its moment.
+    const LINE: &[u8] = b"02/Jan/2021:13:55:36 -0730] \"GET /pb.gif HTTP/1.0\" 200 2326";
+
+    const LINE_REST: &[u8] = b"] \"GET /pb.gif HTTP/1.0\" 200 2326";
+
+    const LINE_MOMENT: Numbers = ((2021, January, 2), (13, 55, 36, 0), (-7, -30, 0));
+
+    const MONTH_TO_MINUTE: &[u8] = b"[month]-[day]T[hour]:[minute]";
+
+    const MOMENT: Numbers = ((2021, January, 2), (3, 4, 5, 0), (6, 7, 0));
+
+    const MOMENT_IN_UTC: Numbers = ((2021, January, 2), (3, 4, 5, 0), (0, 0, 0));
+
+    type Row = (
+        Format,
+        &'static [u8],
+        Result<(Numbers, &'static [u8]), Parse>,
+    );
+
+    static FRONTS: [Row; 12] = [
+        (
+            Format::Described(LOGGED),
+            LINE,
+            Ok((LINE_MOMENT, LINE_REST)),
+        ),
+        (
+            Format::Described(LOGGED),
+            b"02/Jan/2021:24:55:36 -0730] x",
+            Err(HOUR),
+        ),
+        (
+            Format::Described(LOGGED),
+            b"02-Jan-2021 13:55:36",
+            Err(LITERAL),
+        ),
+        (
+            Format::Described(MONTH_TO_MINUTE),
+            b"01-02T03:04 start",
+            Err(MISSING),
+        ),
+        (
+            Format::Stamp,
+            b"2021-01-02T03:04:05+06:07",
+            Ok((MOMENT, b"")),
+        ),
+        (
+            Format::Stamp,
+            b"2021-01-02T03:04:05+06:07 start",
+            Ok((MOMENT, b" start")),
+        ),
+        (
+            Format::Stamp,
+            b"2021-01-02T03:04:05+06:078",
+            Ok((MOMENT, b"8")),
+        ),
+        (Format::Stamp, b"2021-13-02T03:04:05Z start", Err(MONTH)),
+        // February 2021 has 28 days.
+        (Format::Stamp, b"2021-02-29T03:04:05Z start", Err(NO_DAY)),
+        // The start of an interval, whose end stands after a solidus.
+        (
+            Format::Iso,
+            b"2021-01-02T03:04:05Z/PT1H",
+            Ok((MOMENT_IN_UTC, b"/PT1H")),
+        ),
+        (
+            Format::Iso,
+            b"20210102T030405Z/PT1H",
+            Ok((MOMENT_IN_UTC, b"/PT1H")),
+        ),
+        // A date alone, after which no time stands.
+        (Format::Iso, b"2021-01-02/PT1H", Err(MISSING)),
+    ];
+
+    #[test]
+    fn fronts(rt: HostRuntime) {
+        for (format, text, wanted) in &FRONTS {
+            assert!(rt; front(*format, text) == *wanted, "{text:?}");
+        }
+    }
+
+    // By RFC 2822, section 3.3, blanks and comments after the zone belong to the date.
+    static MAIL_DATES: [(&[u8], Result<(Numbers, &[u8]), Parse>); 3] = [
+        (
+            b"Sat, 02 (the second) Jan 2021 03:04:05 +0607 (morning) of a note",
+            Ok((MOMENT, b"of a note")),
+        ),
+        (b"2 Jan 2021 03:04:05 +0607;", Ok((MOMENT, b";"))),
+        (b"Sat, 02 Jan 2021 03.04 +0607", Err(LITERAL)),
+    ];
+
+    #[test]
+    fn mail_dates(rt: HostRuntime) {
+        for (text, wanted) in &MAIL_DATES {
+            assert!(rt; front(Format::Mail, text) == *wanted, "{text:?}");
+        }
+    }
+
+    // A reference to a format reads as the format does.
+    #[test]
+    fn front_by_reference(rt: HostRuntime) {
+        let format = described(LOGGED).expect(&rt, "a description");
+        assert!(rt; front_by(&&format, LINE, None) == Ok((LINE_MOMENT, LINE_REST)));
+    }
+
+    fn march_in_2021() -> Option<Parsed> {
+        let mut record = Parsed::new();
+        record.set_year(2021)?;
+        record.set_month(March)?;
+        record.set_offset_hour(-5)?;
+        Some(record)
+    }
+
+    // What the text omits is the default's, and what it has is its own.
+    #[test]
+    fn front_over_defaults(rt: HostRuntime) {
+        let format = described(MONTH_TO_MINUTE).expect(&rt, "a description");
+        let found = front_by(&format, b"01-02T03:04 start", march_in_2021());
+        let wanted = ((2021, January, 2), (3, 4, 0, 0), (-5, 0, 0));
+        assert!(rt; found == Ok((wanted, b" start".as_slice())));
+    }
+}

@@ -1,0 +1,405 @@
+//! Texts of RFC 3339, and a slow reader of them.
+
+// Texts of RFC 3339 with each byte at each place, beside a slow reader.
+mod fronts {
+    use super::slow_stamps::{moment, tail};
+    use crate::tests::answers::{STAMPS, both_ways};
+    use crate::tests::formats::{Format, Numbers, Part, numbers, said};
+    use time_readers::{direct, rfc3339};
+    use time_record::Parsed;
+    use time_values::error::{Parse, ParseFromDescription};
+
+    // How the places of the text refuse it.
+    fn refusal<const RANGED: bool>(text: &[u8]) -> Option<ParseFromDescription> {
+        match rfc3339::read::<RANGED>(text) {
+            Ok(_) => None,
+            Err(place) => Some(rfc3339::place_fault(place)),
+        }
+    }
+
+    // The places alone refuse the text as the slow reader does.
+    fn has_right_places(text: &[u8]) -> bool {
+        refusal::<true>(text) == tail(text, true).err()
+            && refusal::<false>(text) == tail(text, false).err()
+    }
+
+    // The moment of the text, read with no record.
+    fn directly(text: &[u8]) -> Result<Numbers, Parse> {
+        Ok(numbers(direct::rfc3339(text)?))
+    }
+
+    // The text is read as the slow reader does: directly, over an empty record, and by its places alone.
+    fn is_right(text: &[u8]) -> bool {
+        let wanted = moment(text, false);
+        let staged = said(Format::Stamp, Part::Moment, text, Some(Parsed::new()));
+        directly(text) == wanted
+            && said(Format::Stamp, Part::Moment, text, None) == wanted
+            && staged == moment(text, true)
+            && has_right_places(text)
+    }
+
+    // Whether the text is read so with each byte at that place; or a byte with which it is not.
+    fn with_each_byte(text: &[u8], place: usize) -> Result<(), u8> {
+        let mut changed = [b' '; 35];
+        let changed = changed.get_mut(..text.len()).ok_or(0)?;
+        changed.copy_from_slice(text);
+        for byte in 0..=u8::MAX {
+            *changed.get_mut(place).ok_or(byte)? = byte;
+            if !is_right(changed) {
+                return Err(byte);
+            }
+        }
+        Ok(())
+    }
+
+    // The slow reader gives the answers of the table.
+    #[test]
+    fn slow_stamps(rt: HostRuntime) {
+        for (text, wanted) in &STAMPS {
+            let said = (moment(text, false), moment(text, true));
+            assert!(rt; said == both_ways(*wanted), "{text:?}");
+        }
+    }
+
+    static WHOLE: [&[u8]; 4] = [
+        b"1985-04-12T23:20:50.52Z",
+        b"1990-12-31T23:59:60Z",
+        b"1990-12-31T15:59:60-08:00",
+        b"9999-12-31T23:59:59.999999999-23:59",
+    ];
+
+    // Where the second ends.
+    const SECOND_END: usize = 19;
+
+    #[test]
+    fn fronts(rt: HostRuntime) {
+        for text in &WHOLE {
+            for place in 0..SECOND_END {
+                let outcome = with_each_byte(text, place);
+                assert!(rt; outcome == Ok(()), "{text:?} {place} {outcome:?}");
+            }
+        }
+    }
+
+    // Texts, and what stands behind their seconds: the nanosecond, and the hours and minutes of the offset.
+    static TAILS: [(&[u8], Option<(u32, i8, i8)>); 24] = [
+        (b"2021-01-02T03:04:05Z", Some((0, 0, 0))),
+        (b"2021-01-02T03:04:05z", Some((0, 0, 0))),
+        (b"2021-01-02T03:04:05+00:00", Some((0, 0, 0))),
+        (b"2021-01-02T03:04:05+23:59", Some((0, 23, 59))),
+        (b"2021-01-02T03:04:05-00:30", Some((0, 0, -30))),
+        (b"2021-01-02T03:04:05.1Z", Some((100_000_000, 0, 0))),
+        (b"2021-01-02T03:04:05.12Z", Some((120_000_000, 0, 0))),
+        (b"2021-01-02T03:04:05.123Z", Some((123_000_000, 0, 0))),
+        (b"2021-01-02T03:04:05.1234Z", Some((123_400_000, 0, 0))),
+        (b"2021-01-02T03:04:05.12345Z", Some((123_450_000, 0, 0))),
+        (
+            b"2021-01-02T03:04:05.123456-05:30",
+            Some((123_456_000, -5, -30)),
+        ),
+        (b"2021-01-02T03:04:05.1234567Z", Some((123_456_700, 0, 0))),
+        (b"2021-01-02T03:04:05.0000000019Z", Some((1, 0, 0))),
+        (b"2021-01-02T03:04:05.Z", None),
+        (b"2021-01-02T03:04:05.123", None),
+        (b"2021-01-02T03:04:05.123:Z", None),
+        (b"2021-01-02T03:04:05.123456/Z", None),
+        (b"2021-01-02T03:04:05", None),
+        (b"2021-01-02T03:04:05,05:30", None),
+        (b"2021-01-02T03:04:05+24:00", None),
+        (b"2021-01-02T03:04:05+05:60", None),
+        (b"2021-01-02T03:04:05+05;30", None),
+        (b"2021-01-02T03:04:05+05:3", None),
+        (b"2021-01-02T03:04:05+05:30Z", None),
+    ];
+
+    // The nanosecond of the text and the hours and minutes of its offset, by the slow reader.
+    fn behind_second(text: &[u8]) -> Option<(u32, i8, i8)> {
+        let (_, (_, _, _, nanosecond), (hours, minutes, _)) = moment(text, false).ok()?;
+        Some((nanosecond, hours, minutes))
+    }
+
+    #[test]
+    fn tails(rt: HostRuntime) {
+        for (text, wanted) in &TAILS {
+            assert!(rt;
+                behind_second(text) == *wanted && is_right(text),
+                "{text:?}"
+            );
+            for place in SECOND_END..text.len() {
+                let outcome = with_each_byte(text, place);
+                assert!(rt; outcome == Ok(()), "{text:?} {place} {outcome:?}");
+            }
+        }
+    }
+}
+
+// A slow reader of RFC 3339: byte by byte over the rows of a table, with a calendar of its own.
+mod slow_stamps {
+    use crate::tests::formats::Numbers;
+    use crate::tests::refusals::{
+        NO_DAY, NO_HOUR, NO_LEAP_SECOND, NO_MINUTE, NO_MINUTES, NO_MONTH, NO_SECOND, TRAILING,
+    };
+    use time_values::Month;
+    use time_values::error::{Parse, ParseFromDescription};
+
+    const LITERAL: ParseFromDescription = ParseFromDescription::InvalidLiteral;
+
+    /// A place of a date and time, up to the second.
+    #[derive(Clone, Copy)]
+    enum Place {
+        /// Where a byte stands, and which.
+        Byte(usize, u8),
+        /// Where any byte stands, and the place's name.
+        Any(usize, &'static str),
+        /// Where digits begin and end, the least number that has the form, the least and the greatest in its range,
+        /// and the place's name.
+        Number(usize, usize, u32, u32, u32, &'static str),
+    }
+
+    static FRONT: [Place; 11] = [
+        Place::Number(0, 4, 0, 0, 9999, "year"),
+        Place::Byte(4, b'-'),
+        Place::Number(5, 7, 1, 1, 12, "month"),
+        Place::Byte(7, b'-'),
+        Place::Number(8, 10, 0, 1, 31, "day"),
+        Place::Any(10, "separator"),
+        Place::Number(11, 13, 0, 0, 23, "hour"),
+        Place::Byte(13, b':'),
+        Place::Number(14, 16, 0, 0, 59, "minute"),
+        Place::Byte(16, b':'),
+        Place::Number(17, 19, 0, 0, 60, "second"),
+    ];
+
+    // Where the last of these places ends.
+    const FRONT_END: usize = 19;
+
+    // The number that the bytes say, if each is a digit.
+    fn number(text: &[u8], begin: usize, end: usize) -> Option<u32> {
+        let mut number = 0_u32;
+        for byte in text.get(begin..end)? {
+            if *byte < b'0' || b'9' < *byte {
+                return None;
+            }
+            number = number
+                .wrapping_mul(10)
+                .wrapping_add(u32::from(byte.wrapping_sub(b'0')));
+        }
+        Some(number)
+    }
+
+    // How the place refuses the text, with its range or by its form alone.
+    fn fault_at(text: &[u8], place: Place, ranged: bool) -> Option<ParseFromDescription> {
+        let (stands, fault) = match place {
+            Place::Byte(at, byte) => (text.get(at) == Some(&byte), LITERAL),
+            Place::Any(at, name) => (
+                at < text.len(),
+                ParseFromDescription::InvalidComponent(name),
+            ),
+            Place::Number(begin, end, least_form, least, greatest, name) => {
+                let (least, greatest) = if ranged {
+                    (least, greatest)
+                } else {
+                    (least_form, 9999)
+                };
+                let stands = match number(text, begin, end) {
+                    Some(number) => least <= number && number <= greatest,
+                    None => false,
+                };
+                (stands, ParseFromDescription::InvalidComponent(name))
+            }
+        };
+        if stands { None } else { Some(fault) }
+    }
+
+    // How the first place up to the second that doesn't stand refuses the text.
+    fn front_fault(text: &[u8], ranged: bool) -> Option<ParseFromDescription> {
+        for place in &FRONT {
+            let fault = fault_at(text, *place, ranged);
+            if fault.is_some() {
+                return fault;
+            }
+        }
+        None
+    }
+
+    // The nanosecond of a fraction, of which nine digits count, and how many bytes it has. It may be missing.
+    fn fraction(text: &[u8]) -> Option<(u32, usize)> {
+        let Some((b'.', digits)) = text.split_first() else {
+            return Some((0, 0));
+        };
+        let mut nanosecond = 0_u32;
+        let mut unit = 100_000_000_u32;
+        let mut bytes = 1_usize;
+        for byte in digits {
+            if *byte < b'0' || b'9' < *byte {
+                break;
+            }
+            let digit = u32::from(byte.wrapping_sub(b'0'));
+            nanosecond = nanosecond.wrapping_add(digit.wrapping_mul(unit));
+            unit = unit / 10;
+            bytes = bytes.wrapping_add(1);
+        }
+        if bytes == 1 {
+            return None;
+        }
+        Some((nanosecond, bytes))
+    }
+
+    // The number with a minus or without.
+    fn signed(number: u32, is_negative: bool) -> i8 {
+        let number = i8::try_from(number).unwrap_or(0);
+        if is_negative {
+            number.wrapping_neg()
+        } else {
+            number
+        }
+    }
+
+    // The hours and minutes of an offset, and how many bytes it has.
+    fn offset(text: &[u8], ranged: bool) -> Result<(i8, i8, usize), ParseFromDescription> {
+        let is_negative = match text.first().copied() {
+            Some(b'Z' | b'z') => return Ok((0, 0, 1)),
+            Some(b'+') => false,
+            Some(b'-') => true,
+            _ => return Err(ParseFromDescription::InvalidComponent("offset hour")),
+        };
+        let hours = match number(text, 1, 3) {
+            Some(hours) if hours <= 23 => hours,
+            _ => return Err(ParseFromDescription::InvalidComponent("offset hour")),
+        };
+        if text.get(3) != Some(&b':') {
+            return Err(LITERAL);
+        }
+        let greatest = if ranged { 59 } else { 99 };
+        match number(text, 4, 6) {
+            Some(minutes) if minutes <= greatest => Ok((
+                signed(hours, is_negative),
+                signed(minutes, is_negative),
+                6,
+            )),
+            _ => Err(ParseFromDescription::InvalidComponent("offset minute")),
+        }
+    }
+
+    /// What stands behind the second: the nanosecond, the hours and minutes of the offset, and the unread bytes.
+    pub(super) type Tail = (u32, (i8, i8), usize);
+
+    /// The places of the text, with their ranges or by their form alone, or the refusal of the first that doesn't stand.
+    pub(super) fn tail(text: &[u8], ranged: bool) -> Result<Tail, ParseFromDescription> {
+        if let Some(fault) = front_fault(text, ranged) {
+            return Err(fault);
+        }
+        let behind = text.get(FRONT_END..).ok_or(LITERAL)?;
+        let (nanosecond, digits) = fraction(behind).ok_or(ParseFromDescription::InvalidComponent(
+            "subsecond",
+        ))?;
+        let rest = behind.get(digits..).ok_or(LITERAL)?;
+        let (hours, minutes, bytes) = offset(rest, ranged)?;
+        Ok((
+            nanosecond,
+            (hours, minutes),
+            rest.len().saturating_sub(bytes),
+        ))
+    }
+
+    static MONTHS: [(Month, u8); 12] = [
+        (Month::January, 31),
+        (Month::February, 28),
+        (Month::March, 31),
+        (Month::April, 30),
+        (Month::May, 31),
+        (Month::June, 30),
+        (Month::July, 31),
+        (Month::August, 31),
+        (Month::September, 30),
+        (Month::October, 31),
+        (Month::November, 30),
+        (Month::December, 31),
+    ];
+
+    // The month of the number, and how many days it has.
+    fn month(year: u32, number: usize) -> Option<(Month, u8)> {
+        let (month, days) = *MONTHS.get(number.checked_sub(1)?)?;
+        let is_leap = year % 4 == 0 && (year % 100 != 0 || year % 400 == 0);
+        let days = if number == 2 && is_leap { 29 } else { days };
+        Some((month, days))
+    }
+
+    // Whether in UTC the minute is the last of a month.
+    fn ends_a_month(day: u8, days: u8, hour: u8, minute: u8, (hours, minutes): (i8, i8)) -> bool {
+        let here = i32::from(hour)
+            .wrapping_mul(60)
+            .wrapping_add(i32::from(minute));
+        let offset = i32::from(hours)
+            .wrapping_mul(60)
+            .wrapping_add(i32::from(minutes));
+        match here.wrapping_sub(offset) {
+            // Of the day before, of this day, and of the next day.
+            -1 => day == 1,
+            1439 => day == days,
+            2879 => day.wrapping_add(1) == days,
+            _ => false,
+        }
+    }
+
+    // The two digits, or 0 where they don't stand.
+    fn pair(text: &[u8], begin: usize, end: usize) -> u8 {
+        match number(text, begin, end) {
+            Some(number) => u8::try_from(number).unwrap_or(0),
+            None => 0,
+        }
+    }
+
+    // The first number of a time of day that is out of its range.
+    fn clock_fault(hour: u8, minute: u8, second: u8) -> Option<Parse> {
+        if hour > 23 {
+            Some(NO_HOUR)
+        } else if minute > 59 {
+            Some(NO_MINUTE)
+        } else if second > 60 {
+            Some(NO_SECOND)
+        } else {
+            None
+        }
+    }
+
+    // The numbers of a text whose places stand, or what the calendar refuses.
+    fn dated(text: &[u8], nanosecond: u32, offset: (i8, i8)) -> Result<Numbers, Parse> {
+        let year = number(text, 0, 4).unwrap_or(0);
+        let (month, days) = month(year, usize::from(pair(text, 5, 7))).ok_or(NO_MONTH)?;
+        let day = pair(text, 8, 10);
+        if day == 0 || days < day {
+            return Err(NO_DAY);
+        }
+        let (hour, minute, second) = (pair(text, 11, 13), pair(text, 14, 16), pair(text, 17, 19));
+        if let Some(fault) = clock_fault(hour, minute, second) {
+            return Err(fault);
+        }
+        let date = (i32::try_from(year).unwrap_or(0), month, day);
+        let (hours, minutes) = offset;
+        if second < 60 {
+            return Ok((
+                date,
+                (hour, minute, second, nanosecond),
+                (hours, minutes, 0),
+            ));
+        }
+        if !ends_a_month(day, days, hour, minute, offset) {
+            return Err(NO_LEAP_SECOND);
+        }
+        Ok((date, (hour, minute, 59, 999_999_999), (hours, minutes, 0)))
+    }
+
+    /// The numbers of the moment, or how the text is refused: over an empty record, where a number out of its range has
+    /// not the form, or directly.
+    pub(super) fn moment(text: &[u8], ranged: bool) -> Result<Numbers, Parse> {
+        let (nanosecond, offset, unread) = tail(text, ranged)?;
+        if offset.1.unsigned_abs() > 59 {
+            return Err(NO_MINUTES);
+        }
+        if unread != 0 {
+            return Err(TRAILING);
+        }
+        dated(text, nanosecond, offset)
+    }
+}

@@ -1,3 +1,0 @@
-//! The examples of `README.md`, as they stand there.
-mod clock;
-mod moment;

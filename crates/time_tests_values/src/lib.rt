@@ -4,6 +4,12 @@
 #[cfg(test)]
 mod components;
 #[cfg(test)]
+mod days;
+#[cfg(test)]
+mod digits;
+#[cfg(test)]
+mod parts;
+#[cfg(test)]
 mod values;
 #[cfg(test)]
 mod zones;

@@ -1,12 +1,16 @@
-mod calling;
-mod clocks;
-mod finding;
-mod moments;
+//! Time zones: their names, what their clocks show, and the example of their page.
+ghost use Rattle.std.specs.Prelude.{IfSome};
+ghost use Rattle.time_zones.specs.Zones.{IsShownIn};
+
+mod checking;
 mod suffixes;
 
 use std::alloc::Global;
+use std::test::Fail;
 use time_values::{Date, Month, OffsetDateTime, PlainDateTime, Time};
-use time_zones::{NamedZone, NotOne, ReadFault, TimeZone, ZoneFiles, assume_zone, find_zone_in};
+use time_zones::{
+    NamedZone, NotOne, ReadFault, TimeZone, ZoneFiles, assume_zone, find_zone, find_zone_in,
+};
 
 // A year, a month, a day, an hour and a minute.
 type Minute = (i32, Month, u8, u8, u8);
@@ -99,4 +103,272 @@ impl ZoneFiles for Shelf {
 // What `TZ` asks for by this value.
 fn by_setting(alloc: Global, setting: &str) -> Option<NamedZone> {
     find_zone_in(alloc, &Shelf { alloc }, "/zones", Some(setting), "local").ok()
+}
+
+/// The first moment at which clocks of the zone show the date and time.
+fn first_moment(clock: PlainDateTime, zone: &TimeZone<'_>) -> Option<OffsetDateTime>
+    ensures { IfSome result (IsShownIn zone.now clock) }
+{
+    match assume_zone(clock, zone) {
+        Ok(moment) => Some(moment),
+        Err(NotOne::Fold { earlier, .. }) => Some(earlier),
+        Err(NotOne::Gap | NotOne::Untold) => None,
+    }
+}
+
+#[test]
+fn first_moments(rt: HostRuntime) -> Result<(), Fail> {
+    let zone = find_zone(&rt, "UTC")?;
+    let date = Date::from_calendar_date(2021, Month::March, 28)?;
+    let clock = PlainDateTime::new(date, Time::from_hms_nano(2, 30, 0, 0)?);
+    let first = first_moment(clock, &zone.time_zone());
+    assert!(rt; first == Some(clock.assume_utc()));
+    Ok(())
+}
+
+// The moments at which clocks show a date and time.
+mod clocks {
+    use super::{Answer, BERLIN, DUBLIN, LORD_HOWE, Minute, NEW_YORK, answer_of, by_setting};
+    use time_values::Month::{April, August, December, July, March, November, October};
+
+    const HOUR: i32 = 3600;
+
+    static CLOCKS: [(&str, Minute, Answer); 22] = [
+        // 12:00 - 1:00 = 11:00Z, and 12:00 - 2:00 = 10:00Z.
+        (BERLIN, (2021, December, 1, 12, 0), Answer::At(HOUR)),
+        (BERLIN, (2021, July, 1, 12, 0), Answer::At(2 * HOUR)),
+        // At 01:00Z on 28 March clocks go from 02:00 to 03:00.
+        (BERLIN, (2021, March, 28, 1, 59), Answer::At(HOUR)),
+        (BERLIN, (2021, March, 28, 2, 0), Answer::Gap),
+        (BERLIN, (2021, March, 28, 2, 30), Answer::Gap),
+        (BERLIN, (2021, March, 28, 3, 0), Answer::At(2 * HOUR)),
+        // At 01:00Z on 31 October they go from 03:00 to 02:00: 02:30 is 00:30Z and 01:30Z.
+        (BERLIN, (2021, October, 31, 1, 59), Answer::At(2 * HOUR)),
+        (
+            BERLIN,
+            (2021, October, 31, 2, 30),
+            Answer::Fold(2 * HOUR, HOUR),
+        ),
+        (BERLIN, (2021, October, 31, 3, 0), Answer::At(HOUR)),
+        // 02:30 would be 07:30Z or 06:30Z, and the clocks change at 07:00Z.
+        (NEW_YORK, (2021, March, 14, 2, 30), Answer::Gap),
+        // 01:30 + 4:00 = 05:30Z, and 01:30 + 5:00 = 06:30Z.
+        (
+            NEW_YORK,
+            (2021, November, 7, 1, 30),
+            Answer::Fold(-4 * HOUR, -5 * HOUR),
+        ),
+        (DUBLIN, (2021, March, 28, 1, 30), Answer::Gap),
+        (DUBLIN, (2021, October, 31, 1, 30), Answer::Fold(HOUR, 0)),
+        // Half an hour: 01:45 - 11:00 = 14:45Z of the day before, and 01:45 - 10:30 = 15:15Z.
+        (
+            LORD_HOWE,
+            (2021, April, 4, 1, 45),
+            Answer::Fold(11 * HOUR, 21 * HOUR / 2),
+        ),
+        (LORD_HOWE, (2021, October, 3, 2, 15), Answer::Gap),
+        // A table whose clocks went half an hour back: 23:45 - 9:00 = 14:45Z, and 23:45 - 8:30 = 15:15Z.
+        (
+            "Asia/Pyongyang",
+            (2015, August, 14, 23, 45),
+            Answer::Fold(9 * HOUR, 17 * HOUR / 2),
+        ),
+        (
+            "Asia/Pyongyang",
+            (2015, August, 14, 12, 0),
+            Answer::At(9 * HOUR),
+        ),
+        (
+            "Asia/Pyongyang",
+            (2021, July, 1, 12, 0),
+            Answer::At(17 * HOUR / 2),
+        ),
+        // This rule's daylight saving time ends an hour before it begins, at 01:00Z and 02:00Z of 1 March: clocks go
+        // back from 02:00 to 01:00, and on from 02:00 to 03:00.
+        ("XXX0YYY,J60,J60", (2021, July, 1, 12, 0), Answer::At(HOUR)),
+        (
+            "XXX0YYY,J60,J60",
+            (2021, March, 1, 1, 30),
+            Answer::Fold(HOUR, 0),
+        ),
+        ("XXX0YYY,J60,J60", (2021, March, 1, 2, 30), Answer::Gap),
+        ("", (2021, March, 28, 2, 30), Answer::At(0)),
+    ];
+
+    #[test]
+    fn clocks_of_zones(rt: HostRuntime) {
+        for (setting, minute, wanted) in &CLOCKS {
+            let found = match by_setting(rt.alloc(), setting) {
+                Some(zone) => answer_of(&zone.time_zone(), *minute),
+                None => None,
+            };
+            assert!(rt; found == Some(*wanted), "{setting}");
+        }
+    }
+
+    // No zone tells of the years past 9999, nor of their last day but one from 22:00Z on.
+    static ENDS: [(Minute, Answer); 5] = [
+        ((9999, December, 30, 12, 0), Answer::At(HOUR)),
+        ((9999, December, 30, 23, 0), Answer::At(HOUR)),
+        ((9999, December, 30, 23, 1), Answer::Untold),
+        ((9999, December, 31, 23, 59), Answer::Untold),
+        ((10000, July, 1, 12, 0), Answer::Untold),
+    ];
+
+    #[test]
+    fn ends_of_what_is_told(rt: HostRuntime) {
+        let zone = by_setting(rt.alloc(), BERLIN);
+        for (minute, wanted) in &ENDS {
+            let found = match &zone {
+                Some(zone) => answer_of(&zone.time_zone(), *minute),
+                None => None,
+            };
+            assert!(rt; found == Some(*wanted));
+        }
+    }
+}
+
+// What clocks show at moments.
+mod moments {
+    use super::{BERLIN, Minute, NEW_YORK, by_setting, clock, utc};
+    use time_values::Month::{January, July, March, October};
+    use time_zones::{TimeZone, checked_to_zone, offset_at};
+
+    const HOUR: i32 = 3600;
+
+    // Moments in UTC, and the offsets then.
+    static OFFSETS: [(&str, Minute, Option<i32>); 8] = [
+        (BERLIN, (2021, March, 28, 0, 59), Some(HOUR)),
+        (BERLIN, (2021, March, 28, 1, 0), Some(2 * HOUR)),
+        (BERLIN, (2021, October, 31, 0, 59), Some(2 * HOUR)),
+        (BERLIN, (2021, October, 31, 1, 0), Some(HOUR)),
+        (NEW_YORK, (2021, July, 1, 12, 0), Some(-4 * HOUR)),
+        (":UTC", (2021, July, 1, 12, 0), Some(0)),
+        (BERLIN, (10000, January, 1, 0, 0), None),
+        (BERLIN, (-10000, January, 1, 0, 0), None),
+    ];
+
+    fn offset_then(zone: &TimeZone<'_>, minute: Minute) -> Option<i32> {
+        Some(offset_at(zone, utc(minute)?)?.whole_seconds())
+    }
+
+    #[test]
+    fn offsets(rt: HostRuntime) {
+        for (setting, minute, wanted) in &OFFSETS {
+            let found = match by_setting(rt.alloc(), setting) {
+                Some(zone) => Some(offset_then(&zone.time_zone(), *minute)),
+                None => None,
+            };
+            assert!(rt; found == Some(*wanted), "{setting}");
+        }
+    }
+
+    // Moments in UTC, and what clocks show then: 12:00 + 2:00 = 14:00, and 02:00 - 5:00 = 21:00 of the day before.
+    static SHOWN: [(&str, Minute, Minute); 2] = [
+        (BERLIN, (2021, July, 1, 12, 0), (2021, July, 1, 14, 0)),
+        (
+            NEW_YORK,
+            (2021, January, 2, 2, 0),
+            (2021, January, 1, 21, 0),
+        ),
+    ];
+
+    // Clocks of the zone show that then.
+    fn is_shown(zone: &TimeZone<'_>, minute: Minute, shown: Minute) -> Option<bool> {
+        let moment = checked_to_zone(utc(minute)?, zone)?;
+        let shown = clock(shown)?;
+        Some(moment.date() == shown.date() && moment.time() == shown.time())
+    }
+
+    #[test]
+    fn moments_in_zones(rt: HostRuntime) {
+        for (setting, minute, shown) in &SHOWN {
+            let found = match by_setting(rt.alloc(), setting) {
+                Some(zone) => is_shown(&zone.time_zone(), *minute, *shown),
+                None => None,
+            };
+            assert!(rt; found == Some(true), "{setting}");
+        }
+    }
+}
+
+// Zones by their names.
+mod finding {
+    use super::{BERLIN, Shelf};
+    use std::alloc::{AllocError, Global};
+    use time_zones::{find_zone, find_zone_in};
+
+    // Values of `TZ`, names, and what is found: the name of a zone, or what the refusal says.
+    static FOUND: [(Option<&str>, &str, &str); 14] = [
+        (None, "UTC", "UTC"),
+        (None, "Asia/Pyongyang", "Asia/Pyongyang"),
+        (None, "local", "there is no time zone file /etc/localtime"),
+        (Some(""), "local", "UTC"),
+        (Some("Asia/Pyongyang"), "local", "Asia/Pyongyang"),
+        (Some(":Asia/Pyongyang"), "local", "Asia/Pyongyang"),
+        (Some(":/zones/Asia/Pyongyang"), "local", "no name"),
+        (Some("/zones/Asia/Pyongyang"), "local", "no name"),
+        (Some(BERLIN), "local", "no name"),
+        (Some(BERLIN), "UTC", "UTC"),
+        (
+            None,
+            "Asia/Pyongjang",
+            "there is no time zone file /zones/Asia/Pyongjang",
+        ),
+        (None, "Asia", "the name is that of a folder of time zones"),
+        (
+            None,
+            "Locked",
+            "the time zone file cannot be read: permission denied",
+        ),
+        (None, "tab", "invalid TZif data: the header is not valid"),
+    ];
+
+    // What is found, as a text.
+    fn found(alloc: Global, setting: Option<&str>, name: &str) -> Result<String, AllocError> {
+        match find_zone_in(alloc, &Shelf { alloc }, "/zones", setting, name) {
+            Ok(zone) => String::from_str(alloc, zone.time_zone().iana_name().unwrap_or("no name")),
+            Err(fault) => fault.to_string(alloc),
+        }
+    }
+
+    #[test]
+    fn zones_by_name(rt: HostRuntime) -> Result<(), AllocError> {
+        for (setting, name, wanted) in &FOUND {
+            let found = found(rt.alloc(), *setting, name)?;
+            assert!(rt; found.as_str() == *wanted, "{name}: {found}");
+        }
+        Ok(())
+    }
+
+    // Names that would leave the folder, or that have an empty part.
+    static REFUSED: [&str; 9] = [
+        "",
+        "/etc/passwd",
+        "..",
+        "../zone",
+        "Asia/../zone",
+        "Asia/.",
+        "Asia/",
+        "Asia//Seoul",
+        "./Asia",
+    ];
+
+    const REASON: &str = "the name of a time zone has no `.` or `..` and no slash at an end";
+
+    #[test]
+    fn names_that_leave_the_folder(rt: HostRuntime) -> Result<(), AllocError> {
+        for name in &REFUSED {
+            let found = found(rt.alloc(), None, name)?;
+            assert!(rt; found.as_str() == REASON, "{name}");
+        }
+        Ok(())
+    }
+
+    #[test]
+    fn files_of_the_system(rt: HostRuntime) {
+        assert!(rt; find_zone(&rt, "UTC").is_ok());
+        assert!(rt; find_zone(&rt, "Nowhere/At_All").is_err());
+        assert!(rt; find_zone(&rt, "../etc/passwd").is_err());
+    }
 }

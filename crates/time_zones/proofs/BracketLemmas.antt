@@ -1,7 +1,9 @@
 -- What stands in front of a text: brackets, a key, a sign.
-use Rattle.std.proofs.Common.{◌≡◌, ◌≢◌, ℕ, Bool, true, false, List, [], ◌∷◌, ◌++◌, take, drop, refl, sym, ap, subst, ◌∙◌, append_assoc, arith, take-append-drop, inl, inr}
+use Rattle.std.proofs.Common.{◌≡◌, ◌≢◌, ℕ, zero, suc, Bool, true, false, List, [], ◌∷◌, ◌++◌, take, drop, refl, sym, ap, subst, ◌∙◌, append_assoc, arith, take-append-drop, inl, inr}
+use Rattle.std.specs.Prelude.{pos, neg_ℤ, unsigned_abs}
 use Rattle.std.specs.List.{AllPass, prefix_len}
 use Rattle.std.proofs.lemmas.Bool.{false≢true}
+use Rattle.time_values.specs.Offsets.{offset_seconds}
 use Rattle.time_values.specs.declared.utc_offset.UtcOffset.{UtcOffset}
 use Rattle.time_zones.proofs.PassLemmas.{head_passes, cut_once, left_of_cut, front_of_cut, front_passes, word_passes, or_left}
 use Rattle.time_zones.specs.Suffix.{is_key_initial, is_key_char, IsHourMinute, IsNumOffset, IsSuffixKey, AreSuffixValues, flagged, bracketed}
@@ -33,6 +35,18 @@ pub no_offset : (text time : List ℕ) (sign : ℕ) → text ≡ sign ∷ time �
 no_offset text time sign e none o h =
     let same : h.time ≡ time = elim h.signed [ inl p ↦ let q = p.0 in cc | inr p ↦ let q = p.0 in cc ] in
     none h.seconds (subst (λ t. IsHourMinute t h.seconds) same h.is_time)
+
+abs_negated : (n : ℕ) → unsigned_abs (neg_ℤ (pos n)) ≡ n
+abs_negated zero = refl
+abs_negated (suc n) = refl
+
+-- what no text tells, since it has seconds or a day or more
+pub untold_offset : (o : UtcOffset) (n : ℕ) → n ≡ unsigned_abs (offset_seconds o) → ((time : List ℕ) → IsHourMinute time n → ⊥)
+    → (text : List ℕ) → IsNumOffset text o → ⊥
+untold_offset o n e none text h =
+    let size : unsigned_abs (offset_seconds o) ≡ h.seconds =
+    elim h.signed [ inl p ↦ ap unsigned_abs p.1 | inr p ↦ ap unsigned_abs p.1 ∙ abs_negated h.seconds ] in
+    none h.time (subst (IsHourMinute h.time) (sym (e ∙ size)) h.is_time)
 
 bracketed_front : (c : Bool) (x r : List ℕ) → bracketed c x ++ r ≡ 91 ∷ flagged c (x ++ 93 ∷ r)
 bracketed_front true x r = ap (λ t. 91 ∷ 33 ∷ t) (append_assoc x (93 ∷ []) r)

@@ -9,3 +9,5 @@ pub mod SuffixTextLemmas
 pub mod SuffixLemmas
 pub mod LongestLemmas
 pub mod SuffixNameLemmas
+pub mod FolderLemmas
+pub mod CheckingLemmas

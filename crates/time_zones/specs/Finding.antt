@@ -1,5 +1,5 @@
 -- What is found of a zone in files, over what reading a file gives.
-use Rattle.std.specs.Prelude.{◌≡◌, ℕ, List, ◌∷◌, ◌++◌, Option, Some, None, Result, Ok, Err, string_bytes}
+use Rattle.std.specs.Prelude.{◌≡◌, ℕ, List, ◌∷◌, ◌++◌, Option, Some, None, Result, Ok, Err, codes, string_bytes}
 use Rattle.jiff_core.specs.declared.error.Error.TheVariants.{Tzif as TzifError}
 use Rattle.jiff_tz.specs.Tzif.{tzif_view, tzif_name, RuleAgrees, IsParseFailure}
 use Rattle.jiff_tz.specs.TzifReader.{read_tzif}
@@ -28,6 +28,12 @@ IsZoneOf (Named.Table table) Zone.Unknown = ⊥
 IsZoneOf (Named.Table table) (Zone.Fixed offset) = ⊥
 IsZoneOf (Named.Table table) (Zone.Posix rule) = ⊥
 IsZoneOf (Named.Table table) (Zone.Tzif z) = z.now ≡ table
+
+-- the name of a zone, if it has one
+abbrev pub name_of : NamedZone → Option (List ℕ)
+name_of Named.Utc = Some (codes "UTC")
+name_of (Named.Rule rule) = None
+name_of (Named.Table table) = tzif_name table
 
 -- the bytes that were read are this table
 pub record HasTable (Gives : Giving) (path : List ℕ) (name : Option (List ℕ)) (table : Table) : Type 0 where

@@ -6,4 +6,6 @@ pub mod Suffix
 pub mod SuffixFronts
 pub mod SuffixValues
 pub mod Finding
+pub mod Folder
+pub mod Checking
 pub mod Texts

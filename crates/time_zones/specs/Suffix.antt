@@ -138,6 +138,11 @@ abbrev pub IsLongest : List ℕ → ℕ → Type 0
 IsLongest text len = (n : ℕ) (zone : Option ZoneTag) (tags : List Tag) → n ≤ length text
     → IsSuffix (take n text) zone tags → n ≤ len
 
+-- what is written of a zone is a suffix of that zone, with no tags
+abbrev pub WrittenIsSuffix : Type 0
+WrittenIsSuffix = (text : List ℕ) (z : Zone) → IsZoneText text z
+    → IsSuffix (bracketed false text) (Some (record { is_critical = false; zone = z })) []
+
 -- a text is a suffix in one way
 abbrev pub OneSuffix : Type 0
 OneSuffix = (text : List ℕ) (zone zone' : Option ZoneTag) (tags tags' : List Tag) → IsSuffix text zone tags

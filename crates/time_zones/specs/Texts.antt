@@ -1,5 +1,7 @@
 -- What refusals print.
 use Rattle.std.specs.Prelude.{ℕ, List, ◌++◌, Option, Some, None, codes, string_bytes}
+use Rattle.time_zones.specs.declared.checking.SuffixFault.{SuffixFault}
+use Rattle.time_zones.specs.declared.checking.SuffixFault.TheVariants as Suffix
 use Rattle.time_zones.specs.declared.clocks.NotOne.{NotOne}
 use Rattle.time_zones.specs.declared.clocks.NotOne.TheVariants.{Gap, Fold, Untold}
 use Rattle.time_zones.specs.declared.zone_fault.ZoneFault.{ZoneFault}
@@ -10,6 +12,13 @@ abbrev pub not_one_text : NotOne → List ℕ
 not_one_text Gap = codes "clocks of the time zone leave out this date and time"
 not_one_text (Fold earlier later) = codes "clocks of the time zone show this date and time more than once"
 not_one_text Untold = codes "no time zone tells of this date and time"
+
+-- of a suffix that doesn't go with its moment
+abbrev pub suffix_fault_text : SuffixFault → List ℕ
+suffix_fault_text Suffix.CriticalKey = codes "a key of its suffix is critical, and not known"
+suffix_fault_text Suffix.UnknownZone = codes "there is no time zone of the name in its suffix"
+suffix_fault_text Suffix.OtherOffset = codes "the time zone in its suffix has another offset then"
+suffix_fault_text Suffix.Untold = codes "no time zone tells of that time"
 
 -- of a zone that wasn't found; the reason of an unreadable or a malformed file is the kit's
 abbrev pub fault_text : ZoneFault → Option (List ℕ)

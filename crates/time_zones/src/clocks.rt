@@ -54,8 +54,8 @@ pub fn checked_to_zone(moment: OffsetDateTime, zone: &TimeZone<'_>) -> Option<Of
     Some(moment.to_offset(offset))
 }
 
-// Whether the offsets are the same.
-fn is_same(a: UtcOffset, b: UtcOffset) -> bool
+/// Whether the offsets are the same.
+pub(crate) fn is_same(a: UtcOffset, b: UtcOffset) -> bool
     ensures { IsTrue result ↔ (offset_seconds a ≡ offset_seconds b) }
 {
     a.whole_seconds() == b.whole_seconds()

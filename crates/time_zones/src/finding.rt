@@ -1,6 +1,6 @@
 //! Zones by their names, each from its own file.
 ghost use Rattle.std.specs.Prelude.{◌≡◌, ◌≢◌, ◌↔◌, Ok, Err, Some, None, option_map, string_bytes, codes, IfOk, IfErr, ◌++◌, ◌∷◌};
-ghost use Rattle.time_zones.specs.Finding.{IsZoneOf, ReadsTo, IsFoundAt, IsFound};
+ghost use Rattle.time_zones.specs.Finding.{IsZoneOf, ReadsTo, IsFoundAt, IsFound, name_of};
 ghost use Rattle.time_zones.specs.Names.{IsZoneName};
 
 use crate::files::{Disk, ReadFault, ZoneFiles};
@@ -35,6 +35,17 @@ impl NamedZone {
             NamedZone::Utc => TimeZone::UTC,
             NamedZone::Rule(rule) => TimeZone::Posix(*rule),
             NamedZone::Table(table) => TimeZone::Tzif(table),
+        }
+    }
+
+    /// Its name, if it is UTC or was found by its name in a folder of zones.
+    pub fn name(&self) -> Option<&str>
+        ensures { option_map (λ name. name.now) result ≡ name_of self.now }
+    {
+        match self {
+            NamedZone::Utc => Some("UTC"),
+            NamedZone::Rule(_) => None,
+            NamedZone::Table(table) => table.name(),
         }
     }
 }
@@ -72,8 +83,8 @@ fn path_below(alloc: Global, folder: &str, name: &str) -> Result<String, AllocEr
     Ok(path)
 }
 
-// The zone of what is asked for.
-fn find_at<F: ZoneFiles>(
+/// The zone of what is asked for.
+pub(crate) fn find_at<F: ZoneFiles>(
     alloc: Global,
     files: &F,
     folder: &str,
@@ -137,8 +148,8 @@ fn setting_for<R: Env + AllocGlobal>(rt: &R, name: &str) -> Result<Option<String
     }
 }
 
-// The folder that `TZDIR` names, or else the usual one.
-fn folder<R: Env + AllocGlobal>(rt: &R) -> Result<String, ZoneFault>
+/// The folder that `TZDIR` names, or else the usual one.
+pub(crate) fn folder<R: Env + AllocGlobal>(rt: &R) -> Result<String, ZoneFault>
     ensures { IfErr result (λ fault. fault ≢ ZoneFault.NotAName) }
 {
     match variable(rt, "TZDIR")? {

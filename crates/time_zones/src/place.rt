@@ -38,8 +38,8 @@ fn is_zone_name(name: &str) -> bool
     is_part(rest)
 }
 
-// What a name asks for.
-fn named(name: &str) -> Option<Place<'_>>
+/// What a name asks for.
+pub(crate) fn named(name: &str) -> Option<Place<'_>>
     ensures { AsksFor name.now result }
 {
     if name == "UTC" {

@@ -8,9 +8,11 @@ ghost use Rattle.time_zones.specs.SuffixFronts.{BeginsBracketed, BeginsWithZone,
 ghost use Rattle.time_zones.specs.SuffixValues.{Says, zone_of, zone_tag_of};
 
 mod texts;
+mod writing;
 
 use texts::{after, is_zone_char, is_zone_name, key_of, offset_of};
 use time_values::UtcOffset;
+pub use writing::write_suffix;
 
 /// How a suffix tells the zone.
 #[derive(Clone, Copy, Debug, PartialEq, Eq)]

@@ -1,0 +1,107 @@
+//! Whether a suffix goes with the moment that it stands behind.
+ghost use Rattle.std.specs.Prelude.{◌≡◌, option_map};
+ghost use Rattle.time_values.specs.Moments.{offset_of};
+ghost use Rattle.time_values.specs.Offsets.{offset_seconds};
+ghost use Rattle.jiff_tz.specs.Zone as Zone;
+ghost use Rattle.time_zones.specs.Checking.{compared, HasItsOffset, GoesWithZone, GoesWith};
+ghost use Rattle.time_zones.specs.SuffixValues.{zone_of, zone_tag_of};
+
+use crate::clocks::{has_zone_offset, is_same};
+use crate::suffix::{Suffixed, ZoneText};
+use crate::zones::Zones;
+use jiff_tz::TimeZone;
+use std::fmt;
+use time_values::{OffsetDateTime, UtcOffset};
+
+/// Why a suffix refuses the moment that it stands behind.
+#[derive(Clone, Copy, Debug, PartialEq, Eq)]
+pub enum SuffixFault {
+    /// One of its tags is critical, and no key is known.
+    CriticalKey,
+    /// There is no zone of its name.
+    UnknownZone,
+    /// The moment has another offset than its zone.
+    OtherOffset,
+    /// No zone tells of the moment: it lies before the year -9999 or after 9999, or within a day of either end.
+    Untold,
+}
+
+impl fmt::Display for SuffixFault {
+    ghost use Rattle.std.specs.Prelude.{Some};
+    ghost use Rattle.time_zones.specs.Texts.{suffix_fault_text};
+
+    ghost output = { λ fault. Some (suffix_fault_text fault) };
+
+    fn fmt<W: fmt::Write>(&self, f: &mut fmt::Formatter<W>) -> fmt::Result {
+        f.write_str(match self {
+            SuffixFault::CriticalKey => "a key of its suffix is critical, and not known",
+            SuffixFault::UnknownZone => "there is no time zone of the name in its suffix",
+            SuffixFault::OtherOffset => "the time zone in its suffix has another offset then",
+            SuffixFault::Untold => "no time zone tells of that time",
+        })
+    }
+}
+
+impl std::error::Error for SuffixFault {}
+
+// Whether the moment has that offset.
+fn check_fixed(moment: OffsetDateTime, offset: UtcOffset) -> Result<(), SuffixFault>
+    ensures { result ≡ compared (offset_seconds (offset_of moment)) (offset_seconds offset) }
+{
+    if is_same(moment.offset(), offset) {
+        return Ok(());
+    }
+    Err(SuffixFault::OtherOffset)
+}
+
+// Whether the moment has the offset of the zone.
+fn check_zone(moment: OffsetDateTime, zone: &TimeZone<'_>) -> Result<(), SuffixFault>
+    ensures { HasItsOffset moment (Zone.offset_at zone.now) result }
+{
+    match has_zone_offset(moment, zone) {
+        Some(true) => Ok(()),
+        Some(false) => Err(SuffixFault::OtherOffset),
+        None => Err(SuffixFault::Untold),
+    }
+}
+
+// Whether the moment goes with the zone of a suffix.
+fn check_told(
+    zone: ZoneText<'_>,
+    moment: OffsetDateTime,
+    tells_offset: bool,
+    zones: &Zones,
+) -> Result<(), SuffixFault>
+    ensures { GoesWithZone zones.now tells_offset moment (zone_of zone.entry) result }
+{
+    match zone {
+        ZoneText::Name(name) => match zones.get(name) {
+            Some(zone) if tells_offset => check_zone(moment, &zone),
+            Some(_) => Ok(()),
+            None => Err(SuffixFault::UnknownZone),
+        },
+        ZoneText::Offset(offset) if tells_offset => check_fixed(moment, offset),
+        ZoneText::Offset(_) => Ok(()),
+    }
+}
+
+/// Whether the suffix goes with the moment, by RFC 9557, sections 3.3, 3.4 and 4.1: none of its keys is critical, since none is known,
+/// its zone is one of these, and the moment has the zone's offset. `Z` and `-00:00` say nothing of a zone's offset: behind
+/// them `tells_offset` is false, and a zone of any offset goes with the moment.
+pub fn check_suffix(
+    suffix: &Suffixed<'_>,
+    moment: OffsetDateTime,
+    tells_offset: bool,
+    zones: &Zones,
+) -> Result<(), SuffixFault>
+    ensures { GoesWith zones.now tells_offset moment (option_map zone_tag_of suffix.now.zone)
+        (option_map (λ key. key.now) suffix.now.critical_key) result }
+{
+    if suffix.critical_key.is_some() {
+        return Err(SuffixFault::CriticalKey);
+    }
+    match suffix.zone {
+        Some(tag) => check_told(tag.zone, moment, tells_offset, zones),
+        None => Ok(()),
+    }
+}

@@ -2,7 +2,7 @@
 
 Each zone is tried at, one second before and one second after each transition of its file, and at random moments, also
 past the last transition, where the rule of the file goes on. So are the dates and times that its clocks leave out or
-show twice there, by each `--fold`.
+show twice there, by each `--fold`, and times of RFC 9557 with its name.
 """
 import datetime
 import struct
@@ -118,7 +118,46 @@ def on_clocks(rng, tally, command, name):
         answers(tally, "zones", [*command, "-f", READ, "--in", name, "--fold", fold, "-t", SHOWN, "-q"], lines, wanted)
 
 
+def offset_text(seconds):
+    """An offset of whole minutes by RFC 3339."""
+    size = abs(seconds)
+    return "Z" if not seconds else f"{'-' if seconds < 0 else '+'}{size // 3600:02}:{size // 60 % 60:02}"
+
+
+def with_suffix(rng, second, moment, name):
+    """A text of RFC 9557, and what it becomes as a number of seconds: itself where it is refused."""
+    clock, offset = moment.replace(tzinfo=None).isoformat(), int(moment.utcoffset().total_seconds())
+    other = next(it for it in (offset + 900, offset - 900) if abs(it) < 86_400)
+    utc = f"{(EPOCH + second * SECOND).replace(tzinfo=None).isoformat()}{rng.choice(['Z', 'z', '-00:00'])}"
+    text, key = f"{clock}{offset_text(offset)}", rng.choice(["u-ca=gregory", "_a=b-c"])
+    read = [f"{text}[{name}]", f"{text}[!{name}]", f"{text}[{name}][{key}]", f"{text}[{key}]", text, f"{utc}[{name}]",
+            f"{text}[{'+00:00' if offset == 0 else offset_text(offset)}]"]
+    refused = [f"{text}[{name}X]", f"{text}[!{name}][!{key}]", f"{text}[{name}", f"{text}[{name}] ",
+               f"{clock}{offset_text(other) if other else '+00:00'}[{name}]"]
+    chosen = rng.choice(read + refused)
+    return chosen, chosen if chosen in refused else str(second)
+
+
+def suffixed(rng, tally, command, name):
+    """Times of RFC 9557 in the zone, written and read."""
+    zone, seconds, written, read = zoneinfo.ZoneInfo(name), [], [], []
+    for second in moments(rng, name):
+        try:
+            moment = (EPOCH + second * SECOND).astimezone(zone)
+        except OverflowError:
+            continue
+        offset = int(moment.utcoffset().total_seconds())
+        if offset % 60 == 0 and moment.year >= 1000:
+            seconds.append(b"%d" % second)
+            written.append(f"{moment.replace(tzinfo=None).isoformat()}{offset_text(offset)}[{name}]")
+            read.append(with_suffix(rng, second, moment, name))
+    read.append((f"2021-01-01T00:00:00Z is a line that is refused as a whole, and no short one [{name}]",) * 2)
+    answers(tally, "zones", [*command, "-f", "unix", "-z", name, "-t", "rfc9557"], seconds, written)
+    answers(tally, "zones", [*command, "-f", "rfc9557", "-t", "unix", "-q"], [it.encode() for it, _ in read], [it for _, it in read])
+
+
 def programs(rng, tally, command):
     for name in next_zones(5 if isinstance(tally, Cases) else MOST):
         in_zone(rng, tally, command, name)
         on_clocks(rng, tally, command, name)
+        suffixed(rng, tally, command, name)

@@ -8,8 +8,8 @@ _restamp_zones() {
 _restamp() {
     local word=${COMP_WORDS[COMP_CWORD]} before=${COMP_WORDS[COMP_CWORD - 1]} words=
     case $before in
-        -f | --from) words='rfc3339 rfc2822 iso8601 unix unix-ms unix-us unix-ns common syslog' ;;
-        -t | --to) words='rfc3339 rfc2822 iso8601 unix unix-ms unix-us unix-ns' ;;
+        -f | --from) words='rfc3339 rfc9557 rfc2822 iso8601 unix unix-ms unix-us unix-ns common syslog' ;;
+        -t | --to) words='rfc3339 rfc9557 rfc2822 iso8601 unix unix-ms unix-us unix-ns' ;;
         -z | --zone) words="keep utc local $(_restamp_zones)" ;;
         --in) words="local $(_restamp_zones)" ;;
         --fold) words='earlier later refuse' ;;
@@ -43,7 +43,7 @@ _restamp() {
     local folder=${TZDIR:-/usr/share/zoneinfo}
     zones=(local)
     [[ -r $folder/tzdata.zi ]] && zones+=($(awk '$1 == "Z" { print $2 } $1 == "L" { print $3 }' $folder/tzdata.zi))
-    writes=(rfc3339 rfc2822 iso8601 unix unix-ms unix-us unix-ns)
+    writes=(rfc3339 rfc9557 rfc2822 iso8601 unix unix-ms unix-us unix-ns)
     reads=($writes common syslog)
     _arguments -s \
         '(-l --front)'{-l,--front}'[the line begins with the time]' \
@@ -84,7 +84,7 @@ _restamp "$@"
 "#;
 
 const FISH: &str = r#"# Completions of restamp for fish.
-set -l writes rfc3339 rfc2822 iso8601 unix unix-ms unix-us unix-ns
+set -l writes rfc3339 rfc9557 rfc2822 iso8601 unix unix-ms unix-us unix-ns
 function __restamp_zones
     printf '%s\n' local
     set -l folder /usr/share/zoneinfo

@@ -33,8 +33,10 @@ pub data Fault : Type 0 where
   field : List ℕ → Fault
   delimiter : List ℕ → Fault
   from : List ℕ → naming.Fault → Fault
+  zones : List ℕ → ZoneFault → Fault
   lacking : List ℕ → Lack → Fault
   to : List ℕ → naming.Fault → Fault
+  unnamed : List ℕ → Fault
   year : List ℕ → Fault
   offset : List ℕ → Fault
   local : List ℕ → ZoneFault → Fault
@@ -58,8 +60,10 @@ told fault.Memory = memory
 told (fault.Field value) = field value.now
 told (fault.Delimiter value) = delimiter value.now
 told (fault.From value why) = from value.now (naming.fault_of why)
+told (fault.Zones value why) = zones value.now why
 told (fault.Lacking value lack) = lacking value.now lack
 told (fault.To value why) = to value.now (naming.fault_of why)
+told (fault.Unnamed value) = unnamed value.now
 told (fault.Year value) = year value.now
 told (fault.Offset value) = offset value.now
 told (fault.In value why) = local value.now why
@@ -83,8 +87,10 @@ place_of memory = None
 place_of (field value) = Some (codes "--field <N>", value)
 place_of (delimiter value) = Some (codes "--delimiter <BYTE>", value)
 place_of (from value why) = Some (codes "--from <FORMAT>", value)
+place_of (zones value why) = Some (codes "--from <FORMAT>", value)
 place_of (lacking value lack) = Some (codes "--from <FORMAT>", value)
 place_of (to value why) = Some (codes "--to <FORMAT>", value)
+place_of (unnamed value) = Some (codes "--to <FORMAT>", value)
 place_of (year value) = Some (codes "--year <YEAR>", value)
 place_of (offset value) = Some (codes "--offset <OFFSET>", value)
 place_of (local value why) = Some (codes "--in <ZONE>", value)
@@ -108,8 +114,10 @@ why_text memory = Some (codes "out of memory")
 why_text (field value) = Some (codes "it is not a number from 1 to 18446744073709551615")
 why_text (delimiter value) = Some (codes "it is not one byte")
 why_text (from value why) = naming.fault_text why
+why_text (zones value why) = fault_text why
 why_text (lacking value lack) = Some (lack_text lack)
 why_text (to value why) = naming.fault_text why
+why_text (unnamed value) = Some (codes "--zone gives it no name and no offset of whole minutes")
 why_text (year value) = Some (codes "it is not a year from -999999 to 999999")
 why_text (offset value) = Some (codes "it is no offset such as +05:30")
 why_text (local value why) = fault_text why

@@ -11,6 +11,9 @@ use Rattle.restamp_place.specs.declared.fields.Fields.TheVariants.{Delimited, Bl
 use Rattle.restamp_verdict.specs.Lack.{format_lack, takes}
 use Rattle.restamp_verdict.specs.Naming as naming
 use Rattle.restamp_verdict.specs.Naming.{Means, MeansWriting, meaning_of, way_of}
+use Rattle.restamp_verdict.specs.declared.form.Named.TheVariants.{Rfc3339}
+use Rattle.restamp_verdict.specs.declared.form.Writing.{Writing}
+use Rattle.restamp_verdict.specs.declared.form.Writing.TheVariants.{Named}
 use Rattle.restamp_verdict.specs.declared.job.Job.{Job}
 use Rattle.restamp_verdict.specs.declared.lack.Part.{Part}
 use Rattle.restamp_verdict.specs.declared.lack.Part.TheVariants as part
@@ -18,9 +21,12 @@ use Rattle.restamp_verdict.specs.declared.local.Fold.{Fold}
 use Rattle.restamp_verdict.specs.declared.local.Fold.TheVariants.{Refuse}
 use Rattle.restamp_verdict.specs.declared.reading.Defaults.{Defaults}
 use Rattle.restamp_verdict.specs.declared.reading.Reading.{Reading}
+use Rattle.restamp_verdict.specs.declared.reading.Reading.TheVariants as reading
 use Rattle.restamp_options.specs.Options.{other_names, text_behind}
 use Rattle.restamp_options.specs.declared.options.Options.{Options}
+use Rattle.restamp_stream.specs.declared.settings.Output.{Output}
 use Rattle.restamp_stream.specs.declared.settings.Output.TheVariants.{AllLines, RewrittenLines, Times}
+use Rattle.restamp_stream.specs.declared.settings.Reports.{Reports}
 use Rattle.restamp_stream.specs.declared.settings.Reports.TheVariants.{Quiet, First}
 use Rattle.restamp_stream.specs.declared.settings.Settings.{Settings}
 use Rattle.time_values.specs.Offsets.{IsUtc}
@@ -30,13 +36,14 @@ use Rattle.time_values.specs.declared.utc_offset.UtcOffset.{UtcOffset}
 use Rattle.restamp_command.specs.Fault as fault
 use Rattle.restamp_command.specs.Fault.{Fault, NoMoment, seen_none}
 use Rattle.restamp_command.specs.Values.{delimiter_of, digits_of, fold_of, shows_of, IsNumber, IsPositive, IsOffsetText, IsYear, IsMomentText}
-use Rattle.restamp_command.specs.Zones.{AreDefaultsOf, ComesOf, IsZone, IsNoZone, IsClockOf}
+use Rattle.restamp_command.specs.Zones.{AreDefaultsOf, ComesOf, IsZone, IsNoZone, IsClockOf, IsSuffixOf, HasNoSuffix}
 use Rattle.restamp_command.specs.declared.fault.NoMoment as declared
 use Rattle.restamp_command.specs.declared.request.Request.{Request}
 use Rattle.restamp_command.specs.declared.style.Style.{Style}
 use Rattle.restamp_command.specs.declared.zone.Given.{Given}
 use Rattle.restamp_command.specs.declared.zone.Local.{Local}
 use Rattle.restamp_command.specs.declared.zone.Local.TheVariants as local
+use Rattle.restamp_command.specs.declared.zone.Zone.{Zone}
 
 -- a place in a line, without where its texts lie in memory, or any place
 pub data Where : Type 0 where
@@ -89,10 +96,20 @@ gives_year o = is_some o.year || is_some o.latest
 abbrev pub gives_offset : Options → Bool
 gives_offset o = is_some o.offset || is_some o.local
 
+-- A name is that of RFC 9557, whose zones are those of the system. What its files hold no contract tells.
+abbrev pub is_zoned : List ℕ → Bool
+is_zoned name = bytes_eq name (codes "rfc9557")
+
+abbrev pub IsZoned : Reading → Type 0
+IsZoned (reading.Zoned zones) = Unit {0}
+IsZoned format = ⊥
+
 -- The format that has that name, or that the text describes. Some text says a moment by it, where a year is given or
 -- isn't.
 abbrev pub IsFormat : Bool → List ℕ → Reading → Type 0
-IsFormat has_year name format = Means (way_of name) (meaning_of format) × (format_lack has_year format ≡ None)
+IsFormat has_year name format =
+    MatchBool (is_zoned name) (IsZoned format)
+    (Means (way_of name) (meaning_of format) × (format_lack has_year format ≡ None))
 
 -- A list got the formats of those names, one after the other.
 abbrev pub AddsFormats : Bool → List (List ℕ) → List Reading → List Reading → Type 0
@@ -110,12 +127,15 @@ abbrev pub IsOneOf : List (List ℕ) → List ℕ → Type 0
 IsOneOf [] text = ⊥
 IsOneOf (name ∷ names) text = (text ≡ name) ⊎ IsOneOf names text
 
--- One of the texts is no format, for that reason, or a format that lacks something; or memory was short.
+-- One of the texts is no format, for that reason, one whose zones can't be read, or a format that lacks something; or
+-- memory was short.
 abbrev pub IsFormatFault : Bool → List (List ℕ) → Fault → Type 0
 IsFormatFault has_year names fault.memory = Unit {0}
-IsFormatFault has_year names (fault.from value why) = IsOneOf names value × naming.IsFault (way_of value) why
+IsFormatFault has_year names (fault.from value why) =
+    IsOneOf names value × (is_zoned value ≡ false) × naming.IsFault (way_of value) why
+IsFormatFault has_year names (fault.zones value why) = IsOneOf names value × (is_zoned value ≡ true)
 IsFormatFault has_year names (fault.lacking value lack) =
-    IsOneOf names value
+    IsOneOf names value × (is_zoned value ≡ false)
     × ((format : Reading) × Means (way_of value) (meaning_of format) × (format_lack has_year format ≡ Some lack))
 IsFormatFault has_year names f = ⊥
 
@@ -170,11 +190,32 @@ HasNoUse o p =
 abbrev pub zone_of : Options → List ℕ
 zone_of o = if o.utc then codes "utc" else o.zone.now
 
+-- The format that times are written by. RFC 9557 is RFC 3339 with a suffix.
+abbrev pub IsWriting : List ℕ → Writing → Type 0
+IsWriting name writing =
+    MatchBool (is_zoned name) (writing ≡ Named Rfc3339) (MeansWriting name writing)
+
+-- The suffix of times in a zone by the format of that name.
+abbrev pub IsSuffixBy : List ℕ → Zone → List ℕ → Type 0
+IsSuffixBy name zone bytes = MatchBool (is_zoned name) (IsSuffixOf zone bytes) (bytes ≡ [])
+
 -- How a time is written.
 pub record IsStyle (Y : ℕ) (o : Options) (style : Style) : Type 0 where
-  pub writing : MeansWriting o.to.now style.writing
+  pub writing : IsWriting o.to.now style.writing
   pub digits : digits_of o.digits.now ≡ Some style.digits
   pub zone : IsZone Y (zone_of o) style.zone
+  pub suffix : IsSuffixBy o.to.now style.zone style.suffix.items
+
+-- A zone has no suffix, though one is asked for, or memory was short.
+abbrev pub IsSuffixFault : List ℕ → Zone → Fault → Type 0
+IsSuffixFault name zone fault.memory = Unit {0}
+IsSuffixFault name zone (fault.unnamed value) = (value ≡ name) × (is_zoned name ≡ true) × HasNoSuffix zone
+IsSuffixFault name zone f = ⊥
+
+-- RFC 9557 is asked for, and the zone that is given has no suffix.
+abbrev pub IsUnnamed : ℕ → Options → Type 0
+IsUnnamed Y o =
+    (is_zoned o.to.now ≡ true) × ((zone : Zone) × IsZone Y (zone_of o) zone × HasNoSuffix zone)
 
 -- the bound that a text's moment is
 abbrev pub bound_of : List ℕ → Result OffsetDateTime NoMoment → Result (Option OffsetDateTime) (List ℕ × NoMoment)
@@ -219,14 +260,18 @@ AreBounds Y now o first others given bounds =
 abbrev pub AreColors : Options → Bool → Bool → Type 0
 AreColors o is_terminal shows = shows_of o.color.now is_terminal ≡ Some shows
 
--- How the lines of files are answered.
-abbrev pub AreSettings : Options → Settings → Type 0
-AreSettings o settings =
-    (n : ℕ) × IsNumber o.errors.now (Some n) × (settings ≡ record {
-      output = if o.only then Times else (if o.drop_refused then RewrittenLines else AllLines);
-      reports = if o.quiet then Quiet else First n;
-      strict = o.strict && not o.keep_going;
-    })
+-- which lines go out
+abbrev pub output_of : Options → Output
+output_of o = if o.only then Times else (if o.drop_refused then RewrittenLines else AllLines)
+
+-- the work stops at the first refused line
+abbrev pub stops : Options → Bool
+stops o = o.strict && not o.keep_going
+
+-- Which refused lines are named.
+abbrev pub AreReports : Options → Reports → Type 0
+AreReports o reports =
+    (n : ℕ) × IsNumber o.errors.now (Some n) × (reports ≡ (if o.quiet then Quiet else First n))
 
 -- a slash stands in a text
 abbrev pub has_slash : List ℕ → Bool
@@ -244,7 +289,9 @@ pub record Asks (Y : ℕ) (now : Option UtcDateTime) (o : Options) (is_terminal 
   pub given : IsGiven Y now o r.first r.others.items r.given
   pub style : IsStyle Y o r.style
   pub bounds : AreBounds Y now o r.first r.others.items r.given (r.since, r.until)
-  pub settings : AreSettings o r.settings
+  pub output : r.output ≡ output_of o
+  pub reports : AreReports o r.reports
+  pub stops : r.stops ≡ stops o
   pub shows_lines : AreColors o is_terminal r.shows_lines
   pub strict : r.strict ≡ o.strict
   pub in_place : IsSuffix o (text_behind r.in_place)
@@ -270,9 +317,13 @@ IsFault Y o (fault.field value) = (text_behind o.field ≡ Some value) × IsPosi
 IsFault Y o (fault.delimiter value) = (value ≡ o.delimiter.now) × (delimiter_of value ≡ None)
 IsFault Y o (fault.from value why) =
     IsFormatFault (gives_year o) (o.from.now ∷ other_names o) (fault.from value why)
+IsFault Y o (fault.zones value why) =
+    IsFormatFault (gives_year o) (o.from.now ∷ other_names o) (fault.zones value why)
 IsFault Y o (fault.lacking value lack) =
     IsFormatFault (gives_year o) (o.from.now ∷ other_names o) (fault.lacking value lack)
-IsFault Y o (fault.to value why) = (value ≡ o.to.now) × naming.IsWritingFault value why
+IsFault Y o (fault.to value why) =
+    (value ≡ o.to.now) × (is_zoned value ≡ false) × naming.IsWritingFault value why
+IsFault Y o (fault.unnamed value) = (value ≡ o.to.now) × IsUnnamed Y o
 IsFault Y o (fault.year value) = (text_behind o.year ≡ Some value) × IsYear Y value None
 IsFault Y o (fault.offset value) = (text_behind o.offset ≡ Some value) × IsOffsetText Y value None
 IsFault Y o (fault.local value why) = (text_behind o.local ≡ Some value) × ComesOf value (Err why)
@@ -296,6 +347,13 @@ IsFaultAt Y now o (fault.latest value why) = IsNoLatest Y now o value why
 IsFaultAt Y now o (fault.since value why) = IsNoBound Y now o (text_behind o.since) value why
 IsFaultAt Y now o (fault.until value why) = IsNoBound Y now o (text_behind o.until) value why
 IsFaultAt Y now o f = IsFault Y o f
+
+-- The lines of files are answered as a request asks for.
+pub record AreSettingsOf (r : Request) (s : Settings) : Type 0 where
+  pub output : s.output ≡ r.output
+  pub suffix : s.suffix.now ≡ r.style.suffix.items
+  pub reports : s.reports ≡ r.reports
+  pub strict : s.strict ≡ r.stops
 
 -- A job does what a request asks for.
 pub record IsJobOf (r : Request) (job : Job) : Type 0 where

@@ -1,10 +1,11 @@
 -- The zones that options name. `Y` is the greatest year.
-use Rattle.std.specs.Prelude.{◌≡◌, ◌≢◌, ◌↔◌, ℕ, List, codes, false, MatchBool, Option, None, Some, MatchOption, Result, Ok, Err}
+use Rattle.std.specs.Prelude.{◌≡◌, ◌≢◌, ◌↔◌, ℕ, List, codes, false, MatchBool, Option, None, Some, MatchOption, option_map, Result, Ok, Err}
 use Rattle.std.specs.Str.{bytes_eq}
 use Rattle.time_values.specs.Offsets.{IsUtc}
 use Rattle.time_values.specs.declared.utc_offset.UtcOffset.{UtcOffset}
-use Rattle.time_zones.specs.Finding.{IsZoneOf}
+use Rattle.time_zones.specs.Finding.{IsZoneOf, name_of}
 use Rattle.time_zones.specs.Names.{IsZoneName}
+use Rattle.time_zones.specs.Suffix as Suffix
 use Rattle.time_zones.specs.declared.finding.NamedZone.{NamedZone}
 use Rattle.time_zones.specs.declared.finding.NamedZone.TheVariants.{Utc}
 use Rattle.time_zones.specs.declared.zone_fault.ZoneFault.{ZoneFault}
@@ -52,6 +53,21 @@ abbrev pub IsNoZone : ℕ → List ℕ → ZoneFault → Type 0
 IsNoZone Y text why =
     (bytes_eq text (codes "keep") ≡ false) × (bytes_eq text (codes "utc") ≡ false)
     × IsOffsetText Y text None × ComesOf text (Err why)
+
+-- what a suffix tells of a zone, by its name or its offset
+abbrev pub told_zone : Zone → Option Suffix.Zone
+told_zone kind.Keep = None
+told_zone (kind.Fixed offset) = Some (Suffix.at_offset offset)
+told_zone (kind.Named named) = option_map Suffix.named (name_of named)
+
+-- The suffix that a zone has, and that no text is one.
+abbrev pub IsSuffixOf : Zone → List ℕ → Type 0
+IsSuffixOf zone bytes =
+    (z : Suffix.Zone) × (text : List ℕ) × (told_zone zone ≡ Some z) × Suffix.IsZoneText text z
+    × (bytes ≡ Suffix.bracketed false text)
+
+abbrev pub HasNoSuffix : Zone → Type 0
+HasNoSuffix zone = (bytes : List ℕ) → IsSuffixOf zone bytes → ⊥
 
 -- the clock of a named zone
 abbrev pub IsClockIn : NamedZone → Clock → Type 0

@@ -41,10 +41,14 @@ pub enum Fault<'a> {
     Delimiter(&'a str),
     /// `--from` takes a format's name, or a description.
     From(&'a str, FormatFault<'a>),
+    /// `--from rfc9557` takes the zones of the system, which can't be read.
+    Zones(&'a str, ZoneFault),
     /// `--from` takes a format by which some text says a moment.
     Lacking(&'a str, Lack),
     /// `--to` takes the name of a format that times are written by, or a description.
     To(&'a str, FormatFault<'a>),
+    /// `--to rfc9557` takes a zone that has a name or an offset, by `--zone`.
+    Unnamed(&'a str),
     /// `--year` takes a year from -999999 to 999999.
     Year(&'a str),
     /// `--offset` takes an offset.
@@ -89,8 +93,10 @@ impl<'a> Fault<'a> {
             Fault::Field(value) => Some(("--field <N>", value)),
             Fault::Delimiter(value) => Some(("--delimiter <BYTE>", value)),
             Fault::From(value, _) => Some(("--from <FORMAT>", value)),
+            Fault::Zones(value, _) => Some(("--from <FORMAT>", value)),
             Fault::Lacking(value, _) => Some(("--from <FORMAT>", value)),
             Fault::To(value, _) => Some(("--to <FORMAT>", value)),
+            Fault::Unnamed(value) => Some(("--to <FORMAT>", value)),
             Fault::Year(value) => Some(("--year <YEAR>", value)),
             Fault::Offset(value) => Some(("--offset <OFFSET>", value)),
             Fault::In(value, _) => Some(("--in <ZONE>", value)),
@@ -120,8 +126,12 @@ impl fmt::Display for Fault<'_> {
             Fault::Field(_) => write!(f, "it is not a number from 1 to 18446744073709551615"),
             Fault::Delimiter(_) => write!(f, "it is not one byte"),
             Fault::From(_, why) => write!(f, "{why}"),
+            Fault::Zones(_, why) => write!(f, "{why}"),
             Fault::Lacking(_, lack) => write!(f, "{lack}"),
             Fault::To(_, why) => write!(f, "{why}"),
+            Fault::Unnamed(_) => {
+                write!(f, "--zone gives it no name and no offset of whole minutes")
+            }
             Fault::Year(_) => write!(f, "it is not a year from -999999 to 999999"),
             Fault::Offset(_) => write!(f, "it is no offset such as +05:30"),
             Fault::In(_, why) => write!(f, "{why}"),

@@ -8,6 +8,8 @@ ghost use Rattle.restamp_command.specs.Request as spec;
 use crate::fault::Fault;
 use restamp_options::Options;
 use restamp_verdict::{Reading, find_reading};
+use std::rt::{Env, Files};
+use time_zones::find_zones;
 
 /// Whether a year is given for times that say none.
 pub(crate) fn gives_year(options: &Options<'_, '_>) -> bool
@@ -16,11 +18,21 @@ pub(crate) fn gives_year(options: &Options<'_, '_>) -> bool
     options.year.is_some() || options.latest.is_some()
 }
 
-// The format of that name, which lacks nothing.
-fn find_format<'a>(name: &'a str, has_year: bool) -> Result<Reading, Fault<'a>>
+// The format of that name, which lacks nothing. That of RFC 9557 has the zones of the system.
+fn find_format<'a, R: Env + Files + AllocGlobal + Clone + Drop>(
+    rt: &R,
+    name: &'a str,
+    has_year: bool,
+) -> Result<Reading, Fault<'a>>
     ensures { MatchResult result (λ format. spec.IsFormat has_year name.now format)
         (λ fault. spec.IsFormatFault has_year (name.now ∷ []) (told fault)) }
 {
+    if name == "rfc9557" {
+        return match find_zones(rt) {
+            Ok(zones) => Ok(Reading::Zoned(zones)),
+            Err(why) => Err(Fault::Zones(name, why)),
+        };
+    }
     let format = match find_reading(name.as_bytes()) {
         Ok(format) => format,
         Err(why) => return Err(Fault::From(name, why)),
@@ -42,15 +54,19 @@ pub(crate) fn other_names<'m, 'a>(options: &Options<'m, 'a>) -> &'m [&'a str]
 }
 
 /// The first format.
-pub(crate) fn find_first<'a>(options: &Options<'_, 'a>) -> Result<Reading, Fault<'a>>
+pub(crate) fn find_first<'a, R: Env + Files + AllocGlobal + Clone + Drop>(
+    rt: &R,
+    options: &Options<'_, 'a>,
+) -> Result<Reading, Fault<'a>>
     ensures { MatchResult result (λ first. spec.IsFormat (spec.gives_year options.now) options.now.from.now first)
         (λ fault. spec.IsFault greatest_year options.now (told fault)) }
 {
-    find_format(options.from, gives_year(options))
+    find_format(rt, options.from, gives_year(options))
 }
 
 /// Adds the formats of those names, where a year is given or isn't.
-pub(crate) fn add_formats<'a>(
+pub(crate) fn add_formats<'a, R: Env + Files + AllocGlobal + Clone + Drop>(
+    rt: &R,
     names: &[&'a str],
     has_year: bool,
     formats: &mut Vec<Reading>,
@@ -60,12 +76,11 @@ pub(crate) fn add_formats<'a>(
     ensures err { IfErr result
         (λ fault. spec.IsFormatFault has_year (map (λ name. name.now) names.now) (told fault)) }
 {
-    let [name, others @ ..] = names else {
-        return Ok(());
-    };
-    let format = find_format(name, has_year)?;
-    if formats.push(format).is_err() {
-        return Err(Fault::Memory);
+    for name in names {
+        let format = find_format(rt, name, has_year)?;
+        if formats.push(format).is_err() {
+            return Err(Fault::Memory);
+        }
     }
-    add_formats(others, has_year, formats)
+    Ok(())
 }

@@ -39,8 +39,12 @@ pub struct Request<'a> {
     pub since: Option<OffsetDateTime>,
     /// Drops lines whose time isn't before.
     pub until: Option<OffsetDateTime>,
-    /// How the lines of files are answered.
-    pub settings: Settings,
+    /// Which lines go out.
+    pub output: Output,
+    /// Which refused lines are named.
+    pub reports: Reports,
+    /// Whether the work stops at the first refused line.
+    pub stops: bool,
     /// Shows refused lines below their reasons, in colours.
     pub shows_lines: bool,
     /// Whether a refused line is a failure, and a line with no place for a time is refused.
@@ -236,29 +240,38 @@ fn find_given<'a, R: Env + Files + AllocGlobal>(
     }
 }
 
-// How the lines of files are answered.
-fn find_settings<'a>(options: &Options<'_, 'a>) -> Result<Settings, Fault<'a>>
-    ensures { MatchResult result (λ settings. spec.AreSettings options.now settings)
+// Which lines go out.
+fn output_of(options: &Options<'_, '_>) -> Output
+    ensures { result ≡ spec.output_of options.now }
+{
+    if options.only {
+        Output::Times
+    } else if options.drop_refused {
+        Output::RewrittenLines
+    } else {
+        Output::AllLines
+    }
+}
+
+// Whether the work stops at the first refused line.
+fn stops(options: &Options<'_, '_>) -> bool
+    ensures { result ≡ spec.stops options.now }
+{
+    options.strict && !options.keep_going
+}
+
+// Which refused lines are named.
+fn find_reports<'a>(options: &Options<'_, 'a>) -> Result<Reports, Fault<'a>>
+    ensures { MatchResult result (λ reports. spec.AreReports options.now reports)
         (λ fault. spec.IsFault greatest_year options.now (told fault)) }
 {
     let Some(errors) = find_number(options.errors) else {
         return Err(Fault::Errors(options.errors));
     };
-    Ok(Settings {
-        output: if options.only {
-            Output::Times
-        } else if options.drop_refused {
-            Output::RewrittenLines
-        } else {
-            Output::AllLines
-        },
-        reports: if options.quiet {
-            Reports::Quiet
-        } else {
-            Reports::First(errors)
-        },
-        strict: options.strict && !options.keep_going,
-    })
+    if options.quiet {
+        return Ok(Reports::Quiet);
+    }
+    Ok(Reports::First(errors))
 }
 
 // The suffix of the backups of files that are to be replaced.
@@ -312,14 +325,14 @@ fn find_bounds<'a>(
 
 impl<'a> Request<'a> {
     /// What the options ask for. Where `--color` is `auto`, colours are shown if reports go to a terminal. A zone that they
-    /// name is read from its file. The clock shows `now`, or `None` out of its range, which counts only where a bound is
+    /// name is read from its file, and for the format `rfc9557` all zones of the system are. The clock shows `now`, or `None` out of its range, which counts only where a bound is
     /// a word.
     ///
     /// # Errors
     ///
     /// An option that doesn't take its value, or that memory is short.
     #[tactic(auto, using(crate::proofs::FormatLemmas::fault_at))]
-    pub fn new<R: Env + Files + AllocGlobal>(
+    pub fn new<R: Env + Files + AllocGlobal + Clone + Drop>(
         rt: &R,
         options: &Options<'_, 'a>,
         is_terminal: bool,
@@ -329,13 +342,13 @@ impl<'a> Request<'a> {
             (λ fault. spec.IsFaultAt greatest_year now options.now (told fault)) }
     {
         let place = find_place(options)?;
-        let settings = find_settings(options)?;
+        let reports = find_reports(options)?;
         let in_place = find_in_place(options)?;
         let shows_lines = find_colors(options, is_terminal)?;
-        let first = find_first(options)?;
+        let first = find_first(rt, options)?;
         let mut others = Vec::new(rt.alloc());
         let names = other_names(options);
-        if let Err(fault) = add_formats(names, gives_year(options), &mut others) {
+        if let Err(fault) = add_formats(rt, names, gives_year(options), &mut others) {
             return Err(fault);
         }
         let given = match find_given(rt, options, now, &first, others.as_slice()) {
@@ -358,11 +371,25 @@ impl<'a> Request<'a> {
             style,
             since,
             until,
-            settings,
+            output: output_of(options),
+            reports,
+            stops: stops(options),
             shows_lines,
             strict: options.strict,
             in_place,
         })
+    }
+
+    /// How the lines of files are answered.
+    pub fn settings(&self) -> Settings<'_>
+        ensures { spec.AreSettingsOf self.now result }
+    {
+        Settings {
+            output: self.output,
+            suffix: self.style.suffix.as_slice(),
+            reports: self.reports,
+            strict: self.stops,
+        }
     }
 
     /// What is done with each line.

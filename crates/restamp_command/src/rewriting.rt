@@ -10,9 +10,10 @@ ghost use Rattle.restamp_stream.specs.Causes.{faults_of, HasWriteCause};
 ghost use Rattle.restamp_stream.specs.Fates.{WritesReason};
 ghost use Rattle.restamp_stream.specs.Files.{DidFiles, StoppedIn};
 ghost use Rattle.restamp_stream.specs.Streams.{state_of};
+ghost use Rattle.restamp_stream.specs.declared.settings.Settings.{Settings as Settings_};
 ghost use Rattle.restamp_verdict.specs.Reason.{seen};
 ghost use Rattle.restamp_verdict.specs.declared.job.Job.{Job as Job_};
-ghost use Rattle.restamp_command.specs.Request.{IsJobOf};
+ghost use Rattle.restamp_command.specs.Request.{AreSettingsOf, IsJobOf};
 ghost use Rattle.restamp_command.specs.Rewriting.{IsFate, IsReason, TellsWrong};
 ghost use Rattle.restamp_command.specs.Zones.{zone_name};
 
@@ -122,16 +123,16 @@ pub fn serve<W: Sink, L: Sink, O: Opening>(
     stream: &mut Stream<W, L>,
     block: &mut Block,
 ) -> Result<(), Stop>
-    ensures ok { (job : Job_) × IsJobOf request.now job
+    ensures ok { (job : Job_) × (settings : Settings_) × IsJobOf request.now job × AreSettingsOf request.now settings
         × OnOk result (DidFiles (IsFate greatest_year job) (IsReason greatest_year job (zone_name request.now.given.local) request.now.shows_lines)
-        request.now.settings
+        settings
         (O.bytes_of opening.old) (O.faults opening.old) (O.faults opening.new)
         (state_of W.contents L.contents stream.old) (state_of W.contents L.contents stream.new)
         (map (λ name. name.now) names.now)) }
     ensures unread { IfErr result (λ stop. stop ≢ Stop.Unread) }
-    ensures refused { (job : Job_) × IsJobOf request.now job
+    ensures refused { (job : Job_) × (settings : Settings_) × IsJobOf request.now job × AreSettingsOf request.now settings
         × IfErr result (λ stop. stop ≡ Stop.Refused →
-        StoppedIn (IsFate greatest_year job) (IsReason greatest_year job (zone_name request.now.given.local) request.now.shows_lines) request.now.settings
+        StoppedIn (IsFate greatest_year job) (IsReason greatest_year job (zone_name request.now.given.local) request.now.shows_lines) settings
         (O.bytes_of opening.old) (O.faults opening.old) (O.faults opening.new)
         (state_of W.contents L.contents stream.old) (state_of W.contents L.contents stream.new)
         (map (λ name. name.now) names.now)) }
@@ -142,7 +143,7 @@ pub fn serve<W: Sink, L: Sink, O: Opening>(
         zone: request.given.local.zone_name(),
         shows_lines: request.shows_lines,
     };
-    stream.serve_files(&rewriting, request.settings, names, opening, block)
+    stream.serve_files(&rewriting, request.settings(), names, opening, block)
 }
 
 /// Replaces a file by what its lines become as it is asked for, unless no time of it is rewritten. The log is given back,
@@ -157,10 +158,10 @@ pub fn replace<F: Folder, L: Sink + Drop>(
     log: L,
     block: &mut Block,
 ) -> (L, Tally, Result<Made, Unreplaced<Stop>>)
-    ensures { (job : Job_) × IsJobOf request.now job
+    ensures { (job : Job_) × (settings : Settings_) × IsJobOf request.now job × AreSettingsOf request.now settings
         × IfSome (F.events folder.old) (λ before. Replaces
         (Makes (job_of (IsFate greatest_year job) (IsReason greatest_year job (zone_name request.now.given.local) request.now.shows_lines)
-        target.entry.shown.now request.now.settings) (L.contents log) (L.contents result.0) result.1)
+        target.entry.shown.now settings) (L.contents log) (L.contents result.0) result.1)
         before (F.events folder.new) target.entry.name.now (option_map (λ second. second.now) target.entry.backup) result.2) }
 {
     let shows_lines = request.shows_lines;
@@ -171,7 +172,7 @@ pub fn replace<F: Folder, L: Sink + Drop>(
     };
     replace_file(
         &rewriting,
-        request.settings,
+        request.settings(),
         target,
         folder,
         alloc,

@@ -1,6 +1,7 @@
 //! How the options ask for times to be written.
-ghost use Rattle.std.specs.Prelude.{◌≡◌, MatchResult};
+ghost use Rattle.std.specs.Prelude.{◌≡◌, MatchResult, false};
 ghost use Rattle.time_values.specs.Range.{greatest_year};
+ghost use Rattle.restamp_verdict.specs.Naming.{IsWritingFault, fault_of};
 ghost use Rattle.restamp_command.specs.Fault.{told};
 ghost use Rattle.restamp_command.specs.Request as spec;
 
@@ -8,9 +9,11 @@ use crate::fault::Fault;
 use crate::values::find_digits;
 use crate::zone::{Zone, find_shown};
 use restamp_options::Options;
-use restamp_verdict::{Writing, find_writing};
+use restamp_verdict::{FormatFault, Named, Writing, find_writing};
+use std::alloc::Global;
 use std::rt::{Env, Files};
 use time_writing::FractionDigits;
+use time_zones::write_suffix;
 
 /// How a time is written.
 #[derive(Drop)]
@@ -21,6 +24,8 @@ pub struct Style {
     pub digits: FractionDigits,
     /// The zone in which the time is shown.
     pub zone: Zone,
+    /// What stands behind each time: by RFC 9557 the zone in brackets, and else nothing.
+    pub suffix: Vec<u8>,
 }
 
 // The zone that is given.
@@ -28,6 +33,35 @@ fn zone_of<'a>(options: &Options<'_, 'a>) -> &'a str
     ensures { result.now ≡ spec.zone_of options.now }
 {
     if options.utc { "utc" } else { options.zone }
+}
+
+// The format of that name that times are written by.
+fn find_format<'a>(name: &'a str) -> Result<Writing, FormatFault<'a>>
+    ensures { MatchResult result (λ writing. spec.IsWriting name.now writing)
+        (λ fault. (spec.is_zoned name.now ≡ false) × IsWritingFault name.now (fault_of fault)) }
+{
+    if name == "rfc9557" {
+        return Ok(Writing::Named(Named::Rfc3339));
+    }
+    find_writing(name.as_bytes())
+}
+
+// The suffix of times in the zone by the format of that name.
+fn find_suffix<'a>(alloc: Global, name: &'a str, zone: &Zone) -> Result<Vec<u8>, Fault<'a>>
+    ensures { MatchResult result (λ suffix. spec.IsSuffixBy name.now zone.now suffix.items)
+        (λ fault. spec.IsSuffixFault name.now zone.now (told fault)) }
+{
+    if name != "rfc9557" {
+        return Ok(Vec::new(alloc));
+    }
+    let Some(text) = zone.text() else {
+        return Err(Fault::Unnamed(name));
+    };
+    match write_suffix(alloc, text) {
+        Ok(Some(suffix)) => Ok(suffix),
+        Ok(None) => Err(Fault::Unnamed(name)),
+        Err(_) => Err(Fault::Memory),
+    }
 }
 
 /// How a time is written.
@@ -38,7 +72,7 @@ pub(crate) fn find_style<'a, R: Env + Files + AllocGlobal>(
     ensures { MatchResult result (λ style. spec.IsStyle greatest_year options.now style)
         (λ fault. spec.IsFault greatest_year options.now (told fault)) }
 {
-    let writing = match find_writing(options.to.as_bytes()) {
+    let writing = match find_format(options.to) {
         Ok(writing) => writing,
         Err(why) => return Err(Fault::To(options.to, why)),
     };
@@ -50,9 +84,14 @@ pub(crate) fn find_style<'a, R: Env + Files + AllocGlobal>(
     let Some(digits) = find_digits(options.digits) else {
         return Err(Fault::Digits(options.digits));
     };
+    let suffix = match find_suffix(rt.alloc(), options.to, &zone) {
+        Ok(suffix) => suffix,
+        Err(fault) => return Err(fault),
+    };
     Ok(Style {
         writing,
         digits,
         zone,
+        suffix,
     })
 }

@@ -1,13 +1,14 @@
 //! The zones that options name.
-ghost use Rattle.std.specs.Prelude.{◌≡◌, MatchResult};
+ghost use Rattle.std.specs.Prelude.{◌≡◌, MatchResult, option_map};
 ghost use Rattle.time_values.specs.Range.{greatest_year};
+ghost use Rattle.time_zones.specs.SuffixValues.{zone_of};
 ghost use Rattle.restamp_command.specs.Zones as spec;
 
 use crate::values::find_offset;
 use restamp_verdict::{Clock, Clocks, Defaults, Fold};
 use std::rt::{Env, Files};
 use time_values::{OffsetDateTime, UtcOffset};
-use time_zones::{NamedZone, ZoneFault, find_zone};
+use time_zones::{NamedZone, ZoneFault, ZoneText, find_zone};
 
 /// The zone in which times are shown.
 #[derive(Drop)]
@@ -21,6 +22,20 @@ pub enum Zone {
 }
 
 impl Zone {
+    /// What a suffix tells of it, as RFC 9557 has one: nothing where each time keeps its offset, or the zone has no name.
+    pub(crate) fn text(&self) -> Option<ZoneText<'_>>
+        ensures { option_map zone_of result ≡ spec.told_zone self.now }
+    {
+        match self {
+            Zone::Keep => None,
+            Zone::Fixed(offset) => Some(ZoneText::Offset(*offset)),
+            Zone::Named(named) => match named.name() {
+                Some(name) => Some(ZoneText::Name(name.as_bytes())),
+                None => None,
+            },
+        }
+    }
+
     /// The clock on which times are shown.
     pub fn clock(&self) -> Clock<'_>
         ensures { spec.IsClockOf self.now result }

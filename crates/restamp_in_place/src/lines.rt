@@ -12,7 +12,7 @@ use restamp_stream::{Block, Rewriting, Settings, Stop, Stream, Tally};
 #[derive(Drop)]
 pub(crate) struct Lines<'a, T, L: Drop> {
     pub(crate) rewriting: &'a T,
-    pub(crate) settings: Settings,
+    pub(crate) settings: Settings<'a>,
     /// The file's name, for reports.
     pub(crate) name: &'a [u8],
     pub(crate) block: &'a mut Block,

@@ -32,7 +32,7 @@ pub struct Target<'a> {
 /// the folder on the disk afterwards.
 pub fn replace_file<T: Rewriting, F: Folder, L: Sink + Drop>(
     rewriting: &T,
-    settings: Settings,
+    settings: Settings<'_>,
     target: Target<'_>,
     folder: &mut F,
     alloc: Global,
@@ -40,7 +40,7 @@ pub fn replace_file<T: Rewriting, F: Folder, L: Sink + Drop>(
     block: &mut Block,
 ) -> (L, Tally, Result<Made, Unreplaced<Stop>>)
     ensures { IfSome (F.events folder.old) (λ before. Replaces
-        (Makes (job_of (T.is_fate rewriting.now) (T.is_reason rewriting.now) target.entry.shown.now settings)
+        (Makes (job_of (T.is_fate rewriting.now) (T.is_reason rewriting.now) target.entry.shown.now settings.entry)
         (L.contents log) (L.contents result.0) result.1)
         before (F.events folder.new) target.entry.name.now (option_map (λ second. second.now) target.entry.backup) result.2) }
 {

@@ -10,8 +10,8 @@ pub(crate) const EXAMPLES: &str = "Examples:
   restamp -l -f syslog --year 2026 -s 2026-11-25T12:00:00Z syslog
   restamp -i=.old -k 2 --csv -z utc orders.csv
 
-FORMAT is rfc3339, rfc2822, iso8601, unix, unix-ms, unix-us, unix-ns; or a
-description, as `[year]-[month]-[day]` or as strftime has it, `%Y-%m-%d`;
+FORMAT is rfc3339, rfc9557, rfc2822, iso8601, unix, unix-ms, unix-us, unix-ns;
+or a description, as `[year]-[month]-[day]` or as strftime has it, `%Y-%m-%d`;
 for --from also common (access logs) or syslog.
 TIME is of RFC 3339 or as --from has it; or now, now-90m, now+2d (also s, h, w),
 today or yesterday.

@@ -98,26 +98,27 @@ passed-append Dropping xs ys = refl
 
 -- a line that isn't longer than the limit
 text_of-short : (job : Job) (text : List ℕ) (fate : Fate) → length text ≤ job.limit
-    → text_of job (unended text) fate ≡ front_text job.settings.output text fate
+    → text_of job (unended text) fate ≡ front_text job.settings.output job.settings.suffix.now text fate
 text_of-short job text fate h =
     let output = job.settings.output in
     let r : Rest = rest_of output fate in
-    ap (λ (l : List ℕ). front_text output l fate ++ passed r (drop job.limit text ++ [])) (take_all job.limit text h)
-    ∙ ap (λ (l : List ℕ). front_text output text fate ++ passed r (l ++ [])) (drop_all job.limit text h)
-    ∙ ap (λ (l : List ℕ). front_text output text fate ++ l) (passed-nil r)
-    ∙ append-nil (front_text output text fate)
+    ap (λ (l : List ℕ). front_text output job.settings.suffix.now l fate ++ passed r (drop job.limit text ++ [])) (take_all job.limit text h)
+    ∙ ap (λ (l : List ℕ). front_text output job.settings.suffix.now text fate ++ passed r (l ++ [])) (drop_all job.limit text h)
+    ∙ ap (λ (l : List ℕ). front_text output job.settings.suffix.now text fate ++ l) (passed-nil r)
+    ∙ append-nil (front_text output job.settings.suffix.now text fate)
 
 -- a line is answered by its front
 pub Did-begun : (job : Job) (a b : State) (front : List ℕ) (fate : Fate) (report : List ℕ) → length front ≤ job.limit → job.is_fate front fate
-    → IsAllowed job.settings.strict fate → Appends a.out b.out (front_text job.settings.output front fate) → b.tally ≡ count_fate a.tally fate
+    → IsAllowed job.settings.strict fate → Appends a.out b.out (front_text job.settings.output job.settings.suffix.now front fate)
+    → b.tally ≡ count_fate a.tally fate
     → IsReport job b.tally front fate report → Appends a.log b.log report → Did job a b (unended front ∷ []) (fate ∷ [])
 Did-begun job a b front fate report h is allowed p e r q =
     let whole = take_all job.limit front h in
     record {
-      text = front_text job.settings.output front fate;
+      text = front_text job.settings.output job.settings.suffix.now front fate;
       reports = report;
       become =
-          AreAnswered-of job a.tally (unended front) fate (front_text job.settings.output front fate) report (
+          AreAnswered-of job a.tally (unended front) fate (front_text job.settings.output job.settings.suffix.now front fate) report (
             subst (λ (f : List ℕ). job.is_fate f fate) (sym whole) is,
             allowed,
             sym (text_of-short job front fate h),
@@ -158,7 +159,7 @@ pub Did-ended : (job : Job) (a b : State) (text : List ℕ) (fate : Fate) (out :
     → Did job a (state out b.log b.tally) (ended text ∷ []) (fate ∷ [])
 Did-ended job a b text fate out p w =
     let r : Rest = rest_of job.settings.output fate in
-    let front = front_text job.settings.output (take job.limit text) fate in
+    let front = front_text job.settings.output job.settings.suffix.now (take job.limit text) fate in
     Did-grown job a b (unended text) (ended text) fate (passed r (10 ∷ [])) out p refl
     (ap (λ (l : List ℕ). front ++ l)
     (passed-append r (drop job.limit text) (10 ∷ [])
@@ -173,9 +174,10 @@ pub Did-more : (job : Job) (a b : State) (text more : List ℕ) (fate : Fate) (o
 Did-more job a b text more fate out h p w =
     let output = job.settings.output in
     let r : Rest = rest_of output fate in
-    let front = front_text output (take job.limit text) fate in
+    let front = front_text output job.settings.suffix.now (take job.limit text) fate in
     Did-grown job a b (unended text) (unended (text ++ more)) fate (passed r more) out p (take-append-le job.limit text more h)
-    (ap (λ (l : List ℕ). front_text output l fate ++ passed r (drop job.limit (text ++ more) ++ [])) (take-append-le job.limit text more h)
+    (ap (λ (l : List ℕ). front_text output job.settings.suffix.now l fate ++ passed r (drop job.limit (text ++ more) ++ []))
+    (take-append-le job.limit text more h)
     ∙ ap (λ (l : List ℕ). front ++ passed r l)
     (append-nil (drop job.limit (text ++ more)) ∙ drop-append-le job.limit text more h
     ∙ ap (λ (l : List ℕ). l ++ more) (sym (append-nil (drop job.limit text))))

@@ -87,9 +87,10 @@ kept_front job line =
     ∙ ap (λ (l : List ℕ). l ++ line.ending) (take-append-drop job.limit line.text)
 
 text_at : (job : Job) (line : Line) (f : Fate) (output : Output) → job.settings.output ≡ output
-    → text_of job line f ≡ front_text output (take job.limit line.text) f ++ passed (rest_of output f) (drop job.limit line.text ++ line.ending)
+    → text_of job line f ≡
+    front_text output job.settings.suffix.now (take job.limit line.text) f ++ passed (rest_of output f) (drop job.limit line.text ++ line.ending)
 text_at job line f output e =
-    ap (λ (o : Output). front_text o (take job.limit line.text) f ++ passed (rest_of o f) (drop job.limit line.text ++ line.ending)) e
+    ap (λ (o : Output). front_text o job.settings.suffix.now (take job.limit line.text) f ++ passed (rest_of o f) (drop job.limit line.text ++ line.ending)) e
 
 kept_line : (job : Job) (line : Line) (f : Fate) (fs : List Fate) → job.settings.output ≡ AllLines → AreKept (f ∷ fs)
     → (text_of job line f ≡ line.text ++ line.ending) × AreKept fs

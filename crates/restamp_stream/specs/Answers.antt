@@ -32,7 +32,7 @@ front_of job line = take job.limit line.text
 -- is left out with it.
 abbrev pub text_of : Job → Line → Fate → List ℕ
 text_of job line fate =
-    front_text job.settings.output (front_of job line) fate
+    front_text job.settings.output job.settings.suffix.now (front_of job line) fate
     ++ passed (rest_of job.settings.output fate) (drop job.limit line.text ++ line.ending)
 
 -- The log names a refused line of that front, which the tally has counted last.

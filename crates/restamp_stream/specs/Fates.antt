@@ -24,25 +24,25 @@ IsAllowed strict (Rewritten begin end text) = ⊤
 IsAllowed strict Dropped = ⊤
 IsAllowed strict Refused = strict ≡ false
 
--- the front, with the new text in the place of the bytes that give way
-abbrev pub changed : List ℕ → Fate → List ℕ
-changed front Without = front
-changed front (Rewritten begin end text) = take begin front ++ (text.items ++ drop end front)
-changed front Dropped = []
-changed front Refused = front
+-- the front, with the new text and its suffix in the place of the bytes that give way
+abbrev pub changed : List ℕ → List ℕ → Fate → List ℕ
+changed suffix front Without = front
+changed suffix front (Rewritten begin end text) = take begin front ++ (text.items ++ (suffix ++ drop end front))
+changed suffix front Dropped = []
+changed suffix front Refused = front
 
--- What goes out for the front of a line: all lines but the dropped ones, only those with a new time, or only the new
--- times.
-abbrev pub front_text : Output → List ℕ → Fate → List ℕ
-front_text AllLines front fate = changed front fate
-front_text RewrittenLines front Without = []
-front_text RewrittenLines front (Rewritten begin end text) = changed front (Rewritten begin end text)
-front_text RewrittenLines front Dropped = []
-front_text RewrittenLines front Refused = []
-front_text Times front Without = []
-front_text Times front (Rewritten begin end text) = text.items ++ 10 ∷ []
-front_text Times front Dropped = []
-front_text Times front Refused = []
+-- What goes out for the front of a line, where new times have that suffix: all lines but the dropped ones, only those
+-- with a new time, or only the new times.
+abbrev pub front_text : Output → List ℕ → List ℕ → Fate → List ℕ
+front_text AllLines suffix front fate = changed suffix front fate
+front_text RewrittenLines suffix front Without = []
+front_text RewrittenLines suffix front (Rewritten begin end text) = changed suffix front (Rewritten begin end text)
+front_text RewrittenLines suffix front Dropped = []
+front_text RewrittenLines suffix front Refused = []
+front_text Times suffix front Without = []
+front_text Times suffix front (Rewritten begin end text) = text.items ++ (suffix ++ 10 ∷ [])
+front_text Times suffix front Dropped = []
+front_text Times suffix front Refused = []
 
 -- what becomes of what comes after the front
 abbrev pub rest_of : Output → Fate → Rest

@@ -45,20 +45,20 @@ impl<W: Sink, L: Sink> Stream<W, L> {
     fn serve_opened<T: Rewriting, O: Opening>(
         &mut self,
         rewriting: &T,
-        settings: Settings,
+        settings: Settings<'_>,
         name: &[u8],
         opening: &mut O,
         block: &mut Block,
     ) -> Result<(), Stop>
         ensures all { OnOk result (IfSome (O.bytes_of opening.old name.now)
-            (DidAll (job_of (T.is_fate rewriting.now) (T.is_reason rewriting.now) name.now settings)
+            (DidAll (job_of (T.is_fate rewriting.now) (T.is_reason rewriting.now) name.now settings.entry)
             (state_of W.contents L.contents self.old) (state_of W.contents L.contents self.new))) }
         ensures unread { IfErr result (λ stop. stop ≡ Stop.Unread →
-            DidCutOff (job_of (T.is_fate rewriting.now) (T.is_reason rewriting.now) name.now settings)
+            DidCutOff (job_of (T.is_fate rewriting.now) (T.is_reason rewriting.now) name.now settings.entry)
             (O.bytes_of opening.old name.now) (O.faults opening.old) (O.faults opening.new)
             (state_of W.contents L.contents self.old) (state_of W.contents L.contents self.new)) }
         ensures refused { IfErr result (λ stop. stop ≡ Stop.Refused → IfSome (O.bytes_of opening.old name.now)
-            (DidBefore (job_of (T.is_fate rewriting.now) (T.is_reason rewriting.now) name.now settings)
+            (DidBefore (job_of (T.is_fate rewriting.now) (T.is_reason rewriting.now) name.now settings.entry)
             (state_of W.contents L.contents self.old) (state_of W.contents L.contents self.new))) }
         ensures cause { HasWriteCause result (faults_of W.faults L.faults self.old) (faults_of W.faults L.faults self.new) }
         ensures later { O.faults opening.old ≤ O.faults opening.new }
@@ -77,18 +77,18 @@ impl<W: Sink, L: Sink> Stream<W, L> {
     fn serve_next<T: Rewriting, O: Opening>(
         &mut self,
         rewriting: &T,
-        settings: Settings,
+        settings: Settings<'_>,
         name: &[u8],
         opening: &mut O,
         block: &mut Block,
     ) -> Result<(), Stop>
         ensures ok { OnOk result
-            (DidFile (job_of (T.is_fate rewriting.now) (T.is_reason rewriting.now) name.now settings) (O.bytes_of opening.old name.now)
+            (DidFile (job_of (T.is_fate rewriting.now) (T.is_reason rewriting.now) name.now settings.entry) (O.bytes_of opening.old name.now)
             (O.faults opening.old) (O.faults opening.new)
             (state_of W.contents L.contents self.old) (state_of W.contents L.contents self.new)) }
         ensures unread { IfErr result (λ stop. stop ≢ Stop.Unread) }
         ensures refused { IfErr result (λ stop. stop ≡ Stop.Refused → IfSome (O.bytes_of opening.old name.now)
-            (DidBefore (job_of (T.is_fate rewriting.now) (T.is_reason rewriting.now) name.now settings)
+            (DidBefore (job_of (T.is_fate rewriting.now) (T.is_reason rewriting.now) name.now settings.entry)
             (state_of W.contents L.contents self.old) (state_of W.contents L.contents self.new))) }
         ensures cause { HasWriteCause result (faults_of W.faults L.faults self.old) (faults_of W.faults L.faults self.new) }
         ensures later { O.faults opening.old ≤ O.faults opening.new }
@@ -108,17 +108,17 @@ impl<W: Sink, L: Sink> Stream<W, L> {
     pub fn serve_files<T: Rewriting, O: Opening>(
         &mut self,
         rewriting: &T,
-        settings: Settings,
+        settings: Settings<'_>,
         names: &[&[u8]],
         opening: &mut O,
         block: &mut Block,
     ) -> Result<(), Stop>
-        ensures ok { OnOk result (DidFiles (T.is_fate rewriting.now) (T.is_reason rewriting.now) settings (O.bytes_of opening.old)
+        ensures ok { OnOk result (DidFiles (T.is_fate rewriting.now) (T.is_reason rewriting.now) settings.entry (O.bytes_of opening.old)
             (O.faults opening.old) (O.faults opening.new)
             (state_of W.contents L.contents self.old) (state_of W.contents L.contents self.new) (map (λ name. name.now) names.now)) }
         ensures unread { IfErr result (λ stop. stop ≢ Stop.Unread) }
         ensures refused { IfErr result (λ stop. stop ≡ Stop.Refused →
-            StoppedIn (T.is_fate rewriting.now) (T.is_reason rewriting.now) settings (O.bytes_of opening.old)
+            StoppedIn (T.is_fate rewriting.now) (T.is_reason rewriting.now) settings.entry (O.bytes_of opening.old)
             (O.faults opening.old) (O.faults opening.new)
             (state_of W.contents L.contents self.old) (state_of W.contents L.contents self.new) (map (λ name. name.now) names.now)) }
         ensures cause { HasWriteCause result (faults_of W.faults L.faults self.old) (faults_of W.faults L.faults self.new) }

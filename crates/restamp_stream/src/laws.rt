@@ -16,15 +16,15 @@ use crate::stream::Stream;
 use programs_streams::Sink;
 
 /// An input has one output, one log and one tally.
-pub fn law_one_result<T: Rewriting>(rewriting: &T, name: &[u8], settings: Settings)
-    ensures lines { OneAnswer (job_of (T.is_fate rewriting.now) (T.is_reason rewriting.now) name.now settings) }
-    ensures input { OneResult (job_of (T.is_fate rewriting.now) (T.is_reason rewriting.now) name.now settings) }
+pub fn law_one_result<T: Rewriting>(rewriting: &T, name: &[u8], settings: Settings<'_>)
+    ensures lines { OneAnswer (job_of (T.is_fate rewriting.now) (T.is_reason rewriting.now) name.now settings.entry) }
+    ensures input { OneResult (job_of (T.is_fate rewriting.now) (T.is_reason rewriting.now) name.now settings.entry) }
 {}
 
 /// The lines of an input have its bytes, and an input with no time that is read goes out as it came in.
-pub fn law_kept<T: Rewriting>(rewriting: &T, name: &[u8], settings: Settings)
+pub fn law_kept<T: Rewriting>(rewriting: &T, name: &[u8], settings: Settings<'_>)
     ensures lines { SameBytes }
-    ensures input { KeptBytes (job_of (T.is_fate rewriting.now) (T.is_reason rewriting.now) name.now settings) }
+    ensures input { KeptBytes (job_of (T.is_fate rewriting.now) (T.is_reason rewriting.now) name.now settings.entry) }
 {}
 
 /// The work stops before its end only after a read or a write that gave an error, or at a refused line. So over files, a
@@ -32,13 +32,13 @@ pub fn law_kept<T: Rewriting>(rewriting: &T, name: &[u8], settings: Settings)
 pub fn law_done<T: Rewriting, O: Opening, W: Sink, L: Sink>(
     stream: &mut Stream<W, L>,
     rewriting: &T,
-    settings: Settings,
+    settings: Settings<'_>,
     names: &[&[u8]],
     opening: &mut O,
     block: &mut Block,
 ) -> Result<(), Stop>
     ensures done { OnOk result (¬ Rises (O.faults opening.old) (O.faults opening.new)
-        → AreDone (T.is_fate rewriting.now) (T.is_reason rewriting.now) settings (O.bytes_of opening.old)
+        → AreDone (T.is_fate rewriting.now) (T.is_reason rewriting.now) settings.entry (O.bytes_of opening.old)
         (state_of W.contents L.contents stream.old) (state_of W.contents L.contents stream.new) (map (λ name. name.now) names.now)) }
     ensures stopped { IfErr result (λ stop. (stop ≡ Stop.Refused)
         ⊎ Rises (faults_of W.faults L.faults stream.old) (faults_of W.faults L.faults stream.new)) }

@@ -217,20 +217,20 @@ impl<W: Sink, L: Sink> Stream<W, L> {
     pub fn serve<T: Rewriting, R: Source>(
         &mut self,
         rewriting: &T,
-        settings: Settings,
+        settings: Settings<'_>,
         name: &[u8],
         input: &mut R,
         block: &mut Block,
     ) -> Result<(), Stop>
         ensures all { OnOk result (IfSome (R.remaining input.old)
-            (DidAll (job_of (T.is_fate rewriting.now) (T.is_reason rewriting.now) name.now settings)
+            (DidAll (job_of (T.is_fate rewriting.now) (T.is_reason rewriting.now) name.now settings.entry)
             (state_of W.contents L.contents self.old) (state_of W.contents L.contents self.new))) }
         ensures unread { IfErr result (λ stop. stop ≡ Stop.Unread →
-            DidSome (job_of (T.is_fate rewriting.now) (T.is_reason rewriting.now) name.now settings)
+            DidSome (job_of (T.is_fate rewriting.now) (T.is_reason rewriting.now) name.now settings.entry)
             (R.remaining input.old) (R.remaining input.new)
             (state_of W.contents L.contents self.old) (state_of W.contents L.contents self.new)) }
         ensures refused { IfErr result (λ stop. stop ≡ Stop.Refused → IfSome (R.remaining input.old)
-            (DidBefore (job_of (T.is_fate rewriting.now) (T.is_reason rewriting.now) name.now settings)
+            (DidBefore (job_of (T.is_fate rewriting.now) (T.is_reason rewriting.now) name.now settings.entry)
             (state_of W.contents L.contents self.old) (state_of W.contents L.contents self.new))) }
         ensures cause { HasWriteCause result (faults_of W.faults L.faults self.old) (faults_of W.faults L.faults self.new) }
         ensures cut_off { IfErr result (λ stop. stop ≡ Stop.Unread →

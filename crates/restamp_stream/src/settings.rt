@@ -51,20 +51,22 @@ impl Reports {
 
 /// How the lines of a file are answered.
 #[derive(Clone, Copy)]
-pub struct Settings {
+pub struct Settings<'a> {
     /// Which lines go out.
     pub output: Output,
+    /// What stands behind each new time.
+    pub suffix: &'a [u8],
     /// Which refused lines the log names.
     pub reports: Reports,
     /// Whether the work stops before the first refused line.
     pub strict: bool,
 }
 
-impl Settings {
+impl Settings<'_> {
     /// Whether the work stops at a line of that fate.
-    pub fn stops_at(self, fate: &Fate) -> bool
-        ensures stops { IsTrue result → IsTrue self.strict × (fate.now ≡ Fate.Refused) }
-        ensures goes_on { result ≡ false → IsAllowed self.strict fate.now }
+    pub fn stops_at(&self, fate: &Fate) -> bool
+        ensures stops { IsTrue result → IsTrue self.now.strict × (fate.now ≡ Fate.Refused) }
+        ensures goes_on { result ≡ false → IsAllowed self.now.strict fate.now }
     {
         match fate {
             Fate::Refused => self.strict,
@@ -79,5 +81,5 @@ pub struct File<'a> {
     /// Its name, for reports.
     pub name: &'a [u8],
     /// How its lines are answered.
-    pub settings: Settings,
+    pub settings: Settings<'a>,
 }

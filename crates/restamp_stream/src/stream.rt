@@ -15,7 +15,7 @@ use crate::fate::{Fate, Rest};
 use crate::message::Message;
 use crate::names::write_name;
 use crate::rewriting::Rewriting;
-use crate::settings::{File, Output};
+use crate::settings::{File, Output, Settings};
 use crate::stop::Stop;
 use crate::tally::Tally;
 use crate::waiting::Waiting;
@@ -157,24 +157,46 @@ impl<W: Sink, L: Sink> Stream<W, L> {
         self.log.flush()
     }
 
-    // Puts what goes out for the front of a line.
+    // Puts the suffix of new times. Most have none.
     #[inline(always)]
-    fn put_front(&mut self, output: Output, front: &[u8], fate: &Fate) -> Result<(), Unwritten>
-        requires { IsWithin fate.now front.now }
-        ensures put { OnOk result
-            (Appends (held_out W.contents self.old) (held_out W.contents self.new) (front_text output front.now fate.now)) }
+    fn put_suffix(&mut self, suffix: &[u8]) -> Result<(), Unwritten>
+        ensures put { OnOk result (Appends (held_out W.contents self.old) (held_out W.contents self.new) suffix.now) }
         ensures log { self.new.log ≡ self.old.log }
         ensures tally { self.new.tally ≡ self.old.tally }
         ensures cause { HasCause result (W.faults self.old.out) (W.faults self.new.out) }
     {
-        match (output, fate) {
+        if suffix.is_empty() {
+            return Ok(());
+        }
+        self.put(suffix)
+    }
+
+    // Puts what goes out for the front of a line.
+    #[inline(always)]
+    fn put_front(
+        &mut self,
+        settings: &Settings<'_>,
+        front: &[u8],
+        fate: &Fate,
+    ) -> Result<(), Unwritten>
+        requires { IsWithin fate.now front.now }
+        ensures put { OnOk result
+            (Appends (held_out W.contents self.old) (held_out W.contents self.new)
+            (front_text settings.now.output settings.now.suffix.now front.now fate.now)) }
+        ensures log { self.new.log ≡ self.old.log }
+        ensures tally { self.new.tally ≡ self.old.tally }
+        ensures cause { HasCause result (W.faults self.old.out) (W.faults self.new.out) }
+    {
+        match (settings.output, fate) {
             (Output::Times, Fate::Rewritten { text, .. }) => {
                 self.put(text.as_bytes())?;
+                self.put_suffix(settings.suffix)?;
                 self.put(b"\n")
             }
             (_, Fate::Rewritten { begin, end, text }) => {
                 self.put(&front[..*begin])?;
                 self.put(text.as_bytes())?;
+                self.put_suffix(settings.suffix)?;
                 self.put(&front[*end..])
             }
             (Output::AllLines, Fate::Without | Fate::Refused) => self.put(front),
@@ -255,10 +277,9 @@ impl<W: Sink, L: Sink> Stream<W, L> {
         if file.settings.stops_at(&fate) {
             return Err(Stop::Refused);
         }
-        let output = file.settings.output;
-        let Ok(()) = self.put_front(output, front, &fate) else {
+        let Ok(()) = self.put_front(&file.settings, front, &fate) else {
             return Err(Stop::Unwritten);
         };
-        Ok(Rest::of(output, &fate))
+        Ok(Rest::of(file.settings.output, &fate))
     }
 }

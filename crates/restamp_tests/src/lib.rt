@@ -3,13 +3,7 @@
 #![tactic(auto)]
 
 #[cfg(test)]
-mod anywhere;
-#[cfg(test)]
-mod bounds;
-#[cfg(test)]
 mod clocks;
-#[cfg(test)]
-mod fronts;
 pub mod memory;
 #[cfg(test)]
 mod places;
@@ -17,3 +11,5 @@ mod places;
 mod replacing;
 #[cfg(test)]
 mod stream;
+#[cfg(test)]
+mod zoned;

@@ -2,10 +2,9 @@
 ghost use Rattle.std.specs.Prelude.{◌≡◌, ◌∷◌, [], IfErr, IfOk, Some, string_bytes};
 ghost use Rattle.std.specs.IoError.{error_kind};
 ghost use Rattle.restamp_in_place.specs.Folder.{Tries};
-ghost use Rattle.restamp_tests.specs.Memory.{event_of, events_of};
-
-pub mod event;
-pub mod page;
+ghost use Rattle.restamp_tests.specs.Memory.{event_of, events_of, is_unused};
+ghost use Rattle.std.specs.Option.{option_map};
+ghost use Rattle.restamp_in_place.specs.Folder as model;
 
 use crate::memory::event::{Event, is_unused, leads, stored};
 use crate::memory::page::Page;
@@ -241,5 +240,122 @@ impl Folder for Memory {
     fn sync(&mut self) -> io::Result<()> {
         let is_late = self.begin()?;
         self.note(Event::Synced, is_late)
+    }
+}
+
+// What was done in a folder in memory.
+pub mod event {
+    /// A thing that was done in a folder.
+    #[derive(Debug, Drop)]
+    pub enum Event {
+        /// A name leads to the file of that number, or to none.
+        Leads(String, Option<u64>),
+        /// The file of that number has those bytes, on the disk.
+        Stored(u64, Vec<u8>),
+        /// Where the names lead is on the disk.
+        Synced,
+    }
+
+    /// The file to which a name leads after what was done, the last of it first.
+    pub fn leads(events: &[Event], name: &str) -> Option<u64>
+        ensures { result ≡ model.leads (events_of events.now) name.now }
+    {
+        let mut left = events;
+        while let [event, rest @ ..] = left {
+            match event {
+                Event::Leads(other, file) => {
+                    if other.as_str() == name {
+                        return *file;
+                    }
+                }
+                Event::Stored(..) | Event::Synced => {}
+            }
+            left = rest;
+        }
+        None
+    }
+
+    /// The bytes of a file that are on the disk after what was done.
+    pub fn stored(events: &[Event], number: u64) -> Option<&[u8]>
+        ensures { option_map (λ bytes. bytes.now) result ≡ model.stored (events_of events.now) number }
+    {
+        let mut left = events;
+        while let [event, rest @ ..] = left {
+            match event {
+                Event::Stored(file, bytes) => {
+                    if *file == number {
+                        return Some(bytes.as_slice());
+                    }
+                }
+                Event::Leads(..) | Event::Synced => {}
+            }
+            left = rest;
+        }
+        None
+    }
+
+    /// Whether nothing that was done names the file of that number.
+    pub fn is_unused(events: &[Event], number: u64) -> bool
+        ensures { result ≡ is_unused (events_of events.now) number }
+    {
+        let mut left = events;
+        while let [event, rest @ ..] = left {
+            match event {
+                Event::Leads(_, Some(file)) | Event::Stored(file, _) => {
+                    if *file == number {
+                        return false;
+                    }
+                }
+                Event::Leads(_, None) | Event::Synced => {}
+            }
+            left = rest;
+        }
+        true
+    }
+}
+
+// A new file of a folder in memory, while it is written.
+pub mod page {
+    use std::alloc::Global;
+    use std::io;
+    use std::io::{ErrorKind, Write};
+
+    /// Bytes that are written, with a write that may fail.
+    #[derive(Debug, Drop)]
+    pub struct Page {
+        pub(crate) bytes: Vec<u8>,
+        // How many more writes don't fail.
+        left: u64,
+        // The kind of the error of each later one.
+        kind: ErrorKind,
+    }
+
+    impl Page {
+        /// No bytes yet. After so many writes each fails with an error of that kind.
+        pub fn new(alloc: Global, writes: u64, kind: ErrorKind) -> Page
+            ensures { result.bytes.items ≡ [] }
+        {
+            Page {
+                bytes: Vec::new(alloc),
+                left: writes,
+                kind,
+            }
+        }
+    }
+
+    impl Write for Page {
+        ghost contents = { λ page. Some page.bytes.items };
+
+        fn write(&mut self, buf: &[u8]) -> io::Result<usize> {
+            if self.left == 0 {
+                return Err(io::Error::from(self.kind));
+            }
+            self.left -= 1;
+            self.bytes.write(buf)
+        }
+
+        fn flush(&mut self) -> io::Result<()> {
+            Ok(())
+        }
     }
 }

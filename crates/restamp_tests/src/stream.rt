@@ -6,13 +6,6 @@ use std::io;
 use std::io::{ErrorKind, Read, Write};
 use time_values::text::Text;
 
-mod failures;
-mod files;
-mod lines;
-mod long_lines;
-mod names;
-mod reports;
-
 /// By the first byte of a line: `@` gives way to `now`, `#` drops it, `!` is refused, and `=` puts `now` after the front.
 pub struct Marks;
 
@@ -137,15 +130,17 @@ impl Write for Page {
     }
 }
 
-pub const ALL: Settings = Settings {
+pub const ALL: Settings<'static> = Settings {
     output: Output::AllLines,
+    suffix: b"",
     reports: Reports::First(u64::MAX),
     strict: false,
 };
 
 /// The new times alone.
-pub const TIMES: Settings = Settings {
+pub const TIMES: Settings<'static> = Settings {
     output: Output::Times,
+    suffix: b"",
     reports: Reports::Quiet,
     strict: false,
 };
@@ -182,7 +177,7 @@ impl Answer {
 }
 
 /// Answers what a source gives on those pages, as a file of the name `f`.
-pub fn answer_on(out: Page, log: Page, settings: Settings, source: Source<'_>) -> Answer {
+pub fn answer_on(out: Page, log: Page, settings: Settings<'_>, source: Source<'_>) -> Answer {
     let mut stream = Stream::new(Counted::new(out), Counted::new(log));
     let mut source = Counted::new(source);
     let ended = stream.serve(&Marks, settings, b"f", &mut source, &mut Block::new());
@@ -190,8 +185,540 @@ pub fn answer_on(out: Page, log: Page, settings: Settings, source: Source<'_>) -
 }
 
 /// The same, where no write fails.
-pub fn answer_to(alloc: Global, settings: Settings, source: Source<'_>) -> Answer {
+pub fn answer_to(alloc: Global, settings: Settings<'_>, source: Source<'_>) -> Answer {
     let out = Page::new(alloc, NEVER);
     let log = Page::new(alloc, NEVER);
     answer_on(out, log, settings, source)
+}
+
+// Lines of each fate, in each setting, also where they come a byte at a time.
+mod lines {
+    use crate::stream::{ALL, NEVER, Source, TIMES, answer_to, make_source};
+    use restamp_stream::{Output, Reports, Settings, Tally};
+
+    const REWRITTEN: Settings<'static> = Settings {
+        output: Output::RewrittenLines,
+        suffix: b"",
+        reports: Reports::Quiet,
+        strict: false,
+    };
+
+    // New times with their zone, in their lines and alone.
+    const WITH_ZONE: Settings<'static> = Settings {
+        suffix: b"[+01:00]",
+        ..ALL
+    };
+
+    const ZONE_ALONE: Settings<'static> = Settings {
+        suffix: b"[+01:00]",
+        ..TIMES
+    };
+
+    // The settings, an input, what goes out, and what is logged.
+    type Row = (
+        Settings<'static>,
+        &'static [u8],
+        &'static [u8],
+        &'static [u8],
+    );
+
+    static ROWS: [Row; 22] = [
+        (ALL, b"", b"", b""),
+        (ALL, b"\n", b"\n", b""),
+        (ALL, b"a", b"a", b""),
+        (ALL, b"@", b"now", b""),
+        (ALL, b"@\n", b"now\n", b""),
+        (ALL, b"@ a\n@ b", b"now a\nnow b", b""),
+        (ALL, b"@ a\r\n\r\nb\r\n", b"now a\r\n\r\nb\r\n", b""),
+        (ALL, b"a\x00b\n@\x00\n", b"a\x00b\nnow\x00\n", b""),
+        (ALL, b"\x00\n\xff", b"\x00\n\xff", b""),
+        (ALL, b"#\na\n#b", b"a\n", b""),
+        (ALL, b"=ab\n=", b"=abnow\n=now", b""),
+        (
+            ALL,
+            b"a\n!b\n\n!",
+            b"a\n!b\n\n!",
+            b"f:2:1: bad\nf:4:1: bad\n",
+        ),
+        (REWRITTEN, b"a\n@b\n!c\n#d\n@e", b"nowb\nnowe", b""),
+        (REWRITTEN, b"a", b"", b""),
+        (TIMES, b"a\n@b\n!c\n#d\n@e", b"now\nnow\n", b""),
+        (TIMES, b"@", b"now\n", b""),
+        (
+            WITH_ZONE,
+            b"@ a\nb\n!c",
+            b"now[+01:00] a\nb\n!c",
+            b"f:3:1: bad\n",
+        ),
+        (ZONE_ALONE, b"@ a\nb\n", b"now[+01:00]\n", b""),
+        (TIMES, b"a\n\n", b"", b""),
+        (TIMES, b"", b"", b""),
+        (ALL, b"\n\n\n", b"\n\n\n", b""),
+        (ALL, b"@@\n", b"now@\n", b""),
+    ];
+
+    // At once, and a byte a read, where each second read is interrupted.
+    #[test]
+    fn fates(rt: HostRuntime) {
+        for (settings, input, out, log) in &ROWS {
+            for (most, interrupts) in [(NEVER, false), (1, true)] {
+                let source = Source {
+                    interrupts,
+                    ..make_source(input, most)
+                };
+                let got = answer_to(rt.alloc(), *settings, source);
+                assert!(rt; got.is(Ok(()), out, log), "{most} of {input:?}");
+            }
+        }
+    }
+
+    const COUNTS: Tally = Tally {
+        line: 7,
+        refused_here: 2,
+        lines: 7,
+        rewritten: 2,
+        without: 2,
+        dropped: 1,
+        refused: 2,
+        unread: 0,
+    };
+
+    #[test]
+    fn counts(rt: HostRuntime) {
+        let source = make_source(b"a\n@b\n!c\n#d\n@e\n\n!", 4);
+        assert!(rt; answer_to(rt.alloc(), ALL, source).tally == COUNTS);
+    }
+}
+
+// Lines about as long as the limit, and many lines. `=` shows where the front ended.
+mod long_lines {
+    use crate::stream::{ALL, NEVER, TIMES, answer_to, make_source};
+    use restamp_stream::{LIMIT, Settings, Tally};
+    use std::alloc::Global;
+
+    // A text, and how many times it stands.
+    type Piece = (&'static [u8], usize);
+
+    // The pieces one after the other, or nothing where there is no memory for them.
+    fn joined(alloc: Global, pieces: &[Piece]) -> Option<Vec<u8>> {
+        let mut bytes = Vec::new(alloc);
+        for (text, count) in pieces {
+            for _ in 0..*count {
+                bytes.extend_from_slice(text).ok()?;
+            }
+        }
+        Some(bytes)
+    }
+
+    // What is counted of an input, of which a read gives at most so many bytes, where that goes out and nothing is
+    // logged.
+    fn counted(
+        alloc: Global,
+        settings: Settings<'_>,
+        input: &[Piece],
+        most: usize,
+        out: &[Piece],
+    ) -> Option<Tally> {
+        let input = joined(alloc, input)?;
+        let out = joined(alloc, out)?;
+        let got = answer_to(alloc, settings, make_source(input.as_slice(), most));
+        if got.is(Ok(()), out.as_slice(), b"") {
+            Some(got.tally)
+        } else {
+            None
+        }
+    }
+
+    // How many `x` stand in a front that begins with `=`, and how many after it. The lines have 1, LIMIT - 1, LIMIT,
+    // LIMIT + 1 and 2 * LIMIT + 3 bytes.
+    static LENGTHS: [(usize, usize); 5] = [
+        (0, 0),
+        (LIMIT - 2, 0),
+        (LIMIT - 1, 0),
+        (LIMIT - 1, 1),
+        (LIMIT - 1, LIMIT + 3),
+    ];
+
+    // What ends the line, what that becomes, and how many bytes a read gives at most.
+    static ENDINGS: [(&[u8], &[u8], usize); 3] = [
+        (b"\n", b"\n", LIMIT),
+        (b"", b"", 65536),
+        (b"\n@ b\n", b"\nnow b\n", 100003),
+    ];
+
+    #[test]
+    fn lengths_about_the_limit(rt: HostRuntime) {
+        for (front, after) in &LENGTHS {
+            for (ending, wanted, most) in &ENDINGS {
+                let input: [Piece; 4] = [(b"=", 1), (b"x", *front), (b"x", *after), (*ending, 1)];
+                let out: [Piece; 5] = [
+                    (b"=", 1),
+                    (b"x", *front),
+                    (b"now", 1),
+                    (b"x", *after),
+                    (*wanted, 1),
+                ];
+                let tally = counted(rt.alloc(), ALL, &input, *most, &out);
+                assert!(rt; tally.is_some(), "{front}, {after}, {most}");
+            }
+        }
+    }
+
+    // The settings, an input, what goes out, how many bytes a read gives at most, how many lines there are, and how
+    // many of them are rewritten.
+    type Row = (
+        Settings<'static>,
+        &'static [Piece],
+        &'static [Piece],
+        usize,
+        u64,
+        u64,
+    );
+
+    // A long line that is dropped, one of which only the time goes out, and many of 3 bytes: they fill the block twice
+    // and what waits many times.
+    static ROWS: [Row; 3] = [
+        (
+            ALL,
+            &[(b"#", LIMIT + 5), (b"\na\n", 1)],
+            &[(b"a\n", 1)],
+            LIMIT,
+            2,
+            0,
+        ),
+        (TIMES, &[(b"@", 3 * LIMIT)], &[(b"now\n", 1)], LIMIT, 1, 1),
+        (
+            ALL,
+            &[(b"@a\n", 200000)],
+            &[(b"nowa\n", 200000)],
+            NEVER,
+            200000,
+            200000,
+        ),
+    ];
+
+    #[test]
+    fn long_and_many_lines(rt: HostRuntime) {
+        for (settings, input, out, most, lines, rewritten) in &ROWS {
+            let tally = counted(rt.alloc(), *settings, input, *most, out).unwrap_or(Tally::new());
+            assert!(rt;
+                tally.lines == *lines && tally.rewritten == *rewritten,
+                "{tally:?}"
+            );
+        }
+    }
+}
+
+// Reads and writes that fail, and the first refused line where the work stops at it.
+mod failures {
+    use crate::stream::{ALL, NEVER, Page, Source, answer_on, answer_to, make_source};
+    use restamp_stream::{Output, Reports, Settings, Stop};
+
+    const STRICT: Settings<'static> = Settings {
+        output: Output::AllLines,
+        suffix: b"",
+        reports: Reports::First(10),
+        strict: true,
+    };
+
+    // Which read fails, and what went out. The reads are `@a`, LF `@`, `b` `!`, LF `#`, `c` LF and `d`: whole lines are
+    // answered before the next read.
+    static READS: [(usize, &[u8]); 6] = [
+        (0, b""),
+        (1, b""),
+        (2, b"nowa\n"),
+        (3, b"nowa\n"),
+        (4, b"nowa\nnowb!\n"),
+        (5, b"nowa\nnowb!\n"),
+    ];
+
+    #[test]
+    fn each_read_fails(rt: HostRuntime) {
+        for (fails_at, out) in &READS {
+            let source = Source {
+                fails_at: *fails_at,
+                ..make_source(b"@a\n@b!\n#c\nd", 2)
+            };
+            let got = answer_to(rt.alloc(), ALL, source);
+            let is_unread = got.is(Err(Stop::Unread), out, b"f: no read\n");
+            assert!(rt; is_unread && got.tally.unread == 1, "{fails_at}");
+        }
+    }
+
+    // Which write of what goes out fails, and which of a report: the name, the line's number, the reason and LF.
+    static WRITES: [(usize, usize); 6] = [
+        (0, NEVER),
+        (1, NEVER),
+        (NEVER, 0),
+        (NEVER, 1),
+        (NEVER, 2),
+        (NEVER, 3),
+    ];
+
+    #[test]
+    fn each_write_fails(rt: HostRuntime) {
+        for (out, log) in &WRITES {
+            let out = Page::new(rt.alloc(), *out);
+            let log = Page::new(rt.alloc(), *log);
+            let got = answer_on(out, log, ALL, make_source(b"@a\n!b\nc", 3));
+            assert!(rt; got.ended == Err(Stop::Unwritten), "{:?}", got.out);
+        }
+    }
+
+    // An input, what goes out, and the log.
+    static REFUSED: [(&[u8], &[u8], &[u8]); 3] = [
+        (b"@a\n#\n!b\n@c\n", b"nowa\n", b"f:3:1: bad\n"),
+        (b"!", b"", b"f:1:1: bad\n"),
+        (b"a\n!", b"a\n", b"f:2:1: bad\n"),
+    ];
+
+    #[test]
+    fn stops_at_a_refused_line(rt: HostRuntime) {
+        for (input, out, log) in &REFUSED {
+            for most in [1, 4, NEVER] {
+                let got = answer_to(rt.alloc(), STRICT, make_source(input, most));
+                let is_refused = got.is(Err(Stop::Refused), out, log);
+                assert!(rt; is_refused && got.tally.refused == 1, "{most} of {input:?}");
+            }
+        }
+    }
+}
+
+// Several files over one tally.
+mod files {
+    use crate::stream::{ALL, Answer, Marks, NEVER, Page, Source, make_source};
+    use programs_streams::Counted;
+    use restamp_stream::{Block, Opening, Stream, Tally, status};
+    use std::io;
+    use std::io::ErrorKind;
+
+    // What reads `a` and `b`, a file `half` whose second read fails, and no other.
+    fn source_of(name: &[u8]) -> io::Result<Source<'static>> {
+        match name {
+            b"a" => Ok(make_source(b"@1\n!2\n", NEVER)),
+            b"b" => Ok(make_source(b"3\n!4", NEVER)),
+            b"half" => Ok(Source {
+                fails_at: 1,
+                ..make_source(b"@5\n@6", NEVER)
+            }),
+            _ => Err(io::Error::from(ErrorKind::NotFound)),
+        }
+    }
+
+    // Opens these files, and counts those that were not opened or not read to their end.
+    #[derive(Drop)]
+    struct Shelf {
+        faults: u64,
+    }
+
+    impl Opening for Shelf {
+        type Input = Counted<Source<'static>>;
+
+        ghost use Rattle.std.specs.Prelude.{None};
+
+        ghost bytes_of = { λ shelf name. None };
+
+        ghost faults = { λ shelf. shelf.faults };
+
+        fn open(&mut self, name: &[u8]) -> io::Result<Counted<Source<'static>>> {
+            match source_of(name) {
+                Ok(source) => Ok(Counted::new(source)),
+                Err(error) => {
+                    self.faults = self.faults.saturating_add(1);
+                    Err(error)
+                }
+            }
+        }
+
+        fn close(&mut self, input: Counted<Source<'static>>) {
+            self.faults = input.count_cut_off(self.faults);
+        }
+    }
+
+    const NAMES: [&[u8]; 4] = [b"a", b"no\x1bne", b"half", b"b"];
+
+    const COUNTS: Tally = Tally {
+        line: 2,
+        refused_here: 1,
+        lines: 5,
+        rewritten: 2,
+        without: 1,
+        dropped: 0,
+        refused: 2,
+        unread: 2,
+    };
+
+    #[test]
+    fn several_files(rt: HostRuntime) {
+        let out = Counted::new(Page::new(rt.alloc(), NEVER));
+        let log = Counted::new(Page::new(rt.alloc(), NEVER));
+        let mut stream = Stream::new(out, log);
+        let mut shelf = Shelf { faults: 0 };
+        let ended = stream.serve_files(&Marks, ALL, &NAMES, &mut shelf, &mut Block::new());
+        let got = Answer::new(stream, ended);
+        let out = b"now1\n!2\nnow5\n3\n!4";
+        let log = b"a:2:1: bad\nno\\x1bne: entity not found\nhalf: no read\nb:2:1: bad\n";
+        assert!(rt; got.is(Ok(()), out, log));
+        assert!(rt; got.tally == COUNTS && status(&got.tally, None, false) == 2);
+        assert!(rt; shelf.faults == 2);
+    }
+}
+
+// How names are shown.
+mod names {
+    use crate::stream::{ALL, Answer, Marks, NEVER, Page, make_source};
+    use programs_streams::Counted;
+    use restamp_stream::{Block, Reports, Settings, Stream, write_name, write_shown};
+    use std::alloc::Global;
+
+    // A name, how the log shows it, and how it is shown in ASCII.
+    static SHOWN: [(&[u8], &[u8], &[u8]); 9] = [
+        (b"app.log", b"app.log", b"app.log"),
+        (b"", b"", b""),
+        (b"\x1b[2Ja", b"\\x1b[2Ja", b"\\x1b[2Ja"),
+        (b"a\nb", b"a\\x0ab", b"a\\x0ab"),
+        (b"\r\t\x00", b"\\x0d\\x09\\x00", b"\\x0d\\x09\\x00"),
+        // The first and the last control byte, and their neighbours.
+        (
+            b"\x1f \x7e\x7f\x80",
+            b"\\x1f ~\\x7f\x80",
+            b"\\x1f ~\\x7f\\x80",
+        ),
+        // A backslash stays.
+        (b"a\\x1b", b"a\\x1b", b"a\\x1b"),
+        // `é` in UTF-8, and in Latin-1.
+        (b"caf\xc3\xa9", b"caf\xc3\xa9", b"caf\\xc3\\xa9"),
+        (b"caf\xe9\xff", b"caf\xe9\xff", b"caf\\xe9\\xff"),
+    ];
+
+    // Whether that was written.
+    fn holds(text: Counted<Vec<u8>>, expected: &[u8]) -> bool {
+        let (text, error) = text.into_parts();
+        error.is_none() && text.as_slice() == expected
+    }
+
+    // Whether the name is shown so.
+    fn is_shown(alloc: Global, name: &[u8], shown: &[u8], ascii: &[u8]) -> bool {
+        let mut all = Counted::new(Vec::new(alloc));
+        let mut text = Counted::new(Vec::new(alloc));
+        let mut plain = Counted::new(Vec::new(alloc));
+        write_name(name, &mut all).is_ok()
+            && write_shown(false, name, &mut text).is_ok()
+            && write_shown(true, name, &mut plain).is_ok()
+            && holds(all, shown)
+            && holds(text, shown)
+            && holds(plain, ascii)
+    }
+
+    #[test]
+    fn shown(rt: HostRuntime) {
+        for (name, shown, ascii) in &SHOWN {
+            assert!(rt; is_shown(rt.alloc(), name, shown, ascii), "{name:?}");
+        }
+    }
+
+    // Each report of a file shows its name so.
+    #[test]
+    fn reports(rt: HostRuntime) {
+        for (most, log) in [
+            (
+                2,
+                b"a\\x1b\\x0a\xff:1:1: bad\na\\x1b\\x0a\xff:2:1: bad\n".as_slice(),
+            ),
+            (
+                1,
+                b"a\\x1b\\x0a\xff:1:1: bad\na\\x1b\\x0a\xff: 1 more line was refused\n".as_slice(),
+            ),
+            (
+                0,
+                b"a\\x1b\\x0a\xff: 2 more lines were refused\n".as_slice(),
+            ),
+        ] {
+            let settings = Settings {
+                reports: Reports::First(most),
+                ..ALL
+            };
+            let out = Counted::new(Page::new(rt.alloc(), NEVER));
+            let reported = Counted::new(Page::new(rt.alloc(), NEVER));
+            let mut stream = Stream::new(out, reported);
+            let mut source = Counted::new(make_source(b"!\n!\n", NEVER));
+            let ended = stream.serve(
+                &Marks,
+                settings,
+                b"a\x1b\n\xff",
+                &mut source,
+                &mut Block::new(),
+            );
+            assert!(rt;
+                Answer::new(stream, ended).is(Ok(()), b"!\n!\n", log),
+                "{log:?}"
+            );
+        }
+    }
+}
+
+// How many refused lines the log names, and the exit status.
+mod reports {
+    use crate::stream::{ALL, answer_to, make_source};
+    use restamp_stream::{Reports, Settings, Stop, Tally, status};
+
+    // Which of three refused lines the log names, and the log.
+    static LOGS: [(Reports, &[u8]); 6] = [
+        (Reports::Quiet, b""),
+        (Reports::First(0), b"f: 3 more lines were refused\n"),
+        (
+            Reports::First(1),
+            b"f:1:1: bad\nf: 2 more lines were refused\n",
+        ),
+        (
+            Reports::First(2),
+            b"f:1:1: bad\nf:3:1: bad\nf: 1 more line was refused\n",
+        ),
+        (Reports::First(3), b"f:1:1: bad\nf:3:1: bad\nf:4:1: bad\n"),
+        (
+            Reports::First(u64::MAX),
+            b"f:1:1: bad\nf:3:1: bad\nf:4:1: bad\n",
+        ),
+    ];
+
+    #[test]
+    fn names_the_first(rt: HostRuntime) {
+        let input = b"!\na\n!\n!\n";
+        for (reports, log) in &LOGS {
+            let settings = Settings {
+                reports: *reports,
+                ..ALL
+            };
+            let got = answer_to(rt.alloc(), settings, make_source(input, 3));
+            assert!(rt;
+                got.is(Ok(()), input, log) && got.tally.refused == 3,
+                "{log:?}"
+            );
+        }
+    }
+
+    // How many lines were rewritten and refused, how many files were unread, why the work stopped, whether it was
+    // strict, and the status.
+    static STATUSES: [(u64, u64, u64, Option<Stop>, bool, u8); 7] = [
+        (0, 0, 0, None, false, 1),
+        (0, 0, 0, None, true, 1),
+        (1, 1, 0, None, false, 0),
+        (1, 1, 0, None, true, 2),
+        (1, 1, 0, Some(Stop::Unwritten), false, 2),
+        (0, 0, 0, Some(Stop::Refused), true, 2),
+        (1, 0, 1, None, false, 2),
+    ];
+
+    #[test]
+    fn statuses(rt: HostRuntime) {
+        for (rewritten, refused, unread, stop, strict, wanted) in &STATUSES {
+            let tally = Tally {
+                rewritten: *rewritten,
+                refused: *refused,
+                unread: *unread,
+                ..Tally::new()
+            };
+            assert!(rt; status(&tally, *stop, *strict) == *wanted, "{tally:?}");
+        }
+    }
 }

@@ -149,6 +149,9 @@ refused : (Y : ℕ) (format : Reading) (text : List ℕ) → may_be_of format te
 refused Y reading.Rfc3339 text none =
     let e = of_component (codes "year") in
     (e, λ defaults. (Err e, inl (Year, year-fails text none, refl), refl))
+refused Y (reading.Zoned zones) text none =
+    let e = of_component (codes "year") in
+    (e, λ defaults. (Err e, inl (Year, year-fails text none, refl), refl))
 refused Y reading.Rfc2822 text none =
     let e = of_component (codes "day") in
     (e, λ defaults. (Err e, (Err e, inl (mail_place.Day, mail-fails text none, refl), refl), refl))
@@ -219,13 +222,17 @@ no_digits : (a b c d : Bool) → a ≡ false → (a && b && c && d) ≡ false
 no_digits true b c d none = absurd (true≢false none)
 no_digits false b c d none = refl
 
+no_year : (x : ℕ) (b c d : Bool) → is_in digits x ≡ false → (is_ascii_digit x && b && c && d) ≡ false
+no_year x b c d none =
+    let others = or_parts (is_ascii_digit x || false || false) false none in
+    let mail = or_parts (is_ascii_digit x || false) false others.0 in
+    let digit = or_parts (is_ascii_digit x) false mail.0 in
+    no_digits (is_ascii_digit x) b c d digit.0
+
 -- by the first bytes alone a format refuses what it refuses by more of them
 unlike : (format : Reading) (text : List ℕ) → is_in (format_firsts format) (first text) ≡ false → may_be_of format text ≡ false
-unlike reading.Rfc3339 text none =
-    let others = or_parts (is_ascii_digit (first text) || false || false) false none in
-    let mail = or_parts (is_ascii_digit (first text) || false) false others.0 in
-    let digit = or_parts (is_ascii_digit (first text)) false mail.0 in
-    no_digits (is_ascii_digit (first text)) _ _ _ digit.0
+unlike reading.Rfc3339 text none = no_year (first text) _ _ _ none
+unlike (reading.Zoned zones) text none = no_year (first text) _ _ _ none
 unlike reading.Rfc2822 text none =
     let outer = or_parts _ _ none in
     let inner = or_parts _ _ outer.0 in
@@ -241,6 +248,13 @@ unlike (reading.Counted d) text none = none
 -- the first bytes of the part that is read
 near : (format : Reading) (text : List ℕ) → may_be_of format (take REACH text) ≡ may_be_of format text
 near reading.Rfc3339 text =
+    rw (
+      get_or-take REACH text 0 0 (omega arith),
+      get_or-take REACH text 1 0 (omega arith),
+      get_or-take REACH text 2 0 (omega arith),
+      get_or-take REACH text 3 0 (omega arith),
+    ) refl
+near (reading.Zoned zones) text =
     rw (
       get_or-take REACH text 0 0 (omega arith),
       get_or-take REACH text 1 0 (omega arith),

@@ -104,6 +104,7 @@ module _ (v : OffsetDateTime) (none : Times.nanosecond (offset_time v) ≡ 0) (m
 complete_tree : (format : Reading) (tree : Tree) → meaning_of format ≡ as_complete tree
     → (e : List Step) × (format ≡ reading.Complete e) × (steps_shape e ≡ tree)
 complete_tree reading.Rfc3339 tree e = absurd cc
+complete_tree (reading.Zoned zones) tree e = absurd cc
 complete_tree reading.Rfc2822 tree e = absurd cc
 complete_tree reading.Iso8601 tree e = absurd cc
 complete_tree (reading.Described d) tree e = absurd cc

@@ -157,7 +157,7 @@ module _ (d : List Step) (t : Tree) (v : OffsetDateTime) (bytes : List ℕ) (sam
       subst (λ u. Back u bytes defaults) (sym same) (says.after, back, says.is)
 
   not_guarded : is_negative_fraction text ≡ false
-      → Ok (said v (length bytes)) ≡ guarded (reading.Counted d) bytes (Ok (said v (length bytes)))
+      → Ok (said v (length bytes)) ≡ guarded (reading.Counted d) bytes (said v (length bytes))
   not_guarded plain =
       let none = ap is_negative_fraction (take-length bytes ∙ sym same_text) ∙ plain in
       sym (ap (λ refused. if refused then Err negative_fraction else Ok (said v (length bytes))) none)
@@ -174,6 +174,7 @@ tree_says (reading.Counted d) defaults t v bytes (same, says, plain) e = (
   not_guarded d t v bytes same e plain,
 )
 tree_says reading.Rfc3339 defaults t v bytes all e = absurd all
+tree_says (reading.Zoned zones) defaults t v bytes all e = absurd all
 tree_says reading.Rfc2822 defaults t v bytes all e = absurd all
 tree_says reading.Iso8601 defaults t v bytes all e = absurd all
 

@@ -55,6 +55,7 @@ module _ (Y : ℕ) (d e : Defaults) (same : d.year ≡ e.year) (text : List ℕ)
   read : (format : Reading) (is_open : Bool) (result : Result Said Refusal) → takes part.Offset format ≡ false
       → IsRead Y format is_open text d result → IsRead Y format is_open text e result
   read reading.Rfc3339 is_open result none is = is
+  read (reading.Zoned zones) is_open result none is = is
   read reading.Rfc2822 is_open result none is = is
   read reading.Iso8601 is_open result none is = absurd cc
   read (reading.Described it) is_open result none is = read_with (steps_shape it) (is_always _ none) is_open result is

@@ -449,6 +449,7 @@ module _ (Y : ℕ) (given : Bool) (l : Lack) (is_open : Bool) (text : List ℕ) 
   unread : (format : Reading) (defaults : Defaults) → (is_some defaults.year ≡ true → given ≡ true) → (s : Said)
       → format_lack given format ≡ Some l → IsRead Y format is_open text defaults (Ok s) → ⊥
   unread reading.Rfc3339 defaults year s lacks h = absurd cc
+  unread (reading.Zoned zones) defaults year s lacks h = absurd cc
   unread reading.Rfc2822 defaults year s lacks h = absurd cc
   unread reading.Iso8601 defaults year s lacks h = absurd cc
   unread (reading.Described d) defaults year s lacks h = no_text Y (steps_shape d) given l lacks text defaults year _ is_open s h

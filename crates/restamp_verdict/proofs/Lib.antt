@@ -9,8 +9,10 @@ mod FrontLemmas
 pub mod BeginsLemmas
 pub mod BareLemmas
 pub mod OneWriting
+pub mod ZonedLemmas
 pub mod OneVerdict
 pub mod WrittenAgain
+pub mod ZonedBack
 pub mod Offsets
 pub mod DescribedBack
 pub mod Telling

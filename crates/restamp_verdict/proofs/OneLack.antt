@@ -30,6 +30,7 @@ by-one reads refuses exact defaults text a b (inr (rest, r, p, q)) (inr (other, 
 part-one : (format : Reading) (defaults : Defaults) (text : List ℕ) (a b : Option Lack)
     → IsLackPart greatest_year format defaults text a → IsLackPart greatest_year format defaults text b → a ≡ b
 part-one reading.Rfc3339 defaults text a b p q = p ∙ sym q
+part-one (reading.Zoned zones) defaults text a b p q = p ∙ sym q
 part-one reading.Rfc2822 defaults text a b p q = p ∙ sym q
 part-one reading.Iso8601 defaults text a b p q = by-one _ _ (iso8601_exact greatest_year) defaults text a b p q
 part-one (reading.Described d) defaults text a b p q =

@@ -9,6 +9,7 @@ use Rattle.time_values.specs.Refusal.{Refusal}
 use Rattle.time_values.specs.Shown.{Items}
 use Rattle.time_values.specs.declared.offset_date_time.OffsetDateTime.{OffsetDateTime}
 use Rattle.time_values.specs.declared.utc_offset.UtcOffset.{UtcOffset}
+use Rattle.time_zones.specs.declared.zones.Zones.{Zones}
 use Rattle.time_zones.proofs.AnswerLemmas.{one_answer, same_offset_by_seconds}
 use Rattle.restamp_place.specs.Cuts.{span_of, body_of, is_open}
 use Rattle.restamp_place.specs.declared.cuts.Place.{Place}
@@ -31,10 +32,10 @@ use Rattle.time_parsing.specs.exact.Rfc3339Laws.{rfc3339_exact}
 use Rattle.time_parsing.proofs.OneOutcome.{one_moment_outcome, one_outcome, one_front}
 use Rattle.restamp_verdict.specs.Job.{Verdict, IsPutWithin, IsPut, IsJudgedAt, IsJudgedAnywhere, is_inside, alone, SaysAlone, AreTriedAlone, SaysFrom, SaysNoneBefore, IsFirst, is_kept, missed, verdict_of, refused, dropped}
 use Rattle.restamp_verdict.specs.Laws.{OneVerdict}
-use Rattle.restamp_verdict.specs.Reading.{IsReadBy, IsReadWith, IsRead, Says, SaysOn, SaysLocally, Undated, undated, at_offset, completed, in_year, is_after, is_early, is_of_clocks, IsEarly, IsFinal, year_after, AreYearsTried, IsCompleted, IsDated, AreTried, IsReadInTurn, all_of, front_of, bare_where, guarded}
+use Rattle.restamp_verdict.specs.Reading.{IsReadBy, IsReadWith, IsRead, Says, SaysOn, SaysLocally, Undated, undated, at_offset, completed, in_year, is_after, is_early, is_of_clocks, IsEarly, IsFinal, year_after, AreYearsTried, IsCompleted, IsDated, AreTried, IsReadInTurn, all_of, front_of, bare_where, guarded, IsGuarded, IsReadInFront, zones_of}
 use Rattle.time_components.specs.Steps.{steps_shape}
 use Rattle.restamp_verdict.specs.Local.{IsOffsetWhen, clock_of, offset_by}
-use Rattle.restamp_verdict.specs.Reason.{Reason, too_far}
+use Rattle.restamp_verdict.specs.Reason.{Reason, too_far, unread}
 use Rattle.restamp_verdict.specs.declared.local.Clocks.{Clocks}
 use Rattle.restamp_verdict.specs.declared.job.Job.{Job}
 use Rattle.restamp_verdict.specs.declared.job.TheConstants.{LIMIT, REACH}
@@ -44,6 +45,8 @@ use Rattle.restamp_verdict.specs.declared.reading.Reading.TheVariants as reading
 use Rattle.restamp_verdict.specs.declared.reading.Said.{Said}
 use Rattle.restamp_verdict.specs.Form.{IsWritten}
 use Rattle.restamp_verdict.proofs.OneWriting.{one_written}
+use Rattle.restamp_verdict.proofs.ZonedLemmas.{one_suffixed}
+use Rattle.restamp_verdict.specs.Zoned.{IsSuffixed}
 
 one_read_by : (is_open : Bool) (path : Path) (reads : Outcome.Reading) (refuses : Refusing)
     → IsExact reads refuses → IsExactPath greatest_year path reads refuses
@@ -72,11 +75,19 @@ one_read_with false reads refuses exact text defaults a b p q =
     p.2 ∙ ap (all_of text)
     (one_outcome reads refuses exact (IsCompleted greatest_year defaults) (one_completed defaults) text empty p.0 q.0 p.1 q.1) ∙ sym q.2
 
+pub one_read_in_front : (text : List ℕ) (a b : Result Said Refusal) → IsReadInFront greatest_year text a → IsReadInFront greatest_year text b
+    → a ≡ b
+one_read_in_front text a b p q =
+    one_read_by true (direct (RefusesRfc3339 greatest_year)) (Rfc3339.Reads greatest_year) (Rfc3339.Refuses greatest_year)
+    (rfc3339_exact greatest_year) rfc3339_exact_path text a b p q
+
 one_read : (format : Reading) (is_open : Bool) (text : List ℕ) (defaults : Defaults) (a b : Result Said Refusal)
     → IsRead greatest_year format is_open text defaults a → IsRead greatest_year format is_open text defaults b → a ≡ b
 one_read reading.Rfc3339 is_open text defaults a b p q =
     one_read_by is_open (direct (RefusesRfc3339 greatest_year)) (Rfc3339.Reads greatest_year) (Rfc3339.Refuses greatest_year)
     (rfc3339_exact greatest_year) rfc3339_exact_path text a b p q
+one_read (reading.Zoned zones) is_open text defaults a b p q =
+    one_read_in_front text a b p q
 one_read reading.Rfc2822 is_open text defaults a b p q =
     p.2 ∙ ap (bare_where is_open text)
     (one_read_by is_open (direct (RefusesRfc2822 greatest_year)) (Rfc2822.Reads greatest_year) (Rfc2822.Refuses greatest_year)
@@ -94,10 +105,25 @@ one_read (reading.Counted d) is_open text defaults a b p q =
     one_read_with is_open (Description.Reads greatest_year (steps_shape d)) (Description.Refuses greatest_year (steps_shape d))
     (tree_exact greatest_year (steps_shape d)) text defaults a b p q
 
+-- what is refused beside that is one
+one_guarded : (zones : Option Zones) (is_open : Bool) (text : List ℕ) (s : Said) (kept a b : Result Said Reason)
+    → MatchOption zones (a ≡ kept) (λ z. IsSuffixed z is_open text s a)
+    → MatchOption zones (b ≡ kept) (λ z. IsSuffixed z is_open text s b) → a ≡ b
+one_guarded None is_open text s kept a b p q = p ∙ sym q
+one_guarded (Some z) is_open text s kept a b p q = one_suffixed z text s is_open a b p q
+
+one_told : (format : Reading) (is_open : Bool) (text : List ℕ) (outcome : Result Said Refusal) (a b : Result Said Reason)
+    → MatchResult outcome (λ s. IsGuarded format is_open text s a) (λ e. a ≡ Err (unread e))
+    → MatchResult outcome (λ s. IsGuarded format is_open text s b) (λ e. b ≡ Err (unread e)) → a ≡ b
+one_told format is_open text (Ok s) a b p q = one_guarded (zones_of format) is_open text s (guarded format text s) a b p q
+one_told format is_open text (Err e) a b p q = p ∙ sym q
+
 pub one_says : (format : Reading) (is_open : Bool) (text : List ℕ) (defaults : Defaults) (a b : Result Said Reason)
     → Says greatest_year format is_open text defaults a → Says greatest_year format is_open text defaults b → a ≡ b
 one_says format is_open text defaults a b p q =
-    p.2 ∙ ap (guarded format text) (one_read format is_open text defaults p.0 q.0 p.1 q.1) ∙ sym q.2
+    one_told format is_open text q.0 a b
+    (subst (λ (outcome : Result Said Refusal). MatchResult outcome (λ s. IsGuarded format is_open text s a) (λ e. a ≡ Err (unread e)))
+    (one_read format is_open text defaults p.0 q.0 p.1 q.1) p.2) q.2
 
 -- what follows from one result is one
 one_after : {V X : Type 0} (r s : Result V Reason) (P : V → X → Type 0) (Q : Reason → X → Type 0) (x y : X) → r ≡ s

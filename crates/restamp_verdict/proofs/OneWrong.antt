@@ -1,7 +1,7 @@
 -- The time of a refused line goes wrong at one column.
-use Rattle.std.proofs.Common.{◌≡◌, ◌∙◌, ap, sym, ℕ, Bool, List, Option, Some, None, inl, inr}
+use Rattle.std.proofs.Common.{◌≡◌, ◌∙◌, ap, sym, subst, ℕ, ◌+◌, Bool, true, false, List, drop, Option, Some, None, Ok, Err, inl, inr}
 use Rattle.std.proofs.lemmas.Option.{same_Some}
-use Rattle.std.specs.Prelude.{MatchOption, slice_range}
+use Rattle.std.specs.Prelude.{MatchBool, MatchOption, MatchResult, Result, slice_range}
 use Rattle.time_values.specs.Range.{greatest_year}
 use Rattle.time_values.specs.Refusal.{Refusal}
 use Rattle.time_components.specs.Steps.{steps_shape}
@@ -10,17 +10,22 @@ use Rattle.restamp_place.specs.Cuts.{span_of, is_open}
 use Rattle.time_record.specs.Record.{empty}
 use Rattle.time_parsing.specs.Outcome as Outcome
 use Rattle.time_locating.specs.Located.{IsExactMark, IsExactPlace, IsValueAt, Locating, Marking, range_name, wants}
-use Rattle.time_locating.specs.Misses.{Miss, first_byte, missed}
+use Rattle.time_locating.specs.Misses.{Miss, first_byte, missed, the_end}
 use Rattle.time_locating.specs.exact.Iso8601Laws.{iso8601_exact_mark, iso8601_exact_place}
 use Rattle.time_locating.specs.exact.MarkLaws.{tree_exact_mark}
 use Rattle.time_locating.specs.exact.MissLaws.{tree_exact_place}
 use Rattle.time_locating.specs.exact.Rfc2822Laws.{rfc2822_exact_mark, rfc2822_exact_place}
 use Rattle.time_locating.specs.exact.Rfc3339Laws.{rfc3339_exact_mark, rfc3339_exact_place}
 use Rattle.time_locating.proofs.PlaceLemmas.{one_answer, one_index}
-use Rattle.restamp_verdict.specs.Wrong.{IsUnreadAt, IsWrongBy, IsWrongPart, IsWrongPlace, IsWrongTree, IsWrongValue, OneWrong, Wrong, column_at, refusal_in, wrong}
+use Rattle.restamp_verdict.specs.Reading.{IsReadInFront}
+use Rattle.restamp_verdict.specs.Wrong.{IsRefusedBySuffix, IsUnreadAt, IsWrongBehind, IsWrongBy, IsWrongFront, IsWrongPart, IsWrongPlace, IsWrongSuffix, IsWrongTail, IsWrongTree, IsWrongValue, OneWrong, Wrong, column_at, is_of_suffix, is_trailing, refusal_in, wrong}
+use Rattle.restamp_verdict.specs.Zoned.{Suffix}
 use Rattle.restamp_verdict.specs.declared.job.Job.{Job}
 use Rattle.restamp_verdict.specs.declared.reading.Reading.{Reading}
 use Rattle.restamp_verdict.specs.declared.reading.Reading.TheVariants as reading
+use Rattle.restamp_verdict.specs.declared.reading.Said.{Said}
+use Rattle.restamp_verdict.proofs.OneVerdict.{one_read_in_front}
+use Rattle.restamp_verdict.proofs.ZonedLemmas.{one_suffix}
 
 -- a format that reads all, over which an index is that of a value alone
 abbrev reads_all : Outcome.Reading
@@ -64,10 +69,45 @@ tree-one : (tree : Tree) (is_open : Bool) (start : ℕ) (text : List ℕ) (e : R
 tree-one tree is_open start text e w v h k =
     by-one _ _ _ (tree_exact_place greatest_year first_byte tree) (tree_exact_mark greatest_year tree) start text is_open e w v h k
 
+-- what follows from what a front says is one
+module _ (text : List ℕ) (P : Said → Wrong → Type 0) (Q : Wrong → Type 0) (w v : Wrong) where
+  outcome-one : (outcome : Result Said Refusal) → ((s : Said) → P s w → P s v → w ≡ v) → (Q w → Q v → w ≡ v)
+      → MatchResult outcome (λ s. P s w) (λ e. Q w) → MatchResult outcome (λ s. P s v) (λ e. Q v) → w ≡ v
+  outcome-one (Ok s) one other h k = one s h k
+  outcome-one (Err e) one other h k = other h k
+
+  front-one : ((s : Said) → P s w → P s v → w ≡ v) → (Q w → Q v → w ≡ v)
+      → (outcome : Result Said Refusal) × IsReadInFront greatest_year text outcome × MatchResult outcome (λ s. P s w) (λ e. Q w)
+      → (outcome : Result Said Refusal) × IsReadInFront greatest_year text outcome × MatchResult outcome (λ s. P s v) (λ e. Q v)
+      → w ≡ v
+  front-one one other h k =
+      outcome-one k.0 one other
+      (subst (λ (outcome : Result Said Refusal). MatchResult outcome (λ s. P s w) (λ e. Q w))
+      (one_read_in_front text h.0 k.0 h.1 k.1) h.2) k.2
+
+by-front-one : (start : ℕ) (text : List ℕ) (e : Refusal) (w v : Wrong) → IsWrongFront greatest_year start text e w
+    → IsWrongFront greatest_year start text e v → w ≡ v
+by-front-one start text e w v h k = by-one _ _ _ (rfc3339_exact_place greatest_year) rfc3339_exact_mark start text true e w v h k
+
+behind-one : (start : ℕ) (text : List ℕ) (front : Said) (w v : Wrong) → IsWrongBehind start text front w → IsWrongBehind start text front v
+    → w ≡ v
+behind-one start text front w v h k =
+    h.2 ∙ ap (λ (s : Suffix). wrong (start + front.length + s.len + 1) (Some the_end))
+    (one_suffix (drop front.length text) h.0 k.0 h.1 k.1) ∙ sym k.2
+
+zoned-one : (trailing : Bool) (start : ℕ) (text : List ℕ) (e : Refusal) (w v : Wrong)
+    → MatchBool trailing (IsWrongTail greatest_year start text e w) (IsWrongFront greatest_year start text e w)
+    → MatchBool trailing (IsWrongTail greatest_year start text e v) (IsWrongFront greatest_year start text e v) → w ≡ v
+zoned-one true start text e w v h k =
+    front-one text (IsWrongBehind start text) (IsWrongFront greatest_year start text e) w v
+    (λ front. behind-one start text front w v) (by-front-one start text e w v) h k
+zoned-one false start text e w v h k = by-front-one start text e w v h k
+
 part-one : (format : Reading) (is_open : Bool) (start : ℕ) (text : List ℕ) (e : Refusal) (w v : Wrong)
     → IsWrongPart greatest_year format is_open start text e w → IsWrongPart greatest_year format is_open start text e v → w ≡ v
 part-one reading.Rfc3339 is_open start text e w v h k =
     by-one _ _ _ (rfc3339_exact_place greatest_year) rfc3339_exact_mark start text is_open e w v h k
+part-one (reading.Zoned zones) is_open start text e w v h k = zoned-one (is_trailing e) start text e w v h k
 part-one reading.Rfc2822 is_open start text e w v h k =
     by-one _ _ _ (rfc2822_exact_place greatest_year) rfc2822_exact_mark start text is_open e w v h k
 part-one reading.Iso8601 is_open start text e w v h k =
@@ -92,8 +132,31 @@ unread-one job line e otherwise w v =
     (λ span u. IsWrongPart greatest_year job.first.now (is_open place) span.start (slice_range line span.start span.stop) e u) w v
     (λ span. part-one job.first.now (is_open place) span.start (slice_range line span.start span.stop) e w v))
 
+-- so is where the suffix begins that refuses a time
+suffix-one : (job : Job) (line : List ℕ) (otherwise w v : Wrong) → IsRefusedBySuffix greatest_year job line otherwise w
+    → IsRefusedBySuffix greatest_year job line otherwise v → w ≡ v
+suffix-one job line otherwise w v =
+    one_choice job.place otherwise
+    (λ place u. MatchOption (span_of place line) (u ≡ otherwise)
+    (λ span. IsWrongSuffix greatest_year span.start (slice_range line span.start span.stop) otherwise u)) w v
+    (λ place. one_choice (span_of place line) otherwise
+    (λ span u. IsWrongSuffix greatest_year span.start (slice_range line span.start span.stop) otherwise u) w v
+    (λ span. front-one (slice_range line span.start span.stop) (λ front u. u ≡ wrong (span.start + front.length + 1) None)
+    (λ u. u ≡ otherwise) w v (λ front h k. h ∙ sym k) (λ h k. h ∙ sym k)))
+
+where-one : (of_suffix : Bool) (job : Job) (line : List ℕ) (otherwise w v : Wrong)
+    → MatchBool of_suffix (IsRefusedBySuffix greatest_year job line otherwise w) (w ≡ otherwise)
+    → MatchBool of_suffix (IsRefusedBySuffix greatest_year job line otherwise v) (v ≡ otherwise) → w ≡ v
+where-one true job line otherwise w v h k = suffix-one job line otherwise w v h k
+where-one false job line otherwise w v h k = h ∙ sym k
+
+told-one : (refusal : Option Refusal) (of_suffix : Bool) (job : Job) (line : List ℕ) (otherwise w v : Wrong)
+    → MatchOption refusal (MatchBool of_suffix (IsRefusedBySuffix greatest_year job line otherwise w) (w ≡ otherwise))
+    (λ e. IsUnreadAt greatest_year job line e otherwise w)
+    → MatchOption refusal (MatchBool of_suffix (IsRefusedBySuffix greatest_year job line otherwise v) (v ≡ otherwise))
+    (λ e. IsUnreadAt greatest_year job line e otherwise v) → w ≡ v
+told-one None of_suffix job line otherwise w v h k = where-one of_suffix job line otherwise w v h k
+told-one (Some e) of_suffix job line otherwise w v h k = unread-one job line e otherwise w v h k
+
 pub one_wrong : OneWrong greatest_year
-one_wrong job line column reason w v =
-    let otherwise = wrong column None in
-    one_choice (refusal_in reason) otherwise (λ e u. IsUnreadAt greatest_year job line e otherwise u) w v
-    (λ e. unread-one job line e otherwise w v)
+one_wrong job line column reason w v = told-one (refusal_in reason) (is_of_suffix reason) job line (wrong column None) w v

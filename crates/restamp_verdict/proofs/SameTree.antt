@@ -41,6 +41,7 @@ ByTree format tree = (e : List Step) × (format ≡ reading.Described e) × (ste
 
 by_tree : (format : Reading) (tree : Tree) → meaning_of format ≡ as_tree tree → ByTree format tree
 by_tree reading.Rfc3339 tree e = absurd cc
+by_tree (reading.Zoned zones) tree e = absurd cc
 by_tree reading.Rfc2822 tree e = absurd cc
 by_tree reading.Iso8601 tree e = absurd cc
 by_tree (reading.Described d) tree e = let same : steps_shape d ≡ tree = cc in (d, refl, same)

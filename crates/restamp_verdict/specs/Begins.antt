@@ -76,6 +76,7 @@ steps_firsts _ = all
 -- those of a format
 abbrev pub format_firsts : Reading → Firsts
 format_firsts reading.Rfc3339 = digits
+format_firsts (reading.Zoned zones) = digits
 format_firsts reading.Rfc2822 = mail
 format_firsts reading.Iso8601 = all
 format_firsts (reading.Described d) = steps_firsts d
@@ -110,6 +111,7 @@ may_be_mail bytes =
 -- a text of the format may stand in front, as far as the first bytes tell
 abbrev pub may_be_of : Reading → List ℕ → Bool
 may_be_of reading.Rfc3339 bytes = has_year bytes
+may_be_of (reading.Zoned zones) bytes = has_year bytes
 may_be_of reading.Rfc2822 bytes = may_be_mail bytes
 may_be_of reading.Iso8601 bytes = true
 may_be_of (reading.Described d) bytes = is_in (steps_firsts d) (slice_index bytes 0)

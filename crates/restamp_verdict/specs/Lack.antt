@@ -151,6 +151,7 @@ lack_of has_year t =
 -- What no text of a format says. RFC 3339, RFC 2822 and ISO 8601 have texts that say a moment.
 abbrev pub format_lack : Bool → Reading → Option Lack
 format_lack has_year reading.Rfc3339 = None
+format_lack has_year (reading.Zoned zones) = None
 format_lack has_year reading.Rfc2822 = None
 format_lack has_year reading.Iso8601 = None
 format_lack has_year (reading.Described d) = lack_of has_year (steps_shape d)
@@ -161,6 +162,7 @@ format_lack has_year (reading.Counted d) = lack_of has_year (steps_shape d)
 -- moment, and a complete description does; a date of ISO 8601 says its year.
 abbrev pub takes : Part → Reading → Bool
 takes p reading.Rfc3339 = false
+takes p (reading.Zoned zones) = false
 takes p reading.Rfc2822 = false
 takes part.Year reading.Iso8601 = false
 takes part.Offset reading.Iso8601 = true

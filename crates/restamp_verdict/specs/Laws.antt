@@ -1,5 +1,5 @@
 -- Laws of what becomes of a line.
-use Rattle.std.specs.Prelude.{◌≡◌, ℕ, ◌+◌, nat_lt, pos, codes, false, MatchBool, List, length, slice_range, Some, Result, Ok, IsOkAnd}
+use Rattle.std.specs.Prelude.{◌≡◌, ℕ, ◌+◌, nat_lt, pos, codes, false, MatchBool, List, ◌++◌, length, Option, slice_range, Some, Result, Ok, IsOkAnd}
 use Rattle.time_values.specs.Moments.{offset_of, offset_time}
 use Rattle.time_values.specs.Offsets as Offsets
 use Rattle.time_values.specs.Shown.{Items}
@@ -18,13 +18,17 @@ use Rattle.restamp_place.specs.Cuts.{span_of, is_open}
 use Rattle.restamp_place.specs.declared.cuts.Place.{Place}
 use Rattle.restamp_place.specs.declared.fields.Span.{Span}
 use Rattle.time_components.specs.Steps.{steps_shape}
+use Rattle.time_zones.specs.Checking.{GoesWith}
+use Rattle.time_zones.specs.Suffix.{IsSuffix, Tag, ZoneTag, critical_key}
+use Rattle.time_zones.specs.declared.zones.Zones.{Zones}
 use Rattle.restamp_verdict.specs.Clock.{IsShown}
 use Rattle.restamp_verdict.specs.Form.{IsWritten}
 use Rattle.restamp_verdict.specs.Job.{Verdict, rewritten, dropped, refused, is_kept, IsJudged}
 use Rattle.restamp_verdict.specs.Naming.{way_of, common_text, meaning_of, Means, MeansWriting}
 use Rattle.restamp_verdict.specs.ReadBack.{pieces, AllStop, SaysMoment, ReadsTree}
-use Rattle.restamp_verdict.specs.Reading.{Says, completed, IsCompleted}
+use Rattle.restamp_verdict.specs.Reading.{Says, completed, IsCompleted, said}
 use Rattle.restamp_verdict.specs.Reason.{Reason, too_far}
+use Rattle.restamp_verdict.specs.Zoned.{tells_offset}
 use Rattle.restamp_verdict.specs.Told.{with_all_told, HasAll, SignTells}
 use Rattle.time_components.specs.declared.step.Step.{Step}
 use Rattle.restamp_verdict.specs.declared.form.Form.{Form}
@@ -76,6 +80,17 @@ ReadsRewrittenBack Y =
     → IsReadable Y format defaults form v bytes → Says Y format false bytes defaults read
     → IsOkAnd read
     (λ said. IsShown Y form.clock v (Some said.moment) × (said.start ≡ 0) × (said.length ≡ length bytes))
+
+-- A text of RFC 3339 that says a moment, with a suffix behind it that goes with that moment, says the moment with all
+-- its bytes.
+abbrev pub ReadsSuffixedBack : ℕ → Type 0
+ReadsSuffixedBack Y =
+    (zones : Zones) (defaults : Defaults) (v : OffsetDateTime) (text behind : List ℕ) (zone : Option ZoneTag)
+    (tags : List Tag) (read : Result Said Reason)
+    → Says Y reading.Rfc3339 false text defaults (Ok (said v (length text)))
+    → IsSuffix behind zone tags → GoesWith zones (tells_offset text) v zone (critical_key tags) (Ok tt)
+    → Says Y (reading.Zoned zones) false (text ++ behind) defaults read
+    → read ≡ Ok (said v (length (text ++ behind)))
 
 -- What such a text says has that text in the form.
 abbrev pub WritesSameText : ℕ → Type 0

@@ -1,5 +1,6 @@
 pub mod Reason
 pub mod Local
+pub mod Zoned
 pub mod Reading
 pub mod Clock
 pub mod Form

@@ -79,6 +79,7 @@ IsLackBy Y reads refuses defaults text result =
 -- The same by any of the formats. RFC 3339 and RFC 2822 say all of a moment, and a complete description is read alone.
 abbrev pub IsLackPart : ℕ → Reading → Defaults → List ℕ → Option Lack → Type 0
 IsLackPart Y reading.Rfc3339 defaults text result = result ≡ None
+IsLackPart Y (reading.Zoned zones) defaults text result = result ≡ None
 IsLackPart Y reading.Rfc2822 defaults text result = result ≡ None
 IsLackPart Y reading.Iso8601 defaults text result =
     IsLackBy Y (Iso8601.Reads Y) (Iso8601.Refuses Y) defaults text result

@@ -72,10 +72,11 @@ way_of name =
     if bytes_eq name (codes "syslog") then
     brackets (codes "[month repr:short] [day padding:space] [hour]:[minute]:[second]") else described_way name
 
--- what a format means: a format that has no description, or the tree of one: of one whose texts say all of a moment, or
--- of a number of seconds
+-- what a format means: a format that has no description, of which RFC 9557 has no name; or the tree of one: of one
+-- whose texts say all of a moment, or of a number of seconds
 pub data Meaning : Type 0 where
   as_rfc3339 : Meaning
+  as_rfc9557 : Meaning
   as_rfc2822 : Meaning
   as_iso8601 : Meaning
   as_tree : Tree → Meaning
@@ -84,6 +85,7 @@ pub data Meaning : Type 0 where
 
 abbrev pub meaning_of : Reading → Meaning
 meaning_of reading.Rfc3339 = as_rfc3339
+meaning_of (reading.Zoned zones) = as_rfc9557
 meaning_of reading.Rfc2822 = as_rfc2822
 meaning_of reading.Iso8601 = as_iso8601
 meaning_of (reading.Described d) = as_tree (steps_shape d)

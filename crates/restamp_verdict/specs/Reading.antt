@@ -20,8 +20,10 @@ use Rattle.time_parsing.specs.Iso8601 as Iso8601
 use Rattle.time_parsing.specs.Rfc2822 as Rfc2822
 use Rattle.time_parsing.specs.Rfc3339 as Rfc3339
 use Rattle.time_components.specs.Steps.{steps_shape}
+use Rattle.time_zones.specs.declared.zones.Zones.{Zones}
 use Rattle.restamp_verdict.specs.Local.{IsOffsetWhen}
 use Rattle.restamp_verdict.specs.Reason.{Reason, unread, negative_fraction, left_out, shown_twice}
+use Rattle.restamp_verdict.specs.Zoned.{IsSuffixed}
 use Rattle.restamp_verdict.specs.declared.local.Clocks.{Clocks}
 use Rattle.restamp_verdict.specs.declared.reading.Reading.{Reading}
 use Rattle.restamp_verdict.specs.declared.reading.Reading.TheVariants as reading
@@ -125,11 +127,16 @@ IsReadMail Y is_open text result =
     × IsReadBy Y is_open (direct (RefusesRfc2822 Y)) (Rfc2822.Reads Y) (Rfc2822.Refuses Y) text padded
     × (result ≡ bare_where is_open text padded)
 
--- The same by any of the formats. A text of RFC 3339, of RFC 2822 or of a complete description says all of a moment, so
--- that defaults don't count.
+-- what a front of a text says by RFC 3339
+abbrev pub IsReadInFront : ℕ → List ℕ → Result Said Refusal → Type 0
+IsReadInFront Y = IsReadBy Y true (direct (RefusesRfc3339 Y)) (Rfc3339.Reads Y) (Rfc3339.Refuses Y)
+
+-- The same by any of the formats; of a text with a suffix, the time before that. A text of RFC 3339, of RFC 2822 or of
+-- a complete description says all of a moment, so that defaults don't count.
 abbrev pub IsRead : ℕ → Reading → Bool → List ℕ → Defaults → Result Said Refusal → Type 0
 IsRead Y reading.Rfc3339 is_open text defaults =
     IsReadBy Y is_open (direct (RefusesRfc3339 Y)) (Rfc3339.Reads Y) (Rfc3339.Refuses Y) text
+IsRead Y (reading.Zoned zones) is_open text defaults = IsReadInFront Y text
 IsRead Y reading.Rfc2822 is_open text defaults = IsReadMail Y is_open text
 IsRead Y reading.Iso8601 is_open text defaults =
     IsReadWith Y is_open (Iso8601.Reads Y) (Iso8601.Refuses Y) text defaults
@@ -140,9 +147,20 @@ IsRead Y (reading.Complete d) is_open text defaults =
 IsRead Y (reading.Counted d) is_open text defaults =
     IsReadWith Y is_open (Description.Reads Y (steps_shape d)) (Description.Refuses Y (steps_shape d)) text defaults
 
+-- the zones by whose names a suffix may stand behind a time
+abbrev pub zones_of : Reading → Option Zones
+zones_of (reading.Zoned zones) = Some zones
+zones_of reading.Rfc3339 = None
+zones_of reading.Rfc2822 = None
+zones_of reading.Iso8601 = None
+zones_of (reading.Described d) = None
+zones_of (reading.Complete d) = None
+zones_of (reading.Counted d) = None
+
 -- whether a fraction after a minus is refused
 abbrev pub is_counted : Reading → Bool
 is_counted reading.Rfc3339 = false
+is_counted (reading.Zoned zones) = false
 is_counted reading.Rfc2822 = false
 is_counted reading.Iso8601 = false
 is_counted (reading.Described d) = false
@@ -154,16 +172,26 @@ abbrev pub is_negative_fraction : List ℕ → Bool
 is_negative_fraction number = slice_index number 0 == 45 && list_any (λ x. x == 46) number
 
 -- what is refused beside what the format refuses
-abbrev pub guarded : Reading → List ℕ → Result Said Refusal → Result Said Reason
-guarded format text (Ok s) =
+abbrev pub guarded : Reading → List ℕ → Said → Result Said Reason
+guarded format text s =
     if is_counted format && is_negative_fraction (take s.length text) then Err negative_fraction else Ok s
-guarded format text (Err e) = Err (unread e)
+
+-- the same, where a suffix may stand behind what is said
+abbrev pub IsGuarded : Reading → Bool → List ℕ → Said → Result Said Reason → Type 0
+IsGuarded format is_open text s result =
+    MatchOption (zones_of format) (result ≡ guarded format text s) (λ zones. IsSuffixed zones is_open text s result)
+
+-- what a text says by RFC 3339 with a suffix, or why it says nothing
+abbrev pub SaysZoned : ℕ → Zones → Bool → List ℕ → Result Said Reason → Type 0
+SaysZoned Y zones is_open text result =
+    (front : Result Said Refusal) × IsReadInFront Y text front
+    × MatchResult front (λ s. IsSuffixed zones is_open text s result) (λ e. result ≡ Err (unread e))
 
 -- what a text says by a format, or why it says nothing
 abbrev pub Says : ℕ → Reading → Bool → List ℕ → Defaults → Result Said Reason → Type 0
 Says Y format is_open text defaults result =
     (outcome : Result Said Refusal) × IsRead Y format is_open text defaults outcome
-    × (result ≡ guarded format text outcome)
+    × MatchResult outcome (λ s. IsGuarded format is_open text s result) (λ e. result ≡ Err (unread e))
 
 -- the same defaults with that offset
 abbrev pub at_offset : UtcOffset → Defaults → Defaults

@@ -7,6 +7,8 @@ use Rattle.time_values.specs.Shown.{Items, fixed}
 use Rattle.time_values.specs.Texts.{refusal_text}
 use Rattle.time_writing.specs.Unwritable.{unwritable_text}
 use Rattle.time_writing.specs.declared.unwritable.Unwritable.{Unwritable}
+use Rattle.time_zones.specs.Texts.{suffix_fault_text}
+use Rattle.time_zones.specs.declared.checking.SuffixFault.{SuffixFault}
 use Rattle.restamp_verdict.specs.declared.reading.Said.{Said}
 use Rattle.restamp_verdict.specs.declared.reason.OffsetParts.{OffsetParts}
 use Rattle.restamp_verdict.specs.declared.reason.TwoOffsets.{TwoOffsets}
@@ -14,8 +16,8 @@ use Rattle.restamp_verdict.specs.declared.reason.Reason as declared
 use Rattle.restamp_verdict.specs.declared.reason.Reason.TheVariants as variant
 
 -- no format reads it, it has a fraction after a minus, the clocks of its zone leave it out or show it twice, at these
--- offsets, it has no date at an offset, no time zone tells of it, it has no text by a format or by a description, it
--- goes on too far, or has no place
+-- offsets, it has no date at an offset, no time zone tells of it, its suffix refuses it, it has no text by a format or
+-- by a description, it goes on too far, or has no place
 pub data Reason : Type 0 where
   unread : Refusal → Reason
   negative_fraction : Reason
@@ -23,6 +25,7 @@ pub data Reason : Type 0 where
   shown_twice : TwoOffsets → Reason
   out_of_range : Reason
   untold : Reason
+  suffix : SuffixFault → Reason
   unwritable : Unwritable → Reason
   unformattable : Unformattable → Reason
   too_far : Reason
@@ -36,6 +39,7 @@ seen variant.LeftOut = left_out
 seen (variant.ShownTwice offsets) = shown_twice offsets
 seen variant.OutOfRange = out_of_range
 seen variant.Untold = untold
+seen (variant.Suffix fault) = suffix fault
 seen (variant.Unwritable why) = unwritable why
 seen (variant.Unformattable why) = unformattable why
 seen variant.TooFar = too_far
@@ -64,6 +68,7 @@ text_with zone (shown_twice offsets) =
     codes "the clocks of " ++ zone ++ codes " show it twice, at " ++ offsets_text offsets
 text_with zone out_of_range = codes "the time has no date at that offset"
 text_with zone untold = codes "no time zone tells of that time"
+text_with zone (suffix fault) = suffix_fault_text fault
 text_with zone (unwritable why) = unwritable_text why
 text_with zone (unformattable why) = unformattable_text why
 text_with zone too_far = codes "the time goes on past byte 262144 of its line"

@@ -1,7 +1,7 @@
 -- Where the time of a refused line goes wrong, and what was expected there. `Y` is the greatest year.
-use Rattle.std.specs.Prelude.{◌≡◌, ℕ, ◌+◌, ◌⊎◌, Bool, true, false, List, [], slice_range, Option, None, Some, MatchOption}
+use Rattle.std.specs.Prelude.{◌≡◌, ℕ, ◌+◌, ◌⊎◌, Bool, true, false, List, [], drop, slice_range, Option, None, Some, MatchBool, MatchOption, Result, MatchResult}
 use Rattle.std.specs.Option.{option_map}
-use Rattle.time_values.specs.Refusal.{Refusal}
+use Rattle.time_values.specs.Refusal.{Refusal, trailing}
 use Rattle.time_components.specs.Steps.{steps_shape}
 use Rattle.time_components.specs.Tree.{Tree}
 use Rattle.restamp_place.specs.Cuts.{span_of, is_open}
@@ -15,14 +15,17 @@ use Rattle.time_locating.specs.Iso8601 as located_iso
 use Rattle.time_locating.specs.IsoMarks as iso_marks
 use Rattle.time_locating.specs.Located.{IsLocated, IsValueAt, Locating, Marking, range_name, wants}
 use Rattle.time_locating.specs.Marks.{MarksTree}
-use Rattle.time_locating.specs.Misses.{LocatesTree, Wanted, first_byte}
+use Rattle.time_locating.specs.Misses.{LocatesTree, Wanted, first_byte, the_end}
 use Rattle.time_locating.specs.Rfc2822 as located_mail
 use Rattle.time_locating.specs.Rfc3339 as located_rfc3339
 use Rattle.time_locating.specs.declared.located.Located.{Located}
-use Rattle.restamp_verdict.specs.Reason.{Reason, unread}
+use Rattle.restamp_verdict.specs.Reading.{IsReadInFront}
+use Rattle.restamp_verdict.specs.Reason.{Reason, suffix, unread}
+use Rattle.restamp_verdict.specs.Zoned.{IsLongestSuffix, Suffix}
 use Rattle.restamp_verdict.specs.declared.job.Job.{Job}
 use Rattle.restamp_verdict.specs.declared.reading.Reading.{Reading}
 use Rattle.restamp_verdict.specs.declared.reading.Reading.TheVariants as reading
+use Rattle.restamp_verdict.specs.declared.reading.Said.{Said}
 use Rattle.restamp_verdict.specs.declared.wrong.Wrong as declared
 
 -- where a time goes wrong: the column of that byte, from 1, and what was expected there, where that is told
@@ -73,9 +76,36 @@ IsWrongBy reads locates marks is_open start text e w =
 abbrev pub IsWrongTree : ℕ → Tree → Bool → ℕ → List ℕ → Refusal → Wrong → Type 0
 IsWrongTree Y tree = IsWrongBy (Description.Reads Y tree) (LocatesTree Y first_byte tree) (MarksTree Y tree)
 
+-- bytes were left
+abbrev pub is_trailing : Refusal → Bool
+is_trailing trailing = true
+is_trailing e = false
+
+-- where a part of a line goes wrong by RFC 3339 of its front
+abbrev pub IsWrongFront : ℕ → ℕ → List ℕ → Refusal → Wrong → Type 0
+IsWrongFront Y = IsWrongBy (Rfc3339.Reads Y) located_rfc3339.Locates located_rfc3339.Marks true
+
+-- behind the suffix that stands behind such a front
+abbrev pub IsWrongBehind : ℕ → List ℕ → Said → Wrong → Type 0
+IsWrongBehind start text front w =
+    (s : Suffix) × IsLongestSuffix (drop front.length text) s
+    × (w ≡ wrong (start + front.length + s.len + 1) (Some the_end))
+
+-- of one where bytes are left: behind the suffix
+abbrev pub IsWrongTail : ℕ → ℕ → List ℕ → Refusal → Wrong → Type 0
+IsWrongTail Y start text e w =
+    (outcome : Result Said Refusal) × IsReadInFront Y text outcome
+    × MatchResult outcome (λ front. IsWrongBehind start text front w) (λ _. IsWrongFront Y start text e w)
+
+-- of one that may have a suffix
+abbrev pub IsWrongZoned : ℕ → ℕ → List ℕ → Refusal → Wrong → Type 0
+IsWrongZoned Y start text e w =
+    MatchBool (is_trailing e) (IsWrongTail Y start text e w) (IsWrongFront Y start text e w)
+
 -- The same by any of the formats. No defaults count, since they only stand for what a text doesn't say.
 abbrev pub IsWrongPart : ℕ → Reading → Bool → ℕ → List ℕ → Refusal → Wrong → Type 0
 IsWrongPart Y reading.Rfc3339 = IsWrongBy (Rfc3339.Reads Y) located_rfc3339.Locates located_rfc3339.Marks
+IsWrongPart Y (reading.Zoned zones) = λ _. IsWrongZoned Y
 IsWrongPart Y reading.Rfc2822 = IsWrongBy (Rfc2822.Reads Y) located_mail.Locates located_mail.Marks
 IsWrongPart Y reading.Iso8601 = IsWrongBy (Iso8601.Reads Y) (located_iso.Locates Y) (iso_marks.Marks Y)
 IsWrongPart Y (reading.Described d) = IsWrongTree Y (steps_shape d)
@@ -94,11 +124,32 @@ IsUnreadAt Y job line e otherwise w =
     (λ place. MatchOption (span_of place line) (w ≡ otherwise)
     (λ span. IsWrongPart Y job.first.now (is_open place) span.start (slice_range line span.start span.stop) e w))
 
+-- a time is refused by its suffix
+abbrev pub is_of_suffix : Reason → Bool
+is_of_suffix (suffix fault) = true
+is_of_suffix reason = false
+
+-- Where a part of a line from a byte on goes wrong whose suffix refuses it: behind its time of RFC 3339; or that, where
+-- it has none.
+abbrev pub IsWrongSuffix : ℕ → ℕ → List ℕ → Wrong → Wrong → Type 0
+IsWrongSuffix Y start text otherwise w =
+    (outcome : Result Said Refusal) × IsReadInFront Y text outcome
+    × MatchResult outcome (λ front. w ≡ wrong (start + front.length + 1) None) (λ _. w ≡ otherwise)
+
+-- the same of a line; or that, where it has no place for a time
+abbrev pub IsRefusedBySuffix : ℕ → Job → List ℕ → Wrong → Wrong → Type 0
+IsRefusedBySuffix Y job line otherwise w =
+    MatchOption job.place (w ≡ otherwise)
+    (λ place. MatchOption (span_of place line) (w ≡ otherwise)
+    (λ span. IsWrongSuffix Y span.start (slice_range line span.start span.stop) otherwise w))
+
 -- Where the time of a line goes wrong that is refused at a column for a reason: at that column, unless no format reads
--- it.
+-- it, or its suffix refuses it.
 abbrev pub IsWrong : ℕ → Job → List ℕ → ℕ → Reason → Wrong → Type 0
 IsWrong Y job line column reason w =
-    MatchOption (refusal_in reason) (w ≡ wrong column None) (λ e. IsUnreadAt Y job line e (wrong column None) w)
+    MatchOption (refusal_in reason)
+    (MatchBool (is_of_suffix reason) (IsRefusedBySuffix Y job line (wrong column None) w) (w ≡ wrong column None))
+    (λ e. IsUnreadAt Y job line e (wrong column None) w)
 
 -- The time of such a line goes wrong at one column, where one thing was expected or nothing is told.
 abbrev pub OneWrong : ℕ → Type 0

@@ -308,7 +308,8 @@ impl Reading {
         ensures { result ≡ spec.format_lack has_year self.now }
     {
         match self {
-            Reading::Rfc3339 | Reading::Rfc2822 | Reading::Iso8601 => None,
+            Reading::Rfc3339 | Reading::Zoned(_) | Reading::Rfc2822 => None,
+            Reading::Iso8601 => None,
             Reading::Described(description) => lack_of(description.steps(), has_year),
             Reading::Complete(description) => lack_of(description.steps(), has_year),
             Reading::Counted(description) => lack_of(description.steps(), has_year),
@@ -320,7 +321,8 @@ impl Reading {
         ensures { result ≡ spec.takes part self.now }
     {
         match self {
-            Reading::Rfc3339 | Reading::Rfc2822 | Reading::Complete(_) => false,
+            Reading::Rfc3339 | Reading::Zoned(_) => false,
+            Reading::Rfc2822 | Reading::Complete(_) => false,
             Reading::Iso8601 => matches!(part, Part::Offset),
             Reading::Described(description) => !one_always(description.steps(), part),
             Reading::Counted(description) => !one_always(description.steps(), part),

@@ -1,6 +1,6 @@
 //! Laws of what becomes of a line: each function does nothing, and its contract is the law.
 ghost use Rattle.time_values.specs.Range.{greatest_year};
-ghost use Rattle.restamp_verdict.specs.Laws.{OneVerdict, AutoHasAll, ReadsRewrittenBack, WritesSameText, ChangesNothing, KeepsMoment, SaysAllTold, SignsTell, OneTree, CommonReadsBack};
+ghost use Rattle.restamp_verdict.specs.Laws.{OneVerdict, AutoHasAll, ReadsRewrittenBack, ReadsSuffixedBack, WritesSameText, ChangesNothing, KeepsMoment, SaysAllTold, SignsTell, OneTree, CommonReadsBack};
 
 /// A line has one verdict, whatever the job.
 #[tactic(auto, using(crate::proofs::OneVerdict::one_verdict))]
@@ -17,6 +17,12 @@ pub fn law_one_verdict()
 pub fn law_rewritten_read_back()
     ensures text { ReadsRewrittenBack greatest_year }
     ensures auto { AutoHasAll }
+{}
+
+/// A text that RFC 3339 takes whole, as all are that were written by it, is read by RFC 9557 as the same moment with a
+/// suffix behind it that goes with that moment.
+pub fn law_suffixed_read_back()
+    ensures { ReadsSuffixedBack greatest_year }
 {}
 
 /// A second run changes nothing. What a text of [`law_rewritten_read_back`] says is written in the same form as that

@@ -5,6 +5,7 @@ mod anywhere;
 mod clock;
 mod dated;
 mod form;
+mod guard;
 mod job;
 mod lack;
 pub mod lack_laws;
@@ -15,6 +16,7 @@ mod naming;
 mod reading;
 mod reason;
 mod wrong;
+mod zoned;
 
 pub use clock::Clock;
 pub use dated::{read_dated, read_in_turn};

@@ -152,7 +152,8 @@ impl Reading {
         ensures { spec.IsLackPart greatest_year self.now defaults.now text.now result }
     {
         match self {
-            Reading::Rfc3339 | Reading::Rfc2822 | Reading::Complete(_) => None,
+            Reading::Rfc3339 | Reading::Zoned(_) => None,
+            Reading::Rfc2822 | Reading::Complete(_) => None,
             Reading::Iso8601 => lack_by(&Iso8601, defaults, text),
             Reading::Described(described) => lack_by(described, defaults, text),
             Reading::Counted(described) => lack_by(described, defaults, text),

@@ -11,14 +11,17 @@ ghost use Rattle.restamp_verdict.specs.Reason.{seen_read};
 
 mod fast;
 
+use crate::guard::guard;
 use crate::local::Clocks;
 use crate::reason::Reason;
+use crate::zoned::read_zoned;
 use std::convert::TryFrom;
 use time_parsing::{Iso8601, Parsable, Rfc2822, Rfc3339, value_before};
 use time_preparing::Prepared;
 use time_record::Parsed;
 use time_values::error::Parse;
 use time_values::{OffsetDateTime, UtcOffset};
+use time_zones::Zones;
 
 /// The most steps that a description may have. One in brackets of so many bytes has room.
 pub const MOST_STEPS: usize = 256;
@@ -28,6 +31,8 @@ pub const MOST_STEPS: usize = 256;
 pub enum Reading {
     /// RFC 3339, section 5.6.
     Rfc3339,
+    /// RFC 9557, section 4.1: RFC 3339 and a suffix, which names one of these zones.
+    Zoned(Zones),
     /// Mail dates, RFC 2822, section 3.3.
     Rfc2822,
     /// ISO 8601.
@@ -62,20 +67,6 @@ pub struct Said {
     pub start: usize,
     /// How many bytes say it.
     pub length: usize,
-}
-
-impl Reading {
-    // Whether a fraction after a minus is refused.
-    #[inline(always)]
-    fn is_counted(&self) -> bool
-        ensures { result ≡ spec.is_counted self.now }
-    {
-        match self {
-            Reading::Counted(_) => true,
-            Reading::Rfc3339 | Reading::Rfc2822 | Reading::Iso8601 => false,
-            Reading::Described(_) | Reading::Complete(_) => false,
-        }
-    }
 }
 
 // Whether the record says a part of a year.
@@ -240,10 +231,10 @@ fn read_mail(is_open: bool, text: &[u8]) -> Result<Said, Parse>
     Ok(said)
 }
 
-// What a front of the bytes says by RFC 3339, with no record where that can be. It isn't inlined, so that it takes no place
-// beside whole texts.
+/// What a front of the bytes says by RFC 3339, with no record where that can be. It isn't inlined, so that it takes no place
+/// beside whole texts.
 #[inline(never)]
-fn read_front_3339(text: &[u8]) -> Result<Said, Parse>
+pub(crate) fn read_front_3339(text: &[u8]) -> Result<Said, Parse>
     ensures said { spec.IsReadBy greatest_year true (direct (RefusesRfc3339 greatest_year)) (Reads greatest_year)
         (Refuses greatest_year) text.now (spec.seen_said result) }
     ensures within { IfOk result (λ said. said.start + said.length ≤ length text.now) }
@@ -290,6 +281,7 @@ fn read_plain(
 {
     match reading {
         Reading::Rfc3339 => read_3339(is_open, text),
+        Reading::Zoned(_) => read_front_3339(text),
         Reading::Rfc2822 => read_mail(is_open, text),
         Reading::Iso8601 => read_8601(is_open, text, defaults),
         Reading::Complete(described) => read_by(described, is_open, text),
@@ -297,13 +289,6 @@ fn read_plain(
             read_with(described, is_open, text, defaults)
         }
     }
-}
-
-// Whether the number has a fraction and a minus.
-fn is_negative_fraction(number: &[u8]) -> bool
-    ensures { result ≡ spec.is_negative_fraction number.now }
-{
-    !number.is_empty() && number[0] == b'-' && number.contains(&b'.')
 }
 
 /// What [`read`] says, in line.
@@ -317,14 +302,13 @@ pub(crate) fn read_once(
     ensures said { spec.Says greatest_year reading.now is_open text.now defaults.now (seen_read result) }
     ensures within { IfOk result (λ said. said.start + said.length ≤ length text.now) }
 {
-    let said = match read_plain(reading, is_open, text, defaults) {
-        Ok(said) => said,
-        Err(error) => return Err(Reason::Unread(error)),
-    };
-    if reading.is_counted() && is_negative_fraction(&text[..said.length]) {
-        return Err(Reason::NegativeFraction);
+    if let Some(zones) = reading.zones() {
+        return read_zoned(zones, is_open, text);
     }
-    Ok(said)
+    match read_plain(reading, is_open, text, defaults) {
+        Ok(said) => guard(reading, text, said),
+        Err(error) => Err(Reason::Unread(error)),
+    }
 }
 
 /// Parses a text by the format, with defaults for what it omits: all of it, or where `is_open` is true the front that the

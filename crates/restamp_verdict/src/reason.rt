@@ -7,6 +7,7 @@ use std::{fmt, str};
 use time_formatting::Unformattable;
 use time_values::error::Parse;
 use time_writing::Unwritable;
+use time_zones::SuffixFault;
 
 /// The offsets of two moments that clocks show alike.
 #[derive(Clone, Copy, Debug, PartialEq, Eq)]
@@ -41,6 +42,8 @@ pub enum Reason {
     OutOfRange,
     /// No time zone tells of it: it lies before the year -9999 or after 9999, or in their first or last day.
     Untold,
+    /// Its suffix refuses it.
+    Suffix(SuffixFault),
     /// The format that is asked for has no text for it.
     Unwritable(Unwritable),
     /// The description that is asked for has no text for it.
@@ -125,6 +128,7 @@ impl fmt::Display for Told<'_> {
             }
             Reason::OutOfRange => write!(f, "the time has no date at that offset"),
             Reason::Untold => write!(f, "no time zone tells of that time"),
+            Reason::Suffix(fault) => write!(f, "{fault}"),
             Reason::Unwritable(why) => write!(f, "{why}"),
             Reason::Unformattable(why) => write!(f, "{why}"),
             Reason::TooFar => write!(f, "the time goes on past byte 262144 of its line"),

@@ -9,13 +9,14 @@ ghost use Rattle.restamp_verdict.specs.Reason.{seen};
 ghost use Rattle.restamp_verdict.specs.Wrong as spec;
 
 use crate::job::Job;
-use crate::reading::Reading;
+use crate::reading::{Reading, read_front_3339};
 use crate::reason::Reason;
 use restamp_place::find_span;
 use time_locating::{Expected, Locate};
 use time_parsing::{Iso8601, Parsable, Rfc2822, Rfc3339};
 use time_record::Parsed;
-use time_values::error::{Parse, TryFromParsed};
+use time_values::error::{Parse, ParseFromDescription, TryFromParsed};
+use time_zones::read_suffix;
 
 /// Where the time of a refused line goes wrong.
 #[derive(Clone, Copy, Debug)]
@@ -93,6 +94,41 @@ fn find_by<'f, F: Locate>(
     }
 }
 
+// Whether bytes were left.
+fn is_trailing(error: Parse) -> bool
+    ensures { result ≡ spec.is_trailing (refusal_of error) }
+{
+    matches!(
+        error,
+        Parse::ParseFromDescription(ParseFromDescription::UnexpectedTrailingCharacters)
+    )
+}
+
+// Where a part of a line from a byte on goes wrong of which bytes are left: behind the suffix.
+fn find_tail<'f>(start: usize, text: &[u8], error: Parse) -> Wrong<'f>
+    requires { start + length text.now + 1 < 2 ^ 64 }
+    ensures { spec.IsWrongTail greatest_year start text.now (refusal_of error) (spec.seen_wrong result) }
+{
+    match read_front_3339(text) {
+        Ok(front) => Wrong {
+            column: start + front.length + read_suffix(&text[front.length..]).len + 1,
+            expected: Some(Expected::End),
+        },
+        Err(_) => find_by(&Rfc3339, true, start, text, error),
+    }
+}
+
+// Where one goes wrong that may have a suffix.
+fn find_zoned<'f>(start: usize, text: &[u8], error: Parse) -> Wrong<'f>
+    requires { start + length text.now + 1 < 2 ^ 64 }
+    ensures { spec.IsWrongZoned greatest_year start text.now (refusal_of error) (spec.seen_wrong result) }
+{
+    if is_trailing(error) {
+        return find_tail(start, text, error);
+    }
+    find_by(&Rfc3339, true, start, text, error)
+}
+
 impl Reading {
     // The same by any of the formats.
     fn find_wrong(&self, is_open: bool, start: usize, text: &[u8], error: Parse) -> Wrong<'_>
@@ -101,6 +137,7 @@ impl Reading {
     {
         match self {
             Reading::Rfc3339 => find_by(&Rfc3339, is_open, start, text, error),
+            Reading::Zoned(_) => find_zoned(start, text, error),
             Reading::Rfc2822 => find_by(&Rfc2822, is_open, start, text, error),
             Reading::Iso8601 => find_by(&Iso8601, is_open, start, text, error),
             Reading::Described(described) => find_by(described, is_open, start, text, error),
@@ -112,8 +149,8 @@ impl Reading {
 
 impl<'a> Job<'a> {
     /// Where the time of a line goes wrong that is refused at this column for this reason. A time that no format reads goes
-    /// wrong at the byte that the first of them doesn't get past, or where the component begins that has no such value. For
-    /// any other reason it is the column where the time begins.
+    /// wrong at the byte that the first of them doesn't get past, or where the component begins that has no such value. One
+    /// that its suffix refuses goes wrong where that begins. For any other reason it is the column where the time begins.
     ///
     /// Defaults don't count: they only stand for what a time leaves out.
     #[inline(never)]
@@ -124,9 +161,18 @@ impl<'a> Job<'a> {
             column,
             expected: None,
         };
-        let Reason::Unread(error) = reason else {
-            return otherwise;
-        };
+        match reason {
+            Reason::Unread(error) => self.find_unread(line, error, otherwise),
+            Reason::Suffix(_) => self.find_suffix(line, otherwise),
+            _ => otherwise,
+        }
+    }
+
+    // Where it goes wrong that no format reads it; or that, where the line has no place for a time.
+    fn find_unread(&self, line: &[u8], error: Parse, otherwise: Wrong<'a>) -> Wrong<'a>
+        ensures { spec.IsUnreadAt greatest_year self.now line.now (refusal_of error) (spec.seen_wrong otherwise.entry)
+            (spec.seen_wrong result) }
+    {
         let Some(place) = self.place else {
             return otherwise;
         };
@@ -136,6 +182,25 @@ impl<'a> Job<'a> {
         let text = &line[span.start..span.stop];
         self.first
             .find_wrong(place.is_open(), span.start, text, error)
+    }
+
+    // Where the suffix begins that refuses it; or that, where there is none.
+    fn find_suffix(&self, line: &[u8], otherwise: Wrong<'a>) -> Wrong<'a>
+        ensures { spec.IsRefusedBySuffix greatest_year self.now line.now (spec.seen_wrong otherwise.entry) (spec.seen_wrong result) }
+    {
+        let Some(place) = self.place else {
+            return otherwise;
+        };
+        let Some(span) = find_span(place, line) else {
+            return otherwise;
+        };
+        match read_front_3339(&line[span.start..span.stop]) {
+            Ok(front) => Wrong {
+                column: span.start + front.length + 1,
+                expected: None,
+            },
+            Err(_) => otherwise,
+        }
     }
 }
 

@@ -97,7 +97,7 @@ fn format_firsts(reading: &Reading) -> Firsts
     ensures { result ≡ begins.format_firsts reading.now }
 {
     match reading {
-        Reading::Rfc3339 => DIGITS,
+        Reading::Rfc3339 | Reading::Zoned(_) => DIGITS,
         Reading::Rfc2822 => MAIL,
         Reading::Iso8601 => ALL,
         Reading::Described(description) => steps_firsts(description.steps()),
@@ -310,7 +310,7 @@ fn may_be_of(reading: &Reading, bytes: &[u8]) -> bool
     ensures { result ≡ false → begins.may_be_of reading.now bytes.now ≡ false }
 {
     match reading {
-        Reading::Rfc3339 => has_year(bytes),
+        Reading::Rfc3339 | Reading::Zoned(_) => has_year(bytes),
         Reading::Rfc2822 => may_be_mail(bytes),
         Reading::Iso8601 => true,
         Reading::Described(description) => is_in(steps_firsts(description.steps()), bytes[0]),

@@ -58,7 +58,7 @@ fn answer_of(zone: &TimeZone<'_>, minute: Minute) -> Option<Answer> {
     })
 }
 
-// A folder with one zone, a folder, a file that can't be read and one that is none of a zone.
+// A folder with one zone, a folder, a file that can't be read, one that is none of a zone and one for which memory is short.
 #[derive(Drop)]
 struct Shelf {
     alloc: Global,
@@ -95,6 +95,7 @@ impl ZoneFiles for Shelf {
             "/zones/Asia" => Err(ReadFault::Folder),
             "/zones/Locked" => Err(ReadFault::Unreadable(std::io::ErrorKind::PermissionDenied)),
             "/zones/tab" => joined(self.alloc, &[b"# a table"]),
+            "/zones/Vast" => Err(ReadFault::OutOfMemory),
             _ => Err(ReadFault::Missing),
         }
     }
@@ -296,7 +297,8 @@ mod moments {
 mod finding {
     use super::{BERLIN, Shelf};
     use std::alloc::{AllocError, Global};
-    use time_zones::{find_zone, find_zone_in};
+    use std::test::Fail;
+    use time_zones::{ZoneFault, find_zone, find_zone_in, find_zones_in};
 
     // Values of `TZ`, names, and what is found: the name of a zone, or what the refusal says.
     static FOUND: [(Option<&str>, &str, &str); 14] = [
@@ -363,6 +365,56 @@ mod finding {
             assert!(rt; found.as_str() == REASON, "{name}");
         }
         Ok(())
+    }
+
+    // What a folder may list: names of one zone and of none.
+    static LISTED: [&str; 8] = [
+        "tab",
+        "Asia/Pyongyang",
+        "Asia",
+        "Locked",
+        "Asia/Seoul",
+        "",
+        "../zone",
+        "Asia/Pyongyang",
+    ];
+
+    #[test]
+    fn zones_of_names(rt: HostRuntime) -> Result<(), Fail> {
+        let alloc = rt.alloc();
+        let zones = find_zones_in(alloc, &Shelf { alloc }, "/zones", &LISTED)?;
+        for name in &LISTED {
+            let found = match zones.get(name.as_bytes()) {
+                Some(zone) => zone.iana_name() == Some(*name),
+                None => *name != "Asia/Pyongyang",
+            };
+            assert!(rt; found, "{name}");
+        }
+        assert!(rt; zones.get(b"UTC").is_some());
+        assert!(rt; zones.get(b"pyongyang").is_none());
+        Ok(())
+    }
+
+    // UTC is there whatever is listed.
+    #[test]
+    fn zones_of_few_names(rt: HostRuntime) -> Result<(), Fail> {
+        let alloc = rt.alloc();
+        let names: [&[&str]; 2] = [&[], &["UTC"]];
+        for names in &names {
+            let zones = find_zones_in(alloc, &Shelf { alloc }, "/zones", names)?;
+            assert!(rt; zones.get(b"UTC").is_some());
+            assert!(rt; zones.get(b"Asia/Pyongyang").is_none());
+        }
+        Ok(())
+    }
+
+    // A zone isn't left out for want of memory.
+    #[test]
+    fn zones_for_which_memory_is_short(rt: HostRuntime) {
+        let alloc = rt.alloc();
+        let names = ["Asia/Pyongyang", "Vast", "tab"];
+        let found = find_zones_in(alloc, &Shelf { alloc }, "/zones", &names);
+        assert!(rt; found.err() == Some(ZoneFault::OutOfMemory));
     }
 
     #[test]

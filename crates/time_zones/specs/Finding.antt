@@ -1,5 +1,5 @@
 -- What is found of a zone in files, over what reading a file gives.
-use Rattle.std.specs.Prelude.{◌≡◌, ℕ, List, ◌∷◌, ◌++◌, Option, Some, None, Result, Ok, Err, codes, string_bytes}
+use Rattle.std.specs.Prelude.{◌≡◌, ◌⊎◌, ℕ, List, ◌∷◌, ◌++◌, Option, Some, None, Result, Ok, Err, codes, string_bytes}
 use Rattle.jiff_core.specs.declared.error.Error.TheVariants.{Tzif as TzifError}
 use Rattle.jiff_tz.specs.Tzif.{tzif_view, tzif_name, RuleAgrees, IsParseFailure}
 use Rattle.jiff_tz.specs.TzifReader.{read_tzif}
@@ -69,3 +69,7 @@ IsFoundAt Gives folder (Some (Place.AtPath path)) r = ReadsTo Gives path.now Non
 abbrev pub IsFound : Giving → List ℕ → Option (List ℕ) → List ℕ → Result NamedZone ZoneFault → Type 0
 IsFound Gives folder setting name r =
     (place : Option Place) × IsAsked setting name place × IsFoundAt Gives folder place r
+
+-- why the value of a variable isn't known
+abbrev pub IsVariableFault : ZoneFault → Type 0
+IsVariableFault fault = (fault ≡ Fault.NotText) ⊎ (fault ≡ Fault.OutOfMemory)

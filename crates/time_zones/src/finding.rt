@@ -1,6 +1,6 @@
 //! Zones by their names, each from its own file.
 ghost use Rattle.std.specs.Prelude.{◌≡◌, ◌≢◌, ◌↔◌, Ok, Err, Some, None, option_map, string_bytes, codes, IfOk, IfErr, ◌++◌, ◌∷◌};
-ghost use Rattle.time_zones.specs.Finding.{IsZoneOf, ReadsTo, IsFoundAt, IsFound, name_of};
+ghost use Rattle.time_zones.specs.Finding.{IsZoneOf, ReadsTo, IsFoundAt, IsFound, IsVariableFault, name_of};
 ghost use Rattle.time_zones.specs.Names.{IsZoneName};
 
 use crate::files::{Disk, ReadFault, ZoneFiles};
@@ -127,7 +127,7 @@ pub fn find_zone_in<F: ZoneFiles>(
 
 // The value of a variable, where it has one.
 fn variable<R: Env + AllocGlobal>(rt: &R, name: &str) -> Result<Option<String>, ZoneFault>
-    ensures { IfErr result (λ fault. fault ≢ ZoneFault.NotAName) }
+    ensures { IfErr result IsVariableFault }
 {
     match env::var(rt, name) {
         Ok(value) => Ok(Some(value)),
@@ -150,7 +150,7 @@ fn setting_for<R: Env + AllocGlobal>(rt: &R, name: &str) -> Result<Option<String
 
 /// The folder that `TZDIR` names, or else the usual one.
 pub(crate) fn folder<R: Env + AllocGlobal>(rt: &R) -> Result<String, ZoneFault>
-    ensures { IfErr result (λ fault. fault ≢ ZoneFault.NotAName) }
+    ensures { IfErr result IsVariableFault }
 {
     match variable(rt, "TZDIR")? {
         Some(folder) if !folder.is_empty() => Ok(folder),

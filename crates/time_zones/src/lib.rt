@@ -23,4 +23,4 @@ pub use laws::{
 };
 pub use suffix::{Suffixed, ZoneTag, ZoneText, read_suffix, write_suffix};
 pub use zone_fault::ZoneFault;
-pub use zones::{Zones, find_zones};
+pub use zones::{Zones, find_zones, find_zones_in};

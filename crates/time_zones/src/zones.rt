@@ -1,9 +1,9 @@
 //! Zones by their names, each read once.
-ghost use Rattle.std.specs.Prelude.{◌≡◌, ℕ, List, Some, None, codes, IfOk, OnOk, OnErr};
-ghost use Rattle.time_zones.specs.Folder.{zone_named, SameNamed, IsInserted, IsZoneIfAny};
+ghost use Rattle.std.specs.Prelude.{◌≡◌, ℕ, List, map, Some, None, codes, IfOk, IfErr, OnOk, OnErr, IsOkUnless};
+ghost use Rattle.time_zones.specs.Folder.{zone_named, SameNamed, IsInserted, IsZoneIfAny, AddsFound, AreZonesOf, IsFolderFault};
 ghost use Rattle.time_zones.specs.declared.finding.NamedZone.TheVariants as Named;
 
-use crate::files::Disk;
+use crate::files::{Disk, ZoneFiles};
 use crate::finding::{NamedZone, find_at, folder};
 use crate::place::named;
 use crate::zone_fault::ZoneFault;
@@ -66,7 +66,9 @@ impl Zones {
 }
 
 // Why the names of a folder weren't read.
-fn fault_from(error: Error, path: String) -> ZoneFault {
+fn fault_from(error: Error, path: String) -> ZoneFault
+    ensures { IsFolderFault result }
+{
     match error {
         Error::Io(ErrorKind::NotFound) => ZoneFault::Unknown { path },
         Error::Io(kind) => ZoneFault::Unreadable(kind),
@@ -75,33 +77,54 @@ fn fault_from(error: Error, path: String) -> ZoneFault {
 }
 
 // Adds the zone of that name, if its file is one.
-fn add<R: Env + Files + AllocGlobal>(
-    rt: &R,
+fn add<F: ZoneFiles>(
+    alloc: Global,
+    files: &F,
     folder: &str,
     name: &str,
     zones: &mut Zones,
-) -> Result<(), ZoneFault> {
-    match find_at(rt.alloc(), &Disk { rt }, folder, named(name)) {
+) -> Result<(), ZoneFault>
+    ensures ok { OnOk result (AddsFound (F.gives files.now) folder.now name.now zones.old zones.new) }
+    ensures err { IsOkUnless result ZoneFault.OutOfMemory }
+    ensures kept { OnErr result ((other : List ℕ) → SameNamed zones.old zones.new other) }
+{
+    match find_at(alloc, files, folder, named(name)) {
         Ok(zone) => Ok(zones.insert(name, zone)?),
         Err(ZoneFault::OutOfMemory) => Err(ZoneFault::OutOfMemory),
         Err(_) => Ok(()),
     }
 }
 
+/// `UTC`, and the zones in the files of a folder that have these names. A name whose file is missing or isn't one of a zone is
+/// left out. If a name stands twice, its file is read twice, and the zone that was read last stays.
+pub fn find_zones_in<F: ZoneFiles>(
+    alloc: Global,
+    files: &F,
+    folder: &str,
+    names: &[&str],
+) -> Result<Zones, ZoneFault>
+    ensures ok { IfOk result (AreZonesOf (F.gives files.now) folder.now (map (λ name. name.now) names.now)) }
+    ensures err { IsOkUnless result ZoneFault.OutOfMemory }
+{
+    let mut zones = Zones::new(alloc);
+    zones.insert("UTC", NamedZone::Utc)?;
+    for name in names {
+        add(alloc, files, folder, name, &mut zones)?;
+    }
+    Ok(zones)
+}
+
 /// `UTC`, and all zones of the folder that `TZDIR` names, or else of /usr/share/zoneinfo, by their paths below it, such as
 /// `Europe/Berlin`. A file that isn't one of a zone is left out, and so are the folders `posix` and `right`.
 pub fn find_zones<R: Env + Files + AllocGlobal + Clone + Drop>(rt: &R) -> Result<Zones, ZoneFault>
-    ensures { IfOk result (λ zones. zone_named zones (codes "UTC") ≡ Some Named.Utc) }
+    ensures utc { IfOk result (λ zones. zone_named zones (codes "UTC") ≡ Some Named.Utc) }
+    ensures err { IfErr result IsFolderFault }
 {
     let path = folder(rt)?;
-    let names = match TimeZoneDatabase::from_dir(rt, path.as_str()) {
-        Ok(names) => names,
+    let database = match TimeZoneDatabase::from_dir(rt, path.as_str()) {
+        Ok(database) => database,
         Err(error) => return Err(fault_from(error, path)),
     };
-    let mut zones = Zones::new(rt.alloc());
-    for name in names.available() {
-        add(rt, path.as_str(), name, &mut zones)?;
-    }
-    zones.insert("UTC", NamedZone::Utc)?;
-    Ok(zones)
+    let names: Vec<&str> = database.available().collect(rt.alloc())?;
+    find_zones_in(rt.alloc(), &Disk { rt }, path.as_str(), names.as_slice())
 }

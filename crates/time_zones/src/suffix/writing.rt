@@ -1,7 +1,6 @@
 //! The suffix of a zone, as it is written.
-ghost use Rattle.std.specs.Prelude.{◌≡◌, ◌<◌, ◌↔◌, false, ℕ, List, IsSome, IfSome, IfNone, IfOk};
+ghost use Rattle.std.specs.Prelude.{◌≡◌, false, ℕ, List, IfSome, IfNone, IfOk};
 ghost use Rattle.time_values.specs.Offsets.{offset_seconds};
-ghost use Rattle.time_zones.specs.Suffix as suffix;
 ghost use Rattle.time_zones.specs.Suffix.{IsHourMinute, IsNumOffset, IsZoneText, bracketed};
 ghost use Rattle.time_zones.specs.SuffixValues.{zone_of};
 
@@ -9,16 +8,10 @@ use super::ZoneText;
 use super::texts::is_zone_name;
 use std::alloc::{AllocError, Global};
 use time_values::UtcOffset;
-
-// The two digits of a number.
-fn pair(number: u32) -> [u8; 2]
-    requires { number < 100 }
-    ensures { result ≡ suffix.two_digits number }
-{
-    [b'0' + (number / 10) as u8, b'0' + (number % 10) as u8]
-}
+use time_values::digits::pair;
 
 // The hours and minutes that so many seconds are, below a day.
+#[tactic(auto, unfolding(time_values::specs::Shown::fixed))]
 fn time_of(seconds: u32) -> Option<[u8; 5]>
     ensures some { IfSome result (λ text. IsHourMinute text seconds) }
     ensures none { IfNone result ((text : List ℕ) → IsHourMinute text seconds → ⊥) }
@@ -26,8 +19,8 @@ fn time_of(seconds: u32) -> Option<[u8; 5]>
     if seconds >= 86_400 || seconds % 60 != 0 {
         return None;
     }
-    let [hour_tens, hour_ones] = pair(seconds / 3600);
-    let [minute_tens, minute_ones] = pair(seconds / 60 % 60);
+    let [hour_tens, hour_ones] = pair((seconds / 3600) as u8);
+    let [minute_tens, minute_ones] = pair((seconds / 60 % 60) as u8);
     Some([hour_tens, hour_ones, b':', minute_tens, minute_ones])
 }
 

@@ -39,6 +39,13 @@ impl<T> Counted<T> {
         }
     }
 
+    /// The reader or writer.
+    pub fn get_ref(&self) -> &T
+        ensures { result.now ≡ self.now.inner }
+    {
+        &self.inner
+    }
+
     /// The reader or writer, and the last error of a write or a flush, if one failed.
     pub fn into_parts(self) -> (T, Option<io::Error>)
         ensures inner { result.0 ≡ self.inner }

@@ -90,7 +90,8 @@ impl<'a, R: Files + Clock + Eprint + AllocGlobal> DiskFolder<'a, R> {
             return None;
         }
         let size = (size > 0).then_some(size);
-        self.progress.begin(self.rt.alloc(), self.shown, size)
+        self.progress
+            .begin(self.rt.alloc(), self.shown.as_bytes(), size)
     }
 
     // Gives a file the owner and the group of another, where that may be set.

@@ -1,10 +1,10 @@
 //! Files and standard input, by their names.
-ghost use Rattle.std.specs.Prelude.{◌≡◌, ◌≤◌, IfOk};
+ghost use Rattle.std.specs.Prelude.{◌≡◌, ◌≤◌};
 ghost use Rattle.programs_streams.specs.Faults.{IsCutOff, Rises};
 ghost use Rattle.restamp.specs.Origins.{faults_of, given_of};
 
 use crate::progress::{Meter, Progress};
-use programs_streams::{Counted, Source};
+use programs_streams::{Counted, Opener, Source};
 use restamp_stream::Opening;
 use std::fs::{Metadata, OpenFile};
 use std::rt::Files;
@@ -15,9 +15,10 @@ use std::{fs, io};
 #[derive(Drop)]
 pub(crate) struct Disk<'a, R> {
     rt: &'a R,
+    opener: Opener<'a, R>,
     progress: &'a Progress<'a, R>,
-    // How many files were not opened, or cut off.
-    faults: u64,
+    // How many of the files that were closed had been cut off.
+    cut_off: u64,
 }
 
 /// What is read.
@@ -117,13 +118,14 @@ impl<'a, R: Files + Input + Clock + Eprint + AllocGlobal> Disk<'a, R> {
     pub(crate) fn new(rt: &'a R, progress: &'a Progress<'a, R>) -> Disk<'a, R> {
         Disk {
             rt,
+            opener: Opener::new(rt),
             progress,
-            faults: 0,
+            cut_off: 0,
         }
     }
 
     // The source, of that size if it is known, whose progress is told where that is wanted.
-    fn metered<S: Drop>(&self, name: &str, source: S, size: Option<u64>) -> Metered<'a, R, S>
+    fn metered<S: Drop>(&self, name: &[u8], source: S, size: Option<u64>) -> Metered<'a, R, S>
         ensures { result.source ≡ source }
     {
         let meter = if self.progress.is_wanted() {
@@ -133,61 +135,35 @@ impl<'a, R: Files + Input + Clock + Eprint + AllocGlobal> Disk<'a, R> {
         };
         Metered::new(source, meter, self.progress)
     }
-
-    // Opens the file of a name.
-    fn open_once(
-        &self,
-        name: &[u8],
-    ) -> io::Result<Metered<'a, R, Origin<Counted<R::File>, Counted<R::Reader>>>>
-        ensures { IfOk result (λ input. faults_of input.source ≡ 0) }
-    {
-        self.progress.erase();
-        if name == b"-".as_slice() {
-            let size = size_of(fs::metadata(self.rt, "/dev/stdin"));
-            let input = Counted::new(self.rt.reader());
-            return Ok(self.metered("-", Origin::Input(input), size));
-        }
-        let Ok(path) = std::str::from_utf8(name) else {
-            return Err(io::Error::from(io::ErrorKind::InvalidInput));
-        };
-        let file = fs::open(self.rt, path)?;
-        let size = size_of(file.metadata());
-        Ok(self.metered(path, Origin::File(Counted::new(file)), size))
-    }
-
-    // Counts a file that was not opened, or cut off.
-    fn count_fault(&mut self)
-        ensures { Rises self.old.faults self.new.faults }
-    {
-        self.faults = self.faults.saturating_add(1);
-    }
 }
 
 impl<'a, R: Files + Input + Clock + Eprint + AllocGlobal> Opening for Disk<'a, R> {
     type Input = Metered<'a, R, Origin<Counted<R::File>, Counted<R::Reader>>>;
 
+    ghost use Rattle.std.specs.Prelude.{None, ◌+◌};
+
     // Nothing is known of what files hold.
     ghost bytes_of = { λ _ _. None };
 
-    ghost faults = { λ disk. disk.faults };
-
-    ghost use Rattle.std.specs.Prelude.{None};
+    ghost faults = { λ disk. disk.opener.faults + disk.cut_off };
 
     #[inline(never)]
     fn open(
         &mut self,
         name: &[u8],
     ) -> io::Result<Metered<'a, R, Origin<Counted<R::File>, Counted<R::Reader>>>> {
-        match self.open_once(name) {
-            Ok(input) => Ok(input),
-            Err(error) => {
-                self.count_fault();
-                Err(error)
-            }
+        self.progress.erase();
+        if name == b"-".as_slice() {
+            let size = size_of(fs::metadata(self.rt, "/dev/stdin"));
+            let input = Counted::new(self.rt.reader());
+            return Ok(self.metered(name, Origin::Input(input), size));
         }
+        let file = self.opener.open(name)?;
+        let size = size_of(file.get_ref().metadata());
+        Ok(self.metered(name, Origin::File(file), size))
     }
 
     fn close(&mut self, input: Metered<'a, R, Origin<Counted<R::File>, Counted<R::Reader>>>) {
-        self.faults = input.source.count_cut_off(self.faults);
+        self.cut_off = input.source.count_cut_off(self.cut_off);
     }
 }

@@ -39,17 +39,17 @@ fn end_of(text: &str) -> &str
 }
 
 // A name with its control bytes as `\x` and two digits; `None` where there is no memory, and no second way of reading.
-fn shown_name(alloc: Global, name: &str) -> Option<String>
+fn shown_name(alloc: Global, name: &[u8]) -> Option<String>
     ensures { IfSome result (λ shown. string_bytes shown ≡ shown_name name.now) }
 {
     let mut shown = Counted::new(Vec::new(alloc));
-    write_name(name.as_bytes(), &mut shown).ok()?;
+    write_name(name, &mut shown).ok()?;
     let (shown, _) = shown.into_parts();
     String::from_utf8(shown).ok()
 }
 
 // What is told of a name; `None` where there is no memory, and no second way of reading.
-fn told_name(alloc: Global, telling: Telling, name: &str) -> Option<String>
+fn told_name(alloc: Global, telling: Telling, name: &[u8]) -> Option<String>
     ensures { IfSome result (λ told. spec.IsTold telling name.now (string_bytes told)) }
 {
     let shown = shown_name(alloc, name)?;
@@ -146,7 +146,7 @@ impl<'a, R: Clock + Eprint> Progress<'a, R> {
     }
 
     /// The meter of a file that begins, or `None` where there is no memory or no clock: it is no second way of reading.
-    pub(crate) fn begin(&self, alloc: Global, name: &str, size: Option<u64>) -> Option<Meter>
+    pub(crate) fn begin(&self, alloc: Global, name: &[u8], size: Option<u64>) -> Option<Meter>
         ensures { IfSome result (λ meter. spec.IsTold self.now.telling name.now (string_bytes meter.name)) }
     {
         Some(Meter {

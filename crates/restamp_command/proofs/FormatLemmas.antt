@@ -19,7 +19,7 @@ others_fault Y o has_year names f e n h =
     by_fault : (f : Fault) → IsFormatFault (gives_year o) (other_names o) f → IsFault Y o f
     by_fault fault.memory h = h
     by_fault (fault.from value why) h = (inr h.0, h.1, h.2)
-    by_fault (fault.zones value why) h = (inr h.0, h.1)
+    by_fault (fault.zones value why) h = (inr h.0, h.1, h.2)
     by_fault (fault.lacking value lack) h = (inr h.0, h.1, h.2)
     by_fault f h = absurd h
 
@@ -57,7 +57,7 @@ pub fault_of_one : {X : Type 0} (f : X → List ℕ) (has_year : Bool) (xs : Lis
     → IsFormatFault has_year (f (get_or xs i x) ∷ []) why → IsFormatFault has_year (map f xs) why
 fault_of_one f has_year xs i x fault.memory below h = h
 fault_of_one f has_year xs i x (fault.from value why) below h = (one_of f xs i x value below h.0, h.1, h.2)
-fault_of_one f has_year xs i x (fault.zones value why) below h = (one_of f xs i x value below h.0, h.1)
+fault_of_one f has_year xs i x (fault.zones value why) below h = (one_of f xs i x value below h.0, h.1, h.2)
 fault_of_one f has_year xs i x (fault.lacking value lack) below h = (one_of f xs i x value below h.0, h.1, h.2)
 fault_of_one f has_year xs i x why below h = absurd h
 

@@ -33,6 +33,8 @@ use Rattle.time_values.specs.Offsets.{IsUtc}
 use Rattle.time_values.specs.declared.offset_date_time.OffsetDateTime.{OffsetDateTime}
 use Rattle.time_values.specs.declared.utc_date_time.UtcDateTime.{UtcDateTime}
 use Rattle.time_values.specs.declared.utc_offset.UtcOffset.{UtcOffset}
+use Rattle.time_zones.specs.Folder.{zone_named, IsFolderFault}
+use Rattle.time_zones.specs.declared.finding.NamedZone.TheVariants as NamedZone
 use Rattle.restamp_command.specs.Fault as fault
 use Rattle.restamp_command.specs.Fault.{Fault, NoMoment, seen_none}
 use Rattle.restamp_command.specs.Values.{delimiter_of, digits_of, fold_of, shows_of, IsNumber, IsPositive, IsOffsetText, IsYear, IsMomentText}
@@ -96,12 +98,13 @@ gives_year o = is_some o.year || is_some o.latest
 abbrev pub gives_offset : Options → Bool
 gives_offset o = is_some o.offset || is_some o.local
 
--- A name is that of RFC 9557, whose zones are those of the system. What its files hold no contract tells.
+-- a name is that of RFC 9557
 abbrev pub is_zoned : List ℕ → Bool
 is_zoned name = bytes_eq name (codes "rfc9557")
 
+-- The format of that name, whose zones are UTC and those of the system. What its files hold no contract tells.
 abbrev pub IsZoned : Reading → Type 0
-IsZoned (reading.Zoned zones) = Unit {0}
+IsZoned (reading.Zoned zones) = zone_named zones (codes "UTC") ≡ Some NamedZone.Utc
 IsZoned format = ⊥
 
 -- The format that has that name, or that the text describes. Some text says a moment by it, where a year is given or
@@ -133,7 +136,8 @@ abbrev pub IsFormatFault : Bool → List (List ℕ) → Fault → Type 0
 IsFormatFault has_year names fault.memory = Unit {0}
 IsFormatFault has_year names (fault.from value why) =
     IsOneOf names value × (is_zoned value ≡ false) × naming.IsFault (way_of value) why
-IsFormatFault has_year names (fault.zones value why) = IsOneOf names value × (is_zoned value ≡ true)
+IsFormatFault has_year names (fault.zones value why) =
+    IsOneOf names value × (is_zoned value ≡ true) × IsFolderFault why
 IsFormatFault has_year names (fault.lacking value lack) =
     IsOneOf names value × (is_zoned value ≡ false)
     × ((format : Reading) × Means (way_of value) (meaning_of format) × (format_lack has_year format ≡ Some lack))

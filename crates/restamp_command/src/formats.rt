@@ -18,6 +18,13 @@ pub(crate) fn gives_year(options: &Options<'_, '_>) -> bool
     options.year.is_some() || options.latest.is_some()
 }
 
+/// Whether the name is that of RFC 9557, by which a time has a suffix with its zone.
+pub(crate) fn is_zoned(name: &str) -> bool
+    ensures { result ≡ spec.is_zoned name.now }
+{
+    name == "rfc9557"
+}
+
 // The format of that name, which lacks nothing. That of RFC 9557 has the zones of the system.
 fn find_format<'a, R: Env + Files + AllocGlobal + Clone + Drop>(
     rt: &R,
@@ -27,7 +34,7 @@ fn find_format<'a, R: Env + Files + AllocGlobal + Clone + Drop>(
     ensures { MatchResult result (λ format. spec.IsFormat has_year name.now format)
         (λ fault. spec.IsFormatFault has_year (name.now ∷ []) (told fault)) }
 {
-    if name == "rfc9557" {
+    if is_zoned(name) {
         return match find_zones(rt) {
             Ok(zones) => Ok(Reading::Zoned(zones)),
             Err(why) => Err(Fault::Zones(name, why)),

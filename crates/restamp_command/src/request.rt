@@ -325,8 +325,8 @@ fn find_bounds<'a>(
 
 impl<'a> Request<'a> {
     /// What the options ask for. Where `--color` is `auto`, colours are shown if reports go to a terminal. A zone that they
-    /// name is read from its file, and for the format `rfc9557` all zones of the system are. The clock shows `now`, or `None` out of its range, which counts only where a bound is
-    /// a word.
+    /// name is read from its file, and for the format `rfc9557` all zones of the system are. The clock shows `now`, or
+    /// `None` out of its range, which counts only where a bound is a word.
     ///
     /// # Errors
     ///

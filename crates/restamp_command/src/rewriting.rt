@@ -23,7 +23,7 @@ use crate::request::Request;
 use programs_streams::{Sink, Unwritten};
 use restamp_in_place::{Folder, Made, Target, Unreplaced, replace_file};
 use restamp_stream::{Block, Fate, Opening, Rewriting, Stop, Stream, Tally};
-use restamp_verdict::{Job, Reason, Verdict, Why, Wrong};
+use restamp_verdict::{Job, Outcome, Reason, Verdict, Why, Wrong};
 use std::alloc::Global;
 use time_values::text::Text;
 
@@ -55,15 +55,15 @@ impl Rewriting for Restamping<'_> {
     #[inline(always)]
     fn fate(&self, front: &[u8]) -> Fate {
         let mut text = Text::new();
-        match self.job.judge(front, &mut text) {
-            Verdict::Without => Fate::Without,
-            Verdict::Rewritten { start, length } => Fate::Rewritten {
+        match self.job.decide(front, &mut text) {
+            Outcome::Without => Fate::Without,
+            Outcome::Rewritten { start, length } => Fate::Rewritten {
                 begin: start,
                 end: start + length,
                 text,
             },
-            Verdict::Dropped => Fate::Dropped,
-            Verdict::Refused { .. } => Fate::Refused,
+            Outcome::Dropped => Fate::Dropped,
+            Outcome::Refused => Fate::Refused,
         }
     }
 

@@ -6,6 +6,7 @@ ghost use Rattle.restamp_command.specs.Fault.{told};
 ghost use Rattle.restamp_command.specs.Request as spec;
 
 use crate::fault::Fault;
+use crate::formats::is_zoned;
 use crate::values::find_digits;
 use crate::zone::{Zone, find_shown};
 use restamp_options::Options;
@@ -40,7 +41,7 @@ fn find_format<'a>(name: &'a str) -> Result<Writing, FormatFault<'a>>
     ensures { MatchResult result (λ writing. spec.IsWriting name.now writing)
         (λ fault. (spec.is_zoned name.now ≡ false) × IsWritingFault name.now (fault_of fault)) }
 {
-    if name == "rfc9557" {
+    if is_zoned(name) {
         return Ok(Writing::Named(Named::Rfc3339));
     }
     find_writing(name.as_bytes())
@@ -51,7 +52,7 @@ fn find_suffix<'a>(alloc: Global, name: &'a str, zone: &Zone) -> Result<Vec<u8>,
     ensures { MatchResult result (λ suffix. spec.IsSuffixBy name.now zone.now suffix.items)
         (λ fault. spec.IsSuffixFault name.now zone.now (told fault)) }
 {
-    if name != "rfc9557" {
+    if !is_zoned(name) {
         return Ok(Vec::new(alloc));
     }
     let Some(text) = zone.text() else {

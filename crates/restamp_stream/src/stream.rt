@@ -157,7 +157,18 @@ impl<W: Sink, L: Sink> Stream<W, L> {
         self.log.flush()
     }
 
-    // Puts the suffix of new times. Most have none.
+    // Puts a suffix. It isn't inlined, as most times have none.
+    #[inline(never)]
+    fn put_some(&mut self, suffix: &[u8]) -> Result<(), Unwritten>
+        ensures put { OnOk result (Appends (held_out W.contents self.old) (held_out W.contents self.new) suffix.now) }
+        ensures log { self.new.log ≡ self.old.log }
+        ensures tally { self.new.tally ≡ self.old.tally }
+        ensures cause { HasCause result (W.faults self.old.out) (W.faults self.new.out) }
+    {
+        self.put(suffix)
+    }
+
+    // Puts the suffix of new times, if they have one.
     #[inline(always)]
     fn put_suffix(&mut self, suffix: &[u8]) -> Result<(), Unwritten>
         ensures put { OnOk result (Appends (held_out W.contents self.old) (held_out W.contents self.new) suffix.now) }
@@ -168,7 +179,7 @@ impl<W: Sink, L: Sink> Stream<W, L> {
         if suffix.is_empty() {
             return Ok(());
         }
-        self.put(suffix)
+        self.put_some(suffix)
     }
 
     // Puts what goes out for the front of a line.

@@ -6,6 +6,8 @@
 mod clocks;
 pub mod memory;
 #[cfg(test)]
+mod outcomes;
+#[cfg(test)]
 mod places;
 #[cfg(test)]
 mod replacing;

@@ -1,8 +1,13 @@
 //! Times of RFC 3339 with a suffix of RFC 9557.
 use super::clocks::berlin;
-use restamp_verdict::{Defaults, Reading, Reason, read};
+use restamp_place::Place;
+use restamp_verdict::{
+    Clock, Defaults, Form, Job, Reading, Reason, Verdict, Writing, find_writing, read,
+};
 use std::alloc::Global;
+use std::test::Fail;
 use time_values::error::{Parse, ParseFromDescription};
+use time_writing::{FractionDigits, Text};
 use time_zones::SuffixFault::{self, CriticalKey, OtherOffset, UnknownZone};
 use time_zones::Zones;
 
@@ -145,4 +150,47 @@ fn suffixes(rt: HostRuntime) {
     for (is_open, text, wanted) in &ROWS {
         assert!(rt; answer_of(&reading, *is_open, text) == *wanted, "{text:?}");
     }
+}
+
+// The column where a line goes wrong whose whole is the time; 0 where it doesn't.
+fn wrong_in<'a>(reading: &'a Reading, writing: &'a Writing, line: &[u8]) -> usize {
+    let job = Job {
+        place: Some(Place::Whole),
+        first: reading,
+        others: &[],
+        defaults: NOTHING_GIVEN,
+        form: Form {
+            writing,
+            digits: FractionDigits::Auto,
+            clock: Clock::Own,
+        },
+        since: None,
+        until: None,
+        asks_for_times: false,
+    };
+    match job.judge(line, &mut Text::new()) {
+        Verdict::Refused { column, reason } => job.find_wrong(line, column, reason).column,
+        Verdict::Without | Verdict::Rewritten { .. } | Verdict::Dropped => 0,
+    }
+}
+
+// A suffix that refuses its time goes wrong where it begins, and bytes behind a suffix where they do.
+static COLUMNS: [(&'static [u8], usize); 6] = [
+    (b"2026-11-27T15:00:00+01:00[Europe/Berlin]", 0),
+    (b"2026-11-27T15:00:00+01:00[Europe/Bern]", 26),
+    (b"2026-11-27T15:00:00.5+02:00[Europe/Berlin]", 28),
+    (b"2026-11-27T15:00:00+01:00[Europe/Berlin] x", 41),
+    (b"2026-11-27T15:00:00+01:00[Europe/Berlin", 26),
+    (b"2026-13-27T15:00:00+01:00[Europe/Berlin]", 6),
+];
+
+#[test]
+fn columns(rt: HostRuntime) -> Result<(), Fail> {
+    let (Some(reading), Ok(writing)) = (zoned(rt.alloc()), find_writing(b"unix")) else {
+        return Err("no format".into());
+    };
+    for (line, column) in &COLUMNS {
+        assert!(rt; wrong_in(&reading, &writing, line) == *column, "{line:?}");
+    }
+    Ok(())
 }

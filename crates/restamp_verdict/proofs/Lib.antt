@@ -26,3 +26,6 @@ pub mod LackTrees
 pub mod LackMoments
 pub mod LackUses
 pub mod LackClocks
+pub mod ZonedAgain
+pub mod OutcomeLemmas
+pub mod SayingLemmas

@@ -119,15 +119,15 @@ shown_again (clock.Zone zone) v w p =
     (refl, subst IsTimestampNanos (sym p.0) p.1, p.2 ∙ ap (Zone.offset_at zone) (sym p.0))
 
 -- the moment as it is shown: it is what the text says, and is written as the text again
-record IsBack (format : Reading) (defaults : Defaults) (form : Form) (v : OffsetDateTime) (bytes : List ℕ)
+pub record IsBack (format : Reading) (defaults : Defaults) (form : Form) (v : OffsetDateTime) (bytes : List ℕ)
     (w : OffsetDateTime) : Type 0 where
-  shown : IsShown greatest_year form.clock v (Some w)
-  says : SaysAll format defaults w bytes
-  text : Items
-  again : IsWritten greatest_year form w (Ok text)
-  same : bytes ≡ text.items
+  pub shown : IsShown greatest_year form.clock v (Some w)
+  pub says : SaysAll format defaults w bytes
+  pub text : Items
+  pub again : IsWritten greatest_year form w (Ok text)
+  pub same : bytes ≡ text.items
 
-back : (format : Reading) (defaults : Defaults) (form : Form) (v : OffsetDateTime) (bytes : List ℕ)
+pub back : (format : Reading) (defaults : Defaults) (form : Form) (v : OffsetDateTime) (bytes : List ℕ)
     → IsReadable greatest_year format defaults form v bytes → (w : OffsetDateTime) × IsBack format defaults form v bytes w
 back format defaults form v bytes ((w, shown, all), (text, (other, p, q), e)) =
     let there = subst (λ (s : Option OffsetDateTime). MatchOption s (Ok text ≡ Err (why_unshown form.clock))

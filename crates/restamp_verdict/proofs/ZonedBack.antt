@@ -1,6 +1,6 @@
 -- A text of RFC 3339 with a suffix that goes with its moment is read back.
-use Rattle.std.proofs.Common.{◌≡◌, ℕ, ◌+◌, false, List, [], ◌∷◌, ◌++◌, length, take, drop, Option, Ok, Err, refl, sym, ap, subst, arith, length-append, nat_lt}
-use Rattle.std.proofs.Math.Seq.{take-length}
+use Rattle.std.proofs.Common.{◌≡◌, ℕ, ◌+◌, false, List, ◌++◌, length, drop, Option, Ok, Err, sym, ap, subst, arith, length-append, nat_lt}
+use Rattle.std.proofs.Math.Seq.{take-length, take-append_seam, drop-append_seam}
 use Rattle.std.proofs.lemmas.Bool.Decides.{nat_tests}
 use Rattle.time_zones.specs.Checking.{GoesWith}
 use Rattle.time_zones.specs.Suffix.{IsSuffix, Tag, ZoneTag, critical_key}
@@ -19,14 +19,6 @@ use Rattle.restamp_verdict.specs.declared.reading.Reading.TheVariants as reading
 use Rattle.restamp_verdict.specs.declared.reading.Said.{Said}
 use Rattle.restamp_verdict.proofs.FrontLemmas.{front-said}
 use Rattle.restamp_verdict.proofs.OneVerdict.{one_says}
-
-take_front : (xs ys : List ℕ) → take (length xs) (xs ++ ys) ≡ xs
-take_front [] ys = refl
-take_front (x ∷ xs) ys = ap (λ zs. x ∷ zs) (take_front xs ys)
-
-drop_front : (xs ys : List ℕ) → drop (length xs) (xs ++ ys) ≡ ys
-drop_front [] ys = refl
-drop_front (x ∷ xs) ys = drop_front xs ys
 
 -- the moment of a whole text
 whole-moment : (text : List ℕ) (defaults : Defaults) (v : OffsetDateTime)
@@ -51,7 +43,7 @@ module _ (zones : Zones) (v : OffsetDateTime) (text behind : List ℕ) (zone : O
 
   longest : IsSuffix behind zone tags → IsLongestSuffix (drop (length text) whole) suffix
   longest is =
-      subst (λ (bytes : List ℕ). IsLongestSuffix bytes suffix) (sym (drop_front text behind)) (record {
+      subst (λ (bytes : List ℕ). IsLongestSuffix bytes suffix) (sym (drop-append_seam text behind)) (record {
         within = omega arith;
         is_suffix = subst (λ (bytes : List ℕ). IsSuffix bytes zone tags) (sym (take-length behind)) is;
         longest = λ n z t within it. within;
@@ -63,13 +55,13 @@ module _ (zones : Zones) (v : OffsetDateTime) (text behind : List ℕ) (zone : O
       let ended : has_tail false whole (length text + length behind) ≡ false =
       none_left (length text + length behind) (length whole) (length-append text behind) in
       let with_front = subst (λ (front : List ℕ). GoesWith zones (tells_offset front) v zone (critical_key tags) (Ok tt))
-      (sym (take_front text behind)) goes in
+      (sym (take-append_seam text behind)) goes in
       (suffix, longest is, rw ended (Ok tt, with_front, ap (λ (n : ℕ). Ok (said v n)) (length-append text behind)))
 
 pub reads_suffixed_back : ReadsSuffixedBack greatest_year
 reads_suffixed_back zones defaults v text behind zone tags read says is goes reads =
     let moment = subst (λ (front : List ℕ). IsOutcome (IsMoment greatest_year) (Reads greatest_year) (Refuses greatest_year) front empty (Ok v))
-    (sym (take_front text behind)) (whole-moment text defaults v says) in
+    (sym (take-append_seam text behind)) (whole-moment text defaults v says) in
     let front = front-said (text ++ behind) (length text) v (omega (arith, length-append text behind)) moment in
     one_says (reading.Zoned zones) false (text ++ behind) defaults read (Ok (said v (length (text ++ behind)))) reads
     (Ok (said v (length text)), front, suffixed zones v text behind zone tags is goes)

@@ -19,7 +19,8 @@ use Rattle.restamp_place.specs.declared.cuts.Place.{Place}
 use Rattle.restamp_place.specs.declared.fields.Span.{Span}
 use Rattle.time_components.specs.Steps.{steps_shape}
 use Rattle.time_zones.specs.Checking.{GoesWith}
-use Rattle.time_zones.specs.Suffix.{IsSuffix, Tag, ZoneTag, critical_key}
+use Rattle.time_zones.specs.Folder.{zone_named, IsZoneIfAny}
+use Rattle.time_zones.specs.Suffix.{IsSuffix, IsZoneText, Tag, Zone, ZoneTag, at_offset, bracketed, critical_key, named}
 use Rattle.time_zones.specs.declared.zones.Zones.{Zones}
 use Rattle.restamp_verdict.specs.Clock.{IsShown}
 use Rattle.restamp_verdict.specs.Form.{IsWritten}
@@ -31,6 +32,8 @@ use Rattle.restamp_verdict.specs.Reason.{Reason, too_far}
 use Rattle.restamp_verdict.specs.Zoned.{tells_offset}
 use Rattle.restamp_verdict.specs.Told.{with_all_told, HasAll, SignTells}
 use Rattle.time_components.specs.declared.step.Step.{Step}
+use Rattle.restamp_verdict.specs.declared.clock.Clock.{Clock}
+use Rattle.restamp_verdict.specs.declared.clock.Clock.TheVariants as clock
 use Rattle.restamp_verdict.specs.declared.form.Form.{Form}
 use Rattle.restamp_verdict.specs.declared.form.Named.TheVariants.{Rfc3339, Rfc2822, Iso8601, Count}
 use Rattle.restamp_verdict.specs.declared.form.Writing.{Writing}
@@ -92,7 +95,43 @@ ReadsSuffixedBack Y =
     → Says Y (reading.Zoned zones) false (text ++ behind) defaults read
     → read ≡ Ok (said v (length (text ++ behind)))
 
--- What such a text says has that text in the form.
+-- The zone is the one on whose clock times are shown: a table of zones has it by its name.
+abbrev pub IsZoneOfClock : Zones → Clock → Zone → Type 0
+IsZoneOfClock zones clock.Own z = ⊥
+IsZoneOfClock zones (clock.Fixed o) (at_offset p) = p ≡ o
+IsZoneOfClock zones (clock.Fixed o) (named name) = ⊥
+IsZoneOfClock zones (clock.Zone zone) (at_offset p) = ⊥
+IsZoneOfClock zones (clock.Zone zone) (named name) = IsZoneIfAny (zone_named zones name) (Some zone)
+
+-- The text is that of the moment by RFC 3339 in a form, each digit that isn't 0 is written, and the name tells the zone
+-- on whose clock it is shown.
+pub record HasZone (Y : ℕ) (zones : Zones) (defaults : Defaults) (form : Form) (v : OffsetDateTime)
+    (text name : List ℕ) : Type 0 where
+  pub zone : Zone
+  pub readable : IsReadable Y reading.Rfc3339 defaults form v text
+  pub of_clock : IsZoneOfClock zones form.clock zone
+  pub told : IsZoneText name zone
+
+-- Such a text with that suffix says the moment, shown on the clock of the form, with all its bytes.
+abbrev pub ReadsZonedBack : ℕ → Type 0
+ReadsZonedBack Y =
+    (zones : Zones) (defaults : Defaults) (form : Form) (v : OffsetDateTime) (text name : List ℕ)
+    (read : Result Said Reason)
+    → HasZone Y zones defaults form v text name
+    → Says Y (reading.Zoned zones) false (text ++ bracketed false name) defaults read
+    → IsOkAnd read (λ said. IsShown Y form.clock v (Some said.moment) × (said.start ≡ 0)
+    × (said.length ≡ length (text ++ bracketed false name)))
+
+-- What it says has that text in the form.
+abbrev pub WritesZonedSame : ℕ → Type 0
+WritesZonedSame Y =
+    (zones : Zones) (defaults : Defaults) (form : Form) (v : OffsetDateTime) (text name : List ℕ) (said : Said)
+    (again : Result Items Reason)
+    → HasZone Y zones defaults form v text name
+    → Says Y (reading.Zoned zones) false (text ++ bracketed false name) defaults (Ok said)
+    → IsWritten Y form said.moment again → IsOkAnd again (λ written. written.items ≡ text)
+
+-- What a text of a form says has that text in the form.
 abbrev pub WritesSameText : ℕ → Type 0
 WritesSameText Y =
     (format : Reading) (defaults : Defaults) (form : Form) (v : OffsetDateTime) (bytes : List ℕ) (said : Said)

@@ -9,6 +9,7 @@ pub mod Lack
 pub mod LackSteps
 pub mod LackLaws
 pub mod Job
+pub mod Outcome
 pub mod Begins
 pub mod ReadBack
 pub mod Told

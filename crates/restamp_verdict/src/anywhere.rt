@@ -100,7 +100,7 @@ impl Job<'_> {
     }
 
     // The first place of the line from which on it says a moment, and what it says.
-    fn find_first(&self, line: &[u8]) -> Option<(usize, Said)>
+    pub(crate) fn find_first(&self, line: &[u8]) -> Option<(usize, Said)>
         ensures first { spec.IsFirst greatest_year self.now line.now result }
         ensures within { IfSome result (λ found. found.0 + found.1.start + found.1.length ≤ length line.now) }
     {

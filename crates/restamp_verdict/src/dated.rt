@@ -187,8 +187,8 @@ fn read_others(
     Err(reason)
 }
 
-/// What a text says that says nothing by the first of the formats as it stands, for that reason.
-pub(crate) fn read_further(
+// What a text says that says nothing by the first of the formats as it stands, for that reason.
+fn read_further(
     first: &Reading,
     others: &[Reading],
     is_open: bool,
@@ -207,7 +207,6 @@ pub(crate) fn read_further(
 }
 
 /// What the text says by the first of the formats by which it says something; the reason is that of the first.
-#[inline(always)]
 pub fn read_in_turn(
     first: &Reading,
     others: &[Reading],

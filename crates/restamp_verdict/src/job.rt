@@ -1,16 +1,12 @@
 //! What becomes of a line.
-ghost use Rattle.std.specs.Prelude.{◌≡◌, ◌≤◌, ◌<◌, ◌+◌, ◌^◌, ℕ, length, Err, IfOk, IfSome};
+ghost use Rattle.std.specs.Prelude.{◌≡◌, ◌≤◌, ◌<◌, ◌+◌, ◌^◌, ℕ, length};
 ghost use Rattle.time_values.specs.Range.{greatest_year};
 ghost use Rattle.time_values.specs.Shown.{Items};
 ghost use Rattle.restamp_verdict.specs.Job as spec;
-ghost use Rattle.restamp_verdict.specs.Reading.{Says};
-ghost use Rattle.restamp_verdict.specs.Reason.{seen, seen_read};
 
-mod fast;
-
-use crate::dated::read_further;
-use crate::form::{Form, Writing, write_moment};
-use crate::reading::{Defaults, Reading, Said, read_once};
+use crate::dated::read_in_turn;
+use crate::form::{Form, write_moment};
+use crate::reading::{Defaults, Reading, Said};
 use crate::reason::Reason;
 use restamp_place::{Place, find_span};
 use std::cmp::Ordering;
@@ -78,86 +74,40 @@ fn is_before(moment: OffsetDateTime, bound: Option<OffsetDateTime>, otherwise: b
     }
 }
 
-// The verdict on a line that is refused. It isn't inlined, so that a reason takes no place beside a text in line.
-#[inline(never)]
-fn refuse_at(column: usize, reason: Reason) -> Verdict
-    ensures verdict { (text : Items) → spec.seen_verdict result text ≡ spec.refused column (seen reason) }
-    ensures within { (n : ℕ) (text : Items) → spec.IsWithin n (spec.seen_verdict result text) }
-{
-    Verdict::Refused { column, reason }
-}
-
-impl Said {
-    // The verdict on a line that says a moment so in a part from that place on, whose text was put in its place.
-    #[inline(always)]
-    fn rewritten_from(self, start: usize) -> Verdict
-        requires { start + self.start < 2 ^ 64 }
-        ensures verdict { (text : Items) → spec.seen_verdict result text ≡ spec.rewritten (start + self.start) self.length text.items }
-        ensures within { (text : Items) → spec.IsWithin (start + self.start + self.length) (spec.seen_verdict result text) }
-    {
-        Verdict::Rewritten {
-            start: start + self.start,
-            length: self.length,
-        }
-    }
-}
-
 impl Job<'_> {
     // Whether the moment lies within the bounds.
     #[inline(always)]
-    fn keeps(&self, moment: OffsetDateTime) -> bool
+    pub(crate) fn keeps(&self, moment: OffsetDateTime) -> bool
         ensures { result ≡ spec.is_kept greatest_year self.now moment }
     {
         !is_before(moment, self.since, false) && is_before(moment, self.until, true)
     }
 
     // The verdict on a line of which some bytes say a moment, in a part from that place on.
-    #[inline(always)]
     pub(crate) fn put(&self, start: usize, said: Said, text: &mut Text) -> Verdict
         requires { start + said.start + said.length + 1 < 2 ^ 64 }
         ensures put { spec.IsPut greatest_year self.now start said (spec.seen_verdict result text.new) }
         ensures within { spec.IsWithin (start + said.start + said.length) (spec.seen_verdict result text.new) }
     {
+        let column = start + said.start + 1;
         if LIMIT < start + said.start + said.length {
-            return refuse_at(start + said.start + 1, Reason::TooFar);
+            return Verdict::Refused {
+                column,
+                reason: Reason::TooFar,
+            };
         }
-        self.put_within(start, said, text)
-    }
-
-    // The same for a moment that stands where a time may.
-    #[inline(always)]
-    fn put_within(&self, start: usize, said: Said, text: &mut Text) -> Verdict
-        requires { start + said.start + 1 < 2 ^ 64 }
-        ensures put { spec.IsPutWithin greatest_year self.now start said (spec.seen_verdict result text.new) }
-        ensures within { spec.IsWithin (start + said.start + said.length) (spec.seen_verdict result text.new) }
-    {
         if !self.keeps(said.moment) {
             return Verdict::Dropped;
         }
-        let Writing::Named(named) = self.form.writing else {
-            return self.put_kept(start, said, text);
-        };
-        let form = &self.form;
-        match fast::write_soon(said.moment, *named, form.digits, &form.clock, text) {
-            Some(()) => said.rewritten_from(start),
-            None => self.put_kept(start, said, text),
-        }
-    }
-
-    // The same of any format, for a moment that is kept. It isn't inlined, so that its texts take no place beside those that
-    // are written in line.
-    #[inline(never)]
-    fn put_kept(&self, start: usize, said: Said, text: &mut Text) -> Verdict
-        requires { start + said.start + 1 < 2 ^ 64 }
-        ensures put { spec.IsWrittenOver greatest_year self.now start said (spec.seen_verdict result text.new) }
-        ensures within { spec.IsWithin (start + said.start + said.length) (spec.seen_verdict result text.new) }
-    {
         match write_moment(said.moment, &self.form) {
             Ok(written) => {
                 *text = written;
-                said.rewritten_from(start)
+                Verdict::Rewritten {
+                    start: start + said.start,
+                    length: said.length,
+                }
             }
-            Err(reason) => refuse_at(start + said.start + 1, reason),
+            Err(reason) => Verdict::Refused { column, reason },
         }
     }
 
@@ -166,54 +116,46 @@ impl Job<'_> {
         ensures { (text : Items) → spec.seen_verdict result text ≡ spec.missed self.now }
     {
         if self.asks_for_times {
-            return refuse_at(1, Reason::Missing);
+            return Verdict::Refused {
+                column: 1,
+                reason: Reason::Missing,
+            };
         }
         Verdict::Without
     }
 
-    // The verdict on a line whose time stands at that place.
-    #[inline(always)]
-    fn judge_at(&self, place: Place<'_>, line: &[u8], text: &mut Text) -> Verdict
-        ensures verdict { spec.IsJudgedAt greatest_year self.now place.entry line.now (spec.seen_verdict result text.new) }
-        ensures within { spec.IsWithin (length line.now) (spec.seen_verdict result text.new) }
-    {
-        let Some(span) = find_span(place, line) else {
-            return self.miss();
-        };
-        let is_open = place.is_open();
-        let part = &line[span.start..span.stop];
-        match read_once(self.first, is_open, part, &self.defaults) {
-            Ok(said) => self.put(span.start, said, text),
-            Err(reason) => self.judge_further(span.start, is_open, part, reason, text),
-        }
-    }
-
-    // The verdict on a line of which a part says nothing by the first format as it stands, for that reason. It isn't inlined,
-    // so that what is read by the others takes no place beside what is read by the first.
-    #[inline(never)]
-    fn judge_further(
+    // The verdict on a line of which a part from that place on is the time.
+    pub(crate) fn judge_part(
         &self,
         start: usize,
         is_open: bool,
         part: &[u8],
-        reason: Reason,
         text: &mut Text,
     ) -> Verdict
-        requires start { start + length part.now + 1 < 2 ^ 64 }
-        requires says { Says greatest_year self.now.first.now is_open part.now self.now.defaults (Err (seen reason)) }
+        requires { start + length part.now + 1 < 2 ^ 64 }
         ensures verdict { spec.IsJudgedPart greatest_year self.now is_open start part.now (spec.seen_verdict result text.new) }
         ensures within { spec.IsWithin (start + length part.now) (spec.seen_verdict result text.new) }
     {
-        match read_further(
-            self.first,
-            self.others,
-            is_open,
-            part,
-            &self.defaults,
-            reason,
-        ) {
+        match read_in_turn(self.first, self.others, is_open, part, &self.defaults) {
             Ok(said) => self.put(start, said, text),
-            Err(why) => refuse_at(start + 1, why),
+            Err(reason) => Verdict::Refused {
+                column: start + 1,
+                reason,
+            },
+        }
+    }
+
+    // The verdict on a line whose time stands at that place.
+    fn judge_at(&self, place: Place<'_>, line: &[u8], text: &mut Text) -> Verdict
+        ensures verdict { spec.IsJudgedAt greatest_year self.now place.entry line.now (spec.seen_verdict result text.new) }
+        ensures within { spec.IsWithin (length line.now) (spec.seen_verdict result text.new) }
+    {
+        match find_span(place, line) {
+            Some(span) => {
+                let part = &line[span.start..span.stop];
+                self.judge_part(span.start, place.is_open(), part, text)
+            }
+            None => self.miss(),
         }
     }
 
@@ -227,7 +169,6 @@ impl Job<'_> {
     /// around a mail date stay where it isn't told where the time ends.
     ///
     /// The text of a line that is rewritten is put in the place of `text`.
-    #[inline(always)]
     pub fn judge(&self, line: &[u8], text: &mut Text) -> Verdict
         ensures verdict { spec.IsJudged greatest_year self.now line.now (spec.seen_verdict result text.new) }
         ensures within { spec.IsWithin (length line.now) (spec.seen_verdict result text.new) }

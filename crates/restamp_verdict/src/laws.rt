@@ -1,6 +1,6 @@
 //! Laws of what becomes of a line: each function does nothing, and its contract is the law.
 ghost use Rattle.time_values.specs.Range.{greatest_year};
-ghost use Rattle.restamp_verdict.specs.Laws.{OneVerdict, AutoHasAll, ReadsRewrittenBack, ReadsSuffixedBack, WritesSameText, ChangesNothing, KeepsMoment, SaysAllTold, SignsTell, OneTree, CommonReadsBack};
+ghost use Rattle.restamp_verdict.specs.Laws.{OneVerdict, AutoHasAll, ReadsRewrittenBack, ReadsSuffixedBack, ReadsZonedBack, WritesZonedSame, WritesSameText, ChangesNothing, KeepsMoment, SaysAllTold, SignsTell, OneTree, CommonReadsBack};
 
 /// A line has one verdict, whatever the job.
 #[tactic(auto, using(crate::proofs::OneVerdict::one_verdict))]
@@ -23,6 +23,14 @@ pub fn law_rewritten_read_back()
 /// suffix behind it that goes with that moment.
 pub fn law_suffixed_read_back()
     ensures { ReadsSuffixedBack greatest_year }
+{}
+
+/// A time that was written by RFC 3339, each digit of its fraction that isn't 0 among them, is read by RFC 9557 as the same
+/// moment with the suffix of the zone on whose clock it was shown, and all bytes count. What is read so is written as the
+/// same text again.
+pub fn law_zoned_read_back()
+    ensures text { ReadsZonedBack greatest_year }
+    ensures again { WritesZonedSame greatest_year }
 {}
 
 /// A second run changes nothing. What a text of [`law_rewritten_read_back`] says is written in the same form as that

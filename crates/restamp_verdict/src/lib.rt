@@ -13,8 +13,10 @@ pub mod laws;
 mod local;
 mod missing;
 mod naming;
+mod outcome;
 mod reading;
 mod reason;
+mod saying;
 mod wrong;
 mod zoned;
 
@@ -26,6 +28,7 @@ pub use lack::{Lack, Part};
 pub use local::{Clocks, Fold};
 pub use missing::{Why, law_one_lack};
 pub use naming::{FormatFault, find_reading, find_writing};
+pub use outcome::Outcome;
 pub use reading::{Defaults, MOST_STEPS, Reading, Said, read};
 pub use reason::{OffsetParts, Reason, TwoOffsets};
 pub use wrong::{Wrong, law_one_wrong};

@@ -3,7 +3,9 @@ ghost use Rattle.std.specs.Prelude.{◌≡◌, ◌+◌, ◌-◌, ◌≤◌, true
 ghost use Rattle.time_values.specs.Range.{greatest_year};
 ghost use Rattle.time_record.specs.Record.{empty};
 ghost use Rattle.time_readers.specs.Direct.{RefusesRfc3339};
-ghost use Rattle.time_parsing.specs.Outcome.{direct, IsFront, IsOutcome, seen as seen_parse, seen_front};
+ghost use Rattle.time_components.specs.Steps.{steps_shape};
+ghost use Rattle.time_record.specs.Reading as description;
+ghost use Rattle.time_parsing.specs.Outcome.{direct, over_record, IsFront, IsOutcome, seen as seen_parse, seen_front};
 ghost use Rattle.time_parsing.specs.Iso8601 as iso8601;
 ghost use Rattle.time_parsing.specs.Rfc3339.{Reads, Refuses};
 ghost use Rattle.restamp_verdict.specs.Reading as spec;
@@ -137,7 +139,7 @@ fn said_before(rest: &[u8], text: &[u8], moment: OffsetDateTime) -> Said
 
 // What a front of the text says by the format where it is open, and else what the whole text says.
 #[inline(always)]
-fn read_by<F: Parsable>(format: &F, is_open: bool, text: &[u8]) -> Result<Said, Parse>
+pub(crate) fn read_by<F: Parsable>(format: &F, is_open: bool, text: &[u8]) -> Result<Said, Parse>
     ensures said { spec.IsReadBy greatest_year is_open (F.path format.now) (F.reads format.now) (F.refuses format.now) text.now
         (spec.seen_said result) }
     ensures within { IfOk result (λ said. said.start + said.length ≤ length text.now) }
@@ -185,7 +187,7 @@ fn whole_with<F: Parsable>(
 
 // What a front of the text says with what stands for what it doesn't say, where it is open, and else what the whole does.
 #[inline(always)]
-fn read_with<F: Parsable>(
+pub(crate) fn read_with<F: Parsable>(
     format: &F,
     is_open: bool,
     text: &[u8],
@@ -220,7 +222,7 @@ fn bare(said: Said, text: &[u8]) -> Said
 // The same by RFC 2822, which has blanks before a date and after it: where it is open they stay around it. It isn't inlined,
 // so that the other formats are.
 #[inline(never)]
-fn read_mail(is_open: bool, text: &[u8]) -> Result<Said, Parse>
+pub(crate) fn read_mail(is_open: bool, text: &[u8]) -> Result<Said, Parse>
     ensures said { spec.IsReadMail greatest_year is_open text.now (spec.seen_said result) }
     ensures within { IfOk result (λ said. said.start + said.length ≤ length text.now) }
 {
@@ -247,7 +249,7 @@ pub(crate) fn read_front_3339(text: &[u8]) -> Result<Said, Parse>
 
 // The same by RFC 3339 of either.
 #[inline(always)]
-fn read_3339(is_open: bool, text: &[u8]) -> Result<Said, Parse>
+pub(crate) fn read_3339(is_open: bool, text: &[u8]) -> Result<Said, Parse>
     ensures said { spec.IsReadBy greatest_year is_open (direct (RefusesRfc3339 greatest_year)) (Reads greatest_year)
         (Refuses greatest_year) text.now (spec.seen_said result) }
     ensures within { IfOk result (λ said. said.start + said.length ≤ length text.now) }
@@ -260,7 +262,7 @@ fn read_3339(is_open: bool, text: &[u8]) -> Result<Said, Parse>
 
 // The same by ISO 8601, with defaults. It isn't inlined either.
 #[inline(never)]
-fn read_8601(is_open: bool, text: &[u8], defaults: &Defaults<'_>) -> Result<Said, Parse>
+pub(crate) fn read_8601(is_open: bool, text: &[u8], defaults: &Defaults<'_>) -> Result<Said, Parse>
     ensures said { spec.IsReadWith greatest_year is_open (iso8601.Reads greatest_year) (iso8601.Refuses greatest_year) text.now
         defaults.now (spec.seen_said result) }
     ensures within { IfOk result (λ said. said.start + said.length ≤ length text.now) }
@@ -268,8 +270,36 @@ fn read_8601(is_open: bool, text: &[u8], defaults: &Defaults<'_>) -> Result<Said
     read_with(&Iso8601, is_open, text, defaults)
 }
 
+// The same by a complete description. Neither is this one, nor the next.
+#[inline(never)]
+fn read_complete(
+    described: &Prepared<MOST_STEPS>,
+    is_open: bool,
+    text: &[u8],
+) -> Result<Said, Parse>
+    ensures said { spec.IsReadBy greatest_year is_open over_record (description.Reads greatest_year (steps_shape described.now))
+        (description.Refuses greatest_year (steps_shape described.now)) text.now (spec.seen_said result) }
+    ensures within { IfOk result (λ said. said.start + said.length ≤ length text.now) }
+{
+    read_by(described, is_open, text)
+}
+
+// The same by another description, with defaults.
+#[inline(never)]
+fn read_described(
+    described: &Prepared<MOST_STEPS>,
+    is_open: bool,
+    text: &[u8],
+    defaults: &Defaults<'_>,
+) -> Result<Said, Parse>
+    ensures said { spec.IsReadWith greatest_year is_open (description.Reads greatest_year (steps_shape described.now))
+        (description.Refuses greatest_year (steps_shape described.now)) text.now defaults.now (spec.seen_said result) }
+    ensures within { IfOk result (λ said. said.start + said.length ≤ length text.now) }
+{
+    read_with(described, is_open, text, defaults)
+}
+
 // The same by any of the formats. Those that say all of a moment need no defaults.
-#[inline(always)]
 fn read_plain(
     reading: &Reading,
     is_open: bool,
@@ -284,16 +314,17 @@ fn read_plain(
         Reading::Zoned(_) => read_front_3339(text),
         Reading::Rfc2822 => read_mail(is_open, text),
         Reading::Iso8601 => read_8601(is_open, text, defaults),
-        Reading::Complete(described) => read_by(described, is_open, text),
+        Reading::Complete(described) => read_complete(described, is_open, text),
         Reading::Described(described) | Reading::Counted(described) => {
-            read_with(described, is_open, text, defaults)
+            read_described(described, is_open, text, defaults)
         }
     }
 }
 
-/// What [`read`] says, in line.
-#[inline(always)]
-pub(crate) fn read_once(
+/// Parses a text by the format, with defaults for what it omits: all of it, or where `is_open` is true the front that the
+/// format takes.
+#[inline(never)]
+pub fn read(
     reading: &Reading,
     is_open: bool,
     text: &[u8],
@@ -309,18 +340,4 @@ pub(crate) fn read_once(
         Ok(said) => guard(reading, text, said),
         Err(error) => Err(Reason::Unread(error)),
     }
-}
-
-/// Parses a text by the format, with defaults for what it omits: all of it, or where `is_open` is true the front that the
-/// format takes.
-pub fn read(
-    reading: &Reading,
-    is_open: bool,
-    text: &[u8],
-    defaults: &Defaults<'_>,
-) -> Result<Said, Reason>
-    ensures said { spec.Says greatest_year reading.now is_open text.now defaults.now (seen_read result) }
-    ensures within { IfOk result (λ said. said.start + said.length ≤ length text.now) }
-{
-    read_once(reading, is_open, text, defaults)
 }

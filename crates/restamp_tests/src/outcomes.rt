@@ -1,0 +1,131 @@
+//! What becomes of a line, beside the verdict on it.
+use restamp_place::Place;
+use restamp_verdict::{
+    Clock, Defaults, Form, Job, Outcome, Reading, Verdict, Writing, find_reading, find_writing,
+};
+use std::test::Fail;
+use time_values::{OffsetDateTime, UtcOffset};
+use time_writing::{FractionDigits, Text};
+
+// Where a line's time stands, the format that reads it, the one that writes it, and a line that has such a time.
+type Sample = (Place<'static>, &'static [u8], &'static [u8], &'static [u8]);
+
+static SAMPLES: [Sample; 9] = [
+    (Place::Whole, b"rfc3339", b"unix", b"2021-01-02T03:04:05Z"),
+    (
+        Place::Front,
+        b"rfc3339",
+        b"rfc3339",
+        b"2021-01-02T03:04:05.25+01:00 x",
+    ),
+    (
+        Place::Between(b"[", b"]"),
+        b"common",
+        b"rfc3339",
+        b"x [10/Oct/2000:13:55:36 -0700] y",
+    ),
+    (
+        Place::Front,
+        b"syslog",
+        b"unix-ms",
+        b"Jan  2 03:04:05 host x",
+    ),
+    (
+        Place::Whole,
+        b"rfc2822",
+        b"rfc3339",
+        b"Fri, 2 Jan 1970 00:00:09 UT",
+    ),
+    (
+        Place::Front,
+        b"rfc2822",
+        b"unix-ns",
+        b" Fri, 2 Jan 1970 00:00:09 +0000 x",
+    ),
+    (
+        Place::Whole,
+        b"iso8601",
+        b"%Y-%m-%d %H:%M:%S",
+        b"2021-W01-6T03:04:05Z",
+    ),
+    (Place::Whole, b"unix", b"rfc2822", b"-60.5"),
+    (
+        Place::After(b"at "),
+        b"%Y-%m-%d %H:%M",
+        b"iso8601",
+        b"x at 2021-01-02 03:04",
+    ),
+];
+
+// What is done with lines: what follows the first format is RFC 3339, times before 1970 are dropped, and they are shown in
+// UTC.
+fn job_of<'a>(
+    place: Place<'a>,
+    first: &'a Reading,
+    others: &'a [Reading],
+    writing: &'a Writing,
+) -> Job<'a> {
+    Job {
+        place: Some(place),
+        first,
+        others,
+        defaults: Defaults {
+            year: Some(2021),
+            offset: Some(UtcOffset::UTC),
+            clocks: None,
+            latest: None,
+        },
+        form: Form {
+            writing,
+            digits: FractionDigits::Auto,
+            clock: Clock::Fixed(UtcOffset::UTC),
+        },
+        since: OffsetDateTime::from_unix_timestamp(0).ok(),
+        until: None,
+        asks_for_times: true,
+    }
+}
+
+// Whether that becomes of a line what its verdict says, with the same text.
+fn is_decided(job: &Job<'_>, line: &[u8]) -> bool {
+    let mut judged = Text::new();
+    let mut decided = Text::new();
+    match (job.judge(line, &mut judged), job.decide(line, &mut decided)) {
+        (Verdict::Without, Outcome::Without) | (Verdict::Dropped, Outcome::Dropped) => true,
+        (Verdict::Refused { .. }, Outcome::Refused) => true,
+        (
+            Verdict::Rewritten { start, length },
+            Outcome::Rewritten {
+                start: begin,
+                length: many,
+            },
+        ) => { start == begin && length == many && judged.as_bytes() == decided.as_bytes() }
+        _ => false,
+    }
+}
+
+// Each byte of a line becomes each other byte.
+#[test]
+fn changed(rt: HostRuntime) -> Result<(), Fail> {
+    for (place, from, to, sample) in &SAMPLES {
+        let (Ok(first), Ok(second), Ok(writing)) = (
+            find_reading(from),
+            find_reading(b"rfc3339"),
+            find_writing(to),
+        ) else {
+            return Err("no format".into());
+        };
+        let others = [second];
+        let job = job_of(*place, &first, &others, &writing);
+        for at in 0..sample.len().min(32) {
+            for byte in 0..=255 {
+                let mut line = [0; 32];
+                let many = sample.len().min(32);
+                line[..many].copy_from_slice(&sample[..many]);
+                line[at] = byte;
+                assert!(rt; is_decided(&job, &line[..many]), "{sample:?} {at} {byte}");
+            }
+        }
+    }
+    Ok(())
+}

@@ -124,10 +124,16 @@ def offset_text(seconds):
     return "Z" if not seconds else f"{'-' if seconds < 0 else '+'}{size // 3600:02}:{size // 60 % 60:02}"
 
 
+def is_ahead(name, second, offset):
+    """Whether clocks of the zone are so many seconds ahead of UTC at the second."""
+    return (EPOCH + second * SECOND).astimezone(zoneinfo.ZoneInfo(name)).utcoffset() == offset * SECOND
+
+
 def with_suffix(rng, second, moment, name):
     """A text of RFC 9557, and what it becomes as a number of seconds: itself where it is refused."""
     clock, offset = moment.replace(tzinfo=None).isoformat(), int(moment.utcoffset().total_seconds())
-    other = next(it for it in (offset + 900, offset - 900) if abs(it) < 86_400)
+    # The clock may be shown at both offsets, where the zone's changed by a quarter of an hour.
+    other = next(it for it in (offset + 900, offset - 900) if abs(it) < 86_400 and not is_ahead(name, second + offset - it, it))
     utc = f"{(EPOCH + second * SECOND).replace(tzinfo=None).isoformat()}{rng.choice(['Z', 'z', '-00:00'])}"
     text, key = f"{clock}{offset_text(offset)}", rng.choice(["u-ca=gregory", "_a=b-c"])
     read = [f"{text}[{name}]", f"{text}[!{name}]", f"{text}[{name}][{key}]", f"{text}[{key}]", text, f"{utc}[{name}]",

@@ -33,7 +33,7 @@ on_true : (b : Bool) (P Q : Type 0) → b ≡ true → P → MatchBool b P Q
 on_true true P Q e p = p
 on_true false P Q e p = absurd cc
 
-on_false : (b : Bool) (P Q : Type 0) → b ≡ false → Q → MatchBool b P Q
+pub on_false : (b : Bool) (P Q : Type 0) → b ≡ false → Q → MatchBool b P Q
 on_false true P Q e q = absurd cc
 on_false false P Q e q = q
 

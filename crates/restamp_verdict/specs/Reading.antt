@@ -193,6 +193,11 @@ Says Y format is_open text defaults result =
     (outcome : Result Said Refusal) × IsRead Y format is_open text defaults outcome
     × MatchResult outcome (λ s. IsGuarded format is_open text s result) (λ e. result ≡ Err (unread e))
 
+-- what is said by such an outcome, without why nothing is
+abbrev pub IsSaid : {E : Type 0} → (Result Said E → Type 0) → Option Said → Type 0
+IsSaid {E} IsSuch None = (why : E) × IsSuch (Err why)
+IsSaid IsSuch (Some s) = IsSuch (Ok s)
+
 -- the same defaults with that offset
 abbrev pub at_offset : UtcOffset → Defaults → Defaults
 at_offset o d = record { year = d.year; offset = Some o; clocks = None; latest = None }

@@ -8,9 +8,9 @@ ghost use Rattle.restamp_verdict.specs.Job as spec;
 
 mod fast;
 
-use crate::dated::read_dated;
 use crate::job::{Job, REACH, Verdict};
 use crate::reading::{Reading, Said};
+use crate::saying::say_dated;
 use fast::Firsts;
 use restamp_place::body_of;
 use time_values::text::Text;
@@ -34,9 +34,7 @@ impl Job<'_> {
     {
         let rest = &line[start..];
         let near = &rest[..REACH.min(rest.len())];
-        let Ok(said) = read_dated(reading, true, near, &self.defaults) else {
-            return None;
-        };
+        let said = say_dated(reading, true, near, &self.defaults)?;
         if is_inside(line, start + said.start + said.length) {
             return None;
         }
@@ -86,13 +84,17 @@ impl Job<'_> {
     }
 
     // The first place from that one on with whose byte a time may begin, as far as is seen.
-    fn next_start(&self, firsts: Firsts, line: &[u8], from: usize) -> usize
+    fn next_start(&self, firsts: Option<Firsts>, line: &[u8], from: usize) -> usize
         requires from { from ≤ length line.now }
-        requires firsts { (x : ℕ) → begins.is_in firsts x ≡ false → begins.IsInNone x (self.now.first.now ∷ self.now.others.now) }
+        requires firsts { IfSome firsts (λ firsts. (x : ℕ) → begins.is_in firsts x ≡ false
+            → begins.IsInNone x (self.now.first.now ∷ self.now.others.now)) }
         ensures low { from ≤ result }
         ensures high { result ≤ length line.now }
         ensures passed { (k : ℕ) → from ≤ k → k < result → spec.SaysFrom greatest_year self.now line.now k None }
     {
+        let Some(firsts) = firsts else {
+            return from;
+        };
         match fast::next_start(firsts, line, from) {
             Some(next) => next,
             None => from,

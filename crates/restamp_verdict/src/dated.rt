@@ -1,19 +1,25 @@
 //! What a text says by the first of several formats, also where it leaves its year out.
-ghost use Rattle.std.specs.Prelude.{◌≡◌, ◌+◌, ◌≤◌, ◌≤ℤ◌, ◌-ℤ◌, neg_ℤ, pos, length, Err, IfOk};
+ghost use Rattle.std.specs.Prelude.{◌≡◌, ◌+◌, ◌≤◌, ◌≤ℤ◌, ◌-ℤ◌, neg_ℤ, pos, length, None, Err, IfOk, IfSome};
 ghost use Rattle.time_values.specs.Range.{greatest_year};
 ghost use Rattle.restamp_verdict.specs.Reading as spec;
-ghost use Rattle.restamp_verdict.specs.Reason.{seen, seen_read};
+ghost use Rattle.restamp_verdict.specs.Reason.{Reason as Reason_, seen, seen_read};
 
 use crate::local::{Clocks, read_local, read_unplaced};
 use crate::reading::{Defaults, Reading, Said, read};
 use crate::reason::Reason;
+use crate::saying::say;
 use std::cmp::Ordering;
 use time_values::{OffsetDateTime, UtcOffset};
 
-// Whether the moment lies after another.
+// Whether the moment lies after another. Whole seconds mostly tell, and cost a third of nanoseconds.
 fn is_after(moment: OffsetDateTime, other: OffsetDateTime) -> bool
     ensures { result ≡ spec.is_after greatest_year moment other }
 {
+    let seconds = moment.unix_timestamp();
+    let others = other.unix_timestamp();
+    if seconds != others {
+        return others < seconds;
+    }
     moment.cmp_instant(other) == Ordering::Greater
 }
 
@@ -103,6 +109,67 @@ impl<'z> Undated<'_, 'z> {
             }
         }
     }
+}
+
+impl Undated<'_, '_> {
+    // What the text says in that year, where there are no clocks.
+    #[inline(always)]
+    fn say_in_year(&self, year: i32) -> Option<Said>
+        requires { self.now.clocks ≡ None }
+        ensures said { spec.IsSaid (spec.IsReadInYear greatest_year (spec.seen_undated self.now) year) result }
+        ensures within { IfSome result (λ said. said.start + said.length ≤ length self.now.text.now) }
+    {
+        say(self.reading, self.is_open, self.text, &self.in_year(year))
+    }
+
+    // As `read_years`, where there are no clocks, whatever reason is given.
+    #[inline(never)]
+    fn say_years(&self, year: i32, count: u8) -> Option<Said>
+        requires clocks { self.now.clocks ≡ None }
+        requires years { neg_ℤ (pos 2_000_000) ≤ℤ (year -ℤ pos count) }
+        ensures said { (reason : Reason_)
+            → spec.IsSaid (spec.AreYearsTried greatest_year (spec.seen_undated self.now) count year reason) result }
+        ensures within { IfSome result (λ said. said.start + said.length ≤ length self.now.text.now) }
+    {
+        if count == 0 {
+            return None;
+        }
+        let earlier = year - 1;
+        let Some(said) = self.say_in_year(year) else {
+            return self.say_years(earlier, count - 1);
+        };
+        if is_after(said.moment, self.latest) {
+            return self.say_years(earlier, count - 1);
+        }
+        Some(said)
+    }
+}
+
+/// What a text says that says nothing by the format as it stands, where there are no clocks, if it is the year that it
+/// leaves out.
+pub(crate) fn say_undated(
+    reading: &Reading,
+    is_open: bool,
+    text: &[u8],
+    defaults: &Defaults<'_>,
+) -> Option<Said>
+    requires clocks { defaults.now.clocks ≡ None }
+    requires unsaid { (why : Reason_) × spec.Says greatest_year reading.now is_open text.now defaults.now (Err why) }
+    ensures said { spec.IsSaid (spec.IsDated greatest_year reading.now is_open text.now defaults.now) result }
+    ensures within { IfSome result (λ said. said.start + said.length ≤ length text.now) }
+{
+    let Some(latest) = defaults.latest else {
+        return None;
+    };
+    let undated = Undated {
+        reading,
+        is_open,
+        text,
+        offset: defaults.offset,
+        clocks: defaults.clocks,
+        latest,
+    };
+    undated.say_years(latest.year() + 1, 10)
 }
 
 // What a text says that says nothing by the format, for that reason, unless it is the year that it leaves out.

@@ -10,7 +10,7 @@ mod fast;
 use crate::dated::read_in_turn;
 use crate::job::{Job, Verdict};
 use crate::reading::Said;
-use crate::saying::say;
+use crate::saying::{say, say_in_turn};
 use restamp_place::{Place, body_of, find_span};
 use time_values::text::Text;
 
@@ -74,9 +74,10 @@ impl Job<'_> {
         }
     }
 
-    // What becomes of a line of which a part from that place on is the time. It isn't inlined either.
+    // What becomes of a line of which a part from that place on is the time, where clocks of a zone may tell its offset. It
+    // isn't inlined either.
     #[inline(never)]
-    fn decide_part(&self, start: usize, is_open: bool, part: &[u8], text: &mut Text) -> Outcome
+    fn decide_on_clocks(&self, start: usize, is_open: bool, part: &[u8], text: &mut Text) -> Outcome
         requires { start + length part.now + 1 < 2 ^ 64 }
         ensures part { spec.IsDecided (job.IsJudgedPart greatest_year self.now is_open start part.now) result text.new }
         ensures within { spec.EndsWithin (start + length part.now) result }
@@ -87,12 +88,20 @@ impl Job<'_> {
         }
     }
 
-    // Whether clocks of a zone or years are tried for what a time leaves out.
-    #[inline(always)]
-    fn tries_more(&self) -> bool
-        ensures { result ≡ false → (self.now.defaults.clocks ≡ None) × (self.now.defaults.latest ≡ None) }
+    // The same, where that is asked first.
+    #[inline(never)]
+    fn decide_part(&self, start: usize, is_open: bool, part: &[u8], text: &mut Text) -> Outcome
+        requires { start + length part.now + 1 < 2 ^ 64 }
+        ensures part { spec.IsDecided (job.IsJudgedPart greatest_year self.now is_open start part.now) result text.new }
+        ensures within { spec.EndsWithin (start + length part.now) result }
     {
-        self.defaults.clocks.is_some() || self.defaults.latest.is_some()
+        if self.defaults.clocks.is_some() {
+            return self.decide_on_clocks(start, is_open, part, text);
+        }
+        match say_in_turn(self.first, self.others, is_open, part, &self.defaults) {
+            Some(said) => self.decide_said(start, said, text),
+            None => Outcome::Refused,
+        }
     }
 
     // What becomes of a line that has no place for a time.
@@ -118,7 +127,7 @@ impl Job<'_> {
         };
         let is_open = place.is_open();
         let part = &line[span.start..span.stop];
-        if self.tries_more() {
+        if self.defaults.tries_more() {
             return self.decide_part(span.start, is_open, part, text);
         }
         let Some(said) = say(self.first, is_open, part, &self.defaults) else {

@@ -106,10 +106,11 @@ fn format_firsts(reading: &Reading) -> Firsts
     }
 }
 
-// With which bytes the texts of any of the formats may begin.
+/// With which bytes the texts of any of the formats may begin.
 #[inline(always)]
-pub(super) fn all_firsts(first: &Reading, others: &[Reading]) -> Firsts
-    ensures { (x : ℕ) → begins.is_in result x ≡ false → begins.IsInNone x (first.now ∷ others.now) }
+pub(super) fn all_firsts(first: &Reading, others: &[Reading]) -> Option<Firsts>
+    ensures { IfSome result (λ firsts. (x : ℕ) → begins.is_in firsts x ≡ false
+        → begins.IsInNone x (first.now ∷ others.now)) }
 {
     let mut firsts = format_firsts(first);
     for reading in others {
@@ -118,7 +119,7 @@ pub(super) fn all_firsts(first: &Reading, others: &[Reading]) -> Firsts
         firsts.mail |= more.mail;
         firsts.others |= more.others;
     }
-    firsts
+    Some(firsts)
 }
 
 #[inline(always)]

@@ -1,6 +1,6 @@
 //! Where answers go.
 ghost use Rattle.std.specs.Io.KnownBytes.{Appends};
-ghost use Rattle.std.specs.Prelude.{◌≡◌, ◌≤◌, ℕ, List, IfOk, IfErr, [], ◌∷◌, OnOk, length, IsTrue, false};
+ghost use Rattle.std.specs.Prelude.{◌≡◌, ◌≤◌, ◌++◌, ℕ, List, IfOk, IfErr, [], ◌∷◌, OnOk, length, take, drop, IsTrue, false};
 ghost use Rattle.programs_streams.specs.Faults.{HasCause};
 ghost use Rattle.restamp_stream.specs.Answers.{Did, IsNaming, IsReport, Closes};
 ghost use Rattle.restamp_stream.specs.Causes.{faults_of, HasWriteCause, IsCounted};
@@ -182,6 +182,57 @@ impl<W: Sink, L: Sink> Stream<W, L> {
         self.put_some(suffix)
     }
 
+    // Puts the front of a line with a text and its suffix in it for the bytes from `begin` to before `end`. It isn't inlined, as
+    // most times have none.
+    #[inline(never)]
+    fn put_suffixed(
+        &mut self,
+        suffix: &[u8],
+        front: &[u8],
+        begin: usize,
+        end: usize,
+        text: &[u8],
+    ) -> Result<(), Unwritten>
+        requires order { begin ≤ end }
+        requires within { end ≤ length front.now }
+        ensures put { OnOk result (Appends (held_out W.contents self.old) (held_out W.contents self.new)
+            (take begin front.now ++ (text.now ++ (suffix.now ++ drop end front.now)))) }
+        ensures log { self.new.log ≡ self.old.log }
+        ensures tally { self.new.tally ≡ self.old.tally }
+        ensures cause { HasCause result (W.faults self.old.out) (W.faults self.new.out) }
+    {
+        self.put(&front[..begin])?;
+        self.put(text)?;
+        self.put(suffix)?;
+        self.put(&front[end..])
+    }
+
+    // The same, in line where the suffix is empty.
+    #[inline(always)]
+    fn put_changed(
+        &mut self,
+        suffix: &[u8],
+        front: &[u8],
+        begin: usize,
+        end: usize,
+        text: &[u8],
+    ) -> Result<(), Unwritten>
+        requires order { begin ≤ end }
+        requires within { end ≤ length front.now }
+        ensures put { OnOk result (Appends (held_out W.contents self.old) (held_out W.contents self.new)
+            (take begin front.now ++ (text.now ++ (suffix.now ++ drop end front.now)))) }
+        ensures log { self.new.log ≡ self.old.log }
+        ensures tally { self.new.tally ≡ self.old.tally }
+        ensures cause { HasCause result (W.faults self.old.out) (W.faults self.new.out) }
+    {
+        if suffix.is_empty() {
+            return self
+                .waiting
+                .put_changed(front, begin, end, text, &mut self.out);
+        }
+        self.put_suffixed(suffix, front, begin, end, text)
+    }
+
     // Puts what goes out for the front of a line.
     #[inline(always)]
     fn put_front(
@@ -205,10 +256,7 @@ impl<W: Sink, L: Sink> Stream<W, L> {
                 self.put(b"\n")
             }
             (_, Fate::Rewritten { begin, end, text }) => {
-                self.put(&front[..*begin])?;
-                self.put(text.as_bytes())?;
-                self.put_suffix(settings.suffix)?;
-                self.put(&front[*end..])
+                self.put_changed(settings.suffix, front, *begin, *end, text.as_bytes())
             }
             (Output::AllLines, Fate::Without | Fate::Refused) => self.put(front),
             _ => Ok(()),

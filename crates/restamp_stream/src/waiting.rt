@@ -1,7 +1,9 @@
 //! Bytes that wait for one write.
 ghost use Rattle.std.specs.Io.KnownBytes.{Appends, append_known};
-ghost use Rattle.std.specs.Prelude.{◌≡◌, [], OnOk};
+ghost use Rattle.std.specs.Prelude.{◌≡◌, ◌+◌, ◌≤◌, ◌++◌, [], length, take, drop, OnOk};
 ghost use Rattle.programs_streams.specs.Faults.{HasCause};
+
+mod fast;
 
 use crate::held::Held;
 use programs_streams::{Sink, Unwritten};
@@ -34,19 +36,71 @@ impl Held<MOST> {
             (append_known (W.contents out.new) self.new.items) bytes.now) }
         ensures cause { HasCause result (W.faults out.old) (W.faults out.new) }
     {
-        if bytes.is_empty() {
-            return Ok(());
-        }
         if MOST - self.len < bytes.len() {
             return self.put_many(bytes, out);
+        }
+        self.append(bytes);
+        Ok(())
+    }
+
+    // Puts bytes that fit after what waits.
+    #[inline(always)]
+    fn append(&mut self, bytes: &[u8])
+        requires { length self.old.items + length bytes.now ≤ MOST }
+        ensures { self.new.items ≡ self.old.items ++ bytes.now }
+    {
+        if bytes.is_empty() {
+            return;
         }
         let end = self.len + bytes.len();
         self.array[self.len..end].copy_from_slice(bytes);
         self.len = end;
-        Ok(())
     }
 
-    // The same where they don't fit.
+    // Puts the front of a line after what waits, part by part, with a text in it for the bytes from `begin` to before `end`.
+    #[inline(never)]
+    fn put_parts<W: Sink>(
+        &mut self,
+        front: &[u8],
+        begin: usize,
+        end: usize,
+        text: &[u8],
+        out: &mut W,
+    ) -> Result<(), Unwritten>
+        requires order { begin ≤ end }
+        requires within { end ≤ length front.now }
+        ensures put { OnOk result (Appends (append_known (W.contents out.old) self.old.items)
+            (append_known (W.contents out.new) self.new.items) (take begin front.now ++ (text.now ++ drop end front.now))) }
+        ensures cause { HasCause result (W.faults out.old) (W.faults out.new) }
+    {
+        self.put(&front[..begin], out)?;
+        self.put(text, out)?;
+        self.put(&front[end..], out)
+    }
+
+    /// Puts the front of a line after what waits, with a text in it for the bytes from `begin` to before `end`.
+    #[inline(always)]
+    pub fn put_changed<W: Sink>(
+        &mut self,
+        front: &[u8],
+        begin: usize,
+        end: usize,
+        text: &[u8],
+        out: &mut W,
+    ) -> Result<(), Unwritten>
+        requires order { begin ≤ end }
+        requires within { end ≤ length front.now }
+        ensures put { OnOk result (Appends (append_known (W.contents out.old) self.old.items)
+            (append_known (W.contents out.new) self.new.items) (take begin front.now ++ (text.now ++ drop end front.now))) }
+        ensures cause { HasCause result (W.faults out.old) (W.faults out.new) }
+    {
+        match fast::splice(self, front, begin, end, text) {
+            Some(()) => Ok(()),
+            None => self.put_parts(front, begin, end, text, out),
+        }
+    }
+
+    // Puts bytes that don't fit after what waits.
     #[inline(never)]
     fn put_many<W: Sink>(&mut self, bytes: &[u8], out: &mut W) -> Result<(), Unwritten>
         ensures put { OnOk result (Appends (append_known (W.contents out.old) self.old.items)

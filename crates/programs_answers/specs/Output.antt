@@ -8,7 +8,6 @@ use Rattle.time_record.specs.Record.{empty}
 use Rattle.time_record.specs.Resolution.{IsDated, IsTimed, IsOffset, IsPlain, IsUtcMoment, IsMoment, IsTimestamp}
 use Rattle.time_parsing.specs.Outcome.{Reading, Refusing, Resolving, Path, over_record, direct, IsOutcome, IsMomentOutcome}
 use Rattle.time_readers.specs.Direct.{RefusesRfc3339, RefusesRfc2822}
-use Rattle.time_values.specs.declared.offset_date_time.OffsetDateTime.{OffsetDateTime}
 use Rattle.time_parsing.specs.Iso8601 as Iso8601
 use Rattle.time_parsing.specs.Rfc2822 as Rfc2822
 use Rattle.time_parsing.specs.Rfc3339 as Rfc3339
@@ -20,19 +19,18 @@ use Rattle.programs_answers.specs.declared.formats.Format.TheVariants as format
 use Rattle.programs_answers.specs.declared.formats.Target.{Target}
 use Rattle.programs_answers.specs.declared.formats.Target.TheVariants as target
 
+-- The answer is an outcome of which P holds, printed.
+abbrev pub PrintsSuch : {V : Type 0} → (Result V Refusal → Type 0) → (V → List ℕ) → List ℕ → Type 0
+PrintsSuch {V} P value_text answer = (outcome : Result V Refusal) × P outcome × (answer ≡ printed value_text outcome)
+
 -- The answer is the outcome of the text, printed. The format of these two relations reads it over an empty record.
 abbrev pub IsPrinted : {V : Type 0} → Resolving V → (V → List ℕ) → Reading → Refusing → List ℕ → List ℕ → Type 0
-IsPrinted {V} resolves value_text reads refuses text answer =
-    (outcome : Result V Refusal)
-    × IsOutcome resolves reads refuses text empty outcome
-    × (answer ≡ printed value_text outcome)
+IsPrinted resolves value_text reads refuses text = PrintsSuch (IsOutcome resolves reads refuses text empty) value_text
 
 -- The same of a moment, which a format may read on a direct path.
 abbrev pub IsPrintedMoment : ℕ → Path → Reading → Refusing → List ℕ → List ℕ → Type 0
-IsPrintedMoment Y path reads refuses text answer =
-    (outcome : Result OffsetDateTime Refusal)
-    × IsMomentOutcome Y path reads refuses text None outcome
-    × (answer ≡ printed offset_date_time_text outcome)
+IsPrintedMoment Y path reads refuses text =
+    PrintsSuch (IsMomentOutcome Y path reads refuses text None) offset_date_time_text
 
 -- the outcome of the text for the target, printed: `staged` is a moment that is always read over a record
 abbrev pub IsAnswerFor : ℕ → Target → Path → Reading → Refusing → List ℕ → List ℕ → Type 0

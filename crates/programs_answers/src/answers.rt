@@ -9,12 +9,38 @@ ghost use Rattle.programs_streams.specs.Faults.{HasCause};
 ghost use Rattle.programs_answers.specs.Output.{IsAnswerFor, Writes};
 ghost use Rattle.programs_answers.specs.Values.{printed};
 
+mod fast;
+
 use crate::formats::Target;
 use crate::layout::Layout;
 use programs_streams::{Sink, Unwritten};
 use time_parsing::Parsable;
 use time_record::Parsed;
 use time_values::error::Parse;
+
+// Writes the error of a parse for want of the component of that name.
+#[inline(always)]
+fn write_missing<W: Sink>(name: &str, out: &mut W) -> Result<(), Unwritten>
+    ensures bytes { OnOk result (Appends (W.contents out.old) (W.contents out.new)
+        (codes "error: the '" ++ name.now ++ codes "' component could not be parsed")) }
+    ensures cause { HasCause result (W.faults out.old) (W.faults out.new) }
+    ensures through { W.through out.new ≡ W.through out.old }
+{
+    out.write_all(b"error: the '")?;
+    out.write_all(name.as_bytes())?;
+    out.write_all(b"' component could not be parsed")
+}
+
+// Writes the error of a parse that has that text.
+#[inline(always)]
+fn write_lack<W: Sink>(text: &str, out: &mut W) -> Result<(), Unwritten>
+    ensures bytes { OnOk result (Appends (W.contents out.old) (W.contents out.new) (codes "error: " ++ text.now)) }
+    ensures cause { HasCause result (W.faults out.old) (W.faults out.new) }
+    ensures through { W.through out.new ≡ W.through out.old }
+{
+    out.write_all(b"error: ")?;
+    out.write_all(text.as_bytes())
+}
 
 // Writes the error of a parse.
 #[cold]
@@ -24,12 +50,18 @@ fn write_error<W: Sink>(error: Parse, out: &mut W) -> Result<(), Unwritten>
     ensures cause { HasCause result (W.faults out.old) (W.faults out.new) }
     ensures through { W.through out.new ≡ W.through out.old }
 {
+    if let Some(name) = fast::missing_component(error) {
+        return write_missing(name, out);
+    }
+    if let Some(text) = fast::lack(error) {
+        return write_lack(text, out);
+    }
     write!(out, "error: {error}")
 }
 
-// Writes a value, or the error of its parse.
+/// Writes a value, or `error: ` and why there is none.
 #[inline(always)]
-fn write_outcome<V: Layout, W: Sink>(
+pub fn write_outcome<V: Layout, W: Sink>(
     outcome: Result<V, Parse>,
     out: &mut W,
 ) -> Result<(), Unwritten>

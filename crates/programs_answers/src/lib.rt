@@ -11,8 +11,9 @@ mod named;
 mod serving;
 mod waiting;
 
-pub use answers::write_value;
+pub use answers::{write_outcome, write_value};
 pub use laws::law_done;
+pub use layout::Layout;
 pub use named::Named;
 pub use serving::{Answering, Stop, run, serve};
 pub use waiting::Waiting;

@@ -1,5 +1,5 @@
 -- What is wrong with the arguments, without where their bytes lie in memory, and how it is told.
-use Rattle.std.specs.Prelude.{◌≡◌, ℕ, List, [], ◌++◌, codes, map, replicate, Option, Some, None, IfSome, ◌&&◌, nat_le, if◌then◌else◌}
+use Rattle.std.specs.Prelude.{◌≡◌, ℕ, List, [], ◌++◌, codes, map, replicate, Option, Some, IfSome, ◌&&◌, nat_le, if◌then◌else◌}
 use Rattle.std.specs.Option.{option_map}
 use Rattle.time_descriptions.specs.Refusal as description
 use Rattle.time_descriptions.specs.Refusal.{Refusal, index_of}

@@ -1,5 +1,6 @@
 //! Where a text is refused, after its answer.
 ghost use Rattle.std.specs.Prelude.{OnOk, codes, map, ◌++◌, ◌≡◌};
+ghost use Rattle.std.specs.Fmt.{decimal};
 ghost use Rattle.std.specs.Io.KnownBytes.{Appends};
 ghost use Rattle.std.specs.Option.{option_map};
 ghost use Rattle.time_values.specs.Range.{greatest_year};
@@ -91,6 +92,16 @@ fn refusal<F: Parsable>(format: &F, target: Target, text: &[u8]) -> Option<Parse
     }
 }
 
+// Writes a number.
+fn write_number<W: Sink>(number: usize, out: &mut W) -> Result<(), Unwritten>
+    ensures bytes { OnOk result (Appends (W.contents out.old) (W.contents out.new) (decimal number)) }
+    ensures cause { HasCause result (W.faults out.old) (W.faults out.new) }
+    ensures through { W.through out.new ≡ W.through out.old }
+{
+    let mut buffer = itoa::Buffer::new();
+    out.write_all(buffer.format(number).as_bytes())
+}
+
 // Writes an index, or nothing.
 fn write_index<W: Sink>(index: Option<usize>, out: &mut W) -> Result<(), Unwritten>
     ensures bytes { OnOk result (Appends (W.contents out.old) (W.contents out.new) (index_text index)) }
@@ -100,7 +111,18 @@ fn write_index<W: Sink>(index: Option<usize>, out: &mut W) -> Result<(), Unwritt
     let Some(index) = index else {
         return Ok(());
     };
-    write!(out, " at {index}")
+    out.write_all(b" at ")?;
+    write_number(index, out)
+}
+
+// Writes an index at which something was expected.
+fn write_found<W: Sink>(index: usize, out: &mut W) -> Result<(), Unwritten>
+    ensures bytes { OnOk result (Appends (W.contents out.old) (W.contents out.new) (codes " at " ++ decimal index ++ codes ": expected ")) }
+    ensures cause { HasCause result (W.faults out.old) (W.faults out.new) }
+    ensures through { W.through out.new ≡ W.through out.old }
+{
+    write_index(Some(index), out)?;
+    out.write_all(b": expected ")
 }
 
 // Writes where the text goes wrong of which this is the error, or nothing.
@@ -137,8 +159,7 @@ fn write_place<F: Locate, W: Sink>(
     let Some(place) = format.locate(text, None) else {
         return write_error_place(format, refusal(format, target, text), text, out);
     };
-    let index = place.index;
-    write!(out, " at {index}: expected ")?;
+    write_found(place.index, out)?;
     write_expected(place.expected, out)
 }
 

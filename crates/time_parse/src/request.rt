@@ -1,20 +1,28 @@
 //! What the arguments ask for: which format reads a text, and what is made of it.
-ghost use Rattle.std.specs.Prelude.{◌≡◌, Some, IfOk, IfErr, MatchResult};
+ghost use Rattle.std.specs.Prelude.{◌≡◌, Some, IfOk, IfErr, OnOk, MatchResult};
 ghost use Rattle.time_values.specs.Range.{greatest_year};
 ghost use Rattle.time_descriptions.specs.Description.{IsRefused, shape, version_of};
 ghost use Rattle.time_descriptions.specs.Grammar.{Describes};
 ghost use Rattle.time_descriptions.specs.Refusal.{refusal_of};
 ghost use Rattle.time_descriptions.specs.Strftime.{DescribesStrftime, IsRefusedStrftime};
+ghost use Rattle.time_components.specs.Steps.{steps_shape};
+ghost use Rattle.time_parsing.specs.Outcome.{over_record};
+ghost use Rattle.time_record.specs.Reading as description;
+ghost use Rattle.programs_streams.specs.Faults.{HasCause};
 ghost use Rattle.programs_answers.specs.Formats.{target_named};
+ghost use Rattle.programs_answers.specs.Output.{IsDescribed, PrintsSuch, Writes};
 ghost use Rattle.time_parse.specs.Fault.{reason_of};
 ghost use Rattle.time_parse.specs.Request.{IsAnswer, IsFault, IsFaultBy, IsFaulty, Means, MeansTree, meaning_of, number_of, writing_of};
 
 use crate::fault::Fault;
 use programs_answers::formats::{Format, Target, find_format, find_target};
-use programs_answers::{Answering, Named, write_value};
+use programs_answers::{Answering, Layout, Named, write_outcome};
 use programs_streams::{Sink, Unwritten};
 use time_descriptions::{Description, InvalidFormatDescription, parse_borrowed, parse_strftime};
+use time_parsing::Parsable;
 use time_preparing::Prepared;
+use time_record::Parsed;
+use time_values::{Date, OffsetDateTime, PlainDateTime, Time, Timestamp, UtcDateTime, UtcOffset};
 
 // The most steps that a description may have. One in brackets of so many bytes has room.
 pub(crate) const MOST_STEPS: usize = 1024;
@@ -150,6 +158,65 @@ impl Request {
     }
 }
 
+// Writes the outcome of the text by a description for a target of that type: the value, or `error: ` and why there is none.
+// Each type has a function of its own, so that a line clears no place of another's value.
+#[inline(never)]
+fn write_as<V: time_parsing::Target + Layout, W: Sink>(
+    prepared: &Prepared<MOST_STEPS>,
+    text: &[u8],
+    out: &mut W,
+) -> Result<(), Unwritten>
+    ensures bytes { OnOk result (Writes (PrintsSuch (V.outcome over_record (description.Reads greatest_year (steps_shape prepared.now))
+        (description.Refuses greatest_year (steps_shape prepared.now)) text.now) V.text) (W.contents out.old) (W.contents out.new)) }
+    ensures cause { HasCause result (W.faults out.old) (W.faults out.new) }
+    ensures through { W.through out.new ≡ W.through out.old }
+{
+    write_outcome(V::parse(text, prepared), out)
+}
+
+// The same of a moment that is parsed over an empty record.
+#[inline(never)]
+fn write_staged<W: Sink>(
+    prepared: &Prepared<MOST_STEPS>,
+    text: &[u8],
+    out: &mut W,
+) -> Result<(), Unwritten>
+    ensures bytes { OnOk result (Writes (IsDescribed greatest_year (steps_shape prepared.now) Target.Staged text.now)
+        (W.contents out.old) (W.contents out.new)) }
+    ensures cause { HasCause result (W.faults out.old) (W.faults out.new) }
+    ensures through { W.through out.new ≡ W.through out.old }
+{
+    write_outcome(
+        prepared.parse_offset_date_time(text, Some(Parsed::new())),
+        out,
+    )
+}
+
+// The same for any target.
+#[inline(never)]
+fn write_described<W: Sink>(
+    prepared: &Prepared<MOST_STEPS>,
+    target: Target,
+    text: &[u8],
+    out: &mut W,
+) -> Result<(), Unwritten>
+    ensures bytes { OnOk result (Writes (IsDescribed greatest_year (steps_shape prepared.now) target text.now)
+        (W.contents out.old) (W.contents out.new)) }
+    ensures cause { HasCause result (W.faults out.old) (W.faults out.new) }
+    ensures through { W.through out.new ≡ W.through out.old }
+{
+    match target {
+        Target::Date => write_as::<Date, W>(prepared, text, out),
+        Target::Time => write_as::<Time, W>(prepared, text, out),
+        Target::Offset => write_as::<UtcOffset, W>(prepared, text, out),
+        Target::Plain => write_as::<PlainDateTime, W>(prepared, text, out),
+        Target::Utc => write_as::<UtcDateTime, W>(prepared, text, out),
+        Target::DateTime => write_as::<OffsetDateTime, W>(prepared, text, out),
+        Target::Staged => write_staged(prepared, text, out),
+        Target::Timestamp => write_as::<Timestamp, W>(prepared, text, out),
+    }
+}
+
 impl Answering for Request {
     ghost is_answer = { λ request. IsAnswer greatest_year (meaning_of request.chosen) request.target };
 
@@ -157,7 +224,7 @@ impl Answering for Request {
     fn write_answer<W: Sink>(&self, line: &[u8], out: &mut W) -> Result<(), Unwritten> {
         match &self.chosen {
             Chosen::Named(format, named) => named.write_parsed(*format, self.target, line, out),
-            Chosen::Described(prepared) => write_value(prepared, self.target, line, out),
+            Chosen::Described(prepared) => write_described(prepared, self.target, line, out),
         }
     }
 }

@@ -14,4 +14,4 @@ returns-clause-bytes g c =
     place_written c.args.target (g.F.Parsable.path c.args.format.now) (g.F.Parsable.reads c.args.format.now)
     (g.F.Parsable.refuses c.args.format.now) (g.F.Locate.locates c.args.format.now) (g.F.Locate.marks c.args.format.now) c.args.text.now
     c.write_expected.result c.in-Some.place _ _ _ _ c.in-Some.ensures
-    c.in_ok-write.ensures.bytes c.write_expected.ensures.bytes (simp append_assoc)
+    c.in_ok-write_found.ensures.bytes c.write_expected.ensures.bytes (simp append_assoc)

@@ -1,5 +1,5 @@
 use Rattle.std.specs.Prelude.{◌≡◌, Option, None, Some, IfSome}
-use Rattle.std.proofs.Common.{Bool, true, false, ℕ, List, subst, sym}
+use Rattle.std.proofs.Common.{Bool, ℕ, List}
 use Rattle.time_values.specs.Range.{greatest_year}
 use Rattle.programs_answers.specs.Formats.{target_named}
 use Rattle.programs_answers.specs.Output as output

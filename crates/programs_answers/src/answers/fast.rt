@@ -1,0 +1,30 @@
+//! The commonest errors of parses, whose texts need no `Display`.
+ghost use Rattle.std.specs.Prelude.{◌≡◌, ◌++◌, codes, IfSome};
+ghost use Rattle.time_values.specs.Refusal.{refusal_of};
+ghost use Rattle.time_values.specs.Texts.{refusal_text};
+
+use time_values::error::{Parse, ParseFromDescription, TryFromParsed};
+
+/// The name of the component that isn't there, if that is the error.
+#[inline(always)]
+pub(super) fn missing_component(error: Parse) -> Option<&'static str>
+    ensures { IfSome result (λ name. refusal_text (refusal_of error) ≡ codes "the '" ++ name.now ++ codes "' component could not be parsed") }
+{
+    match error {
+        Parse::ParseFromDescription(ParseFromDescription::InvalidComponent(name)) => Some(name),
+        _ => None,
+    }
+}
+
+/// The error's text, if it says that the text says too little.
+#[inline(always)]
+pub(super) fn lack(error: Parse) -> Option<&'static str>
+    ensures { IfSome result (λ text. refusal_text (refusal_of error) ≡ text.now) }
+{
+    match error {
+        Parse::TryFromParsed(TryFromParsed::InsufficientInformation) => {
+            Some("the `Parsed` struct did not include enough information to construct the type")
+        }
+        _ => None,
+    }
+}

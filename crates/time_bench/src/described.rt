@@ -1,12 +1,14 @@
 //! Sums over many parses of one text by a description that was read, prepared or as its steps.
 
-mod answers;
-
-use crate::sums::Texts;
-use answers::sum_for;
+use crate::answers::Answer;
+use crate::sums::{Texts, sum_for};
+use std::convert::TryFrom;
 use time_descriptions::{Description, parse_borrowed, parse_strftime};
+use time_parsing::{Parsable, value_before};
 use time_preparing::Prepared;
 use time_record::Parsed;
+use time_values::error::{Parse, TryFromParsed};
+use time_values::{Date, OffsetDateTime, PlainDateTime, Time};
 
 // The description of that text, if there is one.
 fn description(text: &[u8]) -> Option<Description<64>> {
@@ -25,6 +27,108 @@ fn defaults(year: &str) -> Option<Option<Parsed>> {
     let mut known = Parsed::new();
     known.set_year(year)?;
     Some(Some(known))
+}
+
+/// A type of value that a text is parsed for over a record.
+pub trait AnswerOver: Answer + TryFrom<Parsed, Error = TryFromParsed> {
+    /// Parses a text for such a value by a prepared description, over the record.
+    fn parse_over(format: &Prepared<64>, text: &[u8], known: Parsed) -> Result<Self, Parse>;
+}
+
+impl AnswerOver for Date {
+    fn parse_over(format: &Prepared<64>, text: &[u8], known: Parsed) -> Result<Date, Parse> {
+        format.parse_date(text, Some(known))
+    }
+}
+
+impl AnswerOver for Time {
+    fn parse_over(format: &Prepared<64>, text: &[u8], known: Parsed) -> Result<Time, Parse> {
+        format.parse_time(text, Some(known))
+    }
+}
+
+impl AnswerOver for PlainDateTime {
+    fn parse_over(
+        format: &Prepared<64>,
+        text: &[u8],
+        known: Parsed,
+    ) -> Result<PlainDateTime, Parse> {
+        format.parse_plain_date_time(text, Some(known))
+    }
+}
+
+impl AnswerOver for OffsetDateTime {
+    fn parse_over(
+        format: &Prepared<64>,
+        text: &[u8],
+        known: Parsed,
+    ) -> Result<OffsetDateTime, Parse> {
+        format.parse_offset_date_time(text, Some(known))
+    }
+}
+
+/// A description by which a text is parsed over a record.
+trait Over: Parsable {
+    /// The value of the text over the record.
+    fn value_over<V: AnswerOver>(&self, text: &[u8], known: Parsed) -> Result<V, Parse>;
+}
+
+// By steps a text is parsed into the record, so that there is one call of each parse without one, which is then inlined.
+impl Over for Description<64> {
+    fn value_over<V: AnswerOver>(&self, text: &[u8], known: Parsed) -> Result<V, Parse> {
+        let mut record = known;
+        let rest = self.parse_into(text, &mut record)?;
+        value_before::<V>(rest, &record)
+    }
+}
+
+impl Over for Prepared<64> {
+    fn value_over<V: AnswerOver>(&self, text: &[u8], known: Parsed) -> Result<V, Parse> {
+        V::parse_over(self, text, known)
+    }
+}
+
+// The sum over so many parses over the record.
+fn sum_over<V: AnswerOver, F: Over>(
+    format: &F,
+    known: Parsed,
+    times: u64,
+    texts: Texts<'_>,
+) -> i64 {
+    let mut sum = 0i64;
+    for time in 0..times {
+        let text = if time % 2 == 0 {
+            texts.text
+        } else {
+            texts.copy
+        };
+        let weight = match format.value_over::<V>(text, known) {
+            Ok(value) => value.weight(),
+            Err(_) => 1,
+        };
+        sum = sum.wrapping_add(weight);
+    }
+    sum
+}
+
+// The sum over so many parses for the target of that name, if there is one, over the record if there is one.
+fn sum_with<F: Over>(
+    format: &F,
+    known: Option<Parsed>,
+    target: &[u8],
+    times: u64,
+    texts: Texts<'_>,
+) -> Option<i64> {
+    let Some(known) = known else {
+        return sum_for(format, target, times, texts);
+    };
+    match target {
+        b"date" => Some(sum_over::<Date, F>(format, known, times, texts)),
+        b"time" => Some(sum_over::<Time, F>(format, known, times, texts)),
+        b"plain" => Some(sum_over::<PlainDateTime, F>(format, known, times, texts)),
+        b"datetime" => Some(sum_over::<OffsetDateTime, F>(format, known, times, texts)),
+        _ => None,
+    }
 }
 
 /// How a text is parsed.
@@ -46,7 +150,7 @@ pub fn sum_of(case: Case<'_>, times: u64, texts: Texts<'_>) -> Option<i64> {
     let known = defaults(case.year)?;
     let target = case.target.as_bytes();
     if case.way == "steps" {
-        return sum_for(&description, known, target, times, texts);
+        return sum_with(&description, known, target, times, texts);
     }
-    sum_for(&Prepared::new(&description), known, target, times, texts)
+    sum_with(&Prepared::new(&description), known, target, times, texts)
 }

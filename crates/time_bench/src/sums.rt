@@ -36,8 +36,13 @@ fn sum<V: Answer, F: Parsable>(format: &F, times: u64, texts: Texts<'_>) -> i64 
     sum
 }
 
-// The sum over so many parses for the target of that name, if there is one.
-fn sum_for<F: Parsable>(format: &F, target: &[u8], times: u64, texts: Texts<'_>) -> Option<i64> {
+/// The sum over so many parses for the target of that name, if there is one.
+pub fn sum_for<F: Parsable>(
+    format: &F,
+    target: &[u8],
+    times: u64,
+    texts: Texts<'_>,
+) -> Option<i64> {
     match target {
         b"date" => Some(sum::<Date, F>(format, times, texts)),
         b"time" => Some(sum::<Time, F>(format, times, texts)),

@@ -57,6 +57,16 @@ static SAMPLES: [Sample; 9] = [
     ),
 ];
 
+// What stands for what a time leaves out: UTC, and a year, or the latest that isn't after a moment.
+fn defaults_of(year: Option<i32>, latest: Option<OffsetDateTime>) -> Defaults<'static> {
+    Defaults {
+        year,
+        offset: Some(UtcOffset::UTC),
+        clocks: None,
+        latest,
+    }
+}
+
 // What is done with lines: what follows the first format is RFC 3339, times before 1970 are dropped, and they are shown in
 // UTC.
 fn job_of<'a>(
@@ -64,17 +74,13 @@ fn job_of<'a>(
     first: &'a Reading,
     others: &'a [Reading],
     writing: &'a Writing,
+    defaults: Defaults<'a>,
 ) -> Job<'a> {
     Job {
         place: Some(place),
         first,
         others,
-        defaults: Defaults {
-            year: Some(2021),
-            offset: Some(UtcOffset::UTC),
-            clocks: None,
-            latest: None,
-        },
+        defaults,
         form: Form {
             writing,
             digits: FractionDigits::Auto,
@@ -104,6 +110,22 @@ fn is_decided(job: &Job<'_>, line: &[u8]) -> bool {
     }
 }
 
+// The first byte of a line's front, and what it becomes where the outcome then isn't what the verdict says.
+fn find_difference(job: &Job<'_>, sample: &[u8]) -> Option<(usize, u8)> {
+    let many = sample.len().min(32);
+    for at in 0..many {
+        for byte in 0..=255 {
+            let mut line = [0; 32];
+            line[..many].copy_from_slice(&sample[..many]);
+            line[at] = byte;
+            if !is_decided(job, &line[..many]) {
+                return Some((at, byte));
+            }
+        }
+    }
+    None
+}
+
 // Each byte of a line becomes each other byte.
 #[test]
 fn changed(rt: HostRuntime) -> Result<(), Fail> {
@@ -116,16 +138,32 @@ fn changed(rt: HostRuntime) -> Result<(), Fail> {
             return Err("no format".into());
         };
         let others = [second];
-        let job = job_of(*place, &first, &others, &writing);
-        for at in 0..sample.len().min(32) {
-            for byte in 0..=255 {
-                let mut line = [0; 32];
-                let many = sample.len().min(32);
-                line[..many].copy_from_slice(&sample[..many]);
-                line[at] = byte;
-                assert!(rt; is_decided(&job, &line[..many]), "{sample:?} {at} {byte}");
-            }
-        }
+        let defaults = defaults_of(Some(2021), None);
+        let job = job_of(*place, &first, &others, &writing, defaults);
+        assert_eq!(rt; find_difference(&job, sample), None);
+    }
+    Ok(())
+}
+
+// The latest moments: a second before 2021-01-02T03:04:05Z, that moment, and the first and the last second of 2021.
+static LATEST: [i64; 4] = [1609556644, 1609556645, 1609459200, 1640995199];
+
+// The same of lines whose times say no year.
+#[test]
+fn undated(rt: HostRuntime) -> Result<(), Fail> {
+    let (Ok(first), Ok(second), Ok(writing)) = (
+        find_reading(b"syslog"),
+        find_reading(b"rfc3339"),
+        find_writing(b"rfc3339"),
+    ) else {
+        return Err("no format".into());
+    };
+    let others = [second];
+    for seconds in &LATEST {
+        let defaults = defaults_of(None, OffsetDateTime::from_unix_timestamp(*seconds).ok());
+        let job = job_of(Place::Front, &first, &others, &writing, defaults);
+        assert_eq!(rt; find_difference(&job, b"Jan  2 03:04:05 host x"), None);
+        assert_eq!(rt; find_difference(&job, b"Feb 29 03:04:05 host x"), None);
     }
     Ok(())
 }

@@ -31,17 +31,6 @@ fn write_missing<W: Sink>(name: &str, out: &mut W) -> Result<(), Unwritten>
     out.write_all(b"' component could not be parsed")
 }
 
-// Writes the error of a parse that has that text.
-#[inline(always)]
-fn write_lack<W: Sink>(text: &str, out: &mut W) -> Result<(), Unwritten>
-    ensures bytes { OnOk result (Appends (W.contents out.old) (W.contents out.new) (codes "error: " ++ text.now)) }
-    ensures cause { HasCause result (W.faults out.old) (W.faults out.new) }
-    ensures through { W.through out.new ≡ W.through out.old }
-{
-    out.write_all(b"error: ")?;
-    out.write_all(text.as_bytes())
-}
-
 // Writes the error of a parse.
 #[cold]
 #[inline(never)]
@@ -53,8 +42,8 @@ fn write_error<W: Sink>(error: Parse, out: &mut W) -> Result<(), Unwritten>
     if let Some(name) = fast::missing_component(error) {
         return write_missing(name, out);
     }
-    if let Some(text) = fast::lack(error) {
-        return write_lack(text, out);
+    if let Some(line) = fast::lack(error) {
+        return out.write_all(line.as_bytes());
     }
     write!(out, "error: {error}")
 }

@@ -16,14 +16,14 @@ pub(super) fn missing_component(error: Parse) -> Option<&'static str>
     }
 }
 
-/// The error's text, if it says that the text says too little.
+/// The line of the error, if it says that the text says too little.
 #[inline(always)]
 pub(super) fn lack(error: Parse) -> Option<&'static str>
-    ensures { IfSome result (λ text. refusal_text (refusal_of error) ≡ text.now) }
+    ensures { IfSome result (λ line. codes "error: " ++ refusal_text (refusal_of error) ≡ line.now) }
 {
     match error {
         Parse::TryFromParsed(TryFromParsed::InsufficientInformation) => {
-            Some("the `Parsed` struct did not include enough information to construct the type")
+            Some("error: the `Parsed` struct did not include enough information to construct the type")
         }
         _ => None,
     }

@@ -3,33 +3,55 @@ ghost use Rattle.std.specs.Prelude.{◌≡◌, ◌+◌, ◌≤◌, ◌++◌, len
 
 use super::{MOST, Waiting};
 
-// Puts N to 2 N bytes that fit after what waits, in two halves that may overlap: no call copies them.
+// Puts N to 2 N bytes from that place on, in two halves that may overlap: no call copies them.
 #[inline(always)]
-fn append_halves<const N: usize>(waiting: &mut Waiting, bytes: &[u8])
+fn put_halves<const N: usize>(array: &mut [u8; MOST], at: usize, bytes: &[u8])
     requires least { N ≤ length bytes.now }
     requires most { length bytes.now ≤ N + N }
-    requires room { length waiting.old.items + length bytes.now ≤ MOST }
-    ensures { waiting.new.items ≡ waiting.old.items ++ bytes.now }
+    requires room { at + length bytes.now ≤ MOST }
+    ensures { take (at + length bytes.now) array.new ≡ take at array.old ++ bytes.now }
 {
-    let at = waiting.len;
     let behind = bytes.len() - N;
     let middle = at + behind;
-    waiting.array[at..at + N].copy_from_slice(&bytes[..N]);
-    waiting.array[middle..middle + N].copy_from_slice(&bytes[behind..]);
-    waiting.len = middle + N;
+    array[at..at + N].copy_from_slice(&bytes[..N]);
+    array[middle..middle + N].copy_from_slice(&bytes[behind..]);
 }
 
-// The same of a few bytes, as the text of a time has.
+// Puts bytes from that place on.
 #[inline(always)]
-fn append_few(waiting: &mut Waiting, bytes: &[u8])
-    requires { length waiting.old.items + length bytes.now ≤ MOST }
-    ensures { waiting.new.items ≡ waiting.old.items ++ bytes.now }
+fn put_all(array: &mut [u8; MOST], at: usize, bytes: &[u8])
+    requires { at + length bytes.now ≤ MOST }
+    ensures { take (at + length bytes.now) array.new ≡ take at array.old ++ bytes.now }
+{
+    if bytes.is_empty() {
+        return;
+    }
+    array[at..at + bytes.len()].copy_from_slice(bytes);
+}
+
+// The same of what stands before a time, which is often nothing, or the few bytes of a name.
+#[inline(always)]
+fn put_before(array: &mut [u8; MOST], at: usize, bytes: &[u8])
+    requires { at + length bytes.now ≤ MOST }
+    ensures { take (at + length bytes.now) array.new ≡ take at array.old ++ bytes.now }
 {
     match bytes.len() {
-        16..=32 => append_halves::<16>(waiting, bytes),
-        8..=15 => append_halves::<8>(waiting, bytes),
-        4..=7 => append_halves::<4>(waiting, bytes),
-        _ => waiting.append(bytes),
+        0 => (),
+        4..=7 => put_halves::<4>(array, at, bytes),
+        _ => put_all(array, at, bytes),
+    }
+}
+
+// The same of the text of a time.
+#[inline(always)]
+fn put_text(array: &mut [u8; MOST], at: usize, bytes: &[u8])
+    requires { at + length bytes.now ≤ MOST }
+    ensures { take (at + length bytes.now) array.new ≡ take at array.old ++ bytes.now }
+{
+    match bytes.len() {
+        16..=32 => put_halves::<16>(array, at, bytes),
+        8..=15 => put_halves::<8>(array, at, bytes),
+        _ => put_all(array, at, bytes),
     }
 }
 
@@ -48,12 +70,16 @@ pub(super) fn splice(
     ensures { MatchOption result (waiting.new ≡ waiting.old)
         (λ _. waiting.new.items ≡ waiting.old.items ++ (take begin front.now ++ (text.now ++ drop end front.now))) }
 {
-    let room = MOST - waiting.len;
+    let at = waiting.len;
+    let room = MOST - at;
     if room < front.len() || room - front.len() < text.len() {
         return None;
     }
-    append_few(waiting, &front[..begin]);
-    append_few(waiting, text);
-    waiting.append(&front[end..]);
+    let middle = at + begin;
+    let behind = middle + text.len();
+    put_before(&mut waiting.array, at, &front[..begin]);
+    put_text(&mut waiting.array, middle, text);
+    put_all(&mut waiting.array, behind, &front[end..]);
+    waiting.len = behind + (front.len() - end);
     Some(())
 }

@@ -23,7 +23,9 @@ pub(super) fn lack(error: Parse) -> Option<&'static str>
 {
     match error {
         Parse::TryFromParsed(TryFromParsed::InsufficientInformation) => {
-            Some("error: the `Parsed` struct did not include enough information to construct the type")
+            Some(
+                "error: the `Parsed` struct did not include enough information to construct the type",
+            )
         }
         _ => None,
     }

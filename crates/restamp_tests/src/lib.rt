@@ -12,6 +12,8 @@ mod places;
 #[cfg(test)]
 mod replacing;
 #[cfg(test)]
+mod spliced;
+#[cfg(test)]
 mod stream;
 #[cfg(test)]
 mod zoned;

@@ -328,17 +328,17 @@ impl<W: Sink, L: Sink> Stream<W, L> {
             (held_state W.contents L.contents self.old) (held_state W.contents L.contents self.new) front.now)) }
         ensures cause { HasWriteCause result (faults_of W.faults L.faults self.old) (faults_of W.faults L.faults self.new) }
     {
-        let fate = rewriting.fate(front);
-        self.tally.count(&fate);
-        let Ok(()) = self.report(rewriting, file, front, &fate) else {
+        let fate = &rewriting.fate(front);
+        self.tally.count(fate);
+        let Ok(()) = self.report(rewriting, file, front, fate) else {
             return Err(Stop::Unwritten);
         };
-        if file.settings.stops_at(&fate) {
+        if file.settings.stops_at(fate) {
             return Err(Stop::Refused);
         }
-        let Ok(()) = self.put_front(&file.settings, front, &fate) else {
+        let Ok(()) = self.put_front(&file.settings, front, fate) else {
             return Err(Stop::Unwritten);
         };
-        Ok(Rest::of(file.settings.output, &fate))
+        Ok(Rest::of(file.settings.output, fate))
     }
 }

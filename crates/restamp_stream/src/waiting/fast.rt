@@ -29,20 +29,47 @@ fn put_all(array: &mut [u8; MOST], at: usize, bytes: &[u8])
     array[at..at + bytes.len()].copy_from_slice(bytes);
 }
 
-// The same of what stands before a time, which is often nothing, or the few bytes of a name.
+// Puts N bytes from that place on, of which so many count.
 #[inline(always)]
-fn put_before(array: &mut [u8; MOST], at: usize, bytes: &[u8])
+fn put_block<const N: usize>(array: &mut [u8; MOST], at: usize, bytes: &[u8], count: usize)
+    requires few { count ≤ N }
+    requires least { N ≤ length bytes.now }
+    requires room { at + N ≤ MOST }
+    ensures { take (at + count) array.new ≡ take at array.old ++ take count bytes.now }
+{
+    array[at..at + N].copy_from_slice(&bytes[..N]);
+}
+
+// Puts so many bytes of a line's front, which stand before its time, from that place on. No call copies a few of them: a
+// whole block is put, and what comes next overwrites those that are too many.
+#[inline(always)]
+fn put_before(array: &mut [u8; MOST], at: usize, front: &[u8], count: usize)
+    requires within { count ≤ length front.now }
+    requires room { at + length front.now ≤ MOST }
+    ensures { take (at + count) array.new ≡ take at array.old ++ take count front.now }
+{
+    if count == 0 {
+        return;
+    }
+    if count <= 32 && 32 <= front.len() {
+        return put_block::<32>(array, at, front, count);
+    }
+    array[at..at + count].copy_from_slice(&front[..count]);
+}
+
+// Puts the text of a time that has less than 16 bytes or more than 32.
+#[inline(always)]
+fn put_rare(array: &mut [u8; MOST], at: usize, bytes: &[u8])
     requires { at + length bytes.now ≤ MOST }
     ensures { take (at + length bytes.now) array.new ≡ take at array.old ++ bytes.now }
 {
     match bytes.len() {
-        0 => (),
-        4..=7 => put_halves::<4>(array, at, bytes),
+        8..=15 => put_halves::<8>(array, at, bytes),
         _ => put_all(array, at, bytes),
     }
 }
 
-// The same of the text of a time.
+// Puts the text of a time.
 #[inline(always)]
 fn put_text(array: &mut [u8; MOST], at: usize, bytes: &[u8])
     requires { at + length bytes.now ≤ MOST }
@@ -50,8 +77,7 @@ fn put_text(array: &mut [u8; MOST], at: usize, bytes: &[u8])
 {
     match bytes.len() {
         16..=32 => put_halves::<16>(array, at, bytes),
-        8..=15 => put_halves::<8>(array, at, bytes),
-        _ => put_all(array, at, bytes),
+        _ => put_rare(array, at, bytes),
     }
 }
 
@@ -71,13 +97,13 @@ pub(super) fn splice(
         (λ _. waiting.new.items ≡ waiting.old.items ++ (take begin front.now ++ (text.now ++ drop end front.now))) }
 {
     let at = waiting.len;
-    let room = MOST - at;
-    if room < front.len() || room - front.len() < text.len() {
+    let room = (MOST - at).checked_sub(front.len())?;
+    if room < text.len() {
         return None;
     }
     let middle = at + begin;
     let behind = middle + text.len();
-    put_before(&mut waiting.array, at, &front[..begin]);
+    put_before(&mut waiting.array, at, front, begin);
     put_text(&mut waiting.array, middle, text);
     put_all(&mut waiting.array, behind, &front[end..]);
     waiting.len = behind + (front.len() - end);

@@ -233,6 +233,20 @@ impl<W: Sink, L: Sink> Stream<W, L> {
         self.put_suffixed(suffix, front, begin, end, text)
     }
 
+    // Puts the text of a time alone on a line, with its suffix.
+    #[inline(always)]
+    fn put_time(&mut self, suffix: &[u8], text: &[u8]) -> Result<(), Unwritten>
+        ensures put { OnOk result (Appends (held_out W.contents self.old) (held_out W.contents self.new)
+            (text.now ++ (suffix.now ++ 10 ∷ []))) }
+        ensures log { self.new.log ≡ self.old.log }
+        ensures tally { self.new.tally ≡ self.old.tally }
+        ensures cause { HasCause result (W.faults self.old.out) (W.faults self.new.out) }
+    {
+        self.put(text)?;
+        self.put_suffix(suffix)?;
+        self.put(b"\n")
+    }
+
     // Puts what goes out for the front of a line.
     #[inline(always)]
     fn put_front(
@@ -249,17 +263,18 @@ impl<W: Sink, L: Sink> Stream<W, L> {
         ensures tally { self.new.tally ≡ self.old.tally }
         ensures cause { HasCause result (W.faults self.old.out) (W.faults self.new.out) }
     {
-        match (settings.output, fate) {
-            (Output::Times, Fate::Rewritten { text, .. }) => {
-                self.put(text.as_bytes())?;
-                self.put_suffix(settings.suffix)?;
-                self.put(b"\n")
-            }
-            (_, Fate::Rewritten { begin, end, text }) => {
-                self.put_changed(settings.suffix, front, *begin, *end, text.as_bytes())
-            }
-            (Output::AllLines, Fate::Without | Fate::Refused) => self.put(front),
-            _ => Ok(()),
+        match fate {
+            Fate::Rewritten { begin, end, text } => match settings.output {
+                Output::Times => self.put_time(settings.suffix, text.as_bytes()),
+                Output::AllLines | Output::RewrittenLines => {
+                    self.put_changed(settings.suffix, front, *begin, *end, text.as_bytes())
+                }
+            },
+            Fate::Without | Fate::Refused => match settings.output {
+                Output::AllLines => self.put(front),
+                Output::RewrittenLines | Output::Times => Ok(()),
+            },
+            Fate::Dropped => Ok(()),
         }
     }
 
@@ -328,17 +343,17 @@ impl<W: Sink, L: Sink> Stream<W, L> {
             (held_state W.contents L.contents self.old) (held_state W.contents L.contents self.new) front.now)) }
         ensures cause { HasWriteCause result (faults_of W.faults L.faults self.old) (faults_of W.faults L.faults self.new) }
     {
-        let fate = &rewriting.fate(front);
-        self.tally.count(fate);
-        let Ok(()) = self.report(rewriting, file, front, fate) else {
+        let fate = rewriting.fate(front);
+        self.tally.count(&fate);
+        let Ok(()) = self.report(rewriting, file, front, &fate) else {
             return Err(Stop::Unwritten);
         };
-        if file.settings.stops_at(fate) {
+        if file.settings.stops_at(&fate) {
             return Err(Stop::Refused);
         }
-        let Ok(()) = self.put_front(&file.settings, front, fate) else {
+        let Ok(()) = self.put_front(&file.settings, front, &fate) else {
             return Err(Stop::Unwritten);
         };
-        Ok(Rest::of(file.settings.output, fate))
+        Ok(Rest::of(file.settings.output, &fate))
     }
 }

@@ -17,13 +17,14 @@ struct At {
 }
 
 impl Rewriting for At {
-    ghost use Rattle.std.specs.Prelude.{◌≡◌, ◌+◌, ◌&&◌, codes, length, nat_lt, if◌then◌else◌};
+    ghost use Rattle.std.specs.Prelude.{◌≡◌, ◌+◌, codes, length, nat_lt, if◌then◌else◌};
     ghost use Rattle.std.proofs.Common.{sym, ◌∙◌};
-    ghost use Rattle.restamp_stream.specs.declared.fate.Fate.TheVariants.{Without, Rewritten};
+    ghost use Rattle.restamp_stream.specs.declared.fate.Fate.TheVariants.{Without, Rewritten, Refused};
 
     ghost is_fate = { λ at front fate. fate ≡ (
-        if nat_lt at.place (length front) && nat_lt (length at.text.now) 36
-        then Rewritten at.place (at.place + 1) (record { items = at.text.now }) else Without) };
+        if nat_lt at.place (length front) then
+        if nat_lt (length at.text.now) 36 then Rewritten at.place (at.place + 1) (record { items = at.text.now }) else Refused
+        else Without) };
 
     ghost is_reason = { λ at front column reason. (column ≡ 1) × (reason ≡ codes "") };
 
@@ -32,16 +33,19 @@ impl Rewriting for At {
     ghost one_reason = { λ x front column other reason why p q. (p.0 ∙ sym q.0, p.1 ∙ sym q.1) };
 
     fn fate(&self, front: &[u8]) -> Fate {
-        if self.place < front.len() && self.text.len() < 36 {
-            let mut text = Text::new();
-            text.append(self.text);
-            return Fate::Rewritten {
-                begin: self.place,
-                end: self.place + 1,
-                text,
-            };
+        if front.len() <= self.place {
+            return Fate::Without;
         }
-        Fate::Without
+        if 35 < self.text.len() {
+            return Fate::Refused;
+        }
+        let mut text = Text::new();
+        text.append(self.text);
+        Fate::Rewritten {
+            begin: self.place,
+            end: self.place + 1,
+            text,
+        }
     }
 
     fn write_reason<L: Sink>(&self, _front: &[u8], log: &mut L) -> Result<(), Unwritten> {

@@ -29,15 +29,14 @@ fn put_all(array: &mut [u8; MOST], at: usize, bytes: &[u8])
     array[at..at + bytes.len()].copy_from_slice(bytes);
 }
 
-// Puts N bytes from that place on, of which so many count.
+// Puts a block from that place on, of which so many bytes count.
 #[inline(always)]
-fn put_block<const N: usize>(array: &mut [u8; MOST], at: usize, bytes: &[u8], count: usize)
+fn put_block<const N: usize>(array: &mut [u8; MOST], at: usize, block: [u8; N], count: usize)
     requires few { count ≤ N }
-    requires least { N ≤ length bytes.now }
     requires room { at + N ≤ MOST }
-    ensures { take (at + count) array.new ≡ take at array.old ++ take count bytes.now }
+    ensures { take (at + count) array.new ≡ take at array.old ++ take count block.entry }
 {
-    array[at..at + N].copy_from_slice(&bytes[..N]);
+    array[at..at + N].copy_from_slice(&block);
 }
 
 // Puts so many bytes of a line's front, which stand before its time, from that place on. No call copies a few of them: a
@@ -51,8 +50,10 @@ fn put_before(array: &mut [u8; MOST], at: usize, front: &[u8], count: usize)
     if count == 0 {
         return;
     }
-    if count <= 32 && 32 <= front.len() {
-        return put_block::<32>(array, at, front, count);
+    if count <= 32 {
+        if let Some(block) = front.first_chunk::<32>() {
+            return put_block(array, at, *block, count);
+        }
     }
     array[at..at + count].copy_from_slice(&front[..count]);
 }
@@ -97,8 +98,8 @@ pub(super) fn splice(
         (λ _. waiting.new.items ≡ waiting.old.items ++ (take begin front.now ++ (text.now ++ drop end front.now))) }
 {
     let at = waiting.len;
-    let room = (MOST - at).checked_sub(front.len())?;
-    if room < text.len() {
+    let room = MOST - at;
+    if room < front.len() || room - front.len() < text.len() {
         return None;
     }
     let middle = at + begin;

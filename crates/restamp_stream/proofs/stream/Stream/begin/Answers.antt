@@ -5,9 +5,9 @@ use Rattle.restamp_stream.proofs.stream.Stream.begin.Goals as goal
 
 pub returns-clause-ok : goal.returns-clause-ok
 returns-clause-ok g c = (
-  c.fate.result,
+  c.fate-fate.result,
   sym c.of.ensures,
   Did-begun (job_at _ _ c.args.file.now) (held_state g.W.Sink.contents g.L.Sink.contents c.args.self.now)
       (held_state g.W.Sink.contents g.L.Sink.contents c.put_front.new.self) c.args.front.now _ c.in-Ok.ensures.reported.0 c.requires
-      c.fate.ensures.fate (c.if-stops_at.ensures.goes_on refl) (search rules) (search rules) (search rules) (search rules),
+      c.fate-fate.ensures.fate (c.if-stops_at.ensures.goes_on refl) (search rules) (search rules) (search rules) (search rules),
 )

@@ -26,7 +26,7 @@ impl Rewriting for At {
         if nat_lt (length at.text.now) 36 then Rewritten at.place (at.place + 1) (record { items = at.text.now }) else Refused
         else Without) };
 
-    ghost is_reason = { λ at front column reason. (column ≡ 1) × (reason ≡ codes "") };
+    ghost is_reason = { λ at front column reason. (column ≡ 1) × (reason ≡ codes "bad") };
 
     ghost one_fate = { λ x front a b p q. p ∙ sym q };
 
@@ -49,7 +49,8 @@ impl Rewriting for At {
     }
 
     fn write_reason<L: Sink>(&self, _front: &[u8], log: &mut L) -> Result<(), Unwritten> {
-        log.write_all(b"1: ")
+        let column = 1u64;
+        write!(log, "{column}: bad")
     }
 }
 

@@ -29,3 +29,4 @@ pub mod LackClocks
 pub mod ZonedAgain
 pub mod OutcomeLemmas
 pub mod SayingLemmas
+pub mod NamedZonesLemmas

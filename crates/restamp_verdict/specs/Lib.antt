@@ -13,6 +13,7 @@ pub mod Outcome
 pub mod Begins
 pub mod ReadBack
 pub mod Told
+pub mod NamedZones
 pub mod Laws
 pub mod Wrong
 pub mod Missing

@@ -1,5 +1,6 @@
 //! Laws of what becomes of a line: each function does nothing, and its contract is the law.
 ghost use Rattle.time_values.specs.Range.{greatest_year};
+ghost use Rattle.restamp_verdict.specs.NamedZones.{NeedsNamedZones};
 ghost use Rattle.restamp_verdict.specs.Laws.{OneVerdict, AutoHasAll, ReadsRewrittenBack, ReadsSuffixedBack, ReadsZonedBack, WritesZonedSame, WritesSameText, ChangesNothing, KeepsMoment, SaysAllTold, SignsTell, OneTree, CommonReadsBack};
 
 /// A line has one verdict, whatever the job.
@@ -67,4 +68,10 @@ pub fn law_one_tree()
 #[tactic(auto, using(crate::proofs::CommonBack::common_reads_back))]
 pub fn law_common_read_back()
     ensures { CommonReadsBack greatest_year }
+{}
+
+/// The verdict on a line rests on no zone whose name doesn't stand in it: jobs that differ in such zones alone have one.
+#[tactic(auto, using(crate::proofs::NamedZonesLemmas::needs_named_zones))]
+pub fn law_named_zones()
+    ensures { NeedsNamedZones greatest_year }
 {}

@@ -1,16 +1,19 @@
-//! Descriptions that C holds by value: they are read once, and then parse many texts.
+//! Descriptions that C holds by value, read once for many texts, columns, and where a text goes wrong.
 ghost use Rattle.std.specs.Prelude.{◌≡◌, length};
-ghost use Rattle.time_values.specs.Range.{greatest_year};
+ghost use Rattle.time_values.specs.Calendar.{greatest_year};
 ghost use Rattle.time_record.specs.Resolution.{IsDated, IsTimed, IsOffset, IsPlain, IsUtcMoment};
-ghost use Rattle.programs_answers.specs.Lines.{lines_of};
+ghost use Rattle.programs_answers.specs.Output.{lines_of};
 ghost use Rattle.pelzaune_ffi.specs.Columns.{IsColumn};
-ghost use Rattle.pelzaune_ffi.specs.Handed.{IsHanded, IsCountHanded, ArePartsHanded, HasDate, HasTime, HasOffset, HasPlain, HasUtc, HasMoment, HasInstant, over_empty, of_record, of_moment};
+ghost use Rattle.pelzaune_ffi.specs.Handed.{IsHanded, IsCountHanded, ArePartsHanded, HasDate, HasTime, HasOffset, HasPlain, HasUtc, HasMoment, HasInstant, over_empty, of_record, of_moment, HandsCount};
 ghost use Rattle.pelzaune_ffi.specs.Described as Described;
-ghost use Rattle.pelzaune_ffi.specs.Held.{HandsHeld, Holds};
+ghost use Rattle.pelzaune_ffi.specs.Described.{HandsHeld, Holds, HandsRead};
+ghost use Rattle.pelzaune_ffi.specs.Handed as Formats;
+ghost use Rattle.pelzaune_ffi.specs.Places.{HandsPlace, HandsReadPlace};
 
-use pelzaune_ffi::columns::column_held;
+use pelzaune_ffi::columns::{column_by, column_held, column_read};
 use pelzaune_ffi::handing::{count, hand, parts};
 use pelzaune_ffi::held::{HeldDescription, describe};
+use pelzaune_ffi::locating::{Place, locate_by, locate_read};
 use pelzaune_ffi::parts::{
     DateParts, Instant, LocalParts, MomentParts, Nanoseconds, OffsetParts, Parts, TimeParts,
 };
@@ -151,4 +154,63 @@ pub extern "C" fn pelzaune_described_column(
         entries.old entries.new refused.new }
 {
     column_held(description, text, entries, refused)
+}
+
+/// Writes to `out` where a text that the format of that number rejects goes wrong. The status says what was expected there,
+/// as that of a parse does. It is 0 where the format reads the whole text, and then `out` is unchanged.
+#[unsafe(no_mangle)]
+pub extern "C" fn pelzaune_locate(format: u32, text: &[u8], out: &mut Place) -> u32
+    ensures { HandsPlace (Formats.format_of format) text.now result out.old out.new }
+{
+    locate_by(format, text, out)
+}
+
+/// The same by a description in the syntax of that number. A malformed description has the status that
+/// `pelzaune_check_description` gives it, and `out` is unchanged.
+#[unsafe(no_mangle)]
+pub extern "C" fn pelzaune_read_locate(
+    syntax: u32,
+    description: &[u8],
+    text: &[u8],
+    out: &mut Place,
+) -> u32
+    ensures { HandsReadPlace (Described.syntax_of syntax) description.now text.now result out.old out.new }
+{
+    locate_read(syntax, description, text, out)
+}
+
+/// Parses each line of a text by the format of that number, into the nanoseconds from 1970-01-01T00:00:00Z to its instant:
+/// as many lines as there are entries. The entry of a line that is refused is `i64::MIN`, and `refused` is how many of
+/// these lines are. An entry that has no line is unchanged. The answer is how many lines the text has.
+///
+/// A line ends with LF, which the last one may lack, and is parsed as `pelzaune_parse_nanoseconds` does.
+#[unsafe(no_mangle)]
+pub extern "C" fn pelzaune_column(
+    format: u32,
+    text: &[u8],
+    entries: &mut [Nanoseconds],
+    refused: &mut usize,
+) -> usize
+    ensures lines { result ≡ length (lines_of text.now) }
+    ensures entries { IsColumn (HandsCount (Formats.format_of format)) (lines_of text.now)
+        entries.old entries.new refused.new }
+{
+    column_by(format, text, entries, refused)
+}
+
+/// The same by a description in the syntax of that number, which is read once. A text that describes nothing has each
+/// line refused.
+#[unsafe(no_mangle)]
+pub extern "C" fn pelzaune_read_column(
+    syntax: u32,
+    description: &[u8],
+    text: &[u8],
+    entries: &mut [Nanoseconds],
+    refused: &mut usize,
+) -> usize
+    ensures lines { result ≡ length (lines_of text.now) }
+    ensures entries { IsColumn (HandsRead IsCountHanded of_moment (Described.syntax_of syntax) description.now)
+        (lines_of text.now) entries.old entries.new refused.new }
+{
+    column_read(syntax, description, text, entries, refused)
 }

@@ -5,17 +5,13 @@
 #![tactic(auto)]
 
 ghost use Rattle.std.specs.Prelude.{◌≡◌, length};
-ghost use Rattle.time_values.specs.Range.{greatest_year};
+ghost use Rattle.time_values.specs.Calendar.{greatest_year};
 ghost use Rattle.time_record.specs.Resolution.{IsDated, IsTimed, IsOffset, IsPlain, IsUtcMoment};
 ghost use Rattle.pelzaune_ffi.specs.Described.{Checks, HandsRead, syntax_of};
-ghost use Rattle.pelzaune_ffi.specs.Formats.{format_of};
-ghost use Rattle.pelzaune_ffi.specs.Handed.{Hands, HandsCount, HandsParts, IsHanded, IsCountHanded, ArePartsHanded, HasDate, HasTime, HasOffset, HasPlain, HasUtc, HasMoment, HasInstant, over_empty, of_record, of_moment};
+ghost use Rattle.pelzaune_ffi.specs.Handed.{format_of, Hands, HandsCount, HandsParts, IsHanded, IsCountHanded, ArePartsHanded, HasDate, HasTime, HasOffset, HasPlain, HasUtc, HasMoment, HasInstant, over_empty, of_record, of_moment, HandsText};
 ghost use Rattle.pelzaune_ffi.specs.Status.{laid_over, status_text};
-ghost use Rattle.pelzaune_ffi.specs.Written.{HandsText};
 
-mod columns;
 mod described;
-mod locating;
 
 use pelzaune_ffi::descriptions::check;
 use pelzaune_ffi::handing::{count_read, hand_by, hand_read, parts_by, parts_read};

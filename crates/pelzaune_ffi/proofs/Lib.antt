@@ -1,12 +1,2 @@
-pub mod ColumnLemmas
-pub mod Constructed
-pub mod FrontLines
-pub mod HeldForms
 pub mod HeldRows
-pub mod HeldSteps
-pub mod InPlace
 pub mod IsoInPlace
-pub mod Instants
-pub mod Laid
-pub mod LineEnds
-pub mod MailInPlace

@@ -1,6 +1,6 @@
 -- Columns: the lines of a text, each as the nanoseconds of its moment.
 use Rattle.std.specs.Prelude.{◌≡◌, ◌⊎◌, ℕ, ◌+◌, ◌<◌, nat_eq, List, [], ◌∷◌, length, Ok, pos, neg_ℤ, if◌then◌else◌}
-use Rattle.programs_answers.specs.Lines.{lines_of}
+use Rattle.programs_answers.specs.Output.{lines_of}
 use Rattle.time_components.specs.Tree.{Tree}
 use Rattle.pelzaune_ffi.specs.Described.{HandsByTree}
 use Rattle.pelzaune_ffi.specs.Handed.{IsCountHanded, of_moment}

@@ -1,12 +1,24 @@
 -- The descriptions that C gives as text.
-use Rattle.std.specs.Prelude.{◌≡◌, ℕ, nat_eq, List, Option, Some, None, Result, Ok, Err, unwrap_or, if◌then◌else◌}
-use Rattle.time_values.specs.Range.{greatest_year}
-use Rattle.time_components.specs.Tree.{Tree}
+use Rattle.std.specs.Prelude.{◌≡◌, ℕ, nat_eq, List, Option, Some, None, Result, Ok, Err, unwrap_or, if◌then◌else◌, ◌⊎◌, ◌<◌, length, ◌+◌, [], ◌∷◌, map, take, Bool, true, false}
+use Rattle.time_values.specs.Calendar.{greatest_year}
+use Rattle.time_digits.specs.declared.Padding.{Padding}
+use Rattle.time_digits.specs.declared.Padding.TheVariants as padding
+use Rattle.time_components.specs.Tree.{Tree, steps_shape}
+use Rattle.time_components.specs.declared.format_description.Component.TheVariants as component
+use Rattle.time_components.specs.declared.modifier.Ignore.{Ignore}
+use Rattle.time_components.specs.declared.modifier.SubsecondDigits.{SubsecondDigits}
+use Rattle.time_components.specs.declared.modifier.SubsecondDigits.TheVariants as digits
+use Rattle.time_components.specs.declared.modifier.TrailingInput.{TrailingInput}
+use Rattle.time_components.specs.declared.modifier.TrailingInput.TheVariants as trailing
+use Rattle.time_components.specs.declared.inspect.Group.TheVariants as group
+use Rattle.time_components.specs.declared.inspect.Step.{Step}
+use Rattle.time_components.specs.declared.inspect.Step.TheVariants as step
 use Rattle.time_descriptions.specs.Description.{IsRefused}
 use Rattle.time_descriptions.specs.Grammar.{Describes}
 use Rattle.time_descriptions.specs.Refusal.{Refusal, unclosed, component_name, modifier, missing_name, missing_modifier, expected_here, not_supported, too_long, index_of}
 use Rattle.time_descriptions.specs.Strftime.{DescribesStrftime, IsRefusedStrftime}
-use Rattle.time_descriptions.specs.declared.version.Version.TheVariants as version
+use Rattle.time_descriptions.specs.declared.leaf.Version.TheVariants as version
+use Rattle.time_descriptions.specs.Values.{ignored}
 use Rattle.time_record.specs.Reading.{Reads, Refuses}
 use Rattle.time_parsing.specs.Outcome.{over_record}
 use Rattle.pelzaune_ffi.specs.Handed.{Handing, Answering, IsHandedOver}
@@ -14,6 +26,8 @@ use Rattle.pelzaune_ffi.specs.Status.{unknown_syntax}
 use Rattle.pelzaune_ffi.specs.declared.descriptions.TheConstants.{MOST_STEPS}
 use Rattle.pelzaune_ffi.specs.declared.descriptions.Syntax.{Syntax}
 use Rattle.pelzaune_ffi.specs.declared.descriptions.Syntax.TheVariants as syntax
+use Rattle.pelzaune_ffi.specs.declared.held.HeldDescription.{HeldDescription}
+use Rattle.pelzaune_ffi.specs.declared.steps.HeldStep.{HeldStep}
 
 -- the syntax of that number, if one has it
 abbrev pub syntax_of : ℕ → Option Syntax
@@ -68,3 +82,161 @@ HandsRead handing answers (Some s) description text status old new =
     (described : Result Tree Refusal) × IsDescribed s description described
     × HandsByTree handing answers described text status old new
 HandsRead handing answers None description text status old new = (status ≡ unknown_syntax) × (new ≡ old)
+
+-- ---- Descriptions that C holds: rows of steps, each of which is a few numbers. Any numbers are a step.
+
+-- the padding of a number, which is 0 for zeros
+abbrev pub padding_of : ℕ → Padding
+padding_of number = if nat_eq number 1 then padding.Space else if nat_eq number 2 then padding.None else padding.Zero
+
+abbrev pub padding_number : Padding → ℕ
+padding_number padding.Zero = 0
+padding_number padding.Space = 1
+padding_number padding.None = 2
+
+-- the digits of a number, which is 0 for one or more
+abbrev pub digits_of : ℕ → SubsecondDigits
+digits_of number =
+    if nat_eq number 1 then digits.One else
+    if nat_eq number 2 then digits.Two else
+    if nat_eq number 3 then digits.Three else
+    if nat_eq number 4 then digits.Four else
+    if nat_eq number 5 then digits.Five else
+    if nat_eq number 6 then digits.Six else
+    if nat_eq number 7 then digits.Seven else
+    if nat_eq number 8 then digits.Eight else
+    if nat_eq number 9 then digits.Nine else digits.OneOrMore
+
+abbrev pub digits_number : SubsecondDigits → ℕ
+digits_number digits.OneOrMore = 0
+digits_number digits.One = 1
+digits_number digits.Two = 2
+digits_number digits.Three = 3
+digits_number digits.Four = 4
+digits_number digits.Five = 5
+digits_number digits.Six = 6
+digits_number digits.Seven = 7
+digits_number digits.Eight = 8
+digits_number digits.Nine = 9
+
+-- what becomes of bytes that are left
+abbrev pub trailing_of : ℕ → TrailingInput
+trailing_of number = if nat_eq number 1 then trailing.Discard else trailing.Prohibit
+
+abbrev pub trailing_number : TrailingInput → ℕ
+trailing_number trailing.Prohibit = 0
+trailing_number trailing.Discard = 1
+
+-- any number but 0 says yes
+abbrev pub is_set : ℕ → Bool
+is_set number = if nat_eq number 0 then false else true
+
+-- the literal of the byte 0, which stands for what nothing else is
+abbrev pub nothing : Step
+nothing = step.Literal 0
+
+-- what skips, and nothing where nothing is skipped
+abbrev pub skipping : Option Ignore → Step
+skipping None = nothing
+skipping (Some i) = step.Component (component.Ignore i)
+
+-- what the numbers of a held step are by each kind, from 0
+abbrev pub kinds : HeldStep → List Step
+kinds h =
+    step.Literal h.choice
+    ∷ step.More h.choice
+    ∷ step.Group group.Optional h.len
+    ∷ step.Group group.First h.len
+    ∷ step.Group group.List h.len
+    ∷ step.Component (component.Day (record { padding = padding_of h.choice }))
+    ∷ step.Component (component.MonthShort (record { case_sensitive = is_set h.flag }))
+    ∷ step.Component (component.MonthLong (record { case_sensitive = is_set h.flag }))
+    ∷ step.Component (component.MonthNumerical (record { padding = padding_of h.choice }))
+    ∷ step.Component (component.Ordinal (record { padding = padding_of h.choice }))
+    ∷ step.Component (component.WeekdayShort (record { case_sensitive = is_set h.flag }))
+    ∷ step.Component (component.WeekdayLong (record { case_sensitive = is_set h.flag }))
+    ∷ step.Component (component.WeekdaySunday (record { one_indexed = is_set h.flag }))
+    ∷ step.Component (component.WeekdayMonday (record { one_indexed = is_set h.flag }))
+    ∷ step.Component (component.WeekNumberIso (record { padding = padding_of h.choice }))
+    ∷ step.Component (component.WeekNumberSunday (record { padding = padding_of h.choice }))
+    ∷ step.Component (component.WeekNumberMonday (record { padding = padding_of h.choice }))
+    ∷ step.Component (component.CalendarYearFullExtendedRange
+    (record { padding = padding_of h.choice; sign_is_mandatory = is_set h.flag }))
+    ∷ step.Component (component.CalendarYearFullStandardRange
+    (record { padding = padding_of h.choice; sign_is_mandatory = is_set h.flag }))
+    ∷ step.Component (component.IsoYearFullExtendedRange
+    (record { padding = padding_of h.choice; sign_is_mandatory = is_set h.flag }))
+    ∷ step.Component (component.IsoYearFullStandardRange
+    (record { padding = padding_of h.choice; sign_is_mandatory = is_set h.flag }))
+    ∷ step.Component (component.CalendarYearCenturyExtendedRange
+    (record { padding = padding_of h.choice; sign_is_mandatory = is_set h.flag }))
+    ∷ step.Component (component.CalendarYearCenturyStandardRange
+    (record { padding = padding_of h.choice; sign_is_mandatory = is_set h.flag }))
+    ∷ step.Component (component.IsoYearCenturyExtendedRange
+    (record { padding = padding_of h.choice; sign_is_mandatory = is_set h.flag }))
+    ∷ step.Component (component.IsoYearCenturyStandardRange
+    (record { padding = padding_of h.choice; sign_is_mandatory = is_set h.flag }))
+    ∷ step.Component (component.CalendarYearLastTwo (record { padding = padding_of h.choice }))
+    ∷ step.Component (component.IsoYearLastTwo (record { padding = padding_of h.choice }))
+    ∷ step.Component (component.Hour12 (record { padding = padding_of h.choice }))
+    ∷ step.Component (component.Hour24 (record { padding = padding_of h.choice }))
+    ∷ step.Component (component.Minute (record { padding = padding_of h.choice }))
+    ∷ step.Component (component.Period (record { is_uppercase = is_set h.choice; case_sensitive = is_set h.flag }))
+    ∷ step.Component (component.Second (record { padding = padding_of h.choice }))
+    ∷ step.Component (component.Subsecond (record { digits = digits_of h.choice }))
+    ∷ step.Component (component.OffsetHour
+    (record { padding = padding_of h.choice; sign_is_mandatory = is_set h.flag }))
+    ∷ step.Component (component.OffsetMinute (record { padding = padding_of h.choice }))
+    ∷ step.Component (component.OffsetSecond (record { padding = padding_of h.choice }))
+    ∷ skipping (ignored h.count)
+    ∷ step.Component (component.UnixTimestampSecond (record { sign_is_mandatory = is_set h.flag }))
+    ∷ step.Component (component.UnixTimestampMillisecond (record { sign_is_mandatory = is_set h.flag }))
+    ∷ step.Component (component.UnixTimestampMicrosecond (record { sign_is_mandatory = is_set h.flag }))
+    ∷ step.Component (component.UnixTimestampNanosecond (record { sign_is_mandatory = is_set h.flag }))
+    ∷ step.Component (component.End (record { trailing_input = trailing_of h.choice }))
+    ∷ []
+
+-- the step of a kind, in a table that begins with that kind
+abbrev pub kind_in : List Step → ℕ → ℕ → Step
+kind_in [] first kind = nothing
+kind_in (row ∷ rows) first kind = if nat_eq kind first then row else kind_in rows (first + 1) kind
+
+-- the step that is held
+unfoldable pub step_of : HeldStep → Step
+step_of h = kind_in (kinds h) 0 h.kind
+
+-- a step of that kind, with what is chosen of it
+abbrev pub chosen : ℕ → ℕ → Bool → HeldStep
+chosen kind choice flag = record { len = 0; count = 0; kind = kind; choice = choice; flag = if flag then 1 else 0 }
+
+-- the steps of a held description: as many as it says, and no more than there are
+abbrev pub steps_of : HeldDescription → List Step
+steps_of h = map step_of (take h.count h.steps)
+
+-- its tree
+abbrev pub held_tree : HeldDescription → Tree
+held_tree h = steps_shape (steps_of h)
+
+-- what is held has the tree; or the description has more steps than are held
+abbrev pub HasTree : Tree → ℕ → HeldDescription → HeldDescription → Type 0
+HasTree tree status old new =
+    ((status ≡ 0) × (held_tree new ≡ tree))
+    ⊎ ((status ≡ fault_status too_long) × (new ≡ old)
+    × (steps : List Step) × (steps_shape steps ≡ tree) × (MOST_STEPS < length steps))
+
+-- Status 0, and what is held has the tree; or the status of why a text is no description, and there the index of its
+-- first fault.
+abbrev pub IsHeld : Result Tree Refusal → ℕ → HeldDescription → HeldDescription → ℕ → ℕ → Type 0
+IsHeld (Ok tree) status old new index new_index = HasTree tree status old new × (new_index ≡ index)
+IsHeld (Err e) status old new index new_index =
+    (status ≡ fault_status e) × (new ≡ old) × (new_index ≡ unwrap_or (index_of e) index)
+
+-- The description is held in the syntax; or there is no such syntax, which has a status of its own.
+abbrev pub Holds : Option Syntax → List ℕ → ℕ → HeldDescription → HeldDescription → ℕ → ℕ → Type 0
+Holds (Some s) text status old new index new_index =
+    (described : Result Tree Refusal) × IsDescribed s text described × IsHeld described status old new index new_index
+Holds None text status old new index new_index = (status ≡ unknown_syntax) × (new ≡ old) × (new_index ≡ index)
+
+-- The text's answer by a held description is handed over.
+abbrev pub HandsHeld : {V S : Type 0} → Handing V S → Answering V → HeldDescription → List ℕ → ℕ → S → S → Type 0
+HandsHeld handing answers h text status old new = HandsByTree handing answers (Ok (held_tree h)) text status old new

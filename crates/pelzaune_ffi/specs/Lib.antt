@@ -1,10 +1,6 @@
 pub mod Columns
 pub mod Described
-pub mod Formats
 pub mod Handed
-pub mod Held
 pub mod IsoFronts
-pub mod Laws
 pub mod Places
 pub mod Status
-pub mod Written

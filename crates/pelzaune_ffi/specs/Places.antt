@@ -1,6 +1,6 @@
 -- Where a text goes wrong, as C is handed it.
 use Rattle.std.specs.Prelude.{◌≡◌, ℕ, List, [], ◌∷◌, Option, Some, None, Result, Ok, Err}
-use Rattle.time_values.specs.Range.{greatest_year}
+use Rattle.time_values.specs.Calendar.{greatest_year}
 use Rattle.time_values.specs.Refusal as refusals
 use Rattle.time_components.specs.Tree.{Tree}
 use Rattle.time_descriptions.specs.Refusal.{Refusal}
@@ -19,8 +19,8 @@ use Rattle.time_locating.specs.declared.located.Located.{Located}
 use Rattle.pelzaune_ffi.specs.Described.{IsDescribed, fault_status}
 use Rattle.pelzaune_ffi.specs.Status.{status_of, unknown_format, unknown_syntax}
 use Rattle.pelzaune_ffi.specs.declared.descriptions.Syntax.{Syntax}
-use Rattle.pelzaune_ffi.specs.declared.formats.Format.{Format}
-use Rattle.pelzaune_ffi.specs.declared.formats.Format.TheVariants.{Rfc3339, Rfc2822, Iso8601}
+use Rattle.pelzaune_ffi.specs.declared.status.Format.{Format}
+use Rattle.pelzaune_ffi.specs.declared.status.Format.TheVariants.{Rfc3339, Rfc2822, Iso8601}
 use Rattle.pelzaune_ffi.specs.declared.locating.Place.{Place}
 
 -- what was expected, as a refusal names it

@@ -1,10 +1,9 @@
 -- The numbers by which C knows a refusal, and what each says.
-use Rattle.std.specs.Prelude.{ℕ, ◌+◌, ◌*◌, ◌/◌, ◌%◌, List, [], ◌∷◌, ◌++◌, length, take, drop, nat_eq, codes, true, false, if◌then◌else◌}
+use Rattle.std.specs.Prelude.{ℕ, ◌+◌, ◌*◌, ◌/◌, ◌%◌, List, [], ◌∷◌, ◌++◌, length, take, drop, nat_eq, codes, true, false, if◌then◌else◌, ◌≡◌}
 use Rattle.std.specs.Borrow.{Bor}
 use Rattle.std.specs.List.{flat_map}
 use Rattle.std.specs.Str.{bytes_eq}
-use Rattle.time_values.specs.Refusal.{Refusal, literal, component, trailing, insufficient, range}
-use Rattle.time_values.specs.Texts.{refusal_text}
+use Rattle.time_values.specs.Refusal.{Refusal, literal, component, trailing, insufficient, range, refusal_text}
 
 -- the components that a refusal names, by their numbers from 1
 abbrev pub component_names : List (List ℕ)
@@ -105,3 +104,19 @@ text_of pieces = flat_map (λ piece. piece.now) pieces
 -- a buffer after a text was laid over its front, as far as the buffer goes
 abbrev pub laid_over : List ℕ → List ℕ → List ℕ
 laid_over text buffer = take (length buffer) text ++ drop (length text) buffer
+
+-- ---- What is said of statuses
+
+-- the status of a refusal says what the refusal does
+abbrev pub Tells : Refusal → Type 0
+Tells e = status_text (status_of e) ≡ refusal_text e
+
+-- so do those of the refusals that name one of the components
+abbrev pub EachTells : List (List ℕ) → Type 0
+EachTells [] = Unit {0}
+EachTells (name ∷ names) =
+    (Tells (component name) × Tells (range name false) × Tells (range name true)) × EachTells names
+
+-- so it is with each refusal that names no component, or one of the table
+abbrev pub StatusesTell : Type 0
+StatusesTell = Tells literal × Tells trailing × Tells insufficient × EachTells component_names

@@ -1,14 +1,13 @@
 //! Columns: the lines of a text, each as the nanoseconds of its moment.
 ghost use Rattle.std.specs.Prelude.{◌≡◌, ◌<◌, ◌≤◌, length, Some};
-ghost use Rattle.programs_answers.specs.Lines.{lines_of};
-ghost use Rattle.time_components.specs.Steps.{steps_shape};
+ghost use Rattle.programs_answers.specs.Output.{lines_of};
+ghost use Rattle.time_components.specs.Tree.{steps_shape};
 ghost use Rattle.pelzaune_ffi.specs.Columns.{Counting, CountsFirst, IsColumn, refusing, by_tree};
 ghost use Rattle.pelzaune_ffi.specs.Columns as spec;
 ghost use Rattle.pelzaune_ffi.specs.Described as Described;
-ghost use Rattle.pelzaune_ffi.specs.Described.{HandsRead};
-ghost use Rattle.pelzaune_ffi.specs.Formats as Formats;
+ghost use Rattle.pelzaune_ffi.specs.Described.{HandsRead, HandsHeld};
+ghost use Rattle.pelzaune_ffi.specs.Handed as Formats;
 ghost use Rattle.pelzaune_ffi.specs.Handed.{HandsCount, IsCountHanded, of_moment};
-ghost use Rattle.pelzaune_ffi.specs.Held.{HandsHeld};
 
 use crate::cuts::{count_lines, first_line};
 use crate::descriptions::{MOST_STEPS, Syntax, fault_status, read_description, syntax_of};

@@ -2,7 +2,7 @@
 mod fast;
 
 ghost use Rattle.std.specs.Prelude.{◌≡◌, ◌∷◌, ◌+◌, ◌<◌, ◌≤◌, [], length, take, drop, MatchOption};
-ghost use Rattle.programs_answers.specs.Lines.{lines_of};
+ghost use Rattle.programs_answers.specs.Output.{lines_of};
 ghost use Rattle.pelzaune_ffi.specs.Columns.{IsFirstLine};
 
 use memchr::memchr;

@@ -4,13 +4,12 @@ ghost use Rattle.time_values.specs.declared.error.TryFromParsed.{TryFromParsed a
 ghost use Rattle.time_record.specs.Resolution.{parsed_seen};
 ghost use Rattle.pelzaune_ffi.specs.Described as Described;
 ghost use Rattle.pelzaune_ffi.specs.Described.{HandsRead};
-ghost use Rattle.pelzaune_ffi.specs.Formats as Formats;
+ghost use Rattle.pelzaune_ffi.specs.Handed as Formats;
 ghost use Rattle.pelzaune_ffi.specs.Handed.{IsHanded, IsCountHanded, ArePartsHanded, IsHandedOver, Hands, HandsParts, of_moment, of_record};
 
 use crate::descriptions::{MOST_STEPS, fault_status, read_description, syntax_of};
-use crate::formats::{Format, format_of};
 use crate::parts::{DateParts, Nanoseconds, OffsetParts, Parts, TimeParts, nanoseconds_of};
-use crate::status::{TOO_WIDE, UNKNOWN_FORMAT, UNKNOWN_SYNTAX, status_of};
+use crate::status::{Format, TOO_WIDE, UNKNOWN_FORMAT, UNKNOWN_SYNTAX, format_of, status_of};
 use std::convert::TryFrom;
 use time_descriptions::Description;
 use time_parsing::{Iso8601, Parsable, Rfc2822, Rfc3339, Target};

@@ -2,19 +2,17 @@
 mod fast;
 
 ghost use Rattle.std.specs.Prelude.{◌≡◌, ◌⊎◌, ◌-◌, ◌<◌, ◌≤◌, [], Ok, Err, MatchResult, true, false, length, map};
-ghost use Rattle.time_values.specs.Range.{greatest_year};
+ghost use Rattle.time_values.specs.Calendar.{greatest_year};
 ghost use Rattle.time_values.specs.Refusal.{refusal_of_parsed};
 ghost use Rattle.time_values.specs.declared.error.TryFromParsed.{TryFromParsed as TryFromParsed_};
-ghost use Rattle.time_components.specs.Steps.{steps_shape, steps_trees};
-ghost use Rattle.time_record.specs.Answer.{Answers};
-ghost use Rattle.time_record.specs.Reading.{Reads, Refuses};
+ghost use Rattle.time_components.specs.Tree.{steps_shape, steps_trees};
+ghost use Rattle.time_record.specs.Reading.{Answers, Reads, Refuses};
 ghost use Rattle.time_record.specs.Record.{Record};
 ghost use Rattle.time_record.specs.WalkSteps.{Goes};
 ghost use Rattle.time_parsing.specs.Outcome.{begun, IsWhole, over_record, seen};
-ghost use Rattle.time_parsing.specs.exact.DescriptionLaws.{tree_exact};
+ghost use Rattle.time_parsing.specs.exact.Laws.{tree_exact};
 ghost use Rattle.pelzaune_ffi.specs.Described as Described;
-ghost use Rattle.pelzaune_ffi.specs.Held.{Holds, held_tree};
-ghost use Rattle.pelzaune_ffi.specs.Held as Held;
+ghost use Rattle.pelzaune_ffi.specs.Described.{Holds, held_tree};
 
 use crate::descriptions::{MOST_STEPS, fault_status, read_description, syntax_of};
 use crate::status::{TOO_LONG, UNKNOWN_SYNTAX};
@@ -41,7 +39,7 @@ pub struct HeldDescription {
 // Steps, as the walk over a description takes them.
 fn steps_of(held: &[HeldStep]) -> ArrayVec<Step, MOST_STEPS>
     requires { length held.now ≤ MOST_STEPS }
-    ensures { result.items ≡ map Held.step_of held.now }
+    ensures { result.items ≡ map Described.step_of held.now }
 {
     let mut steps = ArrayVec::new();
     for step in held {
@@ -52,7 +50,7 @@ fn steps_of(held: &[HeldStep]) -> ArrayVec<Step, MOST_STEPS>
 
 // Holds steps, if there is room for all of them.
 fn hold(steps: &[Step], held: &mut HeldDescription) -> bool
-    ensures yes { result ≡ true → Held.steps_of held.new ≡ steps.now }
+    ensures yes { result ≡ true → Described.steps_of held.new ≡ steps.now }
     ensures no { result ≡ false → (held.new ≡ held.old) × (MOST_STEPS < length steps.now) }
 {
     if steps.len() > MOST_STEPS {
@@ -73,8 +71,8 @@ fn read_front<'s, 'a>(
     input: &'a [u8],
 ) -> (&'s [HeldStep], &'a [u8])
     ensures fewer { length result.0.now ≤ length steps.now }
-    ensures goes { Goes greatest_year (steps_trees (map Held.step_of steps.now)) input.now parsed.old
-        (length steps.now - length result.0.now) (steps_trees (map Held.step_of result.0.now)) result.1.now parsed.new }
+    ensures goes { Goes greatest_year (steps_trees (map Described.step_of steps.now)) input.now parsed.old
+        (length steps.now - length result.0.now) (steps_trees (map Described.step_of result.0.now)) result.1.now parsed.new }
 {
     let mut left = steps;
     let mut rest = input;
@@ -91,7 +89,7 @@ fn read_front<'s, 'a>(
 // The steps that are held.
 #[inline(always)]
 fn held_steps(held: &HeldDescription) -> &[HeldStep]
-    ensures steps { map Held.step_of result.now ≡ Held.steps_of held.now }
+    ensures steps { map Described.step_of result.now ≡ Described.steps_of held.now }
     ensures fits { length result.now ≤ MOST_STEPS }
 {
     &held.steps[..held.count.min(MOST_STEPS)]
@@ -99,7 +97,7 @@ fn held_steps(held: &HeldDescription) -> &[HeldStep]
 
 /// The description, prepared for many texts.
 pub fn prepare(held: &HeldDescription) -> Prepared<MOST_STEPS>
-    ensures { result ≡ Held.steps_of held.now }
+    ensures { result ≡ Described.steps_of held.now }
 {
     match Prepared::from_steps(steps_of(held_steps(held)).as_slice()) {
         Some(prepared) => prepared,
@@ -115,7 +113,7 @@ fn read_left<'a>(
     input: &'a [u8],
 ) -> Result<&'a [u8], ParseFromDescription>
     requires { length left.now ≤ MOST_STEPS }
-    ensures { Answers greatest_year (steps_shape (map Held.step_of left.now)) input.now parsed.old result parsed.new }
+    ensures { Answers greatest_year (steps_shape (map Described.step_of left.now)) input.now parsed.old result parsed.new }
 {
     parsed.parse_steps(input, steps_of(left).as_slice())
 }

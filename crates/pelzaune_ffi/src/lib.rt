@@ -19,10 +19,8 @@ macro_rules! by_description {
 pub mod columns;
 mod cuts;
 pub mod descriptions;
-pub mod formats;
 pub mod handing;
 pub mod held;
-pub mod laws;
 pub mod locating;
 pub mod moments;
 pub mod parts;

@@ -1,12 +1,11 @@
 //! Where a text that is refused goes wrong.
 ghost use Rattle.std.specs.Prelude.{◌≡◌};
 ghost use Rattle.pelzaune_ffi.specs.Described as Described;
-ghost use Rattle.pelzaune_ffi.specs.Formats as Formats;
+ghost use Rattle.pelzaune_ffi.specs.Handed as Formats;
 ghost use Rattle.pelzaune_ffi.specs.Places.{HandsPlace, HandsReadPlace, IsPlaceHanded, LocatesBy, first_of};
 
 use crate::descriptions::{fault_status, read_description, syntax_of};
-use crate::formats::{Format, format_of};
-use crate::status::{UNKNOWN_FORMAT, UNKNOWN_SYNTAX, status_of_description};
+use crate::status::{Format, UNKNOWN_FORMAT, UNKNOWN_SYNTAX, format_of, status_of_description};
 use time_locating::{Expected, Locate, Located};
 use time_parsing::{Iso8601, Rfc2822, Rfc3339};
 use time_values::error::ParseFromDescription;

@@ -5,18 +5,17 @@
 mod fast;
 
 ghost use Rattle.std.specs.Prelude.{◌<◌, Some, length};
-ghost use Rattle.time_values.specs.Range.{greatest_year};
+ghost use Rattle.time_values.specs.Calendar.{greatest_year};
 ghost use Rattle.time_record.specs.Resolution.{IsPlain};
 ghost use Rattle.pelzaune_ffi.specs.Columns.{CountsFirst};
-ghost use Rattle.pelzaune_ffi.specs.Formats as Formats;
+ghost use Rattle.pelzaune_ffi.specs.Handed as Formats;
 ghost use Rattle.pelzaune_ffi.specs.Handed.{Hands, HandsCount, HasPlain, IsCountHanded, IsHanded, IsHandedOver, of_moment, over_empty};
-ghost use Rattle.pelzaune_ffi.specs.declared.formats.Format.TheVariants.{Iso8601 as iso8601, Rfc2822 as rfc2822, Rfc3339 as rfc3339};
+ghost use Rattle.pelzaune_ffi.specs.declared.status.Format.TheVariants.{Iso8601 as iso8601, Rfc2822 as rfc2822, Rfc3339 as rfc3339};
 
 use crate::cuts::first_line;
-use crate::formats::{Format, format_of};
 use crate::handing::{count, hand, hand_count};
 use crate::parts::{LocalParts, Nanoseconds};
-use crate::status::{UNKNOWN_FORMAT, status_of};
+use crate::status::{Format, UNKNOWN_FORMAT, format_of, status_of};
 use time_parsing::{Iso8601, Parsable, Rfc2822, Rfc3339};
 use time_values::{OffsetDateTime, PlainDateTime};
 

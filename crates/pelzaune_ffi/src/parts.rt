@@ -1,7 +1,7 @@
 //! What C is handed of a value.
 ghost use Rattle.std.specs.Prelude.{MatchOption};
 ghost use Rattle.time_values.specs.Moments.{offset_instant};
-ghost use Rattle.time_values.specs.Range.{greatest_year};
+ghost use Rattle.time_values.specs.Calendar.{greatest_year};
 ghost use Rattle.pelzaune_ffi.specs.Handed as Handed;
 
 use time_values::{Date, OffsetDateTime, PlainDateTime, Time, UtcDateTime, UtcOffset};

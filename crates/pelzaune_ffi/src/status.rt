@@ -1,7 +1,9 @@
-//! The numbers of refusals.
+//! The numbers of refusals and of formats.
 ghost use Rattle.std.specs.Prelude.{◌≡◌};
 ghost use Rattle.time_values.specs.Refusal.{refusal_of, refusal_of_description, refusal_of_range};
 ghost use Rattle.pelzaune_ffi.specs.Status as Status;
+ghost use Rattle.pelzaune_ffi.specs.Handed as Formats;
+ghost use Rattle.pelzaune_ffi.specs.Status.{StatusesTell};
 
 use time_values::error::{ComponentRange, Parse, ParseFromDescription, TryFromParsed};
 
@@ -84,3 +86,32 @@ pub fn status_of(error: Parse) -> u32
         Parse::TryFromParsed(TryFromParsed::ComponentRange(error)) => status_of_range(error),
     }
 }
+
+/// A format that has a number.
+#[derive(Clone, Copy)]
+pub enum Format {
+    /// RFC 3339, section 5.6.
+    Rfc3339,
+    /// Mail dates, RFC 2822, section 3.3.
+    Rfc2822,
+    /// ISO 8601.
+    Iso8601,
+}
+
+/// The format of that number, if one has it.
+#[inline]
+pub fn format_of(number: u32) -> Option<Format>
+    ensures { result ≡ Formats.format_of number }
+{
+    match number {
+        1 => Some(Format::Rfc3339),
+        2 => Some(Format::Rfc2822),
+        3 => Some(Format::Iso8601),
+        _ => None,
+    }
+}
+
+/// The status of a refusal says what the refusal does, whichever component of the table it names.
+pub fn law_status_texts()
+    ensures { StatusesTell }
+{}

@@ -1,8 +1,8 @@
 //! The steps of descriptions, as C holds them: a few numbers each, of which any are a step.
 ghost use Rattle.std.specs.Prelude.{◌≡◌};
-ghost use Rattle.time_components.specs.declared.step.Step.TheVariants as step;
-ghost use Rattle.time_descriptions.specs.Words.{ignored};
-ghost use Rattle.pelzaune_ffi.specs.Held as Held;
+ghost use Rattle.time_components.specs.declared.inspect.Step.TheVariants as step;
+ghost use Rattle.time_descriptions.specs.Values.{ignored};
+ghost use Rattle.pelzaune_ffi.specs.Described as Held;
 
 use std::num::NonZero;
 use time_components::modifier::{self, SubsecondDigits, TrailingInput};
@@ -291,7 +291,7 @@ macro_rules! held_of_each {
 
 /// The step that is held.
 #[inline]
-#[tactic(auto, unfolding(crate::specs::Held::step_of))]
+#[tactic(auto, unfolding(crate::specs::Described::step_of))]
 pub fn step_of(held: HeldStep) -> Step
     ensures { result ≡ Held.step_of held }
 {
@@ -301,7 +301,7 @@ pub fn step_of(held: HeldStep) -> Step
 }
 
 // The component, held.
-#[tactic(auto, using(crate::proofs::HeldSteps::padding_back, crate::proofs::HeldSteps::digits_back, crate::proofs::HeldSteps::trailing_back, crate::proofs::HeldSteps::flag_back, crate::proofs::HeldSteps::skips), unfolding(crate::specs::Held::step_of))]
+#[tactic(auto, using(crate::proofs::HeldRows::padding_back, crate::proofs::HeldRows::digits_back, crate::proofs::HeldRows::trailing_back, crate::proofs::HeldRows::flag_back, crate::proofs::HeldRows::skips), unfolding(crate::specs::Described::step_of))]
 fn held_component(component: Component) -> HeldStep
     ensures { Held.step_of result ≡ step.Component component }
 {
@@ -309,7 +309,7 @@ fn held_component(component: Component) -> HeldStep
 }
 
 // The group of so many steps, held.
-#[tactic(auto, unfolding(crate::specs::Held::step_of))]
+#[tactic(auto, unfolding(crate::specs::Described::step_of))]
 fn held_group(group: Group, len: usize) -> HeldStep
     ensures { Held.step_of result ≡ step.Group group len }
 {
@@ -325,7 +325,7 @@ fn held_group(group: Group, len: usize) -> HeldStep
 }
 
 /// The step, held.
-#[tactic(auto, unfolding(crate::specs::Held::step_of))]
+#[tactic(auto, unfolding(crate::specs::Described::step_of))]
 pub fn held_step(step: Step) -> HeldStep
     ensures { Held.step_of result ≡ step }
 {

@@ -1,16 +1,13 @@
 //! The texts of moments.
 ghost use Rattle.std.specs.Prelude.{◌≡◌, length};
-ghost use Rattle.time_values.specs.Month.{month_number};
+ghost use Rattle.time_values.specs.Names.{month_number};
 ghost use Rattle.time_values.specs.Refusal.{Constructs};
 ghost use Rattle.time_writing.specs.Texts.{WritesSuch};
-ghost use Rattle.pelzaune_ffi.specs.Formats as Formats;
-ghost use Rattle.pelzaune_ffi.specs.Handed.{HasMoment};
-ghost use Rattle.pelzaune_ffi.specs.Written.{HandsMomentText, HandsText, HandsTextOf, IsDateOf, IsLocalOf, IsTextOf, date_refusal, local_refusal, month_refusal, moment_refusal, reason_of};
-ghost use Rattle.pelzaune_ffi.specs.Written as Written;
+ghost use Rattle.pelzaune_ffi.specs.Handed as Formats;
+ghost use Rattle.pelzaune_ffi.specs.Handed.{HasMoment, HandsMomentText, HandsText, HandsTextOf, IsDateOf, IsLocalOf, IsTextOf, date_refusal, local_refusal, month_refusal, moment_refusal, reason_of};
 
-use crate::formats::{Format, format_of};
 use crate::parts::MomentParts;
-use crate::status::{UNKNOWN_FORMAT, status_of_range};
+use crate::status::{Format, UNKNOWN_FORMAT, format_of, status_of_range};
 use crate::text::lay_bytes;
 use std::num::NonZero;
 use time_values::error::ComponentRange;
@@ -69,7 +66,7 @@ fn text_of(format: Format, value: OffsetDateTime) -> Result<Text, Unwritable>
 
 // The status of why a moment has no text.
 fn unwritable_status(why: Unwritable) -> u32
-    ensures { result ≡ Written.unwritable_status why }
+    ensures { result ≡ Formats.unwritable_status why }
 {
     match why {
         Unwritable::Year => 18 + 256,

@@ -1,11 +1,162 @@
 -- Answers, line by line.
-use Rattle.std.proofs.Common.{◌≡◌, ℕ, List, [], ◌∷◌, ◌++◌, refl, sym, ap, ◌∙◌, subst, append_assoc, Option, None, Some, Result, Ok, Err, OnOk}
-use Rattle.std.proofs.KnownBytes.{Appends-trans, Appends-kept}
-use Rattle.std.specs.Io.KnownBytes.{Appends, Keeps, append_known}
+use Rattle.std.specs.Prelude.{Option, IfSome}
+use Rattle.std.specs.Io.KnownBytes.{Appends, Consumes, IsAtEnd, Keeps, append_known}
+use Rattle.std.proofs.Common.{◌≡◌, ℕ, ◌+◌, ◌/◌, ◌%◌, ◌^◌, ◌<◌, ◌≤◌, Bool, true, false, nat_lt, refl, List, [], ◌∷◌, ◌++◌, length, take, drop, take_at, ap, ◌∙◌, sym, arith, ℤ, pos, int_lt, unsigned_abs, codes, append_assoc, append-nil, length-append, length-drop, zero, suc, ◌-◌, get_or, add-one, subst, Result, Ok, Err, OnOk, None, Some}
+use Rattle.std.proofs.lemmas.List.{drop_all, take_all}
+use Rattle.std.proofs.lemmas.Bool.Decides.{nat_tests}
+use Rattle.std.proofs.KnownBytes.{Appends-trans, Consumes-trans, Consumes-whole, Appends-kept}
+use borrow.Rule.Slice.PartMut.{put_mid}
+use Rattle.memchr.specs.Find.{Nowhere, NoneBefore, Passes, is_byte}
+use Rattle.itoa.proofs.Decimal.{decimal_four, pair}
+use Rattle.time_values.specs.Calendar.{month_length, greatest_year}
+use Rattle.time_values.specs.Names.{month_number}
+use Rattle.time_values.specs.declared.date.Date.{Date}
+use Rattle.time_values.specs.Shown.{fixed}
+use Rattle.time_values.specs.declared.time.Time.{Time}
 use Rattle.time_components.specs.Tree.{Tree}
+use Rattle.time_readers.specs.Direct.{RefusesRfc3339, RefusesRfc2822}
+use Rattle.time_record.specs.Laws.{OneResolution}
+use Rattle.time_record.specs.Reading as Description
+use Rattle.time_record.specs.Record.{empty}
+use Rattle.time_record.specs.Resolution.{IsDated, IsTimed, IsOffset, IsPlain, IsUtcMoment, IsMoment, IsTimestamp}
+use Rattle.time_record.proofs.ResolutionLemmas.{IsDated-one, IsTimed-one, IsOffset-one, IsPlain-one, IsUtcMoment-one, IsMoment-one, IsTimestamp-one}
+use Rattle.time_parsing.specs.exact.Laws.{tree_exact, rfc3339_exact_path, rfc2822_exact_path, iso8601_exact, rfc2822_exact, rfc3339_exact}
+use Rattle.time_parsing.specs.Outcome.{IsExact, IsExactPath, Path, over_record, direct, Reading, Refusing, Resolving}
+use Rattle.time_parsing.specs.Iso8601 as Iso8601
+use Rattle.time_parsing.specs.Rfc2822 as Rfc2822
+use Rattle.time_parsing.specs.Rfc3339 as Rfc3339
+use Rattle.time_parsing.proofs.OneOutcome.{one_outcome, one_moment_outcome}
+use Rattle.programs_answers.specs.Output.{four_digits, minus_if, year_text, date_text, date_time_text, lines_of, onto_first, IsDescribed, AreAnswers, Writes, IsPrinted, IsPrintedMoment, IsAnswerFor, IsParsed, WritesAnswers, printed, time_text, offset_text, plain_text, utc_text, offset_date_time_text, timestamp_text}
+use Rattle.programs_answers.specs.Pieces.{leading_digits, year_front, WithLineFeed}
 use Rattle.programs_answers.specs.declared.formats.Target.{Target}
-use Rattle.programs_answers.specs.Output.{IsDescribed, AreAnswers, Writes}
-use Rattle.programs_answers.specs.Pieces.{WithLineFeed}
+use Rattle.programs_answers.specs.Formats.{ymd, clock, unix, local}
+use Rattle.programs_answers.specs.declared.formats.Format.{Format}
+use Rattle.programs_answers.specs.declared.formats.Format.TheVariants as format
+use Rattle.programs_answers.specs.declared.formats.Target.TheVariants as target
+
+-- ---- Layouts, as they are written piece by piece
+
+-- four digits, two at a time
+fixed_four : (n : ℕ) → n < 10000 → fixed 4 n ≡ pair (n / 100) ++ pair (n % 100)
+unfolding fixed
+fixed_four n h =
+    let a : n / 10 / 10 / 10 % 10 ≡ n / 100 / 10 = omega arith in
+    let b : n / 10 / 10 % 10 ≡ n / 100 % 10 = omega arith in
+    let c : n / 10 % 10 ≡ n % 100 / 10 = omega arith in
+    let d : n % 10 ≡ n % 100 % 10 = omega arith in
+    rw (a, b, c, d) refl
+
+-- the last four digits stand behind those before them
+leading_digits-then : (n : ℕ) (b : Bool) → nat_lt n 10000 ≡ b → n < 2 ^ 64 → leading_digits n ++ fixed 4 (n % 10000) ≡ four_digits n
+leading_digits-then n true e fits =
+    let small : n < 10000 = grind (arith, nat_tests) in
+    let same : n % 10000 ≡ n = omega arith in
+    rw (e, same) refl
+leading_digits-then n false e fits =
+    let large : 10000 ≤ n = grind (arith, nat_tests) in
+    rw (e, fixed_four (n % 10000) (omega arith), decimal_four n large fits) refl
+
+five : (a b c d e f : List ℕ) → a ++ (b ++ c ++ d ++ e ++ f) ≡ a ++ b ++ c ++ d ++ e ++ f
+five a b c d e f = simp append_assoc
+
+-- a date behind the front of its year
+pub date_text-behind : (d : Date) (n m k : ℕ) (text : List ℕ)
+    → n ≡ unsigned_abs d.year → n < 2 ^ 64 → m ≡ month_number d.month → k ≡ d.day
+    → text ≡ fixed 4 (n % 10000) ++ codes "-" ++ fixed 2 m ++ codes "-" ++ fixed 2 k
+    → year_front d.year ++ text ≡ date_text d
+date_text-behind d n m k text nz fits mm kk is =
+    let sign = minus_if (int_lt d.year (pos 0)) in
+    let front = year_front d.year in
+    let digits : leading_digits (unsigned_abs d.year) ++ fixed 4 (n % 10000) ≡ four_digits (unsigned_abs d.year) =
+    ap (λ x. leading_digits x ++ fixed 4 (n % 10000)) (sym nz) ∙ leading_digits-then n (nat_lt n 10000) refl fits ∙ ap four_digits nz in
+    let year : front ++ fixed 4 (n % 10000) ≡ year_text d.year =
+    append_assoc sign (leading_digits (unsigned_abs d.year)) (fixed 4 (n % 10000)) ∙ ap (λ t. sign ++ t) digits in
+    ap (λ t. front ++ t) is
+    ∙ five front (fixed 4 (n % 10000)) (codes "-") (fixed 2 m) (codes "-") (fixed 2 k)
+    ∙ ap (λ t. t ++ codes "-" ++ fixed 2 m ++ codes "-" ++ fixed 2 k) year
+    ∙ ap (λ t. year_text d.year ++ codes "-" ++ fixed 2 t ++ codes "-" ++ fixed 2 k) mm
+    ∙ ap (λ t. year_text d.year ++ codes "-" ++ fixed 2 (month_number d.month) ++ codes "-" ++ fixed 2 t) kk
+
+-- an array of spaces, in which two texts were put, each after the other and a space
+pub joined : (d t rest xs : List ℕ) (a k : ℕ) → xs ≡ d ++ 32 ∷ rest → a ≡ length d + 1 → length rest ≡ k
+    → put_mid a k xs t ≡ d ++ codes " " ++ t
+joined d t rest xs a k e p q =
+    let split : xs ≡ (d ++ codes " ") ++ rest = e ∙ sym (append_assoc d (codes " ") rest) in
+    let long : length xs ≡ a + k = omega (arith, ap length e, length-append d (32 ∷ rest)) in
+    let front : take a xs ≡ d ++ codes " " = ap (take a) split ∙ take_at _ _ a (omega (arith, length-append d (codes " "))) in
+    let none : drop k (drop a xs) ≡ [] = drop_all k _ (omega (arith, length-drop a xs, long)) in
+    rw (front, none) (ap (λ l. d ++ codes " " ++ l) (append-nil t))
+
+-- the sign before two texts is one before the first
+pub signed : (sign d t x y text : List ℕ) → text ≡ d ++ codes " " ++ t → sign ++ d ≡ x → t ≡ y
+    → sign ++ text ≡ x ++ codes " " ++ y
+signed sign d t x y text e p q =
+    let behind : sign ++ (d ++ codes " " ++ t) ≡ (sign ++ d) ++ codes " " ++ t = simp append_assoc in
+    ap (λ l. sign ++ l) e ∙ behind ∙ ap (λ l. l ++ codes " " ++ t) p ∙ ap (λ l. x ++ codes " " ++ l) q
+
+pub month_length-below : (y : ℤ) (m : ℕ) → month_length y m < 100
+month_length-below y m = grind (arith, nat_tests)
+
+pub same_date_time : (d d' : Date) (t t' : Time) → d ≡ d' → t ≡ t' → date_time_text d t ≡ date_time_text d' t'
+same_date_time d d' t t' p q = ap (λ (x : Date). date_time_text x t) p ∙ ap (date_time_text d') q
+
+-- ---- A text, cut at its first LF
+
+-- the rest of a slice, as the range `n..` of it reads
+pub tail_range : (n : ℕ) (xs : List ℕ) → take (length xs - n) (drop n xs) ≡ drop n xs
+tail_range n xs = take_all (length xs - n) (drop n xs) (omega (arith, length-drop n xs))
+
+pub drop_more : (x : ℕ) (xs : List ℕ) (n : ℕ) → drop (suc n + 1) (x ∷ xs) ≡ drop (n + 1) xs
+drop_more x xs n = simp add-one
+
+at_lf : (x : ℕ) (xs : List ℕ) → x ≡ 10 → lines_of (x ∷ xs) ≡ [] ∷ lines_of xs
+at_lf x xs e = rw e
+
+past_lf : (x : ℕ) (xs : List ℕ) → (x ≡ 10 → ⊥) → lines_of (x ∷ xs) ≡ onto_first x (lines_of xs)
+past_lf x xs ne = grind (arith, nat_tests)
+
+pub lines_of-cut : (xs : List ℕ) (n : ℕ) → n < length xs
+    → get_or xs n 0 ≡ 10 → ((k : ℕ) → k < n → get_or xs k 0 ≡ 10 → ⊥)
+    → lines_of xs ≡ take n xs ∷ lines_of (drop (n + 1) xs)
+lines_of-cut [] n h e before = absurd (omega arith)
+lines_of-cut (x ∷ xs) zero h e before = at_lf x xs e
+lines_of-cut (x ∷ xs) (suc n) h e before =
+    rw drop_more
+    (past_lf x xs (before 0 (omega arith))
+    ∙ ap (onto_first x) (lines_of-cut xs n (omega arith) e (λ k below. before (suc k) (omega arith))))
+
+pub lines_of-whole : (xs : List ℕ) → 0 < length xs → ((k : ℕ) → k < length xs → get_or xs k 0 ≡ 10 → ⊥) → lines_of xs ≡ xs ∷ []
+lines_of-whole [] h before = absurd (omega arith)
+lines_of-whole (x ∷ []) h before = past_lf x [] (before 0 (omega arith))
+lines_of-whole (x ∷ y ∷ xs) h before =
+    past_lf x (y ∷ xs) (before 0 (omega arith)) ∙ ap (onto_first x) (lines_of-whole (y ∷ xs) (omega arith) (λ k below. before (suc k) (omega arith)))
+
+-- what a search for a byte found
+passed : (a : ℕ) (xs : List ℕ) (k : ℕ) → Passes (is_byte a) xs k → get_or xs k 0 ≡ a
+passed a xs k h = grind (arith, nat_tests)
+
+passes : (a : ℕ) (xs : List ℕ) (k : ℕ) → get_or xs k 0 ≡ a → Passes (is_byte a) xs k
+passes a xs k h = grind (arith, nat_tests)
+
+pub lines_of-found : (xs : List ℕ) (n : ℕ)
+    → NoneBefore (Passes (is_byte 10) xs) 0 (length xs) n → Passes (is_byte 10) xs n
+    → lines_of xs ≡ take n xs ∷ lines_of (drop (n + 1) xs)
+lines_of-found xs n first here =
+    lines_of-cut xs n first.high (passed 10 xs n here) (λ k below is. first.before k (omega arith) below (passes 10 xs k is))
+
+pub lines_of-none : (xs : List ℕ) → 0 < length xs → Nowhere (Passes (is_byte 10) xs) 0 (length xs) → lines_of xs ≡ xs ∷ []
+lines_of-none xs h nowhere = lines_of-whole xs h (λ k below is. nowhere k (omega arith) below (passes 10 xs k is))
+
+-- what was read before the end is all that there was
+pub Consumes-end : (a b c : Option (List ℕ)) (xs : List ℕ) → Consumes a b xs → Consumes b c [] → IsAtEnd c → IfSome a (λ bytes. xs ≡ bytes)
+Consumes-end a b c xs p q e =
+    Consumes-whole a c (xs ++ []) (λ (bytes : List ℕ). xs ≡ bytes) (Consumes-trans a b c xs [] p q) e (sym (append-nil xs))
+
+-- one write more
+pub Appends-then : {E : Type 0} (r : Result (Unit {0}) E) (a b c : Option (List ℕ)) (x y z : List ℕ)
+    → Appends a b x → OnOk r (Appends b c y) → x ++ y ≡ z → OnOk r (Appends a c z)
+Appends-then (Ok u) a b c x y z p q e = subst (Appends a c) e (Appends-trans a b c x y p q)
+Appends-then (Err f) a b c x y z p q e = tt
 
 -- an answered line more is written
 pub AreAnswers-more : (P : List ℕ → List ℕ → Type 0) (lines others all : List (List ℕ)) (line written more : List ℕ)
@@ -44,3 +195,69 @@ pub Writes_settled : {E : Type 0} (r : Result (Unit {0}) E) (P : List ℕ → Ty
     → Writes P a b → OnOk r (Keeps b c) → OnOk r (Writes P a c)
 Writes_settled (Err e) P a b c w kept = tt
 Writes_settled (Ok u) P a b c w kept = (w.0, w.1, Appends-kept a b c w.0 w.2 kept)
+
+-- ---- A text has one answer, and an input one output
+
+-- at most one text has the property
+abbrev pub OneText : (List ℕ → Type 0) → Type 0
+OneText P = (a b : List ℕ) → P a → P b → a ≡ b
+
+pub IsThat-one : (that : List ℕ) → OneText (λ a. a ≡ that)
+IsThat-one that a b h k = h ∙ sym k
+
+module _ (R : Reading) (F : Refusing) (exact : IsExact R F) (bytes : List ℕ) where
+  IsPrinted-one : {V : Type 0} (resolves : Resolving V) (value_text : V → List ℕ) → OneResolution resolves
+      → OneText (IsPrinted resolves value_text R F bytes)
+  IsPrinted-one resolves value_text one a b h k =
+      h.2 ∙ ap (printed value_text) (one_outcome R F exact resolves one bytes empty h.0 k.0 h.1 k.1) ∙ sym k.2
+
+  IsPrintedMoment-one : (path : Path) → IsExactPath greatest_year path R F → OneText (IsPrintedMoment greatest_year path R F bytes)
+  IsPrintedMoment-one path alone a b h k =
+      h.2 ∙ ap (printed offset_date_time_text) (one_moment_outcome path R F exact alone IsMoment-one bytes None h.0 k.0 h.1 k.1)
+      ∙ sym k.2
+
+  IsAnswerFor-one : (path : Path) → IsExactPath greatest_year path R F → (t : Target)
+      → OneText (IsAnswerFor greatest_year t path R F bytes)
+  IsAnswerFor-one path alone target.Date = IsPrinted-one (IsDated greatest_year) date_text IsDated-one
+  IsAnswerFor-one path alone target.Time = IsPrinted-one IsTimed time_text IsTimed-one
+  IsAnswerFor-one path alone target.Offset = IsPrinted-one IsOffset offset_text IsOffset-one
+  IsAnswerFor-one path alone target.Plain = IsPrinted-one (IsPlain greatest_year) plain_text IsPlain-one
+  IsAnswerFor-one path alone target.Utc = IsPrinted-one (IsUtcMoment greatest_year) utc_text IsUtcMoment-one
+  IsAnswerFor-one path alone target.DateTime = IsPrintedMoment-one path alone
+  IsAnswerFor-one path alone target.Staged = IsPrinted-one (IsMoment greatest_year) offset_date_time_text IsMoment-one
+  IsAnswerFor-one path alone target.Timestamp = IsPrinted-one (IsTimestamp greatest_year) timestamp_text IsTimestamp-one
+
+pub IsDescribed-one : (tree : Tree) (t : Target) (bytes : List ℕ) → OneText (IsDescribed greatest_year tree t bytes)
+IsDescribed-one tree t bytes =
+    IsAnswerFor-one (Description.Reads greatest_year tree) (Description.Refuses greatest_year tree)
+    (tree_exact greatest_year tree) bytes over_record tt t
+
+pub IsParsed-one : (f : Format) (t : Target) (bytes : List ℕ) → OneText (IsParsed greatest_year f t bytes)
+IsParsed-one format.Rfc3339 t bytes =
+    IsAnswerFor-one (Rfc3339.Reads greatest_year) (Rfc3339.Refuses greatest_year) (rfc3339_exact greatest_year) bytes
+    (direct (RefusesRfc3339 greatest_year)) rfc3339_exact_path t
+IsParsed-one format.Rfc2822 t bytes =
+    IsAnswerFor-one (Rfc2822.Reads greatest_year) (Rfc2822.Refuses greatest_year) (rfc2822_exact greatest_year) bytes
+    (direct (RefusesRfc2822 greatest_year)) rfc2822_exact_path t
+IsParsed-one format.Iso8601 t bytes =
+    IsAnswerFor-one (Iso8601.Reads greatest_year) (Iso8601.Refuses greatest_year) (iso8601_exact greatest_year) bytes
+    over_record tt t
+IsParsed-one format.Ymd t bytes = IsDescribed-one ymd t bytes
+IsParsed-one format.Clock t bytes = IsDescribed-one clock t bytes
+IsParsed-one format.Unix t bytes = IsDescribed-one unix t bytes
+IsParsed-one format.Local t bytes = IsDescribed-one local t bytes
+
+module _ (P : List ℕ → List ℕ → Type 0) (one : (line : List ℕ) → OneText (P line)) where
+  pub AreAnswers-one : (lines : List (List ℕ)) → OneText (AreAnswers P lines)
+  AreAnswers-one [] a b h k = h ∙ sym k
+  AreAnswers-one (line ∷ lines) a b h k =
+      h.4
+      ∙ ap (λ (t : List ℕ). t ++ 10 ∷ h.1) (one line h.0 k.0 h.2 k.2)
+      ∙ ap (λ (t : List ℕ). k.0 ++ 10 ∷ t) (AreAnswers-one lines h.1 k.1 h.3 k.3)
+      ∙ sym k.4
+
+  pub WritesAnswers-one : (input held new other : List ℕ)
+      → WritesAnswers P (Some held) (Some new) input → WritesAnswers P (Some held) (Some other) input
+      → new ≡ other
+  WritesAnswers-one input held new other h k =
+      h.2 ∙ ap (λ (t : List ℕ). held ++ t) (AreAnswers-one (lines_of input) h.0 k.0 h.1 k.1) ∙ sym k.2

@@ -1,23 +1,122 @@
 -- What is written for a text, and for an input of several lines. `Y` is the greatest year.
-use Rattle.std.specs.Prelude.{◌≡◌, ℕ, List, [], ◌∷◌, ◌++◌, Option, None, Result}
+use Rattle.std.specs.Prelude.{ℕ, List, [], ◌++◌, codes, ℤ, pos, Bool, if◌then◌else◌, int_lt, nat_lt, unsigned_abs, ◌∷◌, ◌||◌, Result, Ok, Err, ◌==◌, ◌≡◌, Option, None, ◌⊎◌, ◌^◌, ◌≤◌, MatchResult}
+use Rattle.std.specs.Fmt.{decimal, signed_decimal}
 use Rattle.std.specs.Io.KnownBytes.{Appends}
-use Rattle.time_values.specs.Refusal.{Refusal}
+use Rattle.time_values.specs.Shown.{fixed}
+use Rattle.time_values.specs.Dates as Dates
+use Rattle.time_values.specs.Moments.{plain_date, plain_time, utc_date, utc_time, offset_date, offset_time, offset_of, nanoseconds}
+use Rattle.time_values.specs.Names.{month_number}
+use Rattle.time_values.specs.Offsets as Offsets
+use Rattle.time_values.specs.Times as Times
+use Rattle.time_values.specs.Refusal.{Refusal, refusal_text}
+use Rattle.time_values.specs.declared.date.Date.{Date}
+use Rattle.time_values.specs.declared.time.Time.{Time}
+use Rattle.time_values.specs.declared.utc_offset.UtcOffset.{UtcOffset}
+use Rattle.time_values.specs.declared.plain_date_time.PlainDateTime.{PlainDateTime}
+use Rattle.time_values.specs.declared.utc_date_time.UtcDateTime.{UtcDateTime}
+use Rattle.time_values.specs.declared.offset_date_time.OffsetDateTime.{OffsetDateTime}
+use Rattle.time_values.specs.declared.timestamp.Timestamp.{Timestamp}
 use Rattle.time_components.specs.Tree.{Tree}
+use Rattle.time_readers.specs.Direct.{RefusesRfc3339, RefusesRfc2822}
 use Rattle.time_record.specs.Reading as Description
 use Rattle.time_record.specs.Record.{empty}
 use Rattle.time_record.specs.Resolution.{IsDated, IsTimed, IsOffset, IsPlain, IsUtcMoment, IsMoment, IsTimestamp}
 use Rattle.time_parsing.specs.Outcome.{Reading, Refusing, Resolving, Path, over_record, direct, IsOutcome, IsMomentOutcome}
-use Rattle.time_readers.specs.Direct.{RefusesRfc3339, RefusesRfc2822}
 use Rattle.time_parsing.specs.Iso8601 as Iso8601
 use Rattle.time_parsing.specs.Rfc2822 as Rfc2822
 use Rattle.time_parsing.specs.Rfc3339 as Rfc3339
+use Rattle.programs_streams.specs.Faults.{Rises, count_more}
 use Rattle.programs_answers.specs.Formats.{ymd, clock, unix, local}
-use Rattle.programs_answers.specs.Lines.{lines_of}
-use Rattle.programs_answers.specs.Values.{printed, date_text, time_text, offset_text, plain_text, utc_text, offset_date_time_text, timestamp_text}
 use Rattle.programs_answers.specs.declared.formats.Format.{Format}
 use Rattle.programs_answers.specs.declared.formats.Format.TheVariants as format
 use Rattle.programs_answers.specs.declared.formats.Target.{Target}
 use Rattle.programs_answers.specs.declared.formats.Target.TheVariants as target
+use Rattle.programs_answers.specs.declared.serving.Stop.{Stop}
+use Rattle.programs_answers.specs.declared.serving.Stop.TheVariants.{Unread, Memory, Unwritten}
+
+-- ---- How numbers and values are laid out
+
+-- a minus, or nothing
+abbrev pub minus_if : Bool → List ℕ
+minus_if is_negative = if is_negative then codes "-" else []
+
+-- four digits, or all digits of a number that has more
+abbrev pub four_digits : ℕ → List ℕ
+four_digits n = if nat_lt n 10000 then fixed 4 n else decimal n
+
+-- a year, with four digits at least
+abbrev pub year_text : ℤ → List ℕ
+year_text y = minus_if (int_lt y (pos 0)) ++ four_digits (unsigned_abs y)
+
+-- ---- How a value, or a refusal, is printed
+
+-- `YYYY-MM-DD`
+abbrev pub date_text : Date → List ℕ
+date_text d =
+    year_text (Dates.year d)
+    ++ codes "-" ++ fixed 2 (month_number (Dates.month d))
+    ++ codes "-" ++ fixed 2 (Dates.day d)
+
+-- `HH:MM:SS.nnnnnnnnn`
+abbrev pub time_text : Time → List ℕ
+time_text t =
+    fixed 2 (Times.hour t)
+    ++ codes ":" ++ fixed 2 (Times.minute t)
+    ++ codes ":" ++ fixed 2 (Times.second t)
+    ++ codes "." ++ fixed 9 (Times.nanosecond t)
+
+-- a number below 0
+abbrev pub is_negative : ℤ → Bool
+is_negative z = int_lt z (pos 0)
+
+-- the byte `-` where a part is negative, and else `+`
+abbrev pub sign_of : UtcOffset → ℕ
+sign_of o =
+    if is_negative (Offsets.hours o) || is_negative (Offsets.minutes o) || is_negative (Offsets.seconds o)
+    then 45 else 43
+
+-- `+HH:MM:SS`
+abbrev pub offset_text : UtcOffset → List ℕ
+offset_text o =
+    sign_of o ∷ fixed 2 (unsigned_abs (Offsets.hours o))
+    ++ codes ":" ++ fixed 2 (unsigned_abs (Offsets.minutes o))
+    ++ codes ":" ++ fixed 2 (unsigned_abs (Offsets.seconds o))
+
+-- date, space, time
+abbrev pub date_time_text : Date → Time → List ℕ
+date_time_text d t = date_text d ++ codes " " ++ time_text t
+
+abbrev pub plain_text : PlainDateTime → List ℕ
+plain_text p = date_time_text (plain_date p) (plain_time p)
+
+-- date, space, time, space, and the offset of UTC
+abbrev pub utc_text : UtcDateTime → List ℕ
+utc_text u = date_time_text (utc_date u) (utc_time u) ++ codes " +00:00:00"
+
+-- date, space, time, space, offset
+abbrev pub offset_date_time_text : OffsetDateTime → List ℕ
+offset_date_time_text v = date_time_text (offset_date v) (offset_time v) ++ codes " " ++ offset_text (offset_of v)
+
+-- nanoseconds since 1970-01-01T00:00:00Z
+abbrev pub timestamp_text : Timestamp → List ℕ
+timestamp_text t = signed_decimal (nanoseconds t)
+
+-- what a parse answers, printed
+abbrev pub printed : {V : Type 0} → (V → List ℕ) → Result V Refusal → List ℕ
+printed value_text (Ok v) = value_text v
+printed value_text (Err e) = codes "error: " ++ refusal_text e
+
+-- ---- The lines of an input
+
+-- the byte b in front of the first of the lines
+abbrev pub onto_first : ℕ → List (List ℕ) → List (List ℕ)
+onto_first b [] = (b ∷ []) ∷ []
+onto_first b (line ∷ lines) = (b ∷ line) ∷ lines
+
+-- The lines of a text, each without its LF. What comes after the last LF is a line unless it is empty.
+abbrev pub lines_of : List ℕ → List (List ℕ)
+lines_of [] = []
+lines_of (b ∷ bytes) = if b == 10 then [] ∷ lines_of bytes else onto_first b (lines_of bytes)
 
 -- The answer is an outcome of which P holds, printed.
 abbrev pub PrintsSuch : {V : Type 0} → (Result V Refusal → Type 0) → (V → List ℕ) → List ℕ → Type 0
@@ -73,3 +172,30 @@ Writes P old new = (text : List ℕ) × P text × Appends old new text
 -- A writer holds what it held, and then the answers to the lines of the input.
 abbrev pub WritesAnswers : (List ℕ → List ℕ → Type 0) → Option (List ℕ) → Option (List ℕ) → List ℕ → Type 0
 WritesAnswers P old new input = Writes (AreAnswers P (lines_of input)) old new
+
+-- ---- Why the work stopped
+
+-- A count of failed reads rose, or 4294967296 reads gave a byte each at least.
+abbrev pub IsUnread : ℕ → ℕ → ℕ → ℕ → Type 0
+IsUnread faults faults' given given' = Rises faults faults' ⊎ (count_more given (2 ^ 32) ≤ given')
+
+-- That is so where the work stopped by a read, and the count is as it was where it stopped otherwise.
+abbrev pub IsReadCounted : Stop → ℕ → ℕ → ℕ → ℕ → Type 0
+IsReadCounted Unread faults faults' given given' = IsUnread faults faults' given given'
+IsReadCounted Memory faults faults' given given' = faults' ≡ faults
+IsReadCounted Unwritten faults faults' given given' = faults' ≡ faults
+
+-- The same, and it is as it was where the work came to its end.
+abbrev pub HasReadCause : {V : Type 0} → Result V Stop → ℕ → ℕ → ℕ → ℕ → Type 0
+HasReadCause result faults faults' given given' =
+    MatchResult result (λ _. faults' ≡ faults) (λ stop. IsReadCounted stop faults faults' given given')
+
+-- A count of failed writes rose where the work stopped by a write, and is as it was where it stopped otherwise.
+abbrev pub IsCounted : Stop → ℕ → ℕ → Type 0
+IsCounted Unread before now = now ≡ before
+IsCounted Memory before now = now ≡ before
+IsCounted Unwritten before now = Rises before now
+
+-- The same, and it is as it was where the work came to its end.
+abbrev pub HasWriteCause : {V : Type 0} → Result V Stop → ℕ → ℕ → Type 0
+HasWriteCause result before now = MatchResult result (λ _. now ≡ before) (λ stop. IsCounted stop before now)

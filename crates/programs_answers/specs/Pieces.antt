@@ -3,7 +3,7 @@
 -- The pieces that a line is written by.
 use Rattle.std.specs.Prelude.{◌≡◌, ℕ, ◌/◌, List, [], ◌∷◌, ◌++◌, ℤ, pos, if◌then◌else◌, int_lt, nat_lt, unsigned_abs}
 use Rattle.std.specs.Fmt.{decimal}
-use Rattle.programs_answers.specs.Layout.{minus_if}
+use Rattle.programs_answers.specs.Output.{minus_if}
 
 -- the digits before the last four
 abbrev pub leading_digits : ℕ → List ℕ

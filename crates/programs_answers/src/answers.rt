@@ -1,13 +1,11 @@
 //! The answer to a text.
 ghost use Rattle.std.specs.Prelude.{◌≡◌, OnOk, codes, ◌++◌};
 ghost use Rattle.std.specs.Io.KnownBytes.{Appends};
-ghost use Rattle.time_values.specs.Range.{greatest_year};
-ghost use Rattle.time_values.specs.Refusal.{refusal_of};
-ghost use Rattle.time_values.specs.Texts.{refusal_text};
+ghost use Rattle.time_values.specs.Calendar.{greatest_year};
+ghost use Rattle.time_values.specs.Refusal.{refusal_of, refusal_text};
 ghost use Rattle.time_parsing.specs.Outcome.{seen};
 ghost use Rattle.programs_streams.specs.Faults.{HasCause};
-ghost use Rattle.programs_answers.specs.Output.{IsAnswerFor, Writes};
-ghost use Rattle.programs_answers.specs.Values.{printed};
+ghost use Rattle.programs_answers.specs.Output.{IsAnswerFor, Writes, printed};
 
 mod fast;
 

@@ -1,7 +1,6 @@
 //! The formats and targets that a line may name.
 ghost use Rattle.std.specs.Prelude.{◌≡◌, map, take, drop};
-ghost use Rattle.time_components.specs.Shape.{borrowed_shape, v3_shape};
-ghost use Rattle.time_components.specs.Tree.{sequence, first_of, trees};
+ghost use Rattle.time_components.specs.Tree.{borrowed_shape, v3_shape, sequence, first_of, trees};
 ghost use Rattle.programs_answers.specs.Formats as formats;
 
 use time_readers::{

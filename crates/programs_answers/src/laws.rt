@@ -1,11 +1,10 @@
 //! Laws of what is done to an input: the contract of a function is the law.
 ghost use Rattle.std.specs.Prelude.{◌≡◌, ◌⊎◌, IfErr, IfSome, OnOk};
 ghost use Rattle.programs_streams.specs.Faults.{Rises};
-ghost use Rattle.programs_answers.specs.Causes.{IsUnread};
-ghost use Rattle.programs_answers.specs.Output.{WritesAnswers};
+ghost use Rattle.programs_answers.specs.Output.{IsUnread, WritesAnswers};
 
+use crate::held::Waiting;
 use crate::serving::{Answering, Stop, serve};
-use crate::waiting::Waiting;
 use programs_streams::{Sink, Source};
 use std::alloc::Allocator;
 

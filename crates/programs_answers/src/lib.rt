@@ -2,18 +2,16 @@
 #![tactic(auto)]
 
 mod answers;
-mod cuts;
 pub mod formats;
 mod held;
 mod laws;
 mod layout;
 mod named;
 mod serving;
-mod waiting;
 
 pub use answers::{write_outcome, write_value};
+pub use held::Waiting;
 pub use laws::law_done;
 pub use layout::Layout;
 pub use named::Named;
 pub use serving::{Answering, Stop, run, serve};
-pub use waiting::Waiting;

@@ -1,9 +1,7 @@
 //! The formats that a line may name, with their descriptions prepared for many texts.
 ghost use Rattle.std.specs.Prelude.{◌≡◌, ◌∷◌, [], OnOk, map};
-ghost use Rattle.time_values.specs.Range.{greatest_year};
-ghost use Rattle.time_components.specs.Shape.{borrowed_shape};
-ghost use Rattle.time_components.specs.Steps.{steps_shape};
-ghost use Rattle.time_components.specs.Tree.{first_of, sequence, trees};
+ghost use Rattle.time_values.specs.Calendar.{greatest_year};
+ghost use Rattle.time_components.specs.Tree.{borrowed_shape, steps_shape, first_of, sequence, trees};
 ghost use Rattle.time_preparing.specs.Items.{Prepares};
 ghost use Rattle.programs_streams.specs.Faults.{HasCause};
 ghost use Rattle.programs_answers.specs.Formats as formats;
@@ -30,8 +28,7 @@ pub struct Named {
 
 impl Model for Named {
     ghost use Rattle.std.specs.Prelude.{◌≡◌, ◌∷◌, []};
-    ghost use Rattle.time_components.specs.Steps.{steps_shape};
-    ghost use Rattle.time_components.specs.Tree.{sequence, trees};
+    ghost use Rattle.time_components.specs.Tree.{steps_shape, sequence, trees};
     ghost use Rattle.programs_answers.specs.Formats as formats;
 
     ghost Value = { Unit {0} };

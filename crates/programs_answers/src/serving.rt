@@ -1,13 +1,12 @@
-//! Answers whole inputs.
+//! Cuts an input into lines, and answers whole inputs.
 ghost use Rattle.std.specs.Io.KnownBytes.{append_known};
-ghost use Rattle.std.specs.Prelude.{◌≡◌, ◌≢◌, ℕ, List, [], OnOk, IfErr, IfOk, IfSome, Err};
+ghost use Rattle.std.specs.Prelude.{◌≡◌, ◌≢◌, ℕ, List, [], OnOk, IfErr, IfOk, IfSome, Err, ◌∷◌, ◌<◌, length};
 ghost use Rattle.programs_streams.specs.Faults.{HasCause};
-ghost use Rattle.programs_answers.specs.Causes.{HasReadCause, HasWriteCause};
-ghost use Rattle.programs_answers.specs.Output.{Writes, WritesAnswers};
+ghost use Rattle.programs_answers.specs.Output.{HasReadCause, HasWriteCause, Writes, WritesAnswers, lines_of};
 ghost use Rattle.programs_answers.specs.Pieces.{WithLineFeed};
 
-use crate::cuts::first_line;
-use crate::waiting::Waiting;
+use crate::held::Waiting;
+use memchr::memchr;
 use programs_streams::{Sink, Source, Unwritten};
 use std::alloc::Allocator;
 
@@ -152,4 +151,16 @@ pub fn serve<A: Answering, R: Source, W: Sink, G: Allocator>(
 {
     let text = read_all(alloc, input)?;
     run(answering, text.as_slice(), out).map_err(|_| Stop::Unwritten)
+}
+
+/// The first line of an input that isn't empty, and what comes after its LF.
+pub fn first_line(bytes: &[u8]) -> (&[u8], &[u8])
+    requires { 0 < length bytes.now }
+    ensures line { lines_of bytes.now ≡ result.0.now ∷ lines_of result.1.now }
+    ensures shorter { length result.1.now < length bytes.now }
+{
+    match memchr(b'\n', bytes) {
+        Some(i) => (&bytes[..i], &bytes[i + 1..]),
+        None => (bytes, &bytes[bytes.len()..]),
+    }
 }

@@ -1,9 +1,12 @@
 -- How far a file was read, and how that is told.
 use Rattle.std.specs.Prelude.{◌≡◌, ℕ, ◌-◌, ◌/◌, ◌^◌, ◌≤◌, ◌<◌, List, ◌++◌, codes, length, drop, IsCharBoundary, Option, None, Some}
 use Rattle.std.specs.Fmt.{decimal}
-use Rattle.restamp_stream.specs.Names.{shown_name}
+use Rattle.programs_streams.specs.declared.counted.Counted.{Counted}
+use Rattle.restamp_stream.specs.Reports.{shown_name}
 use Rattle.restamp.specs.declared.progress.Telling.{Telling}
 use Rattle.restamp.specs.declared.progress.Telling.TheVariants.{Nothing, Lines, OneLine}
+use Rattle.restamp.specs.declared.opening.Origin.{Origin}
+use Rattle.restamp.specs.declared.opening.Origin.TheVariants.{File, Input}
 
 -- so many bytes in whole MiB
 abbrev pub mebibytes : ℕ → List ℕ
@@ -29,3 +32,18 @@ IsTold OneLine name told = IsEnd (shown_name name) told
 -- the line of a file of whose name that is told, without its end
 abbrev pub progress_text : List ℕ → ℕ → Option ℕ → List ℕ
 progress_text name read size = codes "restamp: " ++ (name ++ (codes ": " ++ (amount_text read size ++ codes " MiB")))
+
+-- ---- What is read, whether it is a file or standard input
+
+-- a fact of a file, or else of standard input
+abbrev pub of_either : {F I A : Type 0} → (F → A) → (I → A) → Origin F I → A
+of_either of_file of_input (File file) = of_file file
+of_either of_file of_input (Input input) = of_input input
+
+-- how many calls of it gave an error
+abbrev pub faults_of : {F I : Type 0} → Origin (Counted F) (Counted I) → ℕ
+faults_of origin = of_either (λ file. file.faults) (λ input. input.faults) origin
+
+-- how many bytes it gave
+abbrev pub given_of : {F I : Type 0} → Origin (Counted F) (Counted I) → ℕ
+given_of origin = of_either (λ file. file.given) (λ input. input.given) origin

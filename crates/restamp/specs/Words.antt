@@ -3,7 +3,7 @@
 -- The words of the command line.
 use Rattle.std.specs.Prelude.{ℕ, List, [], ◌∷◌, ◌++◌, codes, true}
 use Rattle.std.specs.Fmt.{decimal}
-use Rattle.restamp_stream.specs.Names.{shown_as}
+use Rattle.restamp_stream.specs.Reports.{shown_as}
 
 -- the line that tells that the word of that number isn't UTF-8: the program's name is word 0
 abbrev pub unread_text : ℕ → List ℕ → List ℕ

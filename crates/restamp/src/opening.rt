@@ -1,7 +1,7 @@
 //! Files and standard input, by their names.
 ghost use Rattle.std.specs.Prelude.{◌≡◌, ◌≤◌};
 ghost use Rattle.programs_streams.specs.Faults.{IsCutOff, Rises};
-ghost use Rattle.restamp.specs.Origins.{faults_of, given_of};
+ghost use Rattle.restamp.specs.Progress.{faults_of, given_of};
 
 use crate::progress::{Meter, Progress};
 use programs_streams::{Counted, Opener, Source};
@@ -31,7 +31,7 @@ pub(crate) enum Origin<F: Drop, I: Drop> {
 }
 
 impl<F: Source + Drop, I: Source + Drop> Source for Origin<F, I> {
-    ghost use Rattle.restamp.specs.Origins.{of_either};
+    ghost use Rattle.restamp.specs.Progress.{of_either};
 
     ghost remaining = { of_either F.remaining I.remaining };
 

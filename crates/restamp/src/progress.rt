@@ -1,7 +1,7 @@
 //! How far a long file was read, on standard error.
 ghost use Rattle.std.specs.Prelude.{◌≡◌, ◌≤◌, ◌+◌, ◌-◌, ◌^◌, ◌↔◌, min, length, IsTrue, IfSome, Some, string_bytes};
 ghost use Rattle.std.specs.Time.{instant_nanos};
-ghost use Rattle.restamp_stream.specs.Names.{shown_name};
+ghost use Rattle.restamp_stream.specs.Reports.{shown_name};
 ghost use Rattle.restamp.specs.Progress as spec;
 
 use programs_streams::Counted;

@@ -1,15 +1,46 @@
 -- What is wrong with one of the formats is wrong with the options.
-use Rattle.std.proofs.Common.{◌≡◌, ℕ, zero, suc, ◌+◌, ◌<◌, List, [], ◌∷◌, ◌++◌, length, take, map, get_or, Bool, Option, inl, inr, sym, ap, subst, arith}
-use Rattle.std.proofs.lemmas.List.{map_more}
+use Rattle.std.specs.Int.{int_div_euclid}
+use Rattle.std.specs.Fmt.{decimal}
+use Rattle.std.specs.Io.KnownBytes.{Appends}
+use Rattle.std.proofs.Common.{◌≡◌, ℕ, ℤ, pos, neg_ℤ, negsuc, arith, Some, None, zero, suc, ◌+◌, ◌<◌, List, [], ◌∷◌, ◌++◌, length, take, map, get_or, Bool, Option, inl, inr, sym, ap, subst, ◌-◌, min, codes, true, drop, append_assoc, length-drop, ◌∙◌}
+use Rattle.std.proofs.lemmas.Int.{ints}
+use Rattle.std.proofs.lemmas.List.{map_more, take_all, take_min, drop_min}
+use Rattle.std.proofs.KnownBytes.{Appends-trans}
+use Rattle.time_values.specs.Calendar.{IsBetween, greatest_year}
+use Rattle.time_values.specs.Instants.{IsInstant, IsWhole, nanos_per_day, timestamp_refusal}
+use Rattle.time_values.specs.MovedClocks.{IsNear}
+use Rattle.time_values.specs.Refusal.{Refusal}
 use Rattle.time_values.specs.declared.utc_date_time.UtcDateTime.{UtcDateTime}
+use Rattle.time_values.proofs.InstantLemmas.{first_instant_is, is_instant-IsInstant, last_instant_is}
+use Rattle.restamp_stream.specs.Reports.{reason_text}
+use Rattle.restamp_verdict.specs.declared.reading.Reading.{Reading}
+use Rattle.restamp_options.specs.Options.{other_names}
+use Rattle.restamp_options.specs.declared.options.Options.{Options}
 use Rattle.restamp_command.specs.Fault as fault
 use Rattle.restamp_command.specs.Fault.{Fault}
 use Rattle.restamp_command.specs.Request.{AddsFormats, IsFault, IsFaultAt, IsFormat, IsFormatFault, IsOneOf, IsSuffixFault, gives_year, zone_of}
 use Rattle.restamp_command.specs.Zones.{IsZone}
 use Rattle.restamp_command.specs.declared.zone.Zone.{Zone}
-use Rattle.restamp_verdict.specs.declared.reading.Reading.{Reading}
-use Rattle.restamp_options.specs.Options.{other_names}
-use Rattle.restamp_options.specs.declared.options.Options.{Options}
+use Rattle.restamp_command.specs.Rewriting.{around, blanks, red, pointer, told_reason}
+
+-- ---- Instants near 1970, their days, and those that have no date
+
+pub near : (n : ℤ) → IsInstant greatest_year n → IsNear n
+near n h = omega (arith, ints, first_instant_is, last_instant_is)
+
+-- the quotient is rounded down
+whole : (n : ℤ) → IsWhole nanos_per_day n (int_div_euclid n (pos nanos_per_day))
+whole (pos a) = (omega (arith, ints), omega (arith, ints))
+whole (negsuc a) = (omega (arith, ints), omega (arith, ints))
+
+pub day_near : (n : ℤ) → IsBetween (neg_ℤ (pos 33_000_000_000_000_000_000_000)) (pos 33_000_000_000_000_000_000_000) n
+    → IsBetween (neg_ℤ (pos 500_000_000)) (pos 500_000_000) (int_div_euclid n (pos nanos_per_day))
+day_near n h = let day = whole n in omega (arith, ints)
+
+pub no_date : (Y : ℕ) (n : ℤ) (r : Refusal) → timestamp_refusal Y n ≡ Some r → ¬ IsInstant Y n
+no_date Y n r e inside =
+    let clash : None ≡ Some r = rw ((is_instant-IsInstant Y n).1 inside) at e in
+    absurd cc
 
 pub others_fault : (Y : ℕ) (o : Options) (has_year : Bool) (names : List (List ℕ)) (f : Fault) → has_year ≡ gives_year o
     → names ≡ other_names o → IsFormatFault has_year names f → IsFault Y o f
@@ -66,3 +97,51 @@ pub suffix_fault : (Y : ℕ) (o : Options) (zone : Zone) (f : Fault) → IsZone 
 suffix_fault Y o zone fault.memory is h = h
 suffix_fault Y o zone (fault.unnamed value) is h = (h.0, (h.1, (zone, is, h.2)))
 suffix_fault Y o zone f is h = absurd h
+
+-- ---- The part of a line that is shown, and what a log got of it in several writes
+
+-- a range from one place on, and then so many bytes of it, is that part of a line
+pub part_is : (line : List ℕ) (most left_out from n : ℕ) → from ≡ min left_out (length line)
+    → n ≡ min most (length (take (length line - from) (drop from line)))
+    → take n (take (length line - from) (drop from line)) ≡ take most (drop left_out line)
+part_is line most left_out from n begins ends =
+    let rest : take (length line - from) (drop from line) ≡ drop from line = take_all _ _ (omega (arith, length-drop from line)) in
+    ap (take n) rest ∙ ap (λ (k : ℕ). take k (drop from line)) (ends ∙ ap (λ (xs : List ℕ). min most (length xs)) rest)
+    ∙ take_min most (drop from line) ∙ ap (take most) (ap (λ (k : ℕ). drop k line) begins ∙ drop_min left_out line)
+
+pub Appends-pointer : (a b c d e f : Option (List ℕ)) (line : List ℕ) (column : ℕ)
+    → Appends a b (10 ∷ []) → Appends b c (around line column) → Appends c d (10 ∷ []) → Appends d e (blanks (column - 1))
+    → Appends e f (red (codes "^")) → Appends a f (pointer line column)
+Appends-pointer a b c d e f line column p q r s t =
+    let caret : List ℕ = red (codes "^") in
+    Appends-trans a b f (10 ∷ []) (around line column ++ (10 ∷ (blanks (column - 1) ++ caret))) p
+    (Appends-trans b c f (around line column) (10 ∷ (blanks (column - 1) ++ caret)) q
+    (Appends-trans c d f (10 ∷ []) (blanks (column - 1) ++ caret) r (Appends-trans d e f (blanks (column - 1)) caret s t)))
+
+told_joined : (number mark red_on reason expected red_off line : List ℕ)
+    → (number ++ ((mark ++ red_on) ++ reason)) ++ (expected ++ (red_off ++ line))
+    ≡ number ++ (mark ++ ((red_on ++ ((reason ++ expected) ++ red_off)) ++ line))
+told_joined number mark red_on reason expected red_off line = simp append_assoc
+
+-- a reason in red, with what was expected, and a line below it
+pub Appends-told : (a b c d e : Option (List ℕ)) (line reason expected : List ℕ) (column : ℕ)
+    → Appends a b (decimal column ++ ((codes ": " ++ (27 ∷ codes "[31m")) ++ reason)) → Appends b c expected
+    → Appends c d (27 ∷ codes "[0m") → Appends d e (pointer line column)
+    → Appends a e (reason_text column (told_reason true line column (reason ++ expected)))
+Appends-told a b c d e line reason expected column p q r s =
+    let red_off : List ℕ = 27 ∷ codes "[0m" in
+    subst (Appends a e)
+    (told_joined (decimal column) (codes ": ") (27 ∷ codes "[31m") reason expected red_off (pointer line column))
+    (Appends-trans a b e _ (expected ++ (red_off ++ pointer line column)) p
+    (Appends-trans b c e expected (red_off ++ pointer line column) q (Appends-trans c d e red_off (pointer line column) r s)))
+
+plain_joined : (number mark reason expected : List ℕ)
+    → (number ++ (mark ++ reason)) ++ expected ≡ number ++ (mark ++ (reason ++ expected))
+plain_joined number mark reason expected = simp append_assoc
+
+-- a reason with what was expected
+pub Appends-plain : (a b c : Option (List ℕ)) (reason expected : List ℕ) (column : ℕ)
+    → Appends a b (decimal column ++ (codes ": " ++ reason)) → Appends b c expected
+    → Appends a c (reason_text column (reason ++ expected))
+Appends-plain a b c reason expected column p q =
+    subst (Appends a c) (plain_joined (decimal column) (codes ": ") reason expected) (Appends-trans a b c _ expected p q)

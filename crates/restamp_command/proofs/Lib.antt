@@ -1,4 +1,1 @@
-mod BoundsLemmas
-mod FateLemmas
 mod FormatLemmas
-mod PointingLemmas

@@ -1,6 +1,6 @@
 -- What is wrong with an option, without where its value lies in memory, and how it is told.
 use Rattle.std.specs.Prelude.{ℕ, List, codes, Option, None, Some}
-use Rattle.time_zones.specs.Texts.{fault_text}
+use Rattle.time_zones.specs.Zones.{fault_text}
 use Rattle.time_zones.specs.declared.zone_fault.ZoneFault.{ZoneFault}
 use Rattle.restamp_verdict.specs.Lack.{lack_text}
 use Rattle.restamp_verdict.specs.Naming as naming

@@ -33,7 +33,7 @@ use Rattle.time_values.specs.Offsets.{IsUtc}
 use Rattle.time_values.specs.declared.offset_date_time.OffsetDateTime.{OffsetDateTime}
 use Rattle.time_values.specs.declared.utc_date_time.UtcDateTime.{UtcDateTime}
 use Rattle.time_values.specs.declared.utc_offset.UtcOffset.{UtcOffset}
-use Rattle.time_zones.specs.Folder.{zone_named, IsFolderFault}
+use Rattle.time_zones.specs.Finding.{zone_named, IsFolderFault}
 use Rattle.time_zones.specs.declared.finding.NamedZone.TheVariants as NamedZone
 use Rattle.restamp_command.specs.Fault as fault
 use Rattle.restamp_command.specs.Fault.{Fault, NoMoment, seen_none}

@@ -1,20 +1,59 @@
 -- What becomes of a line, as a job judges it. `Y` is the greatest year.
-use Rattle.std.specs.Prelude.{◌≡◌, ℕ, ◌+◌, ◌++◌, Bool, List, Option}
+use Rattle.std.specs.Prelude.{ℕ, ◌-◌, Bool, true, false, ◌&&◌, nat_le, min, List, ◌∷◌, ◌++◌, codes, map, take, drop, replicate, if◌then◌else◌, [], flat_map, Option, None, Some, ◌≡◌, ◌+◌}
+use Rattle.std.specs.Char.Escape.{escape_ascii}
 use Rattle.std.proofs.Common.{ap, subst, sym, ◌∙◌}
-use Rattle.time_values.specs.Range.{greatest_year}
+use Rattle.time_values.specs.Calendar.{greatest_year}
+use Rattle.time_locating.specs.Misses.{Wanted, these_bytes, named, the_end}
 use Rattle.restamp_stream.specs.declared.fate.Fate.{Fate}
 use Rattle.restamp_stream.specs.declared.fate.Fate.TheVariants.{Without, Rewritten, Dropped, Refused}
-use Rattle.restamp_verdict.proofs.OneVerdict.{one_verdict}
-use Rattle.restamp_verdict.proofs.OneLack.{one_lack}
-use Rattle.restamp_verdict.proofs.OneWrong.{one_wrong}
 use Rattle.restamp_verdict.specs.Job.{Verdict, without, rewritten, dropped, refused, IsJudged}
-use Rattle.restamp_verdict.specs.Missing.{IsLack, why_text}
+use Rattle.restamp_verdict.specs.Wrong.{IsLack, why_text, IsWrong, Wrong}
 use Rattle.restamp_verdict.specs.Reason.{Reason}
-use Rattle.restamp_verdict.specs.Wrong.{IsWrong, Wrong}
 use Rattle.restamp_verdict.specs.declared.job.Job.{Job}
 use Rattle.restamp_verdict.specs.declared.lack.Lack.{Lack}
-use Rattle.restamp_command.specs.Expected.{expected_text}
-use Rattle.restamp_command.specs.Pointing.{told_reason}
+use Rattle.restamp_verdict.proofs.OneVerdict.{one_verdict}
+use Rattle.restamp_verdict.proofs.OneWrong.{one_lack, one_wrong}
+
+-- ---- A refused line as a terminal shows it
+
+-- a byte, or a dot for one that doesn't print
+abbrev pub shown_byte : ℕ → ℕ
+shown_byte b = if nat_le 32 b && nat_le b 126 then b else 46
+
+-- so many blanks, at most 40
+abbrev pub blanks : ℕ → List ℕ
+blanks n = replicate (min n 40) 32
+
+-- a text in red
+abbrev pub red : List ℕ → List ℕ
+red text = (27 ∷ codes "[31m") ++ (text ++ (27 ∷ codes "[0m"))
+
+-- the bytes of a line around a column: at most 60, of which at most 40 stand before it
+abbrev pub around : List ℕ → ℕ → List ℕ
+around line column = map shown_byte (take 60 (drop (column - 41) line))
+
+-- these, and a caret under that column
+abbrev pub pointer : List ℕ → ℕ → List ℕ
+pointer line column = 10 ∷ (around line column ++ (10 ∷ (blanks (column - 1) ++ red (codes "^"))))
+
+-- how a reason is told: in red with the line below it, or plain
+abbrev pub told_reason : Bool → List ℕ → ℕ → List ℕ → List ℕ
+told_reason false line column reason = reason
+told_reason true line column reason = red reason ++ pointer line column
+
+-- ---- How it is told what was expected where a time goes wrong
+
+-- bytes between quotes, where a backslash and a letter or a number stand for one that doesn't print; the name of a
+-- component; or the end
+abbrev pub wanted_text : Wanted → List ℕ
+wanted_text (these_bytes bytes) = codes "'" ++ (flat_map escape_ascii bytes ++ codes "'")
+wanted_text (named name) = name
+wanted_text the_end = codes "the end"
+
+-- the same after a reason, or nothing
+abbrev pub expected_text : Option Wanted → List ℕ
+expected_text None = []
+expected_text (Some wanted) = codes ": expected " ++ wanted_text wanted
 
 -- the fate of a line with that verdict
 abbrev pub fate_of : Verdict → Fate

@@ -3,8 +3,7 @@ use Rattle.std.specs.Prelude.{◌≡◌, ◌≢◌, ◌↔◌, ℕ, List, codes,
 use Rattle.std.specs.Str.{bytes_eq}
 use Rattle.time_values.specs.Offsets.{IsUtc}
 use Rattle.time_values.specs.declared.utc_offset.UtcOffset.{UtcOffset}
-use Rattle.time_zones.specs.Finding.{IsZoneOf, name_of}
-use Rattle.time_zones.specs.Names.{IsZoneName}
+use Rattle.time_zones.specs.Finding.{IsZoneOf, name_of, IsZoneName}
 use Rattle.time_zones.specs.Suffix as Suffix
 use Rattle.time_zones.specs.declared.finding.NamedZone.{NamedZone}
 use Rattle.time_zones.specs.declared.finding.NamedZone.TheVariants.{Utc}

@@ -1,17 +1,15 @@
 //! The times between which lines are kept, and the words that name them by the clock.
 ghost use Rattle.std.specs.Prelude.{◌≡◌, pos, neg_ℤ, ◌+ℤ◌, ◌-ℤ◌, ◌*ℤ◌, FitsSigned};
 ghost use Rattle.std.specs.Int.{w128, int_div_euclid};
-ghost use Rattle.time_values.specs.Calendar.{IsBetween};
+ghost use Rattle.time_values.specs.Calendar.{IsBetween, greatest_year};
 ghost use Rattle.time_values.specs.Instants.{nanos_per_day};
 ghost use Rattle.time_values.specs.Moments.{utc_instant};
 ghost use Rattle.time_values.specs.MovedClocks.{IsNear};
 ghost use Rattle.time_values.specs.Offsets.{offset_seconds};
-ghost use Rattle.time_values.specs.Range.{greatest_year};
-ghost use Rattle.restamp_verdict.specs.Clock.{IsShown};
+ghost use Rattle.restamp_verdict.specs.Zoned.{IsShown};
 ghost use Rattle.restamp_verdict.specs.Reason.{seen};
 ghost use Rattle.restamp_verdict.specs.declared.clock.Clock.TheVariants as on;
-ghost use Rattle.restamp_command.specs.Bounds as words;
-ghost use Rattle.restamp_command.specs.Values as spec;
+ghost use Rattle.restamp_command.specs.Values as words;
 
 use crate::fault::NoMoment;
 use restamp_verdict::{Clocks, Defaults, Reading, Reason, read, read_in_turn};
@@ -169,7 +167,7 @@ fn nanos_of(word: Word, now: i128, offset: UtcOffset) -> i128
 
 // The moment of that many nanoseconds since 1970, in UTC.
 fn moment_at(nanos: i128) -> Result<OffsetDateTime, NoMoment>
-    ensures { words.IsMomentAt greatest_year nanos (spec.seen_moment result) }
+    ensures { words.IsMomentAt greatest_year nanos (words.seen_moment result) }
 {
     match OffsetDateTime::from_unix_timestamp_nanos(nanos) {
         Ok(moment) => Ok(moment),
@@ -179,7 +177,7 @@ fn moment_at(nanos: i128) -> Result<OffsetDateTime, NoMoment>
 
 // The first moment at which the clocks show what a moment's own clock shows.
 fn first_like(moment: OffsetDateTime, clocks: &Clocks<'_>) -> Result<OffsetDateTime, NoMoment>
-    ensures { words.IsFirstLike clocks.now moment (spec.seen_moment result) }
+    ensures { words.IsFirstLike clocks.now moment (words.seen_moment result) }
 {
     match assume_zone(
         PlainDateTime::new(moment.date(), moment.time()),
@@ -209,7 +207,7 @@ fn midnight_at(now: UtcDateTime, offset: UtcOffset, back: u8) -> i128
 
 // The beginning of the day so many before that which the clocks show.
 fn begin_in(clocks: &Clocks<'_>, now: UtcDateTime, back: u8) -> Result<OffsetDateTime, NoMoment>
-    ensures { words.IsBegunIn greatest_year clocks.now now back (spec.seen_moment result) }
+    ensures { words.IsBegunIn greatest_year clocks.now now back (words.seen_moment result) }
 {
     let Some(shown) = shown_in(OffsetDateTime::from(now), clocks) else {
         return Err(NoMoment::Unread(Reason::Untold));
@@ -236,7 +234,7 @@ fn named_at(
     now: UtcDateTime,
     offset: Option<UtcOffset>,
 ) -> Result<OffsetDateTime, NoMoment>
-    ensures { words.IsNamedAt greatest_year now offset word (spec.seen_moment result) }
+    ensures { words.IsNamedAt greatest_year now offset word (words.seen_moment result) }
 {
     moment_at(nanos_of(word, since_1970(now), day_offset(offset)))
 }
@@ -247,7 +245,7 @@ fn moment_from(
     now: UtcDateTime,
     defaults: &Defaults<'_>,
 ) -> Result<OffsetDateTime, NoMoment>
-    ensures { words.IsMomentFrom greatest_year now defaults.now word (spec.seen_moment result) }
+    ensures { words.IsMomentFrom greatest_year now defaults.now word (words.seen_moment result) }
 {
     match word {
         Word::Later(..) => named_at(word, now, defaults.offset),
@@ -264,7 +262,7 @@ fn moment_of(
     now: Option<UtcDateTime>,
     defaults: &Defaults<'_>,
 ) -> Result<OffsetDateTime, NoMoment>
-    ensures { words.IsMomentOf greatest_year now defaults.now word (spec.seen_moment result) }
+    ensures { words.IsMomentOf greatest_year now defaults.now word (words.seen_moment result) }
 {
     match now {
         Some(now) => moment_from(word, now, defaults),
@@ -279,7 +277,7 @@ fn find_named(
     defaults: &Defaults<'_>,
     reason: Reason,
 ) -> Result<OffsetDateTime, NoMoment>
-    ensures { spec.IsNamedMoment greatest_year now defaults.now text.now (seen reason) (spec.seen_moment result) }
+    ensures { words.IsNamedMoment greatest_year now defaults.now text.now (seen reason) (words.seen_moment result) }
 {
     match find_word(text) {
         Some(word) => moment_of(word, now, defaults),
@@ -296,7 +294,7 @@ pub fn find_moment(
     text: &str,
     defaults: &Defaults<'_>,
 ) -> Result<OffsetDateTime, NoMoment>
-    ensures { spec.IsMomentText greatest_year now first.now others.now text.now defaults.now (spec.seen_moment result) }
+    ensures { words.IsMomentText greatest_year now first.now others.now text.now defaults.now (words.seen_moment result) }
 {
     let reason = match read(&Reading::Rfc3339, false, text.as_bytes(), defaults) {
         Ok(said) => return Ok(said.moment),

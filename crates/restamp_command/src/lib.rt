@@ -2,7 +2,6 @@
 #![tactic(auto)]
 
 mod bounds;
-mod expected;
 mod fault;
 mod formats;
 mod pointing;

@@ -1,6 +1,6 @@
 //! What the options ask for.
 ghost use Rattle.std.specs.Prelude.{◌≡◌, MatchResult, Some};
-ghost use Rattle.time_values.specs.Range.{greatest_year};
+ghost use Rattle.time_values.specs.Calendar.{greatest_year};
 ghost use Rattle.restamp_options.specs.Options.{text_behind};
 ghost use Rattle.restamp_command.specs.Fault.{told};
 ghost use Rattle.restamp_command.specs.Request as spec;

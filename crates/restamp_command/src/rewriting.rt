@@ -1,15 +1,12 @@
 //! The answer to files.
 ghost use Rattle.std.specs.Option.{option_map};
 ghost use Rattle.std.specs.Prelude.{◌≡◌, ◌≢◌, IfErr, IfSome, OnOk, map};
-ghost use Rattle.time_values.specs.Range.{greatest_year};
+ghost use Rattle.time_values.specs.Calendar.{greatest_year};
 ghost use Rattle.programs_streams.specs.Faults.{HasCause};
-ghost use Rattle.restamp_in_place.specs.Lines.{Makes};
-ghost use Rattle.restamp_in_place.specs.Replacing.{Replaces};
-ghost use Rattle.restamp_stream.specs.Answers.{job_of};
+ghost use Rattle.restamp_in_place.specs.Replacing.{Makes, Replaces};
+ghost use Rattle.restamp_stream.specs.Streams.{job_of, DidFiles, StoppedIn, state_of};
 ghost use Rattle.restamp_stream.specs.Causes.{faults_of, HasWriteCause};
-ghost use Rattle.restamp_stream.specs.Fates.{WritesReason};
-ghost use Rattle.restamp_stream.specs.Files.{DidFiles, StoppedIn};
-ghost use Rattle.restamp_stream.specs.Streams.{state_of};
+ghost use Rattle.restamp_stream.specs.Reports.{WritesReason};
 ghost use Rattle.restamp_stream.specs.declared.settings.Settings.{Settings as Settings_};
 ghost use Rattle.restamp_verdict.specs.Reason.{seen};
 ghost use Rattle.restamp_verdict.specs.declared.job.Job.{Job as Job_};
@@ -17,8 +14,7 @@ ghost use Rattle.restamp_command.specs.Request.{AreSettingsOf, IsJobOf};
 ghost use Rattle.restamp_command.specs.Rewriting.{IsFate, IsReason, TellsWrong};
 ghost use Rattle.restamp_command.specs.Zones.{zone_name};
 
-use crate::expected::write_expected;
-use crate::pointing::write_pointer;
+use crate::pointing::{write_expected, write_pointer};
 use crate::request::Request;
 use programs_streams::{Sink, Unwritten};
 use restamp_in_place::{Folder, Made, Target, Unreplaced, replace_file};
@@ -39,7 +35,7 @@ pub struct Restamping<'a> {
 }
 
 impl Rewriting for Restamping<'_> {
-    ghost use Rattle.time_values.specs.Range.{greatest_year};
+    ghost use Rattle.time_values.specs.Calendar.{greatest_year};
     ghost use Rattle.restamp_command.specs.Rewriting as spec;
 
     ghost is_fate = { λ restamping front fate. spec.IsFate greatest_year restamping.job front fate };

@@ -1,7 +1,7 @@
 //! Whether what is given for a part of a time can be of use.
 ghost use Rattle.std.specs.Prelude.{◌≡◌, MatchOption, true};
 ghost use Rattle.std.specs.List.{list_any};
-ghost use Rattle.time_values.specs.Range.{greatest_year};
+ghost use Rattle.time_values.specs.Calendar.{greatest_year};
 ghost use Rattle.restamp_verdict.specs.Lack.{takes};
 ghost use Rattle.restamp_verdict.specs.declared.lack.Part.TheVariants as part;
 ghost use Rattle.restamp_command.specs.Fault.{told};

@@ -1,8 +1,7 @@
 //! What the values of options mean.
 ghost use Rattle.std.specs.Prelude.{◌≡◌, map};
-ghost use Rattle.time_values.specs.Range.{greatest_year};
-ghost use Rattle.time_components.specs.Shape.{borrowed_shape};
-ghost use Rattle.time_components.specs.Tree.{sequence, trees};
+ghost use Rattle.time_values.specs.Calendar.{greatest_year};
+ghost use Rattle.time_components.specs.Tree.{borrowed_shape, sequence, trees};
 ghost use Rattle.restamp_command.specs.Values as spec;
 
 use restamp_verdict::Fold;

@@ -1,7 +1,7 @@
 //! The zones that options name.
 ghost use Rattle.std.specs.Prelude.{◌≡◌, MatchResult, option_map};
-ghost use Rattle.time_values.specs.Range.{greatest_year};
-ghost use Rattle.time_zones.specs.SuffixValues.{zone_of};
+ghost use Rattle.time_values.specs.Calendar.{greatest_year};
+ghost use Rattle.time_zones.specs.Suffix.{zone_of};
 ghost use Rattle.restamp_command.specs.Zones as spec;
 
 use crate::values::find_offset;

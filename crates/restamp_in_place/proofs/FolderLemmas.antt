@@ -4,8 +4,8 @@ use Rattle.std.specs.Bool.{Decides}
 use Rattle.std.specs.Str.{bytes_eq}
 use Rattle.std.specs.Prelude.{nat_eq}
 use Rattle.std.proofs.lemmas.Slice.Eq.{bytes_eq-Decides}
-use Rattle.restamp_in_place.specs.Folder.{Event, leads, stored, MayLead}
-use Rattle.restamp_in_place.specs.Folder.Event.{Leads, Stored, Synced}
+use Rattle.restamp_in_place.specs.Replacing.{Event, leads, stored, MayLead}
+use Rattle.restamp_in_place.specs.Replacing.Event.{Leads, Stored, Synced}
 
 not_true : (b : Bool) (P : Type 0) → Decides b P → ¬ P → b ≡ false
 not_true true P d never = absurd (never (d.0 refl))

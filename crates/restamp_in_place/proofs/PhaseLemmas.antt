@@ -4,9 +4,8 @@ use Rattle.std.specs.Bool.{Decides}
 use Rattle.std.specs.Str.{bytes_eq}
 use Rattle.std.specs.Prelude.{IfSome}
 use Rattle.std.proofs.lemmas.Slice.Eq.{bytes_eq-Decides}
-use Rattle.restamp_in_place.specs.Folder.{Event, leads, stored, MayLead}
-use Rattle.restamp_in_place.specs.Folder.Event.{Leads, Stored, Synced}
-use Rattle.restamp_in_place.specs.Replacing.{IsBackedUp, IsNew, HasSameBytes}
+use Rattle.restamp_in_place.specs.Replacing.{Event, leads, stored, MayLead, IsBackedUp, IsNew, HasSameBytes}
+use Rattle.restamp_in_place.specs.Replacing.Event.{Leads, Stored, Synced}
 use Rattle.restamp_in_place.specs.Phases.{Aim, Safe, Reached, Same, Kept, Ready, Linked, HasBackup, Backed, Loose, LooseBacked, Put, Done}
 use Rattle.restamp_in_place.proofs.FolderLemmas.{leads-at, leads-past, may_now, stored-at, stored-past, names_differ}
 

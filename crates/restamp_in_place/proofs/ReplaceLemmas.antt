@@ -3,11 +3,10 @@ use Rattle.std.proofs.Common.{◌≡◌, ◌⊎◌, inl, ⊎_elim, ℕ, List, []
 use Rattle.std.specs.Prelude.{IfOk, IfSome, MatchResult}
 use Rattle.std.specs.Option.{option_and_then}
 use Rattle.std.specs.Io.KnownBytes.{Appends}
-use Rattle.restamp_in_place.specs.declared.making.Made.{Made}
-use Rattle.restamp_in_place.specs.declared.making.Made.TheVariants.{Changed}
-use Rattle.restamp_in_place.specs.Folder.{Event, leads, stored, bytes_at, Does, Creates, Removes}
-use Rattle.restamp_in_place.specs.Folder.Event.{Leads}
-use Rattle.restamp_in_place.specs.Replacing.{bytes_made, HasSameBytes, IsEnded, IsUntouched, Replaces}
+use Rattle.restamp_in_place.specs.declared.lines.Made.{Made}
+use Rattle.restamp_in_place.specs.declared.lines.Made.TheVariants.{Changed}
+use Rattle.restamp_in_place.specs.Replacing.{Event, leads, stored, bytes_at, Does, Creates, Removes, bytes_made, HasSameBytes, IsEnded, IsUntouched, Replaces}
+use Rattle.restamp_in_place.specs.Replacing.Event.{Leads}
 use Rattle.restamp_in_place.specs.Phases.{Aim, IsWritten, Reached, Kept, Loose, IsMade, IsEndOf, Runs}
 use Rattle.restamp_in_place.proofs.FolderLemmas.{leads-at, leads-past}
 use Rattle.restamp_in_place.proofs.PhaseLemmas.{made, same-loose, removed}

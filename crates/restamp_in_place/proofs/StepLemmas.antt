@@ -1,8 +1,8 @@
 -- What each call does to the replacement of a file.
 use Rattle.std.proofs.Common.{◌≡◌, ◌⊎◌, ⊎_elim, ℕ, List, [], ◌∷◌, ◌++◌, refl, sym, ◌∙◌, ap, subst, Option, None, Some, Bool, true, false, Result, Ok, Err}
 use Rattle.std.specs.Prelude.{IfSome}
-use Rattle.restamp_in_place.specs.Folder.{Event, leads, Does, Stores, Links, Renames, Removes, Syncs}
-use Rattle.restamp_in_place.specs.Folder.Event.{Leads, Stored}
+use Rattle.restamp_in_place.specs.Replacing.{Event, leads, Does, Stores, Links, Renames, Removes, Syncs}
+use Rattle.restamp_in_place.specs.Replacing.Event.{Leads, Stored}
 use Rattle.restamp_in_place.specs.Phases.{Aim, IsWritten, Reached, Kept, Ready, Linked, Backed, Loose, LooseBacked, Put, Done, Runs, Goes}
 use Rattle.restamp_in_place.proofs.PhaseLemmas.{ready, linked, backed, put, loose-renamed, loose-linked, same-loose, done-synced, removed}
 

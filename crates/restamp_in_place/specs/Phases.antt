@@ -3,12 +3,11 @@
 -- How far the replacement of a file has come.
 use Rattle.std.specs.Prelude.{◌≡◌, ◌++◌, ℕ, List, ◌∷◌, Option, Some, None, IfSome, MatchResult, Result}
 use Rattle.std.specs.Option.{option_map}
-use Rattle.restamp_in_place.specs.declared.making.Made.{Made}
-use Rattle.restamp_in_place.specs.declared.making.Made.TheVariants.{Changed}
+use Rattle.restamp_in_place.specs.declared.lines.Made.{Made}
+use Rattle.restamp_in_place.specs.declared.lines.Made.TheVariants.{Changed}
 use Rattle.restamp_in_place.specs.declared.replacing.Plan.{Plan}
-use Rattle.restamp_in_place.specs.Folder.{Event, leads, stored, IsFresh, MayLead}
-use Rattle.restamp_in_place.specs.Folder.Event.{Leads}
-use Rattle.restamp_in_place.specs.Replacing.{IsSafe, IsBackedUp, IsReplaced, IsUntouched, Throughout}
+use Rattle.restamp_in_place.specs.Replacing.{Event, leads, stored, IsFresh, MayLead, IsSafe, IsBackedUp, IsReplaced, IsUntouched, Throughout}
+use Rattle.restamp_in_place.specs.Replacing.Event.{Leads}
 
 -- What is to be done: what was done in the folder before, the name of the file, the new one's and the backup's, the
 -- numbers of both files, and the new bytes.

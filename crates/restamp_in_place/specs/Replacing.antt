@@ -1,8 +1,95 @@
 -- What a crash leaves of a file that is replaced.
-use Rattle.std.specs.Prelude.{◌≡◌, ◌⊎◌, ◌++◌, ℕ, List, [], ◌∷◌, Option, Some, None, IfOk, IfSome, Result}
-use Rattle.restamp_in_place.specs.declared.making.Made.{Made}
-use Rattle.restamp_in_place.specs.declared.making.Made.TheVariants.{Changed, Same}
-use Rattle.restamp_in_place.specs.Folder.{Event, leads, stored, bytes_at, MayLead}
+use Rattle.std.specs.Prelude.{◌≡◌, ◌≢◌, ◌⊎◌, ◌++◌, ℕ, List, [], ◌∷◌, Option, Some, None, IfSome, IsErr, Result, if◌then◌else◌, nat_eq, IfOk, Bool, true, false, ◌==◌}
+use Rattle.std.specs.Option.{option_and_then}
+use Rattle.std.specs.Str.{bytes_eq}
+use Rattle.restamp_stream.specs.declared.tally.Tally.{Tally}
+use Rattle.restamp_stream.specs.Reports.{nothing_counted}
+use Rattle.restamp_stream.specs.Streams.{Job, state, DidAll}
+use Rattle.restamp_in_place.specs.declared.lines.Made.{Made}
+use Rattle.restamp_in_place.specs.declared.lines.Made.TheVariants.{Changed, Same}
+
+-- ---- What was done in a folder, and what a crash leaves of it
+
+-- a thing that was done
+pub data Event : Type 0 where
+  -- a name leads to the file of that number, or to none
+  Leads : (name : List ℕ) (file : Option ℕ) → Event
+  -- the file of that number has those bytes, on the disk
+  Stored : (file : ℕ) (bytes : List ℕ) → Event
+  -- where the names lead is on the disk
+  Synced : Event
+
+-- the file to which a name leads, after what was done, the last of it first
+abbrev pub leads : List Event → List ℕ → Option ℕ
+leads [] name = None
+leads (Leads other file ∷ done) name = if bytes_eq other name then file else leads done name
+leads (Stored file bytes ∷ done) name = leads done name
+leads (Synced ∷ done) name = leads done name
+
+-- the bytes of a file that are on the disk; where there are none, a crash may leave any
+abbrev pub stored : List Event → ℕ → Option (List ℕ)
+stored [] file = None
+stored (Leads name other ∷ done) file = stored done file
+stored (Stored other bytes ∷ done) file = if nat_eq other file then Some bytes else stored done file
+stored (Synced ∷ done) file = stored done file
+
+-- A crash may leave the name leading there: as it does now, or as it did at a moment since the names were on the disk.
+abbrev pub MayLead : List Event → List ℕ → Option ℕ → Type 0
+MayLead [] name file = file ≡ None
+MayLead (Leads other led ∷ done) name file = ((other ≡ name) × (file ≡ led)) ⊎ MayLead done name file
+MayLead (Stored other bytes ∷ done) name file = MayLead done name file
+MayLead (Synced ∷ done) name file = file ≡ leads done name
+
+-- the bytes of the file to which a name leads, where they are on the disk
+abbrev pub bytes_at : List Event → List ℕ → Option (List ℕ)
+bytes_at done name = option_and_then (stored done) (leads done name)
+
+-- no name leads or may lead to a file of that number, and it has no bytes
+pub record IsFresh (done : List Event) (number : ℕ) : Type 0 where
+  pub led : (name : List ℕ) (file : Option ℕ) → MayLead done name file → file ≢ Some number
+  pub empty : stored done number ≡ None
+
+-- Where it is known what was done before, it is known what was done after: that, and then more of which the fact holds.
+abbrev pub Does : Option (List Event) → Option (List Event) → (List Event → List Event → Type 0) → Type 0
+Does before after fact =
+    IfSome before (λ done. (more : List Event) × (after ≡ Some (more ++ done)) × fact done more)
+
+-- The same of a call: where it fails, it was done or nothing was.
+abbrev pub Tries : {T E : Type 0} → Option (List Event) → Option (List Event) → Result T E
+    → (List Event → List Event → Type 0) → Type 0
+Tries before after result fact =
+    Does before after (λ done more. fact done more ⊎ (IsErr result × (more ≡ [])))
+
+-- A new file was made under a name that led to none.
+abbrev pub Creates : List ℕ → List Event → List Event → Type 0
+Creates name done more =
+    (number : ℕ) × IsFresh done number × (leads done name ≡ None) × (more ≡ Leads name (Some number) ∷ [])
+
+-- The bytes of the file to which the name leads are on the disk, and they are those where these are known.
+abbrev pub Stores : List ℕ → Option (List ℕ) → List Event → List Event → Type 0
+Stores name known done more =
+    (number : ℕ) × (bytes : List ℕ) × (leads done name ≡ Some number) × IfSome known (λ written. bytes ≡ written)
+    × (more ≡ Stored number bytes ∷ [])
+
+-- A second name, which led to none, leads to the file of the first.
+abbrev pub Links : List ℕ → List ℕ → List Event → List Event → Type 0
+Links name second done more =
+    (number : ℕ) × (leads done name ≡ Some number) × (leads done second ≡ None)
+    × (more ≡ Leads second (Some number) ∷ [])
+
+-- A name leads to the file of another, and that one to none.
+abbrev pub Renames : List ℕ → List ℕ → List Event → List Event → Type 0
+Renames name onto done more =
+    (number : ℕ) × (leads done name ≡ Some number)
+    × (more ≡ Leads name None ∷ Leads onto (Some number) ∷ [])
+
+-- A name leads to none.
+abbrev pub Removes : List ℕ → List Event → List Event → Type 0
+Removes name done more = more ≡ Leads name None ∷ []
+
+-- Where the names lead is on the disk.
+abbrev pub Syncs : List Event → List Event → Type 0
+Syncs done more = more ≡ Synced ∷ []
 
 -- the new bytes that were made where that text was written: none of a file that stays the same
 abbrev pub bytes_made : Made → List ℕ → Option (List ℕ)
@@ -73,3 +160,49 @@ IsOldOrNew name new old after =
     (file : Option ℕ) → MayLead after name file
     → (number : ℕ) × (bytes : List ℕ) × (file ≡ Some number) × (stored after number ≡ Some bytes)
     × ((bytes ≡ old) ⊎ (new ≡ Some bytes))
+
+-- ---- The name of a backup
+
+-- a `*` stands in a text
+abbrev pub has_star : List ℕ → Bool
+has_star [] = false
+has_star (b ∷ text) = if b == 42 then true else has_star text
+
+-- a text with the name for each `*` in it
+abbrev pub with_name : List ℕ → List ℕ → List ℕ
+with_name name [] = []
+with_name name (b ∷ text) = (if b == 42 then name else b ∷ []) ++ with_name name text
+
+-- a name and a suffix behind it, or where a `*` stands in the suffix the name in it
+abbrev pub backup_of : List ℕ → List ℕ → List ℕ
+backup_of name suffix = if has_star suffix then with_name name suffix else name ++ suffix
+
+-- ---- What a file's lines make of it
+
+-- A file of those counts is to be replaced where a time of it was rewritten.
+abbrev pub made_of : Tally → Made
+made_of tally = if tally.rewritten == 0 then Same else Changed
+
+-- All lines of the old bytes were answered, and become a text. It is made of them where a time was rewritten, and else
+-- nothing is. The log goes from the one to the other, and the tally has the lines.
+abbrev pub Makes : Job → Option (List ℕ) → Option (List ℕ) → Tally → List ℕ → Option (List ℕ) → Type 0
+Makes job log log' tally old made =
+    (text : List ℕ) × DidAll job (state (Some []) log nothing_counted) (state (Some text) log' tally) old
+    × (made ≡ bytes_made (made_of tally) text)
+
+-- ---- Laws of what a crash leaves of a file
+
+-- A crash may leave a name as it is.
+abbrev pub NowMayBe : Type 0
+NowMayBe = (done : List Event) (name : List ℕ) → MayLead done name (leads done name)
+
+-- a crash leaves the name leading to that file, which has those bytes on the disk
+pub record IsOnDisk (done : List Event) (name : List ℕ) (number : ℕ) (bytes : List ℕ) : Type 0 where
+  pub led : (file : Option ℕ) → MayLead done name file → file ≡ Some number
+  pub whole : stored done number ≡ Some bytes
+
+-- Where the old file was on the disk, to be safe is to lead to a file with the old bytes or exactly the new ones.
+abbrev pub SafeIsOldOrNew : Type 0
+SafeIsOldOrNew =
+    (before after : List Event) (name old : List ℕ) (number : ℕ) (backup new : Option (List ℕ))
+    → IsOnDisk before name number old → IsSafe before name backup new after → IsOldOrNew name new old after

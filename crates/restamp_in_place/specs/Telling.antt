@@ -1,9 +1,24 @@
 -- What is told of a file that wasn't replaced.
-use Rattle.std.specs.Prelude.{◌≡◌, ◌++◌, ℕ, List, codes}
-use Rattle.restamp_in_place.specs.declared.step.Unreplaced.{Unreplaced}
-use Rattle.restamp_in_place.specs.declared.step.Unreplaced.TheVariants.{Stopped, Changed, Failed}
-use Rattle.restamp_in_place.specs.Steps.{step_text}
-use Rattle.restamp_stream.specs.declared.stop.Stop.{Stop}
+use Rattle.std.specs.Prelude.{ℕ, List, codes, ◌≡◌, ◌++◌}
+use Rattle.restamp_stream.specs.declared.ending.Stop.{Stop}
+use Rattle.restamp_in_place.specs.declared.telling.Step.{Step}
+use Rattle.restamp_in_place.specs.declared.telling.Step.TheVariants.{Open, Create, Write, Store, Look, BackUp, Rename, Remove, Sync}
+use Rattle.restamp_in_place.specs.declared.telling.Unreplaced.{Unreplaced}
+use Rattle.restamp_in_place.specs.declared.telling.Unreplaced.TheVariants.{Stopped, Changed, Failed}
+
+-- ---- What is printed of a step
+
+-- what was not done
+abbrev pub step_text : Step → List ℕ
+step_text Open = codes "it was not opened"
+step_text Create = codes "no new file was made beside it"
+step_text Write = codes "the new file was not written"
+step_text Store = codes "the new file was not written"
+step_text Look = codes "it was not looked at again"
+step_text BackUp = codes "it was not backed up"
+step_text Rename = codes "the new file did not take its place"
+step_text Remove = codes "the new file was not removed"
+step_text Sync = codes "the new file took its place, but its folder was not put on the disk"
 
 -- The text is that of the reason. After the step that failed it has any text of the error.
 abbrev pub IsWhy : Unreplaced Stop → List ℕ → Type 0

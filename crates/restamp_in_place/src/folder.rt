@@ -2,7 +2,7 @@
 ghost use Rattle.std.specs.Prelude.{◌≡◌, ℕ, List, [], Option, Some, IfErr, IfOk, IfSome, true};
 ghost use Rattle.std.specs.IoError.{error_kind};
 ghost use Rattle.std.specs.declared.io.Error.{Error};
-ghost use Rattle.restamp_in_place.specs.Folder.{Event, leads, stored, Tries, Creates, Stores, Links, Renames, Removes, Syncs};
+ghost use Rattle.restamp_in_place.specs.Replacing.{Event, leads, stored, Tries, Creates, Stores, Links, Renames, Removes, Syncs};
 
 use programs_streams::{Counted, Sink, Source};
 use std::io;

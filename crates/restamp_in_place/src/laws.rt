@@ -1,5 +1,5 @@
 //! Laws of a folder: a function does nothing, and its contract is the law.
-ghost use Rattle.restamp_in_place.specs.Laws.{NowMayBe, SafeIsOldOrNew};
+ghost use Rattle.restamp_in_place.specs.Replacing.{NowMayBe, SafeIsOldOrNew};
 
 /// What a name leads to is among what a crash may leave: to be safe at a crash is to be safe at a mere stop, too.
 pub fn law_now()

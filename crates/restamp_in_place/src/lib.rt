@@ -4,18 +4,15 @@
 mod folder;
 mod laws;
 mod lines;
-mod making;
 mod names;
 mod replacing;
-mod step;
 mod target;
 mod telling;
 
 pub use folder::{Failing, Folder, Original};
 pub use laws::{law_now, law_old_or_new};
-pub use making::{Made, Making};
+pub use lines::{Made, Making};
 pub use names::backup_name;
 pub use replacing::replace;
-pub use step::{Step, Unreplaced};
 pub use target::{Target, replace_file};
-pub use telling::write_unreplaced;
+pub use telling::{Step, Unreplaced, write_unreplaced};

@@ -1,12 +1,38 @@
-//! The lines of a file, which make its new bytes.
-ghost use Rattle.std.specs.Prelude.{◌≡◌, IfSome, OnOk};
-ghost use Rattle.restamp_in_place.specs.Lines.{made_of};
-ghost use Rattle.restamp_stream.specs.Answers.{job_of, state, DidAll};
-ghost use Rattle.restamp_stream.specs.Fates.{nothing_counted};
+//! The lines of a file, and what makes its new bytes from the old.
+ghost use Rattle.std.specs.Io.KnownBytes.{Appends};
+ghost use Rattle.std.specs.Prelude.{List, ℕ, IfOk, IfSome, Option, ◌≡◌, OnOk};
+ghost use Rattle.restamp_in_place.specs.Replacing.{made_of};
+ghost use Rattle.restamp_stream.specs.Streams.{job_of, state, DidAll};
+ghost use Rattle.restamp_stream.specs.Reports.{nothing_counted};
 
-use crate::making::{Made, Making};
 use programs_streams::{Sink, Source};
 use restamp_stream::{Block, Rewriting, Settings, Stop, Stream, Tally};
+
+/// Whether a file is to be replaced.
+#[derive(Clone, Copy, Debug, PartialEq, Eq)]
+pub enum Made {
+    /// It is.
+    Changed,
+    /// It stays as it is, whatever was written.
+    Same,
+}
+
+/// What makes the new bytes of a file from the old, or finds that the file stays as it is.
+pub trait Making: Drop {
+    ghost use Rattle.restamp_in_place.specs.Replacing.{bytes_made};
+
+    /// Why nothing was made.
+    type Stop: Drop;
+
+    // From the one to the other it made the new bytes from the old, or none.
+    ghost makes: { Self → Self → List ℕ → Option (List ℕ) → Type 0 };
+
+    /// Reads the old bytes to their end, and writes the new ones, or something where there are none. The writer is given
+    /// back.
+    fn make<R: Source, W: Sink>(self, input: &mut R, out: W) -> (Self, W, Result<Made, Self::Stop>)
+        ensures { IfOk result.2 (λ made. IfSome (R.remaining input.old) (λ old.
+            (text : List ℕ) × Appends (W.contents out) (W.contents result.1) text × makes self result.0 old (bytes_made made text))) };
+}
 
 /// The lines of a file, which make its new bytes by what becomes of them.
 #[derive(Drop)]
@@ -65,8 +91,8 @@ impl<T: Rewriting, L: Sink + Drop> Lines<'_, T, L> {
 }
 
 impl<T: Rewriting, L: Sink + Drop> Making for Lines<'_, T, L> {
-    ghost use Rattle.restamp_in_place.specs.Lines.{Makes};
-    ghost use Rattle.restamp_stream.specs.Answers.{job_of};
+    ghost use Rattle.restamp_in_place.specs.Replacing.{Makes};
+    ghost use Rattle.restamp_stream.specs.Streams.{job_of};
 
     type Stop = Stop;
 

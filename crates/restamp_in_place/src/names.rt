@@ -1,6 +1,6 @@
 //! The name of a backup.
 ghost use Rattle.std.specs.Prelude.{◌≡◌, IfOk, string_bytes};
-ghost use Rattle.restamp_in_place.specs.Names as spec;
+ghost use Rattle.restamp_in_place.specs.Replacing as spec;
 
 use std::alloc::Global;
 use std::io;

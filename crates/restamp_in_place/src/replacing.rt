@@ -1,13 +1,12 @@
 //! Replaces a file by what a maker makes of it.
 ghost use Rattle.std.specs.Option.{option_map};
 ghost use Rattle.std.specs.Prelude.{◌≡◌, ◌⊎◌, ◌∷◌, ℕ, List, [], Some, Ok, IfOk, IfSome, OnErr, MatchResult, string_bytes};
-ghost use Rattle.restamp_in_place.specs.Folder.{Event, Does, Creates};
-ghost use Rattle.restamp_in_place.specs.Replacing.{Replaces};
+ghost use Rattle.restamp_in_place.specs.Replacing.{Event, Does, Creates, Replaces};
 ghost use Rattle.restamp_in_place.specs.Phases.{Aim, IsPlanOf, IsWritten, Kept, Ready, Linked, Backed, Loose, LooseBacked, Put, Done, Reached, IsMade, IsEndOf, Runs, Goes};
 
 use crate::folder::{Failing, Folder, Original};
-use crate::making::{Made, Making};
-use crate::step::{Step, Unreplaced};
+use crate::lines::{Made, Making};
+use crate::telling::{Step, Unreplaced};
 use std::alloc::Global;
 use std::io;
 use std::io::ErrorKind;

@@ -1,15 +1,13 @@
 //! Replaces a file by what its lines become.
 ghost use Rattle.std.specs.Option.{option_map};
 ghost use Rattle.std.specs.Prelude.{IfSome};
-ghost use Rattle.restamp_in_place.specs.Lines.{Makes};
-ghost use Rattle.restamp_in_place.specs.Replacing.{Replaces};
-ghost use Rattle.restamp_stream.specs.Answers.{job_of};
+ghost use Rattle.restamp_in_place.specs.Replacing.{Makes, Replaces};
+ghost use Rattle.restamp_stream.specs.Streams.{job_of};
 
 use crate::folder::Folder;
-use crate::lines::Lines;
-use crate::making::Made;
+use crate::lines::{Lines, Made};
 use crate::replacing::replace;
-use crate::step::Unreplaced;
+use crate::telling::Unreplaced;
 use programs_streams::Sink;
 use restamp_stream::{Block, Rewriting, Settings, Stop, Tally};
 use std::alloc::Global;

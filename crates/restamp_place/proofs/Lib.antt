@@ -1,4 +1,2 @@
 pub mod TextLemmas
-pub mod QuoteLemmas
-pub mod FieldLemmas
 pub mod WordLemmas

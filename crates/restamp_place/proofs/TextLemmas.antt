@@ -12,7 +12,7 @@ use Rattle.std.proofs.lemmas.Simd.{length-zip2, get_or-zip2, length-replicate, g
 use Rattle.std.proofs.lemmas.Bool.Decides.{nat_tests}
 use Rattle.memchr.specs.Find.{Nowhere, NoneBefore, IsFirst, Passes, IsFirstByte, is_byte, OccursAt, occurs_at, FindsNeedle}
 use Rattle.memchr.proofs.lemmas.MatchLemmas.{occurs_at-true, OccursAt-true}
-use Rattle.restamp_place.specs.Texts.{place_of}
+use Rattle.restamp_place.specs.Cuts.{place_of}
 
 pub is_false : (b : Bool) → (b ≡ true → ⊥) → b ≡ false
 is_false true h = absurd (h refl)

@@ -1,19 +1,78 @@
 -- Words of a line that are passed over.
-use Rattle.std.proofs.Common.{◌≡◌, ℕ, zero, suc, ◌+◌, ◌-◌, ◌<◌, ◌≤◌, ◌==◌, Bool, true, false, not, if◌then◌else◌, List, [], ◌∷◌, length, get_or, drop, refl, sym, ap, ⊎_elim, arith, get_or-drop, ◌∙◌, None, Some}
-use Rattle.std.specs.Prelude.{Option, IfSome, nat_le, ◌&&◌}
+use Rattle.std.specs.Prelude.{Option, nat_le, IfSome, ◌&&◌}
+use Rattle.std.specs.Option.{option_map, option_and_then}
 use Rattle.std.specs.List.{position_or_len}
-use mir.Val.{bool_byte}
-use Rattle.std.specs.Option.{option_and_then, option_map}
-use Rattle.std.proofs.lemmas.Bool.{cases_lt, le-leb}
+use Rattle.std.proofs.Common.{◌≡◌, ℕ, zero, suc, ◌+◌, ◌-◌, ◌<◌, ◌≤◌, false, List, [], ◌∷◌, ◌++◌, length, take, drop, refl, ap, arith, None, Some, take-append-drop, ◌==◌, Bool, true, not, if◌then◌else◌, get_or, sym, ⊎_elim, get_or-drop, ◌∙◌, add-one}
+use Rattle.std.proofs.lemmas.Bool.{le-leb, leb-true, cases_lt}
+use Rattle.std.proofs.lemmas.List.{take_all, length-drop, drop-drop}
 use Rattle.std.proofs.lemmas.Bool.Decides.{nat_tests}
-use Rattle.std.proofs.lemmas.List.{drop-drop, length-drop}
 use Rattle.std.proofs.lemmas.List.Sums.{prefix_len-le-length}
+use Rattle.std.proofs.Math.Seq.{drop-cons}
+use native.Mathlib.Numerals.{unary_clauses}
+use mir.Val.{bool_byte}
+use Rattle.restamp_place.specs.declared.fields.Fields.{Fields}
 use Rattle.restamp_place.specs.declared.fields.Field.{Field}
-use Rattle.restamp_place.specs.declared.fields.Fields.TheVariants.{Blank}
 use Rattle.restamp_place.specs.declared.fields.Span.{Span}
-use Rattle.restamp_place.specs.Fields.{first_word, field, is_blank, moved, nth_field}
+use Rattle.restamp_place.specs.Fields.{first_field, nth_field, moved, gap, first_word, field, is_blank, closing_quote}
+use Rattle.restamp_place.specs.declared.fields.Fields.TheVariants.{Blank}
 use Rattle.restamp_place.specs.Words.{IsPassed, is_end, word_ends}
-use Rattle.restamp_place.proofs.FieldLemmas.{further_on, further_on-further_on, further_on-zero}
+use Rattle.restamp_place.proofs.TextLemmas.{is_false}
+
+-- ---- The fields of a line, one after the other
+
+-- the rest of a slice, as the range `n..` of it reads
+pub tail_range : (n : ℕ) (xs : List ℕ) → take (length xs - n) (drop n xs) ≡ drop n xs
+tail_range n xs = take_all (length xs - n) (drop n xs) (omega (arith, length-drop n xs))
+
+-- a part, so many bytes further on
+abbrev pub further_on : ℕ → Option Span → Option Span
+further_on k r = option_map (moved k) r
+
+pub further_on-further_on : (j k : ℕ) (r : Option Span) → further_on j (further_on k r) ≡ further_on (j + k) r
+further_on-further_on j k None = refl
+further_on-further_on j k (Some s) =
+    let e : j + (k + s.start) ≡ j + k + s.start = omega arith in
+    let f : j + (k + s.stop) ≡ j + k + s.stop = omega arith in
+    rw (e, f) refl
+
+pub further_on-zero : (r : Option Span) → r ≡ further_on 0 r
+further_on-zero None = refl
+further_on-zero (Some s) =
+    let e : 0 + s.start ≡ s.start = omega arith in
+    let f : 0 + s.stop ≡ s.stop = omega arith in
+    rw (e, f) refl
+
+-- a field is passed over
+pub nth-step : (kind : Fields) (n : ℕ) (line : List ℕ) (f : Field)
+    → 0 < n → first_field kind line ≡ Some f → f.edge + gap kind ≤ length line
+    → nth_field kind n line ≡ further_on (f.edge + gap kind) (nth_field kind (n - 1) (drop (f.edge + gap kind) line))
+nth-step kind zero line f some e fits = absurd (omega arith)
+nth-step kind (suc n) line f some e fits = let k : suc n - 1 ≡ n = omega arith in rw (k, e, le-leb _ _ fits) refl
+
+-- the last field ends at the end of the line
+pub nth-short : (kind : Fields) (n : ℕ) (line : List ℕ) (f : Field)
+    → 0 < n → first_field kind line ≡ Some f → length line < f.edge + gap kind → nth_field kind n line ≡ None
+nth-short kind zero line f some e short = absurd (omega arith)
+nth-short kind (suc n) line f some e short =
+    let too_long : nat_le (f.edge + gap kind) (length line) ≡ false =
+    is_false _ (λ h. let fits = leb-true (f.edge + gap kind) (length line) h in absurd (omega arith)) in
+    rw (e, too_long) refl
+
+pub nth-none : (kind : Fields) (n : ℕ) (line : List ℕ) → first_field kind line ≡ None → nth_field kind n line ≡ None
+nth-none kind zero line e = rw e refl
+nth-none kind (suc n) line e = rw e refl
+
+take_none : (n : ℕ) → take {A = ℕ} n [] ≡ []
+take_none zero = refl
+take_none (suc n) = refl
+
+-- three parts of a line, one after the other, are the line
+pub parts_whole : (xs : List ℕ) (s e : ℕ) → s ≤ e → take s xs ++ take (e - s) (drop s xs) ++ drop e xs ≡ xs
+parts_whole xs zero e h = simp unary_clauses (take-append-drop e xs)
+parts_whole [] (suc s) zero h = absurd (omega arith)
+parts_whole [] (suc s) (suc e) h = rw (take_none (suc e - suc s)) refl
+parts_whole (x ∷ xs) (suc s) zero h = absurd (omega arith)
+parts_whole (x ∷ xs) (suc s) (suc e) h = simp unary_clauses (ap (λ k. x ∷ k) (parts_whole xs s e (omega arith)))
 
 -- where a run of bytes that aren't blank ends, which begins there
 abbrev run_from : List ℕ → ℕ → Option ℕ
@@ -202,3 +261,68 @@ counts line start k ends more a b inside few said x y m =
     let counted = m ∙ byte_where (not a && b) ∙ ap (λ (d : Bool). if not d && b then 1 else 0) here
     ∙ ap (λ (d : Bool). if not (is_blank (get_or rest k 0)) && d then 1 else 0) after in
     (omega (arith, one_most (not a && b)), omega (arith, counted, said, ends-more k rest inside))
+
+-- ---- Where a quote closes a field
+
+-- a place, so many bytes further on
+abbrev pub further : ℕ → Option ℕ → Option ℕ
+further k r = option_map (λ n. k + n) r
+
+pub further-further : (j k : ℕ) (r : Option ℕ) → further j (further k r) ≡ further (j + k) r
+further-further j k None = refl
+further-further j k (Some n) = ap Some (omega arith)
+
+further-back : (k : ℕ) (r : Option ℕ) → option_map (λ n. n + k) r ≡ further k r
+further-back k None = refl
+further-back k (Some n) = ap Some (omega arith)
+
+-- no quote
+quote-other : (x : ℕ) (bytes : List ℕ) → (x ≡ 34 → ⊥) → closing_quote (x ∷ bytes) ≡ option_map (λ n. n + 1) (closing_quote bytes)
+quote-other x [] ne = grind (arith, nat_tests)
+quote-other x (y ∷ bytes) ne = grind (arith, nat_tests)
+
+-- two quotes
+quote-two : (x y : ℕ) (bytes : List ℕ) → x ≡ 34 → y ≡ 34 → closing_quote (x ∷ y ∷ bytes) ≡ option_map (λ n. n + 2) (closing_quote bytes)
+quote-two x y bytes e f = rw (e, f) refl
+
+-- one quote
+quote-one : (x y : ℕ) (bytes : List ℕ) → x ≡ 34 → (y ≡ 34 → ⊥) → closing_quote (x ∷ y ∷ bytes) ≡ Some 0
+quote-one x y bytes e ne = grind (arith, nat_tests)
+
+-- a byte at its place, and what comes after it
+at_place : (bytes : List ℕ) (n : ℕ) → n < length bytes → drop n bytes ≡ get_or bytes n 0 ∷ drop (n + 1) bytes
+at_place bytes n below = rw add-one (drop-cons bytes n 0 below)
+
+pub closes-other : (bytes : List ℕ) (n : ℕ) → n < length bytes → (get_or bytes n 0 ≡ 34 → ⊥)
+    → closing_quote (drop n bytes) ≡ further 1 (closing_quote (drop (n + 1) bytes))
+closes-other bytes n below ne =
+    ap closing_quote (at_place bytes n below) ∙ quote-other _ (drop (n + 1) bytes) ne ∙ further-back 1 (closing_quote (drop (n + 1) bytes))
+
+next_place : (bytes : List ℕ) (n : ℕ) → n + 1 < length bytes
+    → drop n bytes ≡ get_or bytes n 0 ∷ get_or bytes (n + 1) 0 ∷ drop (n + 2) bytes
+next_place bytes n below =
+    let e : n + 1 + 1 ≡ n + 2 = omega arith in
+    at_place bytes n (omega arith) ∙ ap (λ xs. get_or bytes n 0 ∷ xs) (at_place bytes (n + 1) below)
+    ∙ ap (λ k. get_or bytes n 0 ∷ get_or bytes (n + 1) 0 ∷ drop k bytes) e
+
+pub closes-two : (bytes : List ℕ) (n : ℕ) → n + 1 < length bytes → get_or bytes n 0 ≡ 34 → get_or bytes (n + 1) 0 ≡ 34
+    → closing_quote (drop n bytes) ≡ further 2 (closing_quote (drop (n + 2) bytes))
+closes-two bytes n below e f =
+    ap closing_quote (next_place bytes n below) ∙ quote-two _ _ (drop (n + 2) bytes) e f ∙ further-back 2 (closing_quote (drop (n + 2) bytes))
+
+pub closes-one : (bytes : List ℕ) (n : ℕ) → n + 1 < length bytes → get_or bytes n 0 ≡ 34 → (get_or bytes (n + 1) 0 ≡ 34 → ⊥)
+    → closing_quote (drop n bytes) ≡ Some 0
+closes-one bytes n below e ne = ap closing_quote (next_place bytes n below) ∙ quote-one _ _ (drop (n + 2) bytes) e ne
+
+pub nothing_left : (bytes : List ℕ) (n : ℕ) → length bytes ≤ n → drop n bytes ≡ []
+nothing_left [] zero h = refl
+nothing_left [] (suc n) h = refl
+nothing_left (x ∷ bytes) zero h = absurd (omega arith)
+nothing_left (x ∷ bytes) (suc n) h = nothing_left bytes n (omega arith)
+
+pub closes-last : (bytes : List ℕ) (n : ℕ) → n < length bytes → length bytes ≤ n + 1 → get_or bytes n 0 ≡ 34
+    → closing_quote (drop n bytes) ≡ Some 0
+closes-last bytes n below last e =
+    ap closing_quote (at_place bytes n below)
+    ∙ ap (λ xs. closing_quote (get_or bytes n 0 ∷ xs)) (nothing_left bytes (n + 1) last)
+    ∙ ap (λ x. closing_quote (x ∷ [])) e

@@ -1,12 +1,20 @@
 -- Where the time stands in a line.
-use Rattle.std.specs.Prelude.{ℕ, Bool, true, false, ◌+◌, ◌-◌, ◌==◌, List, length, take, drop, slice_index, slice_range, if◌then◌else◌, Option, None, Some}
-use Rattle.std.specs.Option.{option_and_then, option_map}
+use Rattle.std.specs.Prelude.{ℕ, ◌+◌, List, [], ◌∷◌, if◌then◌else◌, Option, None, Some, Bool, true, false, ◌-◌, ◌==◌, length, take, drop, slice_index, slice_range}
+use Rattle.std.specs.Option.{option_map, option_and_then}
+use Rattle.memchr.specs.Find.{occurs_at}
 use Rattle.restamp_place.specs.declared.cuts.Cut as declared
 use Rattle.restamp_place.specs.declared.cuts.Place.{Place}
 use Rattle.restamp_place.specs.declared.cuts.Place.TheVariants.{Whole, Front, Field, Between, After}
 use Rattle.restamp_place.specs.declared.fields.Span.{Span}
 use Rattle.restamp_place.specs.Fields.{span, nth_field}
-use Rattle.restamp_place.specs.Texts.{place_of}
+
+-- ---- Where a text stands in bytes
+
+-- how many bytes stand before the text, where it first stands in the bytes
+abbrev pub place_of : List ℕ → List ℕ → Option ℕ
+place_of text [] = if occurs_at [] text 0 then Some 0 else None
+place_of text (x ∷ bytes) =
+    if occurs_at (x ∷ bytes) text 0 then Some 0 else option_map (λ n. n + 1) (place_of text bytes)
 
 -- a line in three parts: what stands before the time, the time, and what stands after it
 pub record Cut : Type 0 where

@@ -1,4 +1,3 @@
-pub mod Texts
 pub mod Fields
 pub mod Words
 pub mod Cuts

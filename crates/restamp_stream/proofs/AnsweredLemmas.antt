@@ -10,10 +10,8 @@ use Rattle.restamp_stream.specs.declared.fate.Rest.TheVariants.{Absent, Passing,
 use Rattle.restamp_stream.specs.declared.settings.Output.{Output}
 use Rattle.restamp_stream.specs.declared.settings.Output.TheVariants.{AllLines, RewrittenLines, Times}
 use Rattle.restamp_stream.specs.declared.tally.Tally.{Tally}
-use Rattle.restamp_stream.specs.Fates.{rest_of, passed, HasFront}
-use Rattle.restamp_stream.specs.Lines.{Line, ended, unended, joined, HasNoLf, lines_of}
-use Rattle.restamp_stream.specs.Answers.{Job, State, state, Did}
-use Rattle.restamp_stream.specs.Streams.{IsLong, IsBegun, Answered}
+use Rattle.restamp_stream.specs.Reports.{rest_of, passed, HasFront}
+use Rattle.restamp_stream.specs.Streams.{Line, ended, unended, joined, HasNoLf, lines_of, Job, State, state, Did, IsLong, IsBegun, Answered}
 use Rattle.restamp_stream.specs.Held.{Continues, GoesOn, Ends, Settles}
 use Rattle.restamp_stream.proofs.DidLemmas.{Did-none, Did-then, Did-settled, Did-ended, Did-more, passed-append, same_state}
 use Rattle.restamp_stream.proofs.LinesLemmas.{joined-append, AreEnded-append, HasNoLf-append, lines_of-joined, lines_of-last}

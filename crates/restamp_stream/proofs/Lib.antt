@@ -1,11 +1,4 @@
-pub mod BlockLemmas
-pub mod CauseLemmas
 pub mod LinesLemmas
 pub mod DidLemmas
-pub mod NameLemmas
-pub mod ReportLemmas
 pub mod AnsweredLemmas
 pub mod StoppedLemmas
-pub mod ServedLemmas
-pub mod LawLemmas
-pub mod FilesLemmas

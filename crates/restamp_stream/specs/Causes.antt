@@ -1,9 +1,10 @@
 -- Why the work stopped.
-use Rattle.std.specs.Prelude.{◌≡◌, ◌⊎◌, ℕ, ◌+◌, ◌≤◌, Result, MatchResult}
+use Rattle.std.specs.Prelude.{◌≡◌, ◌⊎◌, ℕ, ◌+◌, ◌≤◌, Result, MatchResult, ◌<◌, Bool, IsTrue, IsSome, Option}
 use Rattle.programs_streams.specs.Faults.{Rises, count_more}
-use Rattle.restamp_stream.specs.declared.stop.Stop.{Stop}
-use Rattle.restamp_stream.specs.declared.stop.Stop.TheVariants.{Unread, Unwritten, Refused}
+use Rattle.restamp_stream.specs.declared.ending.Stop.{Stop}
+use Rattle.restamp_stream.specs.declared.ending.Stop.TheVariants.{Unread, Unwritten, Refused}
 use Rattle.restamp_stream.specs.declared.stream.Stream.{Stream}
+use Rattle.restamp_stream.specs.declared.tally.Tally.{Tally}
 
 -- how often a call of a stream's writer or of its log has failed
 abbrev pub faults_of : {W L : Type 0} → (W → ℕ) → (L → ℕ) → Stream W L → ℕ
@@ -22,3 +23,9 @@ HasWriteCause result before now = MatchResult result (λ _. now ≡ before) (λ 
 -- A read gave a byte more at least, or it failed.
 abbrev pub HasCome : ℕ → ℕ → ℕ → ℕ → Type 0
 HasCome faults faults' given given' = ((faults' ≡ faults) × (count_more given 1 ≤ given')) ⊎ Rises faults faults'
+
+-- ---- What the exit status tells of
+
+-- The work stopped, a file was not read to its end, or a line was refused where none may be.
+abbrev pub HasFailed : Tally → Option Stop → Bool → Type 0
+HasFailed tally stop strict = IsSome stop ⊎ ((0 < tally.unread) ⊎ (IsTrue strict × (0 < tally.refused)))

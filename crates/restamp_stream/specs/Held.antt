@@ -8,13 +8,11 @@ use Rattle.restamp_stream.specs.declared.fate.Fate.{Fate}
 use Rattle.restamp_stream.specs.declared.fate.Rest.{Rest}
 use Rattle.restamp_stream.specs.declared.fate.Rest.TheVariants.{Absent, Passing, Dropping}
 use Rattle.restamp_stream.specs.declared.settings.File.{File}
-use Rattle.restamp_stream.specs.declared.stop.Stop.{Stop}
-use Rattle.restamp_stream.specs.declared.stop.Stop.TheVariants.{Unread, Unwritten, Refused}
+use Rattle.restamp_stream.specs.declared.ending.Stop.{Stop}
+use Rattle.restamp_stream.specs.declared.ending.Stop.TheVariants.{Unread, Unwritten, Refused}
 use Rattle.restamp_stream.specs.declared.stream.Stream.{Stream}
-use Rattle.restamp_stream.specs.Fates.{passed}
-use Rattle.restamp_stream.specs.Lines.{HasNoLf, lines_of}
-use Rattle.restamp_stream.specs.Answers.{Job, job_of, State, state}
-use Rattle.restamp_stream.specs.Streams.{Answered, Stopped}
+use Rattle.restamp_stream.specs.Reports.{passed}
+use Rattle.restamp_stream.specs.Streams.{HasNoLf, lines_of, Job, job_of, State, state, Answered, Stopped}
 
 -- the job of those relations at a file
 abbrev pub job_at : (List ℕ → Fate → Type 0) → (List ℕ → ℕ → List ℕ → Type 0) → File → Job

@@ -1,11 +1,4 @@
-pub mod Lines
-pub mod Fates
-pub mod Names
 pub mod Reports
-pub mod Answers
 pub mod Streams
 pub mod Held
 pub mod Causes
-pub mod Files
-pub mod Status
-pub mod Laws

@@ -1,15 +1,149 @@
 -- What a stream of lines is at, also where it stopped.
-use Rattle.std.specs.Prelude.{IsTrue, ◌≡◌, ◌<◌, ◌≤◌, ℕ, List, [], ◌∷◌, ◌++◌, length, Option}
+use Rattle.std.specs.Prelude.{◌≡◌, ◌<◌, ℕ, List, [], ◌∷◌, ◌++◌, if◌then◌else◌, ◌==◌, length, slice_index, MatchBool, take, drop, Option, IsTrue, ◌≤◌, ◌⊎◌, IfSome, ⊤, Some}
 use Rattle.std.specs.Io.KnownBytes.{Appends, Keeps, Consumes}
+use Rattle.programs_streams.specs.Faults.{Rises}
 use Rattle.restamp_stream.specs.declared.fate.Fate.{Fate}
-use Rattle.restamp_stream.specs.declared.fate.Fate.TheVariants.{Refused}
+use Rattle.restamp_stream.specs.declared.settings.Reports.{Reports}
+use Rattle.restamp_stream.specs.declared.settings.Settings.{Settings}
+use Rattle.restamp_stream.specs.declared.block.TheConstants.{LIMIT}
+use Rattle.restamp_stream.specs.declared.tally.Tally.{Tally}
+use Rattle.restamp_stream.specs.Reports.{front_text, rest_of, passed, IsAllowed, count_fate, counted, at_first_line, is_named, report_of, unnamed, more_text, count_unread, unread_text}
+use Rattle.restamp_stream.specs.declared.fate.Fate.TheVariants.{Refused, Without, Rewritten, Dropped}
 use Rattle.restamp_stream.specs.declared.fate.Rest.{Rest}
 use Rattle.restamp_stream.specs.declared.fate.Rest.TheVariants.{Absent, Passing, Dropping}
 use Rattle.restamp_stream.specs.declared.stream.Stream.{Stream}
-use Rattle.restamp_stream.specs.Fates.{rest_of, count_fate, count_unread}
-use Rattle.restamp_stream.specs.Lines.{Line, unended, joined, AreEnded, HasNoLf, lines_of}
-use Rattle.restamp_stream.specs.Reports.{unread_text}
-use Rattle.restamp_stream.specs.Answers.{Job, front_of, IsReport, State, state, before_lines, Did, Closes}
+use Rattle.restamp_stream.specs.declared.settings.Output.TheVariants.{AllLines}
+
+-- ---- The lines of an input
+
+-- a line: what stands before its LF, and LF, or nothing where the input ends without one
+pub record Line : Type 0 where
+  pub text : List ℕ
+  pub ending : List ℕ
+
+-- a line that ends with LF
+abbrev pub ended : List ℕ → Line
+ended text = record { text = text; ending = 10 ∷ [] }
+
+-- a line with no LF
+abbrev pub unended : List ℕ → Line
+unended text = record { text = text; ending = [] }
+
+-- the byte b in front of the first of the lines
+abbrev pub onto_first : ℕ → List Line → List Line
+onto_first b [] = unended (b ∷ []) ∷ []
+onto_first b (line ∷ lines) = record { text = b ∷ line.text; ending = line.ending } ∷ lines
+
+-- The lines of a text. What comes after the last LF is a line unless it is empty.
+abbrev pub lines_of : List ℕ → List Line
+lines_of [] = []
+lines_of (b ∷ bytes) = if b == 10 then ended [] ∷ lines_of bytes else onto_first b (lines_of bytes)
+
+-- the bytes of lines
+abbrev pub joined : List Line → List ℕ
+joined [] = []
+joined (line ∷ lines) = (line.text ++ line.ending) ++ joined lines
+
+-- no byte is LF
+abbrev pub HasNoLf : List ℕ → Type 0
+HasNoLf bytes = (k : ℕ) → k < length bytes → ¬ (slice_index bytes k ≡ 10)
+
+-- Bytes end with those that are left.
+abbrev pub EndsWith : List ℕ → List ℕ → Type 0
+EndsWith bytes left = (front : List ℕ) × (bytes ≡ front ++ left)
+
+-- each ends with its one LF
+abbrev pub AreEnded : List Line → Type 0
+AreEnded [] = Unit {0}
+AreEnded (line ∷ lines) = HasNoLf line.text × (line.ending ≡ 10 ∷ []) × AreEnded lines
+
+-- ---- What was done to lines: what the writer and the log got, and what was counted
+
+-- What is to be done with the lines of a file: which fate a line has by its front, and why a front is refused; by how
+-- many bytes of it a line is answered; the file's name, and which lines and reports are asked for.
+pub record Job : Type 1 where
+  pub is_fate : List ℕ → Fate → Type 0
+  pub is_reason : List ℕ → ℕ → List ℕ → Type 0
+  pub limit : ℕ
+  pub name : List ℕ
+  pub settings : Settings
+
+-- the job of those relations at a file of that name
+abbrev pub job_of : (List ℕ → Fate → Type 0) → (List ℕ → ℕ → List ℕ → Type 0) → List ℕ → Settings → Job
+job_of is_fate is_reason name settings =
+    record { is_fate = is_fate; is_reason = is_reason; limit = LIMIT; name = name; settings = settings }
+
+-- the front of a line
+abbrev pub front_of : Job → Line → List ℕ
+front_of job line = take job.limit line.text
+
+-- The text that a line of that fate becomes: what goes out for its front, and then what comes after it, unless that
+-- is left out with it.
+abbrev pub text_of : Job → Line → Fate → List ℕ
+text_of job line fate =
+    front_text job.settings.output job.settings.suffix.now (front_of job line) fate
+    ++ passed (rest_of job.settings.output fate) (drop job.limit line.text ++ line.ending)
+
+-- The log names a refused line of that front, which the tally has counted last.
+abbrev pub IsNaming : Job → Tally → List ℕ → List ℕ → Type 0
+IsNaming job t front report =
+    (column : ℕ) × (reason : List ℕ) × job.is_reason front column reason
+    × (report ≡ report_of job.name t.line column reason)
+
+-- What the log gets of a line of that front and fate, which the tally has counted last.
+abbrev pub IsReport : Job → Tally → List ℕ → Fate → List ℕ → Type 0
+IsReport job t front fate report =
+    MatchBool (is_named job.settings.reports t fate) (IsNaming job t front report) (report ≡ [])
+
+-- A line has that fate, becomes that text, and has that report. Where the work stops at a refused line, it is none.
+abbrev pub IsAnswered : Job → Tally → Line → Fate → List ℕ → List ℕ → Type 0
+IsAnswered job t line fate text report =
+    job.is_fate (front_of job line) fate × IsAllowed job.settings.strict fate
+    × (text ≡ text_of job line fate) × IsReport job t (front_of job line) fate report
+
+-- Lines have those fates, become that text and have those reports. The tally has counted the lines before them.
+abbrev pub AreAnswered : Job → Tally → List Line → List Fate → List ℕ → List ℕ → Type 0
+AreAnswered job t [] fates text reports = (fates ≡ []) × (text ≡ []) × (reports ≡ [])
+AreAnswered job t (line ∷ lines) fates text reports =
+    (fate : Fate) × (others : List Fate) × (first : List ℕ) × (rest : List ℕ) × (report : List ℕ) × (more : List ℕ)
+    × IsAnswered job (count_fate t fate) line fate first report
+    × AreAnswered job (count_fate t fate) lines others rest more
+    × (fates ≡ fate ∷ others) × (text ≡ first ++ rest) × (reports ≡ report ++ more)
+
+-- what the writer and the log hold, where it is known, and what was counted
+pub record State : Type 0 where
+  pub out : Option (List ℕ)
+  pub log : Option (List ℕ)
+  pub tally : Tally
+
+abbrev pub state : Option (List ℕ) → Option (List ℕ) → Tally → State
+state out log tally = record { out = out; log = log; tally = tally }
+
+-- the same state, before the first line of a file
+abbrev pub before_lines : State → State
+before_lines s = state s.out s.log (at_first_line s.tally)
+
+-- From the one state to the other the lines, which have those fates, were answered, reported and counted.
+pub record Did (job : Job) (before after : State) (lines : List Line) (fates : List Fate) : Type 0 where
+  pub text : List ℕ
+  pub reports : List ℕ
+  pub become : AreAnswered job before.tally lines fates text reports
+  pub written : Appends before.out after.out text
+  pub reported : Appends before.log after.log reports
+  pub tallied : after.tally ≡ counted before.tally fates
+
+-- From the one state to the other the log got how many more lines of a file were refused than it names.
+pub record Closes (name : List ℕ) (reports : Reports) (before after : State) : Type 0 where
+  pub same_out : after.out ≡ before.out
+  pub told : Appends before.log after.log (more_text name (unnamed reports before.tally))
+  pub same_tally : after.tally ≡ before.tally
+
+-- From the one state to the other all lines of an input were answered, and what was refused was told.
+pub record DidAll (job : Job) (before after : State) (bytes : List ℕ) : Type 0 where
+  pub fates : List Fate
+  pub between : State
+  pub did : Did job (before_lines before) between (lines_of bytes) fates
+  pub closed : Closes job.name job.settings.reports between after
 
 -- what a stream's writer and its log hold, and its tally
 abbrev pub state_of : {W L : Type 0} → (W → Option (List ℕ)) → (L → Option (List ℕ)) → Stream W L → State
@@ -98,3 +232,82 @@ pub record DidBefore (job : Job) (before after : State) (bytes : List ℕ) : Typ
   pub between : State
   pub stopped : Stopped job (before_lines before) between (lines_of bytes)
   pub closed : Closes job.name job.settings.reports between after
+
+-- ---- What was done to several files, one after the other
+
+-- From the one state to the other the lines of a file that were read until a read failed were answered, or none where
+-- it was not opened. The count of openings and files that failed rose from the one number to the other.
+abbrev pub DidCutOff : Job → Option (List ℕ) → ℕ → ℕ → State → State → Type 0
+DidCutOff job bytes faults faults' before after =
+    Rises faults faults'
+    × (((left : Option (List ℕ)) × DidSome job bytes left before after) ⊎ Fails job.name before after)
+
+-- The same, or all its lines were answered. The file has those bytes, where they are known.
+abbrev pub DidFile : Job → Option (List ℕ) → ℕ → ℕ → State → State → Type 0
+DidFile job bytes faults faults' before after =
+    IfSome bytes (DidAll job before after) ⊎ DidCutOff job bytes faults faults' before after
+
+-- the same of the files of those names
+abbrev pub DidFiles : (List ℕ → Fate → Type 0) → (List ℕ → ℕ → List ℕ → Type 0) → Settings → (List ℕ → Option (List ℕ))
+    → ℕ → ℕ → State → State → List (List ℕ) → Type 0
+DidFiles is_fate is_reason settings bytes_of faults faults' before after [] = (before ≡ after) × (faults ≡ faults')
+DidFiles is_fate is_reason settings bytes_of faults faults' before after (name ∷ names) =
+    (between : State) × (mid : ℕ)
+    × DidFile (job_of is_fate is_reason name settings) (bytes_of name) faults mid before between
+    × (faults ≤ mid)
+    × DidFiles is_fate is_reason settings bytes_of mid faults' between after names
+
+-- The work stopped at the first refused line of one of the files of those names, whose bytes are those where they are
+-- known: the files before it were answered, and of it all lines before that one.
+abbrev pub StoppedIn : (List ℕ → Fate → Type 0) → (List ℕ → ℕ → List ℕ → Type 0) → Settings → (List ℕ → Option (List ℕ))
+    → ℕ → ℕ → State → State → List (List ℕ) → Type 0
+StoppedIn is_fate is_reason settings bytes_of faults faults' before after [] = ⊥
+StoppedIn is_fate is_reason settings bytes_of faults faults' before after (name ∷ names) =
+    (IfSome (bytes_of name) (DidBefore (job_of is_fate is_reason name settings) before after) × (faults ≤ faults'))
+    ⊎ ((between : State) × (mid : ℕ)
+    × DidFile (job_of is_fate is_reason name settings) (bytes_of name) faults mid before between
+    × (faults ≤ mid)
+    × StoppedIn is_fate is_reason settings bytes_of mid faults' between after names)
+
+-- From the one state to the other all lines of each of the files of those names were answered.
+abbrev pub AreDone : (List ℕ → Fate → Type 0) → (List ℕ → ℕ → List ℕ → Type 0) → Settings → (List ℕ → Option (List ℕ))
+    → State → State → List (List ℕ) → Type 0
+AreDone is_fate is_reason settings bytes_of before after [] = before ≡ after
+AreDone is_fate is_reason settings bytes_of before after (name ∷ names) =
+    (between : State)
+    × IfSome (bytes_of name) (DidAll (job_of is_fate is_reason name settings) before between)
+    × AreDone is_fate is_reason settings bytes_of between after names
+
+-- ---- Laws of what is done to an input
+
+-- Lines have one text, one fate each, and one report.
+abbrev pub OneAnswer : Job → Type 0
+OneAnswer job =
+    (t : Tally) (lines : List Line) (fates others : List Fate) (text other reports more : List ℕ)
+    → AreAnswered job t lines fates text reports → AreAnswered job t lines others other more
+    → (fates ≡ others) × (text ≡ other) × (reports ≡ more)
+
+-- An input has one output, one log and one tally.
+abbrev pub OneResult : Job → Type 0
+OneResult job =
+    (bytes out log : List ℕ) (tally : Tally) (after other : State)
+    → DidAll job (state (Some out) (Some log) tally) after bytes
+    → DidAll job (state (Some out) (Some log) tally) other bytes → after ≡ other
+
+-- The lines of an input have its bytes.
+abbrev pub SameBytes : Type 0
+SameBytes = (bytes : List ℕ) → joined (lines_of bytes) ≡ bytes
+
+-- no line was rewritten or dropped
+abbrev pub AreKept : List Fate → Type 0
+AreKept [] = ⊤
+AreKept (Without ∷ fates) = AreKept fates
+AreKept (Rewritten begin end text ∷ fates) = ⊥
+AreKept (Dropped ∷ fates) = ⊥
+AreKept (Refused ∷ fates) = AreKept fates
+
+-- Where all lines go out, an input of which no line is rewritten or dropped goes out as it came in, byte by byte.
+abbrev pub KeptBytes : Job → Type 0
+KeptBytes job =
+    (bytes : List ℕ) (before after : State) (fates : List Fate) → job.settings.output ≡ AllLines
+    → Did job before after (lines_of bytes) fates → AreKept fates → Appends before.out after.out bytes

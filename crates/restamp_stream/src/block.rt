@@ -1,12 +1,14 @@
-//! Bytes that were read and are not answered yet.
+//! Bytes that were read and are not answered yet, and the lines that are cut off them.
 ghost use Rattle.std.specs.Io.KnownBytes.{Consumes, Keeps, IsAtEnd};
 ghost use Rattle.std.specs.IoError.{error_kind};
-ghost use Rattle.std.specs.Prelude.{◌≡◌, ◌≢◌, ◌-◌, ◌<◌, ◌≤◌, ℕ, List, [], ◌++◌, length, drop, MatchResult, IsTrue, false};
+ghost use Rattle.std.specs.Prelude.{◌≡◌, ◌≢◌, ◌-◌, ◌<◌, ◌≤◌, ℕ, List, [], ◌++◌, length, drop, MatchResult, IsTrue, false, ◌∷◌, MatchOption};
 ghost use Rattle.programs_streams.specs.Faults.{HasCause, HasGiven, Rises};
 ghost use Rattle.restamp_stream.specs.Causes.{HasCome};
 ghost use Rattle.restamp_stream.specs.declared.block.TheConstants.{LIMIT};
+ghost use Rattle.restamp_stream.specs.Streams.{HasNoLf};
 
 use crate::held::Held;
+use memchr::memchr;
 use programs_streams::Source;
 use std::io;
 use std::io::ErrorKind;
@@ -67,5 +69,17 @@ impl Held<LIMIT> {
     {
         self.array.copy_within(self.len - n..self.len, 0);
         self.len = n;
+    }
+}
+
+/// The first line that ends with LF, and what comes after it.
+#[inline(always)]
+pub fn whole_line(bytes: &[u8]) -> Option<(&[u8], &[u8])>
+    ensures { MatchOption result (HasNoLf bytes.now)
+        (λ cut. (bytes.now ≡ cut.0.now ++ 10 ∷ cut.1.now) × HasNoLf cut.0.now) }
+{
+    match memchr(b'\n', bytes) {
+        Some(i) => Some((&bytes[..i], &bytes[i + 1..])),
+        None => None,
     }
 }

@@ -1,8 +1,7 @@
-//! The exit status.
+//! Why the work stopped, and the exit status.
 ghost use Rattle.std.specs.Prelude.{◌≡◌, ◌<◌};
-ghost use Rattle.restamp_stream.specs.Status.{HasFailed};
+ghost use Rattle.restamp_stream.specs.Causes.{HasFailed};
 
-use crate::stop::Stop;
 use crate::tally::Tally;
 
 /// The exit status of a program: 2 where the work stopped, a file was not read to its end, or a line was refused and
@@ -16,4 +15,15 @@ pub fn status(tally: &Tally, stop: Option<Stop>, strict: bool) -> u8
         return 2;
     }
     if tally.rewritten > 0 { 0 } else { 1 }
+}
+
+/// Why the work stopped before the end of the input.
+#[derive(Clone, Copy, Debug, PartialEq, Eq)]
+pub enum Stop {
+    /// A read failed, or the input didn't end within 18446744073709551615 reads.
+    Unread,
+    /// A write failed.
+    Unwritten,
+    /// A line was refused, where the work stops at the first.
+    Refused,
 }

@@ -1,6 +1,6 @@
 //! What becomes of a line.
 ghost use Rattle.std.specs.Prelude.{◌≡◌, IsTrue, false};
-ghost use Rattle.restamp_stream.specs.Fates.{rest_of, HasFront};
+ghost use Rattle.restamp_stream.specs.Reports.{rest_of, HasFront};
 
 use crate::settings::Output;
 use time_values::text::Text;

@@ -1,15 +1,13 @@
 //! Answers several files, one after the other.
 ghost use Rattle.std.specs.Prelude.{◌≡◌, ◌≢◌, ◌≤◌, ℕ, List, IfErr, IfOk, IfSome, OnOk, map, Option, Some};
 ghost use Rattle.programs_streams.specs.Faults.{HasCause, IsCutOff, Rises};
-ghost use Rattle.restamp_stream.specs.Answers.{DidAll, job_of};
+ghost use Rattle.restamp_stream.specs.Streams.{DidAll, job_of, DidCutOff, DidFile, DidFiles, StoppedIn, state_of, DidBefore};
 ghost use Rattle.restamp_stream.specs.Causes.{faults_of, HasWriteCause};
-ghost use Rattle.restamp_stream.specs.Files.{DidCutOff, DidFile, DidFiles, StoppedIn};
-ghost use Rattle.restamp_stream.specs.Streams.{state_of, DidBefore};
 
 use crate::block::Block;
+use crate::ending::Stop;
 use crate::rewriting::Rewriting;
 use crate::settings::{File, Settings};
-use crate::stop::Stop;
 use crate::stream::Stream;
 use programs_streams::{Sink, Source};
 use std::io;

@@ -1,17 +1,14 @@
 //! Laws of what is done to an input: the contract of a function is the law.
 ghost use Rattle.std.specs.Prelude.{◌≡◌, ◌⊎◌, ℕ, List, IfErr, OnOk, map};
 ghost use Rattle.programs_streams.specs.Faults.{Rises};
-ghost use Rattle.restamp_stream.specs.Answers.{job_of};
+ghost use Rattle.restamp_stream.specs.Streams.{job_of, AreDone, state_of, OneAnswer, OneResult, SameBytes, KeptBytes};
 ghost use Rattle.restamp_stream.specs.Causes.{faults_of};
-ghost use Rattle.restamp_stream.specs.Files.{AreDone};
-ghost use Rattle.restamp_stream.specs.Streams.{state_of};
-ghost use Rattle.restamp_stream.specs.Laws.{OneAnswer, OneResult, SameBytes, KeptBytes};
 
 use crate::block::Block;
+use crate::ending::Stop;
 use crate::files::Opening;
 use crate::rewriting::Rewriting;
 use crate::settings::Settings;
-use crate::stop::Stop;
 use crate::stream::Stream;
 use programs_streams::Sink;
 

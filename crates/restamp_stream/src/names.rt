@@ -1,10 +1,13 @@
-//! How a name is shown.
+//! How a name is shown, and the text of an error, in a fixed array.
 ghost use Rattle.std.specs.Io.KnownBytes.{Appends};
 ghost use Rattle.std.specs.Prelude.{◌≡◌, ◌<◌, ◌≤◌, ℕ, length, slice_index, take, true, false, IfOk, OnOk};
 ghost use Rattle.programs_streams.specs.Faults.{HasCause};
-ghost use Rattle.restamp_stream.specs.Names as names;
+ghost use Rattle.restamp_stream.specs.Reports as names;
 
+use crate::held::Held;
 use programs_streams::{Sink, Unwritten};
+use std::io;
+use std::io::Write;
 
 // The character of a digit below 16.
 fn hexadecimal(digit: u8) -> u8
@@ -82,4 +85,32 @@ pub fn write_name<L: Sink>(name: &[u8], log: &mut L) -> Result<(), Unwritten>
     ensures cause { HasCause result (L.faults log.old) (L.faults log.new) }
 {
     write_shown(false, name, log)
+}
+
+/// The text of an error, of which at most 256 bytes count.
+pub type Message = Held<256>;
+
+impl Held<256> {
+    /// The text of that error.
+    pub fn of(error: &io::Error) -> Message {
+        let mut message = Message::new();
+        // What doesn't fit is left out.
+        match write!(message, "{error}") {
+            Ok(()) | Err(_) => message,
+        }
+    }
+}
+
+impl Write for Held<256> {
+    fn write(&mut self, buf: &[u8]) -> io::Result<usize> {
+        let n = buf.len().min(256 - self.len);
+        let end = self.len + n;
+        self.array[self.len..end].copy_from_slice(&buf[..n]);
+        self.len = end;
+        Ok(n)
+    }
+
+    fn flush(&mut self) -> io::Result<()> {
+        Ok(())
+    }
 }

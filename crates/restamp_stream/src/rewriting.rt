@@ -1,7 +1,7 @@
 //! What says which fate a line has.
 ghost use Rattle.std.specs.Prelude.{◌≡◌, ℕ, List, OnOk};
 ghost use Rattle.programs_streams.specs.Faults.{HasCause};
-ghost use Rattle.restamp_stream.specs.Fates.{IsWithin, WritesReason};
+ghost use Rattle.restamp_stream.specs.Reports.{IsWithin, WritesReason};
 
 use crate::fate::Fate;
 use programs_streams::{Sink, Unwritten};

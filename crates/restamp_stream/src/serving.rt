@@ -1,20 +1,17 @@
 //! Answers the lines of a stream.
 ghost use Rattle.std.specs.Prelude.{◌≡◌, ◌≤◌, IfOk, IfErr, IfSome, MatchOption, [], OnOk, length, ℕ, List};
 ghost use Rattle.programs_streams.specs.Faults.{HasCause, IsCutOff};
-ghost use Rattle.restamp_stream.specs.Answers.{Did, DidAll, State, job_of};
+ghost use Rattle.restamp_stream.specs.Streams.{Did, DidAll, State, job_of, HasNoLf, EndsWith, lines_of, state_of, IsHeld, Served, Stopped, Fails, DidSome, DidBefore};
 ghost use Rattle.restamp_stream.specs.Causes.{faults_of, HasWriteCause};
-ghost use Rattle.restamp_stream.specs.Fates.{HasFront};
+ghost use Rattle.restamp_stream.specs.Reports.{HasFront};
 ghost use Rattle.restamp_stream.specs.Held.{held_out, held_state, job_at, Continues, Stops, StoppedBy, GoesOn, Ends};
-ghost use Rattle.restamp_stream.specs.Lines.{HasNoLf, EndsWith, lines_of};
-ghost use Rattle.restamp_stream.specs.Streams.{state_of, IsHeld, Served, Stopped, Fails, DidSome, DidBefore};
 ghost use Rattle.restamp_stream.specs.declared.block.TheConstants.{LIMIT};
 
-use crate::block::{Block, LIMIT};
+use crate::block::{Block, LIMIT, whole_line};
+use crate::ending::Stop;
 use crate::fate::{Fate, Rest};
-use crate::lines::whole_line;
 use crate::rewriting::Rewriting;
 use crate::settings::{File, Settings};
-use crate::stop::Stop;
 use crate::stream::Stream;
 use programs_streams::{Sink, Source, Unwritten};
 use std::io;

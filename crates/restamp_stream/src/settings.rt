@@ -1,7 +1,6 @@
 //! How the lines of a file are answered.
 ghost use Rattle.std.specs.Prelude.{◌≡◌, IsTrue, false};
-ghost use Rattle.restamp_stream.specs.Fates.{IsAllowed};
-ghost use Rattle.restamp_stream.specs.Reports.{is_named, unnamed};
+ghost use Rattle.restamp_stream.specs.Reports.{IsAllowed, is_named, unnamed};
 
 use crate::fate::Fate;
 use crate::tally::Tally;

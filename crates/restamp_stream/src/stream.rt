@@ -2,21 +2,17 @@
 ghost use Rattle.std.specs.Io.KnownBytes.{Appends};
 ghost use Rattle.std.specs.Prelude.{◌≡◌, ◌≤◌, ◌++◌, ℕ, List, IfOk, IfErr, [], ◌∷◌, OnOk, length, take, drop, IsTrue, false};
 ghost use Rattle.programs_streams.specs.Faults.{HasCause};
-ghost use Rattle.restamp_stream.specs.Answers.{Did, IsNaming, IsReport, Closes};
+ghost use Rattle.restamp_stream.specs.Streams.{Did, IsNaming, IsReport, Closes, unended, RefusedAt, Fails, state_of};
 ghost use Rattle.restamp_stream.specs.Causes.{faults_of, HasWriteCause, IsCounted};
-ghost use Rattle.restamp_stream.specs.Fates.{IsWithin, front_text, passed, rest_of, nothing_counted};
+ghost use Rattle.restamp_stream.specs.Reports.{IsWithin, front_text, passed, rest_of, nothing_counted, more_text, unread_text};
 ghost use Rattle.restamp_stream.specs.Held.{held_out, held_state, job_at, Settles, StoppedBy, FailedBy};
-ghost use Rattle.restamp_stream.specs.Lines.{unended};
-ghost use Rattle.restamp_stream.specs.Reports.{more_text, unread_text};
-ghost use Rattle.restamp_stream.specs.Streams.{RefusedAt, Fails, state_of};
 ghost use Rattle.restamp_stream.specs.declared.block.TheConstants.{LIMIT};
 
+use crate::ending::Stop;
 use crate::fate::{Fate, Rest};
-use crate::message::Message;
-use crate::names::write_name;
+use crate::names::{Message, write_name};
 use crate::rewriting::Rewriting;
 use crate::settings::{File, Output, Settings};
-use crate::stop::Stop;
 use crate::tally::Tally;
 use crate::waiting::Waiting;
 use programs_streams::{Sink, Unwritten};

@@ -1,6 +1,6 @@
 //! How many lines had which fate.
 ghost use Rattle.std.specs.Prelude.{◌≡◌};
-ghost use Rattle.restamp_stream.specs.Fates.{nothing_counted, count_fate, at_first_line, count_unread};
+ghost use Rattle.restamp_stream.specs.Reports.{nothing_counted, count_fate, at_first_line, count_unread};
 
 use crate::fate::Fate;
 

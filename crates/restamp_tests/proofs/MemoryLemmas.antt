@@ -1,8 +1,8 @@
 -- What is done in a folder in memory is what the model says.
 use Rattle.std.proofs.Common.{◌≡◌, ◌≢◌, inl, inr, ⊎_elim, ℕ, Bool, true, false, List, [], ◌∷◌, refl, sym, ◌∙◌, ap, subst, Option, None, Some, Result, IsErr, is_some, rules, if◌then◌else◌, nat_eq}
 use Rattle.std.specs.Str.{bytes_eq}
-use Rattle.restamp_in_place.specs.Folder.{Event, Tries, Creates, MayLead, leads, stored}
-use Rattle.restamp_in_place.specs.Folder.Event.{Leads, Stored, Synced}
+use Rattle.restamp_in_place.specs.Replacing.{Event, Tries, Creates, MayLead, leads, stored}
+use Rattle.restamp_in_place.specs.Replacing.Event.{Leads, Stored, Synced}
 use Rattle.restamp_tests.specs.Memory.{is_unused}
 
 -- a call that did that one thing, or failed and did it or nothing

@@ -1,7 +1,7 @@
 -- What a folder in memory keeps of what was done in it.
 use Rattle.std.specs.Prelude.{ℕ, Bool, true, false, List, [], ◌∷◌, None, Some, string_bytes, if◌then◌else◌, nat_eq}
-use Rattle.restamp_in_place.specs.Folder as model
-use Rattle.restamp_in_place.specs.Folder.{Event as done}
+use Rattle.restamp_in_place.specs.Replacing as model
+use Rattle.restamp_in_place.specs.Replacing.{Event as done}
 use Rattle.restamp_tests.specs.declared.memory.event.Event.{Event}
 use Rattle.restamp_tests.specs.declared.memory.event.Event.TheVariants.{Leads, Stored, Synced}
 

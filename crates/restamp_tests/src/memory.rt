@@ -1,10 +1,10 @@
 //! A folder in memory.
 ghost use Rattle.std.specs.Prelude.{◌≡◌, ◌∷◌, [], IfErr, IfOk, Some, string_bytes};
 ghost use Rattle.std.specs.IoError.{error_kind};
-ghost use Rattle.restamp_in_place.specs.Folder.{Tries};
+ghost use Rattle.restamp_in_place.specs.Replacing.{Tries};
 ghost use Rattle.restamp_tests.specs.Memory.{event_of, events_of, is_unused};
 ghost use Rattle.std.specs.Option.{option_map};
-ghost use Rattle.restamp_in_place.specs.Folder as model;
+ghost use Rattle.restamp_in_place.specs.Replacing as model;
 
 use crate::memory::event::{Event, is_unused, leads, stored};
 use crate::memory::page::Page;

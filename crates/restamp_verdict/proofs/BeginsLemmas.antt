@@ -9,20 +9,18 @@ use Rattle.std.proofs.lemmas.List.{take_more}
 use Rattle.time_values.specs.Refusal.{Refusal, component as of_component}
 use Rattle.time_values.specs.declared.offset_date_time.OffsetDateTime.{OffsetDateTime}
 use Rattle.time_values.specs.declared.utc_offset.UtcOffset.{UtcOffset}
-use Rattle.time_digits.specs.Bytes.{sign_byte}
-use Rattle.time_digits.specs.Digits.{IsDigitRun, IsPaddedRun}
+use Rattle.time_digits.specs.Digits.{sign_byte, IsDigitRun, IsPaddedRun}
 use Rattle.time_digits.specs.declared.Padding.{Padding}
 use Rattle.time_digits.specs.declared.Padding.TheVariants as padding
 use Rattle.time_digits.specs.declared.Sign.{Sign}
 use Rattle.time_digits.specs.declared.Sign.TheVariants.{Negative, Positive}
 use Rattle.time_components.specs.Spelling.{Value, Spells}
-use Rattle.time_components.specs.Steps.{steps_shape, trees_in}
-use Rattle.time_components.specs.Tree.{Trees, component, more, sequence}
+use Rattle.time_components.specs.Tree.{steps_shape, trees_in, Trees, component, more, sequence}
 use Rattle.time_components.specs.declared.format_description.Component.{Component}
 use Rattle.time_components.specs.declared.format_description.Component.TheVariants as variant
-use Rattle.time_components.specs.declared.step.Step.{Step}
-use Rattle.time_components.specs.declared.step.Step.TheVariants as step
-use Rattle.time_readers.specs.Places.{Stand}
+use Rattle.time_components.specs.declared.inspect.Step.{Step}
+use Rattle.time_components.specs.declared.inspect.Step.TheVariants as step
+use Rattle.time_readers.specs.Readers.{Stand}
 use Rattle.time_readers.specs.Rfc3339.{FailsAt, nothing_read}
 use Rattle.time_readers.specs.declared.rfc2822.Place.TheVariants as mail_place
 use Rattle.time_readers.specs.declared.rfc3339.Place.TheVariants.{Year, YearDash, Month, MonthDash, Day, Separator, Hour, HourColon, Minute, MinuteColon, Second, Subsecond, OffsetHour, OffsetColon, OffsetMinute}

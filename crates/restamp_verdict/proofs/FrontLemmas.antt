@@ -1,22 +1,30 @@
 -- A moment of RFC 3339 that is the whole of some bytes is also one in front of more.
-use Rattle.std.proofs.Common.{◌≡◌, ◌≢◌, ◌≤◌, ◌-◌, ◌∙◌, ℕ, Bool, true, false, List, [], ◌∷◌, ◌++◌, length, take, drop, length-drop, take-append-drop, ap, refl, subst, inl, inr, arith, append_assoc, Option, Some, None, Ok}
-use Rattle.time_values.specs.Range.{greatest_year}
+use Rattle.std.proofs.Common.{◌≡◌, ◌≢◌, ◌≤◌, ◌-◌, ◌∙◌, ℕ, Bool, true, false, List, [], ◌∷◌, ◌++◌, length, take, drop, length-drop, take-append-drop, ap, refl, subst, inl, inr, arith, append_assoc, Option, Some, None, Ok, ◌+◌, Err, sym, length-append, nat_lt}
+use Rattle.std.proofs.Math.Seq.{take-length, take-append_seam, drop-append_seam}
+use Rattle.std.proofs.lemmas.Bool.Decides.{nat_tests}
+use Rattle.time_values.specs.Calendar.{greatest_year}
 use Rattle.time_values.specs.declared.offset_date_time.OffsetDateTime.{OffsetDateTime}
-use Rattle.time_digits.specs.Cuts.{Cut}
-use Rattle.time_digits.specs.Digits.{IsDigitRun, NoDigitFirst}
-use Rattle.time_readers.specs.Places.{Stand}
-use Rattle.time_readers.specs.Rfc3339.{Asks, HasForm, IsOffsetMinute, IsSubsecond, NoDotFirst, nothing_read, offset_places}
-use Rattle.time_readers.specs.Rfc3339Fast.{to_second_places}
+use Rattle.time_zones.specs.Suffix.{GoesWith, IsSuffix, Tag, ZoneTag, critical_key}
+use Rattle.time_zones.specs.declared.zones.Zones.{Zones}
+use Rattle.time_digits.specs.Digits.{Cut, IsDigitRun, NoDigitFirst}
+use Rattle.time_readers.specs.Readers.{Stand}
+use Rattle.time_readers.specs.Rfc3339.{Asks, HasForm, IsOffsetMinute, IsSubsecond, NoDotFirst, nothing_read, offset_places, to_second_places}
 use Rattle.time_readers.specs.declared.rfc3339.Numbers.{Numbers}
 use Rattle.time_readers.specs.declared.rfc3339.Place.{Place}
 use Rattle.time_readers.specs.declared.rfc3339.Place.TheVariants as place
+use Rattle.time_readers.specs.Direct.{RefusesRfc3339}
 use Rattle.time_readers.proofs.Walking.{Stand-append, Stand-split}
 use Rattle.time_record.specs.Record.{empty}
 use Rattle.time_record.specs.Resolution.{IsMoment}
 use Rattle.time_parsing.specs.Rfc3339.{Reads, Refuses}
 use Rattle.time_parsing.specs.Outcome.{IsOutcome, IsFront, direct}
-use Rattle.time_readers.specs.Direct.{RefusesRfc3339}
-use Rattle.restamp_verdict.specs.Reading.{IsReadBy, said}
+use Rattle.restamp_verdict.specs.Reading.{IsReadBy, said, Says}
+use Rattle.restamp_verdict.specs.Laws.{ReadsSuffixedBack}
+use Rattle.restamp_verdict.specs.Zoned.{IsLongestSuffix, IsSuffixed, Suffix, has_tail, tells_offset}
+use Rattle.restamp_verdict.specs.declared.reading.Defaults.{Defaults}
+use Rattle.restamp_verdict.specs.declared.reading.Reading.TheVariants as reading
+use Rattle.restamp_verdict.specs.declared.reading.Said.{Said}
+use Rattle.restamp_verdict.proofs.OneVerdict.{one_says}
 
 -- places without a fraction
 abbrev Plain : List Place → Type 0
@@ -152,3 +160,51 @@ front-said text end v fits moment =
           (take-append-drop end text) (front-moment (take end text) rest v moment),
       ap (λ (k : ℕ). Ok (said v k)) long,
     )
+
+-- ---- A text of RFC 3339 with a suffix that goes with its moment is read back
+
+-- the moment of a whole text
+whole-moment : (text : List ℕ) (defaults : Defaults) (v : OffsetDateTime)
+    → Says greatest_year reading.Rfc3339 false text defaults (Ok (said v (length text)))
+    → IsOutcome (IsMoment greatest_year) (Reads greatest_year) (Refuses greatest_year) text empty (Ok v)
+whole-moment text defaults v (Ok s, (Ok w, outcome, zoned_whole), is) =
+    let same : said v (length text) ≡ said w (length text) = cc in
+    subst (λ (u : OffsetDateTime). IsOutcome (IsMoment greatest_year) (Reads greatest_year) (Refuses greatest_year) text empty (Ok u))
+    (sym (ap (λ (x : Said). x.moment) same)) outcome
+whole-moment text defaults v (Ok s, (Err e, outcome, zoned_whole), is) = absurd cc
+whole-moment text defaults v (Err e, read, is) = absurd cc
+
+none_left : (n m : ℕ) → m ≡ n → nat_lt n m ≡ false
+none_left n m e = grind (arith, nat_tests)
+
+module _ (zones : Zones) (v : OffsetDateTime) (text behind : List ℕ) (zone : Option ZoneTag) (tags : List Tag) where
+  abbrev zoned_whole : List ℕ
+  zoned_whole = text ++ behind
+
+  abbrev suffix : Suffix
+  suffix = record { len = length behind; zone = zone; tags = tags }
+
+  longest : IsSuffix behind zone tags → IsLongestSuffix (drop (length text) zoned_whole) suffix
+  longest is =
+      subst (λ (bytes : List ℕ). IsLongestSuffix bytes suffix) (sym (drop-append_seam text behind)) (record {
+        within = omega arith;
+        is_suffix = subst (λ (bytes : List ℕ). IsSuffix bytes zone tags) (sym (take-length behind)) is;
+        longest = λ n z t within it. within;
+      })
+
+  suffixed : IsSuffix behind zone tags → GoesWith zones (tells_offset text) v zone (critical_key tags) (Ok tt)
+      → IsSuffixed zones false zoned_whole (said v (length text)) (Ok (said v (length zoned_whole)))
+  suffixed is goes =
+      let ended : has_tail false zoned_whole (length text + length behind) ≡ false =
+      none_left (length text + length behind) (length zoned_whole) (length-append text behind) in
+      let with_front = subst (λ (front : List ℕ). GoesWith zones (tells_offset front) v zone (critical_key tags) (Ok tt))
+      (sym (take-append_seam text behind)) goes in
+      (suffix, longest is, rw ended (Ok tt, with_front, ap (λ (n : ℕ). Ok (said v n)) (length-append text behind)))
+
+pub reads_suffixed_back : ReadsSuffixedBack greatest_year
+reads_suffixed_back zones defaults v text behind zone tags read says is goes reads =
+    let moment = subst (λ (front : List ℕ). IsOutcome (IsMoment greatest_year) (Reads greatest_year) (Refuses greatest_year) front empty (Ok v))
+    (sym (take-append_seam text behind)) (whole-moment text defaults v says) in
+    let front = front-said (text ++ behind) (length text) v (omega (arith, length-append text behind)) moment in
+    one_says (reading.Zoned zones) false (text ++ behind) defaults read (Ok (said v (length (text ++ behind)))) reads
+    (Ok (said v (length text)), front, suffixed zones v text behind zone tags is goes)

@@ -3,8 +3,7 @@ use Rattle.std.proofs.Common.{◌≡◌, ℕ, zero, suc, ℤ, pos, Bool, true, f
 use Rattle.std.specs.Prelude.{Option, MatchOption, ◌-ℤ◌, ◌||◌, ◌&&◌, not, is_some, unwrap_or, if◌then◌else◌, ◌⊎◌, MatchBool}
 use Rattle.std.specs.Option.{option_and_then, option_or}
 use Rattle.std.proofs.lemmas.Bool.{and_from, and_parts, or_cases}
-use Rattle.time_components.specs.Steps.{steps_shape}
-use Rattle.time_components.specs.Tree.{Tree}
+use Rattle.time_components.specs.Tree.{steps_shape, Tree}
 use Rattle.time_values.specs.Offsets as Offsets
 use Rattle.time_values.specs.Refusal.{Refusal, insufficient}
 use Rattle.time_values.specs.declared.date.Date.{Date}
@@ -14,12 +13,10 @@ use Rattle.time_values.specs.declared.utc_offset.UtcOffset.{UtcOffset}
 use Rattle.time_parsing.specs.Outcome.{over_record}
 use Rattle.time_record.specs.Reading.{Reads}
 use Rattle.time_record.specs.Record.{Record, empty, in_range, year_is}
-use Rattle.time_record.specs.Resolution.{Clock, IsDated as IsDatedRecord, IsMoment, IsMomentOfParts, IsTimed, clock_at, clock_of, hour_of, hour_of_half, is_leap_second, stand_in}
-use Rattle.time_record.specs.Rows.{Row, by_ordinal, by_month_and_day, by_iso_week, by_sunday_week, by_monday_week, row_of_two, row_of_three, first_row, full_year, full_iso_year, year_of}
-use Rattle.restamp_verdict.specs.Lack.{always, format_lack, is_of, lack_of, says, says_date, says_day, says_iso_day, says_iso_year, says_year}
-use Rattle.restamp_verdict.specs.LackLaws.{SaysNoMoment, gives_year}
+use Rattle.time_record.specs.Resolution.{Clock, IsDated as IsDatedRecord, IsMoment, IsMomentOfParts, IsTimed, clock_at, clock_of, hour_of, hour_of_half, is_leap_second, stand_in, Row, by_ordinal, by_month_and_day, by_iso_week, by_sunday_week, by_monday_week, row_of_two, row_of_three, first_row, full_year, full_iso_year, year_of}
+use Rattle.restamp_verdict.specs.Lack.{always, format_lack, is_of, lack_of, says, says_date, says_day, says_iso_day, says_iso_year, says_year, SaysNoMoment, gives_year}
 use Rattle.restamp_verdict.specs.Reading.{AreYearsTried, IsCompleted, IsRead, IsReadBy, IsReadWith, Says, SaysLocally, SaysOn, at_offset, completed, has_year, in_year, undated, with_offset, with_year, year_after}
-use Rattle.restamp_verdict.specs.ReadBack.{no_defaults}
+use Rattle.restamp_verdict.specs.Told.{no_defaults}
 use Rattle.restamp_verdict.specs.Reason.{Reason}
 use Rattle.restamp_verdict.specs.declared.lack.Kind.{Kind}
 use Rattle.restamp_verdict.specs.declared.lack.Kind.TheVariants as kind

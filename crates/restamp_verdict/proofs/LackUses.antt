@@ -1,6 +1,6 @@
 -- What is given for a part that a text says makes no difference. `Y` is the greatest year.
-use Rattle.std.proofs.Common.{◌≡◌, ℕ, ℤ, true, false, None, Some, inl, inr, refl, sym, ap, subst, ◌∙◌}
-use Rattle.std.specs.Prelude.{Option, Result, MatchOption, IsOkAnd, ◌⊎◌, is_some, unwrap_or, if◌then◌else◌}
+use Rattle.std.specs.Prelude.{Option, Result, MatchOption, IsOkAnd, ◌⊎◌, is_some, unwrap_or, if◌then◌else◌, MatchResult, not}
+use Rattle.std.proofs.Common.{◌≡◌, ℕ, ℤ, true, false, None, Some, inl, inr, refl, sym, ap, subst, ◌∙◌, Bool, List, [], Ok, Err}
 use Rattle.std.proofs.lemmas.Bool.{cases_Bool}
 use Rattle.time_values.specs.Moments.{offset_date, offset_of, offset_time}
 use Rattle.time_values.specs.Offsets as Offsets
@@ -8,19 +8,29 @@ use Rattle.time_values.specs.Offsets.{IsUtc}
 use Rattle.time_values.specs.Refusal.{Refusal}
 use Rattle.time_values.specs.declared.offset_date_time.OffsetDateTime.{OffsetDateTime}
 use Rattle.time_values.specs.declared.utc_offset.UtcOffset.{UtcOffset}
+use Rattle.time_values.specs.Calendar.{greatest_year}
+use Rattle.time_components.specs.Tree.{steps_shape, Tree}
 use Rattle.time_record.specs.Record.{Record, empty, put, year_is}
 use Rattle.time_record.specs.Resolution.{IsMoment, IsMomentOfParts, IsStamped}
-use Rattle.restamp_verdict.specs.Lack.{is_of}
-use Rattle.restamp_verdict.specs.LackLaws.{HasNoUse, SameBut}
-use Rattle.restamp_verdict.specs.Reading.{IsCompleted, completed, has_year, with_offset, with_year}
+use Rattle.time_record.specs.Reading as Description
+use Rattle.time_parsing.specs.Outcome.{IsFront, IsOutcome}
+use Rattle.restamp_verdict.specs.Lack.{is_of, HasNoUse, SameBut, always, takes, ClocksHaveNoUse}
+use Rattle.restamp_verdict.specs.Reading.{IsCompleted, completed, has_year, with_offset, with_year, IsRead, IsReadWith, Says, SaysOn, at_offset}
 use Rattle.restamp_verdict.specs.declared.lack.Kind.{Kind}
 use Rattle.restamp_verdict.specs.declared.lack.Kind.TheVariants as kind
 use Rattle.restamp_verdict.specs.declared.lack.Part.{Part}
 use Rattle.restamp_verdict.specs.declared.lack.Part.TheVariants as part
 use Rattle.restamp_verdict.specs.declared.reading.Defaults.{Defaults}
+use Rattle.restamp_verdict.specs.Zoned.{IsOffsetWhen}
+use Rattle.restamp_verdict.specs.Reason.{Reason}
+use Rattle.restamp_verdict.specs.declared.local.Clocks.{Clocks}
+use Rattle.restamp_verdict.specs.declared.reading.Reading.{Reading}
+use Rattle.restamp_verdict.specs.declared.reading.Reading.TheVariants as reading
+use Rattle.restamp_verdict.specs.declared.reading.Said.{Said}
 use Rattle.restamp_verdict.proofs.LackMoments.{completed-apart, part_of_year, with_year-apart}
 use Rattle.restamp_verdict.proofs.LackRecords.{said}
 use Rattle.restamp_verdict.proofs.LackTrees.{SaysPart, part_said}
+use Rattle.restamp_verdict.proofs.OneVerdict.{one_says}
 
 -- a record with a count from 1970 is a moment by the count and its fraction alone
 counted_moment : (Y : ℕ) (q p : Record) (result : Result OffsetDateTime Refusal) → is_some p.unix_timestamp_nanos ≡ true
@@ -95,3 +105,68 @@ module _ (Y : ℕ) (r : Record) (d e : Defaults) where
 pub has_no_use : (Y : ℕ) → HasNoUse Y
 has_no_use Y p tree bytes rest r d e result always reads same is =
     same_moment Y r d e p (part_said Y p tree bytes empty rest r always reads) same result is
+
+-- ---- Clocks make no difference to texts that say their offsets
+
+is_always : (b : Bool) → not b ≡ false → b ≡ true
+is_always true e = refl
+is_always false e = absurd cc
+
+-- what is said is the same with another offset that is given, where each text says one
+module _ (Y : ℕ) (d e : Defaults) (same : d.year ≡ e.year) (text : List ℕ) where
+  module _ (tree : Tree) (says : always part.Offset tree ≡ true) where
+    front : (outcome : Result (OffsetDateTime × List ℕ) Refusal)
+        → IsFront (IsCompleted Y d) (Description.Reads Y tree) (Description.Refuses Y tree) text empty outcome
+        → IsFront (IsCompleted Y e) (Description.Reads Y tree) (Description.Refuses Y tree) text empty outcome
+    front (Ok x) (r, reads, is) = (r, reads, has_no_use Y part.Offset tree text x.1 r d e (Ok x.0) says reads same is)
+    front (Err f) (inl refused) = inl refused
+    front (Err f) (inr (rest, r, reads, is)) =
+        inr (rest, r, reads, has_no_use Y part.Offset tree text rest r d e (Err f) says reads same is)
+
+    whole : (outcome : Result OffsetDateTime Refusal)
+        → IsOutcome (IsCompleted Y d) (Description.Reads Y tree) (Description.Refuses Y tree) text empty outcome
+        → IsOutcome (IsCompleted Y e) (Description.Reads Y tree) (Description.Refuses Y tree) text empty outcome
+    whole (Ok v) (r, reads, is) = (r, reads, has_no_use Y part.Offset tree text [] r d e (Ok v) says reads same is)
+    whole (Err f) (inl refused) = inl refused
+    whole (Err f) (inr (r, reads, is)) = inr (r, reads, has_no_use Y part.Offset tree text [] r d e (Err f) says reads same is)
+
+    read_with : (is_open : Bool) (result : Result Said Refusal)
+        → IsReadWith Y is_open (Description.Reads Y tree) (Description.Refuses Y tree) text d result
+        → IsReadWith Y is_open (Description.Reads Y tree) (Description.Refuses Y tree) text e result
+    read_with true result (outcome, is, eq) = (outcome, front outcome is, eq)
+    read_with false result (outcome, is, eq) = (outcome, whole outcome is, eq)
+
+  read : (format : Reading) (is_open : Bool) (result : Result Said Refusal) → takes part.Offset format ≡ false
+      → IsRead Y format is_open text d result → IsRead Y format is_open text e result
+  read reading.Rfc3339 is_open result none is = is
+  read (reading.Zoned zones) is_open result none is = is
+  read reading.Rfc2822 is_open result none is = is
+  read reading.Iso8601 is_open result none is = absurd cc
+  read (reading.Described it) is_open result none is = read_with (steps_shape it) (is_always _ none) is_open result is
+  read (reading.Complete it) is_open result none is = is
+  read (reading.Counted it) is_open result none is = read_with (steps_shape it) (is_always _ none) is_open result is
+
+  says_same : (format : Reading) (is_open : Bool) (result : Result Said Reason) → takes part.Offset format ≡ false
+      → Says Y format is_open text d result → Says Y format is_open text e result
+  says_same format is_open result none (outcome, is, eq) = (outcome, read format is_open outcome none is, eq)
+
+pub clocks_have_no_use : ClocksHaveNoUse greatest_year
+clocks_have_no_use format is_open text defaults result none (Ok said, says, is) =
+    (Ok said, says_same greatest_year defaults (record defaults { clocks = None }) refl text format is_open (Ok said) none says, is)
+clocks_have_no_use format is_open text defaults result none (Err reason, says, is) = (
+  Err reason,
+  says_same greatest_year defaults (record defaults { clocks = None }) refl text format is_open (Err reason) none says,
+  by_clocks defaults.clocks is,
+)
+  where
+    by_clocks : (clocks : Option Clocks)
+        → MatchOption clocks (result ≡ Err reason) (λ c. SaysOn greatest_year c format is_open text defaults result)
+        → result ≡ Err reason
+    by_clocks None h = h
+    by_clocks (Some c) (utc, is_utc, shown, shows, later) =
+        subst (λ (it : Result Said Reason). MatchResult it
+        (λ s. (offset : Result UtcOffset Reason) × IsOffsetWhen c s.moment offset
+        × MatchResult offset (λ o. Says greatest_year format is_open text (at_offset o defaults) result) (λ why. result ≡ Err why))
+        (λ why. result ≡ Err why))
+        (one_says format is_open text defaults shown (Err reason)
+        (says_same greatest_year (at_offset utc defaults) defaults refl text format is_open shown none shows) says) later

@@ -8,15 +8,12 @@ use Rattle.std.proofs.lemmas.Bool.Decides.{nat_tests}
 use Rattle.time_values.specs.Names.{weekday_name}
 use Rattle.time_values.specs.declared.weekday.Weekday.{Weekday}
 use Rattle.time_values.specs.declared.weekday.Weekday.TheVariants.{Monday, Tuesday, Wednesday, Thursday, Friday, Saturday, Sunday}
-use Rattle.time_digits.specs.Cuts.{NoCut}
-use Rattle.time_digits.specs.Digits.{IsDigit, IsDigitRun}
+use Rattle.time_digits.specs.Digits.{NoCut, IsDigit, IsDigitRun}
 use Rattle.time_readers.specs.MailBlanks.{blanks, cfws, comment, comment_end, crlf, fws, is_blank, line_fold, opt_cfws}
-use Rattle.time_readers.specs.Places.{Stand}
-use Rattle.time_readers.specs.Readers.{one_of, zero_or_more, char}
+use Rattle.time_readers.specs.Readers.{Stand, one_of, zero_or_more, char}
 use Rattle.time_readers.specs.Rfc2822.{FailsAt, IsShortWeekday, nothing_read, to_offset_places, offset_places}
 use Rattle.time_readers.specs.declared.rfc2822.Place.TheVariants.{WeekdayName, Day}
-use Rattle.time_readers.proofs.MailBlanks.{blanks_or_comment, fws-blanks, fws-none, more_lines-end, opt_cfws-leaves}
-use Rattle.time_readers.proofs.MailPlaces.{read-cut}
+use Rattle.time_readers.proofs.MailBlanks.{blanks_or_comment, fws-blanks, fws-none, more_lines-end, opt_cfws-leaves, read-cut}
 use Rattle.time_readers.proofs.Repeats.{or-none, or-some, then-none, then-some, zero_or_more-none}
 use Rattle.restamp_verdict.specs.Begins.{begins_day, is_gap, is_letter, is_weekday, is_weekday_second, may_be_mail}
 

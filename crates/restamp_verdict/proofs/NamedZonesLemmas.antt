@@ -3,16 +3,15 @@ use Rattle.std.proofs.Common.{◌≡◌, ℕ, zero, suc, ℤ, pos, Bool, true, f
 use Rattle.std.proofs.lemmas.List.{take-append-drop}
 use Rattle.std.specs.Prelude.{Option, Result, ◌-ℤ◌, MatchOption, MatchResult, MatchBool, slice_range, nat_lt, not, ◌&&◌, if◌then◌else◌}
 use Rattle.time_values.specs.Moments.{offset_of}
-use Rattle.time_values.specs.Range.{greatest_year}
+use Rattle.time_values.specs.Calendar.{greatest_year}
 use Rattle.time_values.specs.Refusal.{Refusal, trailing}
 use Rattle.time_values.specs.Shown.{Items}
 use Rattle.time_values.specs.declared.offset_date_time.OffsetDateTime.{OffsetDateTime}
 use Rattle.time_values.specs.declared.utc_offset.UtcOffset.{UtcOffset}
-use Rattle.time_zones.specs.Checking.{Checked, GoesWith, GoesWithNamed, GoesWithZone}
+use Rattle.time_zones.specs.Suffix.{Checked, GoesWith, GoesWithNamed, GoesWithZone, IsSuffix, Zone, ZoneTag, Tag, IsZoneText, at_offset as by_offset, bracketed, critical_key, named, tags_text}
 use Rattle.time_zones.specs.declared.checking.SuffixFault.TheVariants.{UnknownZone}
 use Rattle.time_zones.specs.declared.finding.NamedZone.{NamedZone}
-use Rattle.time_zones.specs.Folder.{zone_named}
-use Rattle.time_zones.specs.Suffix.{IsSuffix, Zone, ZoneTag, Tag, IsZoneText, at_offset as by_offset, bracketed, critical_key, named, tags_text}
+use Rattle.time_zones.specs.Finding.{zone_named}
 use Rattle.time_zones.specs.declared.zones.Zones.{Zones}
 use Rattle.restamp_place.specs.Cuts as Cuts
 use Rattle.restamp_place.specs.Cuts.{span_of, body_of, body_length}
@@ -20,11 +19,10 @@ use Rattle.restamp_place.specs.declared.cuts.Place.{Place}
 use Rattle.restamp_place.specs.declared.fields.Span.{Span}
 use Rattle.restamp_verdict.specs.Form.{IsWritten}
 use Rattle.restamp_verdict.specs.Job.{Verdict, IsJudgedAnywhere, IsJudgedAt, IsJudgedPart, IsPut, IsFirst, SaysAlone, AreTriedAlone, SaysFrom, is_inside, is_before, missed, refused, without, verdict_of, dropped}
-use Rattle.restamp_verdict.specs.Local.{IsOffsetWhen}
-use Rattle.restamp_verdict.specs.NamedZones.{StandsIn, SameZones, AreAlike, AllAlike, DiffersInZones, NeedsNamedZones}
+use Rattle.restamp_verdict.specs.Zoned.{IsOffsetWhen, IsChecked, IsLongestSuffix, IsSuffixed, Suffix, has_tail, tells_offset}
+use Rattle.restamp_verdict.specs.Laws.{StandsIn, SameZones, AreAlike, AllAlike, DiffersInZones, NeedsNamedZones}
 use Rattle.restamp_verdict.specs.Reading.{Says, SaysOn, SaysLocally, undated, at_offset, in_year, is_after, is_of_clocks, IsEarly, IsFinal, year_after, AreYearsTried, IsDated, AreTried, IsReadInTurn}
 use Rattle.restamp_verdict.specs.Reason.{Reason, missing, too_far, unread}
-use Rattle.restamp_verdict.specs.Zoned.{IsChecked, IsLongestSuffix, IsSuffixed, Suffix, has_tail, tells_offset}
 use Rattle.restamp_verdict.specs.declared.form.Form.{Form}
 use Rattle.restamp_verdict.specs.declared.job.Job.{Job}
 use Rattle.restamp_verdict.specs.declared.job.TheConstants.{LIMIT, REACH}

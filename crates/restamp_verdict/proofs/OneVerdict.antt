@@ -4,13 +4,13 @@ use Rattle.std.specs.Prelude.{Option, Result, nat_lt, ◌-ℤ◌, MatchOption, M
 use Rattle.std.proofs.lemmas.Int.{ints}
 use Rattle.time_values.specs.Moments.{offset_of}
 use Rattle.time_values.specs.Offsets.{IsUtc}
-use Rattle.time_values.specs.Range.{greatest_year}
+use Rattle.time_values.specs.Calendar.{greatest_year}
 use Rattle.time_values.specs.Refusal.{Refusal}
 use Rattle.time_values.specs.Shown.{Items}
 use Rattle.time_values.specs.declared.offset_date_time.OffsetDateTime.{OffsetDateTime}
 use Rattle.time_values.specs.declared.utc_offset.UtcOffset.{UtcOffset}
 use Rattle.time_zones.specs.declared.zones.Zones.{Zones}
-use Rattle.time_zones.proofs.AnswerLemmas.{one_answer, same_offset_by_seconds}
+use Rattle.time_zones.proofs.FolderLemmas.{one_answer, same_offset_by_seconds}
 use Rattle.restamp_place.specs.Cuts.{span_of, body_of, is_open}
 use Rattle.restamp_place.specs.declared.cuts.Place.{Place}
 use Rattle.restamp_place.specs.declared.fields.Span.{Span}
@@ -24,17 +24,13 @@ use Rattle.time_parsing.specs.Outcome as Outcome
 use Rattle.time_parsing.specs.Iso8601 as Iso8601
 use Rattle.time_parsing.specs.Rfc2822 as Rfc2822
 use Rattle.time_parsing.specs.Rfc3339 as Rfc3339
-use Rattle.time_parsing.specs.exact.DescriptionLaws.{tree_exact}
-use Rattle.time_parsing.specs.exact.DirectLaws.{rfc3339_exact_path, rfc2822_exact_path}
-use Rattle.time_parsing.specs.exact.Iso8601Laws.{iso8601_exact}
-use Rattle.time_parsing.specs.exact.Rfc2822Laws.{rfc2822_exact}
-use Rattle.time_parsing.specs.exact.Rfc3339Laws.{rfc3339_exact}
+use Rattle.time_parsing.specs.exact.Laws.{tree_exact, rfc3339_exact_path, rfc2822_exact_path, iso8601_exact, rfc2822_exact, rfc3339_exact}
 use Rattle.time_parsing.proofs.OneOutcome.{one_moment_outcome, one_outcome, one_front}
 use Rattle.restamp_verdict.specs.Job.{Verdict, IsPutWithin, IsPut, IsJudgedAt, IsJudgedAnywhere, is_inside, alone, SaysAlone, AreTriedAlone, SaysFrom, SaysNoneBefore, IsFirst, is_kept, missed, verdict_of, refused, dropped}
 use Rattle.restamp_verdict.specs.Laws.{OneVerdict}
 use Rattle.restamp_verdict.specs.Reading.{IsReadBy, IsReadWith, IsRead, Says, SaysOn, SaysLocally, Undated, undated, at_offset, completed, in_year, is_after, is_early, is_of_clocks, IsEarly, IsFinal, year_after, AreYearsTried, IsCompleted, IsDated, AreTried, IsReadInTurn, all_of, front_of, bare_where, guarded, IsGuarded, IsReadInFront, zones_of}
-use Rattle.time_components.specs.Steps.{steps_shape}
-use Rattle.restamp_verdict.specs.Local.{IsOffsetWhen, clock_of, offset_by}
+use Rattle.time_components.specs.Tree.{steps_shape}
+use Rattle.restamp_verdict.specs.Zoned.{IsOffsetWhen, clock_of, offset_by, IsSuffixed}
 use Rattle.restamp_verdict.specs.Reason.{Reason, too_far, unread}
 use Rattle.restamp_verdict.specs.declared.local.Clocks.{Clocks}
 use Rattle.restamp_verdict.specs.declared.job.Job.{Job}
@@ -44,9 +40,7 @@ use Rattle.restamp_verdict.specs.declared.reading.Reading.{Reading}
 use Rattle.restamp_verdict.specs.declared.reading.Reading.TheVariants as reading
 use Rattle.restamp_verdict.specs.declared.reading.Said.{Said}
 use Rattle.restamp_verdict.specs.Form.{IsWritten}
-use Rattle.restamp_verdict.proofs.OneWriting.{one_written}
-use Rattle.restamp_verdict.proofs.ZonedLemmas.{one_suffixed}
-use Rattle.restamp_verdict.specs.Zoned.{IsSuffixed}
+use Rattle.restamp_verdict.proofs.OneWriting.{one_written, one_suffixed}
 
 one_read_by : (is_open : Bool) (path : Path) (reads : Outcome.Reading) (refuses : Refusing)
     → IsExact reads refuses → IsExactPath greatest_year path reads refuses

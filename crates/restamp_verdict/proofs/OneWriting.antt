@@ -1,26 +1,29 @@
 -- A moment has one text in a form.
-use Rattle.std.proofs.Common.{◌≡◌, ℕ, ℤ, List, sym, ap, subst, refl, arith, ◌∙◌, None, Some, Ok, Err}
-use Rattle.std.specs.Prelude.{Option, Result, MatchOption}
-use Rattle.std.proofs.lemmas.Int.{ints}
+use Rattle.std.specs.Prelude.{Option, Result, MatchOption, MatchBool, option_map}
 use Rattle.std.specs.Fmt.{signed_decimal}
+use Rattle.std.proofs.Common.{◌≡◌, ℕ, ℤ, List, sym, ap, subst, refl, arith, ◌∙◌, None, Some, Ok, Err, ◌+◌, ◌≤◌, Bool, true, false, length, take, drop}
+use Rattle.std.proofs.lemmas.Int.{ints}
 use Rattle.jiff_tz.specs.declared.timezone.TimeZone.{TimeZone}
-use Rattle.time_values.specs.Clocks.{shown_at}
+use Rattle.time_values.specs.Moments.{shown_at, offset_date, offset_time, offset_of, offset_instant}
 use Rattle.time_values.specs.Instants.{IsInstant, IsWhole, clock_nanos}
-use Rattle.time_values.specs.Moments.{offset_date, offset_time, offset_of, offset_instant}
-use Rattle.time_values.specs.Range.{greatest_year}
+use Rattle.time_values.specs.Calendar.{greatest_year}
 use Rattle.time_values.specs.Shown.{Items}
 use Rattle.time_values.specs.declared.offset_date_time.OffsetDateTime.{OffsetDateTime}
 use Rattle.time_values.specs.declared.utc_offset.UtcOffset.{UtcOffset}
-use Rattle.time_values.proofs.InstantLemmas.{instant_is, clock_nanos_range}
+use Rattle.time_values.specs.Refusal.{trailing}
+use Rattle.time_values.proofs.InstantLemmas.{instant_is, clock_nanos_range, same_moment}
 use Rattle.time_values.proofs.NumberLemmas.{same_weekday}
-use Rattle.time_values.proofs.SameLemmas.{same_moment}
-use Rattle.time_zones.proofs.AnswerLemmas.{same_offset_by_seconds}
+use Rattle.time_zones.specs.Suffix.{Checked, GoesWith, IsLongest, IsSuffix, Tag, critical_key, Says, zone_tag_of}
+use Rattle.time_zones.specs.declared.suffix.Suffixed.{Suffixed}
+use Rattle.time_zones.specs.declared.zones.Zones.{Zones}
+use Rattle.time_zones.proofs.FolderLemmas.{same_offset_by_seconds, one_check}
+use Rattle.time_zones.proofs.LongestLemmas.{suffix_once}
 use Rattle.time_writing.specs.Texts.{Writes, WritesSuch, IsMailText, mail_text}
-use Rattle.time_writing.specs.declared.fraction.FractionDigits.{FractionDigits}
-use Rattle.time_writing.specs.declared.unwritable.Unwritable.{Unwritable}
-use Rattle.restamp_verdict.specs.Clock.{IsShownAt, IsShownIn, IsShown, why_unshown}
+use Rattle.time_writing.specs.declared.parts.FractionDigits.{FractionDigits}
+use Rattle.time_writing.specs.declared.parts.Unwritable.{Unwritable}
+use Rattle.restamp_verdict.specs.Zoned.{IsShownAt, IsShownIn, IsShown, why_unshown, IsChecked, IsLongestSuffix, IsSuffixed, Suffix, checked, extended, has_tail, tells_offset}
 use Rattle.restamp_verdict.specs.Form.{IsCounted, IsNamedText, IsWrittenBy, IsWritten, unit_of, written}
-use Rattle.restamp_verdict.specs.Reason.{Reason}
+use Rattle.restamp_verdict.specs.Reason.{Reason, unread}
 use Rattle.restamp_verdict.specs.declared.clock.Clock.{Clock}
 use Rattle.restamp_verdict.specs.declared.clock.Clock.TheVariants as clock
 use Rattle.restamp_verdict.specs.declared.form.Form.{Form}
@@ -30,6 +33,7 @@ use Rattle.restamp_verdict.specs.declared.form.Named.{Named as Named_}
 use Rattle.restamp_verdict.specs.declared.form.Named.TheVariants.{Rfc3339, Rfc2822, Iso8601, Count}
 use Rattle.restamp_verdict.specs.declared.form.Writing.{Writing}
 use Rattle.restamp_verdict.specs.declared.form.Writing.TheVariants.{Named, Described}
+use Rattle.restamp_verdict.specs.declared.reading.Said.{Said}
 
 -- what the clock of a moment shows
 clock_is : (v : OffsetDateTime)
@@ -133,3 +137,62 @@ one_at form (Some v) (Some w) a b e p q =
 pub one_written : (form : Form) (v : OffsetDateTime) (a b : Result Items Reason)
     → IsWritten greatest_year form v a → IsWritten greatest_year form v b → a ≡ b
 one_written form v a b p q = one_at form p.0 q.0 a b (one_shown form.clock v p.0 q.0 p.1 q.1) p.2 q.2
+
+-- ---- A time with a suffix: the longest suffix behind it is one, and so is what both say
+
+pub one_suffix : (bytes : List ℕ) (s t : Suffix) → IsLongestSuffix bytes s → IsLongestSuffix bytes t → s ≡ t
+one_suffix bytes s t h k =
+    let most : s.len ≤ t.len = k.longest s.len s.zone s.tags h.within h.is_suffix in
+    let least : t.len ≤ s.len = h.longest t.len t.zone t.tags k.within k.is_suffix in
+    let len : s.len ≡ t.len = omega arith in
+    let same = suffix_once (take t.len bytes) s.zone t.zone s.tags t.tags
+    (subst (λ (n : ℕ). IsSuffix (take n bytes) s.zone s.tags) len h.is_suffix) k.is_suffix in
+    λ i. record { len = len i; zone = same.0 i; tags = same.1 i }
+
+module _ (zones : Zones) (text : List ℕ) (front : Said) where
+  one_checked : (s : Suffix) (a b : Result Said Reason) → IsChecked zones text front s a → IsChecked zones text front s b → a ≡ b
+  one_checked s a b p q =
+      p.2 ∙ ap (checked (extended front s.len))
+      (one_check zones (tells_offset (take front.length text)) front.moment s.zone (critical_key s.tags) p.0 q.0 p.1 q.1) ∙ sym q.2
+
+  one_ended : (tail : Bool) (s : Suffix) (a b : Result Said Reason)
+      → MatchBool tail (a ≡ Err (unread trailing)) (IsChecked zones text front s a)
+      → MatchBool tail (b ≡ Err (unread trailing)) (IsChecked zones text front s b) → a ≡ b
+  one_ended true s a b p q = p ∙ sym q
+  one_ended false s a b p q = one_checked s a b p q
+
+  pub one_suffixed : (is_open : Bool) (a b : Result Said Reason) → IsSuffixed zones is_open text front a
+      → IsSuffixed zones is_open text front b → a ≡ b
+  one_suffixed is_open a b p q =
+      one_ended (has_tail is_open text (front.length + q.0.len)) q.0 a b
+      (subst (λ (s : Suffix). MatchBool (has_tail is_open text (front.length + s.len)) (a ≡ Err (unread trailing))
+      (IsChecked zones text front s a)) (one_suffix (drop front.length text) p.0 q.0 p.1 q.1) p.2) q.2
+
+-- the suffix that was read, of which these are the tags
+abbrev pub suffix_of : Suffixed → List Tag → Suffix
+suffix_of r tags = record { len = r.len; zone = option_map zone_tag_of r.zone; tags = tags }
+
+-- it is the longest behind a front, and what the text says goes by it
+pub read-longest : (text : List ℕ) (front : Said) (r : Suffixed) (rest : List ℕ) → rest ≡ drop front.length text → r.len ≤ length rest
+    → (says : Says (take r.len rest) r) → IsLongest rest r.len → IsLongestSuffix (drop front.length text) (suffix_of r says.0)
+read-longest text front r rest cut within says longest =
+    subst (λ (bytes : List ℕ). IsLongestSuffix bytes (suffix_of r says.0)) cut
+    (record { within = within; is_suffix = says.1; longest = longest })
+
+module _ (zones : Zones) (is_open : Bool) (text : List ℕ) (front : Said) (r : Suffixed) (rest : List ℕ)
+    (cut : rest ≡ drop front.length text) (within : r.len ≤ length rest) (says : Says (take r.len rest) r)
+    (longest : IsLongest rest r.len) where
+  found : IsLongestSuffix (drop front.length text) (suffix_of r says.0)
+  found = read-longest text front r rest cut within says longest
+
+  pub read-refused : has_tail is_open text (front.length + r.len) ≡ true → IsSuffixed zones is_open text front (Err (unread trailing))
+  read-refused tail = (suffix_of r says.0, found, rw tail refl)
+
+  pub read-checked : (tells : Bool) (answer : Checked) → has_tail is_open text (front.length + r.len) ≡ false
+      → tells ≡ tells_offset (take front.length text)
+      → GoesWith zones tells front.moment (option_map zone_tag_of r.zone) (option_map (λ key. key.now) r.critical_key) answer
+      → IsSuffixed zones is_open text front (checked (extended front r.len) answer)
+  read-checked tells answer tail is goes =
+      let by_tags = subst (λ (key : Option (List ℕ)). GoesWith zones tells front.moment (option_map zone_tag_of r.zone) key answer) says.2 goes in
+      let by_front = subst (λ (b : Bool). GoesWith zones b front.moment (option_map zone_tag_of r.zone) (critical_key says.0) answer) is by_tags in
+      (suffix_of r says.0, found, rw tail (answer, by_front, refl))

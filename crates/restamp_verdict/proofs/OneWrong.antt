@@ -1,31 +1,114 @@
 -- The time of a refused line goes wrong at one column.
-use Rattle.std.proofs.Common.{◌≡◌, ◌∙◌, ap, sym, subst, ℕ, ◌+◌, Bool, true, false, List, drop, Option, Some, None, Ok, Err, inl, inr}
+use Rattle.std.specs.Prelude.{neg_ℤ, ◌≤ℤ◌, MatchBool, MatchOption, slice_range, MatchResult, Result}
+use Rattle.std.specs.Fmt.{signed_decimal}
+use Rattle.std.specs.Int.{w128, cast_signed as to_z, cast_unsigned as of_z}
+use Rattle.std.proofs.Common.{◌≡◌, suc, ◌≤◌, ℤ, pos, negsuc, length, arith, ◌∙◌, ap, sym, ℕ, Bool, true, false, List, Option, Some, None, inl, inr, subst, ◌+◌, drop, Ok, Err}
+use Rattle.std.proofs.lemmas.Fmt.{length-decimal-le_wide}
+use Rattle.std.proofs.lemmas.Int.{ints, to_z-of_z}
 use Rattle.std.proofs.lemmas.Option.{same_Some}
-use Rattle.std.specs.Prelude.{MatchBool, MatchOption, MatchResult, Result, slice_range}
-use Rattle.time_values.specs.Range.{greatest_year}
+use Rattle.time_values.specs.Instants.{IsInstant, IsWhole}
+use Rattle.time_values.specs.Calendar.{greatest_year}
 use Rattle.time_values.specs.Refusal.{Refusal}
-use Rattle.time_components.specs.Steps.{steps_shape}
-use Rattle.time_components.specs.Tree.{Tree}
-use Rattle.restamp_place.specs.Cuts.{span_of, is_open}
-use Rattle.time_record.specs.Record.{empty}
+use Rattle.time_values.proofs.InstantLemmas.{first_instant_is, last_instant_is}
+use Rattle.time_components.specs.Tree.{steps_shape, Tree}
+use Rattle.time_record.specs.Record.{Record, empty}
 use Rattle.time_parsing.specs.Outcome as Outcome
+use Rattle.time_parsing.specs.Outcome.{Refusing, IsExact}
+use Rattle.time_parsing.specs.exact.Laws.{tree_exact, iso8601_exact}
 use Rattle.time_locating.specs.Located.{IsExactMark, IsExactPlace, IsValueAt, Locating, Marking, range_name, wants}
 use Rattle.time_locating.specs.Misses.{Miss, first_byte, missed, the_end}
-use Rattle.time_locating.specs.exact.Iso8601Laws.{iso8601_exact_mark, iso8601_exact_place}
-use Rattle.time_locating.specs.exact.MarkLaws.{tree_exact_mark}
-use Rattle.time_locating.specs.exact.MissLaws.{tree_exact_place}
-use Rattle.time_locating.specs.exact.Rfc2822Laws.{rfc2822_exact_mark, rfc2822_exact_place}
-use Rattle.time_locating.specs.exact.Rfc3339Laws.{rfc3339_exact_mark, rfc3339_exact_place}
-use Rattle.time_locating.proofs.PlaceLemmas.{one_answer, one_index}
-use Rattle.restamp_verdict.specs.Reading.{IsReadInFront}
-use Rattle.restamp_verdict.specs.Wrong.{IsRefusedBySuffix, IsUnreadAt, IsWrongBehind, IsWrongBy, IsWrongFront, IsWrongPart, IsWrongPlace, IsWrongSuffix, IsWrongTail, IsWrongTree, IsWrongValue, OneWrong, Wrong, column_at, is_of_suffix, is_trailing, refusal_in, wrong}
-use Rattle.restamp_verdict.specs.Zoned.{Suffix}
-use Rattle.restamp_verdict.specs.declared.job.Job.{Job}
+use Rattle.time_locating.specs.exact.PlaceLaws.{iso8601_exact_mark, iso8601_exact_place, tree_exact_mark, tree_exact_place, rfc2822_exact_mark, rfc2822_exact_place, rfc3339_exact_mark, rfc3339_exact_place}
+use Rattle.time_locating.proofs.WholeTexts.{one_answer, one_index}
+use Rattle.restamp_place.specs.Cuts.{span_of, is_open}
+use Rattle.restamp_verdict.specs.Wrong.{IsLackBy, IsLackPart, OneLack, dated, is_insufficient, lack_in, IsRefusedBySuffix, IsUnreadAt, IsWrongBehind, IsWrongBy, IsWrongFront, IsWrongPart, IsWrongPlace, IsWrongSuffix, IsWrongTail, IsWrongTree, IsWrongValue, OneWrong, Wrong, column_at, is_of_suffix, is_trailing, refusal_in, wrong}
+use Rattle.restamp_verdict.specs.Reading.{completed, IsReadInFront}
+use Rattle.restamp_verdict.specs.declared.lack.Lack.{Lack}
+use Rattle.restamp_verdict.specs.declared.reading.Defaults.{Defaults}
 use Rattle.restamp_verdict.specs.declared.reading.Reading.{Reading}
 use Rattle.restamp_verdict.specs.declared.reading.Reading.TheVariants as reading
+use Rattle.restamp_verdict.specs.Zoned.{Suffix}
+use Rattle.restamp_verdict.specs.declared.job.Job.{Job}
 use Rattle.restamp_verdict.specs.declared.reading.Said.{Said}
 use Rattle.restamp_verdict.proofs.OneVerdict.{one_read_in_front}
-use Rattle.restamp_verdict.proofs.ZonedLemmas.{one_suffix}
+use Rattle.restamp_verdict.proofs.OneWriting.{one_suffix}
+
+-- ---- Units since 1970 have few digits
+
+-- a number of 33 digits
+wide : (z : ℤ) → neg_ℤ (pos 1_000_000_000_000_000_000_000_000_000_000_000) ≤ℤ z → z ≤ℤ pos 1_000_000_000_000_000_000_000_000_000_000_000
+    → length (signed_decimal z) ≤ 35
+wide (pos n) low high =
+    let short = length-decimal-le_wide 34 n (omega arith) (omega (arith, ints)) (omega (arith, ints)) in omega arith
+wide (negsuc n) low high =
+    let short = length-decimal-le_wide 34 (suc n) (omega arith) (omega (arith, ints)) (omega (arith, ints)) in omega arith
+
+-- a number that is passed on
+passed : (z : ℤ) → neg_ℤ (pos 1_000_000_000_000_000_000_000_000_000_000_000) ≤ℤ z → z ≤ℤ pos 1_000_000_000_000_000_000_000_000_000_000_000
+    → length (signed_decimal (to_z w128 (of_z w128 z))) ≤ 35
+passed z low high = let kept = to_z-of_z w128 z (omega (arith, ints)) in rw kept (wide z low high)
+
+pub nanoseconds_short : (n : ℤ) → IsInstant greatest_year n → length (signed_decimal (to_z w128 (of_z w128 n))) ≤ 35
+nanoseconds_short n within =
+    passed n (omega (arith, ints, first_instant_is, last_instant_is)) (omega (arith, ints, first_instant_is, last_instant_is))
+
+pub microseconds_short : (n z : ℤ) → IsInstant greatest_year n → IsWhole 1_000 n z → length (signed_decimal (to_z w128 (of_z w128 z))) ≤ 35
+microseconds_short n z within whole =
+    passed z (omega (arith, ints, first_instant_is, last_instant_is)) (omega (arith, ints, first_instant_is, last_instant_is))
+
+pub nanoseconds_kept : (n : ℤ) → IsInstant greatest_year n → to_z w128 (of_z w128 n) ≡ n
+nanoseconds_kept n within = to_z-of_z w128 n (omega (arith, ints, first_instant_is, last_instant_is))
+
+-- each number counts itself
+pub whole_of_one : (n : ℤ) → IsWhole 1 n n
+whole_of_one n = (omega (arith, ints), omega (arith, ints))
+
+-- ---- What the time of a refused line lacks is one
+
+one_by-one : (reads : Outcome.Reading) (refuses : Refusing) → IsExact reads refuses → (defaults : Defaults) (text : List ℕ)
+    (a b : Option Lack) → IsLackBy greatest_year reads refuses defaults text a
+    → IsLackBy greatest_year reads refuses defaults text b → a ≡ b
+one_by-one reads refuses exact defaults text a b (inl (e, p, q)) (inl (f, u, v)) = q ∙ sym v
+one_by-one reads refuses exact defaults text a b (inl (e, p, q)) (inr (rest, r, u, v)) =
+    absurd (exact.not_both text empty rest r e u p)
+one_by-one reads refuses exact defaults text a b (inr (rest, r, p, q)) (inl (e, u, v)) =
+    absurd (exact.not_both text empty rest r e p u)
+one_by-one reads refuses exact defaults text a b (inr (rest, r, p, q)) (inr (other, s, u, v)) =
+    q ∙ ap (λ (t : Record). Some (lack_in (completed greatest_year defaults t))) (exact.one_record text empty rest other r s p u) ∙ sym v
+
+one_part-one : (format : Reading) (defaults : Defaults) (text : List ℕ) (a b : Option Lack)
+    → IsLackPart greatest_year format defaults text a → IsLackPart greatest_year format defaults text b → a ≡ b
+one_part-one reading.Rfc3339 defaults text a b p q = p ∙ sym q
+one_part-one (reading.Zoned zones) defaults text a b p q = p ∙ sym q
+one_part-one reading.Rfc2822 defaults text a b p q = p ∙ sym q
+one_part-one reading.Iso8601 defaults text a b p q = one_by-one _ _ (iso8601_exact greatest_year) defaults text a b p q
+one_part-one (reading.Described d) defaults text a b p q =
+    one_by-one _ _ (tree_exact greatest_year (steps_shape d)) defaults text a b p q
+one_part-one (reading.Complete d) defaults text a b p q = p ∙ sym q
+one_part-one (reading.Counted d) defaults text a b p q =
+    one_by-one _ _ (tree_exact greatest_year (steps_shape d)) defaults text a b p q
+
+-- what follows from one choice is one
+choice-one : {A : Type 0} (o : Option A) (P : A → Option Lack → Type 0) (x y : Option Lack)
+    → ((a : A) → P a x → P a y → x ≡ y) → MatchOption o (x ≡ None) (λ a. P a x) → MatchOption o (y ≡ None) (λ a. P a y) → x ≡ y
+choice-one None P x y one h k = h ∙ sym k
+choice-one (Some a) P x y one h k = one a h k
+
+one_where-one : (wants : Bool) (P : Option Lack → Type 0) (x y : Option Lack) → (P x → P y → x ≡ y)
+    → MatchBool wants (P x) (x ≡ None) → MatchBool wants (P y) (y ≡ None) → x ≡ y
+one_where-one true P x y one h k = one h k
+one_where-one false P x y one h k = h ∙ sym k
+
+pub one_lack : OneLack greatest_year
+one_lack job line reason x y =
+    one_where-one (is_insufficient reason)
+    (λ z. MatchOption job.place (z ≡ None) (λ place. MatchOption (span_of place line) (z ≡ None)
+    (λ span. IsLackPart greatest_year job.first.now (dated job.defaults) (slice_range line span.start span.stop) z))) x y
+    (choice-one job.place
+    (λ place z. MatchOption (span_of place line) (z ≡ None)
+    (λ span. IsLackPart greatest_year job.first.now (dated job.defaults) (slice_range line span.start span.stop) z)) x y
+    (λ place. choice-one (span_of place line)
+    (λ span z. IsLackPart greatest_year job.first.now (dated job.defaults) (slice_range line span.start span.stop) z) x y
+    (λ span. one_part-one job.first.now (dated job.defaults) (slice_range line span.start span.stop) x y)))
 
 -- a format that reads all, over which an index is that of a value alone
 abbrev reads_all : Outcome.Reading

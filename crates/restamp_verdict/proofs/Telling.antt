@@ -6,9 +6,9 @@ use Rattle.std.proofs.lemmas.Bool.{le-leb, eqb-false, ne_eqb}
 use Rattle.std.proofs.lemmas.Bool.Decides.{nat_tests}
 use Rattle.std.proofs.Math.Nat.{div-mul-le_self}
 use Rattle.std.proofs.lemmas.Option.{same_Some, none-some, option_and_then_some}
-use Rattle.time_values.specs.Calendar.{IsBetween, is_leap_year, month_length, year_length}
-use Rattle.time_values.specs.DateRefusals.{is_within}
-use Rattle.time_values.specs.Month.{month_number}
+use Rattle.time_values.specs.Calendar.{IsBetween, is_leap_year, month_length, year_length, greatest_year}
+use Rattle.time_values.specs.Dates.{is_within}
+use Rattle.time_values.specs.Names.{month_number}
 use Rattle.time_values.specs.Refusal.{insufficient}
 use Rattle.time_values.specs.declared.date.Date.{Date}
 use Rattle.time_values.specs.declared.month.Month.{Month}
@@ -19,26 +19,21 @@ use Rattle.time_values.specs.Moments.{offset_date, offset_of, offset_time}
 use Rattle.time_values.specs.Offsets as Offsets
 use Rattle.time_values.specs.Offsets.{offset_refusal}
 use Rattle.time_values.specs.Times.{HasClock, time_refusal}
-use Rattle.time_values.specs.Range.{greatest_year}
 use Rattle.time_values.specs.Shown.{is_behind}
 use Rattle.time_values.specs.declared.offset_date_time.OffsetDateTime.{OffsetDateTime}
-use Rattle.time_values.proofs.DateLemmas.{ordinal_in}
-use Rattle.time_values.proofs.OffsetLemmas.{abs_within}
-use Rattle.time_values.proofs.YearLemmas.{year_length-leap_day}
-use Rattle.time_writing.proofs.SameParts.{signed-minutes, signed-seconds}
+use Rattle.time_values.proofs.InstantLemmas.{ordinal_in}
+use Rattle.time_values.proofs.YearLemmas.{abs_within, year_length-leap_day}
+use Rattle.time_writing.proofs.SameTexts.{signed-minutes, signed-seconds}
 use Rattle.time_components.specs.declared.format_description.Component.{Component}
 use Rattle.time_components.specs.declared.format_description.Component.TheVariants as component
-use Rattle.time_formatting.specs.Components.{count_of, hour_12}
-use Rattle.time_formatting.specs.Values.{kept, value_of}
+use Rattle.time_formatting.specs.Components.{count_of, hour_12, kept, value_of}
 use Rattle.time_record.specs.Components.{put_value, with_offset_sign}
 use Rattle.time_record.specs.Record.{Record, empty}
-use Rattle.time_record.specs.Resolution.{Clock, IsMoment, IsMomentOfParts, IsDated, IsTimed, IsOffset, IsConstructed, clock_at, clock_of, hour_of, is_leap_second, stand_in}
-use Rattle.time_record.specs.Rows.{Row, by_ordinal, by_month_and_day, row_of_two, row_of_three, full_year, IsRowDate}
+use Rattle.time_record.specs.Resolution.{Clock, IsMoment, IsMomentOfParts, IsDated, IsTimed, IsOffset, IsConstructed, clock_at, clock_of, hour_of, is_leap_second, stand_in, Row, by_ordinal, by_month_and_day, row_of_two, row_of_three, full_year, IsRowDate}
 use Rattle.restamp_verdict.specs.Laws.{SaysAllTold, SignsTell}
 use Rattle.restamp_verdict.specs.Reading.{completed}
-use Rattle.restamp_verdict.specs.ReadBack.{Piece, verbatim, part, pieces, put_values}
-use Rattle.restamp_verdict.specs.Told.{with_told, with_all_told, clock, HasAll}
-use Rattle.restamp_verdict.proofs.ReadingLemmas.{on_none, on_some}
+use Rattle.restamp_verdict.specs.Told.{Piece, verbatim, part, pieces, put_values, with_told, with_all_told, clock, HasAll}
+use Rattle.restamp_verdict.proofs.SayingLemmas.{on_none, on_some}
 
 month_short : (y : ℤ) (m : ℕ) → month_length y m ≤ 31
 month_short y m = grind (arith, nat_tests)

@@ -4,15 +4,15 @@ use Rattle.std.specs.Prelude.{Option, Result, nat_lt, MatchOption, MatchBool, Is
 use Rattle.jiff_core.specs.Timestamp.{IsTimestampNanos}
 use Rattle.jiff_tz.specs.Zone as Zone
 use Rattle.time_values.specs.Moments.{offset_time, offset_instant}
-use Rattle.time_values.specs.Range.{greatest_year}
+use Rattle.time_values.specs.Calendar.{greatest_year}
 use Rattle.time_values.specs.Shown.{Items}
 use Rattle.time_values.specs.Times as Times
 use Rattle.time_values.specs.declared.offset_date_time.OffsetDateTime.{OffsetDateTime}
 use Rattle.time_descriptions.specs.Description.{shape}
 use Rattle.time_writing.specs.Texts.{WritesSuch, IsMailText, moment_text, count_of, unwritable_3339, unwritable_2822}
-use Rattle.time_writing.specs.declared.fraction.FractionDigits.{FractionDigits}
-use Rattle.time_writing.specs.declared.fraction.FractionDigits.TheVariants.{Exactly}
-use Rattle.time_writing.specs.declared.unwritable.Unwritable.{Unwritable}
+use Rattle.time_writing.specs.declared.parts.FractionDigits.{FractionDigits}
+use Rattle.time_writing.specs.declared.parts.FractionDigits.TheVariants.{Exactly}
+use Rattle.time_writing.specs.declared.parts.Unwritable.{Unwritable}
 use Rattle.time_record.specs.Record.{empty}
 use Rattle.time_record.specs.Resolution.{IsMoment}
 use Rattle.time_readers.specs.Direct.{RefusesRfc3339}
@@ -21,12 +21,12 @@ use Rattle.time_parsing.specs.Iso8601 as Iso8601
 use Rattle.time_parsing.specs.Rfc3339 as Rfc3339
 use Rattle.time_parsing.specs.Written.{IsCut, kept}
 use Rattle.time_parsing.proofs.IsoBack.{iso_read_back}
-use Rattle.time_parsing.proofs.MailBack.{mail_read_back}
+use Rattle.time_parsing.proofs.MailForm.{mail_read_back}
 use Rattle.time_parsing.proofs.WrittenBack.{read_back, auto-keeps, nine-keeps}
 use Rattle.restamp_place.specs.Cuts.{span_of, is_open}
 use Rattle.restamp_place.specs.declared.cuts.Place.{Place}
 use Rattle.restamp_place.specs.declared.fields.Span.{Span}
-use Rattle.restamp_verdict.specs.Clock.{IsShown, why_unshown}
+use Rattle.restamp_verdict.specs.Zoned.{IsShown, why_unshown}
 use Rattle.restamp_verdict.specs.Form.{IsNamedText, IsWrittenBy, IsWritten, written}
 use Rattle.restamp_verdict.specs.Job.{Verdict, IsPutWithin, IsPut, IsJudged, IsJudgedAt, IsJudgedAnywhere, IsJudgedPart, is_before, is_kept, missed, rewritten, dropped, refused}
 use Rattle.restamp_verdict.specs.Laws.{HasDigits, AutoHasAll, ReadsAll, IsReadable, ReadsRewrittenBack, WritesSameText, ChangesNothing}
@@ -44,10 +44,9 @@ use Rattle.restamp_verdict.specs.declared.job.TheConstants.{LIMIT}
 use Rattle.restamp_verdict.specs.declared.reading.Defaults.{Defaults}
 use Rattle.restamp_verdict.specs.declared.reading.Reading.{Reading}
 use Rattle.restamp_verdict.specs.declared.reading.Said.{Said}
-use Rattle.restamp_verdict.proofs.Completing.{keeps_moment}
+use Rattle.restamp_verdict.proofs.DescribedBack.{keeps_moment, SaysAll, described_back}
 use Rattle.restamp_verdict.proofs.OneVerdict.{one_says, one_verdict}
 use Rattle.restamp_verdict.proofs.OneWriting.{one_shown, one_written}
-use Rattle.restamp_verdict.proofs.DescribedBack.{SaysAll, described_back}
 
 -- a moment that has a text, and the text
 text_is : (reason : Option Unwritable) (such : List ℕ → Type 0) (text : Items) (result : Result Items Unwritable)

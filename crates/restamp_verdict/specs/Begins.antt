@@ -7,8 +7,8 @@ use Rattle.time_digits.specs.declared.Padding.{Padding}
 use Rattle.time_digits.specs.declared.Padding.TheVariants as padding
 use Rattle.time_components.specs.declared.format_description.Component.{Component}
 use Rattle.time_components.specs.declared.format_description.Component.TheVariants as component
-use Rattle.time_components.specs.declared.step.Step.{Step}
-use Rattle.time_components.specs.declared.step.Step.TheVariants as step
+use Rattle.time_components.specs.declared.inspect.Step.{Step}
+use Rattle.time_components.specs.declared.inspect.Step.TheVariants as step
 use Rattle.restamp_verdict.specs.Job.{is_inside}
 use Rattle.restamp_verdict.specs.declared.anywhere.fast.Firsts.{Firsts}
 use Rattle.restamp_verdict.specs.declared.reading.Reading.{Reading}

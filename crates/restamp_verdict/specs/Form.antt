@@ -3,16 +3,16 @@ use Rattle.std.specs.Prelude.{◌≡◌, ℕ, ℤ, List, Option, Result, Ok, Err
 use Rattle.std.specs.Fmt.{signed_decimal}
 use Rattle.time_descriptions.specs.Description.{shape}
 use Rattle.time_formatting.specs.Texts.{text_of}
-use Rattle.time_formatting.specs.declared.unformattable.Unformattable.{Unformattable}
+use Rattle.time_formatting.specs.declared.walk.Unformattable.{Unformattable}
 use Rattle.time_values.specs.Instants.{IsInstant, IsWhole}
 use Rattle.time_values.specs.Moments.{offset_instant, offset_time}
 use Rattle.time_values.specs.Shown.{Items}
 use Rattle.time_values.specs.Times as Times
 use Rattle.time_values.specs.declared.offset_date_time.OffsetDateTime.{OffsetDateTime}
 use Rattle.time_writing.specs.Texts.{Writes, WritesSuch, IsMailText, moment_text, count_of, unwritable_3339, unwritable_2822}
-use Rattle.time_writing.specs.declared.fraction.FractionDigits.{FractionDigits}
-use Rattle.time_writing.specs.declared.unwritable.Unwritable.{Unwritable}
-use Rattle.restamp_verdict.specs.Clock.{IsShown, why_unshown}
+use Rattle.time_writing.specs.declared.parts.FractionDigits.{FractionDigits}
+use Rattle.time_writing.specs.declared.parts.Unwritable.{Unwritable}
+use Rattle.restamp_verdict.specs.Zoned.{IsShown, why_unshown}
 use Rattle.restamp_verdict.specs.Reason.{Reason, unwritable, unformattable, out_of_range}
 use Rattle.restamp_verdict.specs.declared.clock.Clock.{Clock}
 use Rattle.restamp_verdict.specs.declared.form.Form.{Form}

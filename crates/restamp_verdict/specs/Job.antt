@@ -15,6 +15,8 @@ use Rattle.restamp_verdict.specs.declared.job.Verdict as declared
 use Rattle.restamp_verdict.specs.declared.job.Verdict.TheVariants as variant
 use Rattle.restamp_verdict.specs.declared.reading.Reading.{Reading}
 use Rattle.restamp_verdict.specs.declared.reading.Said.{Said}
+use Rattle.restamp_verdict.specs.declared.outcome.Outcome.{Outcome}
+use Rattle.restamp_verdict.specs.declared.outcome.Outcome.TheVariants as outcome
 
 -- what becomes of a line: it has no place for a time; so many of its bytes from a place on give way to a text; it is
 -- left out; or it stays, for the reason that is told with a column from 1
@@ -135,3 +137,23 @@ IsWithin n without = Unit {0}
 IsWithin n (rewritten start length text) = start + length ≤ n
 IsWithin n dropped = Unit {0}
 IsWithin n (refused column reason) = Unit {0}
+
+-- ---- What becomes of a line, without why
+
+-- That becomes of a line of that verdict, with the text for one that is rewritten.
+abbrev pub IsOutcome : Verdict → Outcome → Items → Type 0
+IsOutcome verdict outcome.Without text = verdict ≡ without
+IsOutcome verdict (outcome.Rewritten start length) text = verdict ≡ rewritten start length text.items
+IsOutcome verdict outcome.Dropped text = verdict ≡ dropped
+IsOutcome verdict outcome.Refused text = (column : ℕ) × (reason : Reason) × (verdict ≡ refused column reason)
+
+-- That becomes of a line on which the verdict is one of these.
+abbrev pub IsDecided : (Verdict → Type 0) → Outcome → Items → Type 0
+IsDecided IsVerdict result text = (verdict : Verdict) × IsVerdict verdict × IsOutcome verdict result text
+
+-- what gives way stands within so many bytes
+abbrev pub EndsWithin : ℕ → Outcome → Type 0
+EndsWithin n outcome.Without = Unit {0}
+EndsWithin n (outcome.Rewritten start length) = start + length ≤ n
+EndsWithin n outcome.Dropped = Unit {0}
+EndsWithin n outcome.Refused = Unit {0}

@@ -1,8 +1,8 @@
 -- No public contract rests on this file.
 -- What the step of a component tells.
 use Rattle.std.specs.Prelude.{Bool, false}
-use Rattle.time_components.specs.declared.step.Step.{Step}
-use Rattle.time_components.specs.declared.step.Step.TheVariants as step
+use Rattle.time_components.specs.declared.inspect.Step.{Step}
+use Rattle.time_components.specs.declared.inspect.Step.TheVariants as step
 use Rattle.restamp_verdict.specs.Lack.{kind_of, same}
 use Rattle.restamp_verdict.specs.declared.lack.Kind.{Kind}
 

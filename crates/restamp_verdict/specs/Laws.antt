@@ -1,37 +1,33 @@
 -- Laws of what becomes of a line.
-use Rattle.std.specs.Prelude.{◌≡◌, ℕ, ◌+◌, nat_lt, pos, codes, false, MatchBool, List, ◌++◌, length, Option, slice_range, Some, Result, Ok, IsOkAnd}
+use Rattle.std.specs.Prelude.{◌≡◌, ℕ, ◌+◌, nat_lt, pos, codes, false, MatchBool, List, ◌++◌, length, Option, slice_range, Some, Result, Ok, IsOkAnd, ◌⊎◌, [], ◌∷◌}
 use Rattle.time_values.specs.Moments.{offset_of, offset_time}
 use Rattle.time_values.specs.Offsets as Offsets
 use Rattle.time_values.specs.Shown.{Items}
 use Rattle.time_values.specs.Times as Times
 use Rattle.time_values.specs.declared.offset_date_time.OffsetDateTime.{OffsetDateTime}
 use Rattle.time_values.specs.declared.utc_offset.UtcOffset.{UtcOffset}
-use Rattle.time_components.specs.Tree.{Tree}
+use Rattle.time_zones.specs.Suffix.{GoesWith, IsSuffix, IsZoneText, Tag, Zone, ZoneTag, at_offset, bracketed, critical_key, named}
+use Rattle.time_zones.specs.Finding.{zone_named, IsZoneIfAny, SameNamed}
+use Rattle.time_zones.specs.declared.zones.Zones.{Zones}
+use Rattle.time_writing.specs.declared.parts.FractionDigits.{FractionDigits}
+use Rattle.time_writing.specs.declared.parts.FractionDigits.TheVariants.{Auto}
+use Rattle.time_components.specs.Tree.{Tree, steps_shape}
+use Rattle.time_components.specs.declared.inspect.Step.{Step}
 use Rattle.time_descriptions.specs.Description.{shape}
 use Rattle.time_descriptions.specs.declared.description.Description.{Description}
-use Rattle.time_writing.specs.declared.fraction.FractionDigits.{FractionDigits}
-use Rattle.time_writing.specs.declared.fraction.FractionDigits.TheVariants.{Auto}
 use Rattle.time_record.specs.Record.{Record, empty}
 use Rattle.time_record.specs.Resolution.{IsMoment}
 use Rattle.time_parsing.specs.Written.{kept, written}
 use Rattle.restamp_place.specs.Cuts.{span_of, is_open}
 use Rattle.restamp_place.specs.declared.cuts.Place.{Place}
 use Rattle.restamp_place.specs.declared.fields.Span.{Span}
-use Rattle.time_components.specs.Steps.{steps_shape}
-use Rattle.time_zones.specs.Checking.{GoesWith}
-use Rattle.time_zones.specs.Folder.{zone_named, IsZoneIfAny}
-use Rattle.time_zones.specs.Suffix.{IsSuffix, IsZoneText, Tag, Zone, ZoneTag, at_offset, bracketed, critical_key, named}
-use Rattle.time_zones.specs.declared.zones.Zones.{Zones}
-use Rattle.restamp_verdict.specs.Clock.{IsShown}
+use Rattle.restamp_verdict.specs.Zoned.{IsShown, tells_offset}
 use Rattle.restamp_verdict.specs.Form.{IsWritten}
 use Rattle.restamp_verdict.specs.Job.{Verdict, rewritten, dropped, refused, is_kept, IsJudged}
 use Rattle.restamp_verdict.specs.Naming.{way_of, common_text, meaning_of, Means, MeansWriting}
-use Rattle.restamp_verdict.specs.ReadBack.{pieces, AllStop, SaysMoment, ReadsTree}
+use Rattle.restamp_verdict.specs.Told.{pieces, AllStop, SaysMoment, ReadsTree, with_all_told, HasAll, SignTells}
 use Rattle.restamp_verdict.specs.Reading.{Says, completed, IsCompleted, said}
 use Rattle.restamp_verdict.specs.Reason.{Reason, too_far}
-use Rattle.restamp_verdict.specs.Zoned.{tells_offset}
-use Rattle.restamp_verdict.specs.Told.{with_all_told, HasAll, SignTells}
-use Rattle.time_components.specs.declared.step.Step.{Step}
 use Rattle.restamp_verdict.specs.declared.clock.Clock.{Clock}
 use Rattle.restamp_verdict.specs.declared.clock.Clock.TheVariants as clock
 use Rattle.restamp_verdict.specs.declared.form.Form.{Form}
@@ -182,3 +178,46 @@ CommonReadsBack Y =
     → Means (way_of (codes "common")) (meaning_of format) → MeansWriting common_text (Described d)
     → Times.nanosecond (offset_time v) ≡ 0 → Offsets.seconds (offset_of v) ≡ pos 0
     → ReadsTree Y format defaults (shape d) v
+
+-- ---- Verdicts by tables of zones that differ in names which a line doesn't have
+
+-- bytes that stand in others, one behind the other
+pub record StandsIn (part bytes : List ℕ) : Type 0 where
+  pub before : List ℕ
+  pub after : List ℕ
+  pub whole : bytes ≡ before ++ (part ++ after)
+
+-- each name that stands in the bytes has one zone in both tables, or none
+abbrev pub SameZones : List ℕ → Zones → Zones → Type 0
+SameZones bytes zones other = (name : List ℕ) → StandsIn name bytes → SameNamed zones other name
+
+-- the formats are one, but for such tables
+abbrev pub AreAlike : List ℕ → Reading → Reading → Type 0
+AreAlike bytes format other =
+    (format ≡ other)
+    ⊎ ((zones same : Zones) × (format ≡ reading.Zoned zones) × (other ≡ reading.Zoned same)
+    × SameZones bytes zones same)
+
+-- the same of each two in turn
+abbrev pub AllAlike : List ℕ → List Reading → List Reading → Type 0
+AllAlike bytes [] [] = Unit {0}
+AllAlike bytes [] (other ∷ others) = ⊥
+AllAlike bytes (format ∷ formats) [] = ⊥
+AllAlike bytes (format ∷ formats) (other ∷ others) = AreAlike bytes format other × AllAlike bytes formats others
+
+-- the jobs are one, but for tables of zones that have the same zones for each name in the line
+pub record DiffersInZones (line : List ℕ) (job other : Job) : Type 0 where
+  pub first : AreAlike line job.first.now other.first.now
+  pub others : AllAlike line job.others.now other.others.now
+  pub place : job.place ≡ other.place
+  pub defaults : job.defaults ≡ other.defaults
+  pub form : job.form ≡ other.form
+  pub since : job.since ≡ other.since
+  pub until : job.until ≡ other.until
+  pub asks_for_times : job.asks_for_times ≡ other.asks_for_times
+
+-- the verdict on a line rests on no zone whose name doesn't stand in it
+abbrev pub NeedsNamedZones : ℕ → Type 0
+NeedsNamedZones Y =
+    (job other : Job) (line : List ℕ) (verdict : Verdict) → DiffersInZones line job other
+    → IsJudged Y job line verdict → IsJudged Y other line verdict

@@ -2,13 +2,12 @@
 use Rattle.std.specs.Prelude.{◌≡◌, ◌==◌, Bool, ℕ, List, codes, Option, None, Some, MatchOption, if◌then◌else◌}
 use Rattle.std.specs.List.{list_any}
 use Rattle.std.specs.Str.{bytes_eq}
-use Rattle.time_components.specs.Tree.{Tree}
+use Rattle.time_components.specs.Tree.{Tree, steps_shape}
 use Rattle.time_descriptions.specs.Description.{IsRefused, shape, version_of}
 use Rattle.time_descriptions.specs.Grammar.{Describes}
 use Rattle.time_descriptions.specs.Refusal.{Refusal, refusal_of, refusal_text}
 use Rattle.time_descriptions.specs.Strftime.{DescribesStrftime, IsRefusedStrftime}
 use Rattle.time_descriptions.specs.declared.description.Description.{Description}
-use Rattle.time_components.specs.Steps.{steps_shape}
 use Rattle.restamp_verdict.specs.declared.form.Unit.TheVariants.{Seconds, Milliseconds, Microseconds, Nanoseconds}
 use Rattle.restamp_verdict.specs.declared.form.Named.{Named}
 use Rattle.restamp_verdict.specs.declared.form.Named.TheVariants as named

@@ -19,11 +19,10 @@ use Rattle.time_parsing.specs.Outcome as Outcome
 use Rattle.time_parsing.specs.Iso8601 as Iso8601
 use Rattle.time_parsing.specs.Rfc2822 as Rfc2822
 use Rattle.time_parsing.specs.Rfc3339 as Rfc3339
-use Rattle.time_components.specs.Steps.{steps_shape}
+use Rattle.time_components.specs.Tree.{steps_shape}
 use Rattle.time_zones.specs.declared.zones.Zones.{Zones}
-use Rattle.restamp_verdict.specs.Local.{IsOffsetWhen}
+use Rattle.restamp_verdict.specs.Zoned.{IsOffsetWhen, IsSuffixed}
 use Rattle.restamp_verdict.specs.Reason.{Reason, unread, negative_fraction, left_out, shown_twice}
-use Rattle.restamp_verdict.specs.Zoned.{IsSuffixed}
 use Rattle.restamp_verdict.specs.declared.local.Clocks.{Clocks}
 use Rattle.restamp_verdict.specs.declared.reading.Reading.{Reading}
 use Rattle.restamp_verdict.specs.declared.reading.Reading.TheVariants as reading

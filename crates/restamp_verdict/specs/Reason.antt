@@ -1,13 +1,12 @@
 -- Why a time isn't rewritten.
 use Rattle.std.specs.Prelude.{List, codes, ℕ, ◌/◌, ◌%◌, ◌∷◌, ◌++◌, ℤ, pos, int_lt, unsigned_abs, if◌then◌else◌, Result, Ok, Err}
-use Rattle.time_formatting.specs.Unformattable.{unformattable_text}
-use Rattle.time_formatting.specs.declared.unformattable.Unformattable.{Unformattable}
-use Rattle.time_values.specs.Refusal.{Refusal, refusal_of}
+use Rattle.time_formatting.specs.Texts.{unformattable_text}
+use Rattle.time_formatting.specs.declared.walk.Unformattable.{Unformattable}
+use Rattle.time_values.specs.Refusal.{Refusal, refusal_of, refusal_text}
 use Rattle.time_values.specs.Shown.{Items, fixed}
-use Rattle.time_values.specs.Texts.{refusal_text}
-use Rattle.time_writing.specs.Unwritable.{unwritable_text}
-use Rattle.time_writing.specs.declared.unwritable.Unwritable.{Unwritable}
-use Rattle.time_zones.specs.Texts.{suffix_fault_text}
+use Rattle.time_writing.specs.Texts.{unwritable_text}
+use Rattle.time_writing.specs.declared.parts.Unwritable.{Unwritable}
+use Rattle.time_zones.specs.Zones.{suffix_fault_text}
 use Rattle.time_zones.specs.declared.checking.SuffixFault.{SuffixFault}
 use Rattle.restamp_verdict.specs.declared.reading.Said.{Said}
 use Rattle.restamp_verdict.specs.declared.reason.OffsetParts.{OffsetParts}

@@ -1,9 +1,6 @@
 -- What components tell of a moment, and when that is all of it. `Y` is the greatest year.
-use Rattle.std.specs.Prelude.{◌≡◌, ℕ, pos, unsigned_abs, List, [], ◌∷◌, Option, Some, None, MatchOption, option_and_then}
-use Rattle.time_components.specs.declared.format_description.Component.{Component}
-use Rattle.time_components.specs.declared.format_description.Component.TheVariants as component
-use Rattle.time_formatting.specs.Components.{count_of, half_of, hour_12, weekday_of}
-use Rattle.time_formatting.specs.Values.{kept}
+use Rattle.std.specs.Prelude.{◌≡◌, ℕ, List, [], ◌∷◌, ◌++◌, false, Option, None, Some, option_and_then, Result, Ok, Err, pos, unsigned_abs, MatchOption}
+use Rattle.time_values.specs.declared.offset_date_time.OffsetDateTime.{OffsetDateTime}
 use Rattle.time_values.specs.Dates as Dates
 use Rattle.time_values.specs.Moments.{offset_date, offset_of, offset_time}
 use Rattle.time_values.specs.Offsets as Offsets
@@ -11,14 +8,88 @@ use Rattle.time_values.specs.Shown.{is_behind}
 use Rattle.time_values.specs.Sign.{signed_by}
 use Rattle.time_values.specs.Times as Times
 use Rattle.time_values.specs.declared.date.Date.{Date}
-use Rattle.time_values.specs.declared.offset_date_time.OffsetDateTime.{OffsetDateTime}
 use Rattle.time_values.specs.declared.time.Time.{Time}
 use Rattle.time_values.specs.declared.utc_offset.UtcOffset.{UtcOffset}
-use Rattle.time_record.specs.Components.{is_pm}
-use Rattle.time_record.specs.Record.{Record}
-use Rattle.time_record.specs.Resolution.{Clock, clock_of, offset_part, offset_seconds_of}
-use Rattle.time_record.specs.Rows.{full_year}
-use Rattle.restamp_verdict.specs.ReadBack.{Piece, verbatim, part}
+use Rattle.time_components.specs.declared.format_description.Component.{Component}
+use Rattle.time_components.specs.Tree.{Tree, Trees, literal, component, sequence, optional, first_of, none, more, steps_shape}
+use Rattle.time_components.specs.declared.format_description.Component.TheVariants as component
+use Rattle.time_formatting.specs.Components.{component_text, value_of, Stops, count_of, half_of, hour_12, weekday_of, kept}
+use Rattle.time_formatting.specs.declared.walk.Unformattable.{Unformattable}
+use Rattle.time_record.specs.Components.{put_value, is_pm}
+use Rattle.time_record.specs.Record.{Record, empty}
+use Rattle.time_record.specs.Resolution.{Clock, clock_of, offset_part, offset_seconds_of, full_year}
+use Rattle.restamp_verdict.specs.Reading.{IsCompleted, is_negative_fraction}
+use Rattle.restamp_verdict.specs.declared.reading.Defaults.{Defaults}
+use Rattle.restamp_verdict.specs.declared.reading.Reading.{Reading}
+use Rattle.restamp_verdict.specs.declared.reading.Reading.TheVariants as reading
+
+-- ---- What is written of a moment by a tree, so that it is read back. `Y` is the greatest year.
+
+-- a text, or nothing where there is none
+abbrev pub or_nothing : Result (List ℕ) Unformattable → List ℕ
+or_nothing (Ok text) = text
+or_nothing (Err why) = []
+
+-- what is written of a tree: bytes as they are, and components
+pub data Piece : Type 0 where
+  verbatim : List ℕ → Piece
+  part : Component → Piece
+
+abbrev mutual
+  -- the pieces of a tree in turn, of a choice those of the first
+  pub pieces : Tree → List Piece
+  pieces (literal text) = verbatim text ∷ []
+  pieces (component whole c) = part c ∷ []
+  pieces (sequence ts) = all_pieces ts
+  pieces (optional t) = pieces t
+  pieces (first_of ts) = first_pieces ts
+
+  pub all_pieces : Trees → List Piece
+  all_pieces none = []
+  all_pieces (more t ts) = pieces t ++ all_pieces ts
+
+  pub first_pieces : Trees → List Piece
+  first_pieces none = []
+  first_pieces (more t ts) = pieces t
+
+-- their text, however long it is
+abbrev pub whole_text : ℕ → OffsetDateTime → List Piece → List ℕ
+whole_text Y v [] = []
+whole_text Y v (verbatim text ∷ ps) = text ++ whole_text Y v ps
+whole_text Y v (part c ∷ ps) = or_nothing (component_text Y v c) ++ whole_text Y v ps
+
+-- Behind each component's text stands what may stand there, so that it is read whole.
+abbrev pub AllStop : ℕ → OffsetDateTime → List Piece → Type 0
+AllStop Y v [] = Unit {0}
+AllStop Y v (verbatim text ∷ ps) = AllStop Y v ps
+AllStop Y v (part c ∷ ps) = Stops Y v c (whole_text Y v ps) × AllStop Y v ps
+
+-- the record with what the components say of the moment put in turn, or none where that is out of range
+abbrev pub put_values : ℕ → OffsetDateTime → List Piece → Record → Option Record
+put_values Y v [] r = Some r
+put_values Y v (verbatim text ∷ ps) r = put_values Y v ps r
+put_values Y v (part c ∷ ps) r = option_and_then (put_values Y v ps) (put_value Y c (value_of Y v c) r)
+
+-- What is written of the moment by the tree says all of it with the defaults: each component's text is read whole, and
+-- what the components say makes a record that is one of that moment with what stands for the rest.
+pub record SaysMoment (Y : ℕ) (tree : Tree) (defaults : Defaults) (v : OffsetDateTime) : Type 0 where
+  pub stops : AllStop Y v (pieces tree)
+  pub after : Record
+  pub puts : put_values Y v (pieces tree) empty ≡ Some after
+  pub is : IsCompleted Y defaults after (Ok v)
+
+-- nothing stands for what a text doesn't say
+abbrev pub no_defaults : Defaults
+no_defaults = record { year = None; offset = None; clocks = None; latest = None }
+
+-- The format reads by that tree, and by it all of a moment that is written so.
+abbrev pub ReadsTree : ℕ → Reading → Defaults → Tree → OffsetDateTime → Type 0
+ReadsTree Y (reading.Described d) defaults tree v = (steps_shape d ≡ tree) × SaysMoment Y tree defaults v
+ReadsTree Y (reading.Complete d) defaults tree v = (steps_shape d ≡ tree) × SaysMoment Y tree no_defaults v
+ReadsTree Y (reading.Counted d) defaults tree v =
+    (steps_shape d ≡ tree) × SaysMoment Y tree defaults v
+    × (is_negative_fraction (whole_text Y v (pieces tree)) ≡ false)
+ReadsTree Y format defaults tree v = ⊥
 
 -- the record with what a component tells of the moment: a number of the date, the time or the offset, or a name of it;
 -- none where it is another component

@@ -2,7 +2,7 @@
 //!
 //! `fast` passes over bytes with which none can begin.
 ghost use Rattle.std.specs.Prelude.{◌≡◌, ◌≤◌, ◌<◌, ◌+◌, ◌∷◌, ℕ, length, false, None, IfSome};
-ghost use Rattle.time_values.specs.Range.{greatest_year};
+ghost use Rattle.time_values.specs.Calendar.{greatest_year};
 ghost use Rattle.restamp_verdict.specs.Begins as begins;
 ghost use Rattle.restamp_verdict.specs.Job as spec;
 

@@ -1,6 +1,6 @@
 //! What a text says by the first of several formats, also where it leaves its year out.
 ghost use Rattle.std.specs.Prelude.{◌≡◌, ◌+◌, ◌≤◌, ◌≤ℤ◌, ◌-ℤ◌, neg_ℤ, pos, length, None, Err, IfOk, IfSome};
-ghost use Rattle.time_values.specs.Range.{greatest_year};
+ghost use Rattle.time_values.specs.Calendar.{greatest_year};
 ghost use Rattle.restamp_verdict.specs.Reading as spec;
 ghost use Rattle.restamp_verdict.specs.Reason.{Reason as Reason_, seen, seen_read};
 

@@ -1,7 +1,7 @@
 //! How a time is written.
 ghost use Rattle.std.specs.Prelude.{◌≡◌, ◌≤◌, length, codes, MatchOption, MatchResult};
 ghost use Rattle.std.specs.Fmt.{signed_decimal};
-ghost use Rattle.time_values.specs.Range.{greatest_year};
+ghost use Rattle.time_values.specs.Calendar.{greatest_year};
 ghost use Rattle.time_descriptions.specs.Description.{shape};
 ghost use Rattle.time_formatting.specs.Texts.{text_of};
 ghost use Rattle.restamp_verdict.specs.Form as spec;

@@ -1,7 +1,7 @@
 //! What no text of a format says, and what each of its texts says.
 ghost use Rattle.std.specs.Prelude.{◌≡◌, ◌≤◌, drop, length, Some};
-ghost use Rattle.time_components.specs.Steps as steps_;
-ghost use Rattle.time_components.specs.Steps.{group_tree, steps_shape, steps_trees, tree_at};
+ghost use Rattle.time_components.specs.Tree as steps_;
+ghost use Rattle.time_components.specs.Tree.{group_tree, steps_shape, steps_trees, tree_at};
 ghost use Rattle.restamp_verdict.specs.Lack as spec;
 ghost use Rattle.restamp_verdict.specs.LackSteps.{step_says};
 

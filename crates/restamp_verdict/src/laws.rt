@@ -1,7 +1,7 @@
 //! Laws of what becomes of a line: each function does nothing, and its contract is the law.
-ghost use Rattle.time_values.specs.Range.{greatest_year};
-ghost use Rattle.restamp_verdict.specs.NamedZones.{NeedsNamedZones};
-ghost use Rattle.restamp_verdict.specs.Laws.{OneVerdict, AutoHasAll, ReadsRewrittenBack, ReadsSuffixedBack, ReadsZonedBack, WritesZonedSame, WritesSameText, ChangesNothing, KeepsMoment, SaysAllTold, SignsTell, OneTree, CommonReadsBack};
+ghost use Rattle.time_values.specs.Calendar.{greatest_year};
+ghost use Rattle.restamp_verdict.specs.Laws.{NeedsNamedZones, OneVerdict, AutoHasAll, ReadsRewrittenBack, ReadsSuffixedBack, ReadsZonedBack, WritesZonedSame, WritesSameText, ChangesNothing, KeepsMoment, SaysAllTold, SignsTell, OneTree, CommonReadsBack};
+ghost use Rattle.restamp_verdict.specs.Lack.{ClocksHaveNoUse, HasNoUse, SaysNoMoment};
 
 /// A line has one verdict, whatever the job.
 #[tactic(auto, using(crate::proofs::OneVerdict::one_verdict))]
@@ -43,7 +43,7 @@ pub fn law_second_run()
 {}
 
 /// A record that has all of a moment keeps it, whatever defaults are given.
-#[tactic(auto, using(crate::proofs::Completing::keeps_moment))]
+#[tactic(auto, using(crate::proofs::DescribedBack::keeps_moment))]
 pub fn law_defaults()
     ensures { KeepsMoment greatest_year }
 {}
@@ -58,7 +58,7 @@ pub fn law_all_told()
 {}
 
 /// A text that means a format to read times by, and describes one to write them by, means one tree.
-#[tactic(auto, using(crate::proofs::SameTree::one_tree))]
+#[tactic(auto, using(crate::proofs::CommonBack::one_tree))]
 pub fn law_one_tree()
     ensures { OneTree }
 {}
@@ -74,4 +74,24 @@ pub fn law_common_read_back()
 #[tactic(auto, using(crate::proofs::NamedZonesLemmas::needs_named_zones))]
 pub fn law_named_zones()
     ensures { NeedsNamedZones greatest_year }
+{}
+
+/// By a format that lacks something, as [`Reading::lack`](crate::Reading::lack) tells, no text says a moment, nor does a
+/// front of one.
+pub fn law_no_moment()
+    ensures { SaysNoMoment greatest_year }
+{}
+
+/// Where each text by a description says a part of a year, it makes no difference which year is given; and the same of the
+/// hour of an offset. A count from 1970 says both.
+#[tactic(auto, using(crate::proofs::LackUses::has_no_use))]
+pub fn law_no_use()
+    ensures { HasNoUse greatest_year }
+{}
+
+/// Where no text by a format leaves its offset out, as [`Reading::takes`](crate::Reading::takes) tells, it makes no
+/// difference whether the clocks of a zone stand for one.
+#[tactic(auto, using(crate::proofs::LackUses::clocks_have_no_use))]
+pub fn law_no_clocks()
+    ensures { ClocksHaveNoUse greatest_year }
 {}

@@ -8,7 +8,6 @@ mod form;
 mod guard;
 mod job;
 mod lack;
-pub mod lack_laws;
 pub mod laws;
 mod local;
 mod missing;
@@ -18,7 +17,6 @@ mod reading;
 mod reason;
 mod saying;
 mod wrong;
-mod zoned;
 
 pub use clock::Clock;
 pub use dated::{read_dated, read_in_turn};

@@ -1,7 +1,7 @@
 //! Times that leave their offset to the clocks of a zone.
 ghost use Rattle.std.specs.Prelude.{◌≡◌, ◌+◌, ◌≤◌, length, Err, IfOk};
-ghost use Rattle.time_values.specs.Range.{greatest_year};
-ghost use Rattle.restamp_verdict.specs.Local as spec;
+ghost use Rattle.time_values.specs.Calendar.{greatest_year};
+ghost use Rattle.restamp_verdict.specs.Zoned as spec;
 ghost use Rattle.restamp_verdict.specs.Reading.{Says, SaysOn, SaysLocally, at_offset};
 ghost use Rattle.restamp_verdict.specs.Reason.{seen, seen_read};
 

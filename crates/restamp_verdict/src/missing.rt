@@ -1,7 +1,7 @@
 //! What a refused time doesn't say.
 ghost use Rattle.std.specs.Prelude.{◌≡◌, Some};
-ghost use Rattle.time_values.specs.Range.{greatest_year};
-ghost use Rattle.restamp_verdict.specs.Missing as spec;
+ghost use Rattle.time_values.specs.Calendar.{greatest_year};
+ghost use Rattle.restamp_verdict.specs.Wrong as spec;
 ghost use Rattle.restamp_verdict.specs.Reason.{seen};
 
 use crate::job::Job;
@@ -208,7 +208,7 @@ impl fmt::Display for Why<'_> {
 }
 
 /// What the time of a refused line lacks is one.
-#[tactic(auto, using(crate::proofs::OneLack::one_lack))]
+#[tactic(auto, using(crate::proofs::OneWrong::one_lack))]
 pub fn law_one_lack()
     ensures { spec.OneLack greatest_year }
 {}

@@ -1,9 +1,8 @@
 //! What becomes of a line, without why.
 ghost use Rattle.std.specs.Prelude.{◌≡◌, ◌≤◌, ◌<◌, ◌+◌, ◌^◌, ℕ, length, false, None};
-ghost use Rattle.time_values.specs.Range.{greatest_year};
+ghost use Rattle.time_values.specs.Calendar.{greatest_year};
 ghost use Rattle.time_values.specs.Shown.{Items};
 ghost use Rattle.restamp_verdict.specs.Job as job;
-ghost use Rattle.restamp_verdict.specs.Outcome as spec;
 
 mod fast;
 
@@ -35,7 +34,7 @@ pub enum Outcome {
 impl Verdict {
     // What becomes of a line of that verdict.
     fn outcome(&self) -> Outcome
-        ensures { (text : Items) → spec.IsOutcome (job.seen_verdict self.now text) result text }
+        ensures { (text : Items) → job.IsOutcome (job.seen_verdict self.now text) result text }
     {
         match self {
             Verdict::Without => Outcome::Without,
@@ -55,8 +54,8 @@ impl Job<'_> {
     #[inline(never)]
     fn decide_put(&self, start: usize, said: Said, text: &mut Text) -> Outcome
         requires { start + said.start + said.length + 1 < 2 ^ 64 }
-        ensures put { spec.IsDecided (job.IsPut greatest_year self.now start said) result text.new }
-        ensures within { spec.EndsWithin (start + said.start + said.length) result }
+        ensures put { job.IsDecided (job.IsPut greatest_year self.now start said) result text.new }
+        ensures within { job.EndsWithin (start + said.start + said.length) result }
     {
         self.put(start, said, text).outcome()
     }
@@ -65,8 +64,8 @@ impl Job<'_> {
     #[inline(always)]
     fn decide_said(&self, start: usize, said: Said, text: &mut Text) -> Outcome
         requires { start + said.start + said.length + 1 < 2 ^ 64 }
-        ensures put { spec.IsDecided (job.IsPut greatest_year self.now start said) result text.new }
-        ensures within { spec.EndsWithin (start + said.start + said.length) result }
+        ensures put { job.IsDecided (job.IsPut greatest_year self.now start said) result text.new }
+        ensures within { job.EndsWithin (start + said.start + said.length) result }
     {
         match fast::put_soon(self, start, said, text) {
             Some(outcome) => outcome,
@@ -79,8 +78,8 @@ impl Job<'_> {
     #[inline(never)]
     fn decide_on_clocks(&self, start: usize, is_open: bool, part: &[u8], text: &mut Text) -> Outcome
         requires { start + length part.now + 1 < 2 ^ 64 }
-        ensures part { spec.IsDecided (job.IsJudgedPart greatest_year self.now is_open start part.now) result text.new }
-        ensures within { spec.EndsWithin (start + length part.now) result }
+        ensures part { job.IsDecided (job.IsJudgedPart greatest_year self.now is_open start part.now) result text.new }
+        ensures within { job.EndsWithin (start + length part.now) result }
     {
         match read_in_turn(self.first, self.others, is_open, part, &self.defaults) {
             Ok(said) => self.decide_said(start, said, text),
@@ -92,8 +91,8 @@ impl Job<'_> {
     #[inline(never)]
     fn decide_part(&self, start: usize, is_open: bool, part: &[u8], text: &mut Text) -> Outcome
         requires { start + length part.now + 1 < 2 ^ 64 }
-        ensures part { spec.IsDecided (job.IsJudgedPart greatest_year self.now is_open start part.now) result text.new }
-        ensures within { spec.EndsWithin (start + length part.now) result }
+        ensures part { job.IsDecided (job.IsJudgedPart greatest_year self.now is_open start part.now) result text.new }
+        ensures within { job.EndsWithin (start + length part.now) result }
     {
         if self.defaults.clocks.is_some() {
             return self.decide_on_clocks(start, is_open, part, text);
@@ -107,8 +106,8 @@ impl Job<'_> {
     // What becomes of a line that has no place for a time.
     #[inline(always)]
     fn decide_missing(&self) -> Outcome
-        ensures outcome { (text : Items) → spec.IsOutcome (job.missed self.now) result text }
-        ensures within { (n : ℕ) → spec.EndsWithin n result }
+        ensures outcome { (text : Items) → job.IsOutcome (job.missed self.now) result text }
+        ensures within { (n : ℕ) → job.EndsWithin n result }
     {
         if self.asks_for_times {
             return Outcome::Refused;
@@ -119,8 +118,8 @@ impl Job<'_> {
     // What becomes of a line whose time stands at that place.
     #[inline(always)]
     fn decide_at(&self, place: Place<'_>, line: &[u8], text: &mut Text) -> Outcome
-        ensures at { spec.IsDecided (job.IsJudgedAt greatest_year self.now place.entry line.now) result text.new }
-        ensures within { spec.EndsWithin (length line.now) result }
+        ensures at { job.IsDecided (job.IsJudgedAt greatest_year self.now place.entry line.now) result text.new }
+        ensures within { job.EndsWithin (length line.now) result }
     {
         let Some(span) = find_span(place, line) else {
             return self.decide_missing();
@@ -142,8 +141,8 @@ impl Job<'_> {
     // What becomes of a line whose time may stand anywhere but in a CR at its end.
     #[inline(never)]
     fn decide_anywhere(&self, line: &[u8], text: &mut Text) -> Outcome
-        ensures anywhere { spec.IsDecided (job.IsJudgedAnywhere greatest_year self.now line.now) result text.new }
-        ensures within { spec.EndsWithin (length line.now) result }
+        ensures anywhere { job.IsDecided (job.IsJudgedAnywhere greatest_year self.now line.now) result text.new }
+        ensures within { job.EndsWithin (length line.now) result }
     {
         let body = body_of(line);
         match self.find_first(body) {
@@ -157,8 +156,8 @@ impl Job<'_> {
     /// The text of a line that is rewritten is put in the place of `text`.
     #[inline(always)]
     pub fn decide(&self, line: &[u8], text: &mut Text) -> Outcome
-        ensures decided { spec.IsDecided (job.IsJudged greatest_year self.now line.now) result text.new }
-        ensures within { spec.EndsWithin (length line.now) result }
+        ensures decided { job.IsDecided (job.IsJudged greatest_year self.now line.now) result text.new }
+        ensures within { job.EndsWithin (length line.now) result }
     {
         match self.place {
             Some(place) => self.decide_at(place, line, text),

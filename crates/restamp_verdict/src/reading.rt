@@ -1,9 +1,9 @@
 //! How a time is read.
 ghost use Rattle.std.specs.Prelude.{◌≡◌, ◌+◌, ◌-◌, ◌≤◌, true, length, IfOk};
-ghost use Rattle.time_values.specs.Range.{greatest_year};
+ghost use Rattle.time_values.specs.Calendar.{greatest_year};
 ghost use Rattle.time_record.specs.Record.{empty};
 ghost use Rattle.time_readers.specs.Direct.{RefusesRfc3339};
-ghost use Rattle.time_components.specs.Steps.{steps_shape};
+ghost use Rattle.time_components.specs.Tree.{steps_shape};
 ghost use Rattle.time_record.specs.Reading as description;
 ghost use Rattle.time_parsing.specs.Outcome.{direct, over_record, IsFront, IsOutcome, seen as seen_parse, seen_front};
 ghost use Rattle.time_parsing.specs.Iso8601 as iso8601;
@@ -13,10 +13,10 @@ ghost use Rattle.restamp_verdict.specs.Reason.{seen_read};
 
 mod fast;
 
+use crate::clock::read_zoned;
 use crate::guard::guard;
 use crate::local::Clocks;
 use crate::reason::Reason;
-use crate::zoned::read_zoned;
 use std::convert::TryFrom;
 use time_parsing::{Iso8601, Parsable, Rfc2822, Rfc3339, value_before};
 use time_preparing::Prepared;

@@ -1,6 +1,6 @@
 //! What a text says, without why it says nothing.
 ghost use Rattle.std.specs.Prelude.{◌≡◌, ◌≤◌, ◌+◌, length, false, None, Some, IfSome, MatchResult};
-ghost use Rattle.time_values.specs.Range.{greatest_year};
+ghost use Rattle.time_values.specs.Calendar.{greatest_year};
 ghost use Rattle.restamp_verdict.specs.Reading.{AreTried, IsDated, IsReadInTurn, IsSaid, Says};
 ghost use Rattle.restamp_verdict.specs.Reason.{Reason};
 

@@ -1,17 +1,51 @@
 -- Numbers under a padding, and numbers with a sign.
-use Rattle.std.proofs.Common.{◌≡◌, ℕ, zero, suc, ◌+◌, ◌-◌, ◌^◌, ◌<◌, ◌≤◌, ◌⊎◌, List, [], ◌∷◌, ◌++◌, replicate, refl, ap, sym, ◌∙◌, inl, inr, arith, subst, Bool, false, Option}
+use Rattle.std.proofs.Common.{List, [], ◌∷◌, ◌≡◌, ℕ, zero, suc, ◌+◌, ◌-◌, ◌^◌, ◌<◌, ◌≤◌, ◌⊎◌, ◌++◌, replicate, refl, ap, sym, ◌∙◌, inl, inr, arith, subst, Bool, false, Option}
+use Rattle.time_values.specs.declared.month.Month.{Month}
+use Rattle.time_values.specs.declared.month.Month.TheVariants.{January, February, March, April, May, June, July, August, September, October, November, December}
+use Rattle.time_values.specs.declared.weekday.Weekday.{Weekday}
+use Rattle.time_values.specs.declared.weekday.Weekday.TheVariants.{Monday, Tuesday, Wednesday, Thursday, Friday, Saturday, Sunday}
 use Rattle.time_digits.specs.declared.Padding.{Padding}
 use Rattle.time_digits.specs.declared.Padding.TheVariants as padding
 use Rattle.time_digits.specs.declared.Sign.{Sign}
 use Rattle.time_digits.specs.declared.Sign.TheVariants.{Negative, Positive}
-use Rattle.time_digits.specs.Bytes.{sign_byte, IsSign}
+use Rattle.time_digits.specs.Digits.{sign_byte, IsSign, Form, Cut, NoCut, Finds, IsDigit, IsDigitRun, IsPaddedRun, IsPaddedRunUpTo}
 use Rattle.time_digits.specs.declared.ParsedItem.{ParsedItem}
-use Rattle.time_digits.specs.Cuts.{Form, Cut, NoCut, Finds}
-use Rattle.time_digits.specs.Digits.{IsDigit, IsDigitRun, IsPaddedRun, IsPaddedRunUpTo}
+use Rattle.time_digits.proofs.WordBytes.{Finds-same}
+use Rattle.time_digits.proofs.Runs.{pow-mono, IsPaddedRun-below}
 use Rattle.time_components.specs.Spelling.{IsSigned}
-use Rattle.time_digits.proofs.CutLemmas.{Finds-same}
-use Rattle.time_digits.proofs.Runs.{pow-mono}
-use Rattle.time_digits.proofs.PaddedRuns.{IsPaddedRun-below}
+
+-- ---- What holds of each month and of each weekday
+
+pub each_month : (P : Month → Type 0)
+    → P January × P February × P March × P April × P May × P June × P July × P August × P September × P October × P November × P December
+    → (v : Month) → P v
+each_month P h January = h.0
+each_month P h February = h.1
+each_month P h March = h.2
+each_month P h April = h.3
+each_month P h May = h.4
+each_month P h June = h.5
+each_month P h July = h.6
+each_month P h August = h.7
+each_month P h September = h.8
+each_month P h October = h.9
+each_month P h November = h.10
+each_month P h December = h.11
+
+abbrev pub months : List Month
+months = January ∷ February ∷ March ∷ April ∷ May ∷ June ∷ July ∷ August ∷ September ∷ October ∷ November ∷ December ∷ []
+
+pub each_weekday : (P : Weekday → Type 0) → P Monday × P Tuesday × P Wednesday × P Thursday × P Friday × P Saturday × P Sunday → (v : Weekday) → P v
+each_weekday P h Monday = h.0
+each_weekday P h Tuesday = h.1
+each_weekday P h Wednesday = h.2
+each_weekday P h Thursday = h.3
+each_weekday P h Friday = h.4
+each_weekday P h Saturday = h.5
+each_weekday P h Sunday = h.6
+
+abbrev pub weekdays : List Weekday
+weekdays = Monday ∷ Tuesday ∷ Wednesday ∷ Thursday ∷ Friday ∷ Saturday ∷ Sunday ∷ []
 
 -- where each number of so many places fits, a run is one that fits
 pub run_fits : {A : Type 0} (value : A → ℕ) (greatest : ℕ) (padding : Padding) (least most : ℕ) (input : List ℕ)

@@ -1,9 +1,3 @@
-pub mod Laws
-pub mod Letters
-pub mod Names
-pub mod Nodes
-pub mod Shape
 pub mod ShortNames
 pub mod Spelling
-pub mod Steps
 pub mod Tree

@@ -1,11 +1,11 @@
 -- No public contract rests on this file.
 --
 -- The first three letters of names, and what follows them.
-use Rattle.std.specs.Prelude.{◌≡◌, ◌≢◌, ℕ, List, [], ◌∷◌, length, take, Bool, true, false, ◌&&◌, Option, MatchOption}
+use Rattle.std.specs.Prelude.{◌≡◌, ◌≢◌, ℕ, List, [], ◌∷◌, length, take, Bool, true, false, ◌&&◌, Option, MatchOption, ◌+◌, ◌<◌}
 use Rattle.std.specs.Char.{is_ascii_uppercase, is_ascii_lowercase}
 use Rattle.std.specs.Str.{str_to_ascii_lowercase}
-use Rattle.time_digits.specs.Cuts.{Form}
-use Rattle.time_components.specs.Names.{IsNamed}
+use Rattle.time_digits.specs.Digits.{Form}
+use Rattle.time_components.specs.Spelling.{IsNamed, first_digit}
 
 -- a capital and two small letters
 abbrev pub is_title_case : List ℕ → Bool
@@ -29,3 +29,18 @@ IsWithLetters {A} name_of letters result =
 -- The text is the ending of a name.
 abbrev pub IsEnding : List ℕ → Bool → Form (Unit {0})
 IsEnding ending case_sensitive text rest nothing = IsNamed case_sensitive ending text
+
+-- ---- Single digits and pairs of letters
+
+-- the digit of a weekday's number, 0 to 6
+abbrev pub IsDayDigit : Bool → Form ℕ
+IsDayDigit one_indexed text rest n = (text ≡ (first_digit one_indexed + n) ∷ []) × (n < 7)
+
+-- the letters as they stand where the case matters, and otherwise as small letters
+abbrev pub folded : Bool → List ℕ → List ℕ
+folded true letters = letters
+folded false letters = str_to_ascii_lowercase letters
+
+-- two bytes, as `folded` has them
+abbrev pub IsLetters : Bool → Form (List ℕ)
+IsLetters case_sensitive text rest letters = (length text ≡ 2) × (letters ≡ folded case_sensitive text)

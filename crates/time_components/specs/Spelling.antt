@@ -1,25 +1,36 @@
 -- How each component is spelled.
-use Rattle.std.specs.Prelude.{◌≡◌, ℕ, ◌+◌, ◌*◌, ◌%◌, ◌≤◌, ◌<◌, ◌⊎◌, ℤ, pos, List, [], ◌∷◌, length, take, Bool, true, false}
-use Rattle.time_values.specs.Month.{month_number}
+use Rattle.std.specs.Prelude.{◌≡◌, ℕ, List, Bool, true, false, codes, ◌+◌, ◌*◌, ◌%◌, ◌≤◌, ◌<◌, ◌⊎◌, ℤ, pos, [], ◌∷◌, length, take}
+use Rattle.std.specs.Str.{str_to_ascii_lowercase}
+use Rattle.time_values.specs.Names.{month_number, days_from_monday, month_name, weekday_name}
 use Rattle.time_values.specs.Sign.{signed_by}
-use Rattle.time_values.specs.Weekday.{days_from_monday}
 use Rattle.time_values.specs.declared.month.Month.{Month}
 use Rattle.time_values.specs.declared.weekday.Weekday.{Weekday}
 use Rattle.time_digits.specs.declared.Padding.{Padding}
 use Rattle.time_digits.specs.declared.Sign.{Sign}
 use Rattle.time_digits.specs.declared.Sign.TheVariants.{Positive}
+use Rattle.time_digits.specs.Digits.{sign_byte, is_negative, Form, IsDigitRun, IsPaddedRun, digits_value, fraction_nanoseconds, AtMostOneCut}
+use Rattle.time_components.specs.declared.format_description.Period.{Period}
+use Rattle.time_components.specs.declared.format_description.Period.TheVariants.{Am, Pm}
 use Rattle.time_components.specs.declared.format_description.Component.{Component}
 use Rattle.time_components.specs.declared.format_description.Component.TheVariants as component
-use Rattle.time_components.specs.declared.format_description.Period.{Period}
 use Rattle.time_components.specs.declared.modifier.SubsecondDigits.{SubsecondDigits}
 use Rattle.time_components.specs.declared.modifier.SubsecondDigits.TheVariants.{One, Two, Three, Four, Five, Six, Seven, Eight, Nine, OneOrMore}
 use Rattle.time_components.specs.declared.modifier.TrailingInput.{TrailingInput}
 use Rattle.time_components.specs.declared.modifier.TrailingInput.TheVariants.{Prohibit, Discard}
-use Rattle.time_digits.specs.Bytes.{sign_byte, is_negative}
-use Rattle.time_digits.specs.Cuts.{Form}
-use Rattle.time_digits.specs.Digits.{IsDigitRun, IsPaddedRun, digits_value, fraction_nanoseconds}
-use Rattle.time_values.specs.Names.{month_name, weekday_name}
-use Rattle.time_components.specs.Names.{period_name, IsNamed}
+
+-- ---- The names of halves of the day, and how a name is written
+
+-- the two letters of a half of the day, in capitals where the test says so
+abbrev pub period_name : Bool → Period → List ℕ
+period_name true Am = codes "AM"
+period_name true Pm = codes "PM"
+period_name false Am = codes "am"
+period_name false Pm = codes "pm"
+
+-- The text is the name: letter by letter where the case matters, and in any ASCII case otherwise.
+abbrev pub IsNamed : Bool → List ℕ → List ℕ → Type 0
+IsNamed true name text = text ≡ name
+IsNamed false name text = str_to_ascii_lowercase text ≡ str_to_ascii_lowercase name
 
 -- what a component's text says
 pub data Value : Type 0 where
@@ -201,3 +212,9 @@ Spells whole (component.UnixTimestampMillisecond m) = SaysTimestamp 1000000 m.si
 Spells whole (component.UnixTimestampMicrosecond m) = SaysTimestamp 1000 m.sign_is_mandatory 20
 Spells whole (component.UnixTimestampNanosecond m) = SaysTimestamp 1 m.sign_is_mandatory 23
 Spells whole (component.End m) = IsEnd m.trailing_input
+
+-- ---- Laws of the definitions, each proved by the function of module `laws` that has it as its contract
+
+-- for one input at most one cut spells a component
+abbrev pub OneSpelling : Type 0
+OneSpelling = (whole : Bool) (c : Component) → AtMostOneCut (Spells whole c)

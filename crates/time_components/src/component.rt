@@ -4,21 +4,17 @@
 //! spells that value, and `None` otherwise. A run of digits takes as many as it may, and nothing goes
 //! back.
 ghost use Rattle.std.specs.Prelude.{◌≤◌, false};
-ghost use Rattle.time_digits.specs.Cuts.{Finds};
+ghost use Rattle.time_digits.specs.Digits.{Finds};
 ghost use Rattle.time_components.specs.Spelling.{SaysOffsetHour, SaysYear, Spells, number, signed, flagged, month, weekday, period, nothing};
 ghost use Rattle.time_components.specs.declared.format_description.Component.TheVariants as component;
 
 pub mod fast;
-mod fractions;
-mod letters;
 mod names;
 mod numbers;
 
 use crate::{Padding, ParsedItem, Period, SubsecondDigits, TrailingInput, modifier};
-use fractions::{fraction, long_fraction};
-use letters::weekday_digit;
-use names::{ending_of, month_ending, weekday_ending};
-use numbers::{century, offset_part, timestamp, two_digits, two_places};
+use names::{ending_of, month_ending, weekday_digit, weekday_ending};
+use numbers::{century, fraction, long_fraction, offset_part, timestamp, two_digits, two_places};
 use std::num::NonZero;
 use time_values::{Month, Weekday};
 
@@ -441,7 +437,7 @@ pub fn parse_period(input: &[u8], modifiers: modifier::Period) -> Option<ParsedI
 {
     match fast::period(input, modifiers) {
         Some(period) => Some(period),
-        None => letters::period(input, modifiers),
+        None => names::period(input, modifiers),
     }
 }
 

@@ -1,8 +1,6 @@
-//! What an item of a description is.
+//! What an item of a description is, and the steps that one written as text is kept as.
 ghost use Rattle.std.specs.Prelude.{◌≡◌};
-ghost use Rattle.time_components.specs.Shape.{borrowed_shape, owned_shape, v3_shape};
-ghost use Rattle.time_components.specs.Tree.{Tree};
-ghost use Rattle.time_components.specs.Nodes.{node_tree};
+ghost use Rattle.time_components.specs.Tree.{borrowed_shape, owned_shape, v3_shape, Tree, node_tree};
 
 use crate::{BorrowedFormatItem, Component, FormatDescriptionV3Inner, OwnedFormatItem};
 
@@ -81,5 +79,38 @@ impl Inspect for FormatDescriptionV3Inner<'_> {
             FormatDescriptionV3Inner::OwnedOptional { ref item, .. } => Node::Optional(item),
             FormatDescriptionV3Inner::OwnedFirst(ref items) => Node::First(items),
         }
+    }
+}
+
+/// What the steps of a group are to one another.
+#[derive(Clone, Copy, Debug, PartialEq, Eq)]
+pub enum Group {
+    /// They are read in turn, or else nothing is.
+    Optional,
+    /// The first of them that reads is read.
+    First,
+    /// They are read in turn.
+    List,
+}
+
+/// A step of a description.
+#[derive(Clone, Copy, Debug, PartialEq, Eq)]
+pub enum Step {
+    /// The first byte of a literal.
+    Literal(u8),
+    /// A further byte of the literal before it.
+    More(u8),
+    /// A component.
+    Component(Component),
+    /// So many steps after this one are a group.
+    Group(Group, usize),
+}
+
+impl Default for Step {
+    ghost is_default = { λ step. Unit {0} };
+
+    #[inline(always)]
+    fn default() -> Step {
+        Step::Literal(0)
     }
 }

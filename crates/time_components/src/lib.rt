@@ -8,13 +8,11 @@ pub mod format_description;
 mod inspect;
 pub mod laws;
 pub mod modifier;
-mod step;
 
 pub use format_description::{
     BorrowedFormatItem, Component, FormatDescriptionV3, FormatDescriptionV3Inner, OwnedFormatItem,
     Period,
 };
-pub use inspect::{Inspect, Node};
+pub use inspect::{Group, Inspect, Node, Step};
 pub use modifier::{SubsecondDigits, TrailingInput};
-pub use step::{Group, Step};
 pub use time_digits::{Integer, Padding, ParsedItem, Sign, combinator};

@@ -1,10 +1,4 @@
 pub mod Checks
-pub mod DescribedLists
 pub mod DescribedText
-pub mod DescribedTrees
 pub mod OneTree
-pub mod Putting
 pub mod ReadDescribed
-pub mod ReadDescribedItems
-pub mod Turns
-pub mod WrittenParts

@@ -1,11 +1,13 @@
 -- Which trees a text of version 2 describes: those of items in turn.
-use Rattle.std.specs.Prelude.{ℕ, zero, suc, List, [], ◌∷◌, Bool, true, false, not, ◌&&◌, ◌||◌, nat_lt}
+use Rattle.std.specs.Prelude.{ℕ, zero, suc, List, [], ◌∷◌, Bool, true, false, not, ◌&&◌, ◌||◌, nat_lt, ◌≡◌, ◌<◌, length, ◌↔◌}
 use Rattle.time_components.specs.declared.format_description.Component.{Component}
 use Rattle.time_components.specs.declared.format_description.Component.TheVariants as component
 use Rattle.time_components.specs.Tree.{Tree, Trees, literal, component as component_tree, sequence, optional, first_of, none, more}
-use Rattle.time_descriptions.specs.declared.version.Version.TheVariants as versions
-use Rattle.time_descriptions.specs.Grammar.{is_plain, most_lists}
-use Rattle.time_descriptions.specs.Writing.{is_escaped}
+use Rattle.time_descriptions.specs.declared.leaf.Version.TheVariants as versions
+use Rattle.time_descriptions.specs.Grammar.{is_plain, most_lists, Describes}
+use Rattle.time_descriptions.specs.Writing.{is_escaped, tree_text}
+use Rattle.time_describing.specs.declared.described.NoText.{NoText}
+use Rattle.time_describing.specs.declared.described.NoText.TheVariants as no_text
 
 -- one byte that is written after a backslash
 abbrev pub is_escape : List ℕ → Bool
@@ -69,3 +71,28 @@ unfoldable mutual
 abbrev pub is_described : Tree → Bool
 is_described (sequence ts) = are_items most_lists false ts
 is_described _ = false
+
+-- ---- The text that is written of a tree, and what has none
+
+-- Some text of version 2 describes the tree.
+abbrev pub HasText : Tree → Type 0
+HasText tree = (text : List ℕ) × Describes versions.Two text tree
+
+-- These bytes are what is written of the tree, and describe it.
+abbrev pub IsTextOf : Tree → List ℕ → Type 0
+IsTextOf tree bytes = (bytes ≡ tree_text tree) × Describes versions.Two bytes tree
+
+-- Why no bytes are, where there is room for n: no text describes the tree, or what is written of it is longer.
+abbrev pub IsNoText : ℕ → Tree → NoText → Type 0
+IsNoText n tree no_text.Undescribed = HasText tree → ⊥
+IsNoText n tree no_text.TooLong = HasText tree × (n < length (tree_text tree))
+
+-- ---- What holds of texts of descriptions
+
+-- The trees that some text describes are those of items in turn that may stand so.
+abbrev pub DescribedTrees : Type 0
+DescribedTrees = (tree : Tree) → (is_described tree ≡ true) ↔ HasText tree
+
+-- Trees of which the same is written are one tree.
+abbrev pub OneTree : Type 0
+OneTree = (a b : Tree) → HasText a → HasText b → tree_text a ≡ tree_text b → a ≡ b

@@ -2,11 +2,12 @@
 --
 -- The parts of what is written of a component, between its brackets: its name with the modifiers that tell its form,
 -- its padding, another modifier, and the digits of its count.
-use Rattle.std.specs.Prelude.{ℕ, List, [], ◌++◌, codes, if◌then◌else◌}
+use Rattle.std.specs.Prelude.{ℕ, List, [], ◌++◌, codes, if◌then◌else◌, ◌≡◌, ◌+◌, ◌<◌, length, Result, Ok, Err}
 use Rattle.std.specs.Fmt.{decimal}
 use Rattle.time_components.specs.declared.format_description.Component.{Component}
 use Rattle.time_components.specs.declared.format_description.Component.TheVariants as component
-use Rattle.time_descriptions.specs.Writing.{padding_text, sign_text, case_sensitive_text, one_indexed_text, digits_text, trailing_input_text}
+use Rattle.time_components.specs.Tree.{Tree}
+use Rattle.time_descriptions.specs.Writing.{padding_text, sign_text, case_sensitive_text, one_indexed_text, digits_text, trailing_input_text, tree_text}
 
 abbrev pub name_part : Component → List ℕ
 name_part (component.Day m) = codes "day"
@@ -105,3 +106,15 @@ count_part _ = []
 -- all of them
 abbrev pub parts_of : Component → List ℕ
 parts_of c = name_part c ++ (padding_part c ++ (modifier_part c ++ count_part c))
+
+-- ---- What a writer does to the bytes that stand
+
+-- These bytes are put after the old ones, where there is room for n in all; where there isn't, nothing is said of what
+-- stands.
+abbrev pub Puts : {A E : Type 0} → ℕ → List ℕ → List ℕ → Result A E → List ℕ → Type 0
+Puts n bytes old (Ok x) new = new ≡ old ++ bytes
+Puts n bytes old (Err e) new = n < length old + length bytes
+
+-- a list of a choice, with the space before it
+abbrev pub list_text : Tree → List ℕ
+list_text t = codes " [" ++ (tree_text t ++ codes "]")

@@ -1,13 +1,12 @@
 //! What is written of a component.
-ghost use Rattle.std.specs.Prelude.{◌≡◌, ◌++◌, codes};
-ghost use Rattle.std.specs.Prelude.{false};
+ghost use Rattle.std.specs.Prelude.{◌≡◌, ◌++◌, codes, false};
 ghost use Rattle.time_components.specs.Tree as tree;
 ghost use Rattle.time_descriptions.specs.Writing as writing;
 ghost use Rattle.time_descriptions.specs.Writing.{tree_text};
 ghost use Rattle.time_describing.specs.Parts as parts;
-ghost use Rattle.time_describing.specs.Puts.{Puts};
+ghost use Rattle.time_describing.specs.Parts.{Puts};
 
-use crate::text::{DescriptionText, Full};
+use crate::writing::{DescriptionText, Full};
 use itoa::Buffer;
 use time_components::{Component, Padding, SubsecondDigits, TrailingInput};
 

@@ -1,12 +1,16 @@
-//! Which items a text describes.
-ghost use Rattle.std.specs.Prelude.{◌≡◌, ◌&&◌, map};
+//! Which items a text describes, and the text of items.
+ghost use Rattle.std.specs.Prelude.{◌≡◌, ◌&&◌, map, IfErr, IfOk};
 ghost use Rattle.std.specs.List.{prefix_len};
 ghost use Rattle.time_components.specs.Tree.{trees};
 ghost use Rattle.time_descriptions.specs.Grammar as grammar;
-ghost use Rattle.time_descriptions.specs.declared.version.Version.TheVariants as versions;
+ghost use Rattle.time_descriptions.specs.declared.leaf.Version.TheVariants as versions;
 ghost use Rattle.time_describing.specs.Described as described;
+ghost use Rattle.time_descriptions.specs.Description as description;
+ghost use Rattle.time_describing.specs.Described.{IsNoText, IsTextOf};
 
+use crate::writing::{DescriptionText, put_item};
 use time_components::{Component, Inspect, Node};
+use time_descriptions::{Description, parse_borrowed};
 
 // How many lists may stand inside one another.
 const MOST_LISTS: usize = 8;
@@ -141,5 +145,53 @@ pub fn is_described<I: Inspect>(item: &I) -> bool
     match item.node() {
         Node::List(items) => are_items(MOST_LISTS, false, items),
         _ => false,
+    }
+}
+
+/// Why an item has no text.
+#[derive(Clone, Copy, Debug, PartialEq, Eq)]
+pub enum NoText {
+    /// No text describes it, as [`is_described`](crate::is_described) says.
+    Undescribed,
+    /// Its text has more bytes than there is room for.
+    TooLong,
+}
+
+/// The text that describes an item, by version 2, of at most `N` bytes. Of a component's modifiers it has those that
+/// aren't the default, and of white space one byte before each modifier and each list.
+///
+/// # Errors
+///
+/// [`NoText::Undescribed`] exactly where no text describes the item, whatever its length; [`NoText::TooLong`] exactly
+/// where one does, and this one has more than `N` bytes.
+pub fn text_of<const N: usize, I: Inspect>(item: &I) -> Result<DescriptionText<N>, NoText>
+    ensures ok { IfOk result (λ text. IsTextOf (I.shape item.now) text.bytes.items) }
+    ensures err { IfErr result (λ e. IsNoText N (I.shape item.now) e) }
+{
+    if !is_described(item) {
+        return Err(NoText::Undescribed);
+    }
+    let mut text = DescriptionText::new();
+    match put_item(item, &mut text) {
+        Ok(()) => Ok(text),
+        Err(_) => Err(NoText::TooLong),
+    }
+}
+
+/// The description of an item, of at most `N` steps: its text, read back. It has the item's tree.
+///
+/// # Errors
+///
+/// Those of [`text_of`].
+pub fn description_of<const N: usize, I: Inspect>(item: &I) -> Result<Description<N>, NoText>
+    ensures ok { IfOk result (λ d. description.shape d ≡ I.shape item.now) }
+    ensures err { IfErr result (λ e. IsNoText N (I.shape item.now) e) }
+{
+    match text_of::<N, I>(item) {
+        Err(reason) => Err(reason),
+        Ok(text) => match parse_borrowed::<2, N>(text.as_bytes()) {
+            Ok(description) => Ok(description),
+            Err(_) => Err(NoText::Undescribed),
+        },
     }
 }

@@ -2,12 +2,9 @@
 #![tactic(auto)]
 
 mod component;
-mod describe;
 mod described;
 pub mod laws;
-mod text;
 mod writing;
 
-pub use describe::{NoText, description_of, text_of};
-pub use described::is_described;
-pub use text::DescriptionText;
+pub use described::{NoText, description_of, is_described, text_of};
+pub use writing::DescriptionText;

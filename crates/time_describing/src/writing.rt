@@ -1,12 +1,12 @@
-//! What is written of items.
-ghost use Rattle.std.specs.Prelude.{map};
+//! What is written of items, in a text of at most so many bytes.
+ghost use Rattle.std.specs.Prelude.{map, ◌≡◌, ◌≤◌, [], length};
 ghost use Rattle.time_components.specs.Tree as tree;
 ghost use Rattle.time_components.specs.Tree.{trees};
 ghost use Rattle.time_descriptions.specs.Writing.{lists_text, tree_text, trees_text};
-ghost use Rattle.time_describing.specs.Puts.{list_text, Puts};
+ghost use Rattle.time_describing.specs.Parts.{list_text, Puts};
 
 use crate::component::put_component;
-use crate::text::{DescriptionText, Full};
+use arrayvec::ArrayVec;
 use time_components::{Inspect, Node};
 
 // Puts a literal, with a backslash before a byte that is none by itself.
@@ -101,4 +101,43 @@ fn put_list<const N: usize, I: Inspect>(item: &I, text: &mut DescriptionText<N>)
     text.put(b" [")?;
     put_item(item, text)?;
     text.put(b"]")
+}
+
+/// The text of a description, of at most `N` bytes. It allocates nothing: it is an array and a length.
+#[derive(Debug, Drop)]
+pub struct DescriptionText<const N: usize> {
+    pub(crate) bytes: ArrayVec<u8, N>,
+}
+
+/// There is no room for a text.
+#[derive(Clone, Copy)]
+pub(crate) struct Full;
+
+impl<const N: usize> DescriptionText<N> {
+    /// The bytes.
+    pub fn as_bytes(&self) -> &[u8]
+        ensures value { result.now ≡ self.now.bytes.items }
+        ensures fits { length result.now ≤ N }
+    {
+        self.bytes.as_slice()
+    }
+
+    // The empty text.
+    pub(crate) fn new() -> DescriptionText<N>
+        ensures { result.bytes.items ≡ [] }
+    {
+        DescriptionText {
+            bytes: ArrayVec::new(),
+        }
+    }
+
+    // Puts bytes after those that stand, if there is room.
+    pub(crate) fn put(&mut self, bytes: &[u8]) -> Result<(), Full>
+        ensures { Puts N bytes.now self.old.bytes.items result self.new.bytes.items }
+    {
+        match self.bytes.try_extend_from_slice(bytes) {
+            Ok(()) => Ok(()),
+            Err(_) => Err(Full),
+        }
+    }
 }

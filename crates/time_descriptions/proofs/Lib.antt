@@ -1,17 +1,8 @@
 pub mod Adding
-pub mod Begun
-pub mod Ignored
-pub mod ModifierSteps
-pub mod Owning
 pub mod ReadComponents
-pub mod ReadCounts
-pub mod Rows
 pub mod Shapes
-pub mod StrftimePieces
-pub mod VersionCounts
 pub mod Versions
 pub mod Written
 pub mod WrittenComponents
-pub mod WrittenCounts
 pub mod WrittenLeaves
 pub mod WrittenLists

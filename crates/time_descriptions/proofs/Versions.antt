@@ -5,23 +5,22 @@ use Rattle.std.specs.List.{prefix_len}
 use Rattle.std.specs.Option.{option_map}
 use Rattle.std.specs.Prelude.{◌==◌, ◌&&◌, IfOk, IfSome, if◌then◌else◌}
 use Rattle.time_components.specs.declared.format_description.Component.{Component}
-use Rattle.time_components.specs.declared.step.Group.{Group}
-use Rattle.time_components.specs.declared.step.Group.TheVariants as groups
-use Rattle.time_descriptions.specs.declared.fault.Expectation.TheVariants as expected
-use Rattle.time_descriptions.specs.declared.fault.Fault.{Fault}
-use Rattle.time_descriptions.specs.declared.fault.Fault.TheVariants as fault
-use Rattle.time_descriptions.specs.declared.fault.Unsupported.TheVariants as unsupported
+use Rattle.time_components.specs.declared.inspect.Group.{Group}
+use Rattle.time_components.specs.declared.inspect.Group.TheVariants as groups
+use Rattle.time_descriptions.specs.declared.error.Expectation.TheVariants as expected
+use Rattle.time_descriptions.specs.declared.error.Fault.{Fault}
+use Rattle.time_descriptions.specs.declared.error.Fault.TheVariants as fault
+use Rattle.time_descriptions.specs.declared.error.Unsupported.TheVariants as unsupported
 use Rattle.time_descriptions.specs.declared.modifiers.Modifiers.{Modifiers}
 use Rattle.time_descriptions.specs.declared.names.ComponentName.{ComponentName}
 use Rattle.time_descriptions.specs.declared.values.Modifier.{Modifier}
-use Rattle.time_descriptions.specs.declared.version.Version.TheVariants as versions
+use Rattle.time_descriptions.specs.declared.leaf.Version.TheVariants as versions
 use Rattle.time_descriptions.specs.Components.{Read, ◌>>=◌, or_fault, after_component, bracketed, modifier, modifiers}
 use Rattle.time_descriptions.specs.Grammar.{after_byte, before, begins_with, by_option, closed, description, ends, escaped, group_by, group_named, group_word, inside_by, is_plain, item, items_by, leaf, list_by, lists_by, next_list, opened, space_after, tail_after}
 use Rattle.time_descriptions.specs.Items.{Item, component, group, items_of, literal}
-use Rattle.time_descriptions.specs.Laws.{has_no_escape}
+use Rattle.time_descriptions.specs.Description.{has_no_escape}
 use Rattle.time_descriptions.specs.Modifiers as chosen
-use Rattle.time_descriptions.specs.Names.{component_names}
-use Rattle.time_descriptions.specs.Words.{is_of_word, is_space, look_up}
+use Rattle.time_descriptions.specs.Values.{component_names, is_of_word, is_space, look_up}
 
 abbrev pub Bare : List ℕ → Type 0
 Bare text = has_no_escape text ≡ true

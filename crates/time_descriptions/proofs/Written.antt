@@ -5,16 +5,16 @@ use Rattle.std.specs.List.{prefix_len}
 use Rattle.std.specs.Option.{option_map}
 use Rattle.std.specs.Str.{bytes_eq}
 use Rattle.std.specs.Prelude.{◌==◌, codes, IfOk, IfSome, if◌then◌else◌}
-use Rattle.time_components.specs.declared.step.Group.{Group}
-use Rattle.time_components.specs.declared.step.Group.TheVariants as groups
-use Rattle.time_descriptions.specs.declared.fault.Fault.{Fault}
-use Rattle.time_descriptions.specs.declared.fault.Fault.TheVariants as fault
-use Rattle.time_descriptions.specs.declared.fault.Unsupported.TheVariants as unsupported
-use Rattle.time_descriptions.specs.declared.version.Version.TheVariants as versions
+use Rattle.time_components.specs.declared.inspect.Group.{Group}
+use Rattle.time_components.specs.declared.inspect.Group.TheVariants as groups
+use Rattle.time_descriptions.specs.declared.error.Fault.{Fault}
+use Rattle.time_descriptions.specs.declared.error.Fault.TheVariants as fault
+use Rattle.time_descriptions.specs.declared.error.Unsupported.TheVariants as unsupported
+use Rattle.time_descriptions.specs.declared.leaf.Version.TheVariants as versions
 use Rattle.time_descriptions.specs.Components.{Read, ◌>>=◌}
 use Rattle.time_descriptions.specs.Grammar.{by_option, closed, description, ends, group_by, group_named, group_word, inside_by, item, items_by, leaf, list_by, lists_by, next_list, opened}
 use Rattle.time_descriptions.specs.Items.{Item, group, items_of}
-use Rattle.time_descriptions.specs.Words.{is_of_word, is_space}
+use Rattle.time_descriptions.specs.Values.{is_of_word, is_space}
 use Rattle.time_descriptions.proofs.WrittenLeaves.{IsBack, and_false, leaf_back}
 use Rattle.time_descriptions.proofs.WrittenLists.{AreBack, ChoiceBack, ListBack, choice_back, items_back, list_back, lists_of, text_of}
 

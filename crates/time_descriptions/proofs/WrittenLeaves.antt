@@ -5,18 +5,17 @@ use Rattle.std.proofs.lemmas.Bool.{false≢true, not-true}
 use Rattle.std.specs.List.{prefix_len}
 use Rattle.std.specs.Prelude.{◌==◌, ◌&&◌, IfOk, if◌then◌else◌}
 use Rattle.time_components.specs.declared.format_description.Component.{Component}
-use Rattle.time_descriptions.specs.declared.fault.Expectation.TheVariants as expected
-use Rattle.time_descriptions.specs.declared.fault.Fault.{Fault}
-use Rattle.time_descriptions.specs.declared.fault.Fault.TheVariants as fault
-use Rattle.time_descriptions.specs.declared.version.Version.TheVariants as versions
+use Rattle.time_descriptions.specs.declared.error.Expectation.TheVariants as expected
+use Rattle.time_descriptions.specs.declared.error.Fault.{Fault}
+use Rattle.time_descriptions.specs.declared.error.Fault.TheVariants as fault
+use Rattle.time_descriptions.specs.declared.leaf.Version.TheVariants as versions
 use Rattle.time_descriptions.specs.Components.{Read, ◌>>=◌, bracketed}
 use Rattle.time_descriptions.specs.Grammar.{ends, escaped, group_word, is_plain, item, leaf}
 use Rattle.time_descriptions.specs.Items.{Item, component, literal, tree_of}
 use Rattle.time_descriptions.specs.Writing.{is_escaped, tree_text, words_of}
 use Rattle.time_descriptions.proofs.Adding.{plain_item}
 use Rattle.time_descriptions.proofs.ReadComponents.{Named, bracketed_fits}
-use Rattle.time_descriptions.proofs.WrittenComponents.{component_back}
-use Rattle.time_descriptions.proofs.WrittenCounts.{Fits}
+use Rattle.time_descriptions.proofs.WrittenComponents.{component_back, Fits}
 
 -- what is written of an item
 abbrev pub item_text : Item → List ℕ

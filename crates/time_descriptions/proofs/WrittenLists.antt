@@ -2,9 +2,9 @@
 use Rattle.std.proofs.Common.{◌≡◌, ℕ, zero, suc, ◌-◌, ◌≤◌, List, [], ◌∷◌, ◌++◌, length, Bool, true, false, not, Option, Some, None, Result, Ok, Err, refl, ap, sym, ◌∙◌, append_assoc, append-nil, length-append, arith}
 use Rattle.std.proofs.lemmas.Bool.{and_right}
 use Rattle.std.specs.Prelude.{◌==◌, ◌&&◌, IfOk, if◌then◌else◌}
-use Rattle.time_components.specs.declared.step.Group.TheVariants as groups
-use Rattle.time_descriptions.specs.declared.fault.Fault.{Fault}
-use Rattle.time_descriptions.specs.declared.fault.Fault.TheVariants as fault
+use Rattle.time_components.specs.declared.inspect.Group.TheVariants as groups
+use Rattle.time_descriptions.specs.declared.error.Fault.{Fault}
+use Rattle.time_descriptions.specs.declared.error.Fault.TheVariants as fault
 use Rattle.time_descriptions.specs.Components.{Read, ◌>>=◌}
 use Rattle.time_descriptions.specs.Grammar.{after_byte, before, by_option, ends, items_by, list_by, lists_by, next_list}
 use Rattle.time_descriptions.specs.Items.{Item, group, items_of, trees_of}

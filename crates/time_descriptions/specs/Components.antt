@@ -1,17 +1,17 @@
 -- What brackets around a component's name say. Bytes are read from the left, and the first fault counts.
-use Rattle.std.specs.Prelude.{◌≡◌, ℕ, zero, suc, List, [], ◌∷◌, not, ◌==◌, ◌+◌, ◌-◌, length, take, drop, Option, Some, None, Result, Ok, Err, if◌then◌else◌}
+use Rattle.std.specs.Prelude.{◌≡◌, ℕ, zero, suc, List, [], ◌∷◌, not, ◌==◌, ◌+◌, ◌-◌, length, take, drop, Option, Some, None, Result, Ok, Err, if◌then◌else◌, ◌⊎◌, ◌<◌, ◌≤◌, ◌++◌}
 use Rattle.std.specs.List.{prefix_len}
+use Rattle.std.proofs.Common.{Bor}
 use Rattle.time_components.specs.declared.format_description.Component.{Component}
-use Rattle.time_descriptions.specs.declared.fault.Fault.{Fault}
-use Rattle.time_descriptions.specs.declared.fault.Fault.TheVariants as fault
-use Rattle.time_descriptions.specs.declared.fault.Expectation.TheVariants as expected
+use Rattle.time_components.specs.declared.inspect.Step.{Step}
+use Rattle.time_descriptions.specs.declared.error.Fault.{Fault}
+use Rattle.time_descriptions.specs.declared.error.Fault.TheVariants as fault
+use Rattle.time_descriptions.specs.declared.error.Expectation.TheVariants as expected
 use Rattle.time_descriptions.specs.declared.modifiers.Modifiers.{Modifiers}
 use Rattle.time_descriptions.specs.declared.names.ComponentName.{ComponentName}
 use Rattle.time_descriptions.specs.declared.values.Modifier.{Modifier}
 use Rattle.time_descriptions.specs.Modifiers as chosen
-use Rattle.time_descriptions.specs.Names.{component_names, modifier_keys}
-use Rattle.time_descriptions.specs.Values.{modifier_value}
-use Rattle.time_descriptions.specs.Words.{is_space, is_of_word, look_up}
+use Rattle.time_descriptions.specs.Values.{component_names, modifier_keys, modifier_value, is_space, is_of_word, look_up}
 
 -- what is read in front of a text, and the bytes left after it; or the first fault
 abbrev pub Read : Type 0 → Type 0
@@ -76,3 +76,17 @@ bracketed text =
     >>= λ read. after_component (length text) read.1
     >>= λ rest. or_fault (fault.MissingCount (length named)) (chosen.component_of name read.0)
     >>= λ c. Ok (c, rest))
+
+-- ---- What a reader of items does to the steps that are there
+
+-- So many steps are begun beside the old ones, where there is room for n in all. What was added are the steps of what
+-- is read, which are those that are begun; or the first fault is told; or exactly where more are begun than there is
+-- room for, that there is none. Steps that were added and bytes left are no more than bytes.
+abbrev pub Adds : {A : Type 0} → (A → List Step) → ℕ → Read A → ℕ → ℕ
+    → List Step → Result (Bor (List ℕ)) Fault → List Step → Type 0
+Adds {A} steps n read begun bytes old (Ok rest) new =
+    (x : A) × (read ≡ Ok (x, rest.now)) × (new ≡ old ++ steps x) × (length new + length rest.now ≤ length old + bytes)
+    × (begun ≡ length (steps x)) × (begun ≤ n - length old)
+Adds steps n read begun bytes old (Err e) new =
+    ((e ≡ fault.NoRoom) × (n < length old + bytes) × (n - length old < begun))
+    ⊎ ((read ≡ Err e) × (begun ≤ n - length old))

@@ -1,14 +1,17 @@
 -- What a text describes, as a reader of descriptions answers it.
-use Rattle.std.specs.Prelude.{◌≡◌, ◌⊎◌, ℕ, ◌==◌, ◌<◌, List, length, Err, if◌then◌else◌}
-use Rattle.time_components.specs.Steps.{steps_shape}
-use Rattle.time_components.specs.Tree.{Tree}
+use Rattle.std.specs.Prelude.{◌≡◌, ◌⊎◌, ℕ, ◌==◌, ◌<◌, List, length, Err, if◌then◌else◌, [], ◌∷◌, ◌++◌, option_and_then, Option, Some, None, ◌↔◌, Bool, true, not, ◌&&◌, Ok}
+use Rattle.std.specs.List.{flat_map}
+use Rattle.std.specs.Option.{option_map}
+use Rattle.time_components.specs.Tree.{steps_shape, Tree, sequence}
 use Rattle.time_descriptions.specs.declared.description.Description.{Description}
-use Rattle.time_descriptions.specs.declared.fault.Fault.{Fault}
-use Rattle.time_descriptions.specs.declared.version.Version.{Version}
-use Rattle.time_descriptions.specs.declared.version.Version.TheVariants as versions
-use Rattle.time_descriptions.specs.Grammar.{description}
-use Rattle.time_descriptions.specs.Counting.{TakesMore, TakesAtMost}
+use Rattle.time_descriptions.specs.declared.error.Fault.{Fault}
+use Rattle.time_descriptions.specs.declared.leaf.Version.{Version}
+use Rattle.time_descriptions.specs.declared.leaf.Version.TheVariants as versions
+use Rattle.time_descriptions.specs.Grammar.{description, TakesMore, TakesAtMost, steps_begun, Describes, begins_with}
 use Rattle.time_descriptions.specs.Refusal.{Refusal, refusal_at, too_long}
+use Rattle.time_descriptions.specs.Items.{Item, literal, component, items_of, trees_of, flat}
+use Rattle.time_descriptions.specs.Strftime.{meaning, flag_padding, padded, DescribesStrftime, Fits, IsRefusedStrftime}
+use Rattle.time_descriptions.specs.Writing.{tree_text}
 
 -- the tree that a description is
 abbrev pub shape : {N : ℕ} → Description N → Tree
@@ -24,3 +27,86 @@ abbrev pub IsRefused : ℕ → Version → List ℕ → Refusal → Type 0
 IsRefused n version text refusal =
     ((refusal ≡ too_long) × (n < length text) × TakesMore n version text)
     ⊎ ((e : Fault) × (description version text ≡ Err e) × (refusal ≡ refusal_at text e) × TakesAtMost n version text)
+
+-- ---- A description as strftime has it, piece by piece
+
+pub data Piece : Type 0 where
+  -- a byte that stands as it is
+  byte : ℕ → Piece
+  -- a conversion, by its letter
+  conversion : ℕ → Piece
+  -- a conversion with a flag, by the flag and the letter
+  flagged : ℕ → ℕ → Piece
+
+abbrev pub piece_text : Piece → List ℕ
+piece_text (byte b) = b ∷ []
+piece_text (conversion letter) = 37 ∷ letter ∷ []
+piece_text (flagged flag letter) = 37 ∷ flag ∷ letter ∷ []
+
+-- what a piece stands for, by the tables of letters and of flags
+abbrev pub piece_items : Piece → Option (List Item)
+piece_items (byte b) = if b == 37 then None else Some (literal b [] ∷ [])
+piece_items (conversion letter) = meaning letter
+piece_items (flagged flag letter) =
+    option_and_then (λ p. option_map (λ c. component c ∷ []) (padded p letter)) (flag_padding flag)
+
+-- what pieces in turn stand for, if each stands for something
+abbrev pub all_items : List Piece → Option (List Item)
+all_items [] = Some []
+all_items (piece ∷ pieces) =
+    option_and_then (λ here. option_map (λ there. here ++ there) (all_items pieces)) (piece_items piece)
+
+-- The text is of pieces that stand for the tree's items in turn.
+abbrev pub HasPieces : List ℕ → Tree → Type 0
+HasPieces text tree =
+    (pieces : List Piece) × (is : List Item) × (text ≡ flat_map piece_text pieces) × (all_items pieces ≡ Some is)
+    × (tree ≡ sequence (trees_of (items_of is)))
+
+-- ---- What holds of descriptions
+
+-- a text describes one tree
+abbrev pub OneDescription : Type 0
+OneDescription = (version : Version) (text : List ℕ) (a b : Tree) → Describes version text a
+    → Describes version text b → a ≡ b
+
+-- a text describes one tree, as strftime has it
+abbrev pub OneStrftimeDescription : Type 0
+OneStrftimeDescription = (text : List ℕ) (a b : Tree) → DescribesStrftime text a → DescribesStrftime text b → a ≡ b
+
+-- whether the text has neither a backslash nor two opening brackets in a row
+unfoldable pub has_no_escape : List ℕ → Bool
+has_no_escape [] = true
+has_no_escape (b ∷ rest) = not (b == 92) && not (b == 91 && begins_with 91 rest) && has_no_escape rest
+
+-- versions 1 and 2 read such a text alike: it describes the same trees, and it is refused in the same way
+abbrev pub VersionsAgree : Type 0
+VersionsAgree = (text : List ℕ) → has_no_escape text ≡ true
+    → ((tree : Tree) → (Describes versions.One text tree ↔ Describes versions.Two text tree))
+    × ((n : ℕ) (r : Refusal) → (IsRefused n versions.One text r ↔ IsRefused n versions.Two text r))
+
+-- The text that is written of a tree describes it, if any text does.
+abbrev pub DescribedBack : Type 0
+DescribedBack = (text : List ℕ) (tree : Tree) → Describes versions.Two text tree
+    → Describes versions.Two (tree_text tree) tree
+
+-- A text of strftime that is refused, where there is room for n steps, is refused in one way, and describes no tree of
+-- so many.
+abbrev pub OneStrftimeOutcome : Type 0
+OneStrftimeOutcome = (n : ℕ) (text : List ℕ) (r : Refusal) → IsRefusedStrftime n text r
+    → ((s : Refusal) → IsRefusedStrftime n text s → r ≡ s)
+    × ((tree : Tree) → DescribesStrftime text tree → Fits n text → ⊥)
+
+-- A text that is refused, where there is room for n steps, is refused in one way, and describes no tree in so many.
+abbrev pub OneOutcome : Type 0
+OneOutcome = (n : ℕ) (version : Version) (text : List ℕ) (r : Refusal) → IsRefused n version text r
+    → ((s : Refusal) → IsRefused n version text s → r ≡ s)
+    × ((tree : Tree) → Describes version text tree → TakesAtMost n version text → ⊥)
+
+-- A text that is read begins the steps of its items.
+abbrev pub StepsOfRead : Type 0
+StepsOfRead = (version : Version) (text : List ℕ) (is : List Item) → description version text ≡ Ok (is, [])
+    → steps_begun version text ≡ length (flat is)
+
+-- A text of strftime describes the tree of its pieces, each of which stands for what the tables say, and no other.
+abbrev pub StrftimePieces : Type 0
+StrftimePieces = (text : List ℕ) (tree : Tree) → (DescribesStrftime text tree ↔ HasPieces text tree)

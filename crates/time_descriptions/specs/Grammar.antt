@@ -1,5 +1,4 @@
 -- The grammar of descriptions. Bytes are read from the left, and the first fault counts.
---
 --     description = { item }                                to the end of the text
 --     list        = "[" , { item } , "]"
 --     item        = literal | escape | component | optional | first
@@ -8,23 +7,30 @@
 --     escape      = "[[" in version 1, for "[" | "\" , ( "[" | "]" | "\" ) in version 2, for that byte
 --     optional    = "[" , [ space ] , "optional" , space , list , [ space ] , "]"
 --     first       = "[" , [ space ] , "first" , space , list , { [ space ] , list } , [ space ] , "]"
-use Rattle.std.specs.Prelude.{◌≡◌, ℕ, zero, suc, List, [], ◌∷◌, ◌++◌, Bool, true, false, not, ◌&&◌, ◌||◌, ◌==◌, length, take, drop, codes, Option, Some, None, Result, Ok, Err, if◌then◌else◌}
+use Rattle.std.specs.Prelude.{◌≡◌, ℕ, zero, suc, List, [], ◌∷◌, ◌++◌, Bool, true, false, not, ◌&&◌, ◌||◌, ◌==◌, length, take, drop, codes, Option, Some, None, Result, Ok, Err, if◌then◌else◌, ◌+◌, ◌<◌, ◌≤◌, map}
 use Rattle.std.specs.List.{prefix_len}
 use Rattle.std.specs.Option.{option_map}
 use Rattle.std.specs.Str.{bytes_eq}
-use Rattle.time_components.specs.Tree.{Tree, sequence}
-use Rattle.time_descriptions.specs.declared.fault.Fault.{Fault}
-use Rattle.time_descriptions.specs.declared.fault.Fault.TheVariants as fault
-use Rattle.time_descriptions.specs.declared.fault.Expectation.{Expectation}
-use Rattle.time_descriptions.specs.declared.fault.Expectation.TheVariants as expected
-use Rattle.time_descriptions.specs.declared.fault.Unsupported.TheVariants as unsupported
-use Rattle.time_components.specs.declared.step.Group.{Group}
-use Rattle.time_components.specs.declared.step.Group.TheVariants as groups
-use Rattle.time_descriptions.specs.declared.version.Version.{Version}
-use Rattle.time_descriptions.specs.declared.version.Version.TheVariants as versions
+use Rattle.std.specs.Borrow.{Bor}
+use Rattle.time_components.specs.Tree.{Tree, sequence, owned_shape}
+use Rattle.time_components.specs.declared.inspect.Group.{Group}
+use Rattle.time_components.specs.declared.inspect.Group.TheVariants as groups
+use Rattle.time_components.specs.declared.format_description.OwnedFormatItem.{OwnedFormatItem}
+use Rattle.time_descriptions.specs.declared.error.Fault.{Fault}
+use Rattle.time_descriptions.specs.declared.error.Fault.TheVariants as fault
+use Rattle.time_descriptions.specs.declared.error.Expectation.{Expectation}
+use Rattle.time_descriptions.specs.declared.error.Expectation.TheVariants as expected
+use Rattle.time_descriptions.specs.declared.error.Unsupported.TheVariants as unsupported
+use Rattle.time_descriptions.specs.declared.leaf.Version.{Version}
+use Rattle.time_descriptions.specs.declared.leaf.Version.TheVariants as versions
 use Rattle.time_descriptions.specs.Components.{Read, ◌>>=◌, bracketed}
-use Rattle.time_descriptions.specs.Items.{Item, literal, component, group, items_of, trees_of}
-use Rattle.time_descriptions.specs.Words.{is_space, is_of_word}
+use Rattle.time_descriptions.specs.Items.{Item, literal, component, group, items_of, trees_of, steps_of, tree_of}
+use Rattle.time_descriptions.specs.Values.{is_space, is_of_word}
+use Rattle.time_descriptions.specs.declared.owned.OwnedError.{OwnedError}
+use Rattle.time_descriptions.specs.declared.owned.OwnedError.TheVariants as error
+use Rattle.time_descriptions.specs.declared.owned.Unread.{Unread}
+use Rattle.time_descriptions.specs.declared.owned.Unread.TheVariants as unread
+use Rattle.time_descriptions.specs.Refusal.{refusal_at, refusal_of, refusal_text}
 
 -- whether a backslash escapes
 abbrev pub has_backslash : Version → Bool
@@ -172,3 +178,95 @@ description version text = items version most_lists false text
 unfoldable pub Describes : Version → List ℕ → Tree → Type 0
 Describes version text tree =
     (is : List Item) × (description version text ≡ Ok (is, [])) × (tree ≡ sequence (trees_of (items_of is)))
+
+-- ---- How many steps a text begins, up to its first fault or its end: those of what is read; of a group that is open
+-- there one for itself and one for each list that is begun in a choice, and what those begin
+
+-- what is counted of what is read, and nothing of a fault
+abbrev pub counted : {A : Type 0} → (A → ℕ) → Result A Fault → ℕ
+counted count (Ok x) = count x
+counted count (Err e) = 0
+
+-- of items, by a reader of an item and how many that begins
+unfoldable pub items_begun : (List ℕ → Read Item) → (List ℕ → ℕ) → ℕ → Bool → List ℕ → ℕ
+items_begun item begun zero nested text = 0
+items_begun item begun (suc n) nested text =
+    if ends nested text then 0
+    else begun text + counted (λ x. items_begun item begun n nested x.1) (item text)
+
+-- of a list that is open
+abbrev pub list_begun : (List ℕ → Read Item) → (List ℕ → ℕ) → List ℕ → ℕ
+list_begun item begun text = items_begun item begun (length text) true text
+
+-- of lists, each with one for itself
+unfoldable pub lists_begun : (List ℕ → Read Item) → (List ℕ → ℕ) → ℕ → ℕ → List ℕ → ℕ
+lists_begun item begun opening zero text = 0
+lists_begun item begun opening (suc n) text =
+    1 + list_begun item begun text
+    + counted (λ x. by_option 0 (lists_begun item begun opening n) (next_list x.1)) (list_by item opening text)
+
+-- of what stands in a group
+abbrev pub inside_begun : (List ℕ → Read Item) → (List ℕ → ℕ) → ℕ → Group → List ℕ → ℕ
+inside_begun item begun opening groups.Optional text = list_begun item begun text
+inside_begun item begun opening _ text = lists_begun item begun opening (suc (length text)) text
+
+-- of a group, one for itself
+unfoldable pub group_begun : (List ℕ → Read Item) → (List ℕ → ℕ) → ℕ → Group × List ℕ → ℕ
+group_begun item begun opening found =
+    counted (λ text. 1 + inside_begun item begun opening found.0 text) (opened found.0 found.1)
+
+-- of a literal, an escape or a component
+abbrev pub leaf_begun : Version → Bool → List ℕ → ℕ
+leaf_begun version nested text = counted (λ x. length (steps_of x.0)) (leaf version nested text)
+
+-- of an item, in which at most depth lists stand inside one another
+unfoldable pub item_begun : Version → ℕ → Bool → List ℕ → ℕ
+item_begun version zero nested text = by_option (leaf_begun version nested text) (λ found. 0) (group_word text)
+item_begun version (suc depth) nested text =
+    by_option (leaf_begun version nested text)
+    (group_begun (item version depth true) (item_begun version depth true) (length text)) (group_word text)
+
+-- of a description
+abbrev pub steps_begun : Version → List ℕ → ℕ
+steps_begun version text =
+    items_begun (item version most_lists false) (item_begun version most_lists false) (length text) false text
+
+-- The text begins more than n steps.
+abbrev pub TakesMore : ℕ → Version → List ℕ → Type 0
+TakesMore n version text = n < steps_begun version text
+
+-- It begins at most n.
+abbrev pub TakesAtMost : ℕ → Version → List ℕ → Type 0
+TakesAtMost n version text = steps_begun version text ≤ n
+
+-- ---- What a reader of owned items answers
+
+-- The text describes the tree of the item; or it is refused at its first fault; or memory is short.
+abbrev pub OwnedOutcome : Version → List ℕ → Result OwnedFormatItem OwnedError → Type 0
+OwnedOutcome version text (Ok item) = Describes version text (owned_shape item)
+OwnedOutcome version text (Err (error.Invalid e)) =
+    (f : Fault) × (description version text ≡ Err f) × (refusal_of e ≡ refusal_at text f)
+OwnedOutcome version text (Err (error.Memory e)) = Unit {0}
+
+-- what is printed
+abbrev pub owned_error_text : OwnedError → Option (List ℕ)
+owned_error_text (error.Invalid e) = refusal_text (refusal_of e)
+owned_error_text (error.Memory e) = Some (codes "memory is short")
+
+-- Nothing is read, since there is that fault, or memory is short.
+abbrev pub Fails : {A : Type 0} → Read A → Unread → Type 0
+Fails read (unread.Fault e) = read ≡ Err e
+Fails read (unread.Memory e) = Unit {0}
+
+-- What is read is what the result says, or it fails.
+abbrev pub Owns : {A X : Type 0} → (X → A → Type 0) → Read A → Result (X × Bor (List ℕ)) Unread → Type 0
+Owns {A} says read (Ok x) = (a : A) × (read ≡ Ok (a, x.1.now)) × says x.0 a
+Owns says read (Err u) = Fails read u
+
+-- the item has the tree of that one
+abbrev pub SaysItem : OwnedFormatItem → Item → Type 0
+SaysItem item i = owned_shape item ≡ tree_of i
+
+-- the items have the trees of those
+abbrev pub SaysItems : List OwnedFormatItem → List Item → Type 0
+SaysItems items is = map owned_shape items ≡ map tree_of is

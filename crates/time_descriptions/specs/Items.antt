@@ -1,11 +1,12 @@
 -- The items of a description, with the steps that hold them and the trees that they are.
-use Rattle.std.specs.Prelude.{ℕ, List, [], ◌∷◌, ◌++◌, length, map, false}
+use Rattle.std.specs.Prelude.{ℕ, List, [], ◌∷◌, ◌++◌, length, map, false, ◌≡◌, Option, Some, None}
 use Rattle.time_components.specs.declared.format_description.Component.{Component}
-use Rattle.time_components.specs.Steps.{group_tree}
-use Rattle.time_components.specs.Tree.{Tree, Trees, literal as literal_tree, component as component_tree, none as no_trees, more as more_trees}
-use Rattle.time_components.specs.declared.step.Group.{Group}
-use Rattle.time_components.specs.declared.step.Step.{Step}
-use Rattle.time_components.specs.declared.step.Step.TheVariants as step
+use Rattle.time_components.specs.Tree.{group_tree, Tree, Trees, literal as literal_tree, component as component_tree, none as no_trees, more as more_trees}
+use Rattle.time_components.specs.declared.inspect.Group.{Group}
+use Rattle.time_components.specs.declared.inspect.Step.{Step}
+use Rattle.time_components.specs.declared.inspect.Step.TheVariants as step
+use Rattle.time_descriptions.specs.declared.leaf.Leaf.{Leaf}
+use Rattle.time_descriptions.specs.declared.leaf.Leaf.TheVariants as leaf
 
 mutual
   pub data Item : Type 0 where
@@ -49,3 +50,15 @@ abbrev mutual
 -- the steps of items in turn
 abbrev pub flat : List Item → List Step
 flat is = all_steps_of (items_of is)
+
+-- ---- Items that have none inside them
+
+-- the item that a leaf is
+abbrev pub leaf_item : Leaf → Item
+leaf_item (leaf.Literal b bytes) = literal b bytes.now
+leaf_item (leaf.Component c) = component c
+
+-- What a function returned, seen by view, is what is found, if anything is.
+abbrev pub Sees : {X Y : Type 0} → (X → Y) → Option X → Option Y → Type 0
+Sees view (Some x) found = found ≡ Some (view x)
+Sees view None found = found ≡ None

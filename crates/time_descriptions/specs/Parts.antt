@@ -3,14 +3,13 @@
 -- What a reader of strftime's descriptions keeps of a byte or a conversion.
 use Rattle.std.proofs.Common.{Bor}
 use Rattle.std.specs.Prelude.{◌≡◌, ℕ, List, [], ◌∷◌, map, None, Result, Ok, Err}
-use Rattle.time_descriptions.specs.declared.fault.Fault.{Fault}
-use Rattle.time_components.specs.declared.step.Step.{Step}
+use Rattle.time_descriptions.specs.declared.error.Fault.{Fault}
+use Rattle.time_components.specs.declared.inspect.Step.{Step}
 use Rattle.time_descriptions.specs.declared.strftime.Part.{Part}
 use Rattle.time_descriptions.specs.declared.strftime.Part.TheVariants as part
 use Rattle.time_descriptions.specs.Grammar.{by_option}
 use Rattle.time_descriptions.specs.Items.{Item, literal, component, flat}
-use Rattle.time_descriptions.specs.Letters.{item_of_byte, offset, row_of, shorthands}
-use Rattle.time_descriptions.specs.Strftime.{Found, failed, followed, strftime}
+use Rattle.time_descriptions.specs.Strftime.{item_of_byte, offset, row_of, shorthands, Found, failed, followed, strftime}
 
 -- the items of a part
 abbrev pub part_items : Part → List Item

@@ -3,12 +3,12 @@ use Rattle.std.specs.Prelude.{ℕ, ◌-◌, ◌++◌, List, length, take, drop, 
 use Rattle.std.specs.Fmt.{decimal}
 use Rattle.time_descriptions.specs.declared.error.InvalidFormatDescription.{InvalidFormatDescription}
 use Rattle.time_descriptions.specs.declared.error.InvalidFormatDescription.TheVariants as error
-use Rattle.time_descriptions.specs.declared.fault.Expectation.{Expectation}
-use Rattle.time_descriptions.specs.declared.fault.Expectation.TheVariants as expected
-use Rattle.time_descriptions.specs.declared.fault.Fault.{Fault}
-use Rattle.time_descriptions.specs.declared.fault.Fault.TheVariants as fault
-use Rattle.time_descriptions.specs.declared.fault.Unsupported.{Unsupported}
-use Rattle.time_descriptions.specs.declared.fault.Unsupported.TheVariants as unsupported
+use Rattle.time_descriptions.specs.declared.error.Expectation.{Expectation}
+use Rattle.time_descriptions.specs.declared.error.Expectation.TheVariants as expected
+use Rattle.time_descriptions.specs.declared.error.Fault.{Fault}
+use Rattle.time_descriptions.specs.declared.error.Fault.TheVariants as fault
+use Rattle.time_descriptions.specs.declared.error.Unsupported.{Unsupported}
+use Rattle.time_descriptions.specs.declared.error.Unsupported.TheVariants as unsupported
 
 -- each with its index in the text last, and before it the words that it names
 pub data Refusal : Type 0 where

@@ -1,13 +1,16 @@
 -- The values that a modifier may have, each with what it means.
-use Rattle.std.specs.Prelude.{ℕ, List, [], ◌∷◌, Bool, true, false, codes, Option}
+use Rattle.std.specs.Prelude.{ℕ, zero, suc, List, [], ◌∷◌, Bool, not, ◌&&◌, ◌==◌, ◌+◌, ◌*◌, ◌-◌, nat_lt, Option, Some, None, if◌then◌else◌, true, false, codes}
+use Rattle.std.specs.Char.{is_ascii_whitespace, is_ascii_digit}
+use Rattle.std.specs.Str.{str_eq_ignore_ascii_case}
 use Rattle.std.specs.Option.{option_map}
+use Rattle.std.proofs.Math.Nat.{zero-lt-suc}
 use Rattle.time_digits.specs.declared.Padding.{Padding}
 use Rattle.time_digits.specs.declared.Padding.TheVariants as padding
+use Rattle.time_components.specs.declared.modifier.Ignore.{Ignore}
 use Rattle.time_components.specs.declared.modifier.SubsecondDigits.{SubsecondDigits}
 use Rattle.time_components.specs.declared.modifier.SubsecondDigits.TheVariants as digits_
 use Rattle.time_components.specs.declared.modifier.TrailingInput.{TrailingInput}
 use Rattle.time_components.specs.declared.modifier.TrailingInput.TheVariants as trailing
-use Rattle.time_descriptions.specs.Words.{Rows, look_up, ignore_count}
 use Rattle.time_descriptions.specs.declared.names.ComponentName.{ComponentName}
 use Rattle.time_descriptions.specs.declared.names.ComponentName.TheVariants as name
 use Rattle.time_descriptions.specs.declared.names.ModifierKey.{ModifierKey}
@@ -18,6 +21,42 @@ use Rattle.time_descriptions.specs.declared.values.Precision.{Precision}
 use Rattle.time_descriptions.specs.declared.values.Precision.TheVariants as precision
 use Rattle.time_descriptions.specs.declared.values.Modifier.{Modifier}
 use Rattle.time_descriptions.specs.declared.values.Modifier.TheVariants as modifier
+
+-- ---- White space and words inside brackets, and tables of words
+
+-- white space: a space, TAB, LF, FF or CR
+abbrev pub is_space : ℕ → Bool
+is_space b = is_ascii_whitespace b
+
+-- what a word is made of: all but white space and brackets
+abbrev pub is_of_word : ℕ → Bool
+is_of_word b = not (is_ascii_whitespace b) && not (b == 91) && not (b == 93)
+
+-- names, and what each of them means
+abbrev pub Rows : Type 0 → Type 0
+Rows V = List (List ℕ × V)
+
+-- what the first row with that name has, whatever the case of its letters
+unfoldable pub look_up : {V : Type 0} → Rows V → List ℕ → Option V
+look_up [] name = None
+look_up (r ∷ rows) name = if str_eq_ignore_ascii_case r.0 name then Some r.1 else look_up rows name
+
+-- what skips so many bytes, unless it is none
+abbrev pub ignored : ℕ → Option Ignore
+ignored zero = None
+ignored (suc n) = Some (record { count = record { value = suc n; ok = zero-lt-suc n } })
+
+-- what skips as many bytes as digits say after those that said n, if it is 1 to 65535
+abbrev pub count_on : ℕ → List ℕ → Option Ignore
+count_on n [] = ignored n
+count_on n (b ∷ bytes) =
+    if is_ascii_digit b
+    then (if nat_lt 65535 (n * 10 + (b - 48)) then None else count_on (n * 10 + (b - 48)) bytes)
+    else None
+
+-- what skips as many bytes as the digits say, if it is 1 to 65535
+abbrev pub ignore_count : List ℕ → Option Ignore
+ignore_count = count_on 0
 
 -- the forms of a component
 unfoldable pub representations : ComponentName → Rows Representation
@@ -91,3 +130,60 @@ modifier_value n key.Range value = option_map modifier.Range (look_up ranges val
 modifier_value n key.Representation value = option_map modifier.Representation (look_up (representations n) value)
 modifier_value n key.Sign value = option_map modifier.Sign (look_up signs value)
 modifier_value n key.TrailingInput value = option_map modifier.TrailingInput (look_up trailing_inputs value)
+
+-- ---- The names of components, and the keys of their modifiers
+
+-- the components
+unfoldable pub component_names : Rows ComponentName
+component_names =
+    (codes "year", name.Year)
+    ∷ (codes "month", name.Month)
+    ∷ (codes "day", name.Day)
+    ∷ (codes "hour", name.Hour)
+    ∷ (codes "minute", name.Minute)
+    ∷ (codes "second", name.Second)
+    ∷ (codes "subsecond", name.Subsecond)
+    ∷ (codes "offset_hour", name.OffsetHour)
+    ∷ (codes "offset_minute", name.OffsetMinute)
+    ∷ (codes "offset_second", name.OffsetSecond)
+    ∷ (codes "weekday", name.Weekday)
+    ∷ (codes "week_number", name.WeekNumber)
+    ∷ (codes "ordinal", name.Ordinal)
+    ∷ (codes "period", name.Period)
+    ∷ (codes "unix_timestamp", name.UnixTimestamp)
+    ∷ (codes "ignore", name.Ignore)
+    ∷ (codes "end", name.End)
+    ∷ []
+
+abbrev pub padding_key : List ℕ × ModifierKey
+padding_key = (codes "padding", key.Padding)
+
+abbrev pub repr_key : List ℕ × ModifierKey
+repr_key = (codes "repr", key.Representation)
+
+abbrev pub sign_key : List ℕ × ModifierKey
+sign_key = (codes "sign", key.Sign)
+
+abbrev pub case_sensitive_key : List ℕ × ModifierKey
+case_sensitive_key = (codes "case_sensitive", key.CaseSensitive)
+
+-- the modifiers of a component
+unfoldable pub modifier_keys : ComponentName → Rows ModifierKey
+modifier_keys name.Day = padding_key ∷ []
+modifier_keys name.End = (codes "trailing_input", key.TrailingInput) ∷ []
+modifier_keys name.Hour = padding_key ∷ repr_key ∷ []
+modifier_keys name.Ignore = (codes "count", key.Count) ∷ []
+modifier_keys name.Minute = padding_key ∷ []
+modifier_keys name.Month = padding_key ∷ repr_key ∷ case_sensitive_key ∷ []
+modifier_keys name.OffsetHour = padding_key ∷ sign_key ∷ []
+modifier_keys name.OffsetMinute = padding_key ∷ []
+modifier_keys name.OffsetSecond = padding_key ∷ []
+modifier_keys name.Ordinal = padding_key ∷ []
+modifier_keys name.Period = (codes "case", key.Case) ∷ case_sensitive_key ∷ []
+modifier_keys name.Second = padding_key ∷ []
+modifier_keys name.Subsecond = (codes "digits", key.Digits) ∷ []
+modifier_keys name.UnixTimestamp = (codes "precision", key.Precision) ∷ sign_key ∷ []
+modifier_keys name.Weekday = repr_key ∷ (codes "one_indexed", key.OneIndexed) ∷ case_sensitive_key ∷ []
+modifier_keys name.WeekNumber = padding_key ∷ repr_key ∷ []
+modifier_keys name.Year =
+    padding_key ∷ repr_key ∷ (codes "range", key.Range) ∷ (codes "base", key.Base) ∷ sign_key ∷ []

@@ -4,11 +4,12 @@ ghost use Rattle.time_descriptions.specs.Components as components;
 ghost use Rattle.time_descriptions.specs.Components.{Gives};
 ghost use Rattle.time_descriptions.specs.Modifiers as chosen;
 
-use crate::fault::{Expectation, Fault};
+use crate::error::{Expectation, Fault};
 use crate::modifiers::{Modifiers, component_of};
-use crate::names::{ComponentName, component_name, modifier_key};
+use crate::names::{
+    ComponentName, after, component_name, front, modifier_key, space_len, word_len,
+};
 use crate::values::{Modifier, modifier_value};
-use crate::words::{after, front, space_len, word_len};
 use time_components::Component;
 
 // How many bytes stand before the first colon, or how many there are.

@@ -1,14 +1,12 @@
 //! Descriptions that were read.
 ghost use Rattle.std.specs.Prelude.{◌≡◌, ◌≤◌, ◌⊎◌, length, IfOk, IfErr, OnOk};
-ghost use Rattle.time_descriptions.specs.Counting.{TakesAtMost};
+ghost use Rattle.time_descriptions.specs.Grammar.{TakesAtMost, Describes};
 ghost use Rattle.time_descriptions.specs.Description.{IsRefused, shape, version_of};
-ghost use Rattle.time_descriptions.specs.Grammar.{Describes};
 ghost use Rattle.time_descriptions.specs.Refusal.{refusal_of};
 
 use crate::error::InvalidFormatDescription;
 use crate::items::add_items;
-use crate::step::Step;
-use crate::version::Version;
+use crate::leaf::{Step, Version};
 use arrayvec::ArrayVec;
 
 /// How many lists may stand inside one another.

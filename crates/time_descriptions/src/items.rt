@@ -1,21 +1,16 @@
 //! The items of a description, into steps.
 ghost use Rattle.std.specs.Prelude.{◌≡◌, ◌<◌, ◌≤◌, ◌+◌, ◌-◌, ◌++◌, ◌∷◌, [], length, suc, map, true, IfOk, IfErr, IfSome, OnOk, slice_set};
 ghost use Rattle.std.specs.List.{prefix_len};
-ghost use Rattle.time_descriptions.specs.Components.{Gives};
+ghost use Rattle.time_descriptions.specs.Components.{Gives, Adds};
 ghost use Rattle.time_descriptions.specs.Grammar as grammar;
-ghost use Rattle.time_descriptions.specs.Adding.{Adds};
-ghost use Rattle.time_descriptions.specs.Counting as counting;
-ghost use Rattle.time_descriptions.specs.Items.{flat, steps_of};
-ghost use Rattle.time_descriptions.specs.Leaves.{leaf_item, Sees};
-ghost use Rattle.time_descriptions.specs.declared.fault.Fault.TheVariants as fault;
-ghost use Rattle.time_components.specs.declared.step.Group.TheVariants as groups;
-ghost use Rattle.time_components.specs.declared.step.Step.TheVariants as step;
+ghost use Rattle.time_descriptions.specs.Items.{flat, steps_of, leaf_item, Sees};
+ghost use Rattle.time_descriptions.specs.declared.error.Fault.TheVariants as fault;
+ghost use Rattle.time_components.specs.declared.inspect.Group.TheVariants as groups;
+ghost use Rattle.time_components.specs.declared.inspect.Step.TheVariants as step;
 
-use crate::fault::{Expectation, Fault, Unsupported};
-use crate::leaf::{Leaf, read_leaf};
-use crate::step::{Group, Step};
-use crate::version::Version;
-use crate::words::{after, front, space_len, word_len};
+use crate::error::{Expectation, Fault, Unsupported};
+use crate::leaf::{Group, Leaf, Step, Version, read_leaf};
+use crate::names::{after, front, space_len, word_len};
 use arrayvec::ArrayVec;
 
 // Whether the items end here.
@@ -185,7 +180,7 @@ fn add_leaf<'a, const N: usize>(
     text: &'a [u8],
     steps: &mut ArrayVec<Step, N>,
 ) -> Result<&'a [u8], Fault>
-    ensures adds { Adds steps_of N (grammar.leaf version nested text.now) (counting.leaf_begun version nested text.now)
+    ensures adds { Adds steps_of N (grammar.leaf version nested text.now) (grammar.leaf_begun version nested text.now)
         (length text.now) steps.old.items result steps.new.items }
     ensures shorter { IfOk result (λ rest. length rest.now < length text.now) }
 {
@@ -209,7 +204,7 @@ fn add_item<'a, const N: usize>(
     steps: &mut ArrayVec<Step, N>,
 ) -> Result<&'a [u8], Fault>
     ensures adds { Adds steps_of N (grammar.item version depth nested text.now)
-        (counting.item_begun version depth nested text.now) (length text.now) steps.old.items result steps.new.items }
+        (grammar.item_begun version depth nested text.now) (length text.now) steps.old.items result steps.new.items }
     ensures shorter { IfOk result (λ rest. length rest.now < length text.now) }
 {
     match group_word(text) {
@@ -236,9 +231,9 @@ fn add_group<'a, const N: usize>(
     text: &'a [u8],
     steps: &mut ArrayVec<Step, N>,
 ) -> Result<&'a [u8], Fault>
-    ensures { let item = grammar.item version depth true in let begun = counting.item_begun version depth true in
+    ensures { let item = grammar.item version depth true in let begun = grammar.item_begun version depth true in
         Adds steps_of N (grammar.group_by item opening (group, text.now))
-        (counting.group_begun item begun opening (group, text.now)) (length text.now) steps.old.items result steps.new.items }
+        (grammar.group_begun item begun opening (group, text.now)) (length text.now) steps.old.items result steps.new.items }
 {
     match opened(group, text) {
         Err(fault) => Err(fault),
@@ -265,9 +260,9 @@ fn add_inside<'a, const N: usize>(
     text: &'a [u8],
     steps: &mut ArrayVec<Step, N>,
 ) -> Result<&'a [u8], Fault>
-    ensures { let item = grammar.item version depth true in let begun = counting.item_begun version depth true in
+    ensures { let item = grammar.item version depth true in let begun = grammar.item_begun version depth true in
         Adds flat N (grammar.inside_by (grammar.list_by item opening) group text.now)
-        (counting.inside_begun item begun opening group text.now) (length text.now + 1) steps.old.items
+        (grammar.inside_begun item begun opening group text.now) (length text.now + 1) steps.old.items
         result steps.new.items }
 {
     match group {
@@ -285,9 +280,9 @@ fn add_lists<'a, const N: usize>(
     text: &'a [u8],
     steps: &mut ArrayVec<Step, N>,
 ) -> Result<&'a [u8], Fault>
-    ensures { let item = grammar.item version depth true in let begun = counting.item_begun version depth true in
+    ensures { let item = grammar.item version depth true in let begun = grammar.item_begun version depth true in
         Adds flat N (grammar.lists_by (grammar.list_by item opening) (suc (length text.now)) text.now)
-        (counting.lists_begun item begun opening (suc (length text.now)) text.now) (length text.now + 1) steps.old.items
+        (grammar.lists_begun item begun opening (suc (length text.now)) text.now) (length text.now + 1) steps.old.items
         result steps.new.items }
 {
     let mut inside = text;
@@ -315,8 +310,8 @@ fn add_list<'a, const N: usize>(
     text: &'a [u8],
     steps: &mut ArrayVec<Step, N>,
 ) -> Result<&'a [u8], Fault>
-    ensures adds { let item = grammar.item version depth true in let begun = counting.item_begun version depth true in
-        Adds flat N (grammar.list_by item opening text.now) (counting.list_begun item begun text.now) (length text.now)
+    ensures adds { let item = grammar.item version depth true in let begun = grammar.item_begun version depth true in
+        Adds flat N (grammar.list_by item opening text.now) (grammar.list_begun item begun text.now) (length text.now)
         steps.old.items result steps.new.items }
     ensures shorter { IfOk result (λ rest. length rest.now < length text.now) }
 {
@@ -336,9 +331,9 @@ pub fn add_items<'a, const N: usize>(
     text: &'a [u8],
     steps: &mut ArrayVec<Step, N>,
 ) -> Result<&'a [u8], Fault>
-    ensures adds { let item = grammar.item version depth nested in let begun = counting.item_begun version depth nested in
+    ensures adds { let item = grammar.item version depth nested in let begun = grammar.item_begun version depth nested in
         Adds flat N (grammar.items version depth nested text.now)
-        (counting.items_begun item begun (length text.now) nested text.now) (length text.now) steps.old.items
+        (grammar.items_begun item begun (length text.now) nested text.now) (length text.now) steps.old.items
         result steps.new.items }
     ensures ended { IfOk result (λ rest. grammar.ends nested rest.now ≡ true) }
 {

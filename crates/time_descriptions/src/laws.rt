@@ -1,5 +1,5 @@
 //! What holds of descriptions, each as a function's contract.
-ghost use Rattle.time_descriptions.specs.Laws.{DescribedBack, OneDescription, OneOutcome, OneStrftimeDescription, OneStrftimeOutcome, StepsOfRead, StrftimePieces, VersionsAgree};
+ghost use Rattle.time_descriptions.specs.Description.{DescribedBack, OneDescription, OneOutcome, OneStrftimeDescription, OneStrftimeOutcome, StepsOfRead, StrftimePieces, VersionsAgree};
 
 /// A text describes one tree at most, in each version.
 pub fn law_one_description()
@@ -17,7 +17,7 @@ pub fn law_one_outcome()
 {}
 
 /// A text that is read begins as many steps as its items have, so there is room for it exactly where there is for them.
-#[tactic(auto, using(crate::proofs::ReadCounts::steps_of_read))]
+#[tactic(auto, using(crate::proofs::ReadComponents::steps_of_read))]
 pub fn law_steps_of_read()
     ensures { StepsOfRead }
 {}

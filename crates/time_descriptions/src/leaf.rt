@@ -1,16 +1,15 @@
-//! Items that have none inside them.
+//! Items that have none inside them, the steps they are kept as, and the versions of descriptions.
 ghost use Rattle.std.specs.Prelude.{◌≡◌, ◌+◌, ◌<◌, ◌≤◌, length, IfOk};
 ghost use Rattle.std.specs.List.{prefix_len};
 ghost use Rattle.time_descriptions.specs.Components.{Gives};
 ghost use Rattle.time_descriptions.specs.Grammar as grammar;
-ghost use Rattle.time_descriptions.specs.Items.{steps_of};
-ghost use Rattle.time_descriptions.specs.Leaves.{leaf_item};
+ghost use Rattle.time_descriptions.specs.Items.{steps_of, leaf_item};
 
 use crate::component::bracketed;
-use crate::fault::{Expectation, Fault};
-use crate::version::Version;
-use crate::words::{after, front};
+use crate::error::{Expectation, Fault};
+use crate::names::{after, front};
 use time_components::Component;
+pub use time_components::{Group, Step};
 
 /// An item that has none inside it.
 #[derive(Clone, Copy)]
@@ -80,4 +79,13 @@ pub fn read_leaf(version: Version, nested: bool, text: &[u8]) -> Result<(Leaf<'_
             Ok((Leaf::Literal(byte, front(rest, len)), after(rest, len)))
         }
     }
+}
+
+/// A version of descriptions.
+#[derive(Clone, Copy)]
+pub enum Version {
+    /// `[[` is a bracket.
+    One,
+    /// A backslash stands before a byte that isn't special.
+    Two,
 }

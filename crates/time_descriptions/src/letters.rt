@@ -1,11 +1,11 @@
 //! What the letters of strftime stand for.
 ghost use Rattle.std.specs.Prelude.{◌≡◌};
-ghost use Rattle.time_descriptions.specs.Leaves.{Sees};
-ghost use Rattle.time_descriptions.specs.Letters as letters;
-ghost use Rattle.time_descriptions.specs.Letters.{row_of};
+ghost use Rattle.time_descriptions.specs.Items.{Sees};
+ghost use Rattle.time_descriptions.specs.Strftime as letters;
+ghost use Rattle.time_descriptions.specs.Strftime.{row_of};
 
+use crate::leaf::Step;
 use crate::modifiers::component;
-use crate::step::Step;
 use time_components::{Component, Padding};
 
 // A letter, and the component of that name with these modifiers.

@@ -4,7 +4,6 @@
 mod component;
 mod description;
 mod error;
-mod fault;
 mod items;
 pub mod laws;
 mod leaf;
@@ -12,14 +11,11 @@ mod letters;
 mod modifiers;
 mod names;
 mod owned;
-mod step;
 mod strftime;
 mod values;
-mod version;
-mod words;
 
 pub use description::{Description, parse_borrowed};
 pub use error::InvalidFormatDescription;
+pub use leaf::{Group, Step};
 pub use owned::{OwnedError, parse_owned};
-pub use step::{Group, Step};
 pub use strftime::parse_strftime;

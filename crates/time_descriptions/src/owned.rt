@@ -1,21 +1,16 @@
 //! Descriptions that were read, as items that own their parts.
 ghost use Rattle.std.specs.Prelude.{◌≡◌, ◌⊎◌, ◌<◌, ◌≤◌, alloc_error, length, map, suc, true, IfOk};
-ghost use Rattle.time_components.specs.Shape.{owned_shape};
-ghost use Rattle.time_components.specs.Steps.{group_tree};
-ghost use Rattle.time_components.specs.Tree.{sequence, trees};
+ghost use Rattle.time_components.specs.Tree.{owned_shape, group_tree, sequence, trees};
 ghost use Rattle.time_descriptions.specs.Description.{version_of};
 ghost use Rattle.time_descriptions.specs.Grammar as grammar;
-ghost use Rattle.time_descriptions.specs.Leaves.{leaf_item};
-ghost use Rattle.time_descriptions.specs.Owned.{owned_error_text, OwnedOutcome, Owns, SaysItem, SaysItems};
+ghost use Rattle.time_descriptions.specs.Items.{leaf_item};
+ghost use Rattle.time_descriptions.specs.Grammar.{owned_error_text, OwnedOutcome, Owns, SaysItem, SaysItems};
 ghost use Rattle.time_descriptions.specs.declared.owned.Unread.TheVariants as unread;
 
 use crate::description::{MOST_LISTS, version_of};
-use crate::error::InvalidFormatDescription;
-use crate::fault::{Fault, Unsupported};
+use crate::error::{Fault, InvalidFormatDescription, Unsupported};
 use crate::items::{after_closing, closed, ends, group_word, next_list, opened};
-use crate::leaf::{Leaf, read_leaf};
-use crate::step::Group;
-use crate::version::Version;
+use crate::leaf::{Group, Leaf, Version, read_leaf};
 use std::alloc::{AllocError, AllocFailed, Global};
 use std::fmt;
 use time_components::OwnedFormatItem;

@@ -2,22 +2,19 @@
 ghost use Rattle.std.specs.Prelude.{◌≡◌, ◌⊎◌, ◌+◌, ◌<◌, ◌≤◌, ◌++◌, ◌∷◌, length, map, Some, IfOk, IfErr, OnOk};
 ghost use Rattle.time_descriptions.specs.Components.{Gives};
 ghost use Rattle.time_descriptions.specs.Description.{shape};
-ghost use Rattle.time_descriptions.specs.Items.{flat};
-ghost use Rattle.time_descriptions.specs.Leaves.{Sees};
-ghost use Rattle.time_descriptions.specs.Letters as letters;
+ghost use Rattle.time_descriptions.specs.Items.{flat, Sees};
+ghost use Rattle.time_descriptions.specs.Strftime as letters;
 ghost use Rattle.time_descriptions.specs.Parts.{Begins, HasSteps, part_items};
 ghost use Rattle.time_descriptions.specs.Refusal.{refusal_of};
-ghost use Rattle.time_descriptions.specs.Strftime as spec;
 ghost use Rattle.time_descriptions.specs.Strftime.{DescribesStrftime, Exceeds, Fits, IsRefusedStrftime};
-ghost use Rattle.time_descriptions.specs.declared.fault.Fault.TheVariants as fault;
+ghost use Rattle.time_descriptions.specs.declared.error.Fault.TheVariants as fault;
 
 use crate::description::Description;
-use crate::error::InvalidFormatDescription;
-use crate::fault::{Fault, Unsupported};
+use crate::error::{Fault, InvalidFormatDescription, Unsupported};
 use crate::items::push;
+use crate::leaf::Step;
 use crate::letters::{component_of_letter, shorthand, step_of_byte};
 use crate::modifiers::component;
-use crate::step::Step;
 use arrayvec::ArrayVec;
 use time_components::{Component, Padding};
 
@@ -36,7 +33,7 @@ pub enum Part {
 
 // The padding that the flag asks for.
 fn flag_padding(flag: u8) -> Option<Padding>
-    ensures { result ≡ spec.flag_padding flag }
+    ensures { result ≡ letters.flag_padding flag }
 {
     match flag {
         b'-' => Some(Padding::None),
@@ -49,7 +46,7 @@ fn flag_padding(flag: u8) -> Option<Padding>
 // The component with that padding, if it has a padding and a letter stands for it.
 #[tactic(auto, unfolding(crate::specs::Strftime::with_padding))]
 fn with_padding(padding: Padding, component: Component) -> Option<Component>
-    ensures { result ≡ spec.with_padding padding component }
+    ensures { result ≡ letters.with_padding padding component }
 {
     let mut padded = component;
     match &mut padded {
@@ -75,7 +72,7 @@ fn with_padding(padding: Padding, component: Component) -> Option<Component>
 
 // The component of the letter with that padding, if it has one.
 fn padded(padding: Padding, letter: u8) -> Option<Component>
-    ensures { result ≡ spec.padded padding letter }
+    ensures { result ≡ letters.padded padding letter }
 {
     match component_of_letter(letter) {
         Some(component) => with_padding(padding, component),
@@ -101,7 +98,7 @@ fn meaning(letter: u8) -> Option<Part>
 
 // What the letter stands for. So many bytes are left from its `%` on, and from itself on.
 fn read_letter(percent: usize, left: usize, letter: u8) -> Result<Part, Fault>
-    ensures { Gives part_items result (spec.letter_items percent left letter) }
+    ensures { Gives part_items result (letters.letter_items percent left letter) }
 {
     match meaning(letter) {
         Some(part) => Ok(part),
@@ -118,7 +115,7 @@ fn read_letter(percent: usize, left: usize, letter: u8) -> Result<Part, Fault>
 // What the letter in front of the text stands for after a flag, and what is left after it.
 #[tactic(auto, unfolding(crate::specs::Strftime::flagged))]
 fn read_flagged(padding: Padding, text: &[u8]) -> Result<(Part, &[u8]), Fault>
-    ensures begins { Begins (spec.flagged padding text.now) result }
+    ensures begins { Begins (letters.flagged padding text.now) result }
     ensures within { IfOk result (λ x. length x.1.now ≤ length text.now) }
 {
     let [letter, rest @ ..] = text else {
@@ -140,7 +137,7 @@ fn read_flagged(padding: Padding, text: &[u8]) -> Result<(Part, &[u8]), Fault>
 // What stands after a `%`, and what is left after it.
 #[tactic(auto, unfolding(crate::specs::Strftime::conversion))]
 fn read_conversion(text: &[u8]) -> Result<(Part, &[u8]), Fault>
-    ensures begins { Begins (spec.conversion text.now) result }
+    ensures begins { Begins (letters.conversion text.now) result }
     ensures within { IfOk result (λ x. length x.1.now ≤ length text.now) }
 {
     let [first, rest @ ..] = text else {
@@ -158,7 +155,7 @@ fn read_conversion(text: &[u8]) -> Result<(Part, &[u8]), Fault>
 // What the first byte and those behind it begin with, and what is left after it.
 #[tactic(auto, unfolding(crate::specs::Strftime::strftime))]
 fn read_part(first: u8, behind: &[u8]) -> Result<(Part, &[u8]), Fault>
-    ensures begins { Begins (spec.strftime (first ∷ behind.now)) result }
+    ensures begins { Begins (letters.strftime (first ∷ behind.now)) result }
     ensures within { IfOk result (λ x. length x.1.now ≤ length behind.now) }
 {
     if first == b'%' {
@@ -215,7 +212,7 @@ fn read_steps<const N: usize>(text: &[u8]) -> Result<ArrayVec<Step, N>, Fault>
     ensures ok { IfOk result (λ steps. HasSteps text.now steps.items) }
     ensures fits { OnOk result (Fits N text.now) }
     ensures err { IfErr result (λ e. ((e ≡ fault.NoRoom) × Exceeds N text.now)
-        ⊎ (((spec.strftime text.now).1 ≡ Some e) × Fits N text.now)) }
+        ⊎ (((letters.strftime text.now).1 ≡ Some e) × Fits N text.now)) }
 {
     let mut steps = ArrayVec::new();
     let mut rest = text;

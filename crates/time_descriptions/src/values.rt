@@ -1,10 +1,9 @@
 //! The values of modifiers.
 ghost use Rattle.std.specs.Prelude.{◌≡◌};
 ghost use Rattle.time_descriptions.specs.Values as values;
-ghost use Rattle.time_descriptions.specs.Words.{ignore_count, look_up};
+ghost use Rattle.time_descriptions.specs.Values.{ignore_count, look_up};
 
-use crate::names::{ComponentName, ModifierKey};
-use crate::words::{ignore_count, look_up};
+use crate::names::{ComponentName, ModifierKey, ignore_count, look_up};
 use time_components::{Padding, SubsecondDigits, TrailingInput, modifier};
 
 /// Which of the forms of a component is meant.
@@ -142,7 +141,7 @@ const YEARS: [(&[u8], Representation); 3] = [
 ];
 
 /// The form of that name, of those that the component has.
-#[tactic(auto, unfolding(crate::specs::Values::representations, crate::specs::Words::look_up))]
+#[tactic(auto, unfolding(crate::specs::Values::representations, crate::specs::Values::look_up))]
 pub fn representation_named(component: ComponentName, name: &[u8]) -> Option<Representation>
     ensures { result ≡ look_up (values.representations component) name.now }
 {

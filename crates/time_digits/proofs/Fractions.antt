@@ -1,13 +1,45 @@
 -- The digits of a fraction of a second: nine count, and the others are passed over.
-use Rattle.std.proofs.Common.{◌≡◌, ℕ, ◌+◌, ◌-◌, ◌*◌, ◌^◌, ◌<◌, ◌≤◌, ◌⊎◌, List, [], ◌∷◌, ◌++◌, length, take, drop, get_or, refl, ap, sym, ◌∙◌, inl, inr, arith, subst, append_assoc, length-append, mul-le-mul_right, add-mul}
-use Rattle.std.proofs.lemmas.List.{append-nil, take_all, length-take, length-take-le, take-append-drop, take-append-le}
+use Rattle.std.proofs.Common.{◌≡◌, ℕ, ◌+◌, ◌-◌, ◌*◌, ◌≤◌, List, [], ◌∷◌, ◌++◌, length, take, drop, ap, sym, ◌∙◌, inl, arith, length-append, append_assoc, ◌^◌, ◌<◌, ◌⊎◌, get_or, refl, inr, subst, mul-le-mul_right, add-mul}
+use Rattle.std.proofs.lemmas.List.{length-take-le, take-append-drop, take-append-le, append-nil, take_all, length-take}
 use Rattle.std.proofs.lemmas.Bool.{cases_lt}
 use Rattle.std.proofs.lemmas.Nat.{pow-add}
 use Rattle.std.proofs.Math.ListN.{drop_of_length-le}
-use Rattle.time_digits.specs.Cuts.{Cut, NoCut}
-use Rattle.time_digits.specs.Digits.{IsDigit, AllDigits, digits_value, NoDigitFirst, IsDigitRun, IsDigitRunUpTo, fraction_nanoseconds, IsFraction}
-use Rattle.time_digits.proofs.CutLemmas.{first_byte, take-drop}
-use Rattle.time_digits.proofs.Runs.{AllDigits-push, AllDigits-append, AllDigits-take, digits_value-below, pow-mono}
+use Rattle.time_digits.specs.Digits.{IsDigitByte, Cut, AllDigits, digits_value, IsDigitRun, NoCut, IsDigit, NoDigitFirst, IsDigitRunUpTo, fraction_nanoseconds, IsFraction}
+use Rattle.time_digits.proofs.Runs.{AllDigits-push, digits_value-push, AllDigits-append, AllDigits-take, digits_value-below, pow-mono, IsDigitRun-below}
+use Rattle.time_digits.proofs.WordBytes.{first_byte, first_three}
+
+-- ---- Runs of exactly so many digits
+
+-- the first bytes of the first eight
+pub first_of_eight : (n : ℕ) (s bytes : List ℕ) → n ≤ 8 → 8 ≤ length s → bytes ≡ take 8 s → take n bytes ≡ take n s
+first_of_eight n s bytes most enough same =
+    let l : length (take 8 s) ≡ 8 = length-take-le 8 s enough in
+    ap (λ t. take n t) same ∙ sym (take-append-le n (take 8 s) (drop 8 s) (omega arith)) ∙ ap (λ t. take n t) (take-append-drop 8 s)
+
+-- the first bytes are digits
+pub exact_cut : (n v : ℕ) (s : List ℕ) → n ≤ length s → AllDigits (take n s) → v ≡ digits_value (take n s) → Cut (IsDigitRun n n) s (drop n s) v
+exact_cut n v s h digits is =
+    let l : length (take n s) ≡ n = length-take-le n s h in (
+      take n s,
+      sym (take-append-drop n s),
+      record { digits = digits; enough = omega arith; within = omega arith; ends = inl l; is = is },
+    )
+
+-- a digit follows eight
+pub nine_cut : (s mid rest : List ℕ) (a c : ℕ) → Cut (IsDigitRun 8 8) s mid a → Cut IsDigitByte mid rest c → Cut (IsDigitRun 9 9) s rest (10 * a + (c - 48))
+nine_cut s mid rest a c eight ninth =
+    let l = length-append eight.0 (c ∷ []) in
+    let long : length (eight.0 ++ c ∷ []) ≡ 9 = omega (arith, eight.2.enough, eight.2.within) in (
+      eight.0 ++ c ∷ [],
+      eight.1 ∙ ap (λ t. eight.0 ++ t) (ninth.1 ∙ ap (λ t. t ++ rest) ninth.2.0) ∙ sym (append_assoc eight.0 (c ∷ []) rest),
+      record {
+        digits = AllDigits-push eight.0 c eight.2.digits ninth.2.1;
+        enough = omega arith;
+        within = omega arith;
+        ends = inl long;
+        is = ap (λ v. 10 * v + (c - 48)) eight.2.is ∙ sym (digits_value-push eight.0 c);
+      },
+    )
 
 -- one more digit is passed over
 pub digits_more : (s digits rest : List ℕ) → s ≡ digits ++ rest → AllDigits digits → 1 ≤ length rest → IsDigit (get_or rest 0 0)
@@ -156,3 +188,77 @@ no_digits greatest s text rest room none e all enough ends =
 pub fraction_none : (greatest : ℕ) (s : List ℕ) → 10 ^ 9 ≤ greatest + 1 → NoCut (IsDigitRunUpTo greatest 1 9) s → NoCut IsFraction s
 fraction_none greatest s room none text rest v e found =
     no_digits greatest s text rest room none e found.digits found.enough (inr found.ends)
+
+-- ---- Runs of three digits, and the fractions of a second of three digits and of six
+
+-- three digits that stand there
+pub three_cut : (s : List ℕ) (value : ℕ) → 3 ≤ length s → IsDigit (get_or s 0 0) → IsDigit (get_or s 1 0) → IsDigit (get_or s 2 0)
+    → value ≡ 100 * (get_or s 0 0 - 48) + 10 * (get_or s 1 0 - 48) + (get_or s 2 0 - 48)
+    → Cut (IsDigitRun 3 3) s (take (length s - 3) (drop 3 s)) value
+three_cut s value h i j k e = (
+  get_or s 0 0 ∷ get_or s 1 0 ∷ get_or s 2 0 ∷ [],
+  first_three s h,
+  record { digits = (i, (j, (k, tt))); enough = omega arith; within = omega arith; ends = inl refl; is = omega arith },
+)
+
+pub three_below : (s rest : List ℕ) (value : ℕ) → Cut (IsDigitRun 3 3) s rest value → value < 1000
+three_below s rest value cut = IsDigitRun-below 3 3 cut.0 rest value cut.2
+
+no_digit : (s : List ℕ) → NoCut IsDigitByte s → NoDigitFirst s
+no_digit [] none = tt
+no_digit (c ∷ s) none = λ digit. none (c ∷ []) s c refl (refl, digit)
+
+three_long : (text rest : List ℕ) (value : ℕ) → IsDigitRun 3 3 text rest value → length text ≡ 3
+three_long text rest value run = omega (arith, run.enough, run.within)
+
+-- what a few digits say
+nanoseconds_of : (text : List ℕ) (n : ℕ) → length text ≡ n → n ≤ 9 → fraction_nanoseconds text ≡ digits_value text * 10 ^ (9 - n)
+nanoseconds_of text n l h =
+    ap (λ t. digits_value t * 10 ^ (9 - length text)) (take_all 9 text (omega arith)) ∙ ap (λ k. digits_value text * 10 ^ (9 - k)) l
+
+-- a fraction of three digits
+pub three_fraction : (s rest : List ℕ) (a : ℕ) → Cut (IsDigitRun 3 3) s rest a → NoCut IsDigitByte rest
+    → Cut IsFraction s rest (1000000 * a)
+three_fraction s rest a cut none =
+    let run = cut.2 in
+    let said = nanoseconds_of cut.0 3 (three_long cut.0 rest a run) (omega arith) in (
+      cut.0,
+      cut.1,
+      record {
+        digits = run.digits;
+        enough = omega (arith, run.enough);
+        ends = no_digit rest none;
+        is = omega (arith, run.is, said);
+      },
+    )
+
+six_value : (t u : List ℕ) → length t ≡ 3 → length u ≡ 3 → digits_value (t ++ u) ≡ 1000 * digits_value t + digits_value u
+six_value (a ∷ b ∷ c ∷ []) (d ∷ e ∷ f ∷ []) l k = omega arith
+six_value [] u l k = absurd (omega arith)
+six_value (a ∷ []) u l k = absurd (omega arith)
+six_value (a ∷ b ∷ []) u l k = absurd (omega arith)
+six_value (a ∷ b ∷ c ∷ d ∷ t) u l k = absurd (omega arith)
+six_value (a ∷ b ∷ c ∷ []) [] l k = absurd (omega arith)
+six_value (a ∷ b ∷ c ∷ []) (d ∷ []) l k = absurd (omega arith)
+six_value (a ∷ b ∷ c ∷ []) (d ∷ e ∷ []) l k = absurd (omega arith)
+six_value (a ∷ b ∷ c ∷ []) (d ∷ e ∷ f ∷ g ∷ u) l k = absurd (omega arith)
+
+-- a fraction of six digits
+pub six_fraction : (s mid rest : List ℕ) (a b : ℕ) → Cut (IsDigitRun 3 3) s mid a → Cut (IsDigitRun 3 3) mid rest b
+    → NoCut IsDigitByte rest → Cut IsFraction s rest (1000000 * a + 1000 * b)
+six_fraction s mid rest a b first second none =
+    let t = first.0 in
+    let u = second.0 in
+    let lt = three_long t mid a first.2 in
+    let lu = three_long u rest b second.2 in
+    let long : length (t ++ u) ≡ 6 = omega (arith, length-append t u) in
+    let said = nanoseconds_of (t ++ u) 6 long (omega arith) in (
+      t ++ u,
+      first.1 ∙ ap (λ r. t ++ r) second.1 ∙ sym (append_assoc t u rest),
+      record {
+        digits = AllDigits-append t u first.2.digits second.2.digits;
+        enough = omega arith;
+        ends = no_digit rest none;
+        is = omega (arith, first.2.is, second.2.is, said, six_value t u lt lu);
+      },
+    )

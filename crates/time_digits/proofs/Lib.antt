@@ -1,9 +1,3 @@
-pub mod CutLemmas
-pub mod ExactRuns
 pub mod Fractions
-pub mod PaddedRuns
 pub mod Runs
-pub mod Threes
 pub mod WordBytes
-pub mod WordDigits
-pub mod WordJoins

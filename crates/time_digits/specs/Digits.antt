@@ -1,8 +1,33 @@
 -- Runs of decimal digits, as relations on the text, what follows it, and the number.
-use Rattle.std.specs.Prelude.{◌≡◌, ◌≢◌, ℕ, ◌+◌, ◌-◌, ◌*◌, ◌^◌, ◌≤◌, ◌⊎◌, List, [], ◌∷◌, ◌++◌, length, take, replicate}
-use Rattle.time_digits.specs.Cuts.{Form}
+use Rattle.std.specs.Prelude.{◌≡◌, ℕ, List, ◌++◌, Option, MatchOption, ◌≢◌, ◌+◌, ◌-◌, ◌*◌, ◌^◌, ◌≤◌, ◌⊎◌, [], ◌∷◌, length, take, replicate, Bool, true, false}
+use Rattle.std.specs.Char.{to_ascii_lowercase}
+use Rattle.time_digits.specs.declared.ParsedItem.{ParsedItem}
 use Rattle.time_digits.specs.declared.Padding.{Padding}
 use Rattle.time_digits.specs.declared.Padding.TheVariants as padding
+use Rattle.time_digits.specs.declared.Sign.{Sign}
+use Rattle.time_digits.specs.declared.Sign.TheVariants.{Negative, Positive}
+
+-- ---- What a reader answers of its input: a text that stands first, what follows it, and a value
+
+-- what is read: whether a text, before the rest that follows it, spells a value
+abbrev pub Form : Type 0 → Type 1
+Form V = List ℕ → List ℕ → V → Type 0
+
+-- the input begins with a text that spells the value, and the rest follows it
+abbrev pub Cut : {V : Type 0} → Form V → List ℕ → List ℕ → V → Type 0
+Cut S input rest v = (text : List ℕ) × (input ≡ text ++ rest) × S text rest v
+
+-- no beginning of the input spells a value
+abbrev pub NoCut : {V : Type 0} → Form V → List ℕ → Type 0
+NoCut {V} S input = (text rest : List ℕ) (v : V) → input ≡ text ++ rest → S text rest v → ⊥
+
+-- what a reader answers: the rest and, in that view, the value of a cut of its input; or nothing where there is none
+abbrev pub Finds : {V A : Type 0} → Form V → (A → V) → List ℕ → Option (ParsedItem A) → Type 0
+Finds S view input result = MatchOption result (NoCut S input) (λ found. Cut S input found.0.now (view found.1))
+
+-- for one input at most one cut spells a value
+abbrev pub AtMostOneCut : {V : Type 0} → Form V → Type 0
+AtMostOneCut {V} S = (input x y : List ℕ) (v w : V) → Cut S input x v → Cut S input y w → (x ≡ y) × (v ≡ w)
 
 -- the byte is one of `0` to `9`
 abbrev pub IsDigit : ℕ → Type 0
@@ -70,3 +95,42 @@ pub record IsFraction (text rest : List ℕ) (nanoseconds : ℕ) : Type 0 where
   pub enough : 1 ≤ length text
   pub ends : NoDigitFirst rest
   pub is : nanoseconds ≡ fraction_nanoseconds text
+
+-- ---- Texts of one byte
+
+-- the text is that byte
+abbrev pub IsByte : ℕ → Form (Unit {0})
+IsByte byte text rest nothing = text ≡ byte ∷ []
+
+-- the text is that byte, in either case where it is an ASCII letter
+abbrev pub IsByteIgnoringCase : ℕ → Form (Unit {0})
+IsByteIgnoringCase byte text rest nothing =
+    (c : ℕ) × (text ≡ c ∷ []) × (to_ascii_lowercase c ≡ to_ascii_lowercase byte)
+
+-- the text is one digit, and the value is that byte
+abbrev pub IsDigitByte : Form ℕ
+IsDigitByte text rest byte = (text ≡ byte ∷ []) × IsDigit byte
+
+-- `-` for a negative sign and `+` for a positive one
+abbrev pub sign_byte : Sign → ℕ
+sign_byte Negative = 45
+sign_byte Positive = 43
+
+-- the text is that sign
+abbrev pub IsSign : Form Sign
+IsSign text rest sign = text ≡ sign_byte sign ∷ []
+
+-- the sign is `-`
+abbrev pub is_negative : Sign → Bool
+is_negative Negative = true
+is_negative Positive = false
+
+-- ---- Laws of the definitions, each proved by the function of module `laws` that has it as its contract
+
+-- for one input at most one cut is a run of digits
+abbrev pub OneDigitRun : Type 0
+OneDigitRun = (least most : ℕ) → AtMostOneCut (IsDigitRun least most)
+
+-- for one input at most one cut is a run of digits under the padding
+abbrev pub OnePaddedRun : Type 0
+OnePaddedRun = (padding : Padding) (least most : ℕ) → AtMostOneCut (IsPaddedRun padding least most)

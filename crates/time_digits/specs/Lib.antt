@@ -1,5 +1,2 @@
-pub mod Bytes
 pub mod CombinatorFast
-pub mod Cuts
 pub mod Digits
-pub mod Laws

@@ -3,9 +3,7 @@
 //! Each answers the unread rest and the value exactly where its input begins with such a text, and `None`
 //! otherwise. A run of digits takes as many as it may, and nothing goes back.
 ghost use Rattle.std.specs.Prelude.{◌≤◌};
-ghost use Rattle.time_digits.specs.Cuts.{Finds};
-ghost use Rattle.time_digits.specs.Digits.{IsDigitRun, IsDigitRunUpTo, IsPaddedRunUpTo, IsFraction};
-ghost use Rattle.time_digits.specs.Bytes.{IsByte, IsByteIgnoringCase, IsDigitByte, IsSign};
+ghost use Rattle.time_digits.specs.Digits.{Finds, IsDigitRun, IsDigitRunUpTo, IsPaddedRunUpTo, IsFraction, IsByte, IsByteIgnoringCase, IsDigitByte, IsSign};
 
 pub mod fast;
 mod grammar;

@@ -1,6 +1,6 @@
 //! Laws of the definitions that the contracts of this crate cite: each function does nothing, and its
 //! contract is the law.
-ghost use Rattle.time_digits.specs.Laws.{OneDigitRun, OnePaddedRun};
+ghost use Rattle.time_digits.specs.Digits.{OneDigitRun, OnePaddedRun};
 
 /// For one input at most one beginning is a run of digits, with one value.
 pub fn law_one_digit_run()

@@ -4,7 +4,7 @@
 #![tactic(auto)]
 
 ghost use Rattle.std.specs.Prelude.{◌≡◌};
-ghost use Rattle.time_digits.specs.Bytes.{is_negative};
+ghost use Rattle.time_digits.specs.Digits.{is_negative};
 
 pub mod combinator;
 pub mod laws;

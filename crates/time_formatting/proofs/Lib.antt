@@ -1,10 +1,3 @@
-pub mod Bounds
-pub mod Counts
 pub mod DigitRuns
-pub mod Digits
 pub mod FractionTexts
-pub mod IsoWeeks
-pub mod SignedTexts
 pub mod Spelled
-pub mod TimestampTexts
-pub mod Walking

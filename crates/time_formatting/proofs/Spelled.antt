@@ -1,36 +1,100 @@
 -- What is written of a component is read as what it says.
-use Rattle.std.proofs.Common.{◌≡◌, ℕ, ◌-◌, ◌^◌, ◌<◌, ◌≤◌, Bool, true, false, List, [], take, Ok, Result, inl, refl, ap, subst, sym, arith, ℤ, unsigned_abs}
-use Rattle.std.specs.Prelude.{nat_le}
-use Rattle.std.proofs.lemmas.Bool.Decides.{nat_tests}
+use Rattle.std.specs.Prelude.{nat_lt, nat_le}
 use Rattle.std.specs.Str.{str_to_ascii_lowercase}
-use Rattle.time_values.specs.Names.{month_name, weekday_name}
-use Rattle.time_components.specs.Names.{IsNamed, period_name}
-use Rattle.time_components.specs.Spelling.{EndsBy, IsFractionRun, SaysCentury, SaysOffsetHour, SaysTimestamp, SaysYear, flagged, least_digits, most_digits, signed}
+use Rattle.std.proofs.Common.{◌≡◌, ℕ, ◌+◌, ◌-◌, ◌^◌, ◌<◌, ◌≤◌, Bool, true, false, refl, arith, ℤ, pos, ◌+ℤ◌, ◌-ℤ◌, unsigned_abs, List, [], take, Ok, Result, inl, ap, subst, sym, ◌%◌, ◌<ℤ◌, ◌∙◌}
+use Rattle.std.proofs.lemmas.Bool.Decides.{nat_tests}
+use Rattle.std.proofs.lemmas.Int.{ints, by_lt_z}
+use Rattle.time_values.specs.Calendar.{IsYear, day_limit, month_length, thursday_of, weekdays_in, year_length, year_start, greatest_year, IsIsoWeek}
+use Rattle.time_values.specs.Dates.{day, day_number, month, ordinal, weekdays_so_far, year}
+use Rattle.time_values.specs.Names.{month_number, month_name, weekday_name}
+use Rattle.time_values.specs.declared.date.Date.{Date}
+use Rattle.time_values.specs.Dates as Dates
+use Rattle.time_values.specs.Moments.{offset_instant}
+use Rattle.time_values.specs.Shown.{is_behind}
+use Rattle.time_values.specs.declared.offset_date_time.OffsetDateTime.{OffsetDateTime}
+use Rattle.time_values.proofs.InstantLemmas.{ordinal_in, day_number_in, year_start_later}
+use Rattle.time_values.proofs.YearLemmas.{abs_within, weekdays_in_closed, day_limit-weekday, year_end_at, year_start-next, year_after_first, year_length-leap_day}
+use Rattle.time_values.proofs.NumberLemmas.{month_number_in}
+use Rattle.time_digits.specs.Digits.{IsPaddedRun, NoDigitFirst}
+use Rattle.time_digits.specs.declared.Padding.{Padding}
+use Rattle.time_components.specs.Spelling.{IsNamed, period_name, EndsBy, IsFractionRun, SaysCentury, SaysOffsetHour, SaysTimestamp, SaysYear, flagged, least_digits, most_digits, signed}
 use Rattle.time_components.specs.declared.format_description.Component.TheVariants as component
 use Rattle.time_components.specs.declared.modifier.TrailingInput.{TrailingInput}
 use Rattle.time_components.specs.declared.modifier.TrailingInput.TheVariants.{Discard, Prohibit}
-use Rattle.time_digits.specs.Digits.{IsPaddedRun, NoDigitFirst}
-use Rattle.time_digits.specs.declared.Padding.{Padding}
-use Rattle.time_values.specs.Dates as Dates
-use Rattle.time_values.specs.Moments.{offset_instant}
-use Rattle.time_values.specs.Month.{month_number}
-use Rattle.time_values.specs.Range.{greatest_year}
-use Rattle.time_values.specs.Shown.{is_behind}
-use Rattle.time_values.specs.declared.offset_date_time.OffsetDateTime.{OffsetDateTime}
-use Rattle.time_values.proofs.DateLemmas.{ordinal_in}
-use Rattle.time_values.proofs.NumberLemmas.{month_number_in}
-use Rattle.time_values.proofs.OffsetLemmas.{abs_within}
-use Rattle.time_formatting.specs.Components.{count_of, half_of, hour_12, weekday_of}
-use Rattle.time_formatting.specs.Laws.{ComponentSpelled}
-use Rattle.time_formatting.specs.Numbers.{count_text, padded}
-use Rattle.time_formatting.specs.Values.{CenturyStops, PaddedStops, YearStops, century_value, kept, last_two, units_value}
-use Rattle.time_formatting.specs.Years.{century, full_year, in_standard_range, iso_week, iso_year}
-use Rattle.time_formatting.specs.declared.unformattable.Unformattable.{Unformattable}
-use Rattle.time_formatting.proofs.Bounds.{day_below, iso_week_below, iso_year_below, ordinal_below, weekdays_below, year_below}
+use Rattle.time_formatting.specs.Numbers.{iso_week, iso_year, year_of_thursday, count_text, padded, century, full_year, in_standard_range}
+use Rattle.time_formatting.specs.Components.{count_of, half_of, hour_12, weekday_of, CenturyStops, PaddedStops, YearStops, century_value, kept, last_two, units_value}
+use Rattle.time_formatting.specs.Texts.{ComponentSpelled}
+use Rattle.time_formatting.specs.declared.walk.Unformattable.{Unformattable}
 use Rattle.time_formatting.proofs.DigitRuns.{padded_run}
-use Rattle.time_formatting.proofs.FractionTexts.{fraction_spelled}
-use Rattle.time_formatting.proofs.SignedTexts.{century_extended, century_standard, offset_hour_spelled, year_extended, year_standard}
-use Rattle.time_formatting.proofs.TimestampTexts.{timestamp_spelled}
+use Rattle.time_formatting.proofs.FractionTexts.{fraction_spelled, century_extended, century_standard, offset_hour_spelled, year_extended, year_standard, timestamp_spelled}
+
+-- ---- How great the numbers of a date are
+
+month_short : (y : ℤ) (m : ℕ) → month_length y m ≤ 31
+month_short y m = grind (arith, nat_tests)
+
+pub day_below : (d : Date) → day d < 100
+day_below d = omega (arith, d.day_in, month_short (year d) (month_number (month d)))
+
+year_short : (y : ℤ) → year_length y ≤ 366
+year_short y = grind (arith, nat_tests)
+
+pub ordinal_below : (d : Date) → ordinal d < 1000
+ordinal_below d = omega (arith, ordinal_in d, year_short d.year)
+
+-- the weekdays of at most 366 days
+weekdays_few : (w first n : ℕ) → w < 7 → n ≤ 366 → weekdays_in w first n < 100
+weekdays_few w first n day few = omega (arith, weekdays_in_closed w first n day)
+
+pub weekdays_below : (w : ℕ) (d : Date) → w < 7 → weekdays_so_far greatest_year w d < 100
+weekdays_below w d day = weekdays_few w (year_start greatest_year d.year) (ordinal d) day (omega (arith, ordinal_in d, year_short d.year))
+
+-- what holds of the ISO year of a day
+abbrev IsNearYear : ℤ → ℕ → Type 0
+IsNearYear y t = IsYear greatest_year y × (t + 1 - year_start greatest_year y ≤ 366)
+
+iso_before : (y : ℤ) (t : ℕ) → IsYear greatest_year y → t < year_start greatest_year y → IsNearYear (y -ℤ pos 1) t
+iso_before y t within before =
+    let later = year_after_first greatest_year y within (omega arith) in
+    let next = year_start-next greatest_year (y -ℤ pos 1) y (omega (arith, ints, later)) (omega (arith, ints)) in
+    ((omega (arith, ints, later), omega (arith, ints, within)), omega (arith, next, year_short (y -ℤ pos 1)))
+
+iso_after : (y : ℤ) (t : ℕ) → IsYear greatest_year y → t < year_start greatest_year y + year_length y + 3 → t + 1 < day_limit greatest_year
+    → year_start greatest_year y + year_length y ≤ t → IsNearYear (y +ℤ pos 1) t
+iso_after y t within near limit after =
+    let next = year_start-next greatest_year y (y +ℤ pos 1) within.0 refl in
+    by_lt_z y (pos greatest_year)
+    (λ lt. ((omega (arith, ints, within), omega (arith, ints, lt)), omega (arith, next)))
+    (λ ge. absurd (omega (arith, year_end_at greatest_year y refl (omega (arith, ints, within, ge)))))
+
+iso_near : (y : ℤ) (t : ℕ) (b c : Bool) → nat_lt t (year_start greatest_year y) ≡ b → nat_lt t (year_start greatest_year y + year_length y) ≡ c
+    → IsYear greatest_year y → t < year_start greatest_year y + year_length y + 3 → t + 1 < day_limit greatest_year
+    → IsNearYear (year_of_thursday greatest_year y t) t
+iso_near y t true c before same within near limit =
+    rw before (iso_before y t within (grind (arith, nat_tests)))
+iso_near y t false true before same within near limit =
+    rw (before, same) (within, omega (arith, year_short y, let here : t < year_start greatest_year y + year_length y = grind (arith, nat_tests) in here))
+iso_near y t false false before same within near limit =
+    rw (before, same) (iso_after y t within near limit (grind (arith, nat_tests)))
+
+iso_place : (d : Date) → IsNearYear (iso_year greatest_year d) (thursday_of (day_number greatest_year d))
+unfolding iso_year
+iso_place d =
+    let t = thursday_of (day_number greatest_year d) in
+    iso_near d.year t (nat_lt t (year_start greatest_year d.year)) (nat_lt t (year_start greatest_year d.year + year_length d.year)) refl refl d.year_in
+    (omega (arith, ordinal_in d)) (omega (arith, day_number_in d, day_limit-weekday greatest_year refl))
+
+pub iso_week_below : (d : Date) → iso_week greatest_year d < 100
+unfolding iso_week
+iso_week_below d =
+    weekdays_few 3 (year_start greatest_year (iso_year greatest_year d))
+    (thursday_of (day_number greatest_year d) + 1 - year_start greatest_year (iso_year greatest_year d)) (omega arith) (iso_place d).1
+
+pub year_below : (d : Date) → unsigned_abs (year d) < 10 ^ 6
+year_below d = omega (arith, abs_within greatest_year (year d) d.year_in)
+
+pub iso_year_below : (d : Date) → unsigned_abs (iso_year greatest_year d) < 10 ^ 6
+iso_year_below d = omega (arith, abs_within greatest_year (iso_year greatest_year d) (iso_place d).0)
 
 -- a text is that one
 abbrev IsText : Result (List ℕ) Unformattable → List ℕ → Type 0
@@ -184,3 +248,58 @@ component_spelled v (component.UnixTimestampMicrosecond m) whole text rest is st
 component_spelled v (component.UnixTimestampNanosecond m) whole text rest is stops = timestamp 0 m.sign_is_mandatory v text rest (omega arith) stops is
 component_spelled v (component.End m) whole text rest is stops =
     (refl, stops, subst (EndsBy m.trailing_input) (same_text [] text is) (ends m.trailing_input))
+
+-- ---- The ISO week of a date is the one that its Thursday tells
+
+-- the year of a day lies before that of another one
+earlier : (Y : ℕ) (a y : ℤ) (t : ℕ) → (Y + 1) % 400 ≡ 0 → IsYear Y a → IsYear Y y → year_start Y a ≤ t + 3 → t < year_start Y y + year_length y → y <ℤ a
+    → y ≡ a -ℤ pos 1
+earlier Y a y t whole year other near within lt =
+    by_lt_z y (a -ℤ pos 1)
+    (λ far. absurd (omega (
+      arith,
+      year_start_later Y y (a -ℤ pos 1) whole other.0 far,
+      year_start_later Y (a -ℤ pos 1) a whole (omega (arith, ints)) (omega (arith, ints)),
+      year_length-leap_day (a -ℤ pos 1),
+    )))
+    (λ near. omega (arith, ints))
+
+-- or after it
+iso_later : (Y : ℕ) (a y : ℤ) (t : ℕ) → (Y + 1) % 400 ≡ 0 → IsYear Y a → IsYear Y y → t < year_start Y a + year_length a + 3 → year_start Y y ≤ t → a <ℤ y
+    → y ≡ a +ℤ pos 1
+iso_later Y a y t whole year other near within lt =
+    by_lt_z (a +ℤ pos 1) y
+    (λ far. absurd (omega (
+      arith,
+      year_start_later Y (a +ℤ pos 1) y whole (omega (arith, ints)) far,
+      year_start_later Y a (a +ℤ pos 1) whole year.0 (omega (arith, ints)),
+      year_length-leap_day (a +ℤ pos 1),
+    )))
+    (λ near. omega (arith, ints))
+
+year_is : (Y : ℕ) (a y : ℤ) (t : ℕ) → (Y + 1) % 400 ≡ 0 → IsYear Y a → IsYear Y y → year_start Y a ≤ t + 3 → t < year_start Y a + year_length a + 3
+    → year_start Y y ≤ t → t < year_start Y y + year_length y → y ≡ year_of_thursday Y a t
+year_is Y a y t whole year other low high begun within =
+    by_lt_z y a
+    (λ lt.
+    let before : t < year_start Y a = omega (arith, year_start_later Y y a whole other.0 lt) in
+    let is = earlier Y a y t whole year other low within lt in grind (arith, nat_tests))
+    (λ ge. by_lt_z a y
+    (λ gt.
+    let after : year_start Y a + year_length a ≤ t = omega (arith, year_start_later Y a y whole year.0 gt) in
+    let is = iso_later Y a y t whole year other high begun gt in grind (arith, nat_tests))
+    (λ le.
+    let is : y ≡ a = omega (arith, ints) in
+    let from = subst (λ z. year_start Y z ≤ t) is begun in
+    let to = subst (λ z. t < year_start Y z + year_length z) is within in grind (arith, nat_tests)))
+
+pub iso_year_is : (d : Date) (y : ℤ) (w : ℕ) → IsIsoWeek greatest_year (day_number greatest_year d) y w → y ≡ iso_year greatest_year d
+unfolding iso_year
+iso_year_is d y w h =
+    let place = ordinal_in d in
+    year_is greatest_year d.year y (thursday_of (day_number greatest_year d)) refl d.year_in h.0 (omega arith) (omega arith) h.1 h.2
+
+pub iso_week_is : (d : Date) (y : ℤ) (w : ℕ) → IsIsoWeek greatest_year (day_number greatest_year d) y w → w ≡ iso_week greatest_year d
+unfolding iso_week
+iso_week_is d y w h =
+    h.3 ∙ ap (λ z. weekdays_in 3 (year_start greatest_year z) (thursday_of (day_number greatest_year d) + 1 - year_start greatest_year z)) (iso_year_is d y w h)

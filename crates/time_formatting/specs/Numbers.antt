@@ -1,9 +1,14 @@
 -- Numbers as components have them.
-use Rattle.std.specs.Prelude.{ℕ, ◌/◌, ℤ, pos, negsuc, int_lt, unsigned_abs, List, [], ◌∷◌, ◌++◌, codes, Bool, ◌==◌, if◌then◌else◌}
+use Rattle.std.specs.Prelude.{ℕ, ◌/◌, ℤ, pos, negsuc, int_lt, unsigned_abs, List, [], ◌∷◌, ◌++◌, codes, Bool, ◌==◌, if◌then◌else◌, ◌+◌, ◌-◌, ◌+ℤ◌, ◌-ℤ◌, ◌||◌, nat_lt, nat_le, Result, Ok, Err}
 use Rattle.std.specs.Fmt.{decimal}
+use Rattle.time_values.specs.Shown.{fixed}
+use Rattle.time_values.specs.Calendar.{thursday_of, weekdays_in, year_length, year_start}
+use Rattle.time_values.specs.Dates as Dates
+use Rattle.time_values.specs.declared.date.Date.{Date}
 use Rattle.time_digits.specs.declared.Padding.{Padding}
 use Rattle.time_digits.specs.declared.Padding.TheVariants as padding
-use Rattle.time_values.specs.Shown.{fixed}
+use Rattle.time_formatting.specs.declared.walk.Unformattable.{Unformattable}
+use Rattle.time_formatting.specs.declared.walk.Unformattable.TheVariants.{Year}
 
 -- what stands for a zero in front of a number
 abbrev pub filler : Padding → List ℕ
@@ -34,3 +39,44 @@ whole unit (negsuc n) = negsuc (n / unit)
 abbrev pub count_text : ℕ → Bool → ℤ → List ℕ
 count_text unit sign_is_mandatory n =
     sign_text (int_lt n (pos 0)) sign_is_mandatory ++ decimal (unsigned_abs (whole unit n))
+
+-- ---- Years and weeks as components have them. `Y` is the greatest year.
+
+-- the year of a Thursday that lies at most three days before or after a day of the year y
+abbrev pub year_of_thursday : ℕ → ℤ → ℕ → ℤ
+year_of_thursday Y y day =
+    if nat_lt day (year_start Y y) then y -ℤ pos 1 else
+    if nat_lt day (year_start Y y + year_length y) then y else y +ℤ pos 1
+
+-- the year of the date's ISO week, in which the Thursday of the week lies
+unfoldable pub iso_year : ℕ → Date → ℤ
+iso_year Y d = year_of_thursday Y (Dates.year d) (thursday_of (Dates.day_number Y d))
+
+-- the number of the week: which Thursday of that year it is
+unfoldable pub iso_week : ℕ → Date → ℕ
+iso_week Y d =
+    weekdays_in 3 (year_start Y (iso_year Y d)) (thursday_of (Dates.day_number Y d) + 1 - year_start Y (iso_year Y d))
+
+-- four digits under the padding, or as many as the number has
+abbrev pub year_digits : Padding → ℕ → List ℕ
+year_digits p n = if nat_lt n 10_000 then padded p 4 n else if nat_lt n 100_000 then fixed 5 n else fixed 6 n
+
+-- two digits under the padding, or as many as the number has
+abbrev pub century_digits : Padding → ℕ → List ℕ
+century_digits p n = if nat_lt n 100 then padded p 2 n else if nat_lt n 1000 then fixed 3 n else fixed 4 n
+
+-- the sign of a year; one above 9999 has it in any case
+abbrev pub year_sign : Bool → ℤ → List ℕ
+year_sign sign_is_mandatory y = sign_text (int_lt y (pos 0)) (sign_is_mandatory || int_lt (pos 9999) y)
+
+-- a year
+abbrev pub full_year : Bool → Padding → ℤ → List ℕ
+full_year sign_is_mandatory p y = year_sign sign_is_mandatory y ++ year_digits p (unsigned_abs y)
+
+-- a year without its last two digits
+abbrev pub century : Bool → Padding → ℤ → List ℕ
+century sign_is_mandatory p y = year_sign sign_is_mandatory y ++ century_digits p (unsigned_abs y / 100)
+
+-- the text, where the year has four digits at most
+abbrev pub in_standard_range : ℤ → List ℕ → Result (List ℕ) Unformattable
+in_standard_range y text = if nat_le (unsigned_abs y) 9999 then Ok text else Err Year

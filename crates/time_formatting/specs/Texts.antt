@@ -1,11 +1,13 @@
 -- The text of a moment by a description. `Y` is the greatest year.
-use Rattle.std.specs.Prelude.{ℕ, List, [], ◌++◌, length, nat_le, if◌then◌else◌, Result, Ok, Err}
-use Rattle.time_components.specs.Tree.{Tree, Trees, literal, component, sequence, optional, first_of, none, more}
+use Rattle.std.specs.Prelude.{ℕ, List, [], ◌++◌, length, nat_le, if◌then◌else◌, Result, Ok, Err, codes, ◌≡◌, Bool}
 use Rattle.time_values.specs.Shown.{Items}
 use Rattle.time_values.specs.declared.offset_date_time.OffsetDateTime.{OffsetDateTime}
-use Rattle.time_formatting.specs.Components.{component_text}
-use Rattle.time_formatting.specs.declared.unformattable.Unformattable.{Unformattable}
-use Rattle.time_formatting.specs.declared.unformattable.Unformattable.TheVariants.{TooLong}
+use Rattle.time_components.specs.Tree.{Tree, Trees, literal, component as tree_component, sequence, optional, first_of, none, more as tree_more}
+use Rattle.time_components.specs.Spelling.{Spells}
+use Rattle.time_components.specs.declared.format_description.Component.{Component}
+use Rattle.time_formatting.specs.Components.{component_text, Stops, value_of}
+use Rattle.time_formatting.specs.declared.walk.Unformattable.{Unformattable}
+use Rattle.time_formatting.specs.declared.walk.Unformattable.TheVariants.{TooLong, Year, Ignore}
 
 -- the bytes after those that stand, where they are 35 at most
 abbrev pub joined : List ℕ → List ℕ → Result (List ℕ) Unformattable
@@ -22,18 +24,18 @@ abbrev mutual
   -- list in turn, an optional tree, and the first of a choice. Or the first reason why there is no such text.
   pub text_after : ℕ → OffsetDateTime → List ℕ → Tree → Result (List ℕ) Unformattable
   text_after Y v before (literal bytes) = joined before bytes
-  text_after Y v before (component whole c) = and_then (component_text Y v c) (joined before)
+  text_after Y v before (tree_component whole c) = and_then (component_text Y v c) (joined before)
   text_after Y v before (sequence ts) = texts_after Y v before ts
   text_after Y v before (optional t) = text_after Y v before t
   text_after Y v before (first_of ts) = first_after Y v before ts
 
   pub texts_after : ℕ → OffsetDateTime → List ℕ → Trees → Result (List ℕ) Unformattable
   texts_after Y v before none = Ok before
-  texts_after Y v before (more t ts) = and_then (text_after Y v before t) (λ bytes. texts_after Y v bytes ts)
+  texts_after Y v before (tree_more t ts) = and_then (text_after Y v before t) (λ bytes. texts_after Y v bytes ts)
 
   pub first_after : ℕ → OffsetDateTime → List ℕ → Trees → Result (List ℕ) Unformattable
   first_after Y v before none = Ok before
-  first_after Y v before (more t ts) = text_after Y v before t
+  first_after Y v before (tree_more t ts) = text_after Y v before t
 
 -- the text of a moment by a tree, or the first reason why there is none
 abbrev pub text_of : ℕ → OffsetDateTime → Tree → Result (List ℕ) Unformattable
@@ -43,3 +45,19 @@ text_of Y v tree = text_after Y v [] tree
 abbrev pub bytes_of : Result Items Unformattable → Result (List ℕ) Unformattable
 bytes_of (Ok text) = Ok text.items
 bytes_of (Err why) = Err why
+
+-- ---- What the reason why a moment has no text by a description prints
+
+-- the text
+abbrev pub unformattable_text : Unformattable → List ℕ
+unformattable_text Year = codes "The year component cannot be formatted into the requested format."
+unformattable_text Ignore = codes "The ignore component cannot be formatted into the requested format."
+unformattable_text TooLong = codes "The text has more than 35 bytes."
+
+-- ---- Laws of the definitions, each proved by the function of module `laws` that has it as its contract
+
+-- The text of a component, before a rest that may stand behind it, spells what the component says of the moment.
+abbrev pub ComponentSpelled : ℕ → Type 0
+ComponentSpelled Y =
+    (v : OffsetDateTime) (c : Component) (whole : Bool) (text rest : List ℕ)
+    → component_text Y v c ≡ Ok text → Stops Y v c rest → Spells whole c text rest (value_of Y v c)

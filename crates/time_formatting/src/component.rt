@@ -3,20 +3,20 @@ ghost use Rattle.std.specs.Prelude.{◌≡◌, ◌+◌, ◌<◌, ◌≤◌, [], 
 ghost use Rattle.time_components.specs.Spelling.{first_digit};
 ghost use Rattle.time_values.specs.Moments.{offset_instant};
 ghost use Rattle.time_values.specs.Offsets as Offsets;
-ghost use Rattle.time_values.specs.Range.{greatest_year};
+ghost use Rattle.time_values.specs.Calendar.{greatest_year};
 ghost use Rattle.time_values.specs.Shown.{fixed, is_behind};
 ghost use Rattle.time_formatting.specs.Components as components;
 ghost use Rattle.time_formatting.specs.Components.{number_of, other_of};
 ghost use Rattle.time_formatting.specs.Numbers as numbers;
 ghost use Rattle.time_formatting.specs.Texts.{bytes_of};
 
-use crate::names::{name, weekday};
-use crate::numbers::{append_digits, append_sign, count_of_units, three_places, two_places};
-use crate::unformattable::Unformattable;
+use crate::numbers::{
+    append_digits, append_sign, count_of_units, name, three_places, two_places, weekday,
+};
+use crate::walk::Unformattable;
 use crate::years::{century_text, iso_week, iso_year, year_text};
 use time_components::{Component, Padding, SubsecondDigits};
-use time_values::digits::{nine, pair};
-use time_values::fraction::count_significant;
+use time_values::digits::{count_significant, nine, pair};
 use time_values::text::Text;
 use time_values::{OffsetDateTime, UtcOffset};
 
@@ -112,6 +112,7 @@ fn weekday_digit(one_indexed: bool, number: u8) -> Text
 }
 
 // The nanoseconds of a moment, in units.
+#[tactic(auto, using(time_values::proofs::InstantLemmas::instant_near, crate::proofs::DigitRuns::near_short))]
 fn timestamp(value: &OffsetDateTime, unit: u128, sign_is_mandatory: bool) -> Text
     requires { 1 ≤ unit }
     ensures { result.items ≡ numbers.count_text unit sign_is_mandatory (offset_instant greatest_year value.now) }

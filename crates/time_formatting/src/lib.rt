@@ -3,12 +3,9 @@
 
 mod component;
 pub mod laws;
-mod names;
 mod numbers;
-mod unformattable;
 mod walk;
 mod years;
 
 pub use time_values::text::Text;
-pub use unformattable::Unformattable;
-pub use walk::format;
+pub use walk::{Unformattable, format};

@@ -1,12 +1,17 @@
-//! Numbers under a padding, signs, and counts of units since 1970.
-ghost use Rattle.std.specs.Prelude.{◌≡◌, ◌+◌, ◌^◌, ◌≤◌, ◌<◌, ◌++◌, length, unsigned_abs};
+//! Names, numbers under a padding, signs, and counts of units since 1970.
+ghost use Rattle.std.specs.Prelude.{◌≡◌, ◌+◌, ◌^◌, ◌≤◌, ◌<◌, ◌++◌, length, unsigned_abs, option_map, IfSome};
 ghost use Rattle.time_formatting.specs.Numbers.{count_text, filled, padded, sign_text};
 ghost use Rattle.time_formatting.specs.Numbers as numbers;
+ghost use Rattle.time_components.specs.Spelling as names;
+ghost use Rattle.time_values.specs.Calendar.{greatest_year};
+ghost use Rattle.time_formatting.specs.Components.{half_of, name_of, weekday_of};
 
 use itoa::Buffer;
-use time_components::Padding;
+use time_components::{Component, Padding};
 use time_values::digits::pair;
+use time_values::names::{month_name, weekday_name};
 use time_values::text::Text;
+use time_values::{OffsetDateTime, Weekday};
 
 // What stands for a zero in front of a number.
 fn filler(padding: Padding) -> &'static [u8]
@@ -21,7 +26,7 @@ fn filler(padding: Padding) -> &'static [u8]
 }
 
 /// Puts the digits of a number, with what the padding has for each zero in front of them. There must be room for all.
-#[tactic(auto, using(crate::proofs::Digits::filled_one, crate::proofs::Digits::filled_other))]
+#[tactic(auto, using(crate::proofs::FractionTexts::filled_one, crate::proofs::FractionTexts::filled_other))]
 pub(crate) fn append_digits(text: &mut Text, digits: &[u8], padding: Padding)
     requires { length text.old.items + length digits.now ≤ 35 }
     ensures text { text.new.items ≡ text.old.items ++ filled (numbers.filler padding) digits.now }
@@ -37,7 +42,7 @@ pub(crate) fn append_digits(text: &mut Text, digits: &[u8], padding: Padding)
 }
 
 /// The last two digits of a number under the padding.
-#[tactic(auto, using(crate::proofs::Digits::two_of))]
+#[tactic(auto, using(crate::proofs::FractionTexts::two_of))]
 pub(crate) fn two_places(padding: Padding, number: u8) -> Text
     ensures { result.items ≡ padded padding 2 number }
 {
@@ -47,6 +52,7 @@ pub(crate) fn two_places(padding: Padding, number: u8) -> Text
 }
 
 /// The last three digits of a number under the padding.
+#[tactic(auto, using(crate::proofs::FractionTexts::three_of))]
 pub(crate) fn three_places(padding: Padding, number: u16) -> Text
     ensures { result.items ≡ padded padding 3 number }
 {
@@ -87,6 +93,7 @@ fn count(nanoseconds: i128, unit: u128) -> u128
 }
 
 /// The whole units of that many nanoseconds, rounded down, as a decimal number with its sign.
+#[tactic(auto, using(crate::proofs::DigitRuns::count_short, crate::proofs::DigitRuns::same_few))]
 pub(crate) fn count_of_units(nanoseconds: i128, unit: u128, sign_is_mandatory: bool) -> Text
     requires unit { 1 ≤ unit }
     requires nanoseconds { unsigned_abs nanoseconds < 10 ^ 30 }
@@ -96,4 +103,39 @@ pub(crate) fn count_of_units(nanoseconds: i128, unit: u128, sign_is_mandatory: b
     append_sign(&mut text, nanoseconds < 0, sign_is_mandatory);
     text.append(Buffer::new().format(count(nanoseconds, unit)).as_bytes());
     text
+}
+
+// The letters of the half of the day.
+fn period_name(hour: u8, is_uppercase: bool) -> &'static [u8]
+    ensures name { result.now ≡ names.period_name is_uppercase (half_of hour) }
+    ensures most { length result.now ≤ 2 }
+{
+    match (hour < 12, is_uppercase) {
+        (true, true) => b"AM",
+        (true, false) => b"am",
+        (false, true) => b"PM",
+        (false, false) => b"pm",
+    }
+}
+
+/// The weekday of the date.
+pub(crate) fn weekday(value: &OffsetDateTime) -> Weekday
+    ensures { result ≡ weekday_of greatest_year value.now }
+{
+    value.date().weekday()
+}
+
+/// The name that a component is, or `None` where it is none.
+pub(crate) fn name(value: &OffsetDateTime, component: Component) -> Option<&'static [u8]>
+    ensures name { option_map (λ n. n.now) result ≡ name_of greatest_year value.now component }
+    ensures most { IfSome result (λ n. length n.now ≤ 9) }
+{
+    match component {
+        Component::MonthShort(_) => Some(&month_name(value.date().month()).as_bytes()[..3]),
+        Component::MonthLong(_) => Some(month_name(value.date().month()).as_bytes()),
+        Component::WeekdayShort(_) => Some(&weekday_name(weekday(value)).as_bytes()[..3]),
+        Component::WeekdayLong(_) => Some(weekday_name(weekday(value)).as_bytes()),
+        Component::Period(m) => Some(period_name(value.time().hour(), m.is_uppercase)),
+        _ => None,
+    }
 }

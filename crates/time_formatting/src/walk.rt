@@ -1,14 +1,13 @@
-//! The walk over the steps of a description.
-ghost use Rattle.std.specs.Prelude.{◌≡◌, ◌≤◌, ◌∷◌, ℕ, drop, false, length, IfOk};
-ghost use Rattle.time_values.specs.Range.{greatest_year};
-ghost use Rattle.time_components.specs.Steps as steps_;
-ghost use Rattle.time_components.specs.Steps.{steps_shape, tree_at, trees_in};
-ghost use Rattle.time_components.specs.Tree as tree;
+//! The walk over the steps of a description, and why a moment has no text by it.
+ghost use Rattle.std.specs.Prelude.{◌≡◌, ◌≤◌, ◌∷◌, ℕ, drop, false, length, IfOk, Some};
+ghost use Rattle.time_values.specs.Calendar.{greatest_year};
+ghost use Rattle.time_components.specs.Tree as steps_;
+ghost use Rattle.time_components.specs.Tree.{steps_shape, tree_at, trees_in};
 ghost use Rattle.time_formatting.specs.Steps.{Puts};
-ghost use Rattle.time_formatting.specs.Texts.{bytes_of, first_after, joined, text_after, text_of, texts_after};
+ghost use Rattle.time_formatting.specs.Texts.{bytes_of, first_after, joined, text_after, text_of, texts_after, unformattable_text};
 
 use crate::component::component_text;
-use crate::unformattable::Unformattable;
+use std::fmt;
 use time_components::{Component, Group, Step};
 use time_values::OffsetDateTime;
 use time_values::text::Text;
@@ -43,7 +42,7 @@ fn put_component(
     value: &OffsetDateTime,
     text: &mut Text,
 ) -> Result<(), Unformattable>
-    ensures { Puts (text_after greatest_year value.now text.old.items (tree.component false component)) result text.new.items }
+    ensures { Puts (text_after greatest_year value.now text.old.items (steps_.component false component)) result text.new.items }
 {
     let written = component_text(value, component)?;
     put(written.as_bytes(), text)
@@ -142,3 +141,30 @@ fn write_literal<'s>(
     }
     Ok(left)
 }
+
+/// Why a moment has no text by a description.
+#[derive(Clone, Copy, Debug, PartialEq, Eq)]
+pub enum Unformattable {
+    /// A component of the standard range has no such year: only -9999 to 9999.
+    Year,
+    /// A component skips bytes, so that there is nothing to write.
+    Ignore,
+    /// The text has more than 35 bytes.
+    TooLong,
+}
+
+impl fmt::Display for Unformattable {
+    ghost output = { λ e. Some (unformattable_text e) };
+
+    fn fmt<W: fmt::Write>(&self, f: &mut fmt::Formatter<W>) -> fmt::Result {
+        f.write_str(match self {
+            Unformattable::Year =>
+                "The year component cannot be formatted into the requested format.",
+            Unformattable::Ignore =>
+                "The ignore component cannot be formatted into the requested format.",
+            Unformattable::TooLong => "The text has more than 35 bytes.",
+        })
+    }
+}
+
+impl std::error::Error for Unformattable {}

@@ -1,14 +1,13 @@
 //! Years and centuries.
 ghost use Rattle.std.specs.Prelude.{◌≡◌, ◌+◌, ◌≤◌, ◌<◌, ◌++◌, length, option_map};
-ghost use Rattle.time_values.specs.Calendar.{IsYear};
+ghost use Rattle.time_values.specs.Calendar.{IsYear, greatest_year};
 ghost use Rattle.time_values.specs.Moments.{offset_date};
-ghost use Rattle.time_values.specs.Range.{greatest_year};
 ghost use Rattle.time_formatting.specs.Components as components;
 ghost use Rattle.time_formatting.specs.Texts.{bytes_of};
-ghost use Rattle.time_formatting.specs.Years as years;
+ghost use Rattle.time_formatting.specs.Numbers as years;
 
 use crate::numbers::{append_digits, append_sign};
-use crate::unformattable::Unformattable;
+use crate::walk::Unformattable;
 use time_components::{Component, Padding};
 use time_values::OffsetDateTime;
 use time_values::digits::{five, four, pair, six};
@@ -42,6 +41,7 @@ fn full(sign_is_mandatory: bool, padding: Padding, year: i32) -> Text
 }
 
 // A year without its last two digits.
+#[tactic(auto, using(crate::proofs::FractionTexts::last_three))]
 fn century(sign_is_mandatory: bool, padding: Padding, year: i32) -> Text
     requires { IsYear greatest_year year }
     ensures { result.items ≡ years.century sign_is_mandatory padding year }
@@ -98,6 +98,7 @@ pub(crate) fn iso_year(value: &OffsetDateTime) -> i32
 }
 
 /// The number of the date's ISO week.
+#[tactic(auto, using(crate::proofs::Spelled::iso_week_is))]
 pub(crate) fn iso_week(value: &OffsetDateTime) -> u8
     ensures { result ≡ years.iso_week greatest_year (offset_date value.now) }
 {

@@ -1,9 +1,29 @@
 -- What is written for an input. `Y` is the greatest year.
-use Rattle.std.specs.Prelude.{◌≡◌, ℕ, List, codes, Option, MatchOption}
+use Rattle.std.specs.Prelude.{ℕ, List, [], ◌∷◌, if◌then◌else◌, ◌==◌, Option, None, Some, ◌≡◌, codes, MatchOption}
+use Rattle.std.specs.Option.{option_and_then, option_map}
 use Rattle.programs_answers.specs.Formats.{format_named, target_named}
 use Rattle.programs_answers.specs.Output.{IsParsed}
 use Rattle.programs_answers.specs.Output as output
-use Rattle.time_lines.specs.Lines.{fields_of}
+
+-- ---- The fields of a line
+
+-- what comes before the first TAB and what comes after it, if there is one
+abbrev pub cut_at_tab : List ℕ → Option (List ℕ × List ℕ)
+cut_at_tab [] = None
+cut_at_tab (b ∷ bytes) = if b == 9 then Some ([], bytes) else option_map (λ cut. (b ∷ cut.0, cut.1)) (cut_at_tab bytes)
+
+-- the fields of a line
+pub record Fields : Type 0 where
+  pub format : List ℕ
+  pub target : List ℕ
+  pub text : List ℕ
+
+-- the fields of a line, which is a format, TAB, a target, TAB and a text; the text may have TABs of its own
+abbrev pub fields_of : List ℕ → Option Fields
+fields_of line =
+    option_and_then
+    (λ first. option_map (λ second. record { format = first.0; target = second.0; text = second.1 })
+    (cut_at_tab first.1)) (cut_at_tab line)
 
 -- The answer to a line: the outcome of its text, or what is wrong with the line. A missing field is reported before
 -- any name is checked, and an unknown format is reported before its target is checked.
@@ -21,3 +41,21 @@ AreAnswers Y = output.AreAnswers (IsAnswer Y)
 -- A writer holds what it held, and then the answers to the lines of the input.
 abbrev pub WritesAnswers : ℕ → Option (List ℕ) → Option (List ℕ) → List ℕ → Type 0
 WritesAnswers Y = output.WritesAnswers (IsAnswer Y)
+
+-- ---- Laws of answers. `Y` is the greatest year.
+
+-- A line has at most one answer.
+abbrev pub OneAnswer : ℕ → Type 0
+OneAnswer Y = (line answer other : List ℕ) → IsAnswer Y line answer → IsAnswer Y line other → answer ≡ other
+
+-- Lines have at most one text of answers.
+abbrev pub OneOutput : ℕ → Type 0
+OneOutput Y =
+    (lines : List (List ℕ)) (output other : List ℕ)
+    → AreAnswers Y lines output → AreAnswers Y lines other → output ≡ other
+
+-- After the answers to one input, a writer of known contents holds at most one text.
+abbrev pub OneWriting : ℕ → Type 0
+OneWriting Y =
+    (input held new other : List ℕ)
+    → WritesAnswers Y (Some held) (Some new) input → WritesAnswers Y (Some held) (Some other) input → new ≡ other

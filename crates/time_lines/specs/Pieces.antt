@@ -2,7 +2,7 @@
 --
 -- The pieces that a line is read by.
 use Rattle.std.specs.Prelude.{◌≡◌, ℕ, List, Option, Some, MatchOption}
-use Rattle.time_lines.specs.Lines.{cut_at_tab}
+use Rattle.time_lines.specs.Output.{cut_at_tab}
 
 -- the bytes are a name of x, TAB and the rest
 abbrev pub BeginsNamed : {X : Type 0} → (List ℕ → Option X) → List ℕ → X → List ℕ → Type 0

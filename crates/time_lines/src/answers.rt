@@ -3,13 +3,13 @@
 //! `fast` cuts the lines whose names it knows at once and is asked first: what it doesn't answer `cut_request` decides, so
 //! without it each line has the same answer, in more steps.
 ghost use Rattle.std.specs.Prelude.{ℕ, List, OnOk, MatchResult};
-ghost use Rattle.time_values.specs.Range.{greatest_year};
+ghost use Rattle.time_values.specs.Calendar.{greatest_year};
 ghost use Rattle.programs_answers.specs.Output.{IsParsed, Writes};
 ghost use Rattle.time_lines.specs.Output.{IsAnswer};
 
 mod fast;
 
-use crate::cuts::cut_tab;
+use crate::serving::cut_tab;
 use programs_answers::formats::{Format, Target, find_format, find_target};
 use programs_answers::{Answering, Named};
 use programs_streams::{Sink, Unwritten};

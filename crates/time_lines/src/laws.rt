@@ -1,6 +1,6 @@
 //! Laws of answers: the function does nothing, and its contract is the law.
-ghost use Rattle.time_values.specs.Range.{greatest_year};
-ghost use Rattle.time_lines.specs.Laws.{OneAnswer, OneOutput, OneWriting};
+ghost use Rattle.time_values.specs.Calendar.{greatest_year};
+ghost use Rattle.time_lines.specs.Output.{OneAnswer, OneOutput, OneWriting};
 
 /// A line has at most one answer, lines have at most one text of answers, and what a run leaves
 /// follows from its input.

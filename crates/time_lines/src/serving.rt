@@ -1,10 +1,11 @@
-//! Answers whole inputs.
+//! Cuts lines into fields, and answers whole inputs.
 ghost use Rattle.std.specs.Prelude.{◌≡◌, Err, OnOk, IfSome};
-ghost use Rattle.time_values.specs.Range.{greatest_year};
+ghost use Rattle.time_values.specs.Calendar.{greatest_year};
 ghost use Rattle.programs_streams.specs.Faults.{HasCause};
-ghost use Rattle.programs_answers.specs.Causes.{HasReadCause, HasWriteCause};
+ghost use Rattle.programs_answers.specs.Output.{HasReadCause, HasWriteCause};
 ghost use Rattle.programs_answers.specs.declared.serving.Stop.TheVariants as Stop;
-ghost use Rattle.time_lines.specs.Output.{WritesAnswers};
+ghost use Rattle.time_lines.specs.Output.{WritesAnswers, cut_at_tab};
+ghost use Rattle.std.specs.Option.{option_map};
 
 use crate::answers::Fields;
 use programs_answers::{Stop, Waiting};
@@ -83,4 +84,16 @@ pub(crate) fn serve_to<R: Source, W: Sink, A: Allocator>(
     ensures through { W.through out.new.sink ≡ W.through out.old.sink }
 {
     programs_answers::serve(&Fields::new(), alloc, input, out)
+}
+
+/// What stands before the first TAB, and what stands after it.
+pub fn cut_tab(bytes: &[u8]) -> Option<(&[u8], &[u8])>
+    ensures { option_map (λ cut. (cut.0.now, cut.1.now)) result ≡ cut_at_tab bytes.now }
+{
+    for (i, b) in bytes.iter().enumerate() {
+        if *b == b'\t' {
+            return Some((&bytes[..i], &bytes[i + 1..]));
+        }
+    }
+    None
 }

@@ -1,13 +1,11 @@
 -- What is left after the places of a mail date.
 use Rattle.std.proofs.Common.{◌≡◌, ℕ, zero, suc, ◌+◌, ◌<◌, ◌≤◌, List, [], ◌∷◌, ◌++◌, length, length-append, length-drop, drop, refl, ap, sym, ◌∙◌, subst, arith, true, false, Bool, Option, None, Some, is_some, unwrap_or}
 use Rattle.time_values.specs.declared.weekday.Weekday.{Weekday}
-use Rattle.time_digits.specs.Cuts.{Cut}
-use Rattle.time_digits.specs.Digits.{IsDigitRun}
-use Rattle.time_digits.proofs.CutLemmas.{IsUnique-cut}
+use Rattle.time_digits.specs.Digits.{Cut, IsDigitRun}
+use Rattle.time_digits.proofs.WordBytes.{IsUnique-cut}
 use Rattle.time_digits.proofs.Runs.{IsDigitRun-one}
 use Rattle.time_readers.specs.MailBlanks.{opt_cfws, opt_cfws_colon_opt_cfws}
-use Rattle.time_readers.specs.Places.{Stand}
-use Rattle.time_readers.specs.Readers.{Reader}
+use Rattle.time_readers.specs.Readers.{Stand, Reader}
 use Rattle.time_readers.specs.Rfc2822.{Asks, FailsAt, IsWeekdayPart, IsYear, nothing_read, places}
 use Rattle.time_readers.specs.declared.rfc2822.Numbers.{Numbers}
 use Rattle.time_readers.specs.declared.rfc2822.Place.{Place}
@@ -18,8 +16,8 @@ use Rattle.time_readers.proofs.Repeats.{Leaves}
 use Rattle.time_locating.specs.MailPlaces.{Agrees, rank}
 use Rattle.time_locating.specs.declared.rfc2822.Passed.{Passed}
 use Rattle.time_locating.specs.Rfc2822.{past, wanted_from}
-use Rattle.time_locating.proofs.PlaceMarks.{IsWithin}
-use Rattle.time_locating.proofs.RankedPlaces.{RankedFrom, rank-before}
+use Rattle.time_locating.proofs.WholeTexts.{IsWithin}
+use Rattle.time_locating.proofs.Rfc3339Places.{RankedFrom, rank-before}
 
 pub day_same : (s x y : List ℕ) (v w : ℕ) → Cut (IsDigitRun 1 2) s x v → Cut (IsDigitRun 1 2) s y w → x ≡ y
 day_same s x y v w p q = (IsUnique-cut (IsDigitRun 1 2) (IsDigitRun-one 1 2) s x y v w p q).0

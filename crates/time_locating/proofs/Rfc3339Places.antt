@@ -1,17 +1,39 @@
 -- How many bytes the places of RFC 3339 take.
-use Rattle.std.proofs.Common.{◌≡◌, ℕ, ◌+◌, ◌≤◌, List, [], ◌∷◌, ◌++◌, length, take, drop, refl, ap, sym, ◌∙◌, subst, inl, inr, arith, true, false, Bool, Option, Some, None, IfSome, length-append}
-use Rattle.time_digits.specs.Bytes.{IsByteIgnoringCase}
-use Rattle.time_digits.specs.Cuts.{Cut, NoCut}
-use Rattle.time_digits.specs.Digits.{AllDigits, IsDigitRun, NoDigitFirst}
+use Rattle.std.proofs.Common.{◌≡◌, ℕ, suc, ◌+◌, List, [], ◌∷◌, ◌++◌, length, take, refl, ap, sym, ◌∙◌, subst, arith, ◌≤◌, drop, inl, inr, true, false, Bool, Option, Some, None, IfSome, length-append}
+use Rattle.std.proofs.lemmas.List.{take_at, drop_at, length-take-le, take-append-drop}
+use Rattle.time_digits.specs.Digits.{IsByteIgnoringCase, Cut, NoCut, AllDigits, IsDigitRun, NoDigitFirst}
 use Rattle.time_digits.proofs.Runs.{AllDigits-unique}
-use Rattle.time_readers.specs.Places.{Stand}
+use Rattle.time_readers.specs.Readers.{Format, Stand, StopsAt}
 use Rattle.time_readers.specs.Rfc3339.{Asks, FailsAt, IsOffsetColon, IsOffsetMinute, IsSubsecond, places, nothing_read}
 use Rattle.time_readers.specs.declared.rfc3339.Numbers.{Numbers}
 use Rattle.time_readers.specs.declared.rfc3339.Place.{Place}
 use Rattle.time_readers.specs.declared.rfc3339.Place.TheVariants.{Year, YearDash, Month, MonthDash, Day, Separator, Hour, HourColon, Minute, MinuteColon, Second, Subsecond, OffsetHour, OffsetColon, OffsetMinute}
-use Rattle.std.proofs.lemmas.List.{drop_at, length-take-le, take-append-drop}
 use Rattle.time_readers.proofs.Walking.{Stand-ends, Stand-split}
-use Rattle.time_locating.proofs.RankedPlaces.{stands-before}
+
+-- ---- Which place it is that doesn't stand, where the places have ranks
+
+-- the ranks of the places rise by one from that number
+abbrev pub RankedFrom : {P : Type 0} → (P → ℕ) → ℕ → List P → Type 0
+RankedFrom rank k [] = Unit {0}
+RankedFrom rank k (p ∷ ps) = (rank p ≡ k) × RankedFrom rank (suc k) ps
+
+-- as many places stand before one as its rank says
+pub rank-before : {P : Type 0} (rank : P → ℕ) (k : ℕ) (ps before after : List P) (p : P) → RankedFrom rank k ps
+    → ps ≡ before ++ p ∷ after → rank p ≡ k + length before
+rank-before rank k ps [] after p ranked is = let h = subst (RankedFrom rank k) is ranked in omega (arith, h.0)
+rank-before rank k ps (q ∷ before) after p ranked is =
+    let h = subst (RankedFrom rank k) is ranked in
+    let later = rank-before rank (suc k) (before ++ p ∷ after) before after p h.1 refl in
+    omega (arith, later)
+
+-- the places before the one that doesn't stand
+pub stands-before : {P N : Type 0} (A : Format P N) (rank : P → ℕ) (ps : List P) (n : N) (bytes : List ℕ) (p : P)
+    → RankedFrom rank 0 ps → (s : StopsAt A ps n bytes p) → Stand A (take (rank p) ps) n bytes s.mid s.numbers
+stands-before A rank ps n bytes p ranked s =
+    let many : length s.before ≡ rank p = omega (arith, rank-before rank 0 ps s.before s.after p ranked s.place) in
+    let same : s.before ≡ take (rank p) ps =
+    sym (take_at s.before (p ∷ s.after) (rank p) many) ∙ ap (take (rank p)) (sym s.place) in
+    subst (λ qs. Stand A qs n bytes s.mid s.numbers) same s.stand
 
 -- where it stands among the places
 abbrev pub rank : Place → ℕ
@@ -31,8 +53,8 @@ rank OffsetHour = 12
 rank OffsetColon = 13
 rank OffsetMinute = 14
 
-before : (bytes : List ℕ) (p : Place) (s : FailsAt true bytes p) → Stand (Asks true) (take (rank p) places) nothing_read bytes s.mid s.numbers
-before bytes p s =
+rfc3339_before : (bytes : List ℕ) (p : Place) (s : FailsAt true bytes p) → Stand (Asks true) (take (rank p) places) nothing_read bytes s.mid s.numbers
+rfc3339_before bytes p s =
     stands-before (Asks true) rank places nothing_read bytes p
     (refl, (refl, (refl, (refl, (refl, (refl, (refl, (refl, (refl, (refl, (refl, (refl, (refl, (refl, (refl, tt))))))))))))))) s
 
@@ -100,7 +122,7 @@ pub fixed : (bytes : List ℕ) (p q : Place) (k : ℕ) → p ≡ q → widths (t
     → k + length s.mid ≡ length bytes
 fixed bytes p q k is all s =
     stand-widths (take (rank p) places) k nothing_read s.numbers bytes s.mid (ap (λ x. widths (take (rank x) places)) is ∙ all)
-    (before bytes p s)
+    (rfc3339_before bytes p s)
 
 -- how many bytes a fraction takes
 abbrev pub IsFractionLength : List ℕ → ℕ → Type 0
@@ -191,13 +213,13 @@ past_fraction bytes mid fraction len a =
 offset_hour_at : (bytes : List ℕ) (fraction : ℕ) → AfterFraction bytes fraction → (s : FailsAt true bytes OffsetHour)
     → 19 + fraction + 0 + length s.mid ≡ length bytes
 offset_hour_at bytes fraction len s =
-    omega (arith, past_fraction bytes s.mid fraction len (after_second nothing_read s.numbers bytes s.mid (before bytes OffsetHour s)))
+    omega (arith, past_fraction bytes s.mid fraction len (after_second nothing_read s.numbers bytes s.mid (rfc3339_before bytes OffsetHour s)))
 
 offset_colon_at : (bytes : List ℕ) (fraction : ℕ) → AfterFraction bytes fraction → (s : FailsAt true bytes OffsetColon)
     → 19 + fraction + 3 + length s.mid ≡ length bytes
 unfolding Stand
 offset_colon_at bytes fraction len s =
-    let parts = Stand-split (Asks true) (take 12 places) (OffsetHour ∷ []) nothing_read s.numbers bytes s.mid (before bytes OffsetColon s) in
+    let parts = Stand-split (Asks true) (take 12 places) (OffsetHour ∷ []) nothing_read s.numbers bytes s.mid (rfc3339_before bytes OffsetColon s) in
     let hour = parts.1.2 in
     let after : hour.0 ≡ s.mid = sym hour.3.0 in
     let numbers : hour.1 ≡ s.numbers = sym hour.3.1 in
@@ -210,7 +232,8 @@ offset_minute_at : (bytes : List ℕ) (fraction : ℕ) → AfterFraction bytes f
     → 19 + fraction + 4 + length s.mid ≡ length bytes
 unfolding Stand
 offset_minute_at bytes fraction len s =
-    let parts = Stand-split (Asks true) (take 12 places) (OffsetHour ∷ OffsetColon ∷ []) nothing_read s.numbers bytes s.mid (before bytes OffsetMinute s) in
+    let before = rfc3339_before bytes OffsetMinute s in
+    let parts = Stand-split (Asks true) (take 12 places) (OffsetHour ∷ OffsetColon ∷ []) nothing_read s.numbers bytes s.mid before in
     let hour = parts.1.2 in
     let colon = hour.3 in
     let after : colon.0 ≡ s.mid = sym colon.3.0 in

@@ -1,24 +1,246 @@
 -- Numbers that the places of a whole text say are put into any record.
-use Rattle.std.proofs.Common.{◌≡◌, ◌≤◌, ℕ, zero, suc, pos, Bool, true, false, refl, arith, List, [], Option, Some, None, IfSome}
-use Rattle.std.specs.Prelude.{◌++◌, ◌∷◌, if◌then◌else◌, unsigned_abs, nat_le}
+use Rattle.std.specs.Prelude.{MatchBool, codes, ◌++◌, if◌then◌else◌, unsigned_abs, nat_le}
+use Rattle.std.specs.Str.{bytes_eq}
+use Rattle.std.specs.Option.{option_map}
+use Rattle.std.proofs.Common.{◌≡◌, ap, sym, ◌∙◌, refl, subst, inl, inr, List, [], ℕ, Bool, true, false, Option, Some, None, Ok, Err, arith, ◌-◌, ◌≤◌, ◌∷◌, length, length-append, suc, ◌+◌, ◌<◌, drop, get_or, drop-cons, add-one, zero, pos, IfSome}
+use Rattle.std.proofs.lemmas.Option.{none-some, same_Some}
 use Rattle.std.proofs.lemmas.Bool.{le-leb}
-use Rattle.time_values.specs.Month.{month_at, month_number}
-use Rattle.time_values.specs.Range.{greatest_year}
+use Rattle.time_values.specs.Refusal.{Refusal}
+use Rattle.time_values.specs.Names.{month_at, month_number}
+use Rattle.time_values.specs.Calendar.{greatest_year}
 use Rattle.time_values.specs.Sign.{signed_by}
 use Rattle.time_values.specs.declared.month.Month.{Month}
 use Rattle.time_values.specs.declared.weekday.Weekday.{Weekday}
+use Rattle.time_digits.specs.Digits.{Cut}
 use Rattle.time_digits.specs.declared.Sign.{Sign}
+use Rattle.time_readers.specs.Readers.{Format, Stand}
 use Rattle.time_readers.specs.Rfc2822 as mail
 use Rattle.time_readers.specs.Rfc3339 as rfc3339
 use Rattle.time_readers.specs.declared.rfc2822.Numbers as MailNumbers
 use Rattle.time_readers.specs.declared.rfc3339.Numbers.{Numbers}
-use Rattle.time_readers.proofs.Keeping as Keeping
+use Rattle.time_readers.proofs.Walking.{Stand-ends}
+use Rattle.time_readers.proofs.RangedForms as Keeping
 use Rattle.time_readers.proofs.MailRanges as MailRanges
 use Rattle.time_readers.proofs.MailRanges.{signed-abs}
-use Rattle.time_record.specs.Record.{Entry, Record, day_is, month_is, offset_second_is, year_is}
+use Rattle.time_record.specs.Record.{Record, Entry, day_is, month_is, offset_second_is, year_is}
+use Rattle.time_parsing.specs.Outcome.{IsExact, IsWhole, Reading, Refusing, Resolving}
 use Rattle.time_parsing.specs.Rfc2822 as over_mail
 use Rattle.time_parsing.specs.Rfc3339 as over
-use Rattle.time_parsing.specs.exact.Recorded.{AllInRange, in_range-append, put-each, put_each}
+use Rattle.time_parsing.specs.exact.RecordedRfc2822.{AllInRange, in_range-append, put-each, put_each}
+use Rattle.time_locating.specs.Located.{IsErrorAt, IsExactMark, IsExactPlace, IsMarked, IsRangeAt, IsRefusedAt, IsValueAt, Locating, Marking, OneAnswer, OneIndex, PlacesOutcomes, PlacesRefusals, range_name, seen_place, wants, IsLocated, end_of}
+use Rattle.time_locating.specs.Misses.{Miss, missed, Wanted, the_end}
+use Rattle.time_locating.specs.declared.located.Located.{Located}
+use Rattle.time_locating.specs.Marks.{Beginning, LocatesPlace, MarksPlaces, MarksText, is_place_of}
+use Rattle.time_locating.proofs.IsoDates.{Ok-Err}
+
+-- ---- A text has one answer
+
+pub one_answer : (reads : Reading) (locates : Locating) → IsExactPlace reads locates → OneAnswer reads locates
+one_answer reads locates exact bytes r None None h k = refl
+one_answer reads locates exact bytes r None (Some at) h k = absurd (exact.not_read bytes r h.0 k.0 k.1 h.1)
+one_answer reads locates exact bytes r (Some at) None h k = absurd (exact.not_read bytes r k.0 h.0 h.1 k.1)
+one_answer reads locates exact bytes r (Some at) (Some other) h k =
+    let same = exact.one_place bytes r h.0 k.0 h.1 k.1 in
+    let left = ap (λ (m : Miss). m.left) same in
+    let sum = h.2 in
+    let other_sum = k.2 in
+    let index : at.index ≡ other.index = omega arith in
+    let wanted = h.3 ∙ ap (λ (m : Miss). m.wanted) same ∙ sym k.3 in
+    ap (λ n. Some (missed n (wants at.expected))) index ∙ ap (λ w. Some (missed other.index w)) wanted
+
+-- a text has no place exactly where it has a record
+module _ (reads : Reading) (refuses : Refusing) (locates : Locating) (exact : IsExact reads refuses) (places : IsExactPlace reads locates) where
+  unread_whole : (bytes : List ℕ) (r p : Record) (e : Refusal) → reads bytes r [] p → IsWhole reads refuses bytes r (Err e) → ⊥
+  unread_whole bytes r p e h (inl refused) = exact.not_both bytes r [] p e h refused
+  unread_whole bytes r p e h (inr k) = k.3 (exact.one_rest bytes r k.0 [] k.1 p k.2 h)
+
+  pub place_of_refusal : PlacesRefusals reads refuses locates
+  place_of_refusal bytes r None (Ok p) h k = (λ none. (p, refl), λ some. refl)
+  place_of_refusal bytes r None (Err e) h k = absurd (unread_whole bytes r h.0 e h.1 k)
+  place_of_refusal bytes r (Some at) (Ok p) h k = absurd (places.not_read bytes r p h.0 h.1 k)
+  place_of_refusal bytes r (Some at) (Err e) h k =
+      (λ none. absurd (none-some at (sym none)), λ some. absurd (Ok-Err some.0 e some.1))
+
+  -- it has none exactly where it is read whole, and its outcome is what the record resolves to
+  pub place_of_outcome : {V : Type 0} (resolves : Resolving V) → PlacesOutcomes resolves reads refuses locates
+  place_of_outcome resolves bytes r None (Ok v) h k = (λ none. k, λ whole. refl)
+  place_of_outcome resolves bytes r None (Err e) h (inl k) = absurd (unread_whole bytes r h.0 e h.1 k)
+  place_of_outcome resolves bytes r None (Err e) h (inr k) = (λ none. k, λ whole. refl)
+  place_of_outcome resolves bytes r (Some at) outcome h k =
+      (λ none. absurd (none-some at (sym none)), λ whole. absurd (places.not_read bytes r whole.0 h.0 h.1 whole.1))
+
+-- a component has one index
+marked-one : (marks : Marking) → IsExactMark marks → (name bytes : List ℕ) (r : Record) (x y : Option ℕ) → IsMarked marks name bytes r x
+    → IsMarked marks name bytes r y → x ≡ y
+marked-one marks one name bytes r None None h k = refl
+marked-one marks one name bytes r None (Some j) h k = absurd (none-some k.0 (one name bytes r None (Some k.0) h k.1))
+marked-one marks one name bytes r (Some i) None h k = absurd (none-some h.0 (one name bytes r None (Some h.0) k h.1))
+marked-one marks one name bytes r (Some i) (Some j) h k =
+    let same : h.0 ≡ k.0 = same_Some h.0 k.0 (one name bytes r (Some h.0) (Some k.0) h.1 k.1) in
+    let sum = h.2 in
+    let other_sum = k.2 in
+    ap Some (omega arith)
+
+-- a text that is refused goes wrong at one index
+module _ (reads : Reading) (locates : Locating) (marks : Marking) (places : IsExactPlace reads locates) (one : IsExactMark marks)
+    (bytes : List ℕ) (r : Record) where
+  week-one : (ordinal : Bool) (index other : Option ℕ)
+      → MatchBool ordinal (IsMarked marks (codes "week number") bytes r index) (index ≡ None)
+      → MatchBool ordinal (IsMarked marks (codes "week number") bytes r other) (other ≡ None) → index ≡ other
+  week-one true index other h k = marked-one marks one (codes "week number") bytes r index other h k
+  week-one false index other h k = h ∙ sym k
+
+  range-one : (name : List ℕ) (own index other : Option ℕ) → IsRangeAt marks bytes r name own index → IsRangeAt marks bytes r name own other
+      → index ≡ other
+  range-one name (Some i) index other h k = h ∙ sym k
+  range-one name None index other h k = week-one (bytes_eq name (codes "ordinal")) index other h k
+
+  value-one : (o : Option (List ℕ)) (index other : Option ℕ) → IsValueAt marks bytes r o index → IsValueAt marks bytes r o other
+      → index ≡ other
+  value-one None index other h k = h ∙ sym k
+  value-one (Some name) index other (own, h, is) (same, k, be) =
+      let one_own = marked-one marks one name bytes r own same h k in
+      range-one name same index other (subst (λ o. IsRangeAt marks bytes r name o index) one_own is) be
+
+  refused-one : (e : Refusal) (p q : Option Located) (index other : Option ℕ) → seen_place p ≡ seen_place q
+      → IsRefusedAt marks bytes r e p index → IsRefusedAt marks bytes r e q other → index ≡ other
+  refused-one e None None index other is h k = value-one (range_name e) index other h k
+  refused-one e None (Some at) index other is h k = absurd (none-some (missed at.index (wants at.expected)) is)
+  refused-one e (Some at) None index other is h k = absurd (none-some (missed at.index (wants at.expected)) (sym is))
+  refused-one e (Some at) (Some to) index other is h k =
+      let same = same_Some (missed at.index (wants at.expected)) (missed to.index (wants to.expected)) is in
+      h ∙ ap (λ (m : Miss). Some m.left) same ∙ sym k
+
+  error-one : (e : Refusal) (index other : Option ℕ) → IsErrorAt reads locates marks bytes r e index
+      → IsErrorAt reads locates marks bytes r e other → index ≡ other
+  error-one e index other (p, h, is) (q, k, be) =
+      refused-one e p q index other (one_answer reads locates places bytes r p q h k) is be
+
+pub one_index : (reads : Reading) (locates : Locating) (marks : Marking) → IsExactPlace reads locates → IsExactMark marks
+    → OneIndex reads locates marks
+one_index reads locates marks places one bytes r e index other h k = error-one reads locates marks places one bytes r e index other h k
+
+-- ---- The place of a text by the places of a format, from what is answered
+
+module _ {P N : Type 0} (A : Format P N) (ps : List P) (start : N) where
+  -- what is left isn't longer than the bytes
+  pub left-within : (bytes rest : List ℕ) (n : N) → Stand A ps start bytes rest n → length rest ≤ length bytes
+  left-within bytes rest n s =
+      let ends = Stand-ends A ps start n bytes rest s in
+      let sum = ap length ends.1 ∙ length-append ends.0 rest in
+      omega arith
+
+  module _ (wanted_from : Beginning P) (wanted_at : P → Wanted) (reads : Reading) (begin : Record) (bytes : List ℕ) where
+    -- all places stand
+    pub stands-located : (rest : List ℕ) (n : N) (result : Option Located) → Stand A ps start bytes rest n
+        → ((r : Record) → Stand A ps start bytes [] n → (q : Record) × reads bytes r [] q)
+        → seen_place result ≡ end_of (length bytes) rest
+        → IsLocated reads (λ b r m. LocatesPlace A ps start wanted_from wanted_at b m) bytes begin result
+    stands-located [] n None s whole is = whole begin s
+    stands-located [] n (Some at) s whole is = let clash : Some (missed at.index (wants at.expected)) ≡ None = is in cc
+    stands-located (b ∷ rest) n None s whole is =
+        let clash : None ≡ Some (missed (length bytes - length (b ∷ rest)) the_end) = is in cc
+    stands-located (b ∷ rest) n (Some at) s whole is =
+        let same : missed at.index (wants at.expected) ≡ missed (length bytes - length (b ∷ rest)) the_end = cc in
+        let index = ap (λ (m : Miss). m.left) same in
+        let within = left-within bytes (b ∷ rest) n s in (
+          missed (length (b ∷ rest)) the_end,
+          inr (b ∷ rest, n, s, (λ none. let clash : b ∷ rest ≡ [] = none in cc), refl),
+          omega arith,
+          ap (λ (m : Miss). m.wanted) same,
+        )
+
+-- ---- The mark of a text by the places of a format, from what is left after each of them
+
+-- what a place leaves, as it is answered, where P agrees with what is known before and after it
+abbrev pub LeftAfter : {P N S : Type 0} → Format P N → (N → S → Type 0) → P → List ℕ → S → Option (List ℕ) → S → Type 0
+LeftAfter {P} {N} A Agrees p b known found after =
+    (n m : N) (mid : List ℕ) → Agrees n known → Cut (A p n) b mid m → (found ≡ Some mid) × Agrees m after
+
+module _ {P N S : Type 0} (A : Format P N) (wanted_from : Beginning P) (fault : P → Refusal) (name : List ℕ) (Agrees : N → S → Type 0)
+    (all : List P) (start : N) (bytes : List ℕ) where
+  -- These places are left, which stand, and their mark is the one of all.
+  pub record Left (left : List P) (b : List ℕ) (known : S) : Type 0 where
+    pub numbers : N
+    pub end : List ℕ
+    pub last : N
+    pub stand : Stand A left numbers b end last
+    pub agrees : Agrees numbers known
+    pub marks : (mark : Option ℕ) → MarksPlaces A wanted_from fault name left numbers b mark → MarksPlaces A wanted_from fault name all start bytes mark
+
+  pub Left-start : (end : List ℕ) (last : N) (known : S) → Stand A all start bytes end last → Agrees start known → Left all bytes known
+  Left-start end last known s h = record {
+    numbers = start;
+    end = end;
+    last = last;
+    stand = s;
+    agrees = h;
+    marks = λ mark x. x;
+  }
+
+  -- the next place leaves that, and is marked or passed
+  pub record Next (later : List P) (p : P) (b : List ℕ) (found : Option (List ℕ)) (after : S) : Type 0 where
+    pub mid : List ℕ
+    pub is : found ≡ Some mid
+    pub here : is_place_of name (fault p) b mid ≡ true
+        → MarksPlaces A wanted_from fault name all start bytes (Some (length (wanted_from p b)))
+    pub past : is_place_of name (fault p) b mid ≡ false → Left later mid after
+
+  Left-next : (p : P) (later : List P) (b : List ℕ) (known : S) → Left (p ∷ later) b known → (found : Option (List ℕ)) (after : S)
+      → LeftAfter A Agrees p b known found after → Next later p b found after
+  unfolding Stand MarksPlaces
+  Left-next p later b known f found after step =
+      let s = f.stand in
+      let answer = step f.numbers s.1 s.0 f.agrees s.2 in
+      record {
+        mid = s.0;
+        is = answer.0;
+        here = λ yes. f.marks (Some (length (wanted_from p b))) (s.0, s.1, s.2, inl (yes, refl));
+        past = λ no. record {
+          numbers = s.1;
+          end = f.end;
+          last = f.last;
+          stand = s.3;
+          agrees = answer.1;
+          marks = λ mark x. f.marks mark (s.0, s.1, s.2, inr (no, x));
+        };
+      }
+
+  pub Left-at : (i : ℕ) (p : P) (b : List ℕ) (known : S) → i < length all → Left (drop i all) b known
+      → (found : Option (List ℕ)) (after : S) → LeftAfter A Agrees (get_or all i p) b known found after
+      → Next (drop (i + 1) all) (get_or all i p) b found after
+  Left-at i p b known within f found after step =
+      let here = subst (λ (ps : List P). Left ps b known) (drop-cons all i p within) f in
+      rw add-one (Left-next (get_or all i p) (drop (suc i) all) b known here found after step)
+
+  -- none is left
+  pub Left-end : (left : List P) (b : List ℕ) (known : S) → left ≡ [] → Left left b known → MarksPlaces A wanted_from fault name all start bytes None
+  unfolding MarksPlaces
+  Left-end left b known is f = f.marks None (subst (λ (ps : List P). MarksPlaces A wanted_from fault name ps f.numbers b None) (sym is) refl)
+
+-- that which is wanted at a place begins in what is left there
+abbrev pub IsWithin : {P : Type 0} → Beginning P → Type 0
+IsWithin {P} wanted_from = (p : P) (b : List ℕ) → length (wanted_from p b) ≤ length b
+
+module _ {P N : Type 0} (A : Format P N) (wanted_from : Beginning P) (within : IsWithin wanted_from) (fault : P → Refusal) (name : List ℕ) where
+  -- no mark leaves more bytes than there are
+  MarksPlaces-within : (ps : List P) (n : N) (b : List ℕ) (left : ℕ) → MarksPlaces A wanted_from fault name ps n b (Some left) → left ≤ length b
+  unfolding MarksPlaces
+  MarksPlaces-within [] n b left h = let clash : Some left ≡ None = h in cc
+  MarksPlaces-within (p ∷ ps) n b left (mid, m, cut, inl h) =
+      let same : left ≡ length (wanted_from p b) = cc in omega (arith, within p b)
+  MarksPlaces-within (p ∷ ps) n b left (mid, m, cut, inr h) =
+      let later = MarksPlaces-within ps m mid left h.1 in
+      omega (arith, ap length cut.1, length-append cut.0 mid)
+
+  module _ (ps : List P) (start : N) (bytes : List ℕ) (r : Record) where
+    -- the index of a mark
+    pub places_marked : (rest : List ℕ) (n : N) (mark : Option ℕ) → Stand A ps start bytes rest n
+        → MarksPlaces A wanted_from fault name ps start bytes mark
+        → IsMarked (λ o b q x. MarksText A wanted_from fault ps start o b x) name bytes r (option_map (λ left. length bytes - left) mark)
+    places_marked rest n None s h = inr ((rest, n, s), h)
+    places_marked rest n (Some left) s h =
+        (left, inr ((rest, n, s), h), omega (arith, MarksPlaces-within ps start bytes left h))
 
 numbered : (v : ℕ) → 1 ≤ v → v ≤ 12 → month_number (month_at v) ≡ v
 numbered zero least most = absurd (omega arith)

@@ -4,14 +4,12 @@
 -- pieces that doesn't stand. Parts that come later stand before those that come earlier.
 use Rattle.std.specs.Prelude.{◌≡◌, ℕ, ◌+◌, List, [], ◌∷◌, ◌++◌, length, map, codes, Bool, true, false, if◌then◌else◌, Option, Some, None, option_map, Result, Ok, Err}
 use Rattle.time_values.specs.Refusal.{Refusal}
-use Rattle.time_readers.specs.IsoAnswers.{Found}
+use Rattle.time_readers.specs.IsoPieces.{Found, year, month, weekday, positive, byte}
 use Rattle.time_readers.specs.IsoDates.{IsoDate, calendar, ordinal, week, date_text}
 use Rattle.time_readers.specs.IsoOffsets as offsets
 use Rattle.time_readers.specs.IsoOffsets.{offset_rows, nothing_said}
-use Rattle.time_readers.specs.IsoPieces.{year, month, weekday, positive, byte}
-use Rattle.time_readers.specs.IsoRows.{Row}
+use Rattle.time_readers.specs.IsoTimes.{Row, time_rows, time_text, nothing_given}
 use Rattle.time_readers.specs.IsoTimes as times
-use Rattle.time_readers.specs.IsoTimes.{time_rows, time_text, nothing_given}
 use Rattle.time_readers.specs.Readers.{Reader}
 use Rattle.time_readers.specs.declared.iso8601.ExtendedKind.{ExtendedKind}
 use Rattle.time_readers.specs.declared.iso8601.ExtendedKind.TheVariants.{Extended, Unknown}

@@ -6,10 +6,9 @@ use Rattle.std.specs.Prelude.{◌≡◌, ◌==◌, ℕ, List, [], ◌∷◌, len
 use Rattle.std.specs.Option.{option_or}
 use Rattle.std.specs.Str.{bytes_eq}
 use Rattle.time_values.specs.Refusal.{Refusal}
-use Rattle.time_readers.specs.IsoAnswers.{Found}
+use Rattle.time_readers.specs.IsoPieces.{Found, byte}
 use Rattle.time_readers.specs.IsoDates.{IsoDate, date_text}
 use Rattle.time_readers.specs.IsoOffsets.{offset_rows}
-use Rattle.time_readers.specs.IsoPieces.{byte}
 use Rattle.time_readers.specs.IsoTimes.{time_rows, time_text}
 use Rattle.time_readers.specs.declared.iso8601.ExtendedKind.{ExtendedKind}
 use Rattle.time_readers.specs.declared.iso8601.ExtendedKind.TheVariants.{Unknown}

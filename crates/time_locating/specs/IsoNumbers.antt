@@ -3,12 +3,11 @@
 -- The numbers of a date and of a time in a text of ISO 8601.
 use Rattle.std.specs.Prelude.{◌≡◌, ℕ, ℤ, ◌+◌, List, ◌&&◌, nat_le, nat_lt, unsigned_abs, IsTrue, Option, Some, None, Ok, Err}
 use Rattle.std.specs.Borrow.{Bor}
-use Rattle.time_values.specs.Range.{greatest_year}
+use Rattle.time_values.specs.Calendar.{greatest_year}
 use Rattle.time_values.specs.Refusal.{component}
 use Rattle.time_readers.specs.IsoDates.{IsoDate, calendar, ordinal, week}
-use Rattle.time_readers.specs.IsoFractions.{round_of}
+use Rattle.time_readers.specs.IsoTimes.{round_of, when}
 use Rattle.time_readers.specs.IsoPieces.{Number, plain, fraction}
-use Rattle.time_readers.specs.IsoRows.{when}
 use Rattle.time_readers.specs.declared.iso8601.ExtendedKind.{ExtendedKind}
 use Rattle.time_record.specs.Record.{Record}
 use Rattle.time_parsing.specs.Iso8601.{date_entries, put_or_fault}

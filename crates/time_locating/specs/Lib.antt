@@ -1,4 +1,3 @@
-pub mod ByPlaces
 pub mod Iso8601
 pub mod IsoMarks
 pub mod IsoNumbers
@@ -9,6 +8,5 @@ pub mod Marks
 pub mod Misses
 pub mod Rfc2822
 pub mod Rfc3339
-pub mod Shown
 pub mod StepRows
 pub mod exact

@@ -1,5 +1,5 @@
 -- Where a text is refused, over what a format reads and the place of a text that it doesn't read whole.
-use Rattle.std.specs.Prelude.{◌≡◌, ◌↔◌, ℕ, ◌+◌, ◌-◌, List, [], ◌∷◌, length, codes, MatchBool, Option, Some, None, Result, Ok}
+use Rattle.std.specs.Prelude.{◌≡◌, ◌↔◌, ℕ, ◌+◌, ◌-◌, List, [], ◌∷◌, length, codes, MatchBool, Option, Some, None, Result, Ok, ◌++◌}
 use Rattle.std.specs.Str.{bytes_eq}
 use Rattle.time_values.specs.Refusal.{Refusal, range}
 use Rattle.time_record.specs.Record.{Record}
@@ -8,7 +8,7 @@ use Rattle.time_locating.specs.Misses.{Wanted, these_bytes, named, the_end, Miss
 use Rattle.time_locating.specs.declared.located.Expected.{Expected}
 use Rattle.time_locating.specs.declared.located.Expected.TheVariants.{Literal, Component, End}
 use Rattle.time_locating.specs.declared.located.Located.{Located}
-use Rattle.time_locating.specs.declared.miss.Miss.{Miss as Miss'}
+use Rattle.time_locating.specs.declared.mark.Miss.{Miss as Miss'}
 
 -- what a call says was expected, without where it lies in memory
 abbrev pub wants : Expected → Wanted
@@ -124,3 +124,11 @@ OneIndex reads locates marks =
     (bytes : List ℕ) (begin : Record) (e : Refusal) (index other : Option ℕ)
     → IsErrorAt reads locates marks bytes begin e index → IsErrorAt reads locates marks bytes begin e other
     → index ≡ other
+
+-- ---- What is printed of what was expected
+
+-- the text that is printed; of the bytes of a literal, which are escaped, nothing is said
+abbrev pub expected_text : Expected → Option (List ℕ)
+expected_text (Literal bytes) = None
+expected_text (Component name) = Some (codes "expected " ++ name.now)
+expected_text End = Some (codes "expected the end")

@@ -5,7 +5,7 @@ use Rattle.time_readers.specs.Readers.{Reader}
 use Rattle.time_readers.specs.Rfc2822.{Asks, places, nothing_read, fault}
 use Rattle.time_readers.specs.declared.rfc2822.Place.{Place}
 use Rattle.time_readers.specs.declared.rfc2822.Place.TheVariants.{WeekdayName, DayBlanks, MonthBlanks, YearBlanks, HourColon, Second, TimeBlanks}
-use Rattle.time_locating.specs.ByPlaces.{Beginning, LocatesPlace, MarksText}
+use Rattle.time_locating.specs.Marks.{Beginning, LocatesPlace, MarksText}
 use Rattle.time_locating.specs.Located.{Locating, Marking}
 use Rattle.time_locating.specs.Misses.{Wanted, these_bytes, wanted_of}
 

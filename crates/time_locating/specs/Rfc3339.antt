@@ -3,7 +3,7 @@ use Rattle.std.specs.Prelude.{true, codes}
 use Rattle.time_readers.specs.Rfc3339.{Asks, places, nothing_read, fault}
 use Rattle.time_readers.specs.declared.rfc3339.Place.{Place}
 use Rattle.time_readers.specs.declared.rfc3339.Place.TheVariants.{YearDash, MonthDash, HourColon, MinuteColon, OffsetColon}
-use Rattle.time_locating.specs.ByPlaces.{LocatesPlace, MarksText, at_once}
+use Rattle.time_locating.specs.Marks.{LocatesPlace, MarksText, at_once}
 use Rattle.time_locating.specs.Located.{Locating, Marking}
 use Rattle.time_locating.specs.Misses.{Wanted, these_bytes, wanted_of}
 

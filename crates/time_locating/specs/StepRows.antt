@@ -2,10 +2,9 @@
 --
 -- The steps of one item in front of a row of steps.
 use Rattle.std.specs.Prelude.{◌≡◌, ◌≤◌, ◌<◌, ℕ, List, length, min}
-use Rattle.time_components.specs.Steps.{further, steps_trees}
-use Rattle.time_components.specs.Tree.{Tree, none, more}
-use Rattle.time_components.specs.declared.step.Step.{Step}
-use Rattle.time_components.specs.declared.step.Step.TheVariants as step
+use Rattle.time_components.specs.Tree.{further, steps_trees, Tree, none, more}
+use Rattle.time_components.specs.declared.inspect.Step.{Step}
+use Rattle.time_components.specs.declared.inspect.Step.TheVariants as step
 
 -- how many of the steps after a first one belong to its item
 abbrev pub inside : Step → List Step → ℕ

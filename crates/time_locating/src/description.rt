@@ -1,20 +1,16 @@
 //! Where a text is refused by a description.
 ghost use Rattle.std.specs.Prelude.{map};
-ghost use Rattle.time_values.specs.Range.{greatest_year};
-ghost use Rattle.time_components.specs.Shape.{borrowed_shape, owned_shape, v3_shape};
-ghost use Rattle.time_components.specs.Steps.{steps_shape};
-ghost use Rattle.time_components.specs.Tree.{sequence, trees};
+ghost use Rattle.time_values.specs.Calendar.{greatest_year};
+ghost use Rattle.time_components.specs.Tree.{borrowed_shape, owned_shape, v3_shape, steps_shape, sequence, trees};
 ghost use Rattle.time_descriptions.specs.Description.{shape};
 ghost use Rattle.time_record.specs.Reading.{Reads};
 ghost use Rattle.time_parsing.specs.Outcome.{begun};
 ghost use Rattle.time_locating.specs.Located.{IsLocated, IsMarked};
 ghost use Rattle.time_locating.specs.Marks.{MarksTree};
 ghost use Rattle.time_locating.specs.Misses.{LocatesTree, all_bytes, first_byte};
-ghost use Rattle.time_locating.specs.exact.MarkLaws.{tree_exact_mark};
-ghost use Rattle.time_locating.specs.exact.MissLaws.{tree_exact_place};
+ghost use Rattle.time_locating.specs.exact.PlaceLaws.{tree_exact_mark, tree_exact_place};
 
-use crate::mark::index_of;
-use crate::place::place;
+use crate::mark::{index_of, place};
 use crate::walk::steps::walk_list;
 use crate::walk::{walk, walk_all};
 use crate::{Locate, Located};

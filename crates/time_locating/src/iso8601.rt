@@ -4,7 +4,7 @@ mod pieces;
 
 ghost use Rattle.std.specs.Prelude.{◌≡◌, map};
 ghost use Rattle.time_record.specs.Record.{Record};
-ghost use Rattle.time_values.specs.Range.{greatest_year};
+ghost use Rattle.time_values.specs.Calendar.{greatest_year};
 ghost use Rattle.time_readers.specs.IsoDates.{iso_date};
 ghost use Rattle.time_readers.specs.IsoOffsets.{offset_rows};
 ghost use Rattle.time_readers.specs.IsoPieces.{byte};
@@ -16,9 +16,7 @@ ghost use Rattle.time_locating.specs.Misses.{furthest};
 
 use crate::iso8601::marks::text_mark;
 use crate::iso8601::pieces::{expected_at, past, past_byte};
-use crate::mark::index_of;
-use crate::miss::{Miss, further, missed_at};
-use crate::place::place;
+use crate::mark::{Miss, further, index_of, missed_at, place};
 use crate::{Expected, Locate, Located};
 use time_parsing::{Iso8601, Parsable, begin};
 use time_readers::iso8601::{DateNumbers, ExtendedKind, date, time};
@@ -176,6 +174,7 @@ fn row_missed(row: &[Piece], input: &[u8]) -> Option<Miss<'static>>
 }
 
 // The furthest of what rows miss.
+#[tactic(auto, using(crate::proofs::IsoLengths::rows_next))]
 fn rows_missed(rows: &[&[Piece]], input: &[u8]) -> Option<Miss<'static>>
     ensures { seen_miss result ≡ furthest (spec.rows_misses (map (λ row. row.now) rows.now) input.now) }
 {
@@ -298,7 +297,7 @@ impl Locate for Iso8601 {
         place(unread, missed(input), input)
     }
 
-    ghost use Rattle.time_locating.specs.exact.Iso8601Laws.{iso8601_exact_place};
+    ghost use Rattle.time_locating.specs.exact.PlaceLaws.{iso8601_exact_place};
 
     ghost exact_place = { λ _. iso8601_exact_place greatest_year };
 
@@ -319,7 +318,7 @@ impl Locate for Iso8601 {
         index_of(text_mark(rest.len(), input, name), input)
     }
 
-    ghost use Rattle.time_locating.specs.exact.Iso8601Laws.{iso8601_exact_mark};
+    ghost use Rattle.time_locating.specs.exact.PlaceLaws.{iso8601_exact_mark};
 
     ghost exact_mark = { λ _. iso8601_exact_mark greatest_year };
 }

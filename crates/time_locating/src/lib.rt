@@ -7,8 +7,6 @@ pub mod laws;
 mod locate;
 mod located;
 mod mark;
-mod miss;
-mod place;
 mod rfc2822;
 mod rfc3339;
 mod walk;

@@ -1,8 +1,7 @@
 //! Where a text is refused.
 ghost use Rattle.std.specs.Prelude.{◌≡◌, ◌≤◌, ◌++◌, ℕ, List, Some, length};
 ghost use Rattle.std.specs.Option.{option_copied};
-ghost use Rattle.time_locating.specs.Located.{end_of, seen_place};
-ghost use Rattle.time_locating.specs.Shown.{expected_text};
+ghost use Rattle.time_locating.specs.Located.{end_of, seen_place, expected_text};
 
 use std::fmt;
 

@@ -1,23 +1,27 @@
-//! Where a component of a name begins.
-ghost use Rattle.std.specs.Prelude.{◌≡◌, ◌-◌, ℕ, List, length};
-ghost use Rattle.std.specs.Option.{option_map};
-ghost use Rattle.time_values.specs.Range.{greatest_year};
+//! Where a component of a name begins, what reads nothing, and the place of a text.
+ghost use Rattle.std.specs.Prelude.{◌≡◌, ◌-◌, ℕ, List, length, Some};
+ghost use Rattle.std.specs.Option.{option_map, option_copied};
+ghost use Rattle.time_values.specs.Calendar.{greatest_year};
 ghost use Rattle.time_values.specs.Refusal.{refusal_of_description};
 ghost use Rattle.time_components.specs.Tree.{Tree};
-ghost use Rattle.time_readers.specs.IsoRows.{when};
+ghost use Rattle.time_readers.specs.IsoTimes.{when};
 ghost use Rattle.time_record.specs.Record.{Record};
-ghost use Rattle.time_locating.specs.ByPlaces as places;
-ghost use Rattle.time_locating.specs.Located.{IsMarked};
-ghost use Rattle.time_locating.specs.Marks as spec;
+ghost use Rattle.time_locating.specs.Marks as places;
+ghost use Rattle.time_locating.specs.Located.{IsMarked, seen_miss, wants, IsLocated, place_in, seen_place};
 ghost use Rattle.time_locating.specs.Marks.{MarksTree};
+ghost use Rattle.time_locating.specs.Misses as misses;
+ghost use Rattle.time_locating.specs.Misses.{all_bytes, furthest, literal_misses, IsFurthest, LocatesTree, Misses, Telling, place_after};
+ghost use Rattle.time_record.specs.WalkSteps.{Attempts};
+ghost use Rattle.time_record.specs.Reading.{Reads};
 
+use crate::{Expected, Located};
 use time_components::Component;
 use time_values::error::ParseFromDescription;
 
 // Whether the component has this name: the refusal of its text says it. Of an ISO 8601 week, the refusal of its date
 // says another.
 fn is_named(component: Component, name: &str) -> bool
-    ensures { result ≡ spec.is_named name.now component }
+    ensures { result ≡ places.is_named name.now component }
 {
     match component {
         Component::Day(_) => name == "day",
@@ -59,7 +63,7 @@ fn is_named(component: Component, name: &str) -> bool
 
 /// How many bytes are left where the component begins, if it has this name.
 pub(crate) fn mark_of(component: Component, name: &str, input: &[u8]) -> Option<usize>
-    ensures { result ≡ when (spec.is_named name.now component) (length input.now) }
+    ensures { result ≡ when (places.is_named name.now component) (length input.now) }
 {
     if is_named(component, name) {
         Some(input.len())
@@ -70,7 +74,7 @@ pub(crate) fn mark_of(component: Component, name: &str, input: &[u8]) -> Option<
 
 // Whether the refusal says this name.
 fn says_name(fault: ParseFromDescription, name: &str) -> bool
-    ensures { result ≡ spec.says_name name.now (refusal_of_description fault) }
+    ensures { result ≡ places.says_name name.now (refusal_of_description fault) }
 {
     match fault {
         ParseFromDescription::InvalidComponent(own) => name == own,
@@ -100,4 +104,105 @@ pub(crate) fn index_of(mark: Option<usize>, input: &[u8]) -> Option<usize>
 {
     let left = mark?;
     Some(input.len().saturating_sub(left))
+}
+
+/// A byte of a literal or a component that isn't there, or the end of a text that bytes are left before.
+#[derive(Clone, Copy)]
+pub(crate) struct Miss<'a> {
+    /// How many bytes were left where it should stand.
+    pub(crate) left: usize,
+    /// What it wanted.
+    pub(crate) expected: Expected<'a>,
+}
+
+/// What is expected in front of these bytes and reads nothing.
+#[inline]
+pub(crate) fn missed_at<'a>(expected: Expected<'a>, input: &[u8]) -> Option<Miss<'a>>
+    ensures { seen_miss result ≡ Some (misses.missed (length input.now) (wants expected.entry)) }
+{
+    Some(Miss {
+        left: input.len(),
+        expected,
+    })
+}
+
+/// What is missed of a literal: its first byte that isn't there, with those of it that follow. It is nothing where the
+/// input begins with the literal.
+pub(crate) fn missed_in<'a>(text: &'a [u8], input: &[u8]) -> Option<Miss<'a>>
+    ensures { seen_miss result ≡ furthest (literal_misses all_bytes text.now input.now) }
+{
+    let mut wanted = text;
+    let mut rest = input;
+    while let [byte, after @ ..] = wanted {
+        match rest {
+            [first, unread @ ..] if first == byte => {
+                wanted = after;
+                rest = unread;
+            }
+            _ => return missed_at(Expected::Literal(wanted), rest),
+        }
+    }
+    None
+}
+
+/// The first miss, but the second where it leaves fewer bytes.
+pub(crate) fn further<'a>(first: Option<Miss<'a>>, second: Option<Miss<'a>>) -> Option<Miss<'a>>
+    ensures { seen_miss result ≡ misses.further (seen_miss first.entry) (seen_miss second.entry) }
+{
+    match (first, second) {
+        (Some(one), Some(other)) if other.left < one.left => Some(other),
+        (Some(one), _) => Some(one),
+        (None, _) => second,
+    }
+}
+
+/// What was wanted where there is that refusal of a component.
+pub(crate) fn wanted_of(fault: ParseFromDescription) -> Expected<'static>
+    ensures { wants result ≡ misses.wanted_of (refusal_of_description fault) }
+{
+    match fault {
+        ParseFromDescription::InvalidComponent(name) => Expected::Component(name),
+        ParseFromDescription::InvalidLiteral | ParseFromDescription::UnexpectedTrailingCharacters =>
+            Expected::End,
+    }
+}
+
+/// The place of a text, by what is left unread of it, or `None` where nothing is read, and the furthest of its misses.
+pub(crate) fn place<'d>(
+    unread: Option<&[u8]>,
+    missed: Option<Miss<'d>>,
+    input: &[u8],
+) -> Option<Located<'d>>
+    ensures text { seen_place result
+        ≡ place_in (length input.now) (place_after (option_copied unread.entry) (seen_miss missed.entry)) }
+    ensures tree { (told : Telling) (t : Tree) (r q : Record) → Attempts greatest_year t input.now r unread.entry q
+        → IsFurthest (Misses greatest_year told t input.now r) (seen_miss missed.entry)
+        → IsLocated (Reads greatest_year t) (LocatesTree greatest_year told t) input.now r result }
+{
+    match unread {
+        Some(rest) => {
+            if rest.is_empty() {
+                return None;
+            }
+            let end = Miss {
+                left: rest.len(),
+                expected: Expected::End,
+            };
+            located(further(Some(end), missed), input)
+        }
+        None => located(missed, input),
+    }
+}
+
+// The place of a miss in the text.
+fn located<'d>(miss: Option<Miss<'d>>, input: &[u8]) -> Option<Located<'d>>
+    ensures { seen_place result ≡ place_in (length input.now) (seen_miss miss.entry) }
+{
+    match miss {
+        Some(miss) => Some(Located {
+            index: input.len().saturating_sub(miss.left),
+            expected: miss.expected,
+        }),
+        None => None,
+    }
 }

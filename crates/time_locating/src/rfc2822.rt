@@ -1,22 +1,20 @@
 //! Where a text is refused by RFC 2822.
 ghost use Rattle.std.specs.Prelude.{◌≡◌, ℕ, ◌++◌, Bool, true, List, length, Option, Some, is_some, option_map};
 ghost use Rattle.std.specs.Option.{option_copied};
-ghost use Rattle.time_values.specs.Range.{greatest_year};
+ghost use Rattle.time_values.specs.Calendar.{greatest_year};
 ghost use Rattle.time_values.specs.declared.weekday.Weekday.{Weekday};
-ghost use Rattle.time_digits.specs.Cuts.{Cut};
-ghost use Rattle.time_digits.specs.Digits.{IsDigitRun};
+ghost use Rattle.time_digits.specs.Digits.{Cut, IsDigitRun};
 ghost use Rattle.time_readers.specs.Rfc2822.{Asks, FailsAt, HasForm, IsSecond, IsWeekdayPart, IsYear, fault, nothing_read, places};
 ghost use Rattle.time_readers.specs.declared.rfc2822.Numbers.{Numbers};
 ghost use Rattle.time_readers.specs.declared.rfc2822.Place.TheVariants as place;
-ghost use Rattle.time_locating.specs.ByPlaces.{MarksPlaces};
+ghost use Rattle.time_locating.specs.Marks.{MarksPlaces};
 ghost use Rattle.time_locating.specs.MailPlaces.{Agrees, rank};
 ghost use Rattle.time_locating.specs.Located.{wants};
 ghost use Rattle.time_locating.specs.Rfc2822 as spec;
 ghost use Rattle.time_locating.specs.Rfc2822.{wanted_at};
 
 use crate::located::{after_all, past_bytes};
-use crate::mark::{index_of, is_place_of};
-use crate::miss::wanted_of;
+use crate::mark::{index_of, is_place_of, wanted_of};
 use crate::{Expected, Locate, Located};
 use time_parsing::Rfc2822;
 use time_readers::combinator::{ascii_char, four_digits, one_or_two_digits};
@@ -243,7 +241,7 @@ impl Locate for Rfc2822 {
         }
     }
 
-    ghost use Rattle.time_locating.specs.exact.Rfc2822Laws.{rfc2822_exact_place};
+    ghost use Rattle.time_locating.specs.exact.PlaceLaws.{rfc2822_exact_place};
 
     ghost exact_place = { λ _. rfc2822_exact_place greatest_year };
 
@@ -263,7 +261,7 @@ impl Locate for Rfc2822 {
         }
     }
 
-    ghost use Rattle.time_locating.specs.exact.Rfc2822Laws.{rfc2822_exact_mark};
+    ghost use Rattle.time_locating.specs.exact.PlaceLaws.{rfc2822_exact_mark};
 
     ghost exact_mark = { λ _. rfc2822_exact_mark };
 }

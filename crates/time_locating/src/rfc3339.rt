@@ -1,18 +1,17 @@
 //! Where a text is refused by RFC 3339.
 ghost use Rattle.std.specs.Prelude.{◌≡◌, ◌≤◌, ℕ, ◌+◌, ◌++◌, true, length, List, Option, Some};
 ghost use Rattle.std.specs.Option.{option_copied};
-ghost use Rattle.time_digits.specs.Cuts.{Cut};
+ghost use Rattle.time_digits.specs.Digits.{Cut};
 ghost use Rattle.time_readers.specs.Rfc3339.{Asks, FailsAt, HasForm, IsSubsecond, fault, nothing_read, places};
 ghost use Rattle.time_readers.specs.declared.rfc3339.Numbers.{Numbers};
 ghost use Rattle.time_readers.specs.declared.rfc3339.Place.TheVariants as place;
-ghost use Rattle.time_values.specs.Range.{greatest_year};
-ghost use Rattle.time_locating.specs.ByPlaces.{MarksPlaces, at_once};
+ghost use Rattle.time_values.specs.Calendar.{greatest_year};
+ghost use Rattle.time_locating.specs.Marks.{MarksPlaces, at_once};
 ghost use Rattle.time_locating.specs.Located.{wants};
 ghost use Rattle.time_locating.specs.Rfc3339.{wanted_at};
 
 use crate::located::{after_all, past_bytes};
-use crate::mark::{index_of as index_of_mark, is_place_of};
-use crate::miss::wanted_of;
+use crate::mark::{index_of as index_of_mark, is_place_of, wanted_of};
 use crate::{Expected, Locate, Located};
 use time_parsing::Rfc3339;
 use time_readers::combinator::{ascii_char_ignore_case, leading_digits};
@@ -162,7 +161,7 @@ impl Locate for Rfc3339 {
         }
     }
 
-    ghost use Rattle.time_locating.specs.exact.Rfc3339Laws.{rfc3339_exact_place};
+    ghost use Rattle.time_locating.specs.exact.PlaceLaws.{rfc3339_exact_place};
 
     ghost exact_place = { λ _. rfc3339_exact_place greatest_year };
 
@@ -182,7 +181,7 @@ impl Locate for Rfc3339 {
         }
     }
 
-    ghost use Rattle.time_locating.specs.exact.Rfc3339Laws.{rfc3339_exact_mark};
+    ghost use Rattle.time_locating.specs.exact.PlaceLaws.{rfc3339_exact_mark};
 
     ghost exact_mark = { λ _. rfc3339_exact_mark };
 }

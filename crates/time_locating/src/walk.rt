@@ -2,17 +2,16 @@
 pub(crate) mod steps;
 
 ghost use Rattle.std.specs.Prelude.{ℕ, List, map, true, false};
-ghost use Rattle.time_values.specs.Range.{greatest_year};
+ghost use Rattle.time_values.specs.Calendar.{greatest_year};
 ghost use Rattle.time_components.specs.Tree as tree;
 ghost use Rattle.time_components.specs.Tree.{first_of, sequence, trees};
-ghost use Rattle.time_record.specs.Attempts.{Attempts};
+ghost use Rattle.time_record.specs.WalkSteps.{Attempts};
 ghost use Rattle.time_record.specs.Record.{Record};
 ghost use Rattle.time_locating.specs.Located.{seen_miss};
 ghost use Rattle.time_locating.specs.Marks.{MarksTree};
 ghost use Rattle.time_locating.specs.Misses.{IsFurthest, Misses, MissesAll, MissesFirst, all_bytes};
 
-use crate::mark::mark_of;
-use crate::miss::{Miss, further, missed_at, missed_in, wanted_of};
+use crate::mark::{Miss, further, mark_of, missed_at, missed_in, wanted_of};
 use time_components::{Component, FormatDescriptionV3Inner, Inspect, Node};
 use time_record::Parsed;
 

@@ -1,2 +1,1 @@
-mod OneAnswer
 mod PlaceLemmas

@@ -4,7 +4,7 @@ use Rattle.std.proofs.KnownBytes.{Appends-trans}
 use Rattle.std.specs.Io.KnownBytes.{Appends}
 use Rattle.std.proofs.Math.Seq.{take-suc}
 use Rattle.std.proofs.lemmas.List.{map-append}
-use Rattle.time_values.specs.Range.{greatest_year}
+use Rattle.time_values.specs.Calendar.{greatest_year}
 use Rattle.time_components.specs.Tree.{Tree}
 use Rattle.time_record.specs.Record.{empty}
 use Rattle.time_values.specs.Refusal.{Refusal}
@@ -15,7 +15,7 @@ use Rattle.time_locating.specs.declared.located.Located.{Located}
 use Rattle.programs_answers.specs.Output.{Writes}
 use Rattle.programs_answers.specs.declared.formats.Target.{Target}
 use Rattle.time_parse.specs.Place.{IsErrorPlace, IsPlace, IsRefusalFor, IsTreePlace, expected_text, index_text, place_text}
-use Rattle.time_parse.specs.Fault.{shown}
+use Rattle.time_parse.specs.Request.{shown}
 
 -- a byte more is shown
 pub shown_more : (a b c : Option (List ℕ)) (bytes : List ℕ) (i d : ℕ) → i < length bytes → Appends a b (map shown (take i bytes))

@@ -1,17 +1,20 @@
 -- What the format and target of the arguments ask for. `Y` is the greatest year.
-use Rattle.std.specs.Prelude.{◌≡◌, ◌⊎◌, ◌==◌, ℕ, List, None, Bool, if◌then◌else◌}
+use Rattle.std.specs.Prelude.{◌≡◌, ℕ, List, [], ◌++◌, codes, map, replicate, Option, Some, IfSome, ◌&&◌, nat_le, if◌then◌else◌, ◌⊎◌, ◌==◌, None, Bool, ◌∷◌, true, false}
+use Rattle.std.specs.Option.{option_map}
 use Rattle.std.specs.List.{list_any}
-use Rattle.time_components.specs.Steps.{steps_shape}
-use Rattle.time_components.specs.Tree.{Tree}
+use Rattle.std.specs.Str.{bytes_eq}
+use Rattle.time_components.specs.Tree.{steps_shape, Tree}
+use Rattle.time_descriptions.specs.Refusal as description
+use Rattle.time_descriptions.specs.Refusal.{Refusal, index_of}
+use Rattle.time_descriptions.specs.Grammar.{by_option, Describes}
 use Rattle.time_descriptions.specs.Description.{IsRefused, version_of}
-use Rattle.time_descriptions.specs.Grammar.{Describes, by_option}
-use Rattle.time_descriptions.specs.Refusal.{Refusal}
 use Rattle.time_descriptions.specs.Strftime.{DescribesStrftime, IsRefusedStrftime}
 use Rattle.programs_answers.specs.Formats.{format_named, target_named}
 use Rattle.programs_answers.specs.Output.{IsDescribed, IsParsed}
 use Rattle.programs_answers.specs.declared.formats.Format.{Format}
 use Rattle.programs_answers.specs.declared.formats.Target.{Target}
-use Rattle.time_parse.specs.Fault.{Reason, unknown_format, faulty, unknown_target}
+use Rattle.time_parse.specs.declared.arguments.Fault.{Fault}
+use Rattle.time_parse.specs.declared.arguments.Fault.TheVariants as fault
 use Rattle.time_parse.specs.declared.request.TheConstants.{MOST_STEPS}
 use Rattle.time_parse.specs.declared.request.Chosen.{Chosen}
 use Rattle.time_parse.specs.declared.request.Chosen.TheVariants as chosen
@@ -19,6 +22,49 @@ use Rattle.time_parse.specs.declared.request.Version.{Version}
 use Rattle.time_parse.specs.declared.request.Version.TheVariants as version
 use Rattle.time_parse.specs.declared.request.Writing.{Writing}
 use Rattle.time_parse.specs.declared.request.Writing.TheVariants as writing
+use Rattle.time_parse.specs.declared.arguments.Command.{Command}
+use Rattle.time_parse.specs.declared.arguments.Command.TheVariants as command
+
+-- ---- What is wrong with the arguments, without where their bytes lie in memory, and how it is told
+
+-- each with the argument that is faulty
+pub data Reason : Type 0 where
+  unknown_format : List ℕ → Reason
+  faulty : List ℕ → Refusal → Reason
+  unknown_target : List ℕ → Reason
+
+-- what a fault says
+abbrev pub reason_of : Fault → Reason
+reason_of (fault.UnknownFormat name) = unknown_format name.now
+reason_of (fault.Description format error) = faulty format.now (description.refusal_of error)
+reason_of (fault.UnknownTarget name) = unknown_target name.now
+
+-- what is printed of it; of a word that a description has nothing is said
+abbrev pub reason_text : Reason → Option (List ℕ)
+reason_text (unknown_format name) = Some (codes "no format has this name, and a description has a `[` or a `%`")
+reason_text (faulty format refusal) = description.refusal_text refusal
+reason_text (unknown_target name) = Some (codes "no target has this name")
+
+-- the argument that is faulty, and the index of the fault in it
+abbrev pub place_of : Reason → Option (List ℕ × ℕ)
+place_of (unknown_format name) = Some (name, 0)
+place_of (faulty format refusal) = option_map (λ index. (format, index)) (index_of refusal)
+place_of (unknown_target name) = Some (name, 0)
+
+-- a printable character of ASCII, and `?` for any other byte
+abbrev pub shown : ℕ → ℕ
+shown byte = if nat_le 32 byte && nat_le byte 126 then byte else 63
+
+-- the bytes on a line, and on the next a caret below the one of that index; each byte takes a column
+abbrev pub pointed : List ℕ → ℕ → List ℕ
+pointed bytes index = codes "  " ++ map shown bytes ++ codes "\n  " ++ replicate index 32 ++ codes "^\n"
+
+-- Lines that tell a reason: why, in the words that are printed of it, and where, if it has a place.
+abbrev pub IsTold : Reason → List ℕ → Type 0
+IsTold reason lines =
+    (why : List ℕ) × IfSome (reason_text reason) (λ text. why ≡ text)
+    × (lines ≡ codes "error: " ++ why ++ codes "\n"
+    ++ by_option [] (λ place. pointed place.0 place.1) (place_of reason))
 
 -- what a format means: one that has a name, or the tree of a description
 pub data Meaning : Type 0 where
@@ -82,3 +128,40 @@ IsFault version format target reason =
 abbrev pub IsAnswer : ℕ → Meaning → Target → List ℕ → List ℕ → Type 0
 IsAnswer Y (named format) target = IsParsed Y format target
 IsAnswer Y (described tree) target = IsDescribed Y tree target
+
+-- ---- What the words of the command line say
+
+-- what the words ask for: a page, or answers, which may tell places, by a format, for a target
+pub data Asked : Type 0 where
+  help : Asked
+  program_version : Asked
+  answers : Bool → Version → List ℕ → List ℕ → Asked
+  unknown : Asked
+
+abbrev pub seen : Command → Asked
+seen command.Help = help
+seen command.Version = program_version
+seen (command.Parse question) =
+    answers question.tells_places question.version question.format.now question.target.now
+seen command.Unknown = unknown
+
+-- what one word asks for
+abbrev pub page : List ℕ → Asked
+page word =
+    if bytes_eq word (codes "--help") then help else
+    if bytes_eq word (codes "--version") then program_version else unknown
+
+-- what the words after `--place` ask for, or all words without it
+abbrev pub question_of : Bool → List (List ℕ) → Asked
+question_of tells_places (format ∷ target ∷ []) =
+    if bytes_eq format (codes "--v1") then unknown else answers tells_places version.Two format target
+question_of tells_places (option ∷ format ∷ target ∷ []) =
+    if bytes_eq option (codes "--v1") then answers tells_places version.One format target else unknown
+question_of tells_places words = unknown
+
+-- what the words after the program's name ask for
+abbrev pub command_of : List (List ℕ) → Asked
+command_of [] = unknown
+command_of (word ∷ []) = page word
+command_of (option ∷ words) =
+    if bytes_eq option (codes "--place") then question_of true words else question_of false (option ∷ words)

@@ -1,6 +1,6 @@
 //! What holds of answers, as a function's contract.
-ghost use Rattle.time_values.specs.Range.{greatest_year};
-ghost use Rattle.time_parse.specs.Laws.{OneMeaning, OneAnswer, OneWriting};
+ghost use Rattle.time_values.specs.Calendar.{greatest_year};
+ghost use Rattle.time_parse.specs.Place.{OneMeaning, OneAnswer, OneWriting};
 
 use time_descriptions::laws::{law_one_description, law_one_strftime_description};
 

@@ -4,14 +4,12 @@
 #![tactic(auto)]
 
 mod arguments;
-mod fault;
 mod laws;
 mod place;
 mod request;
 mod serving;
 
-use arguments::{Command, Question, command_of};
-use fault::told;
+use arguments::{Command, Question, command_of, told};
 use programs_answers::Waiting;
 use programs_streams::Counted;
 use serving::{Failure, serve};

@@ -3,7 +3,7 @@ ghost use Rattle.std.specs.Prelude.{OnOk, codes, map, ◌++◌, ◌≡◌};
 ghost use Rattle.std.specs.Fmt.{decimal};
 ghost use Rattle.std.specs.Io.KnownBytes.{Appends};
 ghost use Rattle.std.specs.Option.{option_map};
-ghost use Rattle.time_values.specs.Range.{greatest_year};
+ghost use Rattle.time_values.specs.Calendar.{greatest_year};
 ghost use Rattle.time_values.specs.Refusal.{refusal_of};
 ghost use Rattle.time_parsing.specs.Outcome.{seen};
 ghost use Rattle.programs_streams.specs.Faults.{HasCause};
@@ -11,11 +11,11 @@ ghost use Rattle.programs_answers.specs.Output.{Writes};
 ghost use Rattle.time_locating.specs.Located.{wants};
 ghost use Rattle.time_locating.specs.Misses.{all_bytes};
 ghost use Rattle.programs_answers.specs.Formats as formats;
-ghost use Rattle.time_parse.specs.Fault as fault;
+ghost use Rattle.time_parse.specs.Request as fault;
 ghost use Rattle.time_parse.specs.Place.{IsErrorPlace, IsNamedPlace, IsPlace, IsPlaceBy, IsPlacedAnswer, IsRefusalFor, IsTreePlace, expected_text, index_text, refusal_in};
 ghost use Rattle.time_parse.specs.Request.{meaning_of};
 
-use crate::fault::shown;
+use crate::arguments::shown;
 use crate::request::{Chosen, Request};
 use programs_answers::Answering;
 use programs_answers::formats::{

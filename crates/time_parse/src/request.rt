@@ -1,20 +1,19 @@
 //! What the arguments ask for: which format reads a text, and what is made of it.
 ghost use Rattle.std.specs.Prelude.{◌≡◌, Some, IfOk, IfErr, OnOk, MatchResult};
-ghost use Rattle.time_values.specs.Range.{greatest_year};
+ghost use Rattle.time_values.specs.Calendar.{greatest_year};
 ghost use Rattle.time_descriptions.specs.Description.{IsRefused, shape, version_of};
 ghost use Rattle.time_descriptions.specs.Grammar.{Describes};
 ghost use Rattle.time_descriptions.specs.Refusal.{refusal_of};
 ghost use Rattle.time_descriptions.specs.Strftime.{DescribesStrftime, IsRefusedStrftime};
-ghost use Rattle.time_components.specs.Steps.{steps_shape};
+ghost use Rattle.time_components.specs.Tree.{steps_shape};
 ghost use Rattle.time_parsing.specs.Outcome.{over_record};
 ghost use Rattle.time_record.specs.Reading as description;
 ghost use Rattle.programs_streams.specs.Faults.{HasCause};
 ghost use Rattle.programs_answers.specs.Formats.{target_named};
 ghost use Rattle.programs_answers.specs.Output.{IsDescribed, PrintsSuch, Writes};
-ghost use Rattle.time_parse.specs.Fault.{reason_of};
-ghost use Rattle.time_parse.specs.Request.{IsAnswer, IsFault, IsFaultBy, IsFaulty, Means, MeansTree, meaning_of, number_of, writing_of};
+ghost use Rattle.time_parse.specs.Request.{reason_of, IsAnswer, IsFault, IsFaultBy, IsFaulty, Means, MeansTree, meaning_of, number_of, writing_of};
 
-use crate::fault::Fault;
+use crate::arguments::Fault;
 use programs_answers::formats::{Format, Target, find_format, find_target};
 use programs_answers::{Answering, Layout, Named, write_outcome};
 use programs_streams::{Sink, Unwritten};

@@ -1,18 +1,16 @@
 //! Answers whole inputs.
 ghost use Rattle.std.specs.Prelude.{◌≡◌, Err, OnOk, IfSome};
-ghost use Rattle.time_values.specs.Range.{greatest_year};
-ghost use Rattle.programs_answers.specs.Causes.{HasReadCause, HasWriteCause, IsCounted, IsReadCounted};
+ghost use Rattle.time_values.specs.Calendar.{greatest_year};
+ghost use Rattle.programs_answers.specs.Output.{HasReadCause, HasWriteCause, IsCounted, IsReadCounted};
 ghost use Rattle.programs_answers.specs.Output as output;
 ghost use Rattle.programs_answers.specs.declared.serving.Stop.{Stop as Stop_};
 ghost use Rattle.programs_answers.specs.declared.serving.Stop.TheVariants as Stop;
-ghost use Rattle.time_parse.specs.Fault.{reason_of};
+ghost use Rattle.time_parse.specs.Request.{reason_of, IsFault, meaning_of};
 ghost use Rattle.time_parse.specs.Place.{IsAnswerAsked, WritesAnswers};
-ghost use Rattle.time_parse.specs.Request.{IsFault, meaning_of};
-ghost use Rattle.time_parse.specs.declared.fault.Fault.{Fault as Fault_};
+ghost use Rattle.time_parse.specs.declared.arguments.Fault.{Fault as Fault_};
 ghost use Rattle.time_parse.specs.declared.serving.Failure.TheVariants as failure;
 
-use crate::arguments::Question;
-use crate::fault::Fault;
+use crate::arguments::{Fault, Question};
 use crate::place::Placing;
 use crate::request::Request;
 use programs_answers::{Stop, Waiting};

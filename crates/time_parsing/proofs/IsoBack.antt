@@ -1,42 +1,41 @@
 -- A text of ISO 8601 that was written is read back.
-use Rattle.std.proofs.Common.{◌≡◌, ◌≤◌, ◌∷◌, ◌++◌, ℕ, pos, neg_ℤ, unsigned_abs, List, [], Bool, true, false, Some, Ok, refl, sym, ap, ◌∙◌, subst, arith, append_assoc, append-nil, codes}
 use Rattle.std.specs.Prelude.{if◌then◌else◌}
-use Rattle.time_values.specs.Calendar.{IsBetween}
+use Rattle.std.proofs.Common.{◌≡◌, ◌≤◌, ◌∷◌, ◌++◌, ℕ, pos, neg_ℤ, unsigned_abs, List, [], Bool, true, false, Some, Ok, refl, sym, ap, ◌∙◌, subst, arith, append_assoc, append-nil, codes}
+use Rattle.std.proofs.lemmas.List.{take_all}
+use Rattle.time_values.specs.Calendar.{IsBetween, greatest_year}
 use Rattle.time_values.specs.Dates as Dates
 use Rattle.time_values.specs.Moments.{offset_date, offset_time, offset_of}
-use Rattle.time_values.specs.Month.{month_number}
+use Rattle.time_values.specs.Names.{month_number}
 use Rattle.time_values.specs.Offsets as Offsets
 use Rattle.time_values.specs.Offsets.{HasOffset, IsUtc, offset_refusal}
-use Rattle.time_values.specs.Range.{greatest_year}
 use Rattle.time_values.specs.Shown.{fixed, fraction_shown}
 use Rattle.time_values.specs.Sign.{signed_by}
 use Rattle.time_values.specs.Times as Times
 use Rattle.time_values.specs.declared.offset_date_time.OffsetDateTime.{OffsetDateTime}
 use Rattle.time_values.specs.declared.plain_date_time.PlainDateTime.{PlainDateTime}
-use Rattle.time_digits.specs.Bytes.{sign_byte, is_negative}
-use Rattle.time_digits.specs.Digits.{NoDigitFirst}
+use Rattle.time_writing.specs.Texts.{is_behind, is_none, numeric_text, zone_text, basic_offset_text, basic_text, moment_text, date_text, clock_text}
+use Rattle.time_writing.specs.Texts as Texts
+use Rattle.time_writing.proofs.KeptDigits.{fixed-length}
+use Rattle.time_digits.specs.Digits.{sign_byte, is_negative, NoDigitFirst}
 use Rattle.time_digits.specs.declared.Sign.{Sign}
-use Rattle.time_readers.specs.IsoCuts.{NoPointFirst}
+use Rattle.time_readers.specs.IsoPieces.{NoPointFirst, with_sign}
 use Rattle.time_readers.specs.IsoDates.{calendar}
 use Rattle.time_readers.specs.IsoOffsets.{offset_text}
-use Rattle.time_readers.specs.IsoPieces.{with_sign}
 use Rattle.time_readers.specs.declared.iso8601.ExtendedKind.TheVariants.{Basic, Extended}
 use Rattle.time_readers.specs.declared.iso8601.OffsetNumbers.{OffsetNumbers}
 use Rattle.time_readers.specs.declared.iso8601.OffsetNumbers.TheVariants.{Zulu, Numeric}
+use Rattle.time_readers.specs.Direct.{IsDirectRfc3339, RefusesRfc3339}
 use Rattle.time_record.specs.Record.{empty}
 use Rattle.time_record.specs.Resolution.{IsConstructed, IsMoment}
-use Rattle.time_writing.specs.Texts.{is_behind, is_none, numeric_text, zone_text, basic_offset_text, basic_text, moment_text}
-use Rattle.time_writing.specs.Texts as Texts
-use Rattle.time_parsing.specs.Iso8601.{Reads, Refuses}
-use Rattle.time_parsing.specs.IsoFast.{date_said, time_said, IsOffsetSaid}
-use Rattle.time_parsing.specs.Outcome.{IsOutcome, over_record}
-use Rattle.time_parsing.specs.Written.{kept, IsCut, written, ReadsBack}
-use Rattle.time_parsing.specs.WrittenIso.{ReadsBasicBack}
+use Rattle.time_parsing.specs.Iso8601.{Reads, Refuses, date_said, time_said, IsOffsetSaid}
+use Rattle.time_parsing.specs.Outcome.{IsOutcome, over_record, direct}
+use Rattle.time_parsing.specs.Written.{kept, IsCut, written, ReadsBack, ReadsBasicBack, canonical_text, HasCanonicalText, ReadsCanonicalBack}
+use Rattle.time_parsing.specs.Rfc3339.{Reads as Rfc3339Reads, Refuses as Rfc3339Refuses}
+use Rattle.time_parsing.specs.exact.RecordedRfc3339.{direct-value}
 use Rattle.time_parsing.proofs.IsoForm.{extended_date, basic_date, clock, extended_time, basic_time, no_point-digits, no_point-sign, no_point-z, SecondStands, second_stands, zulu_offset, basic_zulu_offset, extended_offset, basic_offset}
-use Rattle.time_parsing.proofs.IsoWhole.{moment-whole}
+use Rattle.time_parsing.proofs.IsoParts.{moment-whole}
 use Rattle.time_parsing.proofs.Told.{no_second, offset-taken, sign_of, signed_hours, signed_minutes, sign_byte-sign_of, is_negative-sign_of, year-said, year-below, hours-below, minutes-below, day_below, some_day}
-use Rattle.time_parsing.proofs.WrittenBack.{writable, none-is, few-digits, flat, no_digit}
-use Rattle.time_parsing.proofs.WrittenForm.{said, bytes}
+use Rattle.time_parsing.proofs.WrittenBack.{writable, none-is, few-digits, flat, no_digit, said, bytes, numeric-back, all_digits}
 
 -- the pieces of a basic text, one behind another
 flat_basic : (a b c d e f g h : List ℕ) → a ++ b ++ c ++ d ++ e ++ f ++ g ++ h ≡ a ++ (b ++ (c ++ (d ++ (e ++ (f ++ (g ++ h))))))
@@ -211,4 +210,36 @@ pub basic_read_back : ReadsBasicBack greatest_year over_record (Reads greatest_y
 basic_read_back v w none cut =
     let is = writable (Dates.year (offset_date v)) (Offsets.hours (offset_of v)) (Offsets.seconds (offset_of v)) none in
     let value = basic_text_back 0 (omega arith) v w cut is.0 is.1 is.2 refl in
+    (value, value)
+
+-- ---- A canonical text is read back
+
+-- all nine digits are those of a fraction
+nine-digits : (n : ℕ) → codes "." ++ fixed 9 n ≡ fraction_shown 9 n
+nine-digits n =
+    let long = fixed-length 9 n in
+    ap (λ digits. codes "." ++ digits) (sym (take_all 9 (fixed 9 n) (omega (arith, long))))
+
+-- they stand behind what is before them
+fraction-joined : (front offset : List ℕ) (n : ℕ) → front ++ codes "." ++ fixed 9 n ++ offset ≡ front ++ fraction_shown 9 n ++ offset
+fraction-joined front offset n =
+    ap (λ text. text ++ offset) (append_assoc front (codes ".") (fixed 9 n) ∙ ap (λ text. front ++ text) (nine-digits n))
+
+canonical-back : (v : OffsetDateTime) → HasCanonicalText v → IsDirectRfc3339 greatest_year (canonical_text v) v
+canonical-back v is =
+    let few : 9 ≤ 9 = omega arith in
+    let d = offset_date v in
+    let t = offset_time v in
+    let o = offset_of v in
+    let joined = fraction-joined (date_text d ++ codes "T" ++ clock_text t) (numeric_text o) (Times.nanosecond t) in
+    let pieces = flat (fixed 4 (unsigned_abs (Dates.year d))) (codes "-") (fixed 2 (month_number (Dates.month d))) (codes "-")
+    (fixed 2 (Dates.day d)) (codes "T") (fixed 2 (Times.hour t)) (codes ":") (fixed 2 (Times.minute t)) (codes ":")
+    (fixed 2 (Times.second t)) (fraction_shown 9 (Times.nanosecond t)) (numeric_text o) in
+    subst (λ text. IsDirectRfc3339 greatest_year text v) (sym (joined ∙ pieces))
+    (numeric-back 9 few v v (all_digits v) is.year is.hours is.whole_minutes)
+
+pub canonical_read_back : ReadsCanonicalBack greatest_year (direct (RefusesRfc3339 greatest_year)) (Rfc3339Reads greatest_year)
+    (Rfc3339Refuses greatest_year)
+canonical_read_back v is =
+    let value = direct-value (canonical_text v) v (canonical-back v is) in
     (value, value)

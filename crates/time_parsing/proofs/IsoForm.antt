@@ -4,35 +4,29 @@ use Rattle.std.specs.Prelude.{◌&&◌, nat_le, nat_lt}
 use Rattle.std.proofs.lemmas.Bool.{le-leb, lt-ltb, ne_eqb}
 use Rattle.std.proofs.lemmas.List.{take_all, length-take-le}
 use Rattle.std.proofs.lemmas.Nat.{pow-add}
-use Rattle.time_values.specs.Month.{month_number}
+use Rattle.time_values.specs.Names.{month_number}
 use Rattle.time_values.specs.Shown.{fixed, fraction_shown}
 use Rattle.time_values.specs.declared.month.Month.{Month}
 use Rattle.time_values.proofs.NumberLemmas.{month_number_in}
-use Rattle.time_digits.specs.Bytes.{sign_byte}
-use Rattle.time_digits.specs.Digits.{IsFraction, NoDigitFirst, digits_value}
+use Rattle.time_digits.specs.Digits.{sign_byte, IsFraction, NoDigitFirst, digits_value}
 use Rattle.time_digits.specs.declared.Sign.{Sign}
 use Rattle.time_digits.specs.declared.Sign.TheVariants.{Negative, Positive}
-use Rattle.time_readers.specs.IsoCuts.{NoPointFirst}
+use Rattle.time_readers.specs.IsoPieces.{NoPointFirst, Number, plain, fraction, number, year, month, positive, digits, up_to, byte, sign, with_sign}
 use Rattle.time_readers.specs.IsoDates.{date_text, forms, calendar}
-use Rattle.time_readers.specs.IsoFast.{SaysSecond}
-use Rattle.time_readers.specs.IsoFractions.{round_of}
-use Rattle.time_readers.specs.IsoGrammar.{offset_by_pieces, offset_minute}
+use Rattle.time_readers.specs.IsoGrammar.{SaysSecond, offset_by_pieces, offset_minute}
+use Rattle.time_readers.specs.IsoTimes.{round_of, when, time_text}
 use Rattle.time_readers.specs.IsoOffsets.{offset_text}
-use Rattle.time_readers.specs.IsoPieces.{Number, plain, fraction, number, year, month, positive, digits, up_to, byte, sign, with_sign}
-use Rattle.time_readers.specs.IsoRows.{when}
-use Rattle.time_readers.specs.IsoTimes.{time_text}
 use Rattle.time_readers.specs.declared.iso8601.ExtendedKind.TheVariants.{Basic, Extended}
 use Rattle.time_readers.specs.declared.iso8601.OffsetNumbers.TheVariants.{Zulu, Numeric}
 use Rattle.time_readers.specs.declared.iso8601.TimeNumbers.{TimeNumbers}
-use Rattle.time_readers.proofs.IsoCalendarDates.{byte_found, byte_missing}
+use Rattle.time_readers.proofs.IsoDatesAndTimes.{byte_found, byte_missing}
 use Rattle.time_readers.proofs.IsoCuts.{year-found, number-found, pieces-are_cuts}
-use Rattle.time_readers.proofs.IsoFractions.{round-one}
-use Rattle.time_readers.proofs.IsoOffsets.{offset_by_pieces_is}
+use Rattle.time_readers.proofs.OneMailDate.{round-one}
+use Rattle.time_readers.proofs.IsoTimes.{offset_by_pieces_is, colon_minute, minute_basic}
 use Rattle.time_readers.proofs.IsoPieces.{month-numbered}
-use Rattle.time_readers.proofs.IsoTimes.{colon_minute, minute_basic}
 use Rattle.time_writing.proofs.KeptDigits.{fixed-length}
 use Rattle.time_parsing.specs.Written.{kept}
-use Rattle.time_parsing.proofs.WrittenForm.{fixed-run, written-fraction, not_zero}
+use Rattle.time_parsing.proofs.WrittenBack.{fixed-run, written-fraction, not_zero}
 
 -- pieces in front of what follows them
 year_there : (y : ℕ) (rest : List ℕ) → y < 10 ^ 4 → year (fixed 4 y ++ rest) ≡ Some (rest, pos y)

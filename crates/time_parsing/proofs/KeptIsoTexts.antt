@@ -1,33 +1,32 @@
--- A text of ISO 8601 that is read whole where years have four digits is read so where they have more. A date with a
--- longer year begins with a sign and six digits, and no time begins so, and no offset is that long.
-use Rattle.std.proofs.Common.{◌≡◌, ◌∙◌, ℕ, ◌+◌, ◌<◌, ◌≤◌, ℤ, pos, unsigned_abs, Bool, true, false, Option, None, Some, Result, Ok, Err, List, [], ◌∷◌, ◌++◌, length, length-append, refl, sym, ap, arith}
+-- A text of ISO 8601 that is read whole where years have four digits is read so where they have more. A date
+-- with a longer year begins with a sign and six digits, and no time begins so, and no offset is that long.
 use Rattle.std.specs.Prelude.{nat_le, option_map, option_and_then, unwrap_or, codes}
+use Rattle.std.proofs.Common.{◌≡◌, ◌∙◌, ℕ, ◌+◌, ◌<◌, ◌≤◌, ℤ, pos, unsigned_abs, Bool, true, false, Option, None, Some, Result, Ok, Err, List, [], ◌∷◌, ◌++◌, length, length-append, refl, sym, ap, arith}
 use Rattle.std.proofs.Math.Bool.{and-false}
 use Rattle.std.proofs.lemmas.Bool.{le-leb, leb-true, leb-false}
 use Rattle.std.proofs.lemmas.Option.{none-some, same_Some, cond_some, some_pair_parts, option_and_then_some}
 use Rattle.time_values.specs.Refusal.{Refusal, component}
-use Rattle.time_digits.specs.Bytes.{sign_byte}
-use Rattle.time_readers.specs.IsoAnswers.{Found}
-use Rattle.time_readers.specs.IsoDates.{IsoDate, calendar, ordinal, week, FormOrFault, need, dash, first_form, second_form, third_form, first_standing, forms, of_kind, after_year, date_text}
-use Rattle.time_readers.specs.IsoGrammar.{minute_or_none, minute_after, offset_minute, after_hour, offset_by_pieces}
-use Rattle.time_readers.specs.IsoOffsets.{numbers_of, offset_text}
-use Rattle.time_readers.specs.IsoPieces.{byte, digits, sign, with_sign, year, year_after, month, positive, up_to, weekday, number, at_most}
-use Rattle.time_readers.specs.IsoTimes.{time_after, time_text}
+use Rattle.time_digits.specs.Digits.{sign_byte}
 use Rattle.time_digits.specs.declared.Sign.{Sign}
 use Rattle.time_digits.specs.declared.Sign.TheVariants.{Negative, Positive}
+use Rattle.time_digits.proofs.Runs.{IsDigitRun-below}
+use Rattle.time_readers.specs.IsoPieces.{Found, byte, digits, sign, with_sign, year, year_after, month, positive, up_to, weekday, number, at_most}
+use Rattle.time_readers.specs.IsoDates.{IsoDate, calendar, ordinal as iso_ordinal, week, FormOrFault, need, dash, first_form, second_form, third_form, first_standing, forms, of_kind, after_year, date_text}
+use Rattle.time_readers.specs.IsoGrammar.{minute_or_none, minute_after, offset_minute, after_hour, offset_by_pieces}
+use Rattle.time_readers.specs.IsoOffsets.{numbers_of, offset_text}
+use Rattle.time_readers.specs.IsoTimes.{time_after, time_text}
 use Rattle.time_readers.specs.declared.iso8601.ExtendedKind.{ExtendedKind}
 use Rattle.time_readers.specs.declared.iso8601.ExtendedKind.TheVariants.{Basic, Extended, Unknown}
 use Rattle.time_readers.specs.declared.iso8601.OffsetNumbers.{OffsetNumbers}
 use Rattle.time_readers.specs.declared.iso8601.OffsetNumbers.TheVariants.{Zulu, Numeric}
-use Rattle.time_readers.proofs.IsoOffsets.{offset_by_pieces_is}
+use Rattle.time_readers.proofs.IsoTimes.{offset_by_pieces_is}
 use Rattle.time_readers.proofs.IsoCuts.{digits-tells, said-tells, sign-tells}
-use Rattle.time_digits.proofs.Runs.{IsDigitRun-below}
 use Rattle.time_record.specs.Record.{Record, put_all}
-use Rattle.time_parsing.specs.Iso8601.{Reads, date_entries, time_entries, offset_entries, put_or_fault, result_and_then, with_value, date_over, time_over, offset_over}
+use Rattle.time_parsing.specs.Iso8601.{Reads as Iso8601Reads, date_entries, time_entries, offset_entries, put_or_fault, result_and_then, with_value, date_over, time_over, offset_over}
 use Rattle.time_parsing.specs.IsoSteps.{answer, after_time, after_date, without_date, date_or_none}
-use Rattle.time_parsing.specs.KeptReadings.{KeepsTexts}
-use Rattle.time_parsing.proofs.IsoParts.{answered-read, read-answered}
+use Rattle.time_parsing.specs.TreeLaws.{KeepsTexts}
 use Rattle.time_parsing.specs.Rfc3339.{with_leap_second, without_offset_sign}
+use Rattle.time_parsing.proofs.IsoParts.{answered-read, read-answered}
 
 -- ---- what a result tells
 
@@ -51,7 +50,7 @@ option_map_some f (Some a) b h k = k a refl (same_Some (f a) b h)
 
 abbrev year_in : IsoDate → ℤ
 year_in (calendar y m d) = y
-year_in (ordinal y d) = y
+year_in (iso_ordinal y d) = y
 year_in (week y w d) = y
 
 -- the text of a form says the year before it
@@ -83,7 +82,7 @@ unfolding forms
 forms-year extended y b =
     standing-year y (first_form extended y b) (second_form y b) (option_map (third_form extended y) (byte 87 b))
     (first_form-year extended y b)
-    (λ x h. option_map_some (λ d. (d.0, ordinal y d.1)) (positive 3 b) x h (λ d _ is. sym (ap (λ z. year_in z.1) is)))
+    (λ x h. option_map_some (λ d. (d.0, iso_ordinal y d.1)) (positive 3 b) x h (λ d _ is. sym (ap (λ z. year_in z.1) is)))
     (λ g h. option_map_some (third_form extended y) (byte 87 b) g h
     (λ after _ is x k. third_form-year extended y after x (is ∙ k)))
 
@@ -113,8 +112,8 @@ unfolding byte
 byte-length c [] rest h = absurd (none-some rest h)
 byte-length c (x ∷ b) rest h = let is = cond_some _ b rest h in omega (arith, ap length is.1)
 
-signed : (b rest : List ℕ) (s : Sign) → sign b ≡ Some (rest, s) → b ≡ sign_byte s ∷ rest
-signed b rest s h = let cut = sign-tells b rest s h in cut.1 ∙ ap (λ t. t ++ rest) cut.2
+kept_signed : (b rest : List ℕ) (s : Sign) → sign b ≡ Some (rest, s) → b ≡ sign_byte s ∷ rest
+kept_signed b rest s h = let cut = sign-tells b rest s h in cut.1 ∙ ap (λ t. t ++ rest) cut.2
 
 -- ---- an offset
 
@@ -181,7 +180,7 @@ long_year-after b None y none h long =
     absurd (omega (arith, below, same, long)))
 long_year-after b (Some s) y found h long =
     option_map_some (λ f. (f.0, with_sign s.1 f.1)) (digits 6 s.0) y h
-    (λ f six _. (s.1, s.0, signed b s.0 s.1 found, omega (arith, digits-length 6 s.0 f.0 f.1 six)))
+    (λ f six _. (s.1, s.0, kept_signed b s.0 s.1 found, omega (arith, digits-length 6 s.0 f.0 f.1 six)))
 
 long_year : (b : List ℕ) (d : Found IsoDate) → date_text b ≡ Ok d → 9999 < unsigned_abs (year_in d.value) → HasLongYear b
 unfolding date_text year
@@ -231,14 +230,14 @@ module _ (Y Z : ℕ) where
   put_date-same : (d : IsoDate) (r : Record) → nat_le (unsigned_abs (year_in d)) Y ≡ true → nat_le (unsigned_abs (year_in d)) Z ≡ true
       → put_or_fault Y (date_entries d) r ≡ put_or_fault Z (date_entries d) r
   put_date-same (calendar y m d) r before now = rw (before, now) refl
-  put_date-same (ordinal y d) r before now = rw (before, now) refl
+  put_date-same (iso_ordinal y d) r before now = rw (before, now) refl
   put_date-same (week y w d) r before now = rw (before, now) refl
 
 module _ (Y : ℕ) where
   put_date-fault : (d : IsoDate) (r : Record) → nat_le (unsigned_abs (year_in d)) Y ≡ false
       → put_or_fault Y (date_entries d) r ≡ Err (component (codes "year"))
   put_date-fault (calendar y m d) r out = rw out refl
-  put_date-fault (ordinal y d) r out = rw out refl
+  put_date-fault (iso_ordinal y d) r out = rw out refl
   put_date-fault (week y w d) r out = rw out refl
 
   -- after a longer year no whole text is read as anything but a date
@@ -302,7 +301,7 @@ module _ (Y Z : ℕ) (four : 9999 ≤ Y) (wider : Y ≤ Z) where
       ∙ sym (answer-by Y b r (Err fault) (Err fault) is refl) ∙ h
   kept b r q (Ok d) is h = kept-dated b r q d (nat_le (unsigned_abs (year_in d.value)) Y) is refl h
 
-  pub keeps_iso8601 : KeepsTexts (Reads Y) (Reads Z)
+  pub keeps_iso8601 : KeepsTexts (Iso8601Reads Y) (Iso8601Reads Z)
   keeps_iso8601 b r q h =
       let old = with_leap_second r in
       answered-read Z b old ([], q) (kept b old q (date_text b) refl (read-answered Y b old ([], q) h))

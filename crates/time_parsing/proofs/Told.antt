@@ -6,14 +6,13 @@ use Rattle.std.proofs.lemmas.Bool.{le-leb}
 use Rattle.std.proofs.lemmas.Bool.Decides.{nat_tests}
 use Rattle.std.proofs.lemmas.Int.{ints}
 use Rattle.std.proofs.Math.Nat.{div-mul-le_self}
-use Rattle.time_values.specs.Calendar.{IsBetween}
-use Rattle.time_values.specs.DateRefusals.{calendar_date_refusal}
+use Rattle.time_values.specs.Calendar.{IsBetween, greatest_year}
+use Rattle.time_values.specs.Dates.{calendar_date_refusal}
 use Rattle.time_values.specs.Dates as Dates
 use Rattle.time_values.specs.Moments.{offset_date, offset_time, offset_of}
-use Rattle.time_values.specs.Month.{month_number, month_refusal}
+use Rattle.time_values.specs.Names.{month_number, month_refusal}
 use Rattle.time_values.specs.Offsets as Offsets
 use Rattle.time_values.specs.Offsets.{offset_refusal}
-use Rattle.time_values.specs.Range.{greatest_year}
 use Rattle.time_values.specs.Sign.{signed_by, same_sign}
 use Rattle.time_values.specs.Times as Times
 use Rattle.time_values.specs.Times.{time_refusal}
@@ -21,7 +20,7 @@ use Rattle.time_values.specs.declared.date.Date.{Date}
 use Rattle.time_values.specs.declared.offset_date_time.OffsetDateTime.{OffsetDateTime}
 use Rattle.time_values.specs.declared.time.Time.{Time}
 use Rattle.time_values.proofs.NumberLemmas.{month_number_in}
-use Rattle.time_digits.specs.Bytes.{sign_byte, is_negative}
+use Rattle.time_digits.specs.Digits.{sign_byte, is_negative}
 use Rattle.time_readers.specs.Direct.{shown_second, shown_nanosecond, first_refusal, LeapSecondMayStand, IsMoment, IsMade}
 use Rattle.time_digits.specs.declared.Sign.{Sign}
 use Rattle.time_digits.specs.declared.Sign.TheVariants.{Negative, Positive}

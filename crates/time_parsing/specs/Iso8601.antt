@@ -2,7 +2,13 @@
 use Rattle.std.specs.Prelude.{◌≡◌, ℕ, pos, List, [], ◌∷◌, codes, Bool, true, false, Option, Some, None, option_map, option_and_then, Result, Ok, Err}
 use Rattle.std.specs.Result.{result_ok}
 use Rattle.time_values.specs.Refusal.{Refusal, component}
-use Rattle.time_readers.specs.IsoAnswers.{Found}
+use Rattle.time_values.specs.Dates as Dates
+use Rattle.time_values.specs.Offsets.{HasOffset, IsUtc, offset_refusal}
+use Rattle.time_values.specs.Times as Times
+use Rattle.time_values.specs.declared.date.Date.{Date}
+use Rattle.time_values.specs.declared.time.Time.{Time}
+use Rattle.time_values.specs.declared.utc_offset.UtcOffset.{UtcOffset}
+use Rattle.time_readers.specs.IsoPieces.{Found}
 use Rattle.time_readers.specs.IsoDates.{IsoDate, calendar, ordinal, week, date_text, need}
 use Rattle.time_readers.specs.IsoTimes.{time_text}
 use Rattle.time_readers.specs.IsoOffsets.{offset_text}
@@ -13,6 +19,7 @@ use Rattle.time_readers.specs.declared.iso8601.TimeNumbers.{TimeNumbers}
 use Rattle.time_readers.specs.declared.iso8601.OffsetNumbers.{OffsetNumbers}
 use Rattle.time_readers.specs.declared.iso8601.OffsetNumbers.TheVariants.{Zulu, Numeric}
 use Rattle.time_record.specs.Record.{Record, Entry, put, put_all, year_is, iso_year_is, month_is, iso_week_number_is, weekday_is, ordinal_is, day_is, hour_24_is, minute_is, second_is, subsecond_is, offset_hour_is, offset_minute_is, offset_second_is}
+use Rattle.time_record.specs.Resolution.{IsConstructed}
 use Rattle.time_parsing.specs.Outcome.{Reading, Refusing}
 use Rattle.time_parsing.specs.Rfc3339.{without_offset_sign, with_leap_second}
 
@@ -98,3 +105,24 @@ Reads Y bytes r rest new = reading Y bytes (with_leap_second r) ≡ Some (rest, 
 abbrev pub Refuses : ℕ → Refusing
 Refuses Y bytes r e =
     (reading Y bytes (with_leap_second r) ≡ None) × (date_over Y bytes (with_leap_second r) ≡ Err e)
+
+-- ---- What values say in the words of a text of ISO 8601, which the short forms need
+
+-- a date, by its year, month and day
+abbrev pub date_said : Date → IsoDate
+date_said d = calendar (Dates.year d) (Dates.month d) (Dates.day d)
+
+-- a time
+abbrev pub time_said : Time → TimeNumbers
+time_said t = record {
+  hour = Times.hour t;
+  minute = Times.minute t;
+  second = Times.second t;
+  subsecond = Times.nanosecond t;
+}
+
+-- the offset that is said
+abbrev pub IsOffsetSaid : OffsetNumbers → UtcOffset → Type 0
+IsOffsetSaid Zulu o = IsUtc o
+IsOffsetSaid (Numeric hour minute) o =
+    IsConstructed (offset_refusal hour minute (pos 0)) (HasOffset hour minute (pos 0)) (Ok o)

@@ -3,7 +3,7 @@
 -- What is read of ISO 8601 after each part over a record. `Y` is the greatest year.
 use Rattle.std.specs.Prelude.{ℕ, List, true, false, Option, Some, None, unwrap_or, Result, Ok, Err}
 use Rattle.time_values.specs.Refusal.{Refusal}
-use Rattle.time_readers.specs.IsoAnswers.{Found}
+use Rattle.time_readers.specs.IsoPieces.{Found}
 use Rattle.time_readers.specs.IsoDates.{need}
 use Rattle.time_readers.specs.declared.iso8601.ExtendedKind.{ExtendedKind}
 use Rattle.time_readers.specs.declared.iso8601.ExtendedKind.TheVariants.{Unknown}

@@ -1,14 +1,8 @@
-pub mod Canonical
 pub mod Iso8601
-pub mod IsoFast
 pub mod IsoSteps
-pub mod KeptReadings
-pub mod OneWritten
 pub mod Outcome
 pub mod Rfc2822
 pub mod Rfc3339
 pub mod TreeLaws
 pub mod Written
 pub mod exact
-pub mod WrittenIso
-pub mod WrittenUtc

@@ -1,6 +1,6 @@
 -- RFC 3339, read over a record. `Y` is the greatest year.
 use Rattle.std.specs.Prelude.{◌≡◌, ℕ, List, [], ◌∷◌, ◌++◌, true, false, if◌then◌else◌, Option, Some, None, pos}
-use Rattle.time_values.specs.Month.{month_number}
+use Rattle.time_values.specs.Names.{month_number}
 use Rattle.time_values.specs.Sign.{signed_by}
 use Rattle.time_values.specs.declared.month.Month.{Month}
 use Rattle.time_readers.specs.Rfc3339.{HasForm, FailsAt, fault}

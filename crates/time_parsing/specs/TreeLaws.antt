@@ -3,11 +3,10 @@ use Rattle.std.specs.Prelude.{◌≡◌, ◌↔◌, ◌⊎◌, ℕ, List, [], �
 use Rattle.std.specs.Borrow.{Bor}
 use Rattle.time_values.specs.Refusal.{Refusal, refusal_of_description}
 use Rattle.time_values.specs.declared.error.ParseFromDescription.{ParseFromDescription}
-use Rattle.time_components.specs.Tree.{Tree, sequence, optional, first_of, none, trees}
-use Rattle.time_record.specs.Answer.{Answers}
-use Rattle.time_record.specs.Clean.{Clean, unmarked}
-use Rattle.time_record.specs.Reading.{Reads, Refuses}
-use Rattle.time_record.specs.Record.{Record}
+use Rattle.time_components.specs.Tree.{Tree, sequence, optional, first_of, none, trees, Trees, literal, component, more}
+use Rattle.time_record.specs.Reading.{Answers, Clean, unmarked, Reads, Refuses}
+use Rattle.time_record.specs.Record.{Record, IsInRanges}
+use Rattle.time_parsing.specs.Outcome.{Reading}
 
 -- Reading a list that is two joined is reading the one, and then the other on what the one left.
 abbrev pub JoinedReads : ℕ → Type 0
@@ -80,3 +79,33 @@ abbrev pub LeavesSuffix : ℕ → Type 0
 LeavesSuffix Y =
     (t : Tree) (bytes : List ℕ) (r : Record) (rest : List ℕ) (q : Record)
     → Reads Y t bytes r rest q → (front : List ℕ) × (bytes ≡ front ++ rest)
+
+-- ---- What stays read where the range of years grows. `Y` is the greatest year of the narrower range, and `Z` of the
+-- wider.
+
+-- a tree in which nothing is optional, and nothing is one of some
+abbrev mutual
+  pub HasNoChoice : Tree → Type 0
+  HasNoChoice (literal t) = Unit {0}
+  HasNoChoice (component whole c) = Unit {0}
+  HasNoChoice (sequence ts) = HaveNoChoice ts
+  HasNoChoice (optional t) = ⊥
+  HasNoChoice (first_of ts) = ⊥
+
+  pub HaveNoChoice : Trees → Type 0
+  HaveNoChoice none = Unit {0}
+  HaveNoChoice (more t ts) = HasNoChoice t × HaveNoChoice ts
+
+-- Each reading of such a tree stays one, with the same rest and record.
+abbrev pub KeepsReadings : ℕ → ℕ → Type 0
+KeepsReadings Y Z =
+    (t : Tree) → HasNoChoice t → (bytes : List ℕ) (r : Record) (rest : List ℕ) (q : Record)
+    → Reads Y t bytes r rest q → Reads Z t bytes r rest q
+
+-- Each text that a format read whole it reads whole, with the same record.
+abbrev pub KeepsTexts : Reading → Reading → Type 0
+KeepsTexts before now = (bytes : List ℕ) (r q : Record) → before bytes r [] q → now bytes r [] q
+
+-- Each record stays one.
+abbrev pub KeepsRecords : ℕ → ℕ → Type 0
+KeepsRecords Y Z = (r : Record) → IsInRanges Y r → IsInRanges Z r

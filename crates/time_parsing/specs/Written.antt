@@ -1,13 +1,18 @@
 -- Texts of RFC 3339 and RFC 2822 that were written, and are read.
-use Rattle.std.specs.Prelude.{◌≡◌, ℕ, ◌-◌, ◌*◌, ◌/◌, ◌^◌, ◌<◌, List, None, Ok}
-use Rattle.time_values.specs.Moments.{offset_date, offset_time, offset_of}
+use Rattle.std.specs.Prelude.{◌≡◌, ℕ, ◌-◌, ◌*◌, ◌/◌, ◌^◌, ◌<◌, List, None, Ok, pos, neg_ℤ, ◌++◌, codes, Some, ◌≢◌}
+use Rattle.time_values.specs.Moments.{offset_date, offset_time, offset_of, offset_instant, utc_instant}
 use Rattle.time_values.specs.Times as Times
 use Rattle.time_values.specs.declared.offset_date_time.OffsetDateTime.{OffsetDateTime}
-use Rattle.time_writing.specs.Texts.{count_of, moment_text, unwritable_3339, unwritable_2822, IsMailText}
-use Rattle.time_writing.specs.declared.fraction.FractionDigits.{FractionDigits}
-use Rattle.time_writing.specs.declared.fraction.FractionDigits.TheVariants.{Auto}
+use Rattle.time_values.specs.Calendar.{IsBetween}
+use Rattle.time_values.specs.Dates as Dates
+use Rattle.time_values.specs.Offsets as Offsets
+use Rattle.time_values.specs.Shown.{fixed}
+use Rattle.time_values.specs.declared.utc_date_time.UtcDateTime.{UtcDateTime}
+use Rattle.time_writing.specs.Texts.{count_of, moment_text, unwritable_3339, unwritable_2822, IsMailText, date_text, clock_text, numeric_text, basic_text}
+use Rattle.time_writing.specs.declared.parts.FractionDigits.{FractionDigits}
+use Rattle.time_writing.specs.declared.parts.FractionDigits.TheVariants.{Auto}
 use Rattle.time_record.specs.Record.{empty}
-use Rattle.time_record.specs.Resolution.{IsMoment}
+use Rattle.time_record.specs.Resolution.{IsMoment, IsUtcMoment}
 use Rattle.time_parsing.specs.Outcome.{IsOutcome, IsMomentOutcome, Path, Reading, Refusing}
 
 -- the nanoseconds that the first k of nine digits say
@@ -59,3 +64,89 @@ ReadsMailBack Y path reads refuses =
     → unwritable_2822 v ≡ None → IsCut 0 v w → IsMailText v bytes
     → IsMomentOutcome Y path reads refuses bytes None (Ok w)
     × IsOutcome (IsMoment Y) reads refuses bytes empty (Ok w)
+
+-- ---- The canonical text of a moment by RFC 3339, section 5.6: with nine digits of a fraction, and an offset in UTC
+-- too.
+
+-- `YYYY-MM-DDTHH:MM:SS.nnnnnnnnn+HH:MM`, with `-` for an offset behind UTC
+abbrev pub canonical_text : OffsetDateTime → List ℕ
+canonical_text v =
+    date_text (offset_date v) ++ codes "T" ++ clock_text (offset_time v)
+    ++ codes "." ++ fixed 9 (Times.nanosecond (offset_time v)) ++ numeric_text (offset_of v)
+
+-- The moment has such a text: its year is 0 to 9999, and its offset is whole minutes, at most 23:59.
+pub record HasCanonicalText (v : OffsetDateTime) : Type 0 where
+  pub year : IsBetween (pos 0) (pos 9999) (Dates.year (offset_date v))
+  pub hours : IsBetween (neg_ℤ (pos 23)) (pos 23) (Offsets.hours (offset_of v))
+  pub whole_minutes : Offsets.seconds (offset_of v) ≡ pos 0
+
+-- The text is read back as that moment, without defaults, and with those of an empty record.
+abbrev pub ReadsCanonicalBack : ℕ → Path → Reading → Refusing → Type 0
+ReadsCanonicalBack Y path reads refuses =
+    (v : OffsetDateTime) → HasCanonicalText v
+    → IsMomentOutcome Y path reads refuses (canonical_text v) None (Ok v)
+    × IsMomentOutcome Y path reads refuses (canonical_text v) (Some empty) (Ok v)
+
+-- ---- Texts of ISO 8601 that were written, and are read
+
+-- The basic text of a moment is read back as that moment without its fraction, with defaults of nothing, on the
+-- format's path and over a record.
+abbrev pub ReadsBasicBack : ℕ → Path → Reading → Refusing → Type 0
+ReadsBasicBack Y path reads refuses =
+    (v w : OffsetDateTime)
+    → unwritable_3339 v ≡ None → IsCut 0 v w
+    → IsMomentOutcome Y path reads refuses (basic_text v) None (Ok w)
+    × IsOutcome (IsMoment Y) reads refuses (basic_text v) empty (Ok w)
+
+-- ---- Texts of moments that were written, and are read as dates and times in UTC
+
+-- the date and time in UTC of the moment, of whose fraction k digits are kept
+abbrev pub IsUtcCut : ℕ → ℕ → OffsetDateTime → UtcDateTime → Type 0
+IsUtcCut Y k v u = (w : OffsetDateTime) × IsCut k v w × (utc_instant Y u ≡ offset_instant Y w)
+
+-- The text of a moment is read back as its date and time in UTC, but for the digits that aren't written.
+abbrev pub ReadsUtcBack : ℕ → Reading → Refusing → Type 0
+ReadsUtcBack Y reads refuses =
+    (digits : FractionDigits) (v : OffsetDateTime) (u : UtcDateTime)
+    → unwritable_3339 v ≡ None → IsUtcCut Y (written digits v) v u
+    → IsOutcome (IsUtcMoment Y) reads refuses (moment_text (written digits v) v) empty (Ok u)
+
+-- the basic text, without the fraction
+abbrev pub ReadsBasicUtcBack : ℕ → Reading → Refusing → Type 0
+ReadsBasicUtcBack Y reads refuses =
+    (v : OffsetDateTime) (u : UtcDateTime)
+    → unwritable_3339 v ≡ None → IsUtcCut Y 0 v u
+    → IsOutcome (IsUtcMoment Y) reads refuses (basic_text v) empty (Ok u)
+
+-- the text of a mail date, without the fraction
+abbrev pub ReadsMailUtcBack : ℕ → Reading → Refusing → Type 0
+ReadsMailUtcBack Y reads refuses =
+    (v : OffsetDateTime) (u : UtcDateTime) (bytes : List ℕ)
+    → unwritable_2822 v ≡ None → IsUtcCut Y 0 v u → IsMailText v bytes
+    → IsOutcome (IsUtcMoment Y) reads refuses bytes empty (Ok u)
+
+-- ---- Which moments have one text of RFC 2822, or of ISO 8601
+
+-- moments of one mail date are one, but for their fractions
+abbrev pub OneMailText : Type 0
+OneMailText =
+    (v w a b : OffsetDateTime) (bytes : List ℕ)
+    → unwritable_2822 v ≡ None → IsCut 0 v a → IsMailText v bytes
+    → unwritable_2822 w ≡ None → IsCut 0 w b → IsMailText w bytes → a ≡ b
+
+-- moments of one extended text are one
+abbrev pub OneExtendedText : Type 0
+OneExtendedText =
+    (v w : OffsetDateTime)
+    → unwritable_3339 v ≡ None → unwritable_3339 w ≡ None → moment_text 9 v ≡ moment_text 9 w → v ≡ w
+
+-- moments of one basic text are one, but for their fractions
+abbrev pub OneBasicText : Type 0
+OneBasicText =
+    (v w a b : OffsetDateTime)
+    → unwritable_3339 v ≡ None → IsCut 0 v a → unwritable_3339 w ≡ None → IsCut 0 w b
+    → basic_text v ≡ basic_text w → a ≡ b
+
+-- no text is extended and basic
+abbrev pub ExtendedOrBasic : Type 0
+ExtendedOrBasic = (v w : OffsetDateTime) → moment_text 9 v ≢ basic_text w

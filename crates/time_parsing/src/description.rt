@@ -1,13 +1,11 @@
 //! Descriptions as formats.
 ghost use Rattle.std.specs.Prelude.{map};
-ghost use Rattle.time_values.specs.Range.{greatest_year};
+ghost use Rattle.time_values.specs.Calendar.{greatest_year};
 ghost use Rattle.time_descriptions.specs.Description.{shape};
-ghost use Rattle.time_components.specs.Shape.{borrowed_shape, owned_shape, v3_shape};
-ghost use Rattle.time_components.specs.Tree.{sequence, trees};
+ghost use Rattle.time_components.specs.Tree.{borrowed_shape, owned_shape, v3_shape, sequence, trees};
 ghost use Rattle.time_record.specs.Reading.{Reads, Refuses};
-ghost use Rattle.time_parsing.specs.Outcome.{over_record};
-ghost use Rattle.time_parsing.specs.exact.DescriptionLaws.{tree_exact};
-ghost use Rattle.time_parsing.specs.Outcome.{ParsesInto};
+ghost use Rattle.time_parsing.specs.Outcome.{over_record, ParsesInto};
+ghost use Rattle.time_parsing.specs.exact.Laws.{tree_exact};
 
 use crate::Parsable;
 use crate::parsable::{begin, moment_before};

@@ -3,7 +3,7 @@
 //! `fast` makes a date and time, or a moment, of the numbers of a whole text, with no record, and is asked first where
 //! there are no defaults: what it doesn't answer is read over the record.
 ghost use Rattle.std.specs.Prelude.{◌≡◌, MatchOption, MatchResult, Some, None, false, true, Ok, Err};
-ghost use Rattle.time_values.specs.Range.{greatest_year};
+ghost use Rattle.time_values.specs.Calendar.{greatest_year};
 ghost use Rattle.time_values.specs.Refusal.{refusal_of_description};
 ghost use Rattle.time_readers.specs.IsoDates.{iso_date};
 ghost use Rattle.time_readers.specs.declared.iso8601.ExtendedKind.TheVariants.{Unknown};
@@ -300,7 +300,7 @@ impl Parsable for Iso8601 {
         Ok(moment_over(input, defaults)?)
     }
 
-    ghost use Rattle.time_parsing.specs.exact.Iso8601Laws.{iso8601_exact};
+    ghost use Rattle.time_parsing.specs.exact.Laws.{iso8601_exact};
 
     ghost exact = { λ _. iso8601_exact greatest_year };
 

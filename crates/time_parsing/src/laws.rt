@@ -1,23 +1,18 @@
 //! Laws of parsing: each function does nothing, and its contract is the law.
-ghost use Rattle.time_values.specs.Range.{greatest_year};
+ghost use Rattle.time_values.specs.Calendar.{greatest_year};
 ghost use Rattle.time_record.specs.Resolution.{IsDated, IsTimed, IsOffset, IsPlain, IsUtcMoment, IsMoment, IsTimestamp};
 ghost use Rattle.time_descriptions.specs.Description.{shape};
 ghost use Rattle.time_readers.specs.Direct.{IsDirectRfc3339, IsDirectRfc2822, RefusesRfc3339, RefusesRfc2822};
-ghost use Rattle.time_parsing.specs.Canonical.{ReadsCanonicalBack};
+ghost use Rattle.time_parsing.specs.Written.{ReadsCanonicalBack, OneMailText, OneExtendedText, OneBasicText, ExtendedOrBasic, ReadsBack, ReadsMailBack, KeepsAll, OneText, OneShortText, ReadsBasicBack, ReadsUtcBack, ReadsBasicUtcBack, ReadsMailUtcBack};
 ghost use Rattle.time_parsing.specs.Iso8601 as Iso8601;
-ghost use Rattle.time_parsing.specs.KeptReadings.{KeepsReadings, KeepsRecords, KeepsTexts};
-ghost use Rattle.time_parsing.specs.OneWritten.{OneMailText, OneExtendedText, OneBasicText, ExtendedOrBasic};
+ghost use Rattle.time_parsing.specs.TreeLaws.{KeepsReadings, KeepsRecords, KeepsTexts, JoinedReads, JoinedRefuses, JoinedLeaves, Flattens, OptionalAsFirst, AnswersAlike, WholeCharacters, LeavesSuffix};
 ghost use Rattle.time_parsing.specs.Outcome.{OneFront, OneOutcome, OneMomentOutcome, SameMoments, direct, over_record};
 ghost use Rattle.time_parsing.specs.Rfc2822 as Rfc2822;
 ghost use Rattle.time_parsing.specs.Rfc3339 as Rfc3339;
-ghost use Rattle.time_parsing.specs.Written.{ReadsBack, ReadsMailBack, KeepsAll, OneText, OneShortText};
-ghost use Rattle.time_parsing.specs.WrittenIso.{ReadsBasicBack};
-ghost use Rattle.time_parsing.specs.WrittenUtc.{ReadsUtcBack, ReadsBasicUtcBack, ReadsMailUtcBack};
-ghost use Rattle.time_parsing.specs.TreeLaws.{JoinedReads, JoinedRefuses, JoinedLeaves, Flattens, OptionalAsFirst, AnswersAlike, WholeCharacters, LeavesSuffix};
-ghost use Rattle.time_writing.specs.declared.fraction.FractionDigits.TheVariants.{Auto, Exactly};
+ghost use Rattle.time_writing.specs.declared.parts.FractionDigits.TheVariants.{Auto, Exactly};
 
 use crate::Parsable;
-pub use crate::canonical::text_3339;
+pub use crate::rfc3339::text_3339;
 use time_descriptions::Description;
 use time_record::AnyFormatItem;
 
@@ -51,7 +46,7 @@ pub fn law_joined_lists()
 {}
 
 /// A list inside a list may be flattened: the same is read, and the same is refused.
-#[tactic(auto, using(crate::proofs::JoinedLists::flattens))]
+#[tactic(auto, using(crate::proofs::TreeLemmas::flattens))]
 pub fn law_flattened()
     ensures { Flattens greatest_year }
 {}
@@ -75,7 +70,7 @@ pub fn law_equal_described<const N: usize, I: AnyFormatItem>(description: &Descr
 /// A version-3 description parses as the same description of another type, where no `Ignore` that is begun ends inside a
 /// character. It is the tree that they are but for the marks that a version-3 description puts on its
 /// components.
-#[tactic(auto, using(crate::proofs::WholeCharacters::whole_characters))]
+#[tactic(auto, using(crate::proofs::OneOutcome::whole_characters))]
 pub fn law_whole_characters()
     ensures { WholeCharacters greatest_year }
 {}

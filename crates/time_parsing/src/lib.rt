@@ -8,7 +8,6 @@ macro_rules! put {
     };
 }
 
-mod canonical;
 mod description;
 pub mod iso8601;
 pub mod laws;

@@ -2,7 +2,7 @@
 ghost use Rattle.std.specs.Prelude.{◌≡◌, ◌≤◌, Some, unsigned_abs};
 ghost use Rattle.std.specs.Option.{ForSome};
 ghost use Rattle.std.specs.Int.{IsInRange};
-ghost use Rattle.time_values.specs.Range.{greatest_year};
+ghost use Rattle.time_values.specs.Calendar.{greatest_year};
 ghost use Rattle.time_record.specs.Record.{put_all};
 ghost use Rattle.time_readers.specs.Direct.{RefusesRfc2822};
 ghost use Rattle.time_parsing.specs.Outcome.{direct};
@@ -120,11 +120,11 @@ impl Parsable for Rfc2822 {
         }
     }
 
-    ghost use Rattle.time_parsing.specs.exact.Rfc2822Laws.{rfc2822_exact};
+    ghost use Rattle.time_parsing.specs.exact.Laws.{rfc2822_exact};
 
     ghost exact = { λ _. rfc2822_exact greatest_year };
 
-    ghost use Rattle.time_parsing.specs.exact.DirectLaws.{rfc2822_exact_path};
+    ghost use Rattle.time_parsing.specs.exact.Laws.{rfc2822_exact_path};
 
     ghost exact_path = { λ _. rfc2822_exact_path };
 }

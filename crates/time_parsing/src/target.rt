@@ -1,6 +1,6 @@
 //! The types of value that a text is parsed for.
 ghost use Rattle.std.specs.Prelude.{ℕ, List, Result, None};
-ghost use Rattle.time_values.specs.Range.{greatest_year};
+ghost use Rattle.time_values.specs.Calendar.{greatest_year};
 ghost use Rattle.time_values.specs.Refusal.{Refusal};
 ghost use Rattle.time_record.specs.Record.{empty};
 ghost use Rattle.time_record.specs.Resolution.{IsDated, IsTimed, IsOffset, IsPlain, IsUtcMoment, IsTimestamp};

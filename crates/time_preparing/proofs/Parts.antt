@@ -2,7 +2,7 @@
 use Rattle.std.proofs.Common.{◌≡◌, ℕ, ◌≤◌, List, [], ◌∷◌, ◌++◌, Option, Some, None, Bor, IfSome, Bool, true, false, ℤ, inl, inr, refl, ap, sym, subst, arith}
 use Rattle.std.specs.Prelude.{nat_le, unsigned_abs}
 use Rattle.std.proofs.lemmas.Bool.{le-leb}
-use Rattle.time_digits.specs.Cuts.{Cut}
+use Rattle.time_digits.specs.Digits.{Cut}
 use Rattle.time_components.specs.Spelling.{Spells, Value, flagged, number, period, signed}
 use Rattle.time_components.specs.Tree.{Tree, Trees, component, literal, optional, sequence, more, none}
 use Rattle.time_components.specs.declared.format_description.Component.{Component}
@@ -11,7 +11,7 @@ use Rattle.time_components.specs.declared.modifier.Day.{Day as Day'}
 use Rattle.time_record.specs.Components.{put_value}
 use Rattle.time_record.specs.Reading.{Reads, ReadsAll}
 use Rattle.time_record.specs.Record.{Record, Sets}
-use Rattle.time_record.specs.WalkFast.{MayRead}
+use Rattle.time_record.specs.WalkSteps.{MayRead}
 use Rattle.time_record.proofs.ComponentLemmas.{reads_literal}
 use Rattle.time_preparing.specs.Walk.{fraction_tree, leaves, MayReadAll, seconds_tree}
 use Rattle.time_preparing.specs.Forms.{bytes_of, offset_parts, with_half, with_second}

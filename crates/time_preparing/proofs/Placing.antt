@@ -1,24 +1,44 @@
 -- The places of items that have steps, and of rows of steps.
-use Rattle.std.proofs.Common.{false, ◌≡◌, ℕ, zero, suc, ◌+◌, ◌-◌, ◌<◌, ◌≤◌, List, [], ◌∷◌, ◌++◌, length, map, drop, take, None, Some, Result, Ok, Err, refl, ap, sym, ◌∙◌, arith, append_assoc, append-nil, length-append}
 use Rattle.std.specs.Prelude.{IfErr, IsErr, IsErrAnd, OnOk, slice_set}
+use Rattle.std.proofs.Common.{List, ℕ, [], Option, Some, None, Ok, IfSome, false, ◌≡◌, zero, suc, ◌+◌, ◌-◌, ◌<◌, ◌≤◌, ◌∷◌, ◌++◌, length, map, drop, take, Result, Err, refl, ap, sym, ◌∙◌, arith, append_assoc, append-nil, length-append}
 use Rattle.std.proofs.lemmas.Bool.{false≢true}
 use Rattle.std.proofs.lemmas.List.{length-drop, length-map, length-take}
 use Rattle.std.proofs.lemmas.Option.{none-some}
-use Rattle.time_components.specs.Steps.{further, group_tree, steps_shape, trees_in}
-use Rattle.time_components.specs.Tree.{Tree, Trees, literal as literal_tree, component as component_tree, sequence, none as no_trees, more as more_trees}
+use Rattle.time_values.specs.Calendar.{greatest_year}
+use Rattle.time_components.specs.Tree.{steps_shape, further, group_tree, trees_in, Tree, Trees, literal as literal_tree, component as component_tree, sequence, none as no_trees, more as more_trees}
+use Rattle.time_components.specs.declared.inspect.Step.{Step}
 use Rattle.time_components.specs.declared.format_description.Component.{Component}
-use Rattle.time_components.specs.declared.step.Group.{Group}
-use Rattle.time_components.specs.declared.step.Group.TheVariants as groups
-use Rattle.time_components.specs.declared.step.Step.{Step}
-use Rattle.time_components.specs.declared.step.Step.TheVariants as step
+use Rattle.time_components.specs.declared.inspect.Group.{Group}
+use Rattle.time_components.specs.declared.inspect.Group.TheVariants as groups
+use Rattle.time_components.specs.declared.inspect.Step.TheVariants as step
 use Rattle.time_descriptions.specs.Items.{Item, Items, literal, component, group, none, more, items_of, flat, steps_of, all_steps_of, tree_of, trees_of}
 use Rattle.time_descriptions.proofs.Adding.{closed_length, closed_steps, next_steps}
 use Rattle.time_descriptions.proofs.Shapes.{steps_shape-flat}
+use Rattle.time_record.specs.Reading.{Reads, Refuses}
+use Rattle.time_record.specs.Record.{Record, empty}
+use Rattle.time_parsing.specs.Outcome.{IsOutcome, Resolving}
+use Rattle.time_preparing.specs.Whole.{Leads, ReadsOver, ReadsWhole}
+use Rattle.time_preparing.specs.declared.whole.Whole.{Whole}
 use Rattle.time_preparing.specs.declared.items.Unprepared.{Unprepared}
 use Rattle.time_preparing.specs.declared.items.Unprepared.TheVariants.{TooLong}
 use Rattle.time_preparing.specs.Items.{Place, places_of, places_of_all, further_places, group_places, first_reason, HasNoSteps, Prepares}
 use Rattle.time_preparing.specs.Puts.{PutsItem, PutsItems}
 use Rattle.time_preparing.specs.Walk.{followed_by}
+use Rattle.time_preparing.proofs.Wholes.{led}
+
+-- ---- What a whole text of one form is as a format's outcome
+
+-- over a record
+pub over_outcome : {V : Type 0} (resolves : Resolving V) (w : Whole) (steps : List Step) (bytes : List ℕ) (begin : Record) (result : Option V) →
+    Leads w steps → IfSome result (λ v. ReadsOver w bytes begin (λ r. resolves r (Ok v))) →
+    IfSome result (λ v. IsOutcome resolves (Reads greatest_year (steps_shape steps)) (Refuses greatest_year (steps_shape steps)) bytes begin (Ok v))
+over_outcome resolves w steps bytes begin (Some v) leads h = (h.1, led w steps leads h.0 bytes begin [] h.1 h.2, h.3)
+over_outcome resolves w steps bytes begin None leads h = h
+
+pub whole_outcome : {V : Type 0} (resolves : Resolving V) (w : Whole) (steps : List Step) (bytes : List ℕ) (result : Option V) →
+    Leads w steps → IfSome result (λ v. ReadsWhole w bytes (λ r. resolves r (Ok v))) →
+    IfSome result (λ v. IsOutcome resolves (Reads greatest_year (steps_shape steps)) (Refuses greatest_year (steps_shape steps)) bytes empty (Ok v))
+whole_outcome resolves w steps bytes result leads h = over_outcome resolves w steps bytes empty result leads h
 
 -- steps, each in its place
 abbrev there : List Step → List Place

@@ -1,17 +1,16 @@
 -- Rows of steps, and what is read at once in them.
-use Rattle.std.proofs.Common.{◌≡◌, ℕ, zero, suc, ◌+◌, ◌-◌, ◌≤◌, ◌<◌, List, [], ◌∷◌, ◌++◌, length, take, drop, get_or, inl, inr, refl, ap, sym, ◌∙◌, arith, false, true, length-take, length-drop}
 use Rattle.std.specs.Prelude.{◌==◌, min}
+use Rattle.std.proofs.Common.{◌≡◌, ℕ, zero, suc, ◌+◌, ◌-◌, ◌≤◌, ◌<◌, List, [], ◌∷◌, ◌++◌, length, take, drop, get_or, inl, inr, refl, ap, sym, ◌∙◌, arith, false, true, length-take, length-drop, subst, append_assoc, length-append}
 use Rattle.std.proofs.lemmas.List.{take_all, take-append-drop, drop_all}
 use Rattle.std.proofs.lemmas.Bool.{cases_lt, eqb-true}
-use Rattle.time_components.specs.Steps.{further, group_tree, steps_after, steps_trees, tree_at}
-use Rattle.time_components.specs.Tree.{Trees, literal, component, sequence, optional, none, more}
+use Rattle.time_components.specs.Tree.{further, group_tree, steps_after, steps_trees, tree_at, Trees, literal, component, sequence, optional, none, more}
 use Rattle.time_components.specs.declared.format_description.Component.TheVariants.{Second, Subsecond}
-use Rattle.time_components.specs.declared.step.Group.{Group}
-use Rattle.time_components.specs.declared.step.Group.TheVariants.{Optional}
-use Rattle.time_components.specs.declared.step.Step.{Step}
-use Rattle.time_components.specs.declared.step.Step.TheVariants as step
-use Rattle.time_record.proofs.StepRows.{behind_first, behind_is, first_item, steps_trees-end}
-use Rattle.time_preparing.specs.Joined.{BeginsWith, Fits, fraction_parts, parts, Says, second_parts}
+use Rattle.time_components.specs.declared.inspect.Group.{Group}
+use Rattle.time_components.specs.declared.inspect.Group.TheVariants.{Optional}
+use Rattle.time_components.specs.declared.inspect.Step.{Step}
+use Rattle.time_components.specs.declared.inspect.Step.TheVariants as step
+use Rattle.time_record.proofs.WalkSteps.{behind_first, behind_is, first_item, steps_trees-end}
+use Rattle.time_preparing.specs.Forms.{BeginsWith, Fits, fraction_parts, parts, Says, second_parts}
 use Rattle.time_preparing.specs.Walk.{followed_by, fraction_tree, item_length, leaves, seconds_tree}
 use Rattle.time_preparing.specs.declared.forms.TheConstants.{SECOND, SUBSECOND}
 use Rattle.time_preparing.specs.declared.joined.Joined.{Joined}
@@ -286,3 +285,28 @@ lone_row steps x y some is of plain alone =
     nothing : (ys : List Step) → (length ys == 0) ≡ true → ys ≡ []
     nothing [] e = refl
     nothing (z ∷ ys) e = absurd (omega (arith, eqb-true (length (z ∷ ys)) 0 e))
+
+-- ---- A row of steps that is gone over from its beginning
+
+pub kept_more : (steps kept left : List Step) (x : Step) → steps ≡ kept ++ left → 1 ≤ length left → x ≡ get_or left 0 x →
+    steps ≡ (kept ++ x ∷ []) ++ behind_first left
+kept_more steps kept left x all some is =
+    all ∙ ap (λ ys. kept ++ ys) (first_and_behind left x some is) ∙ sym (append_assoc kept (x ∷ []) (behind_first left))
+
+pub fits_more : (steps kept left : List Step) (js : List Joined) (j : Joined) → steps ≡ kept ++ left → Fits js steps →
+    length js ≡ length kept → Says j left → Fits (js ++ j ∷ []) steps
+fits_more steps kept left js j all fits same says =
+    let at : drop (length js) steps ≡ left = ap (λ n. drop n steps) same ∙ ap (drop (length kept)) all ∙ drop_joined kept left in
+    let within : length js ≤ length steps = omega (arith, ap length all, length-append kept left) in
+    Fits-push js steps j within fits (subst (Says j) (sym at) says)
+
+pub kept_all : (steps kept left : List Step) → steps ≡ kept ++ left → length left ≤ 0 → kept ≡ steps
+kept_all steps kept [] all h = sym (all ∙ append_none kept)
+  where
+    append_none : (xs : List Step) → xs ++ [] ≡ xs
+    append_none [] = refl
+    append_none (x ∷ xs) = ap (λ ys. x ∷ ys) (append_none xs)
+kept_all steps kept (x ∷ left) all h = absurd (omega arith)
+
+pub room : (N : ℕ) (steps kept left : List Step) → length steps ≤ N → steps ≡ kept ++ left → 1 ≤ length left → length kept < N
+room N steps kept left most all some = omega (arith, ap length all, length-append kept left)

@@ -5,7 +5,7 @@ use Rattle.std.proofs.lemmas.Bool.{le-leb, eqb-true}
 use Rattle.std.proofs.lemmas.List.{take_all, drop_all}
 use Rattle.time_values.specs.Moments.{offset_date, offset_of, offset_time, plain_date, plain_time}
 use Rattle.time_values.specs.Offsets.{offset_refusal}
-use Rattle.time_values.specs.Range.{greatest_year}
+use Rattle.time_values.specs.Calendar.{greatest_year}
 use Rattle.time_values.specs.Refusal.{Refusal, Constructs, insufficient}
 use Rattle.time_values.specs.Sign.{signed_by}
 use Rattle.time_values.specs.Dates as Dates
@@ -16,20 +16,18 @@ use Rattle.time_values.specs.declared.offset_date_time.OffsetDateTime.{OffsetDat
 use Rattle.time_values.specs.declared.plain_date_time.PlainDateTime.{PlainDateTime}
 use Rattle.time_values.specs.declared.utc_offset.UtcOffset.{UtcOffset}
 use Rattle.time_values.specs.declared.time.Time.{Time}
-use Rattle.time_components.specs.Steps.{steps_shape, steps_trees}
-use Rattle.time_components.specs.Tree.{component, first_of, sequence, literal, more}
+use Rattle.time_components.specs.Tree.{steps_shape, steps_trees, component, first_of, sequence, literal, more}
 use Rattle.time_components.specs.declared.format_description.Component.TheVariants.{Hour12, Minute, Period}
-use Rattle.time_components.specs.declared.step.Group.TheVariants.{First, List as List'}
-use Rattle.time_components.specs.declared.step.Step.{Step}
-use Rattle.time_components.specs.declared.step.Step.TheVariants as step
+use Rattle.time_components.specs.declared.inspect.Group.TheVariants.{First, List as List'}
+use Rattle.time_components.specs.declared.inspect.Step.{Step}
+use Rattle.time_components.specs.declared.inspect.Step.TheVariants as step
 use Rattle.time_record.specs.Components.{is_pm}
 use Rattle.time_record.specs.Reading.{Reads, ReadsAll}
 use Rattle.time_record.specs.Record.{Record, empty}
 use Rattle.time_record.specs.Resolution.{Clock, clock_at, hour_of_half, IsConstructed, IsDated, IsMoment, IsMomentOfParts, IsOffset, IsTimed, IsPlain}
-use Rattle.time_record.proofs.StepRows.{behind_first, steps_trees-end}
-use Rattle.time_record.proofs.Steps.{first_of-some, ReadsSome-here}
-use Rattle.time_preparing.specs.Forms.{byte_parts, bytes_of, dated_parts, offset_parts, time_parts, with_half, with_offset, with_second}
-use Rattle.time_preparing.specs.Joined.{month_day_parts, second_parts}
+use Rattle.time_record.proofs.WalkSteps.{behind_first, steps_trees-end}
+use Rattle.time_record.proofs.Unique.{first_of-some, ReadsSome-here}
+use Rattle.time_preparing.specs.Forms.{byte_parts, bytes_of, dated_parts, offset_parts, time_parts, with_half, with_offset, with_second, month_day_parts, second_parts}
 use Rattle.time_preparing.specs.Walk.{followed_by, leaves, seconds_tree}
 use Rattle.time_preparing.specs.Whole.{clock_second, dated, half_parts, half_trees, in_year, in_year_parts, IsLed, IsOf, IsWholeSecond, Leads, ReadsOver, ReadsWhole, timed, whole_parts, whole_trees}
 use Rattle.time_preparing.specs.declared.forms.HalfNumbers.{HalfNumbers}

@@ -1,10 +1,12 @@
 -- The steps of forms whose parts stand at fixed places, and the records that their numbers make.
-use Rattle.std.specs.Prelude.{ℕ, List, [], ◌∷◌, ◌++◌, Option, None, Some}
+use Rattle.std.specs.Prelude.{ℕ, List, [], ◌∷◌, ◌++◌, Option, None, Some, ◌≡◌, ◌≤◌, ◌<◌, length}
 use Rattle.std.specs.Int.NonZero.{non_zero_u8_get}
 use Rattle.time_components.specs.declared.format_description.Component.{Component}
-use Rattle.time_components.specs.declared.format_description.Component.TheVariants.{CalendarYearFullExtendedRange, CalendarYearFullStandardRange, MonthNumerical, MonthShort, Day, Hour24, Minute, Second, OffsetHour, OffsetMinute}
-use Rattle.time_components.specs.declared.step.Step.{Step}
-use Rattle.time_components.specs.declared.step.Step.TheVariants as step
+use Rattle.time_components.specs.declared.format_description.Component.TheVariants.{CalendarYearFullExtendedRange, CalendarYearFullStandardRange, MonthNumerical, MonthShort, Day, Hour24, Minute, Second, OffsetHour, OffsetMinute, Subsecond}
+use Rattle.time_components.specs.declared.inspect.Step.{Step}
+use Rattle.time_components.specs.declared.inspect.Step.TheVariants as step
+use Rattle.time_components.specs.Tree.{further}
+use Rattle.time_components.specs.declared.inspect.Group.TheVariants.{Optional}
 use Rattle.time_record.specs.Components.{is_pm}
 use Rattle.time_record.specs.Record.{Record}
 use Rattle.time_preparing.specs.declared.forms.Dated.{Dated}
@@ -13,7 +15,9 @@ use Rattle.time_preparing.specs.declared.forms.DateNumbers.{DateNumbers}
 use Rattle.time_preparing.specs.declared.forms.ClockNumbers.{ClockNumbers}
 use Rattle.time_preparing.specs.declared.forms.HalfNumbers.{HalfNumbers}
 use Rattle.time_preparing.specs.declared.forms.OffsetNumbers.{OffsetNumbers}
-use Rattle.time_preparing.specs.declared.forms.TheConstants.{YEAR, STANDARD_YEAR, MONTH, MONTH_NAME, DAY, HOUR, MINUTE, SECOND, OFFSET_HOUR, OFFSET_MINUTE}
+use Rattle.time_preparing.specs.declared.forms.TheConstants.{YEAR, STANDARD_YEAR, MONTH, MONTH_NAME, DAY, HOUR, MINUTE, SECOND, OFFSET_HOUR, OFFSET_MINUTE, SPACED_DAY, SUBSECOND}
+use Rattle.time_preparing.specs.declared.joined.Joined.{Joined}
+use Rattle.time_preparing.specs.declared.joined.Joined.TheVariants as joined
 
 -- a year by this component, a month and a day, with this byte between them
 abbrev pub year_first_parts : Component → ℕ → List Step
@@ -90,3 +94,44 @@ abbrev pub with_half : HalfNumbers → Record → Record
 with_half n r =
     let hour = record r { hour_12 = Some n.hour; minute = Some n.minute } in
     record (with_second n.second hour) { hour_12_is_pm = Some (is_pm n.half) }
+
+-- ---- Which steps of a description are read at once
+
+-- the short name of a month, and a day
+abbrev pub month_day_parts : ℕ → List Step
+month_day_parts b =
+    step.Component (MonthShort MONTH_NAME) ∷ step.Literal b ∷ step.Component (Day SPACED_DAY) ∷ []
+
+-- a fraction of a second, which may be missing
+abbrev pub fraction_parts : ℕ → List Step
+fraction_parts p = step.Group Optional 2 ∷ step.Literal p ∷ step.Component (Subsecond SUBSECOND) ∷ []
+
+-- a second, which may be missing, with a fraction, which may be missing too
+abbrev pub second_parts : ℕ → ℕ → List Step
+second_parts b p = step.Group Optional 5 ∷ step.Literal b ∷ step.Component (Second SECOND) ∷ fraction_parts p
+
+-- the steps that are read at once
+abbrev pub parts : Joined → List Step
+parts joined.Nothing = []
+parts (joined.Byte b) = step.Literal b ∷ []
+parts (joined.Component c) = step.Component c ∷ []
+parts (joined.Date b) = date_parts b
+parts (joined.DayFirst b) = day_first_parts b
+parts (joined.MonthDay b) = month_day_parts b
+parts (joined.Time b) = time_parts b
+parts (joined.Fraction p) = fraction_parts p
+parts (joined.Seconds b p) = second_parts b p
+
+-- The steps begin with these, and no literal goes on after them.
+abbrev pub BeginsWith : List Step → List Step → Type 0
+BeginsWith front steps = (after : List Step) × (steps ≡ front ++ after) × (further after ≡ [])
+
+-- The steps begin with those that are read at once, if there are some and there are enough steps.
+abbrev pub Says : Joined → List Step → Type 0
+Says j steps = 0 < length (parts j) → length (parts j) ≤ length steps → BeginsWith (parts j) steps
+
+-- each of the steps with those after it
+abbrev pub Fits : List Joined → List Step → Type 0
+Fits [] steps = Unit {0}
+Fits (j ∷ js) [] = Unit {0}
+Fits (j ∷ js) (s ∷ steps) = Says j (s ∷ steps) × Fits js steps

@@ -1,11 +1,10 @@
 -- The steps of items that were put together by hand, or what stands in their way.
 use Rattle.std.specs.Prelude.{◌≡◌, ◌≢◌, ◌≤◌, ℕ, zero, suc, List, [], ◌∷◌, ◌++◌, codes, length, map, Option, None, Some, Result, Ok, Err}
-use Rattle.time_components.specs.Steps.{steps_shape}
-use Rattle.time_components.specs.Tree.{Tree, Trees, literal, component, sequence, optional, first_of, none, more}
-use Rattle.time_components.specs.declared.step.Group.{Group}
-use Rattle.time_components.specs.declared.step.Group.TheVariants as groups
-use Rattle.time_components.specs.declared.step.Step.{Step}
-use Rattle.time_components.specs.declared.step.Step.TheVariants as step
+use Rattle.time_components.specs.Tree.{steps_shape, Tree, Trees, literal, component, sequence, optional, first_of, none, more}
+use Rattle.time_components.specs.declared.inspect.Group.{Group}
+use Rattle.time_components.specs.declared.inspect.Group.TheVariants as groups
+use Rattle.time_components.specs.declared.inspect.Step.{Step}
+use Rattle.time_components.specs.declared.inspect.Step.TheVariants as step
 use Rattle.time_preparing.specs.declared.items.Unprepared.{Unprepared}
 use Rattle.time_preparing.specs.declared.items.Unprepared.TheVariants.{EmptyLiteral, OptionalNotCompound, TooLong}
 

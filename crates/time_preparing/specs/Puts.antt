@@ -3,7 +3,7 @@
 -- What a writer of steps does to those that stand, where there is room for n in all.
 use Rattle.std.specs.Prelude.{◌≡◌, ◌≤◌, ◌-◌, ℕ, List, ◌++◌, length, Some, Result, Ok, Err}
 use Rattle.time_components.specs.Tree.{Tree, Trees}
-use Rattle.time_components.specs.declared.step.Step.{Step}
+use Rattle.time_components.specs.declared.inspect.Step.{Step}
 use Rattle.time_descriptions.specs.Items.{Item, flat, items_of, steps_of, tree_of, trees_of}
 use Rattle.time_preparing.specs.declared.items.Unprepared.{Unprepared}
 use Rattle.time_preparing.specs.Items.{first_reason, places_of, places_of_all}

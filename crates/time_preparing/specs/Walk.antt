@@ -3,15 +3,14 @@ use Rattle.std.specs.Prelude.{◌≡◌, ◌<◌, ◌≤◌, ◌⊎◌, ℕ, Lis
 use Rattle.std.specs.Borrow.{Bor}
 use Rattle.time_values.specs.Refusal.{Refusal, refusal_of_description}
 use Rattle.time_values.specs.declared.error.ParseFromDescription.{ParseFromDescription}
-use Rattle.time_components.specs.Steps.{further, steps_trees}
-use Rattle.time_values.specs.Range.{greatest_year}
-use Rattle.time_components.specs.Tree.{Tree, Trees, literal, component, sequence, optional, none, more}
+use Rattle.time_components.specs.Tree.{further, steps_trees, Tree, Trees, literal, component, sequence, optional, none, more}
+use Rattle.time_values.specs.Calendar.{greatest_year}
 use Rattle.time_components.specs.declared.format_description.Component.TheVariants.{Second, Subsecond}
-use Rattle.time_components.specs.declared.step.Step.{Step}
-use Rattle.time_components.specs.declared.step.Step.TheVariants as step
+use Rattle.time_components.specs.declared.inspect.Step.{Step}
+use Rattle.time_components.specs.declared.inspect.Step.TheVariants as step
 use Rattle.time_record.specs.Reading.{Reads, Refuses, ReadsAll, RefusesAll}
 use Rattle.time_record.specs.Record.{Record}
-use Rattle.time_preparing.specs.Joined.{parts}
+use Rattle.time_preparing.specs.Forms.{parts}
 use Rattle.time_preparing.specs.declared.joined.Joined.{Joined}
 use Rattle.time_preparing.specs.declared.forms.TheConstants.{SECOND, SUBSECOND}
 

@@ -1,15 +1,14 @@
 -- Descriptions whose texts have one form each, from their first byte to their last.
 use Rattle.std.specs.Prelude.{◌≡◌, ◌≢◌, ℕ, List, [], ◌∷◌, ◌++◌, pos, Ok, Option, None, Some, unwrap_or, false}
-use Rattle.time_components.specs.Steps.{steps_shape}
-use Rattle.time_components.specs.Tree.{Trees, component, literal, none, more}
+use Rattle.time_components.specs.Tree.{steps_shape, Trees, component, literal, none, more}
 use Rattle.time_components.specs.declared.format_description.Component.TheVariants.{Hour12, Minute, Period}
-use Rattle.time_components.specs.declared.step.Step.{Step}
-use Rattle.time_components.specs.declared.step.Step.TheVariants as step
+use Rattle.time_components.specs.declared.inspect.Step.{Step}
+use Rattle.time_components.specs.declared.inspect.Step.TheVariants as step
 use Rattle.time_record.specs.Reading.{Reads, ReadsAll}
 use Rattle.time_record.specs.Record.{Record, empty}
 use Rattle.time_values.specs.Dates as Dates
 use Rattle.time_values.specs.Offsets.{HasOffset, offset_refusal}
-use Rattle.time_values.specs.Range.{greatest_year}
+use Rattle.time_values.specs.Calendar.{greatest_year}
 use Rattle.time_values.specs.Refusal.{Constructs}
 use Rattle.time_values.specs.Sign.{signed_by}
 use Rattle.time_values.specs.Times as Times
@@ -20,8 +19,7 @@ use Rattle.time_preparing.specs.declared.forms.InHalf.{InHalf}
 use Rattle.time_preparing.specs.declared.forms.InYear.{InYear}
 use Rattle.time_preparing.specs.declared.forms.OffsetNumbers.{OffsetNumbers}
 use Rattle.time_preparing.specs.declared.forms.TheConstants.{HOUR_12, MINUTE}
-use Rattle.time_preparing.specs.Forms.{byte_parts, dated_parts, offset_parts, time_parts}
-use Rattle.time_preparing.specs.Joined.{month_day_parts, second_parts}
+use Rattle.time_preparing.specs.Forms.{byte_parts, dated_parts, offset_parts, time_parts, month_day_parts, second_parts}
 use Rattle.time_preparing.specs.Walk.{leaves, seconds_tree}
 use Rattle.time_preparing.specs.declared.whole.Whole.{Whole}
 use Rattle.time_preparing.specs.declared.whole.Whole.TheVariants as whole

@@ -1,10 +1,8 @@
 //! The steps of items that were put together by hand.
 ghost use Rattle.std.specs.Prelude.{◌≡◌, ◌<◌, ◌≤◌, ◌+◌, ◌-◌, ◌++◌, ◌∷◌, [], length, map, IfErr, OnOk, Some, false, slice_set};
-ghost use Rattle.time_components.specs.Shape.{borrowed_shape};
-ghost use Rattle.time_components.specs.Steps.{group_tree};
+ghost use Rattle.time_components.specs.Tree.{borrowed_shape, group_tree, literal, optional, trees};
 ghost use Rattle.time_components.specs.Tree as tree;
-ghost use Rattle.time_components.specs.Tree.{literal, optional, trees};
-ghost use Rattle.time_components.specs.declared.step.Step.TheVariants as step;
+ghost use Rattle.time_components.specs.declared.inspect.Step.TheVariants as step;
 ghost use Rattle.time_preparing.specs.Items.{unprepared_text};
 ghost use Rattle.time_preparing.specs.Puts.{PutsItem, PutsItems};
 ghost use Rattle.time_preparing.specs.declared.items.Unprepared.TheVariants as unprepared;
@@ -67,6 +65,7 @@ fn put_further<const N: usize>(
 }
 
 // The steps of a literal of these bytes, if there is room.
+#[tactic(auto, using(crate::proofs::Placing::puts_bytes))]
 fn put_bytes<const N: usize>(
     first: u8,
     further: &[u8],
@@ -94,6 +93,7 @@ fn put_literal<const N: usize>(
 }
 
 // The step of a component, if there is room.
+#[tactic(auto, using(crate::proofs::Placing::puts_component))]
 fn put_component<const N: usize>(
     component: Component,
     steps: &mut ArrayVec<Step, N>,

@@ -1,7 +1,7 @@
 //! Steps of a description that are read at once.
 ghost use Rattle.std.specs.Prelude.{◌≡◌, [], IfSome, IsTrue, false};
-ghost use Rattle.time_components.specs.Steps.{further};
-ghost use Rattle.time_preparing.specs.Joined.{BeginsWith, fraction_parts, month_day_parts, Says, second_parts};
+ghost use Rattle.time_components.specs.Tree.{further};
+ghost use Rattle.time_preparing.specs.Forms.{BeginsWith, fraction_parts, month_day_parts, Says, second_parts};
 
 use crate::forms::{
     MONTH_NAME, SECOND, SPACED_DAY, SUBSECOND, are_same, date_steps, day_first_steps, time_steps,

@@ -1,6 +1,6 @@
 //! The law of prepared descriptions. Its statement is that of equal trees.
-ghost use Rattle.time_values.specs.Range.{greatest_year};
-ghost use Rattle.time_components.specs.Steps.{steps_shape};
+ghost use Rattle.time_values.specs.Calendar.{greatest_year};
+ghost use Rattle.time_components.specs.Tree.{steps_shape};
 ghost use Rattle.time_descriptions.specs.Description.{shape};
 ghost use Rattle.time_parsing.specs.TreeLaws.{AnswersAlike};
 

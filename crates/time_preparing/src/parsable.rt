@@ -3,14 +3,14 @@
 //! `fast` makes a value of the numbers of a whole text, with no record, and is asked first where there are no defaults:
 //! what it doesn't answer is read over the record.
 ghost use Rattle.std.specs.Prelude.{◌≡◌, ◌≢◌, ◌⊎◌, [], Ok, Err, MatchResult};
-ghost use Rattle.time_values.specs.Range.{greatest_year};
+ghost use Rattle.time_values.specs.Calendar.{greatest_year};
 ghost use Rattle.time_values.specs.Refusal.{refusal_of_parsed, trailing};
 ghost use Rattle.time_values.specs.declared.error.TryFromParsed.{TryFromParsed as TryFromParsed_};
-ghost use Rattle.time_components.specs.Steps.{steps_shape};
+ghost use Rattle.time_components.specs.Tree.{steps_shape};
 ghost use Rattle.time_record.specs.Reading.{Reads, Refuses};
 ghost use Rattle.time_record.specs.Record.{Record};
 ghost use Rattle.time_parsing.specs.Outcome.{begun, IsWhole, over_record, seen};
-ghost use Rattle.time_parsing.specs.exact.DescriptionLaws.{tree_exact};
+ghost use Rattle.time_parsing.specs.exact.Laws.{tree_exact};
 
 mod fast;
 

@@ -1,12 +1,10 @@
 //! Prepared descriptions.
 ghost use Rattle.std.specs.Prelude.{◌≡◌, ◌<◌, ◌≤◌, length, map, MatchOption};
-ghost use Rattle.time_values.specs.Range.{greatest_year};
-ghost use Rattle.time_components.specs.Shape.{borrowed_shape};
-ghost use Rattle.time_components.specs.Steps.{steps_shape};
-ghost use Rattle.time_components.specs.Tree.{trees};
-ghost use Rattle.time_record.specs.Answer.{Answers};
+ghost use Rattle.time_values.specs.Calendar.{greatest_year};
+ghost use Rattle.time_components.specs.Tree.{borrowed_shape, steps_shape, trees};
+ghost use Rattle.time_record.specs.Reading.{Answers};
 ghost use Rattle.time_preparing.specs.Items.{Prepares};
-ghost use Rattle.time_preparing.specs.Joined.{Fits};
+ghost use Rattle.time_preparing.specs.Forms.{Fits};
 ghost use Rattle.time_preparing.specs.Walk.{Tells};
 ghost use Rattle.time_preparing.specs.Whole.{Leads};
 
@@ -34,9 +32,9 @@ pub struct Prepared<const N: usize> {
 
 impl<const N: usize> Model for Prepared<N> {
     ghost use Rattle.std.specs.Prelude.{◌≡◌, List, length};
-    ghost use Rattle.time_preparing.specs.Joined.{Fits};
+    ghost use Rattle.time_preparing.specs.Forms.{Fits};
     ghost use Rattle.time_preparing.specs.Whole.{Leads};
-    ghost use Rattle.time_components.specs.declared.step.Step.{Step};
+    ghost use Rattle.time_components.specs.declared.inspect.Step.{Step};
 
     ghost Value = { List Step };
 
@@ -129,7 +127,7 @@ impl<const N: usize> Prepared<N> {
 }
 
 // The steps, with what is read at once beside each.
-#[tactic(auto, using(crate::proofs::Preparing::kept_all, crate::proofs::Preparing::room))]
+#[tactic(auto, using(crate::proofs::Rows::kept_all, crate::proofs::Rows::room))]
 fn prepare<const N: usize>(steps: &[Step]) -> Prepared<N>
     requires { length steps.now ≤ N }
     ensures { result ≡ steps.now }

@@ -6,11 +6,10 @@ mod fast;
 mod front;
 
 ghost use Rattle.std.specs.Prelude.{◌≡◌, ◌≤◌, length, drop};
-ghost use Rattle.time_values.specs.Range.{greatest_year};
-ghost use Rattle.time_components.specs.Steps as steps_;
-ghost use Rattle.time_components.specs.Steps.{steps_shape, steps_trees, further};
-ghost use Rattle.time_components.specs.Tree.{first_of, optional};
-ghost use Rattle.time_preparing.specs.Joined.{Fits};
+ghost use Rattle.time_values.specs.Calendar.{greatest_year};
+ghost use Rattle.time_components.specs.Tree as steps_;
+ghost use Rattle.time_components.specs.Tree.{steps_shape, steps_trees, further, first_of, optional};
+ghost use Rattle.time_preparing.specs.Forms.{Fits};
 ghost use Rattle.time_preparing.specs.Walk.{Goes, Tells, item_length};
 
 use crate::joined::Joined;

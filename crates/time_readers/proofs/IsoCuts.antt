@@ -5,11 +5,8 @@ use Rattle.std.proofs.lemmas.Bool.{leb-true, and_parts, cases_Bool, eqb-true, bo
 use Rattle.std.proofs.lemmas.List.{take-append-drop, length-take-le}
 use Rattle.std.proofs.lemmas.Option.{none-some, same_Some, some_pair_parts, option_and_then_some}
 use Rattle.std.proofs.Math.Seq.{drop-append_seam}
-use Rattle.time_digits.specs.Bytes.{IsSign, sign_byte}
-use Rattle.time_digits.specs.Cuts.{Cut}
-use Rattle.time_digits.specs.Digits.{AllDigits, digits_value, NoDigitFirst, IsDigitRun}
-use Rattle.time_readers.specs.IsoCuts.{IsYear, IsSaid, IsPoint, NoPointFirst, IsNumber}
-use Rattle.time_readers.specs.IsoPieces.{is_digit, all_digits, digits, leading_digits, byte, point, Number, plain, fraction, after_point, after_whole, number, digits_saying, sign, with_sign, year_after, year, month, weekday, positive, up_to, numbered, months, weekdays, not_zero, at_most}
+use Rattle.time_digits.specs.Digits.{IsSign, sign_byte, Cut, AllDigits, digits_value, NoDigitFirst, IsDigitRun}
+use Rattle.time_readers.specs.IsoPieces.{IsYear, IsSaid, IsPoint, NoPointFirst, IsNumber, is_digit, all_digits, digits, leading_digits, byte, point, Number, plain, fraction, after_point, after_whole, number, digits_saying, sign, with_sign, year_after, year, month, weekday, positive, up_to, numbered, months, weekdays, not_zero, at_most}
 use Rattle.time_readers.specs.Laws.{IsoPiecesAreCuts}
 use Rattle.time_components.specs.Spelling.{IsSigned}
 use Rattle.time_digits.specs.declared.Padding.TheVariants as padding

@@ -6,23 +6,20 @@ use Rattle.std.proofs.lemmas.List.{take-append-drop, length-take-le}
 use Rattle.std.proofs.lemmas.Option.{none-some, cond_some, slice_get_past}
 use Rattle.std.proofs.Math.Bool.{and-false}
 use Rattle.std.proofs.Math.Seq.{take-append_seam, drop-append_seam}
-use Rattle.time_digits.proofs.CutLemmas.{take-drop}
-use Rattle.time_digits.specs.Cuts.{Cut, NoCut, Finds}
-use Rattle.time_values.specs.Month.{month_number, month_refusal}
+use Rattle.time_digits.proofs.WordBytes.{take-drop}
+use Rattle.time_digits.specs.Digits.{Cut, NoCut, Finds, IsByte, IsSign, IsDigit, AllDigits, digits_value, NoDigitFirst, IsDigitRun}
+use Rattle.time_values.specs.Names.{month_number, month_refusal}
 use Rattle.time_values.specs.Refusal.{Constructs}
 use Rattle.time_values.specs.declared.error.ComponentRange.{ComponentRange}
 use Rattle.time_values.specs.declared.month.Month.{Month}
-use Rattle.time_components.proofs.EachValue.{each_month}
+use Rattle.time_components.proofs.NumberLemmas.{each_month}
 use Rattle.time_digits.proofs.Runs.{IsDigitRun-below}
 use Rattle.time_digits.specs.declared.ParsedItem.{ParsedItem}
 use Rattle.time_digits.specs.declared.Sign.{Sign}
 use Rattle.time_digits.specs.declared.Sign.TheVariants.{Negative, Positive}
-use Rattle.time_digits.specs.Bytes.{IsByte, IsSign}
-use Rattle.time_digits.specs.Digits.{IsDigit, AllDigits, digits_value, NoDigitFirst, IsDigitRun}
-use Rattle.time_readers.specs.IsoPieces.{Number, is_digit, all_digits, digits, leading_digits, byte, point, plain, fraction, after_point, number, sign, months, numbered}
-use Rattle.time_readers.specs.IsoAnswers.{Gives}
-use Rattle.time_readers.specs.IsoFractions.{round_of}
-use Rattle.time_readers.proofs.IsoFractions.{round_whole}
+use Rattle.time_readers.specs.IsoPieces.{Number, is_digit, all_digits, digits, leading_digits, byte, point, plain, fraction, after_point, number, sign, months, numbered, Gives}
+use Rattle.time_readers.specs.IsoTimes.{round_of}
+use Rattle.time_readers.proofs.OneMailDate.{round_whole}
 
 pub is_digit-true : (c : ℕ) → IsDigit c → is_digit c ≡ true
 is_digit-true c d = and_from (nat_le 48 c) (nat_le c 57) (le-leb 48 c d.0) (le-leb c 57 d.1)

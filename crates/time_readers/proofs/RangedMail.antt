@@ -1,17 +1,16 @@
 -- Mail dates with ranges are those without, whose numbers lie in the ranges.
 use Rattle.std.proofs.Common.{◌⊎◌, ℕ, List, [], ◌∷◌, ap, drop, subst, inl, inr, rules, Bool, true, false, Option, Some, None, IfSome, pos, unsigned_abs}
 use Rattle.time_values.specs.Sign.{signed_by}
-use Rattle.time_digits.specs.Bytes.{is_negative}
+use Rattle.time_digits.specs.Digits.{is_negative}
 use Rattle.time_readers.specs.Laws.{RangedForms}
-use Rattle.time_readers.specs.Places.{Stand}
-use Rattle.time_readers.specs.Ranges.{IsWithin}
+use Rattle.time_readers.specs.Readers.{Stand, IsWithin}
 use Rattle.time_readers.specs.Rfc2822.{Asks, HasForm, InRanges, IsSecond, IsZone, IsSignedHour, IsOffsetMinute, places, nothing_read}
 use Rattle.time_digits.specs.declared.Sign.{Sign}
 use Rattle.time_readers.specs.declared.rfc2822.Numbers.{Numbers}
 use Rattle.time_readers.specs.declared.rfc2822.Place.{Place}
 use Rattle.time_readers.specs.declared.rfc2822.Place.TheVariants.{WeekdayName, Day, DayBlanks, MonthName, MonthBlanks, Year, YearBlanks, Hour, HourColon, Minute, Second, TimeBlanks, OffsetHour, OffsetMinute, EndBlanks}
 use Rattle.time_readers.proofs.MailRanges.{with_place, alone, signed-abs, HasForm-in_places}
-use Rattle.time_readers.proofs.KeptNumbers.{Back, Ignores, along, back_by}
+use Rattle.time_readers.proofs.Walking.{Back, Ignores, along, back_by}
 
 -- the number of a place lies in its range
 abbrev In : Place → Numbers → Type 0

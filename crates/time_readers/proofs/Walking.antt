@@ -1,9 +1,18 @@
 -- How the answer of places follows from the answers of each.
-use Rattle.std.proofs.Common.{◌≡◌, ℕ, List, [], ◌∷◌, ◌++◌, refl, ap, sym, ◌∙◌, subst, Result, Ok, Err, Option, Some, None, Bor, append_assoc, IsErr, IsErrAnd, MatchResult}
 use Rattle.std.specs.Option.{ok_or}
-use Rattle.time_digits.specs.Cuts.{Cut, NoCut, Form}
-use Rattle.time_readers.specs.Places.{Stand, StopsAt, Format}
+use Rattle.std.proofs.Common.{◌≡◌, ℕ, List, [], ◌∷◌, ◌++◌, refl, ap, sym, ◌∙◌, subst, Result, Ok, Err, Option, Some, None, Bor, append_assoc, IsErr, IsErrAnd, MatchResult, pos, inl, inr}
+use Rattle.time_values.specs.Moments.{offset_date, offset_time, offset_of}
+use Rattle.time_values.specs.Calendar.{greatest_year}
+use Rattle.time_values.specs.Refusal.{Refusal}
+use Rattle.time_values.specs.declared.offset_date_time.OffsetDateTime.{OffsetDateTime}
+use Rattle.time_values.proofs.NumberLemmas.{same_month}
+use Rattle.time_values.proofs.InstantLemmas.{same_date_by_parts, same_time_by_clock, same_offset}
+use Rattle.time_digits.specs.Digits.{Cut, NoCut, Form}
+use Rattle.time_readers.specs.Readers.{Stand, StopsAt, Format}
 use Rattle.time_readers.specs.PlaceAnswers.{Steps, Reads, Walks}
+use Rattle.time_readers.specs.Direct.{shown_second, shown_nanosecond, first_refusal, IsMoment, LeapSecondMayStand, IsMade, IsNotMade, IsRefusedAfter, IsDirect, RefusesDirectly}
+use Rattle.time_readers.specs.Laws.{OneForm, OneDirect}
+use Rattle.time_readers.specs.declared.direct.Said.{Said}
 
 pub Walks-none : {P N : Type 0} (A : Format P N) (n : N) (bytes : List ℕ) (rest : Bor (List ℕ)) → rest.now ≡ bytes → Walks A [] n bytes (Ok rest) n
 unfolding Stand
@@ -153,3 +162,138 @@ Stand-ends A (p ∷ ps) n m bytes rest s =
     let t = Stand-ends A ps s.1 m s.0 rest s.3 in
     let cut = s.2 in
     (cut.0 ++ t.0, cut.1 ∙ ap (λ r. cut.0 ++ r) t.1 ∙ sym (append_assoc cut.0 t.0 rest))
+
+-- ---- What a place says holds of the numbers in the end, where no other place says it again
+
+-- a place says no more than what `with` takes from the numbers after it
+abbrev pub Alone : {P N : Type 0} → Format P N → (P → N → N → N) → Type 0
+Alone {P} {N} A with = (p : P) (n m : N) (text after : List ℕ) → A p n text after m → m ≡ with p n m
+
+-- f looks at no number of these places
+abbrev pub Ignores : {P N X : Type 0} → (P → N → N → N) → (N → X) → List P → Type 0
+Ignores with f [] = Unit {0}
+Ignores {P} {N} with f (p ∷ ps) = ((n m : N) → f (with p n m) ≡ f n) × Ignores with f ps
+
+pub kept : {P N X : Type 0} (A : Format P N) (with : P → N → N → N) (f : N → X) → Alone A with
+    → (ps : List P) (n m : N) (bytes rest : List ℕ) → Ignores with f ps → Stand A ps n bytes rest m → f m ≡ f n
+unfolding Stand
+kept A with f alone [] n m bytes rest i s = ap f s.1
+kept A with f alone (p ∷ ps) n m bytes rest i s =
+    kept A with f alone ps s.1 m s.0 rest i.1 s.3 ∙ (ap f (alone p n s.1 s.2.0 s.0 s.2.2) ∙ i.0 n s.1)
+
+-- what a place tells of numbers that no later place says holds of them in the end
+pub said_after : {P N X Z : Type 0} (A : Format P N) (with : P → N → N → N) (f : N → Z) (g : N → X) (Q : X → Type 0) → Alone A with
+    → (before : List P) (p : P) (after : List P) (n m : N) (bytes rest : List ℕ) → Stand A (before ++ p ∷ after) n bytes rest m
+    → Ignores with f before → Ignores with g after
+    → ((j k : N) (text mid : List ℕ) → f j ≡ f n → A p j text mid k → Q (g k)) → Q (g m)
+unfolding Stand
+said_after A with f g Q alone before p after n m bytes rest s i j tells =
+    let parts = Stand-split A before (p ∷ after) n m bytes rest s in
+    let last = parts.1.2 in
+    let start = kept A with f alone before n parts.1.0 bytes parts.0 i parts.1.1 in
+    subst Q (sym (kept A with g alone after last.1 m last.0 rest j last.3)) (tells parts.1.0 last.1 last.2.0 last.0 start last.2.2)
+
+-- what a place tells of its number holds of the number in the end
+pub said : {P N X : Type 0} (A : Format P N) (with : P → N → N → N) (f : N → X) (Q : X → Type 0) → Alone A with
+    → (before : List P) (p : P) (after : List P) (n m : N) (bytes rest : List ℕ) → Stand A (before ++ p ∷ after) n bytes rest m → Ignores with f before
+    → Ignores with f after → ((j k : N) (text mid : List ℕ) → f j ≡ f n → A p j text mid k → Q (f k)) → Q (f m)
+said A with f Q = said_after A with f f Q
+
+-- what holds of a place's numbers in the end holds of them there
+abbrev pub Back : {P N : Type 0} → Format P N → (P → N → Type 0) → List P → Type 0
+Back A In [] = Unit {0}
+Back {P} {N} A In (p ∷ ps) =
+    ((k m : N) (bytes rest : List ℕ) → Stand A ps k bytes rest m → In p m → In p k) × Back A In ps
+
+-- texts that stand as one format asks stand as another does, where the numbers in the end say what that asks besides
+pub along : {P N : Type 0} (A B : Format P N) (In : P → N → Type 0)
+    → ((p : P) (n m : N) (text after : List ℕ) → In p m → A p n text after m → B p n text after m)
+    → (ps : List P) (n m : N) (bytes rest : List ℕ) → Back A In ps → ((p : P) → In p m)
+    → Stand A ps n bytes rest m → Stand B ps n bytes rest m
+unfolding Stand
+along A B In asked [] n m bytes rest back all s = s
+along A B In asked (p ∷ ps) n m bytes rest back all s =
+    let here = back.0 s.1 m s.0 rest s.3 (all p) in (
+      s.0,
+      s.1,
+      (s.2.0, s.2.1, asked p n s.1 s.2.0 s.0 here s.2.2),
+      along A B In asked ps s.1 m s.0 rest back.1 all s.3,
+    )
+
+-- the numbers that a predicate looks at are kept by the places after
+pub back_by : {P N X : Type 0} (A : Format P N) (with : P → N → N → N) (f : N → X) (Q : X → Type 0) → Alone A with
+    → (ps : List P) → Ignores with f ps → (k m : N) (bytes rest : List ℕ) → Stand A ps k bytes rest m → Q (f m) → Q (f k)
+back_by A with f Q alone ps ignores k m bytes rest s is = subst Q (kept A with f alone ps k m bytes rest ignores s) is
+
+-- ---- A direct path has one answer
+
+same_zoned : (v w : OffsetDateTime) → offset_date v ≡ offset_date w → offset_time v ≡ offset_time w → offset_of v ≡ offset_of w → v ≡ w
+same_zoned v w d t o = λ i. record { date = d i; time = t i; offset = o i }
+
+-- what is said makes one moment
+one_moment : (s : Said) (v w : OffsetDateTime) → IsMoment s v → IsMoment s w → v ≡ w
+one_moment s v w a b =
+    let month = same_month _ _ (a.date.month ∙ sym b.date.month) in
+    same_zoned v w
+    (same_date_by_parts (offset_date v) (offset_date w) (a.date.year ∙ sym b.date.year) month (a.date.day ∙ sym b.date.day))
+    (same_time_by_clock s.hour s.minute (shown_second s) (shown_nanosecond s) (offset_time v) (offset_time w) a.clock b.clock)
+    (same_offset s.offset_hour s.offset_minute (pos 0) (offset_of v) (offset_of w) a.offset b.offset)
+
+none_or_some : (o : Option Refusal) (e : Refusal) → o ≡ None → o ≡ Some e → ⊥
+none_or_some o e n s = cc
+
+one_not_made : (s : Said) (e f : Refusal) → IsNotMade greatest_year s e → IsNotMade greatest_year s f → e ≡ f
+one_not_made s e f (inl a) (inl b) = let same : Some e ≡ Some f = sym a ∙ b in cc
+one_not_made s e f (inl a) (inr b) = absurd (none_or_some (first_refusal greatest_year s) e b.0 a)
+one_not_made s e f (inr a) (inl b) = absurd (none_or_some (first_refusal greatest_year s) f a.0 b)
+one_not_made s e f (inr a) (inr b) = a.1 ∙ sym b.1
+
+made_or_not : (s : Said) (v : OffsetDateTime) (e : Refusal) → IsMade greatest_year s v → IsNotMade greatest_year s e → ⊥
+made_or_not s v e made (inl b) = none_or_some (first_refusal greatest_year s) e made.0 b
+made_or_not s v e made (inr b) =
+    let other = b.2 in
+    other.2 (subst (LeapSecondMayStand greatest_year s) (one_moment s v other.0 made.1 other.1) made.2)
+
+one_after : (last : Option Refusal) (s : Said) (rest : List ℕ) (e f : Refusal)
+    → IsRefusedAfter greatest_year last s rest e → IsRefusedAfter greatest_year last s rest f → e ≡ f
+one_after (Some r) s rest e f a b = a ∙ sym b
+one_after None s [] e f a b = one_not_made s e f a b
+one_after None s (c ∷ rest) e f a b = a ∙ sym b
+
+made_or_after : (last : Option Refusal) (s : Said) (v : OffsetDateTime) (e : Refusal) → last ≡ None
+    → IsMade greatest_year s v → IsRefusedAfter greatest_year last s [] e → ⊥
+made_or_after None s v e none made b = made_or_not s v e made b
+made_or_after (Some r) s v e none made b = absurd (cc)
+
+module _ {P N : Type 0} (A : Format P N) (ps : List P) (start : N) (fault : P → Refusal) (last : N → Option Refusal) (says : N → Said)
+    (one : (bytes : List ℕ) → OneForm A ps start bytes) where
+  one_refusal : (bytes : List ℕ) (e f : Refusal)
+      → RefusesDirectly (Stand A ps start) (StopsAt A ps start) fault last says greatest_year bytes e
+      → RefusesDirectly (Stand A ps start) (StopsAt A ps start) fault last says greatest_year bytes f → e ≡ f
+  one_refusal bytes e f (inl a) (inl b) = a.2 ∙ ap fault ((one bytes).one_place a.0 b.0 a.1 b.1) ∙ sym b.2
+  one_refusal bytes e f (inl a) (inr b) = absurd ((one bytes).never_both b.0 b.1.0 a.0 b.1.1 a.1)
+  one_refusal bytes e f (inr a) (inl b) = absurd ((one bytes).never_both a.0 a.1.0 b.0 a.1.1 b.1)
+  one_refusal bytes e f (inr a) (inr b) =
+      let same = (one bytes).one_reading a.0 b.0 a.1.0 b.1.0 a.1.1 b.1.1 in
+      let here = subst (λ n. IsRefusedAfter greatest_year (last n) (says n) b.0 e) same.1
+      (subst (λ r. IsRefusedAfter greatest_year (last a.1.0) (says a.1.0) r e) same.0 a.1.2) in
+      one_after (last b.1.0) (says b.1.0) b.0 e f here b.1.2
+
+  one_value : (bytes : List ℕ) (v w : OffsetDateTime) → IsDirect (Stand A ps start) last says greatest_year bytes v
+      → IsDirect (Stand A ps start) last says greatest_year bytes w → v ≡ w
+  one_value bytes v w a b =
+      let same = (one bytes).one_reading [] [] a.0 b.0 a.1 b.1 in
+      one_moment (says b.0) v w (subst (λ n. IsMoment (says n) v) same.1 a.3.1) b.3.1
+
+  never_both : (bytes : List ℕ) (v : OffsetDateTime) (e : Refusal) → IsDirect (Stand A ps start) last says greatest_year bytes v
+      → RefusesDirectly (Stand A ps start) (StopsAt A ps start) fault last says greatest_year bytes e → ⊥
+  never_both bytes v e a (inl b) = (one bytes).never_both [] a.0 b.0 a.1 b.1
+  never_both bytes v e a (inr b) =
+      let same = (one bytes).one_reading b.0 [] b.1.0 a.0 b.1.1 a.1 in
+      let here = subst (λ n. IsRefusedAfter greatest_year (last n) (says n) [] e) same.1
+      (subst (λ r. IsRefusedAfter greatest_year (last b.1.0) (says b.1.0) r e) same.0 b.1.2) in
+      made_or_after (last a.0) (says a.0) v e a.2 a.3 here
+
+  pub one_direct : OneDirect (IsDirect (Stand A ps start) last says greatest_year)
+      (RefusesDirectly (Stand A ps start) (StopsAt A ps start) fault last says greatest_year)
+  one_direct = record { one_value = one_value; one_refusal = one_refusal; never_both = never_both }

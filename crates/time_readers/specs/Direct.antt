@@ -2,10 +2,10 @@
 use Rattle.std.specs.Prelude.{◌≡◌, ◌⊎◌, ◌==◌, ℕ, pos, nat_le, true, false, if◌then◌else◌, List, [], ◌∷◌, codes, Option, Some, None, Result, MatchResult, unwrap_or}
 use Rattle.std.specs.Option.{option_or}
 use Rattle.time_values.specs.Dates as Dates
-use Rattle.time_values.specs.DateRefusals.{calendar_date_refusal}
+use Rattle.time_values.specs.Dates.{calendar_date_refusal}
 use Rattle.time_values.specs.Instants.{IsLeapSecondMoment}
 use Rattle.time_values.specs.Moments.{offset_date, offset_time, offset_of, offset_instant}
-use Rattle.time_values.specs.Month.{month_number, month_refusal}
+use Rattle.time_values.specs.Names.{month_number, month_refusal}
 use Rattle.time_values.specs.Offsets.{HasOffset, offset_refusal}
 use Rattle.time_values.specs.Refusal.{Refusal, trailing, range, refusal_of}
 use Rattle.time_values.specs.Sign.{signed_by}
@@ -13,7 +13,7 @@ use Rattle.time_values.specs.Times.{HasClock, time_refusal}
 use Rattle.time_values.specs.declared.date.Date.{Date}
 use Rattle.time_values.specs.declared.error.Parse.{Parse}
 use Rattle.time_values.specs.declared.offset_date_time.OffsetDateTime.{OffsetDateTime}
-use Rattle.time_digits.specs.Cuts.{Form}
+use Rattle.time_digits.specs.Digits.{Form}
 use Rattle.time_readers.specs.Rfc2822 as rfc2822
 use Rattle.time_readers.specs.Rfc3339 as rfc3339
 use Rattle.time_readers.specs.declared.direct.Said.{Said}

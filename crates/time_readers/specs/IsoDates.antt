@@ -7,9 +7,8 @@ use Rattle.time_readers.specs.declared.iso8601.ExtendedKind.{ExtendedKind}
 use Rattle.time_readers.specs.declared.iso8601.ExtendedKind.TheVariants.{Basic, Extended}
 use Rattle.time_readers.specs.declared.iso8601.DateNumbers.{DateNumbers}
 use Rattle.time_readers.specs.declared.iso8601.DateNumbers.TheVariants as numbers
-use Rattle.time_readers.specs.declared.iso8601.fast.dates.CalendarDigits.{CalendarDigits}
-use Rattle.time_readers.specs.IsoAnswers.{Found}
-use Rattle.time_readers.specs.IsoPieces.{year, month, months, numbered, weekday, positive, byte}
+use Rattle.time_readers.specs.declared.iso8601.fast.CalendarDigits.{CalendarDigits}
+use Rattle.time_readers.specs.IsoPieces.{Found, year, month, months, numbered, weekday, positive, byte}
 
 -- what a date says
 pub data IsoDate : Type 0 where

@@ -1,7 +1,7 @@
 -- No public contract rests on this file.
 --
 -- What the readers of single pieces and parts of ISO 8601 answer.
-use Rattle.std.specs.Prelude.{◌≡◌, ℕ, List, if◌then◌else◌, Option, Some, None, Result, Ok, Err, option_map, option_and_then}
+use Rattle.std.specs.Prelude.{◌≡◌, ℕ, List, if◌then◌else◌, Option, Some, None, Result, Ok, Err, option_map, option_and_then, ◌≤◌, ◌+◌, ◌*◌, ◌-◌, true}
 use Rattle.std.specs.Borrow.{Bor}
 use Rattle.time_values.specs.Refusal.{Refusal, refusal_of_description}
 use Rattle.time_values.specs.declared.error.ParseFromDescription.{ParseFromDescription}
@@ -12,11 +12,11 @@ use Rattle.time_readers.specs.declared.iso8601.ExtendedKind.TheVariants.{Basic, 
 use Rattle.time_readers.specs.declared.iso8601.OffsetNumbers.{OffsetNumbers}
 use Rattle.time_readers.specs.declared.iso8601.OffsetNumbers.TheVariants.{Zulu}
 use Rattle.time_readers.specs.declared.iso8601.TimeNumbers.{TimeNumbers}
-use Rattle.time_readers.specs.IsoAnswers.{Found}
-use Rattle.time_readers.specs.IsoKinds.{not_basic}
+use Rattle.time_readers.specs.IsoPieces.{Found, Piece, Number, number, digits, up_to, sign, byte}
+use Rattle.time_readers.specs.IsoTimes.{not_basic, nothing_given, says, any_second, time_text}
 use Rattle.time_readers.specs.IsoOffsets.{numbers_of}
-use Rattle.time_readers.specs.IsoPieces.{Piece, Number, number, digits, up_to, sign, byte}
-use Rattle.time_readers.specs.IsoTimes.{nothing_given, says, any_second}
+use Rattle.time_readers.specs.IsoDates.{AreCalendarDigits}
+use Rattle.time_readers.specs.declared.iso8601.fast.dates_and_times.FirstSixteen.{FirstSixteen}
 
 -- the reader of a byte answers what is left
 abbrev pub Leaves : Option (List ℕ) → Option (Bor (List ℕ)) → Type 0
@@ -77,3 +77,29 @@ offset_after kind bytes None =
 -- an offset, one piece after another
 unfoldable pub offset_by_pieces : ExtendedKind → Piece OffsetNumbers
 offset_by_pieces kind bytes = offset_after kind bytes (byte 90 bytes)
+
+-- ---- What the short forms of ISO 8601 are
+
+-- the number of two digits
+abbrev pub two_digits : ℕ → ℕ → ℕ
+two_digits tens ones = (tens - 48) * 10 + (ones - 48)
+
+-- the number says such a second, and so many nanoseconds of it
+abbrev pub SaysSecond : Number → ℕ → ℕ → Type 0
+SaysSecond n second nanoseconds =
+    (h m : ℕ) → says any_second n (hour_and_minute h m)
+    ≡ Some (record { hour = h; minute = m; second = second; subsecond = nanoseconds })
+
+-- after the date of these digits stand `T`, that hour and that minute, and then a second makes it a time
+abbrev pub IsClock : FirstSixteen → Type 0
+IsClock f =
+    (n : Number) (rest : List ℕ) (s nanoseconds : ℕ) → f.hour ≤ 23
+    → number f.after.now ≡ Some (rest, n) → SaysSecond n s nanoseconds
+    → time_text true f.date.kind f.date.rest.now ≡ Some (record {
+      rest = rest;
+      value = record { hour = f.hour; minute = f.minute; second = s; subsecond = nanoseconds };
+      kind = f.date.kind;
+    })
+
+abbrev pub IsFirstSixteen : List ℕ → FirstSixteen → Type 0
+IsFirstSixteen text f = AreCalendarDigits text f.date × IsClock f

@@ -4,10 +4,8 @@ use Rattle.time_digits.specs.declared.Sign.{Sign}
 use Rattle.time_readers.specs.declared.iso8601.ExtendedKind.{ExtendedKind}
 use Rattle.time_readers.specs.declared.iso8601.OffsetNumbers.{OffsetNumbers}
 use Rattle.time_readers.specs.declared.iso8601.OffsetNumbers.TheVariants.{Zulu, Numeric}
-use Rattle.time_readers.specs.IsoAnswers.{Found}
-use Rattle.time_readers.specs.IsoKinds.{any, is_basic, not_basic, as_before}
-use Rattle.time_readers.specs.IsoPieces.{Piece, digits, up_to, sign, with_sign, byte}
-use Rattle.time_readers.specs.IsoRows.{Row, row, anything, no_colon, Stands, first_fitting, fitting}
+use Rattle.time_readers.specs.IsoPieces.{Found, Piece, digits, up_to, sign, with_sign, byte}
+use Rattle.time_readers.specs.IsoTimes.{any, is_basic, not_basic, as_before, Row, row, anything, no_colon, Stands, first_fitting, fitting}
 
 -- What stands in a text of the table: `Z`, `-` or `+`, two digits of 0 to 25, `:`, or two digits of 0 to 59.
 pub data OffsetPlace : Type 0 where

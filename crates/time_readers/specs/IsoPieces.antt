@@ -1,16 +1,22 @@
 -- The pieces of ISO 8601 texts, as functions from the bytes left: the bytes after a text with which they begin, and
 -- what it says; or nothing, where no such text stands there. Each finds exactly a cut (`law_iso_pieces`).
-use Rattle.std.specs.Prelude.{ℕ, zero, suc, ℤ, pos, slice_get, List, [], ◌∷◌, length, take, drop, Bool, true, ◌&&◌, nat_eq, nat_le, if◌then◌else◌, Option, Some, None, option_map, option_and_then}
+use Rattle.std.specs.Prelude.{ℕ, zero, suc, ℤ, pos, slice_get, List, [], ◌∷◌, length, take, drop, Bool, true, ◌&&◌, nat_eq, nat_le, if◌then◌else◌, Option, Some, None, option_map, option_and_then, ◌≡◌, Result, Ok, Err, ◌≤◌, ◌⊎◌, ◌↔◌, ◌++◌, false}
+use Rattle.std.specs.Borrow.{Bor}
 use Rattle.time_values.specs.Sign.{signed_by}
 use Rattle.time_values.specs.declared.month.Month.{Month}
 use Rattle.time_values.specs.declared.month.Month.TheVariants.{January, February, March, April, May, June, July, August, September, October, November, December}
 use Rattle.time_values.specs.declared.weekday.Weekday.{Weekday}
 use Rattle.time_values.specs.declared.weekday.Weekday.TheVariants.{Monday, Tuesday, Wednesday, Thursday, Friday, Saturday, Sunday}
-use Rattle.time_digits.specs.Bytes.{is_negative}
-use Rattle.time_digits.specs.Digits.{digits_value}
-use Rattle.time_readers.specs.Readers.{Reader, one_of, ◌or◌}
+use Rattle.time_values.specs.Refusal.{Refusal, refusal_of_description}
+use Rattle.time_values.specs.declared.error.ParseFromDescription.{ParseFromDescription}
+use Rattle.time_digits.specs.Digits.{is_negative, digits_value, Form, Cut, AllDigits, NoDigitFirst, IsDigitRun}
 use Rattle.time_digits.specs.declared.Sign.{Sign}
 use Rattle.time_digits.specs.declared.Sign.TheVariants.{Negative, Positive}
+use Rattle.time_digits.specs.declared.ParsedItem.{ParsedItem}
+use Rattle.time_components.specs.Spelling.{IsSigned}
+use Rattle.time_readers.specs.Readers.{Reader, one_of, ◌or◌}
+use Rattle.time_readers.specs.declared.iso8601.ExtendedKind.{ExtendedKind}
+use Rattle.time_readers.specs.declared.iso8601.Part.{Part}
 
 -- what is left of the bytes after a text, and what the text says
 abbrev pub Piece : Type 0 → Type 0
@@ -120,3 +126,76 @@ after_whole whole bytes (Some after) = after_point whole (leading_digits after) 
 -- `.` nor `,` after them.
 unfoldable pub number : Piece Number
 number bytes = option_and_then (λ f. after_whole f.1 f.0 (point f.0)) (digits 2 bytes)
+
+-- ---- What the readers of ISO 8601 texts answer: what their functions say, and nothing where these say nothing
+
+-- a text with which some bytes begin: the bytes after it, what it says, and the kind after it
+pub record Found (V : Type 0) : Type 0 where
+  pub rest : List ℕ
+  pub value : V
+  pub kind : ExtendedKind
+
+-- a number by its whole part and the digits of its fraction, where it has one
+abbrev pub number_of : ℕ → Option (Bor (List ℕ)) → Number
+number_of whole None = plain whole
+number_of whole (Some digits) = fraction whole digits.now
+
+-- the reader of a piece answers what is left, and in that view the value
+abbrev pub GivesAs : {V W : Type 0} → (V → W) → Option (List ℕ × W) → Option (ParsedItem V) → Type 0
+GivesAs view found None = found ≡ None
+GivesAs view found (Some p) = found ≡ Some (p.0.now, view p.1)
+
+-- the reader of a piece answers what is left, and the value
+abbrev pub Gives : {V : Type 0} → Option (List ℕ × V) → Option (ParsedItem V) → Type 0
+Gives found result = GivesAs (λ v. v) found result
+
+-- the reader of a part answers what is left, the value, and the kind
+abbrev pub GivesPart : {V : Type 0} → Option (Found V) → Option (Part V) → Type 0
+GivesPart found None = found ≡ None
+GivesPart found (Some p) = found ≡ Some (record { rest = p.rest.now; value = p.value; kind = p.kind })
+
+-- the reader of a part answers what is left, in that view the value, and the kind; or the fault
+abbrev pub GivesPartOrFault : {V W : Type 0} → (V → W) → Result (Found W) Refusal
+    → Result (Part V) ParseFromDescription → Type 0
+GivesPartOrFault view found (Err e) = found ≡ Err (refusal_of_description e)
+GivesPartOrFault view found (Ok p) = found ≡ Ok (record { rest = p.rest.now; value = view p.value; kind = p.kind })
+
+-- ---- The pieces of ISO 8601 texts as relations on a text, what follows it, and what it says
+
+-- what the function finds is exactly the cut
+abbrev pub IsCutOf : {V : Type 0} → Piece V → Form V → Type 0
+IsCutOf {V} find S = (s rest : List ℕ) (v : V) → (find s ≡ Some (rest, v)) ↔ Cut S s rest v
+
+-- a sign and six digits, or four digits
+abbrev pub IsYear : Form ℤ
+IsYear text rest v =
+    (a : Sign × ℕ) × (v ≡ with_sign a.0 a.1) × IsSigned false (IsDigitRun 6 6) (IsDigitRun 4 4) text rest a
+
+-- so many digits, whose number says that
+abbrev pub IsSaid : {A : Type 0} → ℕ → (ℕ → Option A) → Form A
+IsSaid n says text rest a = (v : ℕ) × IsDigitRun n n text rest v × (says v ≡ Some a)
+
+-- the byte is `.` or `,`
+abbrev pub IsPoint : ℕ → Type 0
+IsPoint c = (c ≡ 46) ⊎ (c ≡ 44)
+
+-- the text doesn't begin with one
+abbrev pub NoPointFirst : List ℕ → Type 0
+NoPointFirst [] = Unit {0}
+NoPointFirst (c ∷ cs) = ¬ IsPoint c
+
+-- two digits, a point, and one or more digits of a fraction, as many as stand there
+pub record IsFractional (text rest : List ℕ) (v : ℕ) (digits : List ℕ) : Type 0 where
+  pub whole : List ℕ
+  pub mark : ℕ
+  pub cut : text ≡ whole ++ mark ∷ digits
+  pub run : IsDigitRun 2 2 whole (mark ∷ digits ++ rest) v
+  pub is_point : IsPoint mark
+  pub all : AllDigits digits
+  pub some : 1 ≤ length digits
+  pub ends : NoDigitFirst rest
+
+-- two digits with no point after them, or with a fraction
+abbrev pub IsNumber : Form Number
+IsNumber text rest (plain v) = IsDigitRun 2 2 text rest v × NoPointFirst rest
+IsNumber text rest (fraction v digits) = IsFractional text rest v digits

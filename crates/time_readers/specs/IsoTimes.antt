@@ -1,12 +1,134 @@
 -- The time of ISO 8601: a table of the texts that say one.
-use Rattle.std.specs.Prelude.{ℕ, ◌/◌, ◌%◌, List, [], ◌∷◌, Bool, true, false, ◌&&◌, is_none, nat_le, nat_lt, Option, Some, None, option_map, option_and_then}
+use Rattle.std.specs.Prelude.{ℕ, List, [], ◌∷◌, ◌++◌, Bool, true, is_none, if◌then◌else◌, Option, Some, None, option_and_then, option_to_list, ◌+◌, ◌-◌, ◌*◌, ◌/◌, ◌^◌, ◌<◌, ◌≤◌, length, false, ◌%◌, ◌&&◌, nat_le, nat_lt, option_map, Result, Ok, Err}
+use Rattle.std.specs.Option.{option_or}
+use Rattle.time_values.specs.declared.error.ParseFromDescription.{ParseFromDescription}
+use Rattle.time_digits.specs.Digits.{digits_value}
 use Rattle.time_readers.specs.declared.iso8601.ExtendedKind.{ExtendedKind}
+use Rattle.time_readers.specs.IsoPieces.{Found, byte, Number, plain, fraction, number, GivesPart, GivesPartOrFault}
+use Rattle.time_readers.specs.declared.iso8601.ExtendedKind.TheVariants.{Basic, Extended, Unknown}
 use Rattle.time_readers.specs.declared.iso8601.TimeNumbers.{TimeNumbers}
-use Rattle.time_readers.specs.IsoAnswers.{Found}
-use Rattle.time_readers.specs.IsoFractions.{floor_of, round_of}
-use Rattle.time_readers.specs.IsoKinds.{any, not_basic, not_extended, is_extended, as_before, basic, extended, basic_where_unknown}
-use Rattle.time_readers.specs.IsoPieces.{Number, plain, fraction, number, byte}
-use Rattle.time_readers.specs.IsoRows.{Row, row, anything, no_colon, when, Stands, first_fitting, fitting}
+use Rattle.time_readers.specs.IsoDates.{date_text, iso_date}
+use Rattle.time_readers.specs.declared.iso8601.DateAndTime.{DateAndTime}
+
+-- ---- Tables of the texts of ISO 8601: a row is a text by its places, with the kinds before it, what may follow it,
+-- and the kind after it
+
+-- a text of a table whose places are these, the kinds before it, what may follow it, and the kind after it
+pub record Row (P : Type 0) : Type 0 where
+  pub text : List P
+  pub before : ExtendedKind → Bool
+  pub follows : List ℕ → Bool
+  pub after : ExtendedKind → ExtendedKind
+
+abbrev pub row : {P : Type 0} → List P → (ExtendedKind → Bool) → (List ℕ → Bool) → (ExtendedKind → ExtendedKind) → Row P
+row text before follows after = record { text = text; before = before; follows = follows; after = after }
+
+-- what follows a text
+abbrev pub anything : List ℕ → Bool
+anything bytes = true
+
+abbrev pub no_colon : List ℕ → Bool
+no_colon bytes = is_none (byte 58 bytes)
+
+-- a value where the test holds
+abbrev pub when : {A : Type 0} → Bool → A → Option A
+when test a = if test then Some a else None
+
+-- how the texts of places are read, each after what those before it say
+abbrev pub Stands : Type 0 → Type 0 → Type 0
+Stands P V = P → List ℕ → V → Option (List ℕ × V)
+
+-- the texts of places one after another
+abbrev pub all_stand : {P V : Type 0} → Stands P V → List P → List ℕ → V → Option (List ℕ × V)
+all_stand stands [] bytes v = Some (bytes, v)
+all_stand stands (p ∷ ps) bytes v = option_and_then (λ f. all_stand stands ps f.0 f.1) (stands p bytes v)
+
+-- the text of a row, before whose places nothing is said
+abbrev pub fits : {P V : Type 0} → Stands P V → V → Row P → ExtendedKind → List ℕ → Option (Found V)
+fits stands nothing r kind bytes =
+    if r.before kind
+    then option_and_then
+    (λ f. when (r.follows f.0) (record { rest = f.0; value = f.1; kind = r.after kind }))
+    (all_stand stands r.text bytes nothing)
+    else None
+
+-- the text of the first of the rows that fits
+abbrev pub first_fitting : {P V : Type 0} → Stands P V → V → List (Row P) → ExtendedKind → List ℕ → Option (Found V)
+first_fitting stands nothing [] kind bytes = None
+first_fitting stands nothing (r ∷ rs) kind bytes =
+    option_or (fits stands nothing r kind bytes) (first_fitting stands nothing rs kind bytes)
+
+-- the texts of all rows that fit
+abbrev pub fitting : {P V : Type 0} → Stands P V → V → List (Row P) → ExtendedKind → List ℕ → List (Found V)
+fitting stands nothing [] kind bytes = []
+fitting stands nothing (r ∷ rs) kind bytes =
+    option_to_list (fits stands nothing r kind bytes) ++ fitting stands nothing rs kind bytes
+
+-- ---- What the digits of a fraction say of a unit: n digits of value w say w * unit / 10 ^ n
+
+-- the number is the fraction of the unit, cut to a whole one
+pub record IsFloor (digits : List ℕ) (unit : ℕ) (m : ℕ) : Type 0 where
+  pub low : m * 10 ^ length digits ≤ digits_value digits * unit
+  pub high : digits_value digits * unit < (m + 1) * 10 ^ length digits
+
+-- the number is the fraction of the unit, rounded to the nearest whole one, and a half up
+pub record IsRounded (digits : List ℕ) (unit : ℕ) (m : ℕ) : Type 0 where
+  pub low : (2 * m - 1) * 10 ^ length digits ≤ 2 * digits_value digits * unit
+  pub high : 2 * digits_value digits * unit < (2 * m + 1) * 10 ^ length digits
+
+-- the one number that is the fraction cut (`law_one_fraction`)
+abbrev pub floor_of : List ℕ → ℕ → ℕ
+floor_of digits unit = digits_value digits * unit / 10 ^ length digits
+
+-- the one number that is the fraction rounded (`law_one_fraction`)
+abbrev pub round_of : List ℕ → ℕ → ℕ
+round_of digits unit = (2 * digits_value digits * unit + 10 ^ length digits) / (2 * 10 ^ length digits)
+
+-- ---- The kind of an ISO 8601 text: with separators, or without
+
+-- the kinds before a text
+abbrev pub any : ExtendedKind → Bool
+any kind = true
+
+abbrev pub is_basic : ExtendedKind → Bool
+is_basic Basic = true
+is_basic Extended = false
+is_basic Unknown = false
+
+abbrev pub not_basic : ExtendedKind → Bool
+not_basic Basic = false
+not_basic Extended = true
+not_basic Unknown = true
+
+abbrev pub not_extended : ExtendedKind → Bool
+not_extended Basic = true
+not_extended Extended = false
+not_extended Unknown = true
+
+abbrev pub is_extended : ExtendedKind → Bool
+is_extended Basic = false
+is_extended Extended = true
+is_extended Unknown = false
+
+-- the kind after a text
+abbrev pub as_before : ExtendedKind → ExtendedKind
+as_before kind = kind
+
+abbrev pub basic : ExtendedKind → ExtendedKind
+basic kind = Basic
+
+abbrev pub extended : ExtendedKind → ExtendedKind
+extended kind = Extended
+
+abbrev pub basic_where_unknown : ExtendedKind → ExtendedKind
+basic_where_unknown Basic = Basic
+basic_where_unknown Extended = Extended
+basic_where_unknown Unknown = Basic
+
+abbrev pub extended_where_unknown : ExtendedKind → ExtendedKind
+extended_where_unknown Basic = Basic
+extended_where_unknown Extended = Extended
+extended_where_unknown Unknown = Extended
 
 -- What stands in a text of the table. A whole hour or minute has no fraction, and a second has one or none.
 pub data Place : Type 0 where
@@ -89,3 +211,12 @@ after_t false kind bytes None = time_after kind bytes
 -- `T`, which may be needed, and the text of a time
 abbrev pub time_text : Bool → ExtendedKind → List ℕ → Option (Found TimeNumbers)
 time_text needed kind bytes = after_t needed kind bytes (byte 84 bytes)
+
+-- ---- A date of ISO 8601 and the time after it
+
+-- the date with which the text begins and the time after it, whose `T` is needed; or the date's fault
+abbrev pub GivesDateAndTime : List ℕ → Result DateAndTime ParseFromDescription → Type 0
+GivesDateAndTime text (Err e) = GivesPartOrFault iso_date (date_text text) (Err e)
+GivesDateAndTime text (Ok p) =
+    GivesPartOrFault iso_date (date_text text) (Ok p.date)
+    × GivesPart (time_text true p.date.kind p.date.rest.now) p.time

@@ -2,17 +2,13 @@
 use Rattle.std.specs.Prelude.{◌≡◌, ◌≤◌, ◌↔◌, ℕ, List, ◌∷◌, ◌++◌, length, Some, None}
 use Rattle.time_values.specs.Refusal.{Refusal}
 use Rattle.time_values.specs.declared.offset_date_time.OffsetDateTime.{OffsetDateTime}
-use Rattle.time_readers.specs.Readers.{Reader, zero_or_more}
-use Rattle.time_digits.specs.Cuts.{Form}
-use Rattle.time_digits.specs.Digits.{IsDigitRun}
-use Rattle.time_digits.specs.Bytes.{IsSign}
-use Rattle.time_readers.specs.IsoCuts.{IsCutOf, IsYear, IsSaid, IsNumber}
-use Rattle.time_readers.specs.IsoFractions.{IsFloor, IsRounded, floor_of, round_of}
+use Rattle.time_readers.specs.Readers.{Reader, zero_or_more, Format, Stand, StopsAt}
+use Rattle.time_digits.specs.Digits.{Form, IsDigitRun, IsSign}
+use Rattle.time_readers.specs.IsoPieces.{IsCutOf, IsYear, IsSaid, IsNumber}
+use Rattle.time_readers.specs.IsoTimes.{IsFloor, IsRounded, floor_of, round_of, time_texts}
 use Rattle.time_readers.specs.IsoOffsets.{offset_texts}
 use Rattle.time_readers.specs.IsoPieces as IsoPieces
-use Rattle.time_readers.specs.IsoTimes.{time_texts}
 use Rattle.time_readers.specs.declared.iso8601.ExtendedKind.{ExtendedKind}
-use Rattle.time_readers.specs.Places.{Format, Stand, StopsAt}
 
 -- the bytes have one reading by the places or one first place that doesn't stand, and never both
 pub record OneForm {P N : Type 0} (A : Format P N) (ps : List P) (start : N) (bytes : List ℕ) : Type 0 where

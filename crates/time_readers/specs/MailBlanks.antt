@@ -1,9 +1,10 @@
 -- Blanks and comments between the parts of a mail date: RFC 2822, sections 3.2.1 to 3.2.3, 4.2 and 4.3.
---
 -- By a rule of the RFC bytes may be cut in several ways. Here the first of a rule's choices that stands counts, and a
 -- repetition is as long as it can be.
-use Rattle.std.specs.Prelude.{ℕ, zero, suc, Bool, ◌||◌, ◌==◌, Some, None, if◌then◌else◌, is_some}
+use Rattle.std.specs.Prelude.{ℕ, zero, suc, Bool, ◌||◌, ◌==◌, Some, None, if◌then◌else◌, is_some, List, [], ◌∷◌, ◌&&◌, not, ℤ, pos, neg_ℤ, codes, Option, option_map}
 use Rattle.std.specs.Int.{is_in_range}
+use Rattle.std.specs.Str.{str_to_ascii_lowercase, bytes_eq}
+use Rattle.std.specs.Char.{to_ascii_lowercase, is_ascii_lowercase}
 use Rattle.time_readers.specs.Readers.{Reader, one_of, char, ◌then◌, ◌or◌, optional, zero_or_more, one_or_more}
 
 -- WSP: a space or a tab
@@ -70,3 +71,45 @@ opt_cfws = optional cfws
 -- 4.3)
 unfoldable pub opt_cfws_colon_opt_cfws : Reader
 opt_cfws_colon_opt_cfws = opt_cfws then char ":" then opt_cfws
+
+-- ---- Zone names of mail dates: obs-zone of RFC 2822, section 4.3, which stands where section 3.3 has zone. Its
+-- texts are read in any case, as in all of the RFC's grammar.
+
+-- The names of three letters with their hours from UTC: four zones of North America, each by standard and by daylight
+-- time, and Greenwich.
+abbrev pub zone_hours : List (List ℕ × ℤ)
+zone_hours =
+    (codes "est", neg_ℤ (pos 5)) ∷ (codes "edt", neg_ℤ (pos 4))
+    ∷ (codes "cst", neg_ℤ (pos 6)) ∷ (codes "cdt", neg_ℤ (pos 5))
+    ∷ (codes "mst", neg_ℤ (pos 7)) ∷ (codes "mdt", neg_ℤ (pos 6))
+    ∷ (codes "pst", neg_ℤ (pos 8)) ∷ (codes "pdt", neg_ℤ (pos 7))
+    ∷ (codes "gmt", pos 0) ∷ []
+
+-- the number beside the name, where it stands in the table
+abbrev pub beside : List ℕ → List (List ℕ × ℤ) → Option ℤ
+beside name [] = None
+beside name (row ∷ rows) = if bytes_eq name row.0 then Some row.1 else beside name rows
+
+-- the hours of a name of three letters in any case
+unfoldable pub hours_of : List ℕ → Option ℤ
+hours_of name = beside (str_to_ascii_lowercase name) zone_hours
+
+-- the names of one letter, which are those of military zones: each letter but `j`
+abbrev pub is_military : ℕ → Bool
+is_military c = is_ascii_lowercase c && not (c == 106)
+
+-- A military zone. Such letters have been used with either sign, so by section 4.3 a name of them says no more than
+-- -0000 does: the time in UTC.
+abbrev pub military_zone : List ℕ → Option (ℤ × List ℕ)
+military_zone [] = None
+military_zone (c ∷ rest) = if is_military (to_ascii_lowercase c) then Some (pos 0, rest) else None
+
+-- `UT`, which is UTC, or else a military zone
+abbrev pub short_zone : List ℕ → Option (ℤ × List ℕ)
+short_zone s = if bytes_eq (str_to_ascii_lowercase s) (codes "ut") then Some (pos 0, []) else military_zone s
+
+-- obs-zone (section 4.3): the hours from UTC of the zone name with which the bytes begin, and the rest. The RFC lets a
+-- name stand before any bytes. Here where three bytes or more are left the name is one of three letters.
+unfoldable pub zone_literal : List ℕ → Option (ℤ × List ℕ)
+zone_literal (a ∷ b ∷ c ∷ rest) = option_map (λ hours. (hours, rest)) (hours_of (a ∷ b ∷ c ∷ []))
+zone_literal s = short_zone s

@@ -3,8 +3,8 @@
 -- What the readers of places answer.
 use Rattle.std.specs.Prelude.{◌≡◌, ℕ, List, Result, Ok, Err, Option, Some, None}
 use Rattle.std.specs.Borrow.{Bor}
-use Rattle.time_digits.specs.Cuts.{Form, Cut, NoCut}
-use Rattle.time_readers.specs.Places.{Format, Stand, StopsAt}
+use Rattle.time_digits.specs.Digits.{Form, Cut, NoCut}
+use Rattle.time_readers.specs.Readers.{Format, Stand, StopsAt}
 
 -- the answer of reading one place
 abbrev pub Steps : {P N : Type 0} → Format P N → P → N → List ℕ → Result (Bor (List ℕ)) P → N → Type 0

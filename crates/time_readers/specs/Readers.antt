@@ -1,8 +1,9 @@
 -- Readers as functions: from what is left to the rest, or nothing where the reader refuses.
-use Rattle.std.specs.Prelude.{◌≡◌, ℕ, List, [], ◌∷◌, ◌++◌, Bool, ◌==◌, if◌then◌else◌, Option, Some, None, option_and_then}
+use Rattle.std.specs.Prelude.{◌≡◌, ℕ, List, [], ◌∷◌, ◌++◌, Bool, ◌==◌, if◌then◌else◌, Option, Some, None, option_and_then, ◌≤◌, true, false}
 use Rattle.std.specs.Option.{option_or}
 use Rattle.std.specs.Str.{byte}
 use Prim.Native.String.{String}
+use Rattle.time_digits.specs.Digits.{Form, Cut, NoCut, IsDigitRun}
 
 -- what is left after what is read of what was there before, or nothing where the reader refuses
 abbrev pub ReaderOf : Type 0 → Type 0
@@ -51,3 +52,37 @@ one_or_more p = p then zero_or_more p
 -- the reader takes the text and no more, before what follows it
 abbrev pub IsRead : Reader → List ℕ → List ℕ → Type 0
 IsRead p text after = p (text ++ after) ≡ Some after
+
+-- ---- A format by places: the input is cut into the texts of the places, one after another, and a rest. `A p n text
+-- after m` says that the text, before what follows it, has the form that place p asks, and that the numbers m are
+-- those of n with what the text says.
+
+-- what each place asks, after the numbers of the places before it
+abbrev pub Format : Type 0 → Type 0 → Type 1
+Format P N = P → N → Form N
+
+-- the bytes are the texts of the places, each of its form, and then the rest
+unfoldable pub Stand : {P N : Type 0} → Format P N → List P → N → List ℕ → List ℕ → N → Type 0
+Stand A [] n bytes rest m = (rest ≡ bytes) × (m ≡ n)
+Stand {P} {N} A (p ∷ ps) n bytes rest m = (mid : List ℕ) × (k : N) × Cut (A p n) bytes mid k × Stand A ps k mid rest m
+
+-- the places before this one stand, and this one doesn't
+pub record StopsAt {P N : Type 0} (A : Format P N) (ps : List P) (n : N) (bytes : List ℕ) (p : P) : Type 0 where
+  pub before : List P
+  pub after : List P
+  pub place : ps ≡ before ++ p ∷ after
+  pub mid : List ℕ
+  pub numbers : N
+  pub stand : Stand A before n bytes mid numbers
+  pub stops : NoCut (A p numbers) mid
+
+-- ---- Numbers of places, whose range is asked or not
+
+-- where a range is asked, the number lies in it
+abbrev pub IsWithin : Bool → ℕ → ℕ → ℕ → Type 0
+IsWithin true least most v = (least ≤ v) × (v ≤ most)
+IsWithin false least most v = Unit {0}
+
+-- two digits, and where a range is asked their number lies in it
+abbrev pub IsTwoDigits : Bool → ℕ → ℕ → Form ℕ
+IsTwoDigits check_ranges least most text after v = IsDigitRun 2 2 text after v × IsWithin check_ranges least most v

@@ -5,16 +5,11 @@ use Rattle.time_values.specs.Sign.{signed_by}
 use Rattle.time_values.specs.declared.month.Month.{Month}
 use Rattle.time_values.specs.declared.month.Month.TheVariants.{January}
 use Rattle.time_values.specs.declared.weekday.Weekday.{Weekday}
-use Rattle.time_digits.specs.Cuts.{Form, NoCut}
-use Rattle.time_digits.specs.Digits.{IsDigitRun}
-use Rattle.time_digits.specs.Bytes.{sign_byte, is_negative}
+use Rattle.time_digits.specs.Digits.{Form, NoCut, IsDigitRun, sign_byte, is_negative}
 use Rattle.time_values.specs.Names.{month_name, weekday_name}
 use Rattle.time_components.specs.Spelling.{IsShortOf}
-use Rattle.time_readers.specs.Places.{Format, Stand, StopsAt}
-use Rattle.time_readers.specs.Ranges.{IsWithin, IsTwoDigits}
-use Rattle.time_readers.specs.Readers.{Reader, IsRead}
-use Rattle.time_readers.specs.MailBlanks.{fws, cfws, opt_cfws, opt_cfws_colon_opt_cfws}
-use Rattle.time_readers.specs.MailZones.{zone_literal}
+use Rattle.time_readers.specs.Readers.{Format, Stand, StopsAt, IsWithin, IsTwoDigits, Reader, IsRead}
+use Rattle.time_readers.specs.MailBlanks.{fws, cfws, opt_cfws, opt_cfws_colon_opt_cfws, zone_literal}
 use Rattle.time_digits.specs.declared.Sign.{Sign}
 use Rattle.time_readers.specs.declared.rfc2822.Numbers.{Numbers}
 use Rattle.time_readers.specs.declared.rfc2822.Place.{Place}

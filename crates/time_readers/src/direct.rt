@@ -3,9 +3,9 @@
 //! They ask each place for its form alone, and then the calendar, so that their refusals are not those of a
 //! parse over a record: `2021-13-01T00:00:00Z` is refused as a month out of range.
 ghost use Rattle.std.specs.Prelude.{◌≡◌, ◌≢◌, ◌≤◌, [], MatchResult, IsTrue, ◌↔◌, Some, None, pos, unsigned_abs};
-ghost use Rattle.time_values.specs.Month.{month_number, month_refusal};
+ghost use Rattle.time_values.specs.Names.{month_number, month_refusal};
 ghost use Rattle.time_values.specs.Offsets.{HasOffset, offset_refusal};
-ghost use Rattle.time_values.specs.Range.{greatest_year};
+ghost use Rattle.time_values.specs.Calendar.{greatest_year};
 ghost use Rattle.time_values.specs.Refusal.{Constructs, refusal_of, refusal_of_range};
 ghost use Rattle.time_values.specs.Times.{HasClock, time_refusal};
 ghost use Rattle.time_readers.specs.Direct.{shown_second, shown_nanosecond, date_refusal, first_refusal, HasDate, IsMoment, LeapSecondMayStand, said_rfc3339, said_rfc2822, IsMade, IsNotMade, IsRefusedAfter, DirectRfc3339, DirectRfc2822};
@@ -186,6 +186,7 @@ fn shown(said: Said) -> Result<OffsetDateTime, ComponentRange>
 
 // The date.
 #[inline(always)]
+#[tactic(auto, using(crate::proofs::MailRanges::month_refused, crate::proofs::MailRanges::date_made))]
 fn date(said: Said) -> Result<Date, ComponentRange>
     requires year { said.year ≤ greatest_year }
     requires month { said.month ≢ 0 }

@@ -6,18 +6,15 @@
 //! `grammar` reads all of it, piece by piece. `fast` reads the commonest dates and times, many bytes in one step, and
 //! is asked first: what it doesn't answer `grammar` decides, so without it the same is read, in more steps.
 ghost use Rattle.std.specs.Prelude.{◌≡◌, true, false, MatchOption};
-ghost use Rattle.time_readers.specs.IsoAnswers.{GivesPart, GivesPartOrFault};
+ghost use Rattle.time_readers.specs.IsoPieces.{GivesPart, GivesPartOrFault};
 ghost use Rattle.time_readers.specs.IsoDates.{iso_date, date_text};
-ghost use Rattle.time_readers.specs.IsoDatesAndTimes.{GivesDateAndTime};
-ghost use Rattle.time_readers.specs.IsoKinds.{not_basic, is_extended, basic_where_unknown, extended_where_unknown};
-ghost use Rattle.time_readers.specs.IsoTimes.{time_text};
+ghost use Rattle.time_readers.specs.IsoTimes.{GivesDateAndTime, not_basic, is_extended, basic_where_unknown, extended_where_unknown, time_text};
 
 pub mod fast;
 mod grammar;
 
-pub use grammar::fractions::{floor_fraction, round_fraction};
-pub use grammar::offsets::offset;
 pub use grammar::pieces::{day, dayk, dayo, float, hour, min, month, week, year};
+pub use grammar::{floor_fraction, offset, round_fraction};
 use std::num::NonZero;
 use time_values::error::ParseFromDescription;
 use time_values::{Month, Weekday};
@@ -155,7 +152,7 @@ pub fn date(input: &[u8]) -> Result<Part<'_, DateNumbers>, ParseFromDescription>
 {
     match fast::date(input) {
         Some(found) => Ok(found),
-        None => grammar::dates::date(input),
+        None => grammar::date(input),
     }
 }
 
@@ -190,6 +187,6 @@ pub fn date_and_time(input: &[u8]) -> Result<DateAndTime<'_>, ParseFromDescripti
     }
     match fast::basic_date_and_time(input) {
         Some(found) => Ok(found),
-        None => grammar::dates_and_times::date_and_time(input),
+        None => grammar::date_and_time(input),
     }
 }

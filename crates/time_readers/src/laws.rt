@@ -1,7 +1,7 @@
 //! Laws of the definitions that the contracts of this crate cite: each function does nothing, and its
 //! contract is the law.
 ghost use Rattle.std.specs.Prelude.{ℕ, List, Bool, true, false};
-ghost use Rattle.time_values.specs.Range.{greatest_year};
+ghost use Rattle.time_values.specs.Calendar.{greatest_year};
 ghost use Rattle.time_readers.specs.Direct.{IsDirectRfc3339, RefusesRfc3339, IsDirectRfc2822, RefusesRfc2822};
 ghost use Rattle.time_readers.specs.Readers.{Reader};
 ghost use Rattle.time_readers.specs.Laws.{OneForm, Takes, IsRepeated, IsoPiecesAreCuts, OneTimeRow, OneOffsetRow, OneFraction, RangedForms, OneDirect};
@@ -23,6 +23,7 @@ pub fn law_one_mail_date()
 {}
 
 /// A text of RFC 3339, or a mail date, with its ranges is one without, whose numbers lie in the ranges.
+#[tactic(auto, using(crate::proofs::RangedForms::ranged_forms, crate::proofs::RangedMail::ranged_mail))]
 pub fn law_ranged_forms()
     ensures rfc3339 { RangedForms (rfc3339.HasForm true) (rfc3339.HasForm false) rfc3339.InRanges }
     ensures rfc2822 { RangedForms (rfc2822.HasForm true) (rfc2822.HasForm false) rfc2822.InRanges }
@@ -45,6 +46,7 @@ pub fn law_one_time_row()
 {}
 
 /// For one input and kind at most one row of the table of offsets of ISO 8601 fits.
+#[tactic(auto, using(crate::proofs::IsoTimes::one_offset_row))]
 pub fn law_one_offset_row()
     ensures { OneOffsetRow }
 {}

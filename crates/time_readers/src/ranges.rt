@@ -1,7 +1,7 @@
 //! Numbers of places, whose range is asked or not.
 ghost use Rattle.std.specs.Prelude.{IsTrue, ◌↔◌};
-ghost use Rattle.time_digits.specs.Cuts.{Finds};
-ghost use Rattle.time_readers.specs.Ranges.{IsTwoDigits, IsWithin};
+ghost use Rattle.time_digits.specs.Digits.{Finds};
+ghost use Rattle.time_readers.specs.Readers.{IsTwoDigits, IsWithin};
 
 use crate::ParsedItem;
 use crate::combinator::two_digits;

@@ -6,7 +6,7 @@
 ghost use Rattle.std.specs.Prelude.{◌≡◌, MatchResult, false, option_map};
 ghost use Rattle.time_values.specs.Refusal.{refusal_of_description};
 ghost use Rattle.time_readers.specs.MailBlanks as spec;
-ghost use Rattle.time_readers.specs.MailZones.{zone_literal};
+ghost use Rattle.time_readers.specs.MailBlanks.{zone_literal};
 ghost use Rattle.time_readers.specs.PlaceAnswers.{Reads, Walks};
 ghost use Rattle.time_readers.specs.Rfc2822.{Asks, day_places, to_offset_places, offset_places, HasForm, FailsAt, fault};
 ghost use Rattle.time_readers.specs.declared.rfc2822.Place.TheVariants as place;
@@ -15,7 +15,7 @@ pub mod fast;
 mod grammar;
 
 use crate::{ParsedItem, Sign};
-use grammar::{blanks, zones};
+use grammar::blanks;
 use time_values::error::ParseFromDescription;
 use time_values::{Month, Weekday};
 
@@ -287,5 +287,5 @@ pub fn opt_cfws_colon_opt_cfws(input: &[u8]) -> Option<ParsedItem<'_, ()>>
 pub fn zone_literal(input: &[u8]) -> Option<ParsedItem<'_, i8>>
     ensures { option_map (λ p. (p.1, p.0.now)) result ≡ zone_literal input.now }
 {
-    zones::zone_literal(input)
+    blanks::zone_literal(input)
 }

@@ -10,7 +10,7 @@ use Rattle.time_values.specs.declared.month.Month.{Month}
 use Rattle.time_values.specs.declared.month.Month.TheVariants.{January, February, March, April, May, June, July, August, September, October, November, December}
 use Rattle.time_values.specs.declared.weekday.Weekday.{Weekday}
 use Rattle.time_values.specs.declared.weekday.Weekday.TheVariants.{Monday, Tuesday, Wednesday, Thursday, Friday, Saturday, Sunday}
-use Rattle.time_values.specs.DateRefusals.{is_within}
+use Rattle.time_values.specs.Dates.{is_within}
 use Rattle.time_values.specs.Instants.{first_instant, last_instant, is_instant}
 use Rattle.time_values.proofs.InstantLemmas.{is_instant-IsInstant}
 use Rattle.time_values.proofs.NumberLemmas.{month_number_in, days_from_monday_in}
@@ -18,7 +18,7 @@ use Rattle.time_record.specs.Record.{Record, IsInRanges}
 use Rattle.time_record.specs.Cells.{bit, build, option_at, value_at, is_one, bool_cell, month_in, month_cell, weekday_in, weekday_cell, IsCell, IsSound, or_zero, from_bits, bits_of, mask_of, bytes_of, shorts_of, words_of}
 use Rattle.time_record.specs.CellAnswers.{holds}
 use Rattle.time_record.specs.Laws.{HeldInRanges}
-use Rattle.time_record.specs.Layout.{record_of, fields_of, AreSound}
+use Rattle.time_record.specs.Inverse.{record_of, fields_of, AreSound}
 use Rattle.time_record.specs.declared.parsed.Parsed.TheInside.{Inside}
 
 -- ---- what is held is in ranges

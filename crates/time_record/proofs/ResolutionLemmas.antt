@@ -1,6 +1,7 @@
 -- A record makes one value of each kind, or one refusal.
-use Rattle.std.proofs.Common.{◌≡◌, ℕ, ℤ, Bool, false, if◌then◌else◌, Option, Some, None, Result, Ok, Err, MatchOption, IsOkAnd, ◌⊎◌, inl, inr, sym, ap, subst, ◌∙◌, arith}
 use Rattle.std.specs.Prelude.{unwrap_or}
+use Rattle.std.proofs.Common.{◌≡◌, ℕ, ℤ, Bool, false, if◌then◌else◌, Option, Some, None, Result, Ok, Err, MatchOption, IsOkAnd, ◌⊎◌, inl, inr, sym, ap, subst, ◌∙◌, arith, refl}
+use Rattle.std.proofs.lemmas.Int.{ints}
 use Rattle.time_values.specs.declared.date.Date.{Date}
 use Rattle.time_values.specs.declared.offset_date_time.OffsetDateTime.{OffsetDateTime}
 use Rattle.time_values.specs.declared.plain_date_time.PlainDateTime.{PlainDateTime}
@@ -10,15 +11,13 @@ use Rattle.time_values.specs.declared.utc_date_time.UtcDateTime.{UtcDateTime}
 use Rattle.time_values.specs.declared.utc_offset.UtcOffset.{UtcOffset}
 use Rattle.time_values.specs.Instants.{IsInstant, IsLeapSecondMoment, IsLeapSecondStandIn, clock_nanos, instant}
 use Rattle.time_values.specs.Offsets.{HasOffset, IsUtc, offset_refusal}
-use Rattle.time_values.specs.Range.{greatest_year}
+use Rattle.time_values.specs.Calendar.{greatest_year}
 use Rattle.time_values.specs.Refusal.{Refusal, insufficient}
 use Rattle.time_values.specs.Times.{HasClock, time_refusal}
-use Rattle.time_values.specs.Weekday.{days_from_monday}
-use Rattle.time_values.proofs.InstantLemmas.{clock_nanos_range}
-use Rattle.time_values.proofs.SameLemmas.{same_date_by_iso_week, same_date_by_ordinal, same_date_by_parts, same_date_by_week, same_moment, same_offset, same_offset_by_parts, same_time_by_clock, same_timestamp}
+use Rattle.time_values.specs.Names.{days_from_monday}
+use Rattle.time_values.proofs.InstantLemmas.{clock_nanos_range, same_date_by_iso_week, same_date_by_ordinal, same_date_by_parts, same_date_by_week, same_moment, same_offset, same_offset_by_parts, same_time_by_clock, same_timestamp, instant_is}
 use Rattle.time_record.specs.Record.{Record}
-use Rattle.time_record.specs.Resolution.{IsConstructed, IsDated, IsInUtc, IsInstantOfParts, IsMoment, IsMomentOfParts, IsOffset, IsOffsetOr, IsOffsetOrUtc, IsPlain, IsStamped, IsTimed, IsTimestamp, IsUtcMoment, IsUtcMomentOfParts, Judged, Then, Clock, clock_of, is_leap_second, offset_part, offset_seconds_of, stand_in}
-use Rattle.time_record.specs.Rows.{HasRow, IsRowDate, Row, by_iso_week, by_monday_week, by_month_and_day, by_ordinal, by_sunday_week, first_row}
+use Rattle.time_record.specs.Resolution.{IsConstructed, IsDated, IsInUtc, IsInstantOfParts, IsMoment, IsMomentOfParts, IsOffset, IsOffsetOr, IsOffsetOrUtc, IsPlain, IsStamped, IsTimed, IsTimestamp, IsUtcMoment, IsUtcMomentOfParts, Judged, Then, Clock, clock_of, is_leap_second, offset_part, offset_seconds_of, stand_in, HasRow, IsRowDate, Row, by_iso_week, by_monday_week, by_month_and_day, by_ordinal, by_sunday_week, first_row}
 
 -- at most one value has the property
 abbrev pub IsOne : {A : Type 0} → (A → Type 0) → Type 0
@@ -218,3 +217,18 @@ unfolding IsTimestamp
 IsTimestamp-one r =
     MatchOption-one r.unix_timestamp_nanos (IsInstantOfParts greatest_year r) (λ n s. IsOkAnd s (λ v. v.nanoseconds ≡ n)) (IsInstantOfParts-one r)
     (λ n. IsOkAnd-one (λ (v : Timestamp). v.nanoseconds ≡ n) (λ a b h k. same_timestamp a b (h ∙ sym k)))
+
+-- ---- The moments of timestamps
+
+-- a moment as it is
+pub IsStamped-none : (n : ℤ) (d : Date) (t : Time) → clock_nanos greatest_year d t ≡ n → IsStamped greatest_year n None d t
+IsStamped-none n d t e = (t, e, (refl, refl, refl, refl))
+
+-- and with another nanosecond in its second
+pub IsStamped-some : (n : ℤ) (k : ℕ) (from d : Date) (t time : Time) → clock_nanos greatest_year from t ≡ n → d ≡ from →
+    HasClock t.hour t.minute t.second k time → IsStamped greatest_year n (Some k) d time
+IsStamped-some n k from d t time e same h = (t, ap (λ x. clock_nanos greatest_year x t) same ∙ e, h)
+
+-- without an offset a clock shows UTC
+pub clock_nanos-utc : (n : ℤ) (d : Date) (t : Time) (o : UtcOffset) → IsUtc o → instant greatest_year d t o ≡ n → clock_nanos greatest_year d t ≡ n
+clock_nanos-utc n d t o utc e = omega (arith, ints, instant_is d t o, utc)

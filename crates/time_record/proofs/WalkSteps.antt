@@ -1,18 +1,115 @@
 -- How the answer and the count of trees in turn follow from those of their beginnings. `Y` is the greatest year.
-use Rattle.std.proofs.Common.{◌≡◌, ℕ, ◌+◌, ◌-◌, ◌≤◌, List, refl, sym, subst, inl, inr, arith, Result, Ok, Err}
 use Rattle.std.specs.Borrow.{Bor}
-use Rattle.time_values.specs.declared.error.ParseFromDescription.{ParseFromDescription}
+use Rattle.std.proofs.Common.{◌≡◌, ℕ, zero, suc, ◌+◌, ◌-◌, ◌<◌, ◌≤◌, List, [], ◌∷◌, length, drop, get_or, map, refl, ap, sym, ◌∙◌, subst, inr, arith, inl, Result, Ok, Err, take, length-take, length-drop}
+use Rattle.std.proofs.Math.Seq.{drop-nil}
+use Rattle.std.proofs.lemmas.List.{drop_all, take_all}
 use Rattle.time_values.specs.Refusal.{Refusal}
-use Rattle.time_components.specs.Tree.{Tree, Trees, sequence, none, more}
-use Rattle.time_record.specs.Answer.{Answers}
-use Rattle.time_record.specs.Count.{Begins, BeginsAll, Counts, CountsAll, raised}
-use Rattle.time_record.specs.WalkFast.{IsLeaf}
-use Rattle.time_record.specs.Reading.{NoReading, Reads, ReadsAll, IsFault, Refuses, RefusesAll}
+use Rattle.time_values.specs.declared.error.ParseFromDescription.{ParseFromDescription}
+use Rattle.time_components.specs.Tree.{Tree, literal, component, trees, Trees, sequence, none as tree_none, more, group_tree, further, steps_after, steps_trees, tree_at, trees_in}
+use Rattle.time_components.specs.declared.inspect.Group.{Group}
+use Rattle.time_components.specs.declared.inspect.Step.{Step}
+use Rattle.time_components.specs.declared.inspect.Step.TheVariants as step
+use Rattle.time_record.specs.Reading.{Begins, BeginsAll, raised, Reads, ReadsAll, RefusesAll, Answers, Counts, CountsAll, NoReading, IsFault, Refuses}
+use Rattle.time_record.specs.WalkSteps.{IsLeaf, ReadsLeaves, Goes}
 use Rattle.time_record.specs.Record.{Record}
-use Rattle.time_record.specs.WalkSteps.{Goes}
-use Rattle.time_record.proofs.Counting.{BeginsAll-within_places}
-use Rattle.time_record.proofs.Leaves.{Begins-leaf}
-use Rattle.time_record.proofs.Steps.{ReadsAll-more, RefusesAll-here, RefusesAll-more}
+use Rattle.time_record.proofs.Counting.{Counted, BeginsAll-within_places}
+use Rattle.time_record.proofs.Unique.{trees_from, trees_from-item, ReadsAll-more, RefusesAll-more, Continues, RefusesAll-here}
+
+-- ---- Leaves in front of a list, read one after another. `Y` is the greatest year.
+
+-- The leaves from an index on, after those before it, are leaves from the first on.
+pub record GoesOn (Y : ℕ) {X : Type 0} (f : X → Tree) (xs : List X) (first i : ℕ)
+    (b0 : List ℕ) (r0 : Record) (b : List ℕ) (r : Record) : Type 0 where
+  pub least : first ≤ i
+  pub within : i ≤ length xs
+  pub leaves : (n : ℕ) (rest : List ℕ) (q : Record) → ReadsLeaves Y (trees_from f i xs) n b r rest q →
+      ReadsLeaves Y (trees_from f first xs) ((i - first) + n) b0 r0 rest q
+
+module _ {Y : ℕ} {X : Type 0} {f : X → Tree} {xs : List X} {first i : ℕ}
+    {b0 : List ℕ} {r0 : Record} {b : List ℕ} {r : Record} (k : GoesOn Y f xs first i b0 r0 b r) where
+  -- one more
+  pub GoesOn-more : {x : X} → i < length xs → x ≡ get_or xs i x → IsLeaf (f x) → {mid : List ℕ} {q : Record} → Reads Y (f x) b r mid q →
+      GoesOn Y f xs first (i + 1) b0 r0 mid q
+  unfolding ReadsLeaves
+  GoesOn-more {x} within is leaf {mid} {q} s = let least = k.least in record {
+    least = omega arith;
+    within = omega arith;
+    leaves = λ n rest p h.
+        let here = sym (trees_from-item f xs i x within is) in
+        let with_it = subst (λ ts. ReadsLeaves Y ts (suc n) b r rest p) here (leaf, (mid, q, s, h)) in
+        subst (λ m. ReadsLeaves Y (trees_from f first xs) m b0 r0 rest p) (omega arith) (k.leaves (suc n) rest p with_it);
+  }
+
+  -- no more
+  pub GoesOn-end : ReadsLeaves Y (trees_from f first xs) (i - first) b0 r0 b r
+  unfolding ReadsLeaves
+  GoesOn-end = subst (λ m. ReadsLeaves Y (trees_from f first xs) m b0 r0 b r) (omega arith) (k.leaves 0 b r (refl, refl))
+
+drop_drop : {X : Type 0} (n i : ℕ) (xs : List X) → drop (i + n) xs ≡ drop n (drop i xs)
+drop_drop n zero xs = let none : zero + n ≡ n = omega arith in ap (λ m. drop m xs) none
+drop_drop n (suc i) [] = drop-nil (suc i + n) ∙ sym (drop-nil n)
+drop_drop n (suc i) (x ∷ xs) =
+    let one_less : suc i + n ≡ suc (i + n) = omega arith in ap (λ m. drop m (x ∷ xs)) one_less ∙ drop_drop n i xs
+
+drop_past : {X : Type 0} (xs : List X) (i j : ℕ) → i ≤ j → drop j xs ≡ drop (j - i) (drop i xs)
+drop_past xs i j least =
+    let same : i + (j - i) ≡ j = omega arith in subst (λ n. drop n xs ≡ drop (j - i) (drop i xs)) same (drop_drop (j - i) i xs)
+
+pub Begins-leaf : (Y : ℕ) (t : Tree) (b : List ℕ) (r : Record) → IsLeaf t → Begins Y t b r 1
+unfolding Begins
+Begins-leaf Y (literal text) b r leaf = refl
+Begins-leaf Y (component w c) b r leaf = refl
+Begins-leaf Y t b r leaf = absurd leaf
+
+-- What the items after the leaves do, all do.
+module _ (Y : ℕ) {X : Type 0} (f : X → Tree) (mid : List ℕ) (q : Record) where
+  reads_after : (n : ℕ) (ys : List X) (b : List ℕ) (r : Record) → ReadsLeaves Y (trees (map f ys)) n b r mid q →
+      (rest : List ℕ) (p : Record) → ReadsAll Y (trees (map f (drop n ys))) mid q rest p → ReadsAll Y (trees (map f ys)) b r rest p
+  unfolding ReadsLeaves
+  reads_after zero ys b r h rest p s = rw (sym h.0, sym h.1) s
+  reads_after (suc n) [] b r h rest p s = absurd h
+  reads_after (suc n) (y ∷ ys) b r (leaf, (x, o, reads, hs)) rest p s =
+      ReadsAll-more Y (f y) (trees (map f ys)) b r x o rest p reads (reads_after n ys x o hs rest p s)
+
+  refuses_after : (n : ℕ) (ys : List X) (b : List ℕ) (r : Record) → ReadsLeaves Y (trees (map f ys)) n b r mid q →
+      (e : Refusal) → RefusesAll Y (trees (map f (drop n ys))) mid q e → RefusesAll Y (trees (map f ys)) b r e
+  unfolding ReadsLeaves
+  refuses_after zero ys b r h e s = rw (sym h.0, sym h.1) s
+  refuses_after (suc n) [] b r h e s = absurd h
+  refuses_after (suc n) (y ∷ ys) b r (leaf, (x, o, reads, hs)) e s =
+      RefusesAll-more Y (f y) (trees (map f ys)) b r x o e reads (refuses_after n ys x o hs e s)
+
+  begins_after : (n : ℕ) (ys : List X) (b : List ℕ) (r : Record) → ReadsLeaves Y (trees (map f ys)) n b r mid q →
+      (m : ℕ) → BeginsAll Y (trees (map f (drop n ys))) mid q m → BeginsAll Y (trees (map f ys)) b r (n + m)
+  unfolding ReadsLeaves BeginsAll
+  begins_after zero ys b r h m s = rw (sym h.0, sym h.1) (subst (BeginsAll Y (trees (map f ys)) mid q) (omega arith) s)
+  begins_after (suc n) [] b r h m s = absurd h
+  begins_after (suc n) (y ∷ ys) b r (leaf, (x, o, reads, hs)) m s =
+      (1, Begins-leaf Y (f y) b r leaf, inr (x, o, reads, n + m, begins_after n ys x o hs m s, omega arith))
+
+-- Past the leaves from an index on, up to another index.
+module _ (Y : ℕ) {X : Type 0} {f : X → Tree} {xs : List X} {i : ℕ} {b0 : List ℕ} {r0 : Record} {b : List ℕ} {r : Record}
+    (j : ℕ) (least : i ≤ j) {mid : List ℕ} {q : Record} (h : ReadsLeaves Y (trees_from f i xs) (j - i) b r mid q) where
+  pub Continues-leaves : Continues Y f xs i b0 r0 b r → Continues Y f xs j b0 r0 mid q
+  Continues-leaves k = record {
+    reads = λ rest p s.
+        let here = subst (λ ys. ReadsAll Y (trees (map f ys)) mid q rest p) (drop_past xs i j least) s in
+        k.reads rest p (reads_after Y f mid q (j - i) (drop i xs) b r h rest p here);
+    refuses = λ e s.
+        let here = subst (λ ys. RefusesAll Y (trees (map f ys)) mid q e) (drop_past xs i j least) s in
+        k.refuses e (refuses_after Y f mid q (j - i) (drop i xs) b r h e here);
+  }
+
+  pub Counted-leaves : (before now next : ℕ) → next ≡ raised now (j - i) → Counted (BeginsAll Y) f xs i b0 r0 b r before now →
+      Counted (BeginsAll Y) f xs j b0 r0 mid q before next
+  Counted-leaves before now next is c = let s = c.stands in record {
+    so_far = c.so_far + (j - i);
+    begins = λ m hs.
+        let here = subst (λ ys. BeginsAll Y (trees (map f ys)) mid q m) (drop_past xs i j least) hs in
+        let all = c.begins ((j - i) + m) (begins_after Y f mid q (j - i) (drop i xs) b r h m here) in
+        subst (BeginsAll Y (trees (map f xs)) b0 r0) (omega arith) all;
+    stands = omega arith;
+  }
 
 -- nothing was read yet
 pub Goes-start : (Y : ℕ) (all : Trees) (b : List ℕ) (r : Record) → Goes Y all b r 0 all b r
@@ -53,7 +150,7 @@ module _ {Y : ℕ} {all : Trees} {b0 : List ℕ} {r0 : Record} {n : ℕ} {left :
         record { unread = refused.unread; fault = refused.fault }
 
   -- nothing is left
-  pub Goes-end : left ≡ none → Reads Y (sequence all) b0 r0 b r
+  pub Goes-end : left ≡ tree_none → Reads Y (sequence all) b0 r0 b r
   unfolding Reads ReadsAll
   Goes-end is = g.reads b r (subst (λ ts. ReadsAll Y ts b r b r) (sym is) (refl, refl))
 
@@ -102,7 +199,7 @@ module _ {Y : ℕ} {all : Trees} {b0 : List ℕ} {r0 : Record} {left : Trees} {b
         }
 
   -- no item is left
-  pub Walked-counts : left ≡ none → CountsAll Y all b0 r0 old now
+  pub Walked-counts : left ≡ tree_none → CountsAll Y all b0 r0 old now
   unfolding BeginsAll
   Walked-counts is =
       let s = w.stands in
@@ -114,13 +211,84 @@ module _ {Y : ℕ} {all : Trees} {b0 : List ℕ} {r0 : Record} {left : Trees} {b
       }
 
 -- a list of one tree
-module _ (Y : ℕ) (all : Trees) (t : Tree) (is : all ≡ more t none) (b : List ℕ) (r : Record) where
+module _ (Y : ℕ) (all : Trees) (t : Tree) (is : all ≡ more t tree_none) (b : List ℕ) (r : Record) where
   pub Answers-one : (read : Result (Bor (List ℕ)) ParseFromDescription) (r' : Record) → Answers Y t b r read r' → Answers Y (sequence all) b r read r'
   unfolding Reads ReadsAll
   Answers-one (Ok rest) r' h = subst (λ ts. Reads Y (sequence ts) b r rest.now r') (sym is) (rest.now, r', h, (refl, refl))
-  Answers-one (Err e) r' h = (Goes-refused (Goes-start Y all b r) t none is h.0, h.1)
+  Answers-one (Err e) r' h = (Goes-refused (Goes-start Y all b r) t tree_none is h.0, h.1)
 
   pub Counts-one : (read : Result (Bor (List ℕ)) ParseFromDescription) (r' : Record) (old now : ℕ) → Answers Y t b r read r' →
       Counts Y t b r old now → CountsAll Y all b r old now
-  Counts-one (Ok rest) r' old now h c = Walked-counts (Walked-reads (Walked-start Y all b r old) t none is now c h) refl
-  Counts-one (Err e) r' old now h c = Walked-counts_refused (Walked-start Y all b r old) t none is now c h.0.unread
+  Counts-one (Ok rest) r' old now h c = Walked-counts (Walked-reads (Walked-start Y all b r old) t tree_none is now c h) refl
+  Counts-one (Err e) r' old now h c = Walked-counts_refused (Walked-start Y all b r old) t tree_none is now c h.0.unread
+
+-- ---- The trees of a row of steps, item by item
+
+same_tree : (f g : List Step → Trees) (s : Step) (behind : List Step) →
+    ((steps : List Step) → length steps ≤ length behind → f steps ≡ g steps) → tree_at f s behind ≡ tree_at g s behind
+same_tree f g (step.Literal b) behind h = refl
+same_tree f g (step.More b) behind h = refl
+same_tree f g (step.Component c) behind h = refl
+same_tree f g (step.Group k len) behind h = ap (group_tree k) (h (take len behind) (omega (arith, length-take len behind)))
+
+pub after_fewer : (s : Step) (behind : List Step) → length (steps_after s behind) ≤ length behind
+after_fewer (step.Literal b) behind = omega (arith, length-drop (length (further behind)) behind)
+after_fewer (step.More b) behind = omega (arith, length-drop (length (further behind)) behind)
+after_fewer (step.Component c) behind = omega arith
+after_fewer (step.Group k len) behind = omega (arith, length-drop len behind)
+
+-- more fuel than steps changes nothing
+enough : (n m : ℕ) (steps : List Step) → length steps ≤ n → length steps ≤ m → trees_in n steps ≡ trees_in m steps
+unfolding trees_in
+enough zero zero steps h k = refl
+enough zero (suc m) [] h k = refl
+enough zero (suc m) (s ∷ steps) h k = absurd (omega arith)
+enough (suc n) zero [] h k = refl
+enough (suc n) zero (s ∷ steps) h k = absurd (omega arith)
+enough (suc n) (suc m) [] h k = refl
+enough (suc n) (suc m) (s ∷ steps) h k =
+    let fewer = after_fewer s steps in
+    ap (λ t. more t (trees_in n (steps_after s steps)))
+    (same_tree (trees_in n) (trees_in m) s steps (λ some l. enough n m some (omega arith) (omega arith)))
+    ∙ ap (λ ts. more (tree_at (trees_in m) s steps) ts) (enough n m (steps_after s steps) (omega arith) (omega arith))
+
+-- no step is left
+pub steps_trees-end : (left : List Step) → length left ≤ 0 → steps_trees left ≡ tree_none
+unfolding trees_in
+steps_trees-end [] h = refl
+steps_trees-end (s ∷ left) h = absurd (omega arith)
+
+-- what stands behind a first step, as a pattern has it
+abbrev pub behind_first : List Step → List Step
+behind_first left = take (length left - 1) (drop 1 left)
+
+pub behind_is : (left : List Step) → 1 ≤ length left → behind_first left ≡ drop 1 left
+behind_is left h = take_all (length left - 1) (drop 1 left) (omega (arith, length-drop 1 left))
+
+first_of_drop : (left : List Step) (x : Step) → 1 ≤ length left → x ≡ get_or left 0 x →
+    steps_trees left ≡ more (tree_at steps_trees x (drop 1 left)) (steps_trees (steps_after x (drop 1 left)))
+unfolding trees_in
+first_of_drop [] x within is = absurd (omega arith)
+first_of_drop (s ∷ left) x within is =
+    let fewer = after_fewer s left in
+    ap (λ t. more t (trees_in (length left) (steps_after s left)))
+    (same_tree (trees_in (length left)) steps_trees s left (λ some l. enough (length left) (length some) some l (omega arith)))
+    ∙ ap (λ ts. more (tree_at steps_trees s left) ts) (enough (length left) (length (steps_after s left)) (steps_after s left) fewer (omega arith))
+    ∙ ap (λ y. more (tree_at steps_trees y left) (steps_trees (steps_after y left))) (sym is)
+
+-- the item of the first step, and those after it
+pub first_item : (left : List Step) (x : Step) → 1 ≤ length left → x ≡ get_or left 0 x →
+    steps_trees left ≡ more (tree_at steps_trees x (behind_first left)) (steps_trees (steps_after x (behind_first left)))
+first_item left x within is =
+    first_of_drop left x within is
+    ∙ ap (λ ys. more (tree_at steps_trees x ys) (steps_trees (steps_after x ys))) (sym (behind_is left within))
+
+-- a row that is one group
+pub whole_group : (steps : List Step) (g : Group) (len : ℕ) → 1 ≤ length steps → step.Group g len ≡ get_or steps 0 (step.Group g len) →
+    length (behind_first steps) ≤ len → steps_trees steps ≡ more (group_tree g (steps_trees (behind_first steps))) tree_none
+whole_group steps g len within is all =
+    let inside = behind_first steps in
+    first_item steps (step.Group g len) within is
+    ∙ ap (λ ys. more (group_tree g (steps_trees ys)) (steps_trees (drop len inside))) (take_all len inside all)
+    ∙ ap (λ ys. more (group_tree g (steps_trees inside)) (steps_trees ys)) (drop_all len inside all)
+    ∙ ap (λ ts. more (group_tree g (steps_trees inside)) ts) (steps_trees-end [] (omega arith))

@@ -6,8 +6,7 @@ use Rattle.std.specs.Int.{bit_at}
 use Rattle.time_values.specs.declared.month.Month.{Month}
 use Rattle.time_values.specs.declared.weekday.Weekday.{Weekday}
 use Rattle.time_values.specs.Instants.{first_instant, last_instant}
-use Rattle.time_values.specs.Month.{month_at, month_number}
-use Rattle.time_values.specs.Weekday.{days_from_monday, weekday_at}
+use Rattle.time_values.specs.Names.{month_at, month_number, days_from_monday, weekday_at}
 use Rattle.time_record.specs.Record.{Record}
 
 -- whether bit i of a mask is set

@@ -1,16 +1,16 @@
 -- The fields of a `Parsed` come back from its record.
-use Rattle.std.proofs.Common.{◌≡◌, ℕ, zero, suc, ◌+◌, ◌*◌, ◌/◌, ◌%◌, ◌^◌, ◌<◌, ◌≤◌, ◌≤ℤ◌, ℤ, pos, negsuc, neg_ℤ, unsigned_abs, Bool, true, false, cond, Some, None, is_some, List, [], ◌∷◌, length, get_or, drop, eqb, refl, sym, ap, ◌∙◌, arith, add-one}
 use Rattle.std.specs.Int.{bit_at}
 use Rattle.std.specs.Option.{option_map}
+use Rattle.std.proofs.Common.{◌≡◌, ℕ, zero, suc, ◌+◌, ◌*◌, ◌/◌, ◌%◌, ◌^◌, ◌<◌, ◌≤◌, ◌≤ℤ◌, ℤ, pos, negsuc, neg_ℤ, unsigned_abs, Bool, true, false, cond, Some, None, is_some, List, [], ◌∷◌, length, get_or, drop, eqb, refl, sym, ap, ◌∙◌, arith, add-one}
 use Rattle.std.proofs.lemmas.Int.{ints}
 use Rattle.std.proofs.lemmas.List.{drop_more, drop_all}
 use Rattle.std.proofs.lemmas.Nat.{mod-pow-add, shr-shr}
 use Rattle.std.proofs.lemmas.Nat.Bits.{bit_at-lt}
 use Rattle.time_values.specs.Instants.{first_instant, last_instant}
-use Rattle.time_values.specs.Month.{month_at, month_number}
-use Rattle.time_values.specs.Weekday.{days_from_monday, weekday_at}
+use Rattle.time_values.specs.Names.{month_at, month_number, days_from_monday, weekday_at}
 use Rattle.time_record.specs.Record.{Record}
 use Rattle.time_record.specs.Cells.{bit, value_at, option_at, is_one, bool_cell, month_in, month_cell, weekday_in, weekday_cell, build, IsSound, or_zero, from_bits, bits_of, mask_of, bytes_of, shorts_of, words_of}
+use Rattle.time_record.specs.declared.parsed.Parsed.TheInside.{Inside}
 
 -- ---- one cell
 
@@ -207,3 +207,34 @@ module _ (mask : ℕ) (bytes shorts words : List ℤ) (stamp : ℤ) where
 
     pub stamp_back : or_zero seen.unix_timestamp_nanos ≡ stamp
     stamp_back = integer_back (first_instant Y) (last_instant Y) (bit mask 22) stamp (sound.cells 22 (omega arith))
+
+-- ---- The fields of a `Parsed` as a record, and back
+
+-- the record that the fields hold
+unfoldable pub record_of : Inside → Record
+record_of a = build (option_at (bit a.mask) (value_at a.bytes a.shorts a.words a.stamp)) (bit a.mask)
+
+-- the fields that hold a record
+unfoldable pub fields_of : Record → Inside
+fields_of r = record {
+  mask = mask_of r;
+  bytes = bytes_of r;
+  shorts = shorts_of r;
+  words = words_of r;
+  stamp = or_zero r.unix_timestamp_nanos;
+}
+
+-- the fields keep what is asked of them
+abbrev pub AreSound : ℕ → Inside → Type 0
+AreSound Y a = IsSound Y a.mask a.bytes a.shorts a.words a.stamp
+
+-- they come back from their record
+pub fields_back : (Y : ℕ) (a : Inside) → AreSound Y a → fields_of (record_of a) ≡ a
+unfolding fields_of record_of
+fields_back Y a sound i = record {
+  mask = mask_back a.mask a.bytes a.shorts a.words a.stamp Y sound i;
+  bytes = bytes_back a.mask a.bytes a.shorts a.words a.stamp Y sound i;
+  shorts = shorts_back a.mask a.bytes a.shorts a.words a.stamp Y sound i;
+  words = words_back a.mask a.bytes a.shorts a.words a.stamp Y sound i;
+  stamp = stamp_back a.mask a.bytes a.shorts a.words a.stamp Y sound i;
+}

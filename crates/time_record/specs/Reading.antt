@@ -1,9 +1,13 @@
 -- How a tree is read over a record, and why it is not. `Y` is the greatest year.
-use Rattle.std.specs.Prelude.{◌≡◌, ℕ, ◌⊎◌, List, ◌++◌, Bool, Some}
-use Rattle.time_values.specs.Refusal.{Refusal, literal as of_literal}
+use Rattle.std.specs.Prelude.{◌≡◌, ℕ, ◌⊎◌, List, ◌++◌, Bool, Some, Result, Ok, Err, false, ◌+◌, ◌-◌, ◌^◌, ◌≤◌, min}
+use Rattle.std.specs.Borrow.{Bor}
+use Rattle.time_values.specs.Refusal.{Refusal, literal as of_literal, refusal_of_description}
+use Rattle.time_values.specs.declared.error.ParseFromDescription.{ParseFromDescription}
 use Rattle.time_components.specs.declared.format_description.Component.{Component}
-use Rattle.time_components.specs.Spelling.{Value, Spells}
+use Rattle.time_components.specs.Spelling.{Value, Spells, BeginsCharacter}
 use Rattle.time_components.specs.Tree.{Tree, Trees, literal, component, sequence, optional, first_of, none, more}
+use Rattle.time_components.specs.declared.format_description.Component.TheVariants.{Ignore}
+use Rattle.time_components.specs.declared.modifier.Ignore.{Ignore as Ignore'}
 use Rattle.time_record.specs.Components.{component_fault, put_value}
 use Rattle.time_record.specs.Record.{Record}
 
@@ -77,3 +81,110 @@ pub record Refuses (Y : ℕ) (t : Tree) (bytes : List ℕ) (r : Record) (e : Ref
 pub record RefusesAll (Y : ℕ) (ts : Trees) (bytes : List ℕ) (r : Record) (e : Refusal) : Type 0 where
   pub unread : NoReadingAll Y ts bytes r
   pub fault : IsFaultAll Y ts bytes r e
+
+-- ---- What reading a tree answers. `Y` is the greatest year.
+
+-- the rest and the record of the tree's reading; or, where it has none, its fault and the record as it was
+abbrev pub Answers :
+    ℕ → Tree → List ℕ → Record → Result (Bor (List ℕ)) ParseFromDescription → Record → Type 0
+Answers Y t bytes r (Ok rest) r' = Reads Y t bytes r rest.now r'
+Answers Y t bytes r (Err e) r' = Refuses Y t bytes r (refusal_of_description e) × (r' ≡ r)
+
+-- ---- Readings that leave each character whole. `Y` is the greatest year.
+
+-- a component; where it is an `Ignore`, what it leaves begins with a whole character
+abbrev pub CleanComponent : ℕ → Component → List ℕ → Record → Type 0
+CleanComponent Y c bytes r =
+    (modifiers : Ignore') (rest : List ℕ) (q : Record)
+    → c ≡ Ignore modifiers → ReadsComponent Y false c bytes r rest q → BeginsCharacter rest
+
+unfoldable mutual
+  -- of the items that are begun to read the tree, no `Ignore` ends inside a character
+  pub Clean : ℕ → Tree → List ℕ → Record → Type 0
+  Clean Y (literal t) bytes r = Unit {0}
+  Clean Y (component whole c) bytes r = CleanComponent Y c bytes r
+  Clean Y (sequence ts) bytes r = CleanAll Y ts bytes r
+  Clean Y (optional t) bytes r = Clean Y t bytes r
+  Clean Y (first_of ts) bytes r = CleanFirst Y ts bytes r
+
+  -- of trees in turn, up to and with the first that reads nothing
+  pub CleanAll : ℕ → Trees → List ℕ → Record → Type 0
+  CleanAll Y none bytes r = Unit {0}
+  CleanAll Y (more t ts) bytes r =
+      Clean Y t bytes r × ((mid : List ℕ) (q : Record) → Reads Y t bytes r mid q → CleanAll Y ts mid q)
+
+  -- of alternatives, up to and with the first that reads something
+  pub CleanFirst : ℕ → Trees → List ℕ → Record → Type 0
+  CleanFirst Y none bytes r = Unit {0}
+  CleanFirst Y (more t ts) bytes r =
+      Clean Y t bytes r × (NoReading Y t bytes r → CleanFirst Y ts bytes r)
+
+-- the tree with no component marked to end between characters
+abbrev mutual
+  pub unmarked : Tree → Tree
+  unmarked (literal t) = literal t
+  unmarked (component whole c) = component false c
+  unmarked (sequence ts) = sequence (unmarked_all ts)
+  unmarked (optional t) = optional (unmarked t)
+  unmarked (first_of ts) = first_of (unmarked_all ts)
+
+  pub unmarked_all : Trees → Trees
+  unmarked_all none = none
+  unmarked_all (more t ts) = more (unmarked t) (unmarked_all ts)
+
+-- ---- How many items a reading begins, and how many there are. `Y` is the greatest year.
+
+-- the number of nodes
+abbrev mutual
+  pub places : Tree → ℕ
+  places (literal t) = 1
+  places (component whole c) = 1
+  places (sequence ts) = 1 + places_of_all ts
+  places (optional t) = 1 + places t
+  places (first_of ts) = 1 + places_of_all ts
+
+  pub places_of_all : Trees → ℕ
+  places_of_all none = 0
+  places_of_all (more t ts) = places t + places_of_all ts
+
+unfoldable mutual
+  -- To read the tree, or to see that it reads nothing, this many items are begun.
+  pub Begins : ℕ → Tree → List ℕ → Record → ℕ → Type 0
+  Begins Y (literal t) bytes r n = n ≡ 1
+  Begins Y (component whole c) bytes r n = n ≡ 1
+  Begins Y (sequence ts) bytes r n = (k : ℕ) × BeginsAll Y ts bytes r k × (n ≡ 1 + k)
+  Begins Y (optional t) bytes r n = (k : ℕ) × Begins Y t bytes r k × (n ≡ 1 + k)
+  Begins Y (first_of ts) bytes r n = (k : ℕ) × BeginsFirst Y ts bytes r k × (n ≡ 1 + k)
+
+  -- of trees in turn, up to and with the first that reads nothing
+  pub BeginsAll : ℕ → Trees → List ℕ → Record → ℕ → Type 0
+  BeginsAll Y none bytes r n = n ≡ 0
+  BeginsAll Y (more t ts) bytes r n =
+      (k : ℕ) × Begins Y t bytes r k × ((NoReading Y t bytes r × (n ≡ k))
+      ⊎ ((mid : List ℕ) × (q : Record) × Reads Y t bytes r mid q × (m : ℕ) × BeginsAll Y ts mid q m × (n ≡ k + m)))
+
+  -- of alternatives, up to and with the first that reads something
+  pub BeginsFirst : ℕ → Trees → List ℕ → Record → ℕ → Type 0
+  BeginsFirst Y none bytes r n = n ≡ 0
+  BeginsFirst Y (more t ts) bytes r n =
+      (k : ℕ) × Begins Y t bytes r k × (((mid : List ℕ) × (q : Record) × Reads Y t bytes r mid q × (n ≡ k))
+      ⊎ (NoReading Y t bytes r × (m : ℕ) × BeginsFirst Y ts bytes r m × (n ≡ k + m)))
+
+-- a count and so many more, where it doesn't pass the greatest number of 64 bits
+abbrev pub raised : ℕ → ℕ → ℕ
+raised old n = old + min n (2 ^ 64 - 1 - old)
+
+-- The count rises by the number that is begun, which is at most that many.
+pub record Rises (is_begun : ℕ → Type 0) (most old new : ℕ) : Type 0 where
+  pub begun : ℕ
+  pub begins : is_begun begun
+  pub within : begun ≤ most
+  pub rises : new ≡ raised old begun
+
+-- The count rises by what the tree begins, at most its places.
+abbrev pub Counts : ℕ → Tree → List ℕ → Record → ℕ → ℕ → Type 0
+Counts Y t bytes r = Rises (Begins Y t bytes r) (places t)
+
+-- the same for trees in turn, which are no place themselves
+abbrev pub CountsAll : ℕ → Trees → List ℕ → Record → ℕ → ℕ → Type 0
+CountsAll Y ts bytes r = Rises (BeginsAll Y ts bytes r) (places_of_all ts)

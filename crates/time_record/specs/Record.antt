@@ -2,7 +2,7 @@
 use Rattle.std.specs.Prelude.{◌≡◌, ℕ, ◌/◌, List, [], ◌∷◌, ℤ, pos, unsigned_abs, option_and_then, Bool, true, false, Option, Some, None, IfSome, IsTrue, nat_le, int_lt, if◌then◌else◌}
 use Rattle.time_values.specs.declared.month.Month.{Month}
 use Rattle.time_values.specs.declared.weekday.Weekday.{Weekday}
-use Rattle.time_values.specs.DateRefusals.{is_within}
+use Rattle.time_values.specs.Dates.{is_within}
 use Rattle.time_values.specs.Instants.{is_instant}
 
 -- what was read: an option for each component, and the flags

@@ -1,13 +1,12 @@
 -- No public contract rests on this file.
 --
 -- What a walk over trees in turn does. `Y` is the greatest year.
-use Rattle.std.specs.Prelude.{◌≡◌, ℕ, ◌+◌, ◌<◌, List, ◌∷◌, length, drop}
+use Rattle.std.specs.Prelude.{◌≡◌, ℕ, ◌+◌, ◌<◌, List, ◌∷◌, length, drop, Option, Some, None, zero, suc}
+use Rattle.std.specs.Borrow.{Bor}
 use Rattle.time_values.specs.Refusal.{Refusal}
-use Rattle.time_components.specs.Steps.{further as further_bytes}
-use Rattle.time_components.specs.Tree.{Trees}
-use Rattle.time_components.specs.declared.step.Step.{Step}
-use Rattle.time_record.specs.Count.{places_of_all, BeginsAll, BeginsFirst, Rises}
-use Rattle.time_record.specs.Reading.{ReadsAll, RefusesAll}
+use Rattle.time_components.specs.Tree.{further as further_bytes, Trees, Tree, literal, component, none, more}
+use Rattle.time_components.specs.declared.inspect.Step.{Step}
+use Rattle.time_record.specs.Reading.{places_of_all, BeginsAll, BeginsFirst, Rises, ReadsAll, RefusesAll, NoReading, Reads}
 use Rattle.time_record.specs.Record.{Record}
 
 -- What the trees that are left answer, all of them answer: those before them were read, and so many items begun.
@@ -26,3 +25,35 @@ pub record IsFurther (byte : ℕ) (behind steps : List Step) : Type 0 where
   pub further : further_bytes steps ≡ byte ∷ further_bytes behind
   pub after : drop (length (further_bytes behind)) behind ≡ drop (length (further_bytes steps)) steps
   pub fewer : length behind < length steps
+
+-- ---- What an attempt to read a tree answers. `Y` is the greatest year.
+
+-- The tree has no reading, and the record is as it was.
+pub record Unread (Y : ℕ) (t : Tree) (bytes : List ℕ) (r r' : Record) : Type 0 where
+  pub unread : NoReading Y t bytes r
+  pub same : r' ≡ r
+
+-- the rest and the record of the tree's reading; or it has none, and the record is as it was
+abbrev pub Attempts : ℕ → Tree → List ℕ → Record → Option (Bor (List ℕ)) → Record → Type 0
+Attempts Y t bytes r (Some rest) r' = Reads Y t bytes r rest.now r'
+Attempts Y t bytes r None r' = Unread Y t bytes r r'
+
+-- ---- What the short cuts of the walk answer. `Y` is the greatest year.
+
+-- the rest and the record of a reading; or it isn't read here, and the record is as it was
+abbrev pub MayRead : ℕ → Tree → List ℕ → Record → Option (Bor (List ℕ)) → Record → Type 0
+MayRead Y t bytes r (Some rest) r' = Reads Y t bytes r rest.now r'
+MayRead Y t bytes r None r' = r' ≡ r
+
+-- a literal or a component, which has nothing inside it
+abbrev pub IsLeaf : Tree → Type 0
+IsLeaf (literal t) = Unit {0}
+IsLeaf (component whole c) = Unit {0}
+IsLeaf t = ⊥
+
+-- So many leaves in front are read one after another.
+unfoldable pub ReadsLeaves : ℕ → Trees → ℕ → List ℕ → Record → List ℕ → Record → Type 0
+ReadsLeaves Y ts zero bytes r rest new = (rest ≡ bytes) × (new ≡ r)
+ReadsLeaves Y none (suc n) bytes r rest new = ⊥
+ReadsLeaves Y (more t ts) (suc n) bytes r rest new =
+    IsLeaf t × ((mid : List ℕ) × (q : Record) × Reads Y t bytes r mid q × ReadsLeaves Y ts n mid q rest new)

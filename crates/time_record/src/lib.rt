@@ -4,9 +4,8 @@
 mod format_item;
 pub mod laws;
 mod parsed;
-mod tries;
 mod walk;
 
 pub use format_item::AnyFormatItem;
 pub use parsed::Parsed;
-pub use tries::Tries;
+pub use walk::Tries;

@@ -1,20 +1,21 @@
 //! What a reading of a date and time leaves.
+ghost use Rattle.std.specs.Prelude.{◌≡◌, true, false};
+ghost use Rattle.time_record.specs.Record.{empty};
+
 mod builders;
 mod cells;
 mod component;
-mod debug;
 pub(crate) mod fast;
 mod getters;
 mod parse;
 mod setters;
-#[cfg(test)]
-mod tests;
 mod try_from;
 
-ghost use Rattle.std.specs.Prelude.{◌≡◌, true, false};
-ghost use Rattle.time_record.specs.Record.{empty};
-
-use crate::parsed::cells::{LEAP_SECOND_ALLOWED, OFFSET_IS_NEGATIVE};
+use cells::{
+    ISO_YEAR_CENTURY_IS_NEGATIVE, LEAP_SECOND_ALLOWED, OFFSET_IS_NEGATIVE, OFFSET_MINUTE,
+    OFFSET_SECOND, YEAR_CENTURY_IS_NEGATIVE,
+};
+use std::fmt;
 use std::marker::Model;
 
 /// The components of a date and time, as far as they are known.
@@ -36,11 +37,11 @@ pub struct Parsed {
 
 impl Model for Parsed {
     ghost use Rattle.time_record.specs.Record.{Record};
-    ghost use Rattle.time_values.specs.Range.{greatest_year};
+    ghost use Rattle.time_values.specs.Calendar.{greatest_year};
 
     ghost Value = { Record };
 
-    ghost use Rattle.time_record.specs.Layout.{record_of, fields_of, fields_back, AreSound};
+    ghost use Rattle.time_record.specs.Inverse.{record_of, fields_of, fields_back, AreSound};
 
     ghost view = { record_of };
 
@@ -64,7 +65,7 @@ impl Default for Parsed {
 impl Parsed {
     /// Nothing is known, and no flag stands.
     #[inline]
-    #[tactic(auto, unfolding(crate::specs::Layout::record_of))]
+    #[tactic(auto, unfolding(crate::specs::Inverse::record_of))]
     pub fn new() -> Parsed
         ensures { result ≡ empty }
     {
@@ -100,5 +101,125 @@ impl Parsed {
         ensures { self.new ≡ record self.old { offset_is_negative = false } }
     {
         self.set_flag(OFFSET_IS_NEGATIVE, false);
+    }
+}
+
+impl fmt::Debug for Parsed {
+    fn fmt<W: fmt::Write>(&self, f: &mut fmt::Formatter<W>) -> fmt::Result {
+        f.debug_struct("Parsed")
+            .field("year", &self.year())
+            .field("year_century", &self.year_century())
+            .field("year_last_two", &self.year_last_two())
+            .field("iso_year", &self.iso_year())
+            .field("iso_year_century", &self.iso_year_century())
+            .field("iso_year_last_two", &self.iso_year_last_two())
+            .field("month", &self.month())
+            .field("sunday_week_number", &self.sunday_week_number())
+            .field("monday_week_number", &self.monday_week_number())
+            .field("iso_week_number", &self.iso_week_number())
+            .field("weekday", &self.weekday())
+            .field("ordinal", &self.ordinal())
+            .field("day", &self.day())
+            .field("hour_24", &self.hour_24())
+            .field("hour_12", &self.hour_12())
+            .field("hour_12_is_pm", &self.hour_12_is_pm())
+            .field("minute", &self.minute())
+            .field("second", &self.second())
+            .field("subsecond", &self.subsecond())
+            .field("offset_hour", &self.offset_hour())
+            .field("offset_minute", &self.byte(OFFSET_MINUTE))
+            .field("offset_second", &self.byte(OFFSET_SECOND))
+            .field("unix_timestamp_nanos", &self.unix_timestamp_nanos())
+            .field("offset_is_negative", &self.flag(OFFSET_IS_NEGATIVE))
+            .field(
+                "year_century_is_negative",
+                &self.flag(YEAR_CENTURY_IS_NEGATIVE),
+            )
+            .field(
+                "iso_year_century_is_negative",
+                &self.flag(ISO_YEAR_CENTURY_IS_NEGATIVE),
+            )
+            .field("leap_second_allowed", &self.flag(LEAP_SECOND_ALLOWED))
+            .finish()
+    }
+}
+
+#[cfg(test)]
+mod tests {
+    //! The representation of a record: each option has a bit and a cell of its own, in 64 bytes.
+    use crate::Parsed;
+    use std::mem::size_of;
+    use std::num::NonZero;
+    use time_values::{Month, Weekday};
+
+    #[test]
+    fn each_bit(rt: HostRuntime) {
+        for index in 0..23 {
+            let Some((parsed, value)) = with_option(index) else {
+                panic!(rt; "option {index} is refused");
+            };
+            assert_eq!(rt; parsed.mask, 1 << index, "the bit of option {index}");
+            for cell in 0..23 {
+                let expected = if cell == index { value } else { 0 };
+                assert_eq!(rt;
+                    cell_of(&parsed, cell),
+                    expected,
+                    "cell {cell} of option {index}"
+                );
+            }
+        }
+    }
+
+    #[test]
+    fn record_of_64_bytes(rt: HostRuntime) {
+        assert_eq!(rt; size_of::<Parsed>(), 64);
+    }
+
+    // The record of that option alone, and the value of its cell, which is not 0.
+    fn with_option(index: usize) -> Option<(Parsed, i128)> {
+        let parsed = Parsed::new();
+        let week = NonZero::<u8>::new(53)?;
+        let ordinal = NonZero::<u16>::new(366)?;
+        let day = NonZero::<u8>::new(31)?;
+        let hour = NonZero::<u8>::new(12)?;
+        Some(match index {
+            0 => (parsed.with_year_last_two(99)?, 99),
+            1 => (parsed.with_iso_year_last_two(98)?, 98),
+            2 => (parsed.with_month(Month::December)?, 12),
+            3 => (parsed.with_sunday_week_number(52)?, 52),
+            4 => (parsed.with_monday_week_number(51)?, 51),
+            5 => (parsed.with_iso_week_number(week)?, 53),
+            6 => (parsed.with_weekday(Weekday::Sunday)?, 6),
+            7 => (parsed.with_day(day)?, 31),
+            8 => (parsed.with_hour_24(23)?, 23),
+            9 => (parsed.with_hour_12(hour)?, 12),
+            10 => (parsed.with_hour_12_is_pm(true)?, 1),
+            11 => (parsed.with_minute(59)?, 59),
+            12 => (parsed.with_second(60)?, 60),
+            13 => (parsed.with_offset_hour(-25)?, -25),
+            14 => (parsed.with_offset_minute_signed(-59)?, -59),
+            15 => (parsed.with_offset_second_signed(-58)?, -58),
+            16 => (parsed.with_year_century(9999, false)?, 9999),
+            17 => (parsed.with_iso_year_century(9998, false)?, 9998),
+            18 => (parsed.with_ordinal(ordinal)?, 366),
+            19 => (parsed.with_year(-999_999)?, -999_999),
+            20 => (parsed.with_iso_year(999_999)?, 999_999),
+            21 => (parsed.with_subsecond(999_999_999)?, 999_999_999),
+            22 => (parsed.with_unix_timestamp_nanos(-1)?, -1),
+            _ => return None,
+        })
+    }
+
+    // The value of a cell.
+    fn cell_of(parsed: &Parsed, index: usize) -> i128 {
+        if index < 16 {
+            parsed.bytes[index] as i128
+        } else if index < 19 {
+            parsed.shorts[index - 16] as i128
+        } else if index < 22 {
+            parsed.words[index - 19] as i128
+        } else {
+            parsed.stamp
+        }
     }
 }

@@ -1,7 +1,6 @@
 //! Tests of the texts that are written of descriptions, and the example of their page.
 ghost use Rattle.std.specs.Prelude.{◌≡◌, map, IfOk};
-ghost use Rattle.time_components.specs.Shape.{borrowed_shape};
-ghost use Rattle.time_components.specs.Tree.{sequence, trees};
+ghost use Rattle.time_components.specs.Tree.{borrowed_shape, sequence, trees};
 ghost use Rattle.time_descriptions.specs.Description.{shape};
 
 use crate::describing::texts::is_text;

@@ -1,8 +1,8 @@
 //! Tests of the texts of moments by descriptions: what is written, what can't be, and the example of their page.
 ghost use Rattle.std.specs.Prelude.{◌≡◌, Ok, IfSome, IfNone, IsErr};
-ghost use Rattle.time_components.specs.Steps.{steps_shape};
+ghost use Rattle.time_components.specs.Tree.{steps_shape};
 ghost use Rattle.time_formatting.specs.Texts.{text_of};
-ghost use Rattle.time_values.specs.Range.{greatest_year};
+ghost use Rattle.time_values.specs.Calendar.{greatest_year};
 
 use std::test::Fail;
 use time_components::{Component, Step, modifier};

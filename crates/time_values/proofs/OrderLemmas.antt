@@ -6,16 +6,13 @@ use Rattle.std.proofs.lemmas.Int.{ints}
 use Rattle.std.proofs.lemmas.Cmp.{by_ranked, ranked, int_ranked}
 use Rattle.time_values.specs.declared.date.Date.{Date}
 use Rattle.time_values.specs.declared.time.Time.{Time}
-use Rattle.time_values.specs.Month.{month_number}
-use Rattle.time_values.specs.Calendar.{year_start, days_of_months, ordinal_of}
-use Rattle.time_values.specs.Range.{greatest_year}
+use Rattle.time_values.specs.Names.{month_number}
+use Rattle.time_values.specs.Calendar.{year_start, days_of_months, ordinal_of, greatest_year}
 use Rattle.time_values.specs.Dates.{day_number}
 use Rattle.time_values.specs.Times.{nanos_of_day}
 use Rattle.time_values.specs.Instants.{clock_nanos, nanos_per_day}
-use Rattle.time_values.proofs.DateLemmas.{ordinal_in}
+use Rattle.time_values.proofs.InstantLemmas.{ordinal_in, year_start_later, ordinal_later, clock_nanos_is}
 use Rattle.time_values.proofs.NumberLemmas.{month_number_in}
-use Rattle.time_values.proofs.SameLemmas.{year_start_later, ordinal_later}
-use Rattle.time_values.proofs.InstantLemmas.{clock_nanos_is}
 
 nat_less : (n m : ℕ) → n < m → nat_cmp n m ≡ Less
 nat_less n m h = grind (arith, nat_tests)

@@ -82,3 +82,15 @@ IsIsoWeek Y day year week =
 -- how many ISO weeks a year has: as many as it has Thursdays
 abbrev pub iso_weeks_in : ℕ → ℤ → ℕ
 iso_weeks_in Y year = weekdays_in 3 (year_start Y year) (year_length year)
+
+-- ---- The range of years
+
+-- the greatest year; the least one is its negative
+abbrev pub greatest_year : ℕ
+greatest_year = 999_999
+
+-- ---- How long a duration can be
+
+-- that many nanoseconds have whole seconds, rounded towards 0, of 64 bits
+abbrev pub IsLength : ℤ → Type 0
+IsLength n = IsBetween (neg_ℤ (pos 9_223_372_036_854_775_808_999_999_999)) (pos 9_223_372_036_854_775_807_999_999_999) n

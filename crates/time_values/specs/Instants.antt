@@ -5,7 +5,7 @@ use Rattle.time_values.specs.declared.date.Date.{Date}
 use Rattle.time_values.specs.declared.time.Time.{Time}
 use Rattle.time_values.specs.declared.utc_offset.UtcOffset.{UtcOffset}
 use Rattle.time_values.specs.Calendar.{IsBetween, year_start, day_limit, month_length}
-use Rattle.time_values.specs.Month.{month_number}
+use Rattle.time_values.specs.Names.{month_number}
 use Rattle.time_values.specs.Dates.{day_number, year, month, day}
 use Rattle.time_values.specs.Refusal.{Refusal, range}
 use Rattle.time_values.specs.Times.{nanos_of_day}

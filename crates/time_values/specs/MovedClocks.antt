@@ -2,10 +2,9 @@
 --
 -- Clocks that are moved, in nanoseconds since 1970-01-01T00:00:00 on them.
 use Rattle.std.specs.Prelude.{ℤ, pos, neg_ℤ, ◌+ℤ◌, ◌-ℤ◌, ◌*ℤ◌}
-use Rattle.time_values.specs.Calendar.{IsBetween}
+use Rattle.time_values.specs.Calendar.{IsBetween, greatest_year}
 use Rattle.time_values.specs.Instants.{clock_nanos}
 use Rattle.time_values.specs.Offsets.{offset_seconds}
-use Rattle.time_values.specs.Range.{greatest_year}
 use Rattle.time_values.specs.declared.date.Date.{Date}
 use Rattle.time_values.specs.declared.time.Time.{Time}
 use Rattle.time_values.specs.declared.utc_offset.UtcOffset.{UtcOffset}

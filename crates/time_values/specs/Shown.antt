@@ -2,7 +2,7 @@
 use Rattle.std.specs.Prelude.{ℕ, zero, suc, ◌+◌, ◌/◌, ◌%◌, max, ℤ, pos, int_lt, unsigned_abs, List, [], ◌∷◌, ◌++◌, codes, take, Bool, ◌||◌, ◌==◌, nat_lt, if◌then◌else◌}
 use Rattle.time_values.specs.Dates as Dates
 use Rattle.time_values.specs.Moments.{plain_date, plain_time, utc_date, utc_time, offset_date, offset_time, offset_of}
-use Rattle.time_values.specs.Month.{month_number}
+use Rattle.time_values.specs.Names.{month_number}
 use Rattle.time_values.specs.Offsets as Offsets
 use Rattle.time_values.specs.Times as Times
 use Rattle.time_values.specs.declared.date.Date.{Date}

@@ -1,15 +1,16 @@
-//! Days and moments before and after others.
-ghost use Rattle.std.specs.Prelude.{◌≡◌, ◌+◌, IfSome, IfNone, ◌+ℤ◌, ◌-ℤ◌};
+//! Days and moments before and after others, the time between two, and what clocks with other offsets show.
+ghost use Rattle.std.specs.Prelude.{◌≡◌, ◌+◌, IfSome, IfNone, ◌+ℤ◌, ◌-ℤ◌, pos, neg_ℤ};
 ghost use Rattle.time_values.specs.Calendar as Calendar;
 ghost use Rattle.time_values.specs.Dates as Dates;
-ghost use Rattle.time_values.specs.Durations.{length, nearest_instant};
+ghost use Rattle.time_values.specs.Moments.{length, nearest_instant, plain_instant, utc_instant, offset_clock, offset_of, offset_instant};
 ghost use Rattle.time_values.specs.Instants.{IsInstant};
-ghost use Rattle.time_values.specs.Moments.{plain_instant, utc_instant, offset_clock, offset_of};
-ghost use Rattle.time_values.specs.Range.{greatest_year};
+ghost use Rattle.time_values.specs.Calendar.{greatest_year, IsBetween};
+ghost use Rattle.time_values.specs.MovedClocks.{moved_clock, other_clock};
 
 use crate::days::DAY_LIMIT;
 use crate::utc_date_time::{MAX_NANOS, MIN_NANOS, is_instant};
-use crate::{Date, Duration, OffsetDateTime, PlainDateTime, UtcDateTime};
+use crate::{Date, Duration, OffsetDateTime, PlainDateTime, Time, UtcDateTime, UtcOffset};
+use std::ops::Sub;
 
 impl Date {
     /// The next day, or `None` of `Date::MAX`.
@@ -202,4 +203,68 @@ impl OffsetDateTime {
         let clock = UtcDateTime::new(self.date(), self.time()).saturating_sub(duration);
         OffsetDateTime::new_in_offset(clock.date(), clock.time(), self.offset())
     }
+}
+
+/// By their instants: below zero where the first moment is the earlier one.
+impl Sub<UtcDateTime> for UtcDateTime {
+    type Output = Duration;
+
+    ghost sub_gives = { λ a b d. length d ≡ utc_instant greatest_year a -ℤ utc_instant greatest_year b };
+
+    fn sub(self, rhs: UtcDateTime) -> Duration {
+        Duration::between(self.unix_timestamp_nanos(), rhs.unix_timestamp_nanos())
+    }
+}
+
+/// By what their clocks show.
+impl Sub<PlainDateTime> for PlainDateTime {
+    type Output = Duration;
+
+    ghost sub_gives = { λ a b d. length d ≡ plain_instant greatest_year a -ℤ plain_instant greatest_year b };
+
+    fn sub(self, rhs: PlainDateTime) -> Duration {
+        self.as_utc() - rhs.as_utc()
+    }
+}
+
+/// By their instants, whatever their offsets.
+impl Sub<OffsetDateTime> for OffsetDateTime {
+    type Output = Duration;
+
+    ghost sub_gives = { λ a b d. length d ≡ offset_instant greatest_year a -ℤ offset_instant greatest_year b };
+
+    fn sub(self, rhs: OffsetDateTime) -> Duration {
+        Duration::between(self.unix_timestamp_nanos(), rhs.unix_timestamp_nanos())
+    }
+}
+
+// What a clock with the second offset shows when one with the first shows that date and time, or `None` where there is
+// no such date.
+pub(crate) fn clock_with(
+    date: Date,
+    time: Time,
+    from: UtcOffset,
+    to: UtcOffset,
+) -> Option<UtcDateTime>
+    ensures value { IfSome result (λ u. utc_instant greatest_year u ≡ other_clock date time from to) }
+    ensures none { IfNone result (¬ (IsInstant greatest_year (other_clock date time from to))) }
+{
+    moved(date, time, to.whole_seconds() - from.whole_seconds())
+}
+
+// The date and time that many seconds later on the clock, less than three days, or `None` where there is no such date.
+#[tactic(auto, using(crate::proofs::InstantLemmas::instant_facts))]
+fn moved(date: Date, time: Time, seconds: i32) -> Option<UtcDateTime>
+    requires { IsBetween (neg_ℤ (pos 259_199)) (pos 259_199) seconds }
+    ensures value { IfSome result (λ u. utc_instant greatest_year u ≡ moved_clock date time seconds) }
+    ensures none { IfNone result (¬ (IsInstant greatest_year (moved_clock date time seconds))) }
+{
+    let seconds = time.seconds_of_day() as i32 + seconds + 259_200;
+    let days = seconds as u32 / 86_400;
+    let time = time.at_second_of_day(seconds as u32 % 86_400);
+    let day = date.day_number() + days;
+    if day < 3 || day >= DAY_LIMIT + 3 {
+        return None;
+    }
+    Some(UtcDateTime::new(Date::from_day_number(day - 3), time))
 }

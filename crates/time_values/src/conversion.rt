@@ -2,11 +2,10 @@
 ghost use Rattle.std.specs.Prelude.{◌≡◌, ◌+ℤ◌, ◌*ℤ◌, ◌<◌, pos};
 ghost use Rattle.std.specs.Time.{system_time_nanos};
 ghost use Rattle.time_values.specs.Instants.{timestamp_refusal};
-ghost use Rattle.time_values.specs.Moments.{nanoseconds, offset_instant, offset_of, utc_instant};
+ghost use Rattle.time_values.specs.Moments.{nanoseconds, offset_instant, offset_of, utc_instant, ConstructsSystemTime};
 ghost use Rattle.time_values.specs.Offsets.{IsUtc};
-ghost use Rattle.time_values.specs.Range.{greatest_year};
+ghost use Rattle.time_values.specs.Calendar.{greatest_year};
 ghost use Rattle.time_values.specs.Refusal.{Constructs};
-ghost use Rattle.time_values.specs.SystemClock.{ConstructsSystemTime};
 
 use crate::error::ComponentRange;
 use crate::{OffsetDateTime, Timestamp, UtcDateTime};

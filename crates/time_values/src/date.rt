@@ -2,9 +2,8 @@ ghost use Rattle.std.specs.Prelude.{◌≡◌, ℤ, pos, neg_ℤ, ◌+◌, ◌-�
 ghost use Rattle.std.specs.Int.{IsInRange};
 ghost use Rattle.time_values.specs.Calendar as Calendar;
 ghost use Rattle.time_values.specs.March.{march_year};
-ghost use Rattle.time_values.specs.Month.{month_number};
-ghost use Rattle.time_values.specs.Range.{greatest_year};
-ghost use Rattle.time_values.specs.Weekday.{days_from_monday};
+ghost use Rattle.time_values.specs.Names.{month_number, days_from_monday};
+ghost use Rattle.time_values.specs.Calendar.{greatest_year};
 
 use crate::aligned::Aligned;
 use crate::days::{MAX_YEAR, leap_day, year_length};
@@ -25,7 +24,7 @@ pub struct Date {
 
 impl Date {
     ghost use Rattle.time_values.specs.Dates as Dates;
-    ghost use Rattle.time_values.specs.DateRefusals.{calendar_date_refusal, ordinal_date_refusal};
+    ghost use Rattle.time_values.specs.Dates.{calendar_date_refusal, ordinal_date_refusal};
     ghost use Rattle.time_values.specs.Refusal.{Constructs};
 
     /// The first date, -999999-01-01, a Monday.
@@ -192,7 +191,7 @@ impl Date {
 
 impl Date {
     ghost use Rattle.time_values.specs.Dates as Dates;
-    ghost use Rattle.time_values.specs.DateRefusals.{ConstructsIsoDate};
+    ghost use Rattle.time_values.specs.Dates.{ConstructsIsoDate};
 
     /// The week of the year, 0 to 53, where week 1 begins on the year's first Sunday and the days
     /// before are week 0.
@@ -282,7 +281,7 @@ impl fmt::Debug for Date {
 }
 
 // The days of the year before a month.
-#[tactic(auto, using(crate::proofs::MonthLemmas::days_of_months_closed))]
+#[tactic(auto, using(crate::proofs::YearLemmas::days_of_months_closed))]
 fn days_before_month(year: i32, month: u16) -> u16
     requires { IsInRange 1 12 month }
     ensures value { result ≡ Calendar.days_of_months year (month - 1) }
@@ -297,7 +296,7 @@ fn days_before_month(year: i32, month: u16) -> u16
 }
 
 // The month and day at a place of the year.
-#[tactic(auto, using(crate::proofs::MonthLemmas::month_and_day_facts))]
+#[tactic(auto, using(crate::proofs::YearLemmas::month_and_day_facts))]
 fn month_and_day(year: i32, ordinal: u16) -> (u8, u8)
     requires { IsInRange 1 (Calendar.year_length year) ordinal }
     ensures ordinal { Calendar.ordinal_of year result.0 result.1 ≡ ordinal }

@@ -1,5 +1,5 @@
 ghost use Rattle.std.specs.Prelude.{◌≡◌, ◌↔◌, IsTrue, pos, ◌+ℤ◌, ◌-ℤ◌, ◌*ℤ◌, ◌<ℤ◌};
-ghost use Rattle.time_values.specs.Lengths.{IsLength};
+ghost use Rattle.time_values.specs.Calendar.{IsLength};
 ghost use Rattle.time_values.specs.MovedClocks.{IsNear};
 
 /// A length of time, in nanoseconds of either sign. Its whole seconds have 64 bits.
@@ -10,7 +10,7 @@ pub struct Duration {
 }
 
 impl Duration {
-    ghost use Rattle.time_values.specs.Durations as Durations;
+    ghost use Rattle.time_values.specs.Moments as Durations;
 
     /// No time at all.
     pub const ZERO: Duration = Duration { nanoseconds: 0 };

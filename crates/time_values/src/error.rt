@@ -1,8 +1,6 @@
 //! The errors of the constructors of dates and times, and of parsing.
 ghost use Rattle.std.specs.Prelude.{◌≡◌, ◌⊎◌, Ok, Err, Some, IfSome, IfNone};
-ghost use Rattle.time_values.specs.Conversions.{range_of_parsed, parsed_of_parse, description_of_parse, joint_of_parse, parsed_of_joint, description_of_joint, parse_of_joint};
-ghost use Rattle.time_values.specs.Refusal.{literal, component, trailing, refusal_of_range, refusal_of_description, refusal_of_parsed, refusal_of};
-ghost use Rattle.time_values.specs.Texts.{refusal_text, variant_text};
+ghost use Rattle.time_values.specs.Refusal.{range_of_parsed, parsed_of_parse, description_of_parse, joint_of_parse, parsed_of_joint, description_of_joint, parse_of_joint, literal, component, trailing, refusal_of_range, refusal_of_description, refusal_of_parsed, refusal_of, refusal_text, variant_text};
 ghost use Rattle.time_values.specs.declared.error.Error.TheVariants.{ComponentRange as joint_range, TryFromParsed as joint_parsed, ParseFromDescription as joint_description};
 ghost use Rattle.time_values.specs.declared.error.Parse.TheVariants.{TryFromParsed as parse_of_parsed, ParseFromDescription as parse_of_description};
 ghost use Rattle.time_values.specs.declared.error.TryFromParsed.TheVariants.{ComponentRange as parsed_of_range};

@@ -4,15 +4,12 @@
 
 mod aligned;
 mod arithmetic;
-mod clocks;
 mod conversion;
 mod date;
 mod days;
-mod difference;
 pub mod digits;
 mod duration;
 pub mod error;
-pub mod fraction;
 pub mod laws;
 mod moment_parts;
 mod month;

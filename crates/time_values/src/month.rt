@@ -4,7 +4,7 @@ ghost use Rattle.std.specs.Cmp.Rules.{comparing};
 ghost use Rattle.std.specs.Ordering.{on};
 ghost use Rattle.time_values.specs.Calendar as Calendar;
 ghost use Rattle.time_values.specs.March.{march_days, march_year};
-ghost use Rattle.time_values.specs.Month.{month_number, month_refusal};
+ghost use Rattle.time_values.specs.Names.{month_number, month_refusal};
 ghost use Rattle.time_values.specs.Refusal.{Constructs};
 
 use crate::days::is_leap_year;
@@ -108,7 +108,7 @@ impl Month {
 
     // The days from the first of March to the first of this month, in a year that begins in March, less 365998494.
     #[inline(always)]
-    #[tactic(auto, using(crate::proofs::MarchLemmas::march_days_at, crate::proofs::MarchLemmas::march_days_in))]
+    #[tactic(auto, using(crate::proofs::NumberLemmas::march_days_at, crate::proofs::NumberLemmas::march_days_in))]
     pub(crate) fn days_from_march(self) -> i64
         ensures value { result ≡ pos (march_days (month_number self)) -ℤ pos 365_998_494 }
         ensures bound { Calendar.IsBetween (neg_ℤ (pos 365_998_494)) (pos 0) result }
@@ -118,7 +118,7 @@ impl Month {
 
     // 1000099, and one more from March on.
     #[inline(always)]
-    #[tactic(auto, using(crate::proofs::MarchLemmas::march_years_at))]
+    #[tactic(auto, using(crate::proofs::NumberLemmas::march_years_at))]
     pub(crate) fn march_years(self) -> i64
         ensures value { result ≡ pos (1_000_099 + march_year (month_number self)) }
         ensures bound { Calendar.IsBetween (pos 1_000_099) (pos 1_000_100) result }

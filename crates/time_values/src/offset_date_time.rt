@@ -1,13 +1,12 @@
 ghost use Rattle.std.specs.Prelude.{◌≡◌, ◌↔◌, IsTrue, IfSome, IfNone, pos, ◌*ℤ◌};
-ghost use Rattle.time_values.specs.Clocks.{shown_at};
+ghost use Rattle.time_values.specs.Moments.{shown_at, offset_date, offset_time, offset_of, offset_instant, utc_instant};
 ghost use Rattle.time_values.specs.Instants as Instants;
-ghost use Rattle.time_values.specs.Moments.{offset_date, offset_time, offset_of, offset_instant, utc_instant};
 ghost use Rattle.time_values.specs.Offsets.{IsUtc};
-ghost use Rattle.time_values.specs.Range.{greatest_year};
+ghost use Rattle.time_values.specs.Calendar.{greatest_year};
 ghost use Rattle.time_values.specs.Refusal.{Constructs};
 ghost use Rattle.time_values.specs.Times.{HasSecond, nanosecond_refusal};
 
-use crate::clocks::clock_with;
+use crate::arithmetic::clock_with;
 use crate::days::DAY_LIMIT;
 use crate::error::ComponentRange;
 use crate::{Date, Time, UtcDateTime, UtcOffset};
@@ -188,10 +187,11 @@ impl From<UtcDateTime> for OffsetDateTime {
     ghost use Rattle.std.specs.Prelude.{◌≡◌};
     ghost use Rattle.time_values.specs.Moments.{offset_instant, offset_of, utc_instant};
     ghost use Rattle.time_values.specs.Offsets.{IsUtc};
-    ghost use Rattle.time_values.specs.Range.{greatest_year};
+    ghost use Rattle.time_values.specs.Calendar.{greatest_year};
 
     ghost from_gives = { λ u v. (offset_instant greatest_year v ≡ utc_instant greatest_year u) × IsUtc (offset_of v) };
 
+    #[tactic(auto, using(crate::proofs::InstantLemmas::instant_is))]
     fn from(date_time: UtcDateTime) -> OffsetDateTime {
         OffsetDateTime {
             date: date_time.date(),

@@ -9,7 +9,7 @@ ghost use Rattle.std.specs.Cmp.Rules.{comparing, hashing};
 ghost use Rattle.std.specs.Hash as fed;
 ghost use Rattle.std.specs.Ordering.{on, nat_cmp, int_cmp, as_partial_cmp};
 ghost use Rattle.time_values.specs.Moments.{offset_instant};
-ghost use Rattle.time_values.specs.Range.{greatest_year};
+ghost use Rattle.time_values.specs.Calendar.{greatest_year};
 
 use crate::{Month, OffsetDateTime, Time, Timestamp, Weekday};
 use std::cmp::Ordering;
@@ -75,7 +75,7 @@ impl PartialOrd for Timestamp {
 
 /// By the number.
 impl Ord for Month {
-    ghost use Rattle.time_values.specs.Month.{month_number};
+    ghost use Rattle.time_values.specs.Names.{month_number};
 
     ghost cmp = { on month_number nat_cmp };
 
@@ -91,7 +91,7 @@ impl Ord for Month {
 }
 
 impl PartialOrd for Month {
-    ghost use Rattle.time_values.specs.Month.{month_number};
+    ghost use Rattle.time_values.specs.Names.{month_number};
 
     ghost partial_cmp = { as_partial_cmp (on month_number nat_cmp) };
 
@@ -103,7 +103,7 @@ impl PartialOrd for Month {
 }
 
 impl Hash for Month {
-    ghost use Rattle.time_values.specs.Month.{month_number};
+    ghost use Rattle.time_values.specs.Names.{month_number};
 
     ghost hash_input = { λ m. fed.u8 (month_number m) };
 
@@ -115,7 +115,7 @@ impl Hash for Month {
 }
 
 impl Hash for Weekday {
-    ghost use Rattle.time_values.specs.Weekday.{days_from_monday};
+    ghost use Rattle.time_values.specs.Names.{days_from_monday};
 
     ghost hash_input = { λ w. fed.u8 (days_from_monday w) };
 

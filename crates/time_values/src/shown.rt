@@ -4,8 +4,7 @@ ghost use Rattle.std.specs.Fmt.{signed_decimal};
 ghost use Rattle.time_values.specs.Moments.{nanoseconds};
 ghost use Rattle.time_values.specs.Shown as Shown;
 
-use crate::digits::{five, four, pair, six};
-use crate::fraction::{append_fraction, count_significant};
+use crate::digits::{append_fraction, count_significant, five, four, pair, six};
 use crate::text::Text;
 use crate::{Date, OffsetDateTime, PlainDateTime, Time, Timestamp, UtcDateTime, UtcOffset};
 use std::{fmt, str};
@@ -108,6 +107,7 @@ fn sign_of(offset: UtcOffset) -> u8
 }
 
 // `+HH:MM:SS`.
+#[tactic(auto, using(crate::proofs::NumberLemmas::two))]
 fn offset_bytes(offset: UtcOffset) -> [u8; 9]
     ensures { result ≡ Shown.offset_shown offset }
 {

@@ -1,6 +1,6 @@
 ghost use Rattle.std.specs.Prelude.{◌≡◌};
 ghost use Rattle.time_values.specs.Instants.{IsInstant, timestamp_refusal};
-ghost use Rattle.time_values.specs.Range.{greatest_year};
+ghost use Rattle.time_values.specs.Calendar.{greatest_year};
 
 use crate::UtcDateTime;
 use crate::error::ComponentRange;
@@ -44,7 +44,7 @@ impl Timestamp {
 impl From<UtcDateTime> for Timestamp {
     ghost use Rattle.std.specs.Prelude.{◌≡◌};
     ghost use Rattle.time_values.specs.Moments.{nanoseconds, utc_instant};
-    ghost use Rattle.time_values.specs.Range.{greatest_year};
+    ghost use Rattle.time_values.specs.Calendar.{greatest_year};
 
     ghost from_gives = { λ u t. nanoseconds t ≡ utc_instant greatest_year u };
 

@@ -1,8 +1,7 @@
 ghost use Rattle.std.specs.Prelude.{◌≡◌, ◌↔◌, IsTrue, IfSome, IfNone, pos, ◌*ℤ◌};
-ghost use Rattle.time_values.specs.Clocks.{shown_at};
+ghost use Rattle.time_values.specs.Moments.{shown_at, utc_date, utc_time, utc_instant, offset_of, offset_instant};
 ghost use Rattle.time_values.specs.Instants as Instants;
-ghost use Rattle.time_values.specs.Moments.{utc_date, utc_time, utc_instant, offset_of, offset_instant};
-ghost use Rattle.time_values.specs.Range.{greatest_year};
+ghost use Rattle.time_values.specs.Calendar.{greatest_year};
 ghost use Rattle.time_values.specs.Refusal.{Constructs};
 ghost use Rattle.time_values.specs.Times.{HasSecond, nanosecond_refusal};
 

@@ -2,7 +2,7 @@ ghost use Rattle.std.specs.Prelude.{◌≡◌, ◌==◌, ◌+◌, ◌%◌, ◌<�
 ghost use Rattle.std.proofs.Common.{rules};
 ghost use Rattle.std.specs.Cmp.Rules.{comparing};
 ghost use Rattle.std.specs.Ordering.{on};
-ghost use Rattle.time_values.specs.Weekday.{days_from_monday};
+ghost use Rattle.time_values.specs.Names.{days_from_monday};
 
 /// A day of the week.
 #[derive(Clone, Copy, Debug)]

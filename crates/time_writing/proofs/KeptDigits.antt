@@ -1,11 +1,15 @@
 -- The first digits of a fraction, and what they keep of it.
-use Rattle.std.proofs.Common.{◌≡◌, ◌≤◌, ◌<◌, ◌+◌, ◌-◌, ◌*◌, ◌^◌, ◌/◌, ◌%◌, ℕ, zero, suc, [], ◌∷◌, length, take, Bool, true, false, refl, sym, ap, subst, ◌∙◌, arith}
-use Rattle.std.specs.Prelude.{if◌then◌else◌, ◌==◌}
+use Rattle.std.specs.Prelude.{if◌then◌else◌, ◌==◌, ◌||◌}
+use Rattle.std.specs.Ordering.{int_eq}
+use Rattle.std.proofs.Common.{◌≡◌, ◌≤◌, ◌<◌, ◌+◌, ◌-◌, ◌*◌, ◌^◌, ◌/◌, ◌%◌, ℕ, zero, suc, [], ◌∷◌, length, take, Bool, true, false, refl, sym, ap, subst, ◌∙◌, arith, ℤ, pos, neg_ℤ, int_lt, Some, None, rules}
 use Rattle.std.proofs.lemmas.Bool.Decides.{nat_tests}
 use Rattle.std.proofs.lemmas.List.{length-append, take-append-le}
 use Rattle.std.proofs.Math.Nat.{div-div-eq-div-mul, pow-suc, pow-succ', mul_assoc}
 use Rattle.std.proofs.Math.Seq.{take-length}
+use Rattle.std.proofs.lemmas.Int.{ints}
 use Rattle.time_values.specs.Shown.{fixed, significant}
+use Rattle.time_values.specs.Calendar.{IsBetween}
+use Rattle.time_writing.specs.declared.parts.Unwritable.TheVariants.{Year, OffsetHour, OffsetSecond}
 
 -- how long they are
 pub fixed-length : (k n : ℕ) → length (fixed k n) ≡ k
@@ -83,3 +87,38 @@ zeros-cut (suc m) n j is = by_last (n % 10 == 0) m n j (λ i. zeros-cut m (n / 1
 -- all digits up to the last that counts keep it
 pub keeps-auto : (n : ℕ) → n / 10 ^ (9 - significant 9 n) * 10 ^ (9 - significant 9 n) ≡ n
 keeps-auto n = let bound = significant-bound 9 n in zeros-cut 9 n (9 - significant 9 n) (omega (arith, bound))
+
+-- ---- What is not in the way of a text
+
+pub writable_3339 : (y h s : ℤ)
+    → (if int_lt y (pos 0) || int_lt (pos 9999) y then Some Year else
+    if int_lt h (neg_ℤ (pos 23)) || int_lt (pos 23) h then Some OffsetHour else
+    if int_eq s (pos 0) then None else Some OffsetSecond) ≡ None
+    → IsBetween (pos 0) (pos 9999) y
+writable_3339 y h s is = search rules
+
+-- a moment with nothing in the way of a text has no reason
+pub none_3339 : (y h s : ℤ) → IsBetween (pos 0) (pos 9999) y → IsBetween (neg_ℤ (pos 23)) (pos 23) h → s ≡ pos 0
+    → (if int_lt y (pos 0) || int_lt (pos 9999) y then Some Year else
+    if int_lt h (neg_ℤ (pos 23)) || int_lt (pos 23) h then Some OffsetHour else
+    if int_eq s (pos 0) then None else Some OffsetSecond) ≡ None
+none_3339 y h s is_y is_h is_s = search rules
+
+-- the first reason of a moment that has one
+pub first_3339 : (y h s : ℤ) → ¬ (IsBetween (pos 0) (pos 9999) y × IsBetween (neg_ℤ (pos 23)) (pos 23) h × (s ≡ pos 0))
+    → Some (if int_lt y (pos 0) || int_lt (pos 9999) y then Year else
+    if int_lt h (neg_ℤ (pos 23)) || int_lt (pos 23) h then OffsetHour else OffsetSecond)
+    ≡ (if int_lt y (pos 0) || int_lt (pos 9999) y then Some Year else
+    if int_lt h (neg_ℤ (pos 23)) || int_lt (pos 23) h then Some OffsetHour else
+    if int_eq s (pos 0) then None else Some OffsetSecond)
+first_3339 y h s is = search rules
+
+writable_mail : (y s : ℤ)
+    → (if int_lt y (pos 1900) || int_lt (pos 9999) y then Some Year else if int_eq s (pos 0) then None else Some OffsetSecond) ≡ None
+    → IsBetween (pos 1900) (pos 9999) y
+writable_mail y s is = search rules
+
+pub writable_2822 : (y s : ℤ)
+    → (if int_lt y (pos 1900) || int_lt (pos 9999) y then Some Year else if int_eq s (pos 0) then None else Some OffsetSecond) ≡ None
+    → IsBetween (pos 0) (pos 9999) y
+writable_2822 y s is = omega (arith, ints, writable_mail y s is)

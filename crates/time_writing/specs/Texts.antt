@@ -1,25 +1,25 @@
 -- Texts of moments by RFC 3339, section 5.6, by RFC 2822, section 3.3, and by ISO 8601.
 use Rattle.std.specs.Prelude.{◌≡◌, ℕ, min, pos, neg_ℤ, int_lt, unsigned_abs, List, ◌∷◌, ◌++◌, codes, take, Bool, ◌||◌, ◌&&◌, if◌then◌else◌, Option, None, Some, Result, Err, IsOkAnd, MatchOption}
 use Rattle.std.specs.Ordering.{int_eq}
+use Rattle.std.specs.Fmt.{signed_decimal}
 use Rattle.time_values.specs.Dates as Dates
-use Rattle.time_values.specs.Moments.{offset_date, offset_time, offset_of}
-use Rattle.time_values.specs.Month.{month_number}
-use Rattle.time_values.specs.Names.{month_name, weekday_name}
+use Rattle.time_values.specs.Moments.{offset_date, offset_time, offset_of, nanoseconds}
+use Rattle.time_values.specs.Names.{month_number, month_name, weekday_name, days_from_monday}
 use Rattle.time_values.specs.Offsets as Offsets
 use Rattle.time_values.specs.Shown.{Items, fixed, significant, fraction_shown}
 use Rattle.time_values.specs.Times as Times
-use Rattle.time_values.specs.Range.{greatest_year}
-use Rattle.time_values.specs.Weekday.{days_from_monday}
+use Rattle.time_values.specs.Calendar.{greatest_year}
 use Rattle.time_values.specs.declared.date.Date.{Date}
 use Rattle.time_values.specs.declared.month.Month.{Month}
 use Rattle.time_values.specs.declared.weekday.Weekday.{Weekday}
 use Rattle.time_values.specs.declared.time.Time.{Time}
 use Rattle.time_values.specs.declared.utc_offset.UtcOffset.{UtcOffset}
 use Rattle.time_values.specs.declared.offset_date_time.OffsetDateTime.{OffsetDateTime}
-use Rattle.time_writing.specs.declared.fraction.FractionDigits.{FractionDigits}
-use Rattle.time_writing.specs.declared.fraction.FractionDigits.TheVariants.{Auto, Exactly}
-use Rattle.time_writing.specs.declared.unwritable.Unwritable.{Unwritable}
-use Rattle.time_writing.specs.declared.unwritable.Unwritable.TheVariants.{Year, OffsetHour, OffsetSecond}
+use Rattle.time_values.specs.declared.timestamp.Timestamp.{Timestamp}
+use Rattle.time_writing.specs.declared.parts.FractionDigits.{FractionDigits}
+use Rattle.time_writing.specs.declared.parts.FractionDigits.TheVariants.{Auto, Exactly}
+use Rattle.time_writing.specs.declared.parts.Unwritable.{Unwritable}
+use Rattle.time_writing.specs.declared.parts.Unwritable.TheVariants.{Year, OffsetHour, OffsetSecond}
 
 -- how many digits of that many nanoseconds are written
 abbrev pub count_of : FractionDigits → ℕ → ℕ
@@ -122,3 +122,26 @@ WritesSuch reason such result =
 abbrev pub Writes : Option Unwritable → List ℕ → Result Items Unwritable → Type 0
 Writes reason bytes result =
     MatchOption reason (IsOkAnd result (λ text. text.items ≡ bytes)) (λ why. result ≡ Err why)
+
+-- ---- What the printed text of a value tells
+
+-- the nanoseconds, as a decimal number
+abbrev pub timestamp_shown : Timestamp → List ℕ
+timestamp_shown t = signed_decimal (nanoseconds t)
+
+-- values that print the same are one value
+abbrev pub OneShown : {V : Type 0} → (V → List ℕ) → Type 0
+OneShown {V} shown = (v w : V) → shown v ≡ shown w → v ≡ w
+
+-- ---- What the reason why a moment has no text prints
+
+-- the component's name
+abbrev unwritable_name : Unwritable → List ℕ
+unwritable_name Year = codes "year"
+unwritable_name OffsetHour = codes "offset_hour"
+unwritable_name OffsetSecond = codes "offset_second"
+
+-- the text
+abbrev pub unwritable_text : Unwritable → List ℕ
+unwritable_text e =
+    codes "The " ++ unwritable_name e ++ codes " component cannot be formatted into the requested format."

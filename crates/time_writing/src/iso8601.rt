@@ -3,15 +3,13 @@ ghost use Rattle.std.specs.Prelude.{◌≡◌, ◌≤◌, ◌++◌, codes, lengt
 ghost use Rattle.time_values.specs.Calendar.{IsBetween};
 ghost use Rattle.time_values.specs.Dates as Dates;
 ghost use Rattle.time_values.specs.Moments.{offset_date};
-ghost use Rattle.time_values.specs.Month.{month_number};
+ghost use Rattle.time_values.specs.Names.{month_number};
 ghost use Rattle.time_values.specs.Shown.{fixed};
 ghost use Rattle.time_values.specs.Times as Times;
 ghost use Rattle.time_writing.specs.Texts.{moment_text, basic_offset_text, basic_text, unwritable_3339, Writes};
 
-use crate::fraction::FractionDigits;
-use crate::parts::{is_none, offset_without_colon};
+use crate::parts::{FractionDigits, Unwritable, is_none, offset_without_colon};
 use crate::rfc3339::{reason, text_3339};
-use crate::unwritable::Unwritable;
 use time_values::digits::{four, pair};
 use time_values::text::Text;
 use time_values::{Date, OffsetDateTime, Time, UtcOffset};

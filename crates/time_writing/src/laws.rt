@@ -1,6 +1,6 @@
 //! Laws of texts: each function does nothing, and its contract is the law.
 ghost use Rattle.time_values.specs.Shown.{date_shown, time_shown, offset_shown, plain_shown, utc_shown, moment_shown};
-ghost use Rattle.time_writing.specs.Printing.{timestamp_shown, OneShown};
+ghost use Rattle.time_writing.specs.Texts.{timestamp_shown, OneShown};
 
 /// Values of one type that `Display` prints the same are one value: each of the seven types tells all of a value.
 pub fn law_one_shown()

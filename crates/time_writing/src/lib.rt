@@ -1,17 +1,14 @@
 //! Texts of moments by RFC 3339, RFC 2822 and ISO 8601. None takes memory: a text is an array and a length.
 #![tactic(auto)]
 
-mod fraction;
 mod iso8601;
 pub mod laws;
 mod parts;
 mod rfc2822;
 mod rfc3339;
-mod unwritable;
 
-pub use fraction::FractionDigits;
 pub use iso8601::{text_8601, text_8601_basic};
+pub use parts::{FractionDigits, Unwritable};
 pub use rfc2822::text_2822;
 pub use rfc3339::text_3339;
 pub use time_values::text::Text;
-pub use unwritable::Unwritable;

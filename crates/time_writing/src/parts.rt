@@ -1,11 +1,13 @@
-//! Dates, times and offsets as texts have them.
-ghost use Rattle.std.specs.Prelude.{◌≡◌, ◌<◌, [], ◌∷◌, ◌++◌, codes, pos, neg_ℤ, unsigned_abs};
+//! Dates, times, fractions and offsets as texts have them, and why a moment has no text.
+ghost use Rattle.std.specs.Prelude.{◌≡◌, ◌<◌, [], ◌∷◌, ◌++◌, codes, pos, neg_ℤ, unsigned_abs, ◌≤◌, Some};
 ghost use Rattle.time_values.specs.Calendar.{IsBetween};
 ghost use Rattle.time_values.specs.Dates as Dates;
 ghost use Rattle.time_values.specs.Shown.{fixed};
 ghost use Rattle.time_writing.specs.Texts as Texts;
+ghost use Rattle.time_writing.specs.Texts.{count_of, unwritable_text};
 
-use time_values::digits::{four, pair};
+use std::fmt;
+use time_values::digits::{count_significant, four, pair};
 use time_values::{Date, Month, Time, UtcOffset, Weekday};
 
 // `YYYY-MM-DD`.
@@ -72,6 +74,7 @@ pub(crate) fn hours_and_minutes(sign: u8, hours: u8, minutes: u8) -> [u8; 6]
 
 // `+HHMM` or `-HHMM`.
 #[inline(always)]
+#[tactic(auto, using(time_values::proofs::NumberLemmas::two))]
 pub(crate) fn offset_without_colon(offset: UtcOffset) -> [u8; 5]
     ensures { result ≡ Texts.zone_text offset }
 {
@@ -115,3 +118,55 @@ pub(crate) fn month_letters(month: Month) -> [u8; 3]
         Month::December => *b"Dec",
     }
 }
+
+/// How many digits of a second's fraction are written. Where it is none, no point is written either.
+#[derive(Clone, Copy, Debug, PartialEq, Eq)]
+pub enum FractionDigits {
+    /// All up to the last that is not 0.
+    Auto,
+    /// That many, at most nine. What is cut off is not rounded.
+    Exactly(u8),
+}
+
+impl FractionDigits {
+    // The number of digits.
+    #[inline(always)]
+    pub(crate) fn count(self, nanosecond: u32) -> usize
+        ensures count { result ≡ count_of self nanosecond }
+        ensures bound { result ≤ 9 }
+    {
+        match self {
+            FractionDigits::Auto => count_significant(nanosecond),
+            FractionDigits::Exactly(count) => usize::from(count).min(9),
+        }
+    }
+}
+
+/// Why a moment has no text in a format.
+#[derive(Clone, Copy, Debug, PartialEq, Eq)]
+pub enum Unwritable {
+    /// The format has no such year.
+    Year,
+    /// The hours of its offset are not -23 to 23.
+    OffsetHour,
+    /// Its offset has seconds.
+    OffsetSecond,
+}
+
+impl fmt::Display for Unwritable {
+    ghost output = { λ e. Some (unwritable_text e) };
+
+    fn fmt<W: fmt::Write>(&self, f: &mut fmt::Formatter<W>) -> fmt::Result {
+        let component = match self {
+            Unwritable::Year => "year",
+            Unwritable::OffsetHour => "offset_hour",
+            Unwritable::OffsetSecond => "offset_second",
+        };
+        write!(
+            f,
+            "The {component} component cannot be formatted into the requested format."
+        )
+    }
+}
+
+impl std::error::Error for Unwritable {}

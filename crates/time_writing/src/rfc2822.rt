@@ -6,8 +6,7 @@ ghost use Rattle.time_values.specs.Moments.{offset_date};
 ghost use Rattle.time_values.specs.Shown.{fixed};
 ghost use Rattle.time_writing.specs.Texts.{IsMailText, short_month, short_weekday, unwritable_2822, WritesSuch};
 
-use crate::parts::{clock, month_letters, offset_without_colon, weekday_letters};
-use crate::unwritable::Unwritable;
+use crate::parts::{Unwritable, clock, month_letters, offset_without_colon, weekday_letters};
 use time_values::digits::{four, pair};
 use time_values::text::Text;
 use time_values::{Date, OffsetDateTime, Weekday};

@@ -3,19 +3,17 @@ ghost use Rattle.std.specs.Prelude.{◌≡◌, ◌↔◌, ◌≤◌, ◌++◌, I
 ghost use Rattle.time_values.specs.Calendar.{IsBetween};
 ghost use Rattle.time_values.specs.Moments.{offset_time};
 ghost use Rattle.time_values.specs.Times as Times;
-ghost use Rattle.time_writing.specs.declared.unwritable.Unwritable.TheVariants.{Year, OffsetHour, OffsetSecond};
+ghost use Rattle.time_writing.specs.declared.parts.Unwritable.TheVariants.{Year, OffsetHour, OffsetSecond};
 ghost use Rattle.time_writing.specs.Texts.{count_of, offset_text, moment_text, unwritable_3339, Writes};
 
-use crate::fraction::FractionDigits;
-use crate::parts::{clock, date, hours_and_minutes, magnitude};
-use crate::unwritable::Unwritable;
-use time_values::fraction::append_fraction;
+use crate::parts::{FractionDigits, Unwritable, clock, date, hours_and_minutes, magnitude};
+use time_values::digits::append_fraction;
 use time_values::text::Text;
 use time_values::{OffsetDateTime, UtcOffset};
 
 // Puts `Z` for no hours and minutes, and else `+HH:MM` or `-HH:MM`.
 #[inline(always)]
-#[tactic(auto, using(crate::proofs::SignLemmas::hours_below, crate::proofs::SignLemmas::minutes_below, crate::proofs::SignLemmas::minus_below))]
+#[tactic(auto, using(crate::proofs::SameTexts::hours_below, crate::proofs::SameTexts::minutes_below, crate::proofs::SameTexts::minus_below))]
 fn append_offset(text: &mut Text, offset: &UtcOffset)
     requires { length text.old.items ≤ 29 }
     ensures { text.new.items ≡ text.old.items ++ offset_text offset.now }

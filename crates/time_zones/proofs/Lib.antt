@@ -1,13 +1,6 @@
 pub mod TableLemmas
 pub mod ZoneLemmas
-pub mod RowLemmas
-pub mod AnswerLemmas
 pub mod NameLemmas
-pub mod PassLemmas
-pub mod BracketLemmas
 pub mod SuffixTextLemmas
-pub mod SuffixLemmas
 pub mod LongestLemmas
-pub mod SuffixNameLemmas
 pub mod FolderLemmas
-pub mod CheckingLemmas

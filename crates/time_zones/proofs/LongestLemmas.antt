@@ -2,10 +2,8 @@
 use Rattle.std.proofs.Common.{◌≡◌, ℕ, suc, ◌+◌, ◌-◌, ◌<◌, ◌≤◌, List, [], ◌∷◌, ◌++◌, length, take, drop, Option, Some, None, refl, sym, ap, subst, ◌∙◌, append_assoc, append-nil, take-append-drop, arith, length-append}
 use Rattle.std.proofs.lemmas.List.{length-take-le}
 use Rattle.std.specs.Prelude.{All, IfNone, option_map}
-use Rattle.time_zones.proofs.PassLemmas.{cut_once, take_front}
-use Rattle.time_zones.proofs.BracketLemmas.{key_passes, brackets_once}
-use Rattle.time_zones.proofs.SuffixTextLemmas.{zone_once, zone_no_tag, tag_held}
-use Rattle.time_zones.proofs.SuffixLemmas.{zone_brackets, tag_brackets, same_brackets}
+use Rattle.time_zones.proofs.NameLemmas.{cut_once, take_front, key_passes, brackets_once}
+use Rattle.time_zones.proofs.SuffixTextLemmas.{zone_once, zone_no_tag, tag_held, zone_brackets, tag_brackets, same_brackets}
 use Rattle.time_zones.specs.Suffix.{is_key_char, IsZoneText, ZoneTag, Tag, IsZoneTag, IsZoneTagIfAny, tag_text, IsSuffixTag, tags_text, IsSuffix, IsLongest, OneSuffix}
 use Rattle.time_zones.specs.SuffixFronts.{BeginsWithZone, HasNoZone, BeginsWithTag, HasNoTag, BeginsWithTags}
 

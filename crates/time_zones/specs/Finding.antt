@@ -1,19 +1,91 @@
 -- What is found of a zone in files, over what reading a file gives.
-use Rattle.std.specs.Prelude.{◌≡◌, ◌⊎◌, ℕ, List, ◌∷◌, ◌++◌, Option, Some, None, Result, Ok, Err, codes, string_bytes}
+use Rattle.std.specs.Prelude.{◌≡◌, ◌≢◌, ◌⊎◌, ℕ, ◌==◌, Bool, false, List, [], ◌∷◌, All, Option, Some, None, codes, MatchBool, ◌++◌, Result, Ok, Err, string_bytes, ℤ, pos, Contains}
+use Rattle.std.specs.List.{slice_split}
+use Rattle.std.specs.BTreeMap.{get_by_text}
+use Rattle.jiff_tz.specs.PosixReader.{read_whole}
+use Rattle.jiff_tz.specs.PosixText.{TzText, tz_view}
 use Rattle.jiff_core.specs.declared.error.Error.TheVariants.{Tzif as TzifError}
 use Rattle.jiff_tz.specs.Tzif.{tzif_view, tzif_name, RuleAgrees, IsParseFailure}
 use Rattle.jiff_tz.specs.TzifReader.{read_tzif}
 use Rattle.jiff_tz.specs.declared.timezone.TimeZone.{TimeZone}
 use Rattle.jiff_tz.specs.declared.timezone.TimeZone.TheVariants as Zone
 use Rattle.jiff_tz.specs.declared.tzif.Tzif.{Tzif as Table}
-use Rattle.time_zones.specs.Names.{IsAsked}
+use Rattle.jiff_tz.specs.PosixRule as Posix
+use Rattle.jiff_tz.specs.Tzif as Tzif
+use Rattle.time_zones.specs.declared.place.Place.{Place}
+use Rattle.time_zones.specs.declared.place.Place.TheVariants.{Utc as PlaceUtc, Rule as PlaceRule, InFolder, AtPath}
 use Rattle.time_zones.specs.declared.files.ReadFault.{ReadFault}
 use Rattle.time_zones.specs.declared.files.ReadFault.TheVariants as Read
 use Rattle.time_zones.specs.declared.finding.NamedZone.{NamedZone}
 use Rattle.time_zones.specs.declared.finding.NamedZone.TheVariants as Named
-use Rattle.time_zones.specs.declared.place.Place.{Place}
 use Rattle.time_zones.specs.declared.zone_fault.ZoneFault.{ZoneFault}
 use Rattle.time_zones.specs.declared.zone_fault.ZoneFault.TheVariants as Fault
+use Rattle.time_zones.specs.declared.finding.NamedZone.TheVariants.{Utc, Rule, Table as NamedTable}
+use Rattle.time_zones.specs.declared.zones.Zones.{Zones}
+
+-- ---- What the name of a zone asks for, and what the variable TZ does
+
+-- a part of a name, which leads to no other folder than its own
+abbrev pub IsPart : List ℕ → Type 0
+IsPart part = (part ≢ []) × (part ≢ codes ".") × (part ≢ codes "..")
+
+-- a name of the folder of zones: such parts, with slashes between them
+abbrev pub IsZoneName : List ℕ → Type 0
+IsZoneName name = All IsPart (slice_split (λ b. b == 47) name)
+
+-- what a name asks for; nothing where it would leave the folder
+abbrev pub AsksFor : List ℕ → Option Place → Type 0
+AsksFor name None = (name ≢ codes "UTC") × (¬ (IsZoneName name))
+AsksFor name (Some PlaceUtc) = name ≡ codes "UTC"
+AsksFor name (Some (PlaceRule rule)) = ⊥
+AsksFor name (Some (InFolder below)) = (below.now ≡ name) × (name ≢ codes "UTC") × IsZoneName name
+AsksFor name (Some (AtPath path)) = ⊥
+
+-- the file at a path
+abbrev pub IsFileAt : List ℕ → Option Place → Type 0
+IsFileAt path None = ⊥
+IsFileAt path (Some PlaceUtc) = ⊥
+IsFileAt path (Some (PlaceRule rule)) = ⊥
+IsFileAt path (Some (InFolder below)) = ⊥
+IsFileAt path (Some (AtPath at)) = at.now ≡ path
+
+-- the text begins with a slash
+abbrev pub is_absolute : List ℕ → Bool
+is_absolute [] = false
+is_absolute (c ∷ rest) = c == 47
+
+-- what a path or a name asks for
+abbrev pub AsksForPath : List ℕ → Option Place → Type 0
+AsksForPath text place = MatchBool (is_absolute text) (IsFileAt text place) (AsksFor text place)
+
+-- what a rule asks for
+abbrev pub IsRule : TzText → Option Place → Type 0
+IsRule text None = ⊥
+IsRule text (Some PlaceUtc) = ⊥
+IsRule text (Some (PlaceRule rule)) = tz_view rule ≡ text
+IsRule text (Some (InFolder below)) = ⊥
+IsRule text (Some (AtPath at)) = ⊥
+
+-- a rule where the text is one, and else a path or a name
+abbrev pub IsRuleOrPath : Option TzText → List ℕ → Option Place → Type 0
+IsRuleOrPath (Some rule) text place = IsRule rule place
+IsRuleOrPath None text place = AsksForPath text place
+
+-- what a value of TZ asks for: UTC where it is empty, a path or a name after a colon
+abbrev pub AsksBySetting : List ℕ → Option Place → Type 0
+AsksBySetting [] place = place ≡ Some PlaceUtc
+AsksBySetting (c ∷ rest) place =
+    MatchBool (c == 58) (AsksForPath rest place) (IsRuleOrPath (read_whole (c ∷ rest)) (c ∷ rest) place)
+
+-- what the system's zone is: what TZ says where it is set
+abbrev pub IsLocal : Option (List ℕ) → Option Place → Type 0
+IsLocal None place = IsFileAt (codes "/etc/localtime") place
+IsLocal (Some setting) place = AsksBySetting setting place
+
+-- what is asked for by a name, `local` among them
+abbrev pub IsAsked : Option (List ℕ) → List ℕ → Option Place → Type 0
+IsAsked setting name place =
+    ((name ≡ codes "local") × IsLocal setting place) ⊎ ((name ≢ codes "local") × AsksFor name place)
 
 -- what reading the file at a path gives
 abbrev pub Giving : Type 1
@@ -73,3 +145,62 @@ IsFound Gives folder setting name r =
 -- why the value of a variable isn't known
 abbrev pub IsVariableFault : ZoneFault → Type 0
 IsVariableFault fault = (fault ≡ Fault.NotText) ⊎ (fault ≡ Fault.OutOfMemory)
+
+-- ---- Zones by their names
+
+-- the zone of that name, if there is one
+abbrev pub zone_named : Zones → List ℕ → Option NamedZone
+zone_named zones name = get_by_text zones.zones name
+
+-- the same name has a zone in both
+abbrev pub SameNamed : Zones → Zones → List ℕ → Type 0
+SameNamed old new name = zone_named new name ≡ zone_named old name
+
+-- the name has that zone now, and each other name has what it had
+pub record IsInserted (old new : Zones) (name : List ℕ) (zone : NamedZone) : Type 0 where
+  pub found : zone_named new name ≡ Some zone
+  pub others : (other : List ℕ) → other ≢ name → SameNamed old new other
+
+-- what comes of a name in the folder
+abbrev pub IsFoundIn : Giving → List ℕ → List ℕ → Result NamedZone ZoneFault → Type 0
+IsFoundIn Gives folder name r = (place : Option Place) × AsksFor name place × IsFoundAt Gives folder place r
+
+-- the name is of no zone: there is a fault, which isn't one of memory
+abbrev pub IsOfNone : Giving → List ℕ → List ℕ → Type 0
+IsOfNone Gives folder name = (fault : ZoneFault) × (fault ≢ Fault.OutOfMemory) × IsFoundIn Gives folder name (Err fault)
+
+-- the name has the zone that is found, or none is and each name has what it had
+abbrev pub AddsFound : Giving → List ℕ → List ℕ → Zones → Zones → Type 0
+AddsFound Gives folder name old new =
+    ((zone : NamedZone) × IsFoundIn Gives folder name (Ok zone) × IsInserted old new name zone)
+    ⊎ (IsOfNone Gives folder name × ((other : List ℕ) → SameNamed old new other))
+
+-- UTC and the zones of these names: each was found by its name, and a name without one is of no zone
+pub record AreZonesOf (Gives : Giving) (folder : List ℕ) (names : List (List ℕ)) (zones : Zones) : Type 0 where
+  pub utc : zone_named zones (codes "UTC") ≡ Some Utc
+  pub found : (name : List ℕ) (zone : NamedZone) → zone_named zones name ≡ Some zone
+      → Contains (codes "UTC" ∷ names) name × IsFoundIn Gives folder name (Ok zone)
+  pub left_out : All (λ name. zone_named zones name ≡ None → IsOfNone Gives folder name) names
+
+-- why no zones are found: the folder's name, the folder, or memory
+abbrev pub IsFolderFault : ZoneFault → Type 0
+IsFolderFault Fault.NotAName = ⊥
+IsFolderFault Fault.NotText = Unit {0}
+IsFolderFault (Fault.Unknown path) = Unit {0}
+IsFolderFault Fault.Folder = ⊥
+IsFolderFault (Fault.Unreadable kind) = Unit {0}
+IsFolderFault (Fault.Malformed fault) = ⊥
+IsFolderFault Fault.OutOfMemory = Unit {0}
+
+-- the kit's zone of one that may have been found
+abbrev pub IsZoneIfAny : Option NamedZone → Option TimeZone → Type 0
+IsZoneIfAny None None = Unit {0}
+IsZoneIfAny None (Some zone) = ⊥
+IsZoneIfAny (Some found) None = ⊥
+IsZoneIfAny (Some found) (Some zone) = IsZoneOf found zone
+
+-- how far clocks of the zone are ahead of UTC at an instant, in seconds
+unfoldable pub offset_in : NamedZone → ℤ → ℤ
+offset_in Utc n = pos 0
+offset_in (Rule rule) n = (Posix.offset_at rule n).seconds
+offset_in (NamedTable table) n = (Tzif.offset_at table n).seconds

@@ -1,11 +1,5 @@
 pub mod Zones
 pub mod Spread
-pub mod Rows
-pub mod Names
 pub mod Suffix
 pub mod SuffixFronts
-pub mod SuffixValues
 pub mod Finding
-pub mod Folder
-pub mod Checking
-pub mod Texts

@@ -1,6 +1,7 @@
 -- No public contract rests on this file.
+--
 -- The offsets at which clocks of a zone show a date and time.
-use Rattle.std.specs.Prelude.{◌≡◌, ◌⊎◌, ℤ, ◌-ℤ◌, ◌≤ℤ◌, Option, Some, None}
+use Rattle.std.specs.Prelude.{◌≡◌, ◌⊎◌, ℤ, ◌-ℤ◌, ◌≤ℤ◌, Option, Some, None, ℕ, ◌-◌, ◌<◌, ◌<ℤ◌, List, length, get_or}
 use Rattle.jiff_core.specs.Calendar.{IsBetween}
 use Rattle.jiff_core.specs.Timestamp.{IsTimestampNanos, nanos_of_seconds}
 use Rattle.jiff_tz.specs.PosixText.{TzText, DstText, tz_view}
@@ -10,6 +11,9 @@ use Rattle.jiff_tz.specs.declared.ambiguous.AmbiguousOffset.{AmbiguousOffset}
 use Rattle.jiff_tz.specs.declared.ambiguous.AmbiguousOffset.TheVariants.{Unambiguous, Gap, Fold}
 use Rattle.jiff_tz.specs.declared.timezone.TimeZone.{TimeZone}
 use Rattle.jiff_tz.specs.declared.timezone.TimeZone.TheVariants.{UTC, Unknown, Fixed, Posix, Tzif}
+use Rattle.jiff_core.specs.declared.Offset.{Offset}
+use Rattle.jiff_tz.specs.declared.posix.TimeZone.{TimeZone as PosixZone}
+use Rattle.jiff_tz.specs.declared.tzif.transition.Transition.{Transition}
 use Rattle.time_zones.specs.declared.spread.Spread.{Spread}
 
 -- zones tell of the instant at which a clock with that offset shows the reading, and the zone has the offset then
@@ -50,3 +54,22 @@ IsOfDst (Some dst) s = s ≡ dst.seconds
 abbrev pub IsOfRule : Option TzText → ℤ → Type 0
 IsOfRule None s = ⊥
 IsOfRule (Some rule) s = (s ≡ rule.std_seconds) ⊎ IsOfDst rule.dst s
+
+-- ---- The offset that a table has between two of its rows, or a rule at each moment
+
+-- a second lies between two rows that follow each other, and the first sets the offset
+pub record IsRowOffset (rows : List Transition) (second : ℤ) (o : Offset) : Type 0 where
+  pub place : ℕ
+  pub last : Transition
+  pub next : Transition
+  pub some : 0 < place
+  pub within : place < length rows
+  pub is_last : last ≡ get_or rows (place - 1) last
+  pub is_next : next ≡ get_or rows place next
+  pub begun : last.second ≤ℤ second
+  pub ended : second <ℤ next.second
+  pub offset : o ≡ last.after.offset
+
+-- a rule has no other offset
+abbrev pub HasOneOffset : PosixZone → Offset → Type 0
+HasOneOffset rule o = (rule.dst ≡ None) × (o ≡ rule.std_offset)

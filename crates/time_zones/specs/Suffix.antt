@@ -1,10 +1,23 @@
 -- The suffix that RFC 9557, section 4.1, puts behind a time of RFC 3339. Each definition has the rule of its grammar.
-use Rattle.std.specs.Prelude.{◌≡◌, ◌≢◌, ◌⊎◌, ℕ, ◌+◌, ◌*◌, ◌/◌, ◌%◌, ◌<◌, ◌≤◌, Bool, true, false, ◌||◌, ◌==◌, IsTrue, List, [], ◌∷◌, ◌++◌, length, take, All, Option, Some, None, if◌then◌else◌, codes, pos, neg_ℤ}
+use Rattle.std.specs.Prelude.{◌≡◌, ◌≢◌, ◌⊎◌, ℕ, ◌+◌, ◌*◌, ◌/◌, ◌%◌, ◌<◌, ◌≤◌, Bool, true, false, ◌||◌, ◌==◌, IsTrue, List, [], ◌∷◌, ◌++◌, length, take, All, Option, Some, None, if◌then◌else◌, codes, pos, neg_ℤ, option_map, ℤ, MatchBool, MatchOption, Result, Ok, Err}
 use Rattle.std.specs.Char.{is_ascii_alphabetic, is_ascii_alphanumeric, is_ascii_digit, is_ascii_lowercase}
 use Rattle.std.specs.List.{AllPass, slice_split}
+use Rattle.std.specs.Ordering.{int_eq}
 use Rattle.time_values.specs.Offsets.{offset_seconds}
 use Rattle.time_values.specs.declared.utc_offset.UtcOffset.{UtcOffset}
-use Rattle.time_zones.specs.Names.{IsZoneName}
+use Rattle.time_values.specs.Moments.{offset_of, offset_instant}
+use Rattle.time_values.specs.Calendar.{greatest_year}
+use Rattle.time_values.specs.declared.offset_date_time.OffsetDateTime.{OffsetDateTime}
+use Rattle.time_zones.specs.Finding.{IsZoneName, zone_named, offset_in}
+use Rattle.time_zones.specs.declared.suffix.Suffixed.{Suffixed}
+use Rattle.time_zones.specs.declared.suffix.ZoneText.{ZoneText}
+use Rattle.time_zones.specs.declared.suffix.ZoneText.TheVariants.{Name, Offset}
+use Rattle.time_zones.specs.declared.suffix.ZoneTag as declared
+use Rattle.time_zones.specs.Zones.{IsTold}
+use Rattle.time_zones.specs.declared.checking.SuffixFault.{SuffixFault}
+use Rattle.time_zones.specs.declared.checking.SuffixFault.TheVariants.{CriticalKey, UnknownZone, OtherOffset, Untold}
+use Rattle.time_zones.specs.declared.finding.NamedZone.{NamedZone}
+use Rattle.time_zones.specs.declared.zones.Zones.{Zones}
 
 -- time-zone-initial: a letter, a dot or an underscore
 abbrev pub is_zone_initial : ℕ → Bool
@@ -151,3 +164,61 @@ OneSuffix = (text : List ℕ) (zone zone' : Option ZoneTag) (tags tags' : List T
 -- a name is one of a file in the folder of zones
 abbrev pub NamesInFolder : Type 0
 NamesInFolder = (name : List ℕ) → IsTimeZoneName name → IsZoneName name
+
+-- ---- What contracts see of a suffix that was read
+
+abbrev pub zone_of : ZoneText → Zone
+zone_of (Name name) = named name.now
+zone_of (Offset o) = at_offset o
+
+abbrev pub zone_tag_of : declared.ZoneTag → ZoneTag
+zone_tag_of z = record {
+  is_critical = z.is_critical;
+  zone = zone_of z.zone;
+}
+
+-- the text is a suffix with that zone, and with tags of which that is the first critical key
+abbrev pub Says : List ℕ → Suffixed → Type 0
+Says text s = (tags : List Tag) × IsSuffix text (option_map zone_tag_of s.zone) tags
+    × (option_map (λ key. key.now) s.critical_key ≡ critical_key tags)
+
+-- ---- Which suffixes go with a moment, by RFC 9557, sections 3.3, 3.4 and 4.1.
+
+-- nothing, or why a suffix doesn't go with a moment
+abbrev pub Checked : Type 0
+Checked = Result (Unit {0}) SuffixFault
+
+-- a moment has the offset of a zone, both in seconds, or another
+abbrev pub compared : ℤ → ℤ → Checked
+compared own zone = if int_eq own zone then Ok tt else Err OtherOffset
+
+-- a moment has the offset of a zone with those offsets at each instant, where zones tell of it
+abbrev pub HasItsOffset : OffsetDateTime → (ℤ → ℤ) → Checked → Type 0
+HasItsOffset m zone result =
+    ((¬ (IsTold m)) × (result ≡ Err Untold))
+    ⊎ (IsTold m × (result ≡ compared (offset_seconds (offset_of m)) (zone (offset_instant greatest_year m))))
+
+-- a moment that tells its offset has that of a named zone
+abbrev pub GoesWithNamed : Bool → OffsetDateTime → NamedZone → Checked → Type 0
+GoesWithNamed tells m zone result = MatchBool tells (HasItsOffset m (offset_in zone) result) (result ≡ Ok tt)
+
+-- a moment goes with a zone
+abbrev pub GoesWithZone : Zones → Bool → OffsetDateTime → Zone → Checked → Type 0
+GoesWithZone zones tells m (named name) result =
+    MatchOption (zone_named zones name) (result ≡ Err UnknownZone) (λ zone. GoesWithNamed tells m zone result)
+GoesWithZone zones tells m (at_offset o) result =
+    MatchBool tells (result ≡ compared (offset_seconds (offset_of m)) (offset_seconds o)) (result ≡ Ok tt)
+
+-- A moment goes with a suffix that has that zone and that critical key. Whoever doesn't know the key has to refuse it,
+-- and none is known here.
+abbrev pub GoesWith : Zones → Bool → OffsetDateTime → Option ZoneTag → Option (List ℕ) → Checked → Type 0
+GoesWith zones tells m z (Some key) result = result ≡ Err CriticalKey
+GoesWith zones tells m None None result = result ≡ Ok tt
+GoesWith zones tells m (Some z) None result = GoesWithZone zones tells m z.zone result
+
+-- a suffix and a moment have one answer
+abbrev pub OneCheck : Type 0
+OneCheck =
+    (zones : Zones) (tells : Bool) (m : OffsetDateTime) (zone : Option ZoneTag) (key : Option (List ℕ))
+    (result other : Checked)
+    → GoesWith zones tells m zone key result → GoesWith zones tells m zone key other → result ≡ other

@@ -3,8 +3,7 @@ ghost use Rattle.std.specs.Prelude.{◌≡◌, option_map};
 ghost use Rattle.time_values.specs.Moments.{offset_of};
 ghost use Rattle.time_values.specs.Offsets.{offset_seconds};
 ghost use Rattle.jiff_tz.specs.Zone as Zone;
-ghost use Rattle.time_zones.specs.Checking.{compared, HasItsOffset, GoesWithZone, GoesWith};
-ghost use Rattle.time_zones.specs.SuffixValues.{zone_of, zone_tag_of};
+ghost use Rattle.time_zones.specs.Suffix.{compared, HasItsOffset, GoesWithZone, GoesWith, zone_of, zone_tag_of};
 
 use crate::clocks::{has_zone_offset, is_same};
 use crate::suffix::{Suffixed, ZoneText};
@@ -28,7 +27,7 @@ pub enum SuffixFault {
 
 impl fmt::Display for SuffixFault {
     ghost use Rattle.std.specs.Prelude.{Some};
-    ghost use Rattle.time_zones.specs.Texts.{suffix_fault_text};
+    ghost use Rattle.time_zones.specs.Zones.{suffix_fault_text};
 
     ghost output = { λ fault. Some (suffix_fault_text fault) };
 

@@ -7,7 +7,7 @@ ghost use Rattle.jiff_core.specs.Timestamp.{IsTimestampNanos, IsOffsetSeconds, n
 ghost use Rattle.jiff_tz.specs.Zone as Zone;
 ghost use Rattle.time_values.specs.Moments.{offset_instant, plain_instant};
 ghost use Rattle.time_values.specs.Offsets.{offset_seconds};
-ghost use Rattle.time_values.specs.Range.{greatest_year};
+ghost use Rattle.time_values.specs.Calendar.{greatest_year};
 ghost use Rattle.time_zones.specs.Zones.{HasClock, IsTold, HasZoneOffset, IsOnlyMoment, IsNotOne, HasOneSource, HasNoThird};
 
 mod fast;
@@ -90,7 +90,7 @@ pub enum NotOne {
 
 impl fmt::Display for NotOne {
     ghost use Rattle.std.specs.Prelude.{Some};
-    ghost use Rattle.time_zones.specs.Texts.{not_one_text};
+    ghost use Rattle.time_zones.specs.Zones.{not_one_text};
 
     ghost output = { λ why. Some (not_one_text why) };
 
@@ -121,6 +121,7 @@ fn civil_from(clock: PlainDateTime) -> Option<DateTime>
 }
 
 // The moment at which a clock with that offset shows the date and time.
+#[tactic(auto, using(time_values::proofs::InstantLemmas::instant_is))]
 fn moment_with(clock: PlainDateTime, offset: Offset) -> OffsetDateTime
     ensures { HasClock clock offset.seconds result }
 {

@@ -1,7 +1,6 @@
 //! Zones by their names, each from its own file.
 ghost use Rattle.std.specs.Prelude.{◌≡◌, ◌≢◌, ◌↔◌, Ok, Err, Some, None, option_map, string_bytes, codes, IfOk, IfErr, ◌++◌, ◌∷◌};
-ghost use Rattle.time_zones.specs.Finding.{IsZoneOf, ReadsTo, IsFoundAt, IsFound, IsVariableFault, name_of};
-ghost use Rattle.time_zones.specs.Names.{IsZoneName};
+ghost use Rattle.time_zones.specs.Finding.{IsZoneOf, ReadsTo, IsFoundAt, IsFound, IsVariableFault, name_of, IsZoneName};
 
 use crate::files::{Disk, ReadFault, ZoneFiles};
 use crate::place::{Place, asked};

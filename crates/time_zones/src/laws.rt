@@ -1,7 +1,6 @@
 //! Laws of the clocks of zones: each contract is a law of what the function hands out.
 ghost use Rattle.std.specs.Prelude.{◌≡◌, ◌↔◌, Some, IsSome, IfSome, Result};
-ghost use Rattle.time_zones.specs.Checking.{OneCheck};
-ghost use Rattle.time_zones.specs.Suffix.{OneSuffix, NamesInFolder, WrittenIsSuffix};
+ghost use Rattle.time_zones.specs.Suffix.{OneCheck, OneSuffix, NamesInFolder, WrittenIsSuffix};
 ghost use Rattle.time_zones.specs.Zones.{IsTold, HasZoneOffset, IsAnswer, GivesBack};
 ghost use Rattle.time_zones.specs.declared.clocks.NotOne.{NotOne as NotOne_};
 ghost use Rattle.time_values.specs.declared.offset_date_time.OffsetDateTime.{OffsetDateTime as Moment};
@@ -42,19 +41,19 @@ pub fn law_one_suffix()
 {}
 
 /// What `write_suffix` writes of a zone is a suffix of that zone, with no tags.
-#[tactic(auto, using(crate::proofs::SuffixNameLemmas::written_is_suffix))]
+#[tactic(auto, using(crate::proofs::NameLemmas::written_is_suffix))]
 pub fn law_written_suffix()
     ensures { WrittenIsSuffix }
 {}
 
 /// The name of a zone in a suffix is that of a file in the folder of zones.
-#[tactic(auto, using(crate::proofs::SuffixNameLemmas::names_in_folder))]
+#[tactic(auto, using(crate::proofs::NameLemmas::names_in_folder))]
 pub fn law_names_in_folder()
     ensures { NamesInFolder }
 {}
 
 /// A suffix goes with a moment or is refused for one reason, by what both say and the zones.
-#[tactic(auto, using(crate::proofs::CheckingLemmas::one_check))]
+#[tactic(auto, using(crate::proofs::FolderLemmas::one_check))]
 pub fn law_one_check()
     ensures { OneCheck }
 {}

@@ -1,6 +1,6 @@
 //! What the name of a zone asks for, and what the variable `TZ` does.
 ghost use Rattle.std.specs.Prelude.{◌≡◌, ◌↔◌, IsTrue, option_map};
-ghost use Rattle.time_zones.specs.Names.{IsPart, IsZoneName, AsksFor, AsksForPath, AsksBySetting, IsAsked};
+ghost use Rattle.time_zones.specs.Finding.{IsPart, IsZoneName, AsksFor, AsksForPath, AsksBySetting, IsAsked};
 
 use jiff_tz::posix;
 

@@ -2,17 +2,15 @@
 ghost use Rattle.std.specs.Prelude.{◌≡◌, ◌≢◌, ◌<◌, ◌≤◌, ℕ, Bool, false, List, [], ◌∷◌, Some, length, take, option_map, IfSome, IfNone};
 ghost use Rattle.std.specs.List.{prefix_len};
 ghost use Rattle.time_zones.specs.Suffix as suffix;
-ghost use Rattle.time_zones.specs.Suffix.{Zone, IsZoneText, Tag, critical_key, IsLongest};
+ghost use Rattle.time_zones.specs.Suffix.{Zone, IsZoneText, Tag, critical_key, IsLongest, Says, zone_of, zone_tag_of};
 ghost use Rattle.time_zones.specs.SuffixFronts as fronts;
 ghost use Rattle.time_zones.specs.SuffixFronts.{BeginsBracketed, BeginsWithZone, HasNoZone, BeginsWithTag, HasNoTag, BeginsWithTags};
-ghost use Rattle.time_zones.specs.SuffixValues.{Says, zone_of, zone_tag_of};
 
 mod texts;
-mod writing;
 
+pub use texts::write_suffix;
 use texts::{after, is_zone_char, is_zone_name, key_of, offset_of};
 use time_values::UtcOffset;
-pub use writing::write_suffix;
 
 /// How a suffix tells the zone.
 #[derive(Clone, Copy, Debug, PartialEq, Eq)]

@@ -38,7 +38,7 @@ impl From<AllocError> for ZoneFault {
 }
 
 impl fmt::Display for ZoneFault {
-    ghost use Rattle.time_zones.specs.Texts.{fault_text};
+    ghost use Rattle.time_zones.specs.Zones.{fault_text};
 
     ghost output = { fault_text };
 

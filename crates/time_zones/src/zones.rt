@@ -1,6 +1,6 @@
 //! Zones by their names, each read once.
 ghost use Rattle.std.specs.Prelude.{◌≡◌, ℕ, List, map, Some, None, codes, IfOk, IfErr, OnOk, OnErr, IsOkUnless};
-ghost use Rattle.time_zones.specs.Folder.{zone_named, SameNamed, IsInserted, IsZoneIfAny, AddsFound, AreZonesOf, IsFolderFault};
+ghost use Rattle.time_zones.specs.Finding.{zone_named, SameNamed, IsInserted, IsZoneIfAny, AddsFound, AreZonesOf, IsFolderFault};
 ghost use Rattle.time_zones.specs.declared.finding.NamedZone.TheVariants as Named;
 
 use crate::files::{Disk, ZoneFiles};

@@ -1,6 +1,6 @@
 //! The ends of short lines, many bytes at once.
 ghost use Rattle.std.specs.Prelude.{◌≡◌, ◌∷◌, ◌+◌, ◌<◌, length, take, drop, IfSome};
-ghost use Rattle.programs_answers.specs.Lines.{lines_of};
+ghost use Rattle.programs_answers.specs.Output.{lines_of};
 
 use std::simd::prelude::*;
 

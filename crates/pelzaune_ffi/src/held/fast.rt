@@ -1,16 +1,15 @@
 //! Whole texts of one form, as values with no record, and the steps that are read where they lie, with no call for the
 //! commonest.
 ghost use Rattle.std.specs.Prelude.{◌≡◌, [], ◌∷◌, IfSome, Ok, false, map};
-ghost use Rattle.time_values.specs.Range.{greatest_year};
-ghost use Rattle.time_components.specs.Steps.{further, steps_after, steps_shape, steps_trees, tree_at};
+ghost use Rattle.time_values.specs.Calendar.{greatest_year};
+ghost use Rattle.time_components.specs.Tree.{further, steps_after, steps_shape, steps_trees, tree_at, literal};
 ghost use Rattle.time_components.specs.Tree as tree;
-ghost use Rattle.time_components.specs.Tree.{literal};
 ghost use Rattle.time_record.specs.Reading.{Reads, Refuses};
 ghost use Rattle.time_record.specs.Record.{Record, empty};
 ghost use Rattle.time_record.specs.Resolution.{IsDated, IsMoment, IsPlain, IsTimed};
-ghost use Rattle.time_record.specs.WalkFast.{IsLeaf, MayRead};
+ghost use Rattle.time_record.specs.WalkSteps.{IsLeaf, MayRead};
 ghost use Rattle.time_parsing.specs.Outcome.{IsOutcome};
-ghost use Rattle.pelzaune_ffi.specs.Held as Held;
+ghost use Rattle.pelzaune_ffi.specs.Described as Held;
 
 mod forms;
 

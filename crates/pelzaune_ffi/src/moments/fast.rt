@@ -6,12 +6,12 @@ pub(super) mod rfc2822;
 
 ghost use Rattle.std.specs.Prelude.{◌≡◌, ◌≢◌, ◌<◌, ◌≤◌, IfSome, List, ℕ, Ok, None, [], false, length, pos, slice_index};
 ghost use Rattle.time_values.specs.Offsets.{HasOffset, offset_refusal};
-ghost use Rattle.time_values.specs.Range.{greatest_year};
+ghost use Rattle.time_values.specs.Calendar.{greatest_year};
 ghost use Rattle.time_values.specs.Refusal.{Constructs};
 ghost use Rattle.time_values.specs.Times.{HasClock, time_refusal};
-ghost use Rattle.time_digits.specs.Cuts.{Cut};
+ghost use Rattle.time_digits.specs.Digits.{Cut};
 ghost use Rattle.time_readers.specs.Direct.{HasDate, IsMade, RefusesRfc3339, date_refusal};
-ghost use Rattle.time_readers.specs.Places.{Stand};
+ghost use Rattle.time_readers.specs.Readers.{Stand};
 ghost use Rattle.time_readers.specs.Rfc3339.{Asks, HasForm, offset_places};
 ghost use Rattle.time_readers.specs.declared.rfc3339.Place.TheVariants as place;
 ghost use Rattle.time_parsing.specs.Outcome.{direct};
@@ -97,7 +97,7 @@ fn offset_of(said: Said) -> Option<UtcOffset>
 
 // The date that is said. `None`: there is none.
 #[inline(always)]
-#[tactic(auto, using(crate::proofs::InPlace::date_of))]
+#[tactic(auto, using(crate::proofs::IsoInPlace::date_of))]
 fn date_of(said: Said) -> Option<Date>
     ensures { IfSome result (λ d. Constructs (date_refusal greatest_year said) (HasDate said) (Ok d)) }
 {

@@ -1,7 +1,6 @@
 //! The commonest errors of parses, whose texts need no `Display`.
 ghost use Rattle.std.specs.Prelude.{◌≡◌, ◌++◌, codes, IfSome};
-ghost use Rattle.time_values.specs.Refusal.{refusal_of};
-ghost use Rattle.time_values.specs.Texts.{refusal_text};
+ghost use Rattle.time_values.specs.Refusal.{refusal_of, refusal_text};
 
 use time_values::error::{Parse, ParseFromDescription, TryFromParsed};
 

@@ -3,7 +3,7 @@
 //! Each function answers what is seen of bytes alone. `None`: nothing is seen, and the formats are asked.
 ghost use Rattle.std.specs.Prelude.{◌≡◌, ◌≤◌, ◌<◌, ◌+◌, ◌∷◌, ℕ, length, slice_index, true, false, None, IfSome, IsTrue};
 ghost use Rattle.std.specs.Char.{is_ascii_digit, is_ascii_alphanumeric};
-ghost use Rattle.time_values.specs.Range.{greatest_year};
+ghost use Rattle.time_values.specs.Calendar.{greatest_year};
 ghost use Rattle.restamp_verdict.specs.Begins as begins;
 ghost use Rattle.restamp_verdict.specs.Job.{SaysAlone, is_inside};
 

@@ -1,9 +1,8 @@
 //! Texts of moments, put where they stay.
 ghost use Rattle.std.specs.Prelude.{◌<◌, ◌+◌, ◌^◌, IfSome, Ok};
-ghost use Rattle.time_values.specs.Range.{greatest_year};
+ghost use Rattle.time_values.specs.Calendar.{greatest_year};
 ghost use Rattle.restamp_verdict.specs.Form as spec;
-ghost use Rattle.restamp_verdict.specs.Job.{IsPut};
-ghost use Rattle.restamp_verdict.specs.Outcome.{EndsWithin, IsDecided};
+ghost use Rattle.restamp_verdict.specs.Job.{IsPut, EndsWithin, IsDecided};
 ghost use Rattle.restamp_verdict.specs.declared.form.Writing.TheVariants as writing;
 
 use crate::clock::Clock;

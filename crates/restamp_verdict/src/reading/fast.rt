@@ -1,6 +1,6 @@
 //! The front of an open place that a moment of RFC 3339 takes, read with no record.
 ghost use Rattle.std.specs.Prelude.{◌≤◌, ◌+◌, length, true, IfSome, Ok};
-ghost use Rattle.time_values.specs.Range.{greatest_year};
+ghost use Rattle.time_values.specs.Calendar.{greatest_year};
 ghost use Rattle.time_readers.specs.Direct.{RefusesRfc3339};
 ghost use Rattle.time_parsing.specs.Outcome.{direct};
 ghost use Rattle.time_parsing.specs.Rfc3339.{Reads, Refuses};

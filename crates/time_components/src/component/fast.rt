@@ -4,11 +4,10 @@
 //! plain reader decides.
 ghost use Rattle.std.specs.Prelude.{◌≡◌, IfSome, take, true};
 ghost use Rattle.std.specs.Int.NonZero.{non_zero_u16_get};
-ghost use Rattle.time_digits.specs.Cuts.{Cut};
+ghost use Rattle.time_digits.specs.Digits.{Cut};
 ghost use Rattle.time_values.specs.Names as Names;
-ghost use Rattle.time_components.specs.Names.{period_name};
+ghost use Rattle.time_components.specs.Spelling.{period_name, IsFractionRun, IsNameOf, IsPositiveRun, IsShortOf, Says, SaysOffsetHour, SaysYear, flagged, least_digits, month, most_digits, number, signed, weekday};
 ghost use Rattle.time_components.specs.Spelling as Spelling;
-ghost use Rattle.time_components.specs.Spelling.{IsFractionRun, IsNameOf, IsPositiveRun, IsShortOf, Says, SaysOffsetHour, SaysYear, flagged, least_digits, month, most_digits, number, signed, weekday};
 
 use crate::combinator::{exactly_n_digits, sign, two_digits};
 use crate::component::numbers::signed_hour;

@@ -1,13 +1,14 @@
-//! Numbers under a padding, and numbers with a sign.
+//! Numbers under a padding, numbers with a sign, and fractions of a second.
 ghost use Rattle.std.specs.Prelude.{◌≡◌, ◌+◌, ◌*◌, ◌^◌, ◌<◌, ◌≤◌, pos};
 ghost use Rattle.time_values.specs.Sign.{signed_by};
-ghost use Rattle.time_digits.specs.Bytes.{is_negative};
-ghost use Rattle.time_digits.specs.Cuts.{Finds, NoCut};
-ghost use Rattle.time_digits.specs.Digits.{IsDigitRun, IsPaddedRun};
+ghost use Rattle.time_digits.specs.Digits.{is_negative, Finds, NoCut, IsDigitRun, IsPaddedRun};
 ghost use Rattle.time_digits.specs.declared.Padding.TheVariants.{Space};
-ghost use Rattle.time_components.specs.Spelling.{IsPositiveRun, Says, SaysYear, SaysCentury, SaysTimestamp, SaysOffsetHour, IsSigned, number, signed, flagged, positive};
+ghost use Rattle.time_components.specs.Spelling.{IsPositiveRun, Says, SaysYear, SaysCentury, SaysTimestamp, SaysOffsetHour, IsSigned, number, signed, flagged, positive, IsFractionRun};
 
-use crate::combinator::{self, n_to_m_digits_padded, one_or_two_digits, sign};
+use crate::combinator::{
+    self, exactly_n_digits, leading_digits, n_to_m_digits, n_to_m_digits_padded, one_or_two_digits,
+    sign,
+};
 use crate::{Integer, Padding, ParsedItem, Sign};
 use std::num::NonZero;
 
@@ -43,7 +44,7 @@ pub(super) fn two_digits(input: &[u8], padding: Padding) -> Option<ParsedItem<'_
 
 // Reads a space and a digit, where two digits don't stand.
 #[inline(always)]
-#[tactic(auto, using(time_digits::proofs::PaddedRuns::no_spaced_digit))]
+#[tactic(auto, using(time_digits::proofs::Runs::no_spaced_digit))]
 fn spaced_digit(input: &[u8]) -> Option<ParsedItem<'_, u8>>
     requires { NoCut (IsDigitRun 2 2) input.now }
     ensures { Finds (IsPaddedRun Space 2 2) (λ v. v) input.now result }
@@ -228,4 +229,46 @@ fn signed_nanoseconds(sign: Sign, nanoseconds: u128) -> i128
         Sign::Negative => -(nanoseconds as i128),
         Sign::Positive => nanoseconds as i128,
     }
+}
+
+// Reads a fraction of exactly `N` digits, in nanoseconds.
+#[inline]
+pub(super) fn fraction<const N: u8>(input: &[u8]) -> Option<ParsedItem<'_, u32>>
+    requires least { 1 ≤ N }
+    requires most { N ≤ 9 }
+    ensures { Finds (Says number (IsFractionRun N N)) number input.now result }
+{
+    let digits = exactly_n_digits::<N>(input)?;
+    Some(ParsedItem(digits.0, digits.1 * power_of_ten(9 - usize::from(N))))
+}
+
+// Reads a fraction of 1 to 32 digits, in nanoseconds. The first nine digits count.
+#[inline]
+pub(super) fn long_fraction(input: &[u8]) -> Option<ParsedItem<'_, u32>>
+    ensures { Finds (Says number (IsFractionRun 1 32)) number input.now result }
+{
+    let digits = n_to_m_digits::<1, 9, u32>(input)?;
+    let count = input.len() - digits.0.len();
+    let dropped = leading_digits(digits.0, 23);
+    Some(ParsedItem(&digits.0[dropped..], digits.1 * power_of_ten(9 - count)))
+}
+
+// Ten to that power, below nine.
+#[inline]
+fn power_of_ten(exponent: usize) -> u32
+    requires { exponent < 9 }
+    ensures { result ≡ 10 ^ exponent }
+{
+    const POWERS: [u32; 9] = [
+        1,
+        10,
+        100,
+        1_000,
+        10_000,
+        100_000,
+        1_000_000,
+        10_000_000,
+        100_000_000,
+    ];
+    POWERS[exponent]
 }

@@ -2,8 +2,7 @@
 //!
 //! Each reader answers what the grammar's reader of the same name answers, or `None`: not this form.
 ghost use Rattle.std.specs.Prelude.{◌≤◌, IfSome};
-ghost use Rattle.time_digits.specs.Cuts.{Cut};
-ghost use Rattle.time_digits.specs.Digits.{IsDigitRun, IsFraction};
+ghost use Rattle.time_digits.specs.Digits.{Cut, IsDigitRun, IsFraction};
 
 use crate::ParsedItem;
 use crate::combinator::grammar::without_digits;

@@ -1,7 +1,6 @@
 //! Runs of digits and of spaces, one byte after another.
 ghost use Rattle.std.specs.Prelude.{◌≡◌, ◌-◌, ◌^◌, ◌<◌, ◌≤◌, ◌⊎◌, ℕ, List, ◌++◌, MatchOption, IsTrue, ◌↔◌, length, take, drop, replicate};
-ghost use Rattle.time_digits.specs.Cuts.{Finds};
-ghost use Rattle.time_digits.specs.Digits.{IsDigit, AllDigits, digits_value, NoDigitFirst, NoSpaceFirst, IsDigitRun, IsDigitRunUpTo, IsFraction};
+ghost use Rattle.time_digits.specs.Digits.{Finds, IsDigit, AllDigits, digits_value, NoDigitFirst, NoSpaceFirst, IsDigitRun, IsDigitRunUpTo, IsFraction};
 
 use crate::combinator::{n_to_m_digits, three_digits, two_digits};
 use crate::{Integer, ParsedItem};

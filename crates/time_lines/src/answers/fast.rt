@@ -2,7 +2,7 @@
 //!
 //! What `request` answers is what `cut_request` finds, field by field. `None`: not this form.
 ghost use Rattle.std.specs.Prelude.{◌≡◌, ℕ, List, ◌++◌, IfSome};
-ghost use Rattle.time_values.specs.Range.{greatest_year};
+ghost use Rattle.time_values.specs.Calendar.{greatest_year};
 ghost use Rattle.programs_answers.specs.Formats as formats;
 ghost use Rattle.programs_answers.specs.Output.{IsParsed};
 ghost use Rattle.time_lines.specs.Pieces.{BeginsNamed};

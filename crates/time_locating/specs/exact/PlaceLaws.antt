@@ -1,14 +1,30 @@
 -- A text has one place by the places of a format.
-use Rattle.std.proofs.Common.{◌≡◌, ℕ, ◌⊎◌, List, [], ◌∷◌, ◌++◌, length, ap, sym, ◌∙◌, subst, inl, inr, true, false, Option}
+use Rattle.std.specs.Option.{option_or}
+use Rattle.std.proofs.Common.{◌≡◌, ℕ, ◌⊎◌, List, [], ◌∷◌, ◌++◌, length, ap, sym, ◌∙◌, subst, inl, inr, true, false, Option, Some}
+use Rattle.std.proofs.lemmas.Option.{none-some, same_Some}
 use Rattle.time_values.specs.Refusal.{Refusal}
-use Rattle.time_digits.specs.Cuts.{Cut, NoCut}
-use Rattle.time_readers.specs.Places.{Format, Stand, StopsAt}
-use Rattle.time_readers.proofs.OneReading.{AtMostOneEach, one_form}
+use Rattle.time_digits.specs.Digits.{Cut, NoCut}
+use Rattle.time_components.specs.Tree.{Tree, Trees, literal, component, sequence, optional, first_of, none as tree_none, more}
+use Rattle.time_readers.specs.Readers.{Format, Stand, StopsAt}
+use Rattle.time_readers.specs.Rfc2822.{Asks, fault, places, nothing_read}
+use Rattle.time_readers.specs.Rfc3339.{Asks as Rfc3339Asks, fault as rfc3339_fault, places as rfc3339_places, nothing_read as rfc3339_nothing_read}
+use Rattle.time_readers.proofs.Repeats.{AtMostOneEach, one_form, Asks-unique}
+use Rattle.time_readers.proofs.OneMailDate.{MailAsks-unique}
 use Rattle.time_record.specs.Record.{Record}
+use Rattle.time_record.specs.Reading.{Reads as TreeReads}
+use Rattle.time_record.proofs.Unique.{Reads-unique}
 use Rattle.time_parsing.specs.Outcome.{Reading}
-use Rattle.time_locating.specs.ByPlaces.{Beginning, LocatesPlace, MarksPlaces, MarksText, is_place_of}
+use Rattle.time_parsing.specs.Iso8601.{Reads}
+use Rattle.time_parsing.specs.Rfc3339.{with_leap_second, Reads as Rfc3339Reads}
+use Rattle.time_parsing.specs.Rfc2822.{Reads as Rfc2822Reads}
+use Rattle.time_locating.specs.Marks.{Beginning, LocatesPlace, MarksPlaces, MarksText, is_place_of, Marks as TreeMarks, MarksAll, MarksFirst, MarksTree, at_once}
 use Rattle.time_locating.specs.Located.{IsExactMark, IsExactPlace}
-use Rattle.time_locating.specs.Misses.{Miss, Wanted, missed, the_end}
+use Rattle.time_locating.specs.Misses.{Miss, Wanted, missed, the_end, furthest, place_after, LocatesTree, Misses, MissesAll, MissesFirst, Telling}
+use Rattle.time_locating.specs.IsoMarks.{Marks}
+use Rattle.time_locating.specs.Iso8601.{Locates, misses, rest_of}
+use Rattle.time_locating.specs.Misses as misses
+use Rattle.time_locating.specs.Rfc2822.{Locates as Rfc2822Locates, Marks as Rfc2822Marks, wanted_at, wanted_from}
+use Rattle.time_locating.specs.Rfc3339.{Locates as Rfc3339Locates, Marks as Rfc3339Marks, wanted_at as rfc3339_wanted_at}
 
 -- the bytes before which a place doesn't stand
 abbrev StopsBefore : {P N : Type 0} → Format P N → List P → N → List ℕ → List ℕ → Type 0
@@ -105,3 +121,149 @@ module _ {P N : Type 0} (A : Format P N) (one : AtMostOneEach A) (wanted_from : 
 
   pub place_exact_mark : IsExactMark (λ name b r mark. MarksText A wanted_from fault ps start name b mark)
   place_exact_mark name b r x y h k = MarksText-one name b x y h k
+
+-- ---- A text has one place by ISO 8601, since the place is a function. `Y` is the greatest year.
+
+-- the place after what is read
+abbrev place_of : ℕ → List ℕ → Record → Option (List ℕ × Record) → Option Miss
+place_of Y b r read = place_after (rest_of read) (furthest (misses Y b (with_leap_second r)))
+
+pub iso8601_exact_place : (Y : ℕ) → IsExactPlace (Reads Y) (Locates Y)
+iso8601_exact_place Y = record {
+  one_place = λ b r m n h k. same_Some m n (sym h ∙ k);
+  not_read = λ b r q m h k. none-some m (sym (ap (place_of Y b r) k) ∙ h);
+}
+
+pub iso8601_exact_mark : (Y : ℕ) → IsExactMark (Marks Y)
+iso8601_exact_mark Y name b r x y h k = h ∙ sym k
+
+-- ---- A text has one mark of each name by a tree. `Y` is the greatest year.
+
+mutual
+  unfolding TreeMarks MarksAll MarksFirst
+
+  Marks-one : (Y : ℕ) (name : List ℕ) (t : Tree) (b : List ℕ) (r : Record) (x y : Option ℕ)
+      → TreeMarks Y name t b r x → TreeMarks Y name t b r y → x ≡ y
+  Marks-one Y name (literal t) b r x y h k = h ∙ sym k
+  Marks-one Y name (component w c) b r x y h k = h ∙ sym k
+  Marks-one Y name (sequence ts) b r x y h k = MarksAll-one Y name ts b r x y h k
+  Marks-one Y name (optional t) b r x y (inl h) (inl k) = Marks-one Y name t b r x y h.3 k.3
+  Marks-one Y name (optional t) b r x y (inl h) (inr k) = absurd (k.0 h.0 h.1 h.2)
+  Marks-one Y name (optional t) b r x y (inr h) (inl k) = absurd (h.0 k.0 k.1 k.2)
+  Marks-one Y name (optional t) b r x y (inr h) (inr k) = h.1 ∙ sym k.1
+  Marks-one Y name (first_of ts) b r x y h k = MarksFirst-one Y name ts b r x y h k
+
+  MarksAll-one : (Y : ℕ) (name : List ℕ) (ts : Trees) (b : List ℕ) (r : Record) (x y : Option ℕ)
+      → MarksAll Y name ts b r x → MarksAll Y name ts b r y → x ≡ y
+  MarksAll-one Y name tree_none b r x y h k = h ∙ sym k
+  MarksAll-one Y name (more t ts) b r x y (i, h, mid, q, s, l, hs, is) (j, k, end, p, u, m, ks, be) =
+      let one = Reads-unique Y t b r mid q end p s u in
+      let over_q = subst (λ z. MarksAll Y name ts end z m) (sym one.1) ks in
+      let there = subst (λ z. MarksAll Y name ts z q m) (sym one.0) over_q in
+      let same = Marks-one Y name t b r i j h k in
+      let later = MarksAll-one Y name ts mid q l m hs there in
+      is ∙ ap (λ z. option_or z i) later ∙ ap (λ z. option_or m z) same ∙ sym be
+
+  MarksFirst-one : (Y : ℕ) (name : List ℕ) (ts : Trees) (b : List ℕ) (r : Record) (x y : Option ℕ)
+      → MarksFirst Y name ts b r x → MarksFirst Y name ts b r y → x ≡ y
+  MarksFirst-one Y name tree_none b r x y h k = h ∙ sym k
+  MarksFirst-one Y name (more t ts) b r x y (inl h) (inl k) = Marks-one Y name t b r x y h.3 k.3
+  MarksFirst-one Y name (more t ts) b r x y (inl h) (inr k) = absurd (k.0 h.0 h.1 h.2)
+  MarksFirst-one Y name (more t ts) b r x y (inr h) (inl k) = absurd (h.0 k.0 k.1 k.2)
+  MarksFirst-one Y name (more t ts) b r x y (inr h) (inr k) = MarksFirst-one Y name ts b r x y h.1 k.1
+
+pub tree_exact_mark : (Y : ℕ) (t : Tree) → IsExactMark (MarksTree Y t)
+tree_exact_mark Y t name b r x y h k = Marks-one Y name (optional t) b r x y h k
+
+-- ---- A tree has one list of misses, and a text one place. `Y` is the greatest year.
+
+MissesLeaf-one : (Y : ℕ) (t : Tree) (w : Wanted) (b : List ℕ) (r : Record) (ms ns : List Miss)
+    → misses.MissesLeaf Y t w b r ms → misses.MissesLeaf Y t w b r ns → ms ≡ ns
+MissesLeaf-one Y t w b r ms ns (inl h) (inl k) = h.1 ∙ sym k.1
+MissesLeaf-one Y t w b r ms ns (inl h) (inr k) = absurd (k.0 h.0.0 h.0.1 h.0.2)
+MissesLeaf-one Y t w b r ms ns (inr h) (inl k) = absurd (h.0 k.0.0 k.0.1 k.0.2)
+MissesLeaf-one Y t w b r ms ns (inr h) (inr k) = h.1 ∙ sym k.1
+
+mutual
+  unfolding Misses MissesAll MissesFirst
+
+  pub Misses-one : (Y : ℕ) (told : Telling) (t : Tree) (b : List ℕ) (r : Record) (ms ns : List Miss)
+      → Misses Y told t b r ms → Misses Y told t b r ns → ms ≡ ns
+  Misses-one Y told (literal x) b r ms ns h k = h ∙ sym k
+  Misses-one Y told (component w c) b r ms ns h k = MissesLeaf-one Y (component w c) _ b r ms ns h k
+  Misses-one Y told (sequence ts) b r ms ns h k = MissesAll-one Y told ts b r ms ns h k
+  Misses-one Y told (optional t) b r ms ns h k = Misses-one Y told t b r ms ns h k
+  Misses-one Y told (first_of ts) b r ms ns h k = MissesFirst-one Y told ts b r ms ns h k
+
+  MissesAll-one : (Y : ℕ) (told : Telling) (ts : Trees) (b : List ℕ) (r : Record) (ms ns : List Miss)
+      → MissesAll Y told ts b r ms → MissesAll Y told ts b r ns → ms ≡ ns
+  MissesAll-one Y told tree_none b r ms ns h k = h ∙ sym k
+  MissesAll-one Y told (more t ts) b r ms ns (i, h, inl hs) (j, k, inl ks) =
+      hs.1 ∙ Misses-one Y told t b r i j h k ∙ sym ks.1
+  MissesAll-one Y told (more t ts) b r ms ns (i, h, inl hs) (j, k, inr ks) = absurd (hs.0 ks.0 ks.1 ks.2)
+  MissesAll-one Y told (more t ts) b r ms ns (i, h, inr hs) (j, k, inl ks) = absurd (ks.0 hs.0 hs.1 hs.2)
+  MissesAll-one Y told (more t ts) b r ms ns (i, h, inr (x, q, s, a, hs, is)) (j, k, inr (y, p, u, c, ks, be)) =
+      let one = Reads-unique Y t b r x q y p s u in
+      let over_q = subst (λ z. MissesAll Y told ts y z c) (sym one.1) ks in
+      let there = subst (λ z. MissesAll Y told ts z q c) (sym one.0) over_q in
+      let same = Misses-one Y told t b r i j h k in
+      let later = MissesAll-one Y told ts x q a c hs there in
+      is ∙ ap (λ z. z ++ i) later ∙ ap (λ z. c ++ z) same ∙ sym be
+
+  MissesFirst-one : (Y : ℕ) (told : Telling) (ts : Trees) (b : List ℕ) (r : Record) (ms ns : List Miss)
+      → MissesFirst Y told ts b r ms → MissesFirst Y told ts b r ns → ms ≡ ns
+  MissesFirst-one Y told tree_none b r ms ns h k = h ∙ sym k
+  MissesFirst-one Y told (more t ts) b r ms ns (i, h, inl (x, q, s, is)) (j, k, inl (y, p, u, be)) =
+      is ∙ Misses-one Y told t b r i j h k ∙ sym be
+  MissesFirst-one Y told (more t ts) b r ms ns (i, h, inl (x, q, s, is)) (j, k, inr ks) = absurd (ks.0 x q s)
+  MissesFirst-one Y told (more t ts) b r ms ns (i, h, inr hs) (j, k, inl (y, p, u, be)) = absurd (hs.0 y p u)
+  MissesFirst-one Y told (more t ts) b r ms ns (i, h, inr (s, a, hs, is)) (j, k, inr (u, c, ks, be)) =
+      let same = Misses-one Y told t b r i j h k in
+      let later = MissesFirst-one Y told ts b r a c hs ks in
+      is ∙ ap (λ z. z ++ a) same ∙ ap (λ z. j ++ z) later ∙ sym be
+
+module _ (Y : ℕ) (told : Telling) (t : Tree) (b : List ℕ) (r : Record) where
+  MissesText-one : (ms ns : List Miss) → misses.MissesText Y told t b r ms → misses.MissesText Y told t b r ns → ms ≡ ns
+  MissesText-one ms ns (inl h) (inl k) = Misses-one Y told t b r ms ns h.1 k.1
+  MissesText-one ms ns (inl h) (inr k) = absurd (h.0 k.0 k.1 k.2)
+  MissesText-one ms ns (inr h) (inl k) = absurd (k.0 h.0 h.1 h.2)
+  MissesText-one ms ns (inr (x, q, s, some, a, h, is)) (inr (y, p, u, more_some, c, k, be)) =
+      let rests = (Reads-unique Y t b r x q y p s u).0 in
+      let same = Misses-one Y told t b r a c h k in
+      is ∙ ap (λ z. misses.missed (length z) the_end ∷ a) rests
+      ∙ ap (λ z. misses.missed (length y) the_end ∷ z) same ∙ sym be
+
+  MissesText-unread : (q : Record) (ms : List Miss) → misses.MissesText Y told t b r ms → TreeReads Y t b r [] q → ⊥
+  MissesText-unread q ms (inl h) k = h.0 [] q k
+  MissesText-unread q ms (inr (x, p, s, some, a, h, is)) k = some (Reads-unique Y t b r x p [] q s k).0
+
+  LocatesTree-one : (m n : Miss) → LocatesTree Y told t b r m → LocatesTree Y told t b r n → m ≡ n
+  LocatesTree-one m n (ms, h, is) (ns, k, be) =
+      let same : Some m ≡ Some n = is ∙ ap furthest (MissesText-one ms ns h k) ∙ sym be in cc
+
+pub tree_exact_place : (Y : ℕ) (told : Telling) (t : Tree) → IsExactPlace (TreeReads Y t) (LocatesTree Y told t)
+tree_exact_place Y told t = record {
+  one_place = λ b r m n h k. LocatesTree-one Y told t b r m n h k;
+  not_read = λ b r q m h k. MissesText-unread Y told t b r q h.0 h.1 k;
+}
+
+-- ---- A text has one place by RFC 2822. `Y` is the greatest year.
+
+pub rfc2822_exact_place : (Y : ℕ) → IsExactPlace (Rfc2822Reads Y) Rfc2822Locates
+rfc2822_exact_place Y =
+    place_exact (Asks true) (MailAsks-unique true) places nothing_read wanted_from wanted_at (Rfc2822Reads Y)
+    (λ b r q h. (h.0, h.1))
+
+pub rfc2822_exact_mark : IsExactMark Rfc2822Marks
+rfc2822_exact_mark = place_exact_mark (Asks true) (MailAsks-unique true) wanted_from fault places nothing_read
+
+-- ---- A text has one place by RFC 3339. `Y` is the greatest year.
+
+pub rfc3339_exact_place : (Y : ℕ) → IsExactPlace (Rfc3339Reads Y) Rfc3339Locates
+rfc3339_exact_place Y =
+    place_exact (Rfc3339Asks true) (Asks-unique true) rfc3339_places rfc3339_nothing_read at_once rfc3339_wanted_at
+    (Rfc3339Reads Y) (λ b r q h. (h.0, h.2))
+
+pub rfc3339_exact_mark : IsExactMark Rfc3339Marks
+rfc3339_exact_mark =
+    place_exact_mark (Rfc3339Asks true) (Asks-unique true) at_once rfc3339_fault rfc3339_places rfc3339_nothing_read

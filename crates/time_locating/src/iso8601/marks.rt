@@ -1,7 +1,7 @@
 //! Where the components begin that a text of ISO 8601 says.
 ghost use Rattle.std.specs.Prelude.{◌≡◌, map};
 ghost use Rattle.std.specs.Option.{option_copied};
-ghost use Rattle.time_values.specs.Range.{greatest_year};
+ghost use Rattle.time_values.specs.Calendar.{greatest_year};
 ghost use Rattle.time_readers.specs.IsoTimes.{time_text};
 ghost use Rattle.time_record.specs.Record.{Record};
 ghost use Rattle.time_locating.specs.IsoMarks as spec;
@@ -23,6 +23,7 @@ fn expects(expected: Expected<'_>, name: &str) -> bool
 }
 
 // Whether the piece says the component of this name.
+#[tactic(auto, using(crate::proofs::IsoDates::other_piece))]
 fn is_piece_of(piece: Piece, name: &str) -> bool
     ensures { result ≡ spec.is_piece_of name.now piece }
 {

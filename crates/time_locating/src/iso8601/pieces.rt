@@ -36,6 +36,7 @@ pub(crate) fn expected_at(piece: Piece) -> Expected<'static>
 }
 
 // What is left after a piece.
+#[tactic(auto, using(crate::proofs::IsoLengths::signed))]
 pub(crate) fn past(piece: Piece, input: &[u8]) -> Option<&[u8]>
     ensures { option_copied result ≡ spec.after piece input.now }
 {
@@ -69,6 +70,7 @@ fn past_value<V: Copy>(found: Option<ParsedItem<'_, V>>) -> Option<&[u8]>
 }
 
 // What is left after that byte.
+#[tactic(auto, using(crate::proofs::IsoLengths::finds_byte))]
 pub(crate) fn past_byte<const C: u8>(input: &[u8]) -> Option<&[u8]>
     ensures { option_copied result ≡ byte C input.now }
 {

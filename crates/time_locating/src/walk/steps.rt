@@ -1,11 +1,9 @@
 //! The walk over the steps of a description that was read from a text.
 ghost use Rattle.std.specs.Prelude.{◌≡◌, ◌∷◌, ℕ, List, length, MatchOption};
-ghost use Rattle.time_values.specs.Range.{greatest_year};
-ghost use Rattle.time_components.specs.Steps as steps_;
-ghost use Rattle.time_components.specs.Steps.{group_tree, steps_shape, steps_trees};
-ghost use Rattle.time_components.specs.Tree as tree;
-ghost use Rattle.time_components.specs.Tree.{Tree, first_of, more, none};
-ghost use Rattle.time_record.specs.Attempts.{Attempts};
+ghost use Rattle.time_values.specs.Calendar.{greatest_year};
+ghost use Rattle.time_components.specs.Tree as steps_;
+ghost use Rattle.time_components.specs.Tree.{group_tree, steps_shape, steps_trees, Tree, first_of, more, none};
+ghost use Rattle.time_record.specs.WalkSteps.{Attempts};
 ghost use Rattle.time_locating.specs.Located.{seen_miss};
 ghost use Rattle.time_locating.specs.Marks.{MarksTree};
 ghost use Rattle.time_locating.specs.Misses.{IsFurthest, Misses, MissesFirst, first_byte, furthest, literal_misses};
@@ -14,7 +12,7 @@ ghost use Rattle.time_locating.specs.StepRows.{IsSplit};
 
 use super::read_component;
 use crate::Expected;
-use crate::miss::{Miss, further, missed_at};
+use crate::mark::{Miss, further, missed_at};
 use std::slice;
 use time_components::{Group, Step};
 use time_record::Parsed;
@@ -140,14 +138,14 @@ fn literal<'a, 'd>(
     input: &'a [u8],
 ) -> (Option<&'a [u8]>, Option<Miss<'d>>, Option<usize>)
     ensures reads { let text = byte.now ∷ steps_.further inside.now in
-        steps_trees item.now ≡ more (tree.literal text) none
-        → Attempts greatest_year (tree.literal text) input.now parsed.old result.0 parsed.new }
+        steps_trees item.now ≡ more (steps_.literal text) none
+        → Attempts greatest_year (steps_.literal text) input.now parsed.old result.0 parsed.new }
     ensures misses { let text = byte.now ∷ steps_.further inside.now in
-        steps_trees item.now ≡ more (tree.literal text) none
-        → IsFurthest (Misses greatest_year first_byte (tree.literal text) input.now parsed.old) (seen_miss result.1) }
+        steps_trees item.now ≡ more (steps_.literal text) none
+        → IsFurthest (Misses greatest_year first_byte (steps_.literal text) input.now parsed.old) (seen_miss result.1) }
     ensures marks { (name : List ℕ) → let text = byte.now ∷ steps_.further inside.now in
-        steps_trees item.now ≡ more (tree.literal text) none
-        → MarksTree greatest_year (tree.literal text) name input.now parsed.old result.2 }
+        steps_trees item.now ≡ more (steps_.literal text) none
+        → MarksTree greatest_year (steps_.literal text) name input.now parsed.old result.2 }
 {
     match parsed.parse_steps(input, item) {
         Ok(rest) => (Some(rest), None, None),
@@ -199,6 +197,7 @@ fn inside(step: &Step, behind: &[Step]) -> usize
 }
 
 // How many further bytes of a literal stand in front of the steps.
+#[tactic(auto, using(crate::proofs::MissLemmas::other_at))]
 fn more_bytes(steps: &[Step]) -> usize
     ensures { result ≡ length (steps_.further steps.now) }
 {

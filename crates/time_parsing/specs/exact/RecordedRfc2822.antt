@@ -1,31 +1,50 @@
 -- The record of a mail date, over an empty one.
-use Rattle.std.proofs.Common.{◌≡◌, ◌≤◌, ℕ, pos, Bool, true, false, refl, sym, ap, ◌∙◌, subst, arith, List, [], Option, Some, None, Result, Ok, Err, IfSome}
-use Rattle.std.specs.Prelude.{◌==◌, ◌++◌, ◌∷◌, if◌then◌else◌, unsigned_abs, is_none, unwrap_or}
+use Rattle.std.specs.Prelude.{◌≡◌, ℕ, List, [], ◌∷◌, ◌++◌, Some, refl, ◌==◌, if◌then◌else◌, unsigned_abs, is_none, unwrap_or}
+use Rattle.std.proofs.Common.{◌≤◌, pos, Bool, true, false, sym, ap, ◌∙◌, subst, arith, Option, None, Result, Ok, Err, IfSome}
 use Rattle.std.proofs.lemmas.Bool.{le-leb}
 use Rattle.std.proofs.lemmas.Option.{same_Some}
 use Rattle.time_values.specs.Dates as Dates
-use Rattle.time_values.specs.Month.{month_number, month_refusal}
+use Rattle.time_values.specs.Names.{month_number, month_refusal}
 use Rattle.time_values.specs.Moments.{offset_date}
-use Rattle.time_values.specs.Range.{greatest_year}
+use Rattle.time_values.specs.Calendar.{greatest_year}
 use Rattle.time_values.specs.declared.month.Month.{Month}
 use Rattle.time_values.specs.declared.offset_date_time.OffsetDateTime.{OffsetDateTime}
 use Rattle.time_values.specs.declared.weekday.Weekday.{Weekday}
-use Rattle.time_values.proofs.NumberLemmas.{same_month}
 use Rattle.time_values.specs.declared.error.Parse.{Parse}
+use Rattle.time_values.proofs.NumberLemmas.{same_month}
+use Rattle.time_digits.specs.declared.Sign.{Sign}
+use Rattle.time_components.proofs.NumberLemmas.{each_month}
 use Rattle.time_readers.specs.Direct.{DirectRfc2822, IsDirectRfc2822, RefusesRfc2822, said_rfc2822, first_refusal}
 use Rattle.time_readers.specs.Rfc2822.{InRanges}
-use Rattle.time_digits.specs.declared.Sign.{Sign}
 use Rattle.time_readers.specs.declared.rfc2822.Numbers.{Numbers}
-use Rattle.time_components.proofs.EachValue.{each_month}
 use Rattle.time_readers.proofs.MailRanges.{HasForm-in_places, HasForm-zone}
 use Rattle.time_readers.proofs.RangedMail.{ranged_mail}
-use Rattle.time_record.specs.Record.{Record, empty, put_all, day_is, month_is, year_is}
+use Rattle.time_record.specs.Record.{Record, Entry, InRange, put_all, put_here, empty, day_is, month_is, year_is}
 use Rattle.time_record.specs.Resolution.{IsMoment, clock_of, stand_in, offset_seconds_of, offset_part, is_leap_second}
 use Rattle.time_parsing.specs.Outcome.{IsOutcome, IsMomentOutcome, direct, seen}
-use Rattle.time_parsing.specs.exact.Recorded.{AllInRange, put_each, put-each, in_range-append}
 use Rattle.time_parsing.specs.Rfc2822.{entries, weekday_entries, date_entries, second_entries, time_entries, offset_entries, Reads, Refuses}
 use Rattle.time_parsing.specs.Rfc3339.{without_offset_sign, with_leap_second}
 use Rattle.time_parsing.specs.exact.ToldMoment.{Tells, clock_said, accepted_ranges, made-resolves, resolves-made}
+
+-- ---- Entries that are all in their ranges, put into a record one after another
+
+-- the record with the entries put one after another
+abbrev pub put_each : List Entry → Record → Record
+put_each [] r = r
+put_each (e ∷ es) r = put_each es (put_here e r)
+
+-- each value is one that its option may hold
+abbrev pub AllInRange : ℕ → List Entry → Type 0
+AllInRange Y [] = Unit {0}
+AllInRange Y (e ∷ es) = InRange Y e × AllInRange Y es
+
+pub put-each : (Y : ℕ) (es : List Entry) (r : Record) → AllInRange Y es → put_all Y es r ≡ Some (put_each es r)
+put-each Y [] r all = refl
+put-each Y (e ∷ es) r (one, others) = rw one (put-each Y es (put_here e r) others)
+
+pub in_range-append : (Y : ℕ) (es fs : List Entry) → AllInRange Y es → AllInRange Y fs → AllInRange Y (es ++ fs)
+in_range-append Y [] fs all others = others
+in_range-append Y (e ∷ es) fs (one, all) others = (one, in_range-append Y es fs all others)
 
 -- the record with the numbers: a zone name, which has no sign, says also minute and second
 abbrev recorded : Numbers → Record

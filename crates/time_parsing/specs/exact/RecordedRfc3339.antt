@@ -5,9 +5,9 @@ use Rattle.std.proofs.lemmas.Bool.{le-leb}
 use Rattle.std.proofs.lemmas.Bool.Decides.{nat_tests}
 use Rattle.std.proofs.lemmas.Option.{same_Some}
 use Rattle.time_values.specs.Dates as Dates
-use Rattle.time_values.specs.Month.{month_number, month_refusal}
+use Rattle.time_values.specs.Names.{month_number, month_refusal}
 use Rattle.time_values.specs.Moments.{offset_date}
-use Rattle.time_values.specs.Range.{greatest_year}
+use Rattle.time_values.specs.Calendar.{greatest_year}
 use Rattle.time_values.specs.Sign.{signed_by}
 use Rattle.time_values.specs.declared.month.Month.{Month}
 use Rattle.time_values.specs.declared.offset_date_time.OffsetDateTime.{OffsetDateTime}
@@ -15,15 +15,13 @@ use Rattle.time_values.specs.declared.error.Parse.{Parse}
 use Rattle.time_readers.specs.Direct.{DirectRfc3339, IsDirectRfc3339, RefusesRfc3339, said_rfc3339, first_refusal, minute_refusal}
 use Rattle.time_readers.specs.Rfc3339.{InRanges}
 use Rattle.time_readers.specs.declared.rfc3339.Numbers.{Numbers}
-use Rattle.time_readers.proofs.Keeping.{HasForm-in_places}
-use Rattle.time_readers.proofs.Made.{minute_stands}
-use Rattle.time_readers.proofs.MailRanges.{signed-abs}
-use Rattle.time_readers.proofs.RangedForms.{ranged_forms}
+use Rattle.time_readers.proofs.RangedForms.{HasForm-in_places, ranged_forms}
+use Rattle.time_readers.proofs.MailRanges.{minute_stands, signed-abs}
 use Rattle.time_record.specs.Record.{Record, Entry, empty, put_all, offset_second_is}
 use Rattle.time_record.specs.Resolution.{IsMoment, clock_of, stand_in, offset_seconds_of}
 use Rattle.time_parsing.specs.Outcome.{IsOutcome, IsMomentOutcome, direct, seen}
 use Rattle.time_parsing.specs.Rfc3339.{entries, date_entries, time_entries, subsecond_entries, numeric_offset_entries, offset_entries, without_offset_sign, with_leap_second, Reads, Refuses}
-use Rattle.time_parsing.specs.exact.Recorded.{AllInRange, put_each, put-each, in_range-append}
+use Rattle.time_parsing.specs.exact.RecordedRfc2822.{AllInRange, put_each, put-each, in_range-append}
 use Rattle.time_parsing.specs.exact.ToldMoment.{Tells, clock_said, accepted_ranges, made-resolves, resolves-made}
 
 -- the record with the numbers, of which m is the month

@@ -4,14 +4,12 @@ use Rattle.std.specs.Prelude.{◌==◌, if◌then◌else◌, unsigned_abs}
 use Rattle.std.proofs.lemmas.Bool.Decides.{nat_tests}
 use Rattle.std.specs.Option.{option_or}
 use Rattle.std.proofs.lemmas.Bool.{le-leb, eqb-true, eq-eqb}
-use Rattle.time_values.specs.Calendar.{month_length}
-use Rattle.time_values.specs.DateRefusals.{calendar_date_refusal}
+use Rattle.time_values.specs.Calendar.{month_length, greatest_year}
+use Rattle.time_values.specs.Dates.{calendar_date_refusal, HasParts}
 use Rattle.time_values.specs.Dates as Dates
-use Rattle.time_values.specs.Dates.{HasParts}
-use Rattle.time_values.specs.Month.{month_number, month_refusal}
+use Rattle.time_values.specs.Names.{month_number, month_refusal}
 use Rattle.time_values.specs.Moments.{offset_date, offset_time, offset_of}
 use Rattle.time_values.specs.Offsets.{HasOffset, IsUtc, offset_refusal}
-use Rattle.time_values.specs.Range.{greatest_year}
 use Rattle.time_values.specs.Refusal.{Refusal, insufficient}
 use Rattle.time_values.specs.Times.{HasClock, time_refusal}
 use Rattle.time_values.specs.declared.date.Date.{Date}
@@ -23,8 +21,7 @@ use Rattle.time_readers.specs.Direct.{shown_second, shown_nanosecond, date_refus
 use Rattle.time_readers.specs.declared.direct.Said.{Said}
 use Rattle.time_record.specs.Record.{Record}
 use Rattle.time_record.specs.Resolution as Resolution
-use Rattle.time_record.specs.Resolution.{IsConstructed, Clock, clock_of, is_leap_second, stand_in, offset_part, offset_seconds_of, IsDated, IsTimed, IsOffset, IsMomentOfParts, IsStamped}
-use Rattle.time_record.specs.Rows.{Row, by_month_and_day, first_row, HasRow, IsRowDate}
+use Rattle.time_record.specs.Resolution.{IsConstructed, Clock, clock_of, is_leap_second, stand_in, offset_part, offset_seconds_of, IsDated, IsTimed, IsOffset, IsMomentOfParts, IsStamped, Row, by_month_and_day, first_row, HasRow, IsRowDate}
 
 -- what is said of the clock
 abbrev pub clock_said : Said → Clock

@@ -3,15 +3,14 @@
 //! Each function answers what the text says by the record, or `None`: not this form.
 ghost use Rattle.std.specs.Prelude.{◌≡◌, [], IfSome, Some, Ok};
 ghost use Rattle.time_values.specs.Moments.{plain_date, plain_time};
-ghost use Rattle.time_values.specs.Range.{greatest_year};
+ghost use Rattle.time_values.specs.Calendar.{greatest_year};
 ghost use Rattle.time_readers.specs.IsoDates.{iso_date};
-ghost use Rattle.time_readers.specs.IsoDatesAndTimes.{GivesDateAndTime};
+ghost use Rattle.time_readers.specs.IsoTimes.{GivesDateAndTime};
 ghost use Rattle.time_readers.specs.IsoOffsets.{offset_text};
 ghost use Rattle.time_readers.specs.declared.iso8601.OffsetNumbers.{OffsetNumbers as OffsetNumbers_};
 ghost use Rattle.time_record.specs.Record.{empty};
 ghost use Rattle.time_record.specs.Resolution.{IsMoment, IsPlain};
-ghost use Rattle.time_parsing.specs.Iso8601.{Reads, Refuses};
-ghost use Rattle.time_parsing.specs.IsoFast.{date_said, time_said, IsOffsetSaid};
+ghost use Rattle.time_parsing.specs.Iso8601.{Reads, Refuses, date_said, time_said, IsOffsetSaid};
 ghost use Rattle.time_parsing.specs.Outcome.{IsOutcome};
 
 use time_readers::iso8601::{

@@ -4,9 +4,8 @@
 //! `None`: not this form.
 ghost use Rattle.std.specs.Prelude.{◌≡◌, ◌∷◌, ◌++◌, ◌≤◌, IfSome, ℕ, List, false, true, nat_le, pos, unsigned_abs, FitsSigned};
 ghost use Rattle.std.specs.Int.{w8, w32};
-ghost use Rattle.time_values.specs.Range.{greatest_year};
-ghost use Rattle.time_digits.specs.Cuts.{Cut};
-ghost use Rattle.time_digits.specs.Digits.{IsPaddedRun};
+ghost use Rattle.time_values.specs.Calendar.{greatest_year};
+ghost use Rattle.time_digits.specs.Digits.{Cut, IsPaddedRun};
 ghost use Rattle.time_digits.specs.declared.Padding.TheVariants.{Space, Zero};
 ghost use Rattle.time_components.specs.Spelling.{Says, Spells, month as month_, number, signed};
 ghost use Rattle.time_components.specs.declared.format_description.Component.TheVariants as component;

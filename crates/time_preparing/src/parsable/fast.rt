@@ -2,11 +2,11 @@
 //!
 //! Each function answers what the text says by the record, or `None`: not this form.
 ghost use Rattle.std.specs.Prelude.{IfSome, Ok};
-ghost use Rattle.time_components.specs.Steps.{steps_shape};
+ghost use Rattle.time_components.specs.Tree.{steps_shape};
 ghost use Rattle.time_record.specs.Reading.{Reads, Refuses};
 ghost use Rattle.time_record.specs.Record.{empty};
 ghost use Rattle.time_record.specs.Resolution.{IsDated, IsMoment, IsPlain, IsTimed};
-ghost use Rattle.time_values.specs.Range.{greatest_year};
+ghost use Rattle.time_values.specs.Calendar.{greatest_year};
 ghost use Rattle.time_parsing.specs.Outcome.{begun, IsOutcome};
 
 use crate::Prepared;

@@ -3,13 +3,13 @@
 //! Each reader answers the rest after what the steps read one after the other, and puts what they put; or it answers
 //! `None`: not this form, and the record is as it was. Then the steps are walked.
 ghost use Rattle.std.specs.Prelude.{◌≡◌, ◌<◌, ◌≤◌, IfSome, ◌∷◌, ℕ, List, false, Some, None};
-ghost use Rattle.time_values.specs.Range.{greatest_year};
+ghost use Rattle.time_values.specs.Calendar.{greatest_year};
 ghost use Rattle.time_components.specs.Tree.{component as component_tree, more, none as none_};
 ghost use Rattle.time_components.specs.declared.format_description.Component.TheVariants as components;
 ghost use Rattle.time_record.specs.Components.{is_pm as is_pm_};
 ghost use Rattle.time_record.specs.Record.{Record};
 ghost use Rattle.time_record.specs.Reading.{Reads};
-ghost use Rattle.time_record.specs.WalkFast.{MayRead};
+ghost use Rattle.time_record.specs.WalkSteps.{MayRead};
 ghost use Rattle.time_preparing.specs.Forms.{with_second, with_subsecond};
 ghost use Rattle.time_preparing.specs.Walk.{fraction_tree, MayReadAll, seconds_tree};
 

@@ -1,9 +1,8 @@
 //! What is read at once, in turn and as far as it goes: a second root over the readers of single parts.
 ghost use Rattle.std.specs.Prelude.{◌≡◌, ◌<◌, ◌≤◌, IsTrue, MatchOption, take};
-ghost use Rattle.time_values.specs.Range.{greatest_year};
+ghost use Rattle.time_values.specs.Calendar.{greatest_year};
 ghost use Rattle.time_record.specs.Reading.{ReadsAll};
-ghost use Rattle.time_preparing.specs.Forms.{date_parts, day_first_parts, time_parts};
-ghost use Rattle.time_preparing.specs.Joined.{month_day_parts};
+ghost use Rattle.time_preparing.specs.Forms.{date_parts, day_first_parts, time_parts, month_day_parts};
 ghost use Rattle.time_preparing.specs.Walk.{leaves, MayReadFront};
 
 use super::fast::{

@@ -3,7 +3,7 @@
 //! `form` answers a form of steps, and each reader the value that the record of the whole text resolves to, or `None`.
 ghost use Rattle.std.specs.Prelude.{◌≡◌, ◌≤◌, ◌∷◌, ◌++◌, ℕ, pos, IfSome, Ok};
 ghost use Rattle.time_values.specs.Sign.{signed_by};
-ghost use Rattle.time_values.specs.Range.{greatest_year};
+ghost use Rattle.time_values.specs.Calendar.{greatest_year};
 ghost use Rattle.time_record.specs.Record.{Record};
 ghost use Rattle.time_record.specs.Reading.{ReadsAll};
 ghost use Rattle.time_record.specs.Resolution.{IsDated, IsMoment, IsPlain, IsTimed};
@@ -11,7 +11,7 @@ ghost use Rattle.time_preparing.specs.Forms.{byte_parts, dated_parts, offset_par
 ghost use Rattle.time_preparing.specs.declared.forms.OffsetNumbers.{OffsetNumbers};
 ghost use Rattle.time_preparing.specs.Walk.{leaves};
 ghost use Rattle.time_preparing.specs.Whole.{dated, IsLed, IsOf, IsWholeSecond, Leads, ReadsWhole, timed, whole_parts};
-ghost use Rattle.time_components.specs.declared.step.Step.TheVariants as step_;
+ghost use Rattle.time_components.specs.declared.inspect.Step.TheVariants as step_;
 
 mod halves;
 pub(crate) mod in_year;

@@ -1,8 +1,227 @@
 //! The texts of ISO 8601, one piece after another.
+ghost use Rattle.time_readers.specs.IsoTimes.{GivesDateAndTime, IsFloor, IsRounded};
+ghost use Rattle.std.specs.Prelude.{◌≡◌, ◌≤◌, IfSome, ◌<◌};
+ghost use Rattle.time_readers.specs.IsoPieces.{GivesPartOrFault, Gives};
+ghost use Rattle.time_readers.specs.IsoGrammar.{Leaves, GivesForm};
+ghost use Rattle.time_readers.specs.IsoDates as spec;
+ghost use Rattle.time_readers.specs.IsoGrammar as parts;
+ghost use Rattle.time_readers.specs.IsoOffsets.{offset_text};
+ghost use Rattle.time_digits.specs.Digits.{AllDigits};
 
-pub(super) mod dates;
-pub(super) mod dates_and_times;
-pub(super) mod fractions;
-pub(super) mod offsets;
 pub(super) mod pieces;
 pub(super) mod times;
+
+use crate::ParsedItem;
+use crate::iso8601::grammar::pieces::{
+    byte, day, dayk, dayo, month, sign, two_digits, up_to, week, year,
+};
+use crate::iso8601::grammar::times::time;
+use crate::iso8601::{DateAndTime, DateNumbers, ExtendedKind, OffsetNumbers, Part};
+use time_values::error::ParseFromDescription;
+use time_values::sign::signed;
+
+// The date of a text, and the time after it, whose `T` is needed.
+#[inline(never)]
+pub(in crate::iso8601) fn date_and_time(
+    input: &[u8],
+) -> Result<DateAndTime<'_>, ParseFromDescription>
+    ensures { GivesDateAndTime input.now result }
+{
+    let date = date(input)?;
+    Ok(DateAndTime {
+        date,
+        time: time(date.rest, date.kind, true),
+    })
+}
+
+// The date of a text.
+#[inline(always)]
+#[tactic(auto, unfolding(crate::specs::IsoDates::date_text))]
+pub(in crate::iso8601) fn date(input: &[u8]) -> Result<Part<'_, DateNumbers>, ParseFromDescription>
+    ensures { GivesPartOrFault spec.iso_date (spec.date_text input.now) result }
+{
+    let Some(found) = year(input) else {
+        return Err(ParseFromDescription::InvalidComponent("year"));
+    };
+    match byte::<b'-'>(found.0) {
+        Some(after) => match after_year(after, found.1, true) {
+            Ok(form) => Ok(Part {
+                rest: form.0,
+                value: form.1,
+                kind: ExtendedKind::Extended,
+            }),
+            Err(fault) => Err(fault),
+        },
+        None => match after_year(found.0, found.1, false) {
+            Ok(form) => Ok(Part {
+                rest: form.0,
+                value: form.1,
+                kind: ExtendedKind::Basic,
+            }),
+            Err(fault) => Err(fault),
+        },
+    }
+}
+
+// The first of the three forms that stands after a year.
+#[inline(always)]
+#[tactic(auto, unfolding(crate::specs::IsoDates::forms))]
+fn after_year(
+    input: &[u8],
+    year: i32,
+    is_extended: bool,
+) -> Result<ParsedItem<'_, DateNumbers>, ParseFromDescription>
+    ensures { GivesForm spec.iso_date (spec.forms is_extended year input.now) result }
+{
+    let fault = match month_and_day(input, year, is_extended) {
+        Ok(found) => return Ok(found),
+        Err(fault) => fault,
+    };
+    if let Some(found) = dayo(input) {
+        return Ok(ParsedItem(found.0, DateNumbers::Ordinal(year, found.1)));
+    }
+    match byte::<b'W'>(input) {
+        Some(after) => week_and_weekday(after, year, is_extended),
+        None => Err(fault),
+    }
+}
+
+#[inline(always)]
+fn month_and_day(
+    input: &[u8],
+    year: i32,
+    is_extended: bool,
+) -> Result<ParsedItem<'_, DateNumbers>, ParseFromDescription>
+    ensures { GivesForm spec.iso_date (spec.first_form is_extended year input.now) result }
+{
+    let Some(month) = month(input) else {
+        return Err(ParseFromDescription::InvalidComponent("month"));
+    };
+    let Some(after) = dash(month.0, is_extended) else {
+        return Err(ParseFromDescription::InvalidLiteral);
+    };
+    let Some(day) = day(after) else {
+        return Err(ParseFromDescription::InvalidComponent("day"));
+    };
+    Ok(ParsedItem(day.0, DateNumbers::Calendar(year, month.1, day.1)))
+}
+
+fn week_and_weekday(
+    input: &[u8],
+    year: i32,
+    is_extended: bool,
+) -> Result<ParsedItem<'_, DateNumbers>, ParseFromDescription>
+    ensures { GivesForm spec.iso_date (spec.third_form is_extended year input.now) result }
+{
+    let Some(week) = week(input) else {
+        return Err(ParseFromDescription::InvalidComponent("week"));
+    };
+    let Some(after) = dash(week.0, is_extended) else {
+        return Err(ParseFromDescription::InvalidLiteral);
+    };
+    let Some(weekday) = dayk(after) else {
+        return Err(ParseFromDescription::InvalidComponent("weekday"));
+    };
+    Ok(ParsedItem(weekday.0, DateNumbers::Week(year, week.1, weekday.1)))
+}
+
+// What follows a `-`, where the text is extended.
+#[inline(always)]
+fn dash(input: &[u8], is_extended: bool) -> Option<&[u8]>
+    ensures { Leaves (spec.dash is_extended input.now) result }
+{
+    if is_extended {
+        byte::<b'-'>(input)
+    } else {
+        Some(input)
+    }
+}
+
+/// Reads the offset of a text of that kind: `Z`, or a sign and two digits of 0 to 25, and a minute.
+///
+/// Where the text isn't basic and a colon follows, two digits of 0 to 59 have to stand after it. Where none
+/// follows two digits may stand, and if they do they have to be 0 to 59. It refuses by `None`.
+#[inline(always)]
+#[tactic(auto, using(crate::proofs::IsoTimes::offset_by_pieces_is), unfolding(crate::specs::IsoGrammar::offset_by_pieces))]
+pub fn offset(input: &[u8], kind: ExtendedKind) -> Option<ParsedItem<'_, OffsetNumbers>>
+    ensures { Gives (offset_text kind input.now) result }
+{
+    if let Some(after) = byte::<b'Z'>(input) {
+        return Some(ParsedItem(after, OffsetNumbers::Zulu));
+    }
+    let found = sign(input)?;
+    let hour = up_to::<25>(found.0)?;
+    let minute = offset_minute(hour.0, kind)?;
+    let is_negative = found.1.is_negative();
+    let numbers = OffsetNumbers::Numeric(
+        signed(is_negative, hour.1),
+        signed(is_negative, minute.1),
+    );
+    Some(ParsedItem(minute.0, numbers))
+}
+
+// The minute of an offset, 0 where none stands.
+#[inline(always)]
+#[tactic(auto, unfolding(crate::specs::IsoGrammar::offset_minute))]
+fn offset_minute(input: &[u8], kind: ExtendedKind) -> Option<ParsedItem<'_, u8>>
+    ensures is { Gives (parts.offset_minute kind input.now) result }
+    ensures within { IfSome result (λ p. p.1 ≤ 59) }
+{
+    if kind.maybe_extended() {
+        if let Some(after) = byte::<b':'>(input) {
+            return up_to::<59>(after);
+        }
+    }
+    match two_digits(input) {
+        Some(_) => up_to::<59>(input),
+        None => Some(ParsedItem(input, 0)),
+    }
+}
+
+/// The fraction of a unit, cut to a whole number: of n digits that say w it is the floor of w times the unit
+/// over ten to the n.
+///
+/// `digits` are the bytes `0` to `9` after the point, any number of them, and `unit` is 1 to 3600000000000,
+/// the nanoseconds of an hour.
+pub fn floor_fraction(digits: &[u8], unit: u64) -> u64
+    requires digits { AllDigits digits.now }
+    requires least { 1 ≤ unit }
+    requires most { unit ≤ 3_600_000_000_000 }
+    ensures floor { IsFloor digits.now unit result }
+    ensures below { result < unit }
+{
+    carried(digits, unit)
+}
+
+/// The fraction of a unit, rounded to the nearest whole number, and a half up. It is the unit itself where
+/// the fraction is close to 1.
+///
+/// `digits` are the bytes `0` to `9` after the point, any number of them, and `unit` is 1 to 3600000000000,
+/// the nanoseconds of an hour.
+pub fn round_fraction(digits: &[u8], unit: u64) -> u64
+    requires digits { AllDigits digits.now }
+    requires least { 1 ≤ unit }
+    requires most { unit ≤ 3_600_000_000_000 }
+    ensures { IsRounded digits.now unit result }
+{
+    // Half up is the floor of the double and one, halved.
+    (carried(digits, 2 * unit) + 1) / 2
+}
+
+// From the last digit to the first: what the later digits say, cut, is carried to the one before.
+fn carried(digits: &[u8], unit: u64) -> u64
+    requires digits { AllDigits digits.now }
+    requires least { 1 ≤ unit }
+    requires most { unit ≤ 7_200_000_000_000 }
+    ensures floor { IsFloor digits.now unit result }
+    ensures below { result < unit }
+{
+    let mut count = digits.len();
+    let mut carry = 0;
+    while count > 0 {
+        count -= 1;
+        let digit = digits[count] - b'0';
+        carry = (u64::from(digit) * unit + carry) / 10;
+    }
+    carry
+}

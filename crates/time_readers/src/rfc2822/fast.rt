@@ -4,9 +4,9 @@
 //! comment begins with a byte above `(`.
 ghost use Rattle.std.specs.Prelude.{IfSome, MatchOption, Some, ◌≡◌, ◌<◌, ◌∷◌, [], map, false, unwrap_or};
 ghost use Rattle.time_readers.specs.Block.{AllWithin, pair_at};
-ghost use Rattle.time_digits.specs.Cuts.{Cut};
+ghost use Rattle.time_digits.specs.Digits.{Cut};
 ghost use Rattle.time_readers.specs.MailBlanks as spec;
-ghost use Rattle.time_readers.specs.Places.{Stand};
+ghost use Rattle.time_readers.specs.Readers.{Stand};
 ghost use Rattle.time_readers.specs.Rfc2822.{Asks, to_offset_places, offset_places};
 ghost use Rattle.time_readers.specs.declared.rfc2822.Place.TheVariants as place;
 

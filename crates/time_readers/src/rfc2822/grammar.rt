@@ -9,7 +9,6 @@ ghost use Rattle.time_readers.specs.declared.rfc2822.Numbers.{Numbers};
 ghost use Rattle.time_readers.specs.declared.rfc2822.Place.TheVariants as place;
 
 pub(super) mod blanks;
-pub(super) mod zones;
 
 use crate::combinator::{ascii_char, four_digits, one_or_two_digits, sign, two_digits};
 use crate::component::{parse_month_short, parse_weekday_short};

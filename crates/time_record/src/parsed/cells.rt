@@ -4,7 +4,7 @@
 //! flags. The value of option i is cell i: 0 to 15 are bytes, 16 to 18 shorts, 19 to 21 words, and
 //! 22 is the timestamp. The cell of an option that is not there holds 0.
 ghost use Rattle.std.specs.Prelude.{◌≡◌, true, false, ◌≤◌, ◌<◌, ◌^◌, ◌&&◌, ℕ, IfSome};
-ghost use Rattle.time_values.specs.Range.{greatest_year};
+ghost use Rattle.time_values.specs.Calendar.{greatest_year};
 ghost use Rattle.time_record.specs.Record.{InRange, unix_timestamp_nanos_is};
 ghost use Rattle.time_record.specs.Cells.{bit, InCell};
 ghost use Rattle.time_record.specs.CellAnswers.{changed, holds, put_cell, put_flag, Reads};
@@ -76,6 +76,7 @@ fn is_set(mask: u32, index: usize) -> bool
 
 // The mask with a bit set.
 #[inline]
+#[tactic(auto, using(crate::proofs::CellLemmas::bit_below, crate::proofs::CellLemmas::bit_set))]
 fn with_bit(mask: u32, index: usize) -> u32
     requires in_mask { index < 27 }
     requires before { mask < 2 ^ 27 }
@@ -87,6 +88,7 @@ fn with_bit(mask: u32, index: usize) -> u32
 
 // The mask with a bit cleared.
 #[inline]
+#[tactic(auto, using(crate::proofs::CellLemmas::bit_cleared))]
 fn without_bit(mask: u32, index: usize) -> u32
     requires in_mask { index < 27 }
     requires before { mask < 2 ^ 27 }

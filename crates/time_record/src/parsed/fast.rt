@@ -3,10 +3,10 @@
 //! Each reader answers the rest after what the item's plain reader reads, and puts what that one puts; or it answers
 //! `None`: not this form, and the record is as it was. Then the item's walk decides.
 ghost use Rattle.std.specs.Prelude.{false, true};
-ghost use Rattle.time_values.specs.Range.{greatest_year};
+ghost use Rattle.time_values.specs.Calendar.{greatest_year};
 ghost use Rattle.time_components.specs.Tree as tree;
 ghost use Rattle.time_record.specs.Record.{Record};
-ghost use Rattle.time_record.specs.WalkFast.{MayRead};
+ghost use Rattle.time_record.specs.WalkSteps.{MayRead};
 
 use crate::Parsed;
 use time_components::Component;

@@ -1,21 +1,17 @@
 //! The values that a record makes, by a fixed precedence of its components.
 mod date;
 mod fast;
-mod leap_second;
-mod offset;
 mod offset_date_time;
-mod plain_date_time;
 mod time;
-mod timestamp;
 mod utc_date_time;
 
-ghost use Rattle.time_values.specs.Range.{greatest_year};
+ghost use Rattle.time_values.specs.Calendar.{greatest_year};
 ghost use Rattle.time_record.specs.Resolution.{IsDated, IsMoment, IsPlain, parsed_seen};
 
 use crate::Parsed;
 use crate::parsed::try_from::date::{calendar_date, date_of_rows};
 use crate::parsed::try_from::offset_date_time::moment_or_refusal;
-use crate::parsed::try_from::plain_date_time::date_and_time;
+use crate::parsed::try_from::utc_date_time::date_and_time;
 use std::convert::TryFrom;
 use time_values::error::TryFromParsed;
 use time_values::{Date, OffsetDateTime, PlainDateTime};

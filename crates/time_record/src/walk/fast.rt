@@ -1,9 +1,8 @@
 //! A leaf in front of a list, read with no call.
 ghost use Rattle.std.specs.Prelude.{◌≡◌, ◌∷◌, [], IfSome};
-ghost use Rattle.time_values.specs.Range.{greatest_year};
-ghost use Rattle.time_components.specs.Steps.{further, steps_after, steps_trees, tree_at};
-ghost use Rattle.time_record.specs.WalkFast.{IsLeaf, MayRead};
-ghost use Rattle.time_components.specs.Tree.{literal};
+ghost use Rattle.time_values.specs.Calendar.{greatest_year};
+ghost use Rattle.time_components.specs.Tree.{further, steps_after, steps_trees, tree_at, literal};
+ghost use Rattle.time_record.specs.WalkSteps.{IsLeaf, MayRead};
 ghost use Rattle.time_record.specs.Record.{Record};
 
 use super::steps::further_byte;
@@ -52,6 +51,7 @@ pub(super) fn step<'a>(
 
 // Reads a literal of one byte. `None`: not this form.
 #[inline(always)]
+#[tactic(auto, using(crate::proofs::ComponentLemmas::reads_byte))]
 fn only_byte<'a>(byte: u8, behind: &[Step], input: &'a [u8]) -> Option<&'a [u8]>
     ensures read { (r : Record) → MayRead greatest_year (literal (byte ∷ further behind.now)) input.now r result r }
     ensures alone { IfSome result (λ rest. further behind.now ≡ []) }

@@ -1,11 +1,9 @@
 //! The walk over the steps of a description that was read from a text, a second root over the short cuts of leaves.
 ghost use Rattle.std.specs.Prelude.{◌≡◌, ◌≢◌, ◌-◌, ◌≤◌, ◌++◌, ◌∷◌, [], ℕ, List, Ok, length, drop, MatchOption};
-ghost use Rattle.time_values.specs.Range.{greatest_year};
-ghost use Rattle.time_components.specs.Steps as steps_;
-ghost use Rattle.time_components.specs.Steps.{steps_shape, steps_trees, tree_at};
-ghost use Rattle.time_components.specs.Tree.{first_of, optional, sequence, literal};
-ghost use Rattle.time_record.specs.Answer.{Answers};
-ghost use Rattle.time_record.specs.Count.{Counts, CountsAll};
+ghost use Rattle.time_values.specs.Calendar.{greatest_year};
+ghost use Rattle.time_components.specs.Tree as steps_;
+ghost use Rattle.time_components.specs.Tree.{steps_shape, steps_trees, tree_at, first_of, optional, sequence, literal};
+ghost use Rattle.time_record.specs.Reading.{Answers, Counts, CountsAll};
 ghost use Rattle.time_record.specs.WalkSteps.{CountsFirst, Goes, IsFurther};
 ghost use Rattle.time_record.specs.Record.{Record};
 

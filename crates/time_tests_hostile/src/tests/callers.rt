@@ -1,15 +1,14 @@
 //! The callers that each `CALLING.md` shows, and their contracts.
 ghost use Rattle.std.specs.Prelude.{ℕ, List, [], Ok, IfOk, IfSome, true};
-ghost use Rattle.time_values.specs.DateRefusals.{calendar_date_refusal};
+ghost use Rattle.time_values.specs.Dates.{calendar_date_refusal};
 ghost use Rattle.time_values.specs.Dates as Dates;
 ghost use Rattle.time_values.specs.Moments.{plain_date, plain_time};
-ghost use Rattle.time_values.specs.Month.{month_number};
-ghost use Rattle.time_values.specs.Range.{greatest_year};
+ghost use Rattle.time_values.specs.Names.{month_number};
+ghost use Rattle.time_values.specs.Calendar.{greatest_year};
 ghost use Rattle.time_values.specs.Refusal.{Constructs};
 ghost use Rattle.time_values.specs.Times.{HasClock};
-ghost use Rattle.time_digits.specs.Cuts.{Cut};
-ghost use Rattle.time_digits.specs.Digits.{IsDigitRun};
-ghost use Rattle.time_components.specs.Shape.{borrowed_shape};
+ghost use Rattle.time_digits.specs.Digits.{Cut, IsDigitRun};
+ghost use Rattle.time_components.specs.Tree.{borrowed_shape};
 ghost use Rattle.time_readers.specs.Rfc3339.{HasForm};
 ghost use Rattle.time_record.specs.Reading.{Reads};
 ghost use Rattle.time_record.specs.Record.{Record, empty, put, year_is};

@@ -221,7 +221,7 @@ mod counted_and_laws {
     }
 
     impl AnyFormatItem for Watched<'_> {
-        ghost use Rattle.time_components.specs.Shape.{borrowed_shape};
+        ghost use Rattle.time_components.specs.Tree.{borrowed_shape};
 
         ghost shape = { λ w. borrowed_shape w.item };
 

@@ -2,9 +2,9 @@
 ghost use Rattle.std.specs.Prelude.{◌≡◌};
 ghost use Rattle.time_values.specs.Dates as Dates;
 ghost use Rattle.time_values.specs.Moments.{plain_date, plain_time};
-ghost use Rattle.time_values.specs.Range.{greatest_year};
+ghost use Rattle.time_values.specs.Calendar.{greatest_year};
 ghost use Rattle.time_values.specs.Times as Times;
-ghost use Rattle.time_values.specs.Weekday.{days_from_monday};
+ghost use Rattle.time_values.specs.Names.{days_from_monday};
 
 use crate::{Month, PlainDateTime, Weekday};
 

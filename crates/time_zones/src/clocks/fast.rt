@@ -5,7 +5,7 @@ ghost use Rattle.jiff_core.specs.Timestamp.{IsTimestampNanos};
 ghost use Rattle.jiff_tz.specs.Tzif as Table;
 ghost use Rattle.jiff_tz.specs.Tzif.{count_at, floor_second};
 ghost use Rattle.jiff_tz.specs.Zone as Zone;
-ghost use Rattle.time_zones.specs.Rows.{HasOneOffset, IsRowOffset};
+ghost use Rattle.time_zones.specs.Spread.{HasOneOffset, IsRowOffset};
 
 use jiff_core::Offset;
 use jiff_tz::tzif::Transition;
@@ -64,6 +64,7 @@ fn rule_offset(rule: &posix::TimeZone) -> Option<Offset>
 }
 
 // The offset of a table behind all of its rows, where no rule goes on that has two.
+#[tactic(auto, using(crate::proofs::ZoneLemmas::behind_rows, crate::proofs::ZoneLemmas::if_some))]
 fn offset_behind(table: &Tzif) -> Option<Offset>
     ensures { IfSome result (λ o. (n : ℤ) → count_at table.now (floor_second n) ≡ vec_len table.now.transitions
         → o.seconds ≡ (Table.offset_at table.now n).seconds) }

@@ -1,8 +1,8 @@
 use Rattle.std.proofs.Common.{◌≡◌, ◌+◌, ◌≤◌, ◌⊎◌, inl, inr, length, take, drop, slice_set, [], sym, ◌∙◌, arith}
 use Rattle.std.proofs.lemmas.Grind.{common_steps}
-use Rattle.programs_answers.specs.Lines.{lines_of}
+use Rattle.programs_answers.specs.Output.{lines_of}
 use Rattle.pelzaune_ffi.specs.Columns as spec
-use Rattle.pelzaune_ffi.proofs.ColumnLemmas.{Ends, Ends-more, Ends-all, no_lines}
+use Rattle.pelzaune_ffi.proofs.HeldRows.{Ends, Ends-more, Ends-all, no_lines}
 use Rattle.pelzaune_ffi.proofs.columns.column.Goals as goal
 use Rattle.pelzaune_ffi.proofs.columns.column.Goals.{then-loop-index-test+else-not-is_empty, else-loop-index-test}
 

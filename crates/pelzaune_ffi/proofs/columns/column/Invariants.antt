@@ -1,7 +1,7 @@
 -- What was handed over so far is, with what is handed over of the lines that are left, all.
 use Rattle.std.proofs.Common.{length, ◌-◌, ◌≡◌, ◌+◌, ◌≤◌, take, drop}
-use Rattle.programs_answers.specs.Lines.{lines_of}
-use Rattle.pelzaune_ffi.proofs.ColumnLemmas.{Ends}
+use Rattle.programs_answers.specs.Output.{lines_of}
+use Rattle.pelzaune_ffi.proofs.HeldRows.{Ends}
 use Rattle.pelzaune_ffi.proofs.columns.column.Given as goal
 
 abbrev pub invariant-loop-index : goal.invariant-loop-index

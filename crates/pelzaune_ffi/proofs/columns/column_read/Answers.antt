@@ -1,6 +1,6 @@
 use Rattle.std.proofs.Common.{subst}
 use Rattle.std.specs.Prelude.{Option}
-use Rattle.programs_answers.specs.Lines.{lines_of}
+use Rattle.programs_answers.specs.Output.{lines_of}
 use Rattle.pelzaune_ffi.specs.Columns.{IsColumn}
 use Rattle.pelzaune_ffi.specs.Described.{HandsRead}
 use Rattle.pelzaune_ffi.specs.Handed.{IsCountHanded, of_moment}

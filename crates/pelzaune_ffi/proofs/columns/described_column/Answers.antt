@@ -1,12 +1,12 @@
 use Rattle.std.proofs.Common.{◌∙◌, Some, Ok, Err}
-use Rattle.programs_answers.specs.Lines.{lines_of}
-use Rattle.time_components.specs.Steps.{steps_shape}
+use Rattle.programs_answers.specs.Output.{lines_of}
+use Rattle.time_components.specs.Tree.{steps_shape}
 use Rattle.time_descriptions.specs.Description.{shape}
 use Rattle.time_descriptions.specs.Refusal.{refusal_of}
 use Rattle.pelzaune_ffi.specs.Columns.{by_tree, refusing}
 use Rattle.pelzaune_ffi.specs.Described.{HandsRead}
 use Rattle.pelzaune_ffi.specs.Handed.{IsCountHanded, of_moment}
-use Rattle.pelzaune_ffi.proofs.ColumnLemmas.{IsColumn-map}
+use Rattle.pelzaune_ffi.proofs.HeldRows.{IsColumn-map}
 use Rattle.pelzaune_ffi.proofs.columns.described_column.Goals as goal
 
 pub returns-in-Ok-clause-entries : goal.returns-in-Ok-clause-entries

@@ -1,6 +1,6 @@
 -- The lines that were counted and those that are left are all, and no line that was counted had no byte.
 use Rattle.std.proofs.Common.{◌≡◌, ◌≤◌, length, ◌+◌}
-use Rattle.programs_answers.specs.Lines.{lines_of}
+use Rattle.programs_answers.specs.Output.{lines_of}
 use Rattle.pelzaune_ffi.proofs.cuts.count_lines.Given as goal
 
 abbrev pub invariant-loop-rest : goal.invariant-loop-rest

@@ -1,6 +1,6 @@
 use Rattle.std.proofs.Common.{◌-◌, ◌+◌, drop, length, length-drop, length-take, arith}
 use Rattle.std.proofs.Math.Seq.{drop-length}
-use Rattle.programs_answers.proofs.LinesLemmas.{tail_range}
+use Rattle.programs_answers.proofs.OutputLemmas.{tail_range}
 use Rattle.pelzaune_ffi.proofs.cuts.first_line.Goals as goal
 
 pub returns-in-Some : goal.returns-in-Some

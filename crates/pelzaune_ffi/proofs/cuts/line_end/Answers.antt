@@ -1,4 +1,4 @@
-use Rattle.pelzaune_ffi.proofs.LineEnds.{searched}
+use Rattle.pelzaune_ffi.proofs.HeldRows.{searched}
 use Rattle.pelzaune_ffi.proofs.cuts.line_end.Goals as goal
 
 pub returns-in-None : goal.returns-in-None

@@ -1,5 +1,5 @@
 use Rattle.std.proofs.Common.{◌≡◌, take, map}
-use Rattle.pelzaune_ffi.specs.Held.{step_of}
+use Rattle.pelzaune_ffi.specs.Described.{step_of}
 use Rattle.pelzaune_ffi.proofs.held.hold.Given as goal
 
 abbrev pub invariant-loop-index : goal.invariant-loop-index

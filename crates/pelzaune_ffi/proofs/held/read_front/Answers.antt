@@ -1,10 +1,9 @@
 use Rattle.std.proofs.Common.{ap, subst, ◌∙◌, map, length, take, drop, get_or, false, ◌-◌, arith, length-take, length-drop}
-use Rattle.time_values.specs.Range.{greatest_year}
-use Rattle.time_components.specs.Steps.{steps_trees, tree_at}
-use Rattle.time_components.specs.Tree.{more}
+use Rattle.time_values.specs.Calendar.{greatest_year}
+use Rattle.time_components.specs.Tree.{steps_trees, tree_at, more}
 use Rattle.time_record.specs.WalkSteps.{Goes}
 use Rattle.time_record.proofs.WalkSteps.{Goes-leaf}
-use Rattle.pelzaune_ffi.specs.Held.{chosen, step_of}
+use Rattle.pelzaune_ffi.specs.Described.{chosen, step_of}
 use Rattle.pelzaune_ffi.proofs.HeldRows.{first_held}
 use Rattle.pelzaune_ffi.proofs.held.read_front.Goals as goal
 

@@ -1,8 +1,8 @@
 use Rattle.std.proofs.Common.{length, map, ◌-◌, ◌≤◌}
-use Rattle.time_values.specs.Range.{greatest_year}
-use Rattle.time_components.specs.Steps.{steps_trees}
+use Rattle.time_values.specs.Calendar.{greatest_year}
+use Rattle.time_components.specs.Tree.{steps_trees}
 use Rattle.time_record.specs.WalkSteps.{Goes}
-use Rattle.pelzaune_ffi.specs.Held.{step_of}
+use Rattle.pelzaune_ffi.specs.Described.{step_of}
 use Rattle.pelzaune_ffi.proofs.held.read_front.Given as goal
 
 abbrev pub invariant-loop-left : goal.invariant-loop-left

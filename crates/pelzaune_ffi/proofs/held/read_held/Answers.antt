@@ -1,9 +1,8 @@
 use Rattle.std.proofs.Common.{map, refl, arith}
 use Rattle.std.proofs.lemmas.List.{length-map}
 use Rattle.time_values.specs.Refusal.{refusal_of_description}
-use Rattle.time_record.proofs.StepRows.{steps_trees-end}
-use Rattle.time_record.proofs.WalkSteps.{Goes-end}
-use Rattle.pelzaune_ffi.specs.Held.{step_of}
+use Rattle.time_record.proofs.WalkSteps.{steps_trees-end, Goes-end}
+use Rattle.pelzaune_ffi.specs.Described.{step_of}
 use Rattle.pelzaune_ffi.proofs.HeldRows.{rest_reads, rest_refuses}
 use Rattle.pelzaune_ffi.proofs.held.read_held.Goals as goal
 

@@ -1,5 +1,5 @@
 use Rattle.std.proofs.Common.{◌≡◌, take, map}
-use Rattle.pelzaune_ffi.specs.Held.{step_of}
+use Rattle.pelzaune_ffi.specs.Described.{step_of}
 use Rattle.pelzaune_ffi.proofs.held.steps_of.Given as goal
 
 abbrev pub invariant-loop-step : goal.invariant-loop-step

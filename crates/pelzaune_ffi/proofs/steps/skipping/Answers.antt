@@ -1,6 +1,6 @@
 use Rattle.std.proofs.Common.{ap, sym}
-use Rattle.time_descriptions.proofs.Ignored.{ignored_of}
-use Rattle.pelzaune_ffi.specs.Held.{skipping}
+use Rattle.time_descriptions.proofs.WrittenComponents.{ignored_of}
+use Rattle.pelzaune_ffi.specs.Described.{skipping}
 use Rattle.pelzaune_ffi.proofs.steps.skipping.Goals as goal
 
 pub returns-in-Some : goal.returns-in-Some

@@ -1,12 +1,12 @@
 use Rattle.std.proofs.Common.{◌≡◌, sym, ap, ◌∙◌, w32, arith}
 use Rattle.std.proofs.lemmas.Int.{to_z-of_z, ints}
-use Rattle.time_values.specs.DateRefusals.{calendar_date_refusal}
+use Rattle.time_values.specs.Dates.{calendar_date_refusal}
 use Rattle.time_values.specs.Dates as Dates
-use Rattle.time_values.specs.Month.{month_number}
-use Rattle.time_values.specs.Range.{greatest_year}
+use Rattle.time_values.specs.Names.{month_number}
+use Rattle.time_values.specs.Calendar.{greatest_year}
 use Rattle.time_values.specs.Refusal.{Constructs}
-use Rattle.pelzaune_ffi.specs.Written.{month_refusal, IsDateOf}
-use Rattle.pelzaune_ffi.proofs.Constructed.{Constructs-made, Constructs-such, Constructs-map, Constructs-later}
+use Rattle.pelzaune_ffi.specs.Handed.{month_refusal, IsDateOf}
+use Rattle.pelzaune_ffi.proofs.IsoInPlace.{Constructs-made, Constructs-such, Constructs-map, Constructs-later}
 use Rattle.pelzaune_ffi.proofs.writing.date_of.Goals as goal
 
 pub returns : goal.returns

@@ -2,9 +2,8 @@ use Rattle.std.proofs.Common.{◌≡◌, sym, Ok, w32, arith}
 use Rattle.std.proofs.lemmas.Int.{to_z-of_z, ints}
 use Rattle.time_values.specs.Offsets.{offset_seconds, whole_offset_refusal}
 use Rattle.time_values.specs.Refusal.{Constructs}
-use Rattle.pelzaune_ffi.specs.Handed.{HasMoment}
-use Rattle.pelzaune_ffi.specs.Written.{local_refusal, IsLocalOf}
-use Rattle.pelzaune_ffi.proofs.Constructed.{Constructs-made, Constructs-such, Constructs-ok, Constructs-later}
+use Rattle.pelzaune_ffi.specs.Handed.{HasMoment, local_refusal, IsLocalOf}
+use Rattle.pelzaune_ffi.proofs.IsoInPlace.{Constructs-made, Constructs-such, Constructs-ok, Constructs-later}
 use Rattle.pelzaune_ffi.proofs.writing.moment_of.Goals as goal
 
 pub returns : goal.returns

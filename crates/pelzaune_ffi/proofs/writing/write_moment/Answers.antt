@@ -1,6 +1,5 @@
-use Rattle.pelzaune_ffi.specs.Handed.{HasMoment}
-use Rattle.pelzaune_ffi.specs.Written.{moment_refusal}
-use Rattle.pelzaune_ffi.proofs.Constructed.{Constructs-made, Constructs-such}
+use Rattle.pelzaune_ffi.specs.Handed.{HasMoment, moment_refusal}
+use Rattle.pelzaune_ffi.proofs.IsoInPlace.{Constructs-made, Constructs-such}
 use Rattle.pelzaune_ffi.proofs.writing.write_moment.Goals as goal
 
 pub returns-in-Ok : goal.returns-in-Ok

@@ -1,9 +1,9 @@
 //! Which held descriptions have texts of one form, by the numbers of their steps.
 ghost use Rattle.std.specs.Prelude.{◌≡◌, ◌≤◌, ◌-◌, [], ◌∷◌, ◌++◌, None, IsTrue, IfSome, length, map};
-ghost use Rattle.time_components.specs.declared.step.Step.TheVariants as step_;
+ghost use Rattle.time_components.specs.declared.inspect.Step.TheVariants as step_;
 ghost use Rattle.time_preparing.specs.Forms.{byte_parts, dated_parts, offset_parts, time_parts};
 ghost use Rattle.time_preparing.specs.Whole.{whole_parts};
-ghost use Rattle.pelzaune_ffi.specs.Held as Held;
+ghost use Rattle.pelzaune_ffi.specs.Described as Held;
 
 use crate::steps::HeldStep;
 use time_preparing::whole::{Dated, InMoment, Whole};

@@ -2,7 +2,7 @@
 //!
 //! Each reader answers what the library's reader does, or `None`: not this form.
 ghost use Rattle.std.specs.Prelude.{◌≡◌, List, ℕ, IfSome, IsTrue, Ok, Some, None, true};
-ghost use Rattle.time_values.specs.Range.{greatest_year};
+ghost use Rattle.time_values.specs.Calendar.{greatest_year};
 ghost use Rattle.time_readers.specs.IsoPieces.{point};
 ghost use Rattle.time_readers.specs.IsoTimes.{time_text};
 ghost use Rattle.time_readers.specs.declared.iso8601.ExtendedKind.TheVariants.{Basic, Extended};

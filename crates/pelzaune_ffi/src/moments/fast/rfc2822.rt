@@ -2,9 +2,9 @@
 //!
 //! Each reader answers what the library's reader does, or `None`: not this form.
 ghost use Rattle.std.specs.Prelude.{IfSome, Ok, false};
-ghost use Rattle.time_values.specs.Range.{greatest_year};
+ghost use Rattle.time_values.specs.Calendar.{greatest_year};
 ghost use Rattle.time_readers.specs.Direct.{RefusesRfc2822};
-ghost use Rattle.time_readers.specs.Places.{Stand};
+ghost use Rattle.time_readers.specs.Readers.{Stand};
 ghost use Rattle.time_readers.specs.Rfc2822.{Asks, day_places};
 ghost use Rattle.time_parsing.specs.Outcome.{direct};
 ghost use Rattle.time_parsing.specs.Rfc2822.{Reads, Refuses};

@@ -1,7 +1,7 @@
 use Rattle.std.proofs.Common.{◌++◌, refl}
 use Rattle.std.specs.Prelude.{codes}
 use Rattle.std.proofs.KnownBytes.{Appends-trans}
-use Rattle.programs_answers.proofs.LinesLemmas.{Appends-then}
+use Rattle.programs_answers.proofs.OutputLemmas.{Appends-then}
 use Rattle.programs_answers.proofs.answers.write_missing.Goals as goal
 
 pub returns-clause-bytes : goal.returns-clause-bytes

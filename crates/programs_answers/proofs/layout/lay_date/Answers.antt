@@ -1,8 +1,8 @@
 use Rattle.std.proofs.Common.{◌≡◌, ◌^◌, ◌<◌, ap, ◌∙◌, arith, unsigned_abs}
 use Rattle.std.specs.Int.{w32}
 use Rattle.std.proofs.lemmas.Int.{to_z-of_z, ints}
-use Rattle.time_values.specs.Month.{month_number}
-use Rattle.programs_answers.proofs.LayoutLemmas.{date_text-behind, month_length-below}
+use Rattle.time_values.specs.Names.{month_number}
+use Rattle.programs_answers.proofs.OutputLemmas.{date_text-behind, month_length-below}
 use Rattle.programs_answers.proofs.layout.lay_date.Goals as goal
 
 pub date_bytes-requires-clause-day_in : goal.date_bytes-requires-clause-day_in

@@ -1,5 +1,5 @@
 use Rattle.std.proofs.Common.{refl, arith}
-use Rattle.programs_answers.proofs.LayoutLemmas.{joined, signed}
+use Rattle.programs_answers.proofs.OutputLemmas.{joined, signed}
 use Rattle.programs_answers.proofs.layout.lay_date_time.Goals as goal
 
 pub returns : goal.returns

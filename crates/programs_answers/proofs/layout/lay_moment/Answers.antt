@@ -1,6 +1,6 @@
 use Rattle.std.proofs.Common.{ap, ◌∙◌, refl, arith}
-use Rattle.programs_answers.specs.Values.{offset_text}
-use Rattle.programs_answers.proofs.LayoutLemmas.{joined, signed}
+use Rattle.programs_answers.specs.Output.{offset_text}
+use Rattle.programs_answers.proofs.OutputLemmas.{joined, signed}
 use Rattle.programs_answers.proofs.layout.lay_moment.Goals as goal
 
 pub returns : goal.returns

@@ -1,4 +1,4 @@
-use Rattle.programs_answers.proofs.LinesLemmas.{Appends-then}
+use Rattle.programs_answers.proofs.OutputLemmas.{Appends-then}
 use Rattle.programs_answers.proofs.layout.write_date_time.Goals as goal
 
 pub returns-clause-bytes : goal.returns-clause-bytes

@@ -1,8 +1,7 @@
 use Rattle.std.proofs.Common.{◌≡◌, ◌++◌, [], ◌∙◌, refl, subst, sym, append-nil, arith}
 use Rattle.std.proofs.KnownBytes.{Appends-trans}
 use Rattle.std.proofs.lemmas.Grind.{common_steps}
-use Rattle.programs_answers.specs.Lines.{lines_of}
-use Rattle.programs_answers.specs.Output.{AreAnswers}
+use Rattle.programs_answers.specs.Output.{lines_of, AreAnswers}
 use Rattle.programs_answers.proofs.OutputLemmas.{AreAnswers-more, append_known-none}
 use Rattle.programs_answers.proofs.serving.answer_lines.Goals as goal
 

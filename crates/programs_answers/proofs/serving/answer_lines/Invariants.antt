@@ -1,8 +1,7 @@
 -- What was written so far or waits, with the answers to what is left, is the answers to all, and no write failed.
 use Rattle.std.proofs.Common.{◌≡◌, ◌++◌, List, ℕ, length}
 use Rattle.std.specs.Io.KnownBytes.{Appends, append_known}
-use Rattle.programs_answers.specs.Lines.{lines_of}
-use Rattle.programs_answers.specs.Output.{AreAnswers}
+use Rattle.programs_answers.specs.Output.{lines_of, AreAnswers}
 use Rattle.programs_answers.proofs.serving.answer_lines.Given as goal
 
 abbrev pub invariant-loop-rest : goal.invariant-loop-rest

@@ -1,5 +1,5 @@
 use Rattle.std.proofs.Common.{refl, arith}
-use Rattle.programs_answers.proofs.LinesLemmas.{Consumes-end}
+use Rattle.programs_answers.proofs.OutputLemmas.{Consumes-end}
 use Rattle.programs_answers.proofs.serving.read_all.Goals as goal
 
 pub returns-in-Ok-eq0-clause-all : goal.returns-in-Ok-eq0-clause-all

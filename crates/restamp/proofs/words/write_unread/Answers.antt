@@ -2,8 +2,8 @@ use Rattle.std.proofs.Common.{◌≡◌, ℕ, true, List, [], ◌∷◌, ◌++�
 use Rattle.std.proofs.KnownBytes.{Appends-trans}
 use Rattle.std.specs.Fmt.{decimal}
 use Rattle.std.specs.Io.KnownBytes.{Appends}
-use Rattle.restamp_stream.specs.Names.{shown_as}
-use Rattle.restamp_stream.proofs.ReportLemmas.{OnOk-map}
+use Rattle.restamp_stream.specs.Reports.{shown_as}
+use Rattle.restamp_stream.proofs.LinesLemmas.{OnOk-map}
 use Rattle.restamp.proofs.words.write_unread.Goals as goal
 
 joined : (front number middle rest : List ℕ) → (front ++ (number ++ middle)) ++ rest ≡ front ++ (number ++ (middle ++ rest))

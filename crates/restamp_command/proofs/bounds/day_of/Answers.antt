@@ -2,7 +2,7 @@ use Rattle.std.proofs.Common.{FitsSigned, pos, neg_ℤ, arith, subst, sym, ◌�
 use Rattle.std.proofs.lemmas.Int.{ints, to_z-of_z}
 use Rattle.std.specs.Int.{w128}
 use Rattle.time_values.specs.Calendar.{IsBetween}
-use Rattle.restamp_command.proofs.BoundsLemmas.{day_near}
+use Rattle.restamp_command.proofs.FormatLemmas.{day_near}
 use Rattle.restamp_command.proofs.bounds.day_of.Goals as goal
 
 pub returns-clause-value : goal.returns-clause-value

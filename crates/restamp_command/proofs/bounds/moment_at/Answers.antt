@@ -1,9 +1,9 @@
 use Rattle.std.proofs.Common.{refl}
 use Rattle.std.proofs.lemmas.Int.{to_z-of_z}
-use Rattle.time_values.proofs.RefusalLemmas.{Constructs-Err, Constructs-Ok}
+use Rattle.time_values.proofs.NumberLemmas.{Constructs-Err, Constructs-Ok}
 use Rattle.time_values.specs.Instants.{timestamp_refusal}
-use Rattle.time_values.specs.Range.{greatest_year}
-use Rattle.restamp_command.proofs.BoundsLemmas.{no_date}
+use Rattle.time_values.specs.Calendar.{greatest_year}
+use Rattle.restamp_command.proofs.FormatLemmas.{no_date}
 use Rattle.restamp_command.proofs.bounds.moment_at.Goals as goal
 
 pub returns-in-Ok : goal.returns-in-Ok

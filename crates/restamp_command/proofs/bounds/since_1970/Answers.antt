@@ -1,6 +1,6 @@
 use Rattle.std.proofs.Common.{arith}
 use Rattle.std.proofs.lemmas.Int.{ints}
-use Rattle.restamp_command.proofs.BoundsLemmas.{near}
+use Rattle.restamp_command.proofs.FormatLemmas.{near}
 use Rattle.restamp_command.proofs.bounds.since_1970.Goals as goal
 
 pub returns-clause-range : goal.returns-clause-range

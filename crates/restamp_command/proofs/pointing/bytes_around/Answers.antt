@@ -1,5 +1,5 @@
 use Rattle.std.proofs.Common.{ℕ, take, drop, ap, ◌∙◌}
-use Rattle.restamp_command.proofs.PointingLemmas.{part_is}
+use Rattle.restamp_command.proofs.FormatLemmas.{part_is}
 use Rattle.restamp_command.proofs.pointing.bytes_around.Goals as goal
 
 pub returns : goal.returns

@@ -1,5 +1,5 @@
-use Rattle.restamp_stream.proofs.ReportLemmas.{OnOk-map}
-use Rattle.restamp_command.proofs.PointingLemmas.{Appends-pointer}
+use Rattle.restamp_stream.proofs.LinesLemmas.{OnOk-map}
+use Rattle.restamp_command.proofs.FormatLemmas.{Appends-pointer}
 use Rattle.restamp_command.proofs.pointing.write_pointer.Goals as goal
 
 pub returns-clause-written : goal.returns-clause-written

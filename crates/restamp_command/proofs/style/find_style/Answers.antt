@@ -1,4 +1,4 @@
-use Rattle.time_values.specs.Range.{greatest_year}
+use Rattle.time_values.specs.Calendar.{greatest_year}
 use Rattle.restamp_command.specs.Fault.{told}
 use Rattle.restamp_command.proofs.FormatLemmas.{suffix_fault}
 use Rattle.restamp_command.proofs.style.find_style.Goals as goal

@@ -1,6 +1,5 @@
 use Rattle.std.proofs.Common.{◌≡◌, refl, sym, subst, rules}
-use Rattle.time_zones.specs.Suffix.{IsZoneText}
-use Rattle.time_zones.specs.SuffixValues.{zone_of}
+use Rattle.time_zones.specs.Suffix.{IsZoneText, zone_of}
 use Rattle.restamp_command.specs.Zones.{IsSuffixOf}
 use Rattle.restamp_command.proofs.style.find_suffix.Goals as goal
 

@@ -1,5 +1,5 @@
 use Rattle.std.proofs.Common.{◌≡◌, length}
-use Rattle.restamp_in_place.specs.Names.{has_star}
+use Rattle.restamp_in_place.specs.Replacing.{has_star}
 use Rattle.restamp_in_place.proofs.names.has_star.Given as goal
 
 abbrev pub invariant-loop-left : goal.invariant-loop-left

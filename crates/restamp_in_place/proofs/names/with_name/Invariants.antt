@@ -1,5 +1,5 @@
 use Rattle.std.proofs.Common.{◌≡◌, ◌++◌, length}
-use Rattle.restamp_in_place.specs.Names.{with_name}
+use Rattle.restamp_in_place.specs.Replacing.{with_name}
 use Rattle.restamp_in_place.proofs.names.with_name.Given as goal
 
 abbrev pub invariant-loop-left : goal.invariant-loop-left

@@ -1,6 +1,6 @@
 use Rattle.std.proofs.Common.{codes, refl}
 use Rattle.restamp_in_place.specs.Telling.{IsWhy}
-use Rattle.restamp_stream.proofs.ReportLemmas.{OnOk-map}
+use Rattle.restamp_stream.proofs.LinesLemmas.{OnOk-map}
 use Rattle.restamp_in_place.proofs.telling.write_unreplaced.Goals as goal
 
 pub returns-in-Stopped-clause-told : goal.returns-in-Stopped-clause-told

@@ -1,4 +1,4 @@
-use Rattle.restamp_place.proofs.FieldLemmas.{tail_range, parts_whole}
+use Rattle.restamp_place.proofs.WordLemmas.{tail_range, parts_whole}
 use Rattle.restamp_place.proofs.cuts.cut_span.Goals as goal
 
 pub returns-clause-whole : goal.returns-clause-whole

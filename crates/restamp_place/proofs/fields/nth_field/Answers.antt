@@ -1,7 +1,7 @@
 use Rattle.std.proofs.Common.{◌+◌, ◌-◌, length, drop, sym, ap, arith, ◌∙◌}
 use Rattle.std.proofs.lemmas.List.{drop-drop, length-drop}
 use Rattle.restamp_place.specs.Fields.{first_field, nth_field, gap}
-use Rattle.restamp_place.proofs.FieldLemmas.{further_on, further_on-further_on, tail_range, nth-step, nth-short, nth-none}
+use Rattle.restamp_place.proofs.WordLemmas.{further_on, further_on-further_on, tail_range, nth-step, nth-short, nth-none}
 use Rattle.restamp_place.proofs.fields.nth_field.Goals as goal
 
 pub returns-in_err-field-clause-value : goal.returns-in_err-field-clause-value

@@ -1,6 +1,6 @@
 use Rattle.std.proofs.Common.{◌≡◌, ◌≤◌, length, drop}
 use Rattle.restamp_place.specs.Fields as fields
-use Rattle.restamp_place.proofs.FieldLemmas.{further_on}
+use Rattle.restamp_place.proofs.WordLemmas.{further_on}
 use Rattle.restamp_place.proofs.fields.nth_field.Given as goal
 
 abbrev pub invariant-loop-left : goal.invariant-loop-left

@@ -1,6 +1,6 @@
 use Rattle.std.proofs.Common.{◌+◌, drop, ap, arith, ◌∙◌}
 use Rattle.restamp_place.specs.Fields.{closing_quote}
-use Rattle.restamp_place.proofs.QuoteLemmas.{further, further-further, closes-other, closes-two}
+use Rattle.restamp_place.proofs.WordLemmas.{further, further-further, closes-other, closes-two}
 use Rattle.restamp_place.proofs.texts.closing_quote.Goals as goal
 
 pub loop-at-preserved-then-bytes-at-ne34 : goal.loop-at-preserved-then-bytes-at-ne34

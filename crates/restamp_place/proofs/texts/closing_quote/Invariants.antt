@@ -1,6 +1,6 @@
 use Rattle.std.proofs.Common.{◌≡◌, ◌≤◌, ◌-◌, length, drop}
 use Rattle.restamp_place.specs.Fields as fields
-use Rattle.restamp_place.proofs.QuoteLemmas.{further}
+use Rattle.restamp_place.proofs.WordLemmas.{further}
 use Rattle.restamp_place.proofs.texts.closing_quote.Given as goal
 
 abbrev pub invariant-loop-at : goal.invariant-loop-at

@@ -1,7 +1,7 @@
 use Rattle.std.proofs.Common.{◌≡◌, ◌+◌, subst, sym, ap, arith, ⊎_elim, ◌∙◌}
 use Rattle.std.proofs.lemmas.Bool.{cases_lt, true≢false}
 use Rattle.memchr.specs.Find.{OccursAt, occurs_at}
-use Rattle.restamp_place.proofs.FieldLemmas.{tail_range}
+use Rattle.restamp_place.proofs.WordLemmas.{tail_range}
 use Rattle.restamp_place.proofs.TextLemmas.{begins-stands, stands-begins, first_further}
 use Rattle.restamp_place.proofs.texts.find_short.Goals as goal
 

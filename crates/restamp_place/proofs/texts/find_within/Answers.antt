@@ -1,7 +1,7 @@
 use Rattle.std.proofs.Common.{◌≡◌, sym, ap, subst, arith, ⊎_elim, ◌∙◌}
 use Rattle.std.proofs.lemmas.Bool.{cases_lt, true≢false}
 use Rattle.memchr.specs.Find.{OccursAt, occurs_at}
-use Rattle.restamp_place.proofs.FieldLemmas.{tail_range}
+use Rattle.restamp_place.proofs.WordLemmas.{tail_range}
 use Rattle.restamp_place.proofs.TextLemmas.{begins-stands, stands-begins, stands-first}
 use Rattle.restamp_place.proofs.texts.find_within.Goals as goal
 use Rattle.restamp_place.proofs.texts.find_within.Goals.{else-bytes-at-via-then-bytes-at+else-begins_with, else-bytes-at-via-else-bytes-at}

@@ -1,4 +1,4 @@
-use Rattle.restamp_stream.proofs.FilesLemmas.{DidFiles-done, done, why_stopped}
+use Rattle.restamp_stream.proofs.DidLemmas.{DidFiles-done, done, why_stopped}
 use Rattle.restamp_stream.proofs.laws.law_done.Goals as goal
 
 pub returns-clause-done : goal.returns-clause-done

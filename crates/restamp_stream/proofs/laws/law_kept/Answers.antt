@@ -1,6 +1,5 @@
-use Rattle.restamp_stream.specs.Answers.{job_of}
-use Rattle.restamp_stream.proofs.LawLemmas.{kept_bytes}
-use Rattle.restamp_stream.proofs.LinesLemmas.{joined-lines_of}
+use Rattle.restamp_stream.specs.Streams.{job_of}
+use Rattle.restamp_stream.proofs.LinesLemmas.{kept_bytes, joined-lines_of}
 use Rattle.restamp_stream.proofs.laws.law_kept.Goals as goal
 
 pub returns : goal.returns

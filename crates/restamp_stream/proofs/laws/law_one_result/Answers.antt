@@ -1,5 +1,5 @@
-use Rattle.restamp_stream.specs.Answers.{job_of}
-use Rattle.restamp_stream.proofs.LawLemmas.{one_answer, one_result}
+use Rattle.restamp_stream.specs.Streams.{job_of}
+use Rattle.restamp_stream.proofs.LinesLemmas.{one_answer, one_result}
 use Rattle.restamp_stream.proofs.laws.law_one_result.Goals as goal
 
 pub returns : goal.returns

@@ -1,5 +1,5 @@
 use Rattle.std.proofs.Common.{◌≡◌, ℕ, ◌<◌, false, get_or}
-use Rattle.restamp_stream.specs.Names.{is_escaped}
+use Rattle.restamp_stream.specs.Reports.{is_escaped}
 use Rattle.restamp_stream.proofs.names.plain_length.Given as goal
 
 abbrev pub invariant-loop-i : goal.invariant-loop-i

@@ -1,6 +1,6 @@
 use Rattle.std.proofs.Common.{sym, subst}
 use Rattle.std.specs.Io.KnownBytes.{Appends}
-use Rattle.restamp_stream.proofs.NameLemmas.{shown_as-plain}
+use Rattle.restamp_stream.proofs.LinesLemmas.{shown_as-plain}
 use Rattle.restamp_stream.proofs.names.write_part.Goals as goal
 
 pub returns-clause-shown : goal.returns-clause-shown

@@ -1,7 +1,7 @@
 use Rattle.std.proofs.Common.{◌++◌, take, ◌∙◌}
 use Rattle.std.proofs.KnownBytes.{Appends-trans}
-use Rattle.restamp_stream.specs.Names.{shown_as}
-use Rattle.restamp_stream.proofs.NameLemmas.{shown_as-next}
+use Rattle.restamp_stream.specs.Reports.{shown_as}
+use Rattle.restamp_stream.proofs.LinesLemmas.{shown_as-next}
 use Rattle.restamp_stream.proofs.names.write_shown.Goals as goal
 
 pub loop-rest-preserved : goal.loop-rest-preserved

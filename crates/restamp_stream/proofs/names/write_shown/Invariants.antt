@@ -1,6 +1,6 @@
 use Rattle.std.proofs.Common.{◌≡◌, List, ℕ, ◌++◌, length}
 use Rattle.std.specs.Io.KnownBytes.{Appends}
-use Rattle.restamp_stream.specs.Names.{shown_as}
+use Rattle.restamp_stream.specs.Reports.{shown_as}
 use Rattle.restamp_stream.proofs.names.write_shown.Given as goal
 
 -- what was written shows what stands before the rest

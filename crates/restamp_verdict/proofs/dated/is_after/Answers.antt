@@ -3,7 +3,7 @@ use Rattle.std.specs.Prelude.{◌≤ℤ◌, ◌<ℤ◌, ◌+ℤ◌, ◌*ℤ◌, 
 use Rattle.std.specs.Int.{w64, cast_unsigned as of_z}
 use Rattle.std.proofs.lemmas.Int.{ints, to_z-of_z}
 use Rattle.time_values.specs.Moments.{offset_instant}
-use Rattle.time_values.specs.Range.{greatest_year}
+use Rattle.time_values.specs.Calendar.{greatest_year}
 use Rattle.restamp_verdict.proofs.dated.is_after.Goals as goal
 
 -- whole seconds that differ tell which of two instants in nanoseconds is the later one

@@ -1,5 +1,5 @@
-use Rattle.time_values.specs.Range.{greatest_year}
-use Rattle.restamp_verdict.proofs.ReadingLemmas.{in_turn-first}
+use Rattle.time_values.specs.Calendar.{greatest_year}
+use Rattle.restamp_verdict.proofs.SayingLemmas.{in_turn-first}
 use Rattle.restamp_verdict.proofs.dated.read_in_turn.Goals as goal
 
 pub returns-in-Ok-clause-said : goal.returns-in-Ok-clause-said

@@ -1,7 +1,7 @@
 use Rattle.std.proofs.Common.{Ok}
-use Rattle.time_values.specs.Range.{greatest_year}
+use Rattle.time_values.specs.Calendar.{greatest_year}
 use Rattle.restamp_verdict.specs.Reason.{seen}
-use Rattle.restamp_verdict.proofs.ReadingLemmas.{tried-here, tried-later}
+use Rattle.restamp_verdict.proofs.SayingLemmas.{tried-here, tried-later}
 use Rattle.restamp_verdict.proofs.dated.read_others.Goals as goal
 
 pub returns-in-Ok-clause-said : goal.returns-in-Ok-clause-said

@@ -1,10 +1,10 @@
 use Rattle.std.proofs.Common.{ℤ, pos, ap, subst, arith}
 use Rattle.std.specs.Prelude.{◌+ℤ◌}
 use Rattle.std.proofs.lemmas.Int.{ints}
-use Rattle.time_values.specs.Range.{greatest_year}
+use Rattle.time_values.specs.Calendar.{greatest_year}
 use Rattle.restamp_verdict.specs.Reading.{undated, AreYearsTried}
 use Rattle.restamp_verdict.specs.Reason.{seen, seen_read}
-use Rattle.restamp_verdict.proofs.ReadingLemmas.{one_more, dated-none, dated-years}
+use Rattle.restamp_verdict.proofs.SayingLemmas.{one_more, dated-none, dated-years}
 use Rattle.restamp_verdict.proofs.dated.read_undated.Goals as goal
 
 pub returns-in_default-clause-said : goal.returns-in_default-clause-said

@@ -1,10 +1,9 @@
 use Rattle.std.proofs.Common.{ℤ, pos, ap, subst, arith, refl, Err}
 use Rattle.std.specs.Prelude.{◌+ℤ◌}
 use Rattle.std.proofs.lemmas.Int.{ints}
-use Rattle.time_values.specs.Range.{greatest_year}
+use Rattle.time_values.specs.Calendar.{greatest_year}
 use Rattle.restamp_verdict.specs.Reading.{undated, AreYearsTried}
-use Rattle.restamp_verdict.proofs.ReadingLemmas.{one_more, dated-none, dated-years, on_none}
-use Rattle.restamp_verdict.proofs.SayingLemmas.{said_so}
+use Rattle.restamp_verdict.proofs.SayingLemmas.{one_more, dated-none, dated-years, on_none, said_so}
 use Rattle.restamp_verdict.proofs.dated.say_undated.Goals as goal
 
 pub returns-in_default-clause-said : goal.returns-in_default-clause-said

@@ -3,8 +3,8 @@ use Rattle.std.specs.Fmt.{signed_decimal}
 use Rattle.std.specs.Int.{w128}
 use Rattle.std.proofs.lemmas.Int.{ints, to_z-of_z}
 use Rattle.time_values.specs.Instants.{IsInstant, IsWhole}
-use Rattle.time_values.specs.Range.{greatest_year}
-use Rattle.restamp_verdict.proofs.Counts.{microseconds_short}
+use Rattle.time_values.specs.Calendar.{greatest_year}
+use Rattle.restamp_verdict.proofs.OneWrong.{microseconds_short}
 use Rattle.restamp_verdict.proofs.form.write_microseconds.Goals as goal
 
 pub wide_number-requires : goal.wide_number-requires

@@ -1,7 +1,7 @@
 use Rattle.std.proofs.Common.{sym, subst, ◌∙◌}
 use Rattle.time_values.specs.Instants.{IsInstant}
-use Rattle.time_values.specs.Range.{greatest_year}
-use Rattle.restamp_verdict.proofs.Counts.{nanoseconds_short}
+use Rattle.time_values.specs.Calendar.{greatest_year}
+use Rattle.restamp_verdict.proofs.OneWrong.{nanoseconds_short}
 use Rattle.restamp_verdict.proofs.form.write_nanoseconds.Goals as goal
 
 pub wide_number-requires : goal.wide_number-requires

@@ -1,6 +1,6 @@
 use Rattle.std.proofs.Common.{length, sym, ◌∙◌, arith}
 use Rattle.std.proofs.lemmas.Bool.{eqb-false, eqb-true}
-use Rattle.restamp_verdict.proofs.LackRows.{one_always-end, one_always-here, one_always-later, each_always-end, each_always-later, each_always-not, choice_always-none, choice_always-some}
+use Rattle.restamp_verdict.proofs.LackTrees.{one_always-end, one_always-here, one_always-later, each_always-end, each_always-later, each_always-not, choice_always-none, choice_always-some}
 use Rattle.restamp_verdict.proofs.lack.+always.Goals as goal
 
 pub one_always-returns-in_default : goal.one_always-returns-in_default

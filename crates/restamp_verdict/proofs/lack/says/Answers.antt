@@ -2,7 +2,7 @@ use Rattle.std.proofs.Common.{◌∙◌, sym, rules, tests}
 use Rattle.std.proofs.lemmas.Iterator.{YieldsList-from_slice}
 use Rattle.std.proofs.lemmas.Iterator.Search.{any_from_yields_List}
 use Rattle.restamp_verdict.specs.LackSteps.{step_says}
-use Rattle.restamp_verdict.proofs.LackRows.{row_says}
+use Rattle.restamp_verdict.proofs.LackTrees.{row_says}
 use Rattle.restamp_verdict.proofs.lack.says.Goals as goal
 
 pub returns : goal.returns

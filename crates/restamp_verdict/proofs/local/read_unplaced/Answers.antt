@@ -1,6 +1,6 @@
-use Rattle.time_values.specs.Range.{greatest_year}
+use Rattle.time_values.specs.Calendar.{greatest_year}
 use Rattle.restamp_verdict.specs.Reason.{seen, seen_read}
-use Rattle.restamp_verdict.proofs.LocalLemmas.{locally-none, locally-on}
+use Rattle.restamp_verdict.proofs.SayingLemmas.{locally-none, locally-on}
 use Rattle.restamp_verdict.proofs.local.read_unplaced.Goals as goal
 
 pub returns-in-Some-clause-said : goal.returns-in-Some-clause-said

@@ -1,5 +1,5 @@
 use Rattle.std.proofs.Common.{refl}
-use Rattle.time_values.specs.Range.{greatest_year}
+use Rattle.time_values.specs.Calendar.{greatest_year}
 use Rattle.restamp_verdict.proofs.SayingLemmas.{says_plain}
 use Rattle.restamp_verdict.proofs.saying.say.Goals as goal
 

@@ -1,5 +1,5 @@
 use Rattle.std.proofs.Common.{Err}
-use Rattle.time_values.specs.Range.{greatest_year}
+use Rattle.time_values.specs.Calendar.{greatest_year}
 use Rattle.restamp_verdict.specs.Reading.{IsReadInTurn}
 use Rattle.restamp_verdict.proofs.SayingLemmas.{said_so}
 use Rattle.restamp_verdict.proofs.saying.say_in_turn.Goals as goal

@@ -1,9 +1,9 @@
 use Rattle.std.proofs.Common.{◌≡◌, List, [], drop, Ok, Err, refl, sym, subst, arith}
 use Rattle.std.proofs.Math.ListN.{drop_of_length-le}
-use Rattle.time_values.specs.Range.{greatest_year}
+use Rattle.time_values.specs.Calendar.{greatest_year}
 use Rattle.restamp_verdict.specs.Reading.{AreTried}
 use Rattle.restamp_verdict.specs.declared.reading.Reading.{Reading}
-use Rattle.restamp_verdict.proofs.ReadingLemmas.{tried-here, tried-later}
+use Rattle.restamp_verdict.proofs.SayingLemmas.{tried-here, tried-later}
 use Rattle.restamp_verdict.proofs.saying.say_others.Goals as goal
 
 pub returns-in-Some-clause-said : goal.returns-in-Some-clause-said

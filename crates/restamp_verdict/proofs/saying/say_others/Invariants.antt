@@ -1,6 +1,6 @@
 use Rattle.std.proofs.Common.{drop}
 use Rattle.std.specs.Prelude.{Result}
-use Rattle.time_values.specs.Range.{greatest_year}
+use Rattle.time_values.specs.Calendar.{greatest_year}
 use Rattle.restamp_verdict.specs.Reading.{AreTried}
 use Rattle.restamp_verdict.specs.Reason.{Reason}
 use Rattle.restamp_verdict.specs.declared.reading.Said.{Said}

@@ -1,7 +1,7 @@
 use Rattle.std.proofs.Common.{refl, Ok, Err}
 use Rattle.time_values.specs.Refusal.{refusal_of}
-use Rattle.restamp_place.proofs.FieldLemmas.{tail_range}
-use Rattle.restamp_verdict.proofs.ZonedLemmas.{read-longest, suffix_of}
+use Rattle.restamp_place.proofs.WordLemmas.{tail_range}
+use Rattle.restamp_verdict.proofs.OneWriting.{read-longest, suffix_of}
 use Rattle.restamp_verdict.proofs.wrong.find_tail.Goals as goal
 
 pub returns-in-Ok : goal.returns-in-Ok

@@ -1,4 +1,4 @@
-use Rattle.time_components.proofs.ReaderLemmas.{no_positive}
+use Rattle.time_components.proofs.OneSpelling.{no_positive}
 use Rattle.time_components.proofs.component.parse_day.Goals as goal
 
 pub returns-in_err-new : goal.returns-in_err-new

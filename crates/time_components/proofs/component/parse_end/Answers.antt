@@ -1,7 +1,7 @@
 use Rattle.std.proofs.Common.{length, arith, refl, sym, ◌∙◌}
 use Rattle.std.proofs.lemmas.List.{append-nil}
 use Rattle.std.proofs.Math.Seq.{drop-length}
-use Rattle.time_digits.proofs.CutLemmas.{take-drop}
+use Rattle.time_digits.proofs.WordBytes.{take-drop}
 use Rattle.time_components.proofs.component.parse_end.Goals as goal
 
 pub returns-in-Discard : goal.returns-in-Discard

@@ -1,6 +1,6 @@
 use Rattle.time_values.specs.Names.{month_name}
 use Rattle.time_components.specs.Spelling.{month}
-use Rattle.time_components.proofs.ShortNames.{months_titled, no_long, no_ending, is_long}
+use Rattle.time_components.proofs.NameLemmas.{months_titled, no_long, no_ending, is_long}
 use Rattle.time_components.proofs.component.parse_month_long.Goals as goal
 
 pub returns-in_err-short : goal.returns-in_err-short

@@ -1,7 +1,7 @@
 use Rattle.std.proofs.Common.{sym, ◌∙◌, arith}
-use Rattle.time_values.specs.Month.{month_number}
+use Rattle.time_values.specs.Names.{month_number}
 use Rattle.time_components.specs.Spelling.{month}
-use Rattle.time_components.proofs.ReaderLemmas.{no_number, month_number-positive, month_refused}
+use Rattle.time_components.proofs.OneSpelling.{no_number, month_number-positive, month_refused}
 use Rattle.time_components.proofs.component.parse_month_numerical.Goals as goal
 
 pub returns-in_err-new : goal.returns-in_err-new

@@ -1,6 +1,6 @@
 use Rattle.time_values.specs.Names.{weekday_name}
 use Rattle.time_components.specs.Spelling.{weekday}
-use Rattle.time_components.proofs.ShortNames.{weekdays_titled, no_long, no_ending, is_long}
+use Rattle.time_components.proofs.NameLemmas.{weekdays_titled, no_long, no_ending, is_long}
 use Rattle.time_components.proofs.component.parse_weekday_long.Goals as goal
 
 pub returns-in_err-short : goal.returns-in_err-short

@@ -1,6 +1,6 @@
 use Rattle.std.proofs.Common.{◌≡◌, ℕ, List, ◌++◌, ap, sym, ◌∙◌}
 use Rattle.time_describing.specs.Parts.{count_part, modifier_part, name_part, padding_part}
-use Rattle.time_describing.proofs.Putting.{puts_first, puts_on}
+use Rattle.time_describing.proofs.Checks.{puts_first, puts_on}
 use Rattle.time_describing.proofs.component.put_words.Goals as goal
 
 front : (x y rest : List ℕ) → x ≡ y → y ++ rest ≡ x ++ rest

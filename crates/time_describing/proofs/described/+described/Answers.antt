@@ -3,8 +3,7 @@ use Rattle.std.proofs.lemmas.Bool.{and_left, and_right, le-ltb}
 use Rattle.std.specs.Prelude.{◌&&◌}
 use Rattle.time_components.specs.Tree.{trees}
 use Rattle.time_describing.specs.Described.{is_item, is_list}
-use Rattle.time_describing.proofs.Checks.{first_at, items-end, items-more, items-not, lists-end, lists-more, lists-not, no_first, no_optional, optional_at}
-use Rattle.time_describing.proofs.Turns.{size-item, trees_from-end, trees_from-item}
+use Rattle.time_describing.proofs.Checks.{first_at, items-end, items-more, items-not, lists-end, lists-more, lists-not, no_first, no_optional, optional_at, size-item, trees_from-end, trees_from-item}
 use Rattle.time_describing.proofs.described.+described.Goals as goal
 use Rattle.time_describing.proofs.described.+described.Goals.{are_items-else-is_after_run-via-then-is_after_run+else-is_run, are_items-else-is_after_run-via-else-is_after_run}
 

@@ -1,7 +1,6 @@
 use Rattle.std.proofs.Common.{◌+◌, ◌*◌, map}
 use Rattle.time_components.specs.Tree.{trees}
-use Rattle.time_describing.proofs.Checks.{ItemsLeft, ListsLeft}
-use Rattle.time_describing.proofs.Turns.{size, size_of_all, trees_from}
+use Rattle.time_describing.proofs.Checks.{ItemsLeft, ListsLeft, size, size_of_all, trees_from}
 use Rattle.time_describing.proofs.described.+described.Given as goal
 
 abbrev pub decreases-is_item : goal.decreases-is_item

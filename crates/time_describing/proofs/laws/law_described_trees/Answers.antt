@@ -1,6 +1,6 @@
 use Rattle.time_descriptions.specs.Writing.{tree_text}
-use Rattle.time_describing.proofs.DescribedTrees.{described_by_text}
-use Rattle.time_describing.proofs.ReadDescribedItems.{read_is_described}
+use Rattle.time_describing.proofs.OneTree.{described_by_text}
+use Rattle.time_describing.proofs.ReadDescribed.{read_is_described}
 use Rattle.time_describing.proofs.laws.law_described_trees.Goals as goal
 
 pub returns : goal.returns

@@ -2,9 +2,8 @@ use Rattle.std.proofs.Common.{◌+◌, ◌<◌, ◌++◌, ◌∙◌, ap, arith, 
 use Rattle.std.specs.Prelude.{codes}
 use Rattle.time_components.specs.Tree.{trees}
 use Rattle.time_descriptions.specs.Writing.{lists_text, tree_text, trees_text}
-use Rattle.time_describing.specs.Puts.{list_text}
-use Rattle.time_describing.proofs.Putting.{puts_first, puts_on}
-use Rattle.time_describing.proofs.Turns.{leaves-full, lists_text-more, size-item, trees_from, trees_from-item}
+use Rattle.time_describing.specs.Parts.{list_text}
+use Rattle.time_describing.proofs.Checks.{puts_first, puts_on, leaves-full, lists_text-more, size-item, trees_from, trees_from-item}
 use Rattle.time_describing.proofs.writing.+items.Goals as goal
 
 pub put_items-put_item-requires : goal.put_items-put_item-requires

@@ -1,7 +1,7 @@
 use Rattle.std.proofs.Common.{◌+◌, ◌*◌, map}
 use Rattle.time_components.specs.Tree.{trees}
 use Rattle.time_descriptions.specs.Writing.{lists_text, trees_text}
-use Rattle.time_describing.proofs.Turns.{Leaves, size, size_of_all, trees_from}
+use Rattle.time_describing.proofs.Checks.{Leaves, size, size_of_all, trees_from}
 use Rattle.time_describing.proofs.writing.+items.Given as goal
 
 abbrev pub decreases-put_item : goal.decreases-put_item

@@ -1,7 +1,7 @@
 use Rattle.std.proofs.Common.{◌≡◌, ℕ, ◌<◌, pred, take, length, Ok, Err, sym, ◌∙◌, ap, arith, length-drop}
 use Rattle.std.proofs.lemmas.Grind.{common_steps}
 use Rattle.time_descriptions.specs.Components.{modifier, modifiers}
-use Rattle.time_descriptions.proofs.ModifierSteps.{stops, goes, fails, below_pred}
+use Rattle.time_descriptions.proofs.WrittenComponents.{stops, goes, fails, below_pred}
 use Rattle.time_descriptions.proofs.component.read_modifiers.Goals as goal
 
 pub returns-then-len-eq0-clause-reads : goal.returns-then-len-eq0-clause-reads

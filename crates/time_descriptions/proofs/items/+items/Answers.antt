@@ -1,15 +1,13 @@
 use Rattle.std.proofs.Common.{◌≡◌, ℕ, suc, ◌+◌, ◌-◌, ◌<◌, ◌≤◌, List, [], ◌∷◌, ◌++◌, length, true, false, refl, ap, sym, ◌∙◌, inr, append-nil, length-append, arith}
 use Rattle.std.proofs.lemmas.Grind.{common_steps}
 use Rattle.std.specs.Prelude.{slice_set}
-use Rattle.time_components.specs.declared.step.Group.{Group}
-use Rattle.time_components.specs.declared.step.Group.TheVariants as groups
-use Rattle.time_components.specs.declared.step.Step.{Step}
-use Rattle.time_components.specs.declared.step.Step.TheVariants as step
-use Rattle.time_descriptions.specs.Counting.{item_begun}
-use Rattle.time_descriptions.specs.Grammar.{ends, item, list_by}
+use Rattle.time_components.specs.declared.inspect.Group.{Group}
+use Rattle.time_components.specs.declared.inspect.Group.TheVariants as groups
+use Rattle.time_components.specs.declared.inspect.Step.{Step}
+use Rattle.time_components.specs.declared.inspect.Step.TheVariants as step
+use Rattle.time_descriptions.specs.Grammar.{item_begun, ends, item, list_by}
 use Rattle.time_descriptions.specs.Items.{flat, group, items_of, steps_of}
-use Rattle.time_descriptions.proofs.Adding.{at_end, at_fault, at_item, at_last, at_list, at_list_fault, before_none, closed_length, closed_steps, deeper, fault_on, flat_one, group_ends, more_bytes, next_steps, no_room, not_ended, not_inside, not_opened, plain_item, shorter_of, too_deep}
-use Rattle.time_descriptions.proofs.Begun.{deep_begun, deeper_begun, group_not_opened, group_opened, lists_at_fault, lists_at_last, lists_at_least, lists_at_next, none_at_end, plain_begun, some_at_fault, some_at_item, some_at_least}
+use Rattle.time_descriptions.proofs.Adding.{at_end, at_fault, at_item, at_last, at_list, at_list_fault, before_none, closed_length, closed_steps, deeper, fault_on, flat_one, group_ends, more_bytes, next_steps, no_room, not_ended, not_inside, not_opened, plain_item, shorter_of, too_deep, deep_begun, deeper_begun, group_not_opened, group_opened, lists_at_fault, lists_at_last, lists_at_least, lists_at_next, none_at_end, plain_begun, some_at_fault, some_at_item, some_at_least}
 use Rattle.time_descriptions.proofs.items.+items.Goals as goal
 
 pub add_group-returns-in-Err : goal.add_group-returns-in-Err

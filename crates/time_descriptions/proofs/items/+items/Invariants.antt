@@ -1,6 +1,5 @@
 use Rattle.std.proofs.Common.{◌≡◌, ℕ, suc, ◌+◌, ◌-◌, ◌*◌, ◌<◌, ◌≤◌, List, ◌++◌, length, true}
-use Rattle.time_descriptions.specs.Counting.{item_begun, items_begun, lists_begun}
-use Rattle.time_descriptions.specs.Grammar.{before, item, items_by, list_by, lists_by}
+use Rattle.time_descriptions.specs.Grammar.{item_begun, items_begun, lists_begun, before, item, items_by, list_by, lists_by}
 use Rattle.time_descriptions.specs.Items.{Item, flat}
 use Rattle.time_descriptions.proofs.items.+items.Given as goal
 

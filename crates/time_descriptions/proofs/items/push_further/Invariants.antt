@@ -1,5 +1,5 @@
 use Rattle.std.proofs.Common.{◌≡◌, ◌≤◌, ◌++◌, length, map, take}
-use Rattle.time_components.specs.declared.step.Step.TheVariants as step
+use Rattle.time_components.specs.declared.inspect.Step.TheVariants as step
 use Rattle.time_descriptions.proofs.items.push_further.Given as goal
 
 abbrev pub invariant-loop-byte : goal.invariant-loop-byte

@@ -1,6 +1,6 @@
 use Rattle.std.proofs.Common.{refl, sym, subst}
 use Rattle.time_components.specs.Tree.{Tree, sequence}
-use Rattle.time_descriptions.specs.declared.version.Version.TheVariants as versions
+use Rattle.time_descriptions.specs.declared.leaf.Version.TheVariants as versions
 use Rattle.time_descriptions.specs.Grammar.{Describes}
 use Rattle.time_descriptions.specs.Items.{items_of, trees_of}
 use Rattle.time_descriptions.specs.Writing.{tree_text}

@@ -1,6 +1,6 @@
 use Rattle.std.proofs.Common.{◌≡◌, ℕ, List, [], Ok, Err, ap, sym, ◌∙◌}
 use Rattle.time_components.specs.Tree.{Tree, sequence}
-use Rattle.time_descriptions.specs.declared.version.Version.{Version}
+use Rattle.time_descriptions.specs.declared.leaf.Version.{Version}
 use Rattle.time_descriptions.specs.Components.{Read}
 use Rattle.time_descriptions.specs.Grammar.{Describes}
 use Rattle.time_descriptions.specs.Items.{Item, items_of, trees_of}

@@ -2,12 +2,11 @@ use Rattle.std.proofs.Common.{◌≡◌, ℕ, List, Ok, Err, ap, sym, ◌∙◌,
 use Rattle.std.proofs.lemmas.Bool.{false≢true}
 use Rattle.std.specs.Prelude.{is_ok}
 use Rattle.time_components.specs.Tree.{Tree}
-use Rattle.time_descriptions.specs.declared.fault.Fault.{Fault}
-use Rattle.time_descriptions.specs.declared.version.Version.{Version}
+use Rattle.time_descriptions.specs.declared.error.Fault.{Fault}
+use Rattle.time_descriptions.specs.declared.leaf.Version.{Version}
 use Rattle.time_descriptions.specs.Components.{Read}
-use Rattle.time_descriptions.specs.Counting.{TakesAtMost}
+use Rattle.time_descriptions.specs.Grammar.{TakesAtMost, Describes}
 use Rattle.time_descriptions.specs.Description.{IsRefused}
-use Rattle.time_descriptions.specs.Grammar.{Describes}
 use Rattle.time_descriptions.specs.Items.{Item}
 use Rattle.time_descriptions.specs.Refusal.{Refusal, refusal_at}
 use Rattle.time_descriptions.proofs.laws.law_one_outcome.Goals as goal

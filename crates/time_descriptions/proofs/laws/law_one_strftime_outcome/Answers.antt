@@ -2,7 +2,7 @@ use Rattle.std.proofs.Common.{◌≡◌, ℕ, List, Option, Some, None, ap, sym,
 use Rattle.std.proofs.lemmas.Bool.{false≢true}
 use Rattle.std.specs.Prelude.{is_some}
 use Rattle.time_components.specs.Tree.{Tree}
-use Rattle.time_descriptions.specs.declared.fault.Fault.{Fault}
+use Rattle.time_descriptions.specs.declared.error.Fault.{Fault}
 use Rattle.time_descriptions.specs.Refusal.{Refusal, refusal_at}
 use Rattle.time_descriptions.specs.Strftime.{DescribesStrftime, Fits, IsRefusedStrftime}
 use Rattle.time_descriptions.proofs.laws.law_one_strftime_outcome.Goals as goal

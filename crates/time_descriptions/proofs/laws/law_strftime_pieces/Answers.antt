@@ -1,10 +1,205 @@
-use Rattle.std.proofs.Common.{◌≡◌, List, ℕ, length, None, ap, sym, ◌∙◌, arith}
+use Rattle.std.specs.List.{flat_map}
+use Rattle.std.specs.Option.{option_map}
+use Rattle.std.specs.Prelude.{◌==◌, is_some, option_and_then, if◌then◌else◌}
+use Rattle.std.proofs.Common.{◌≡◌, ℕ, zero, suc, ◌+◌, ◌≤◌, List, [], ◌∷◌, ◌++◌, length, map, Bool, true, false, Option, Some, None, Result, Ok, refl, ap, sym, subst, ◌∙◌, arith}
+use Rattle.std.proofs.lemmas.Bool.{eqb-true, false≢true}
+use Rattle.time_digits.specs.declared.Padding.{Padding}
+use Rattle.time_digits.specs.declared.Padding.TheVariants as padding
+use Rattle.time_components.specs.declared.format_description.Component.{Component}
 use Rattle.time_components.specs.Tree.{Tree, sequence}
-use Rattle.time_descriptions.specs.Items.{items_of, trees_of}
-use Rattle.time_descriptions.specs.Pieces.{HasPieces}
-use Rattle.time_descriptions.specs.Strftime.{DescribesStrftime, Found, strftime}
-use Rattle.time_descriptions.proofs.StrftimePieces.{pieces, pieces_read}
+use Rattle.time_descriptions.specs.declared.error.Fault.{Fault}
+use Rattle.time_descriptions.specs.declared.error.Fault.TheVariants as fault
+use Rattle.time_descriptions.specs.Components.{◌>>=◌, or_fault}
+use Rattle.time_descriptions.specs.Grammar.{by_option}
+use Rattle.time_descriptions.specs.Items.{Item, literal, component, items_of, trees_of}
+use Rattle.time_descriptions.specs.Strftime.{components, item_of_byte, meaning, offset, row_of, shorthands, Found, conversion, flag_padding, flagged, followed, letter_fault, padded, started, strftime, with_padding, DescribesStrftime}
+use Rattle.time_descriptions.specs.Description.{Piece, byte, conversion as conversion_piece, flagged as flagged_piece, all_items, piece_items, piece_text, HasPieces}
 use Rattle.time_descriptions.proofs.laws.law_strftime_pieces.Goals as goal
+
+-- ---- A text of strftime is read piece by piece
+
+none_some : {A : Type 0} (x : A) → None ≡ Some x → ⊥
+none_some x e = false≢true (ap is_some e)
+
+some_in : {A : Type 0} (x : A) (o : Option A) → A
+some_in x (Some y) = y
+some_in x None = x
+
+some_same : {A : Type 0} (x y : A) → Some x ≡ Some y → x ≡ y
+unfolding some_in
+some_same x y e = ap (some_in x) e
+
+-- A letter with a padding stands for something, and a flag for nothing.
+
+padded_means : (z : Bool) (s : Option (List Item)) (p : Padding) (c : Component) (o : Option Component)
+    → option_and_then (with_padding p) o ≡ Some c
+    → (is : List Item) × ((if z then Some offset else by_option s (λ d. Some (component d ∷ [])) o) ≡ Some is)
+padded_means true s p c o e = (offset, refl)
+padded_means false s p c (Some d) e = (component d ∷ [], refl)
+padded_means false s p c None e = absurd (none_some c e)
+
+flag_means : (b : ℕ) (p : Padding) (x y z : Bool) → (b == 45) ≡ x → (b == 95) ≡ y → (b == 48) ≡ z
+    → (if x then Some padding.None else (if y then Some padding.Space else (if z then Some padding.Zero else None))) ≡ Some p → meaning b ≡ None
+unfolding row_of components shorthands
+flag_means b p true y z e f g h = subst (λ (n : ℕ). meaning n ≡ None) (sym (eqb-true b 45 e)) refl
+flag_means b p false true z e f g h = subst (λ (n : ℕ). meaning n ≡ None) (sym (eqb-true b 95 f)) refl
+flag_means b p false false true e f g h = subst (λ (n : ℕ). meaning n ≡ None) (sym (eqb-true b 48 g)) refl
+flag_means b p false false false e f g h = absurd (none_some p h)
+
+-- A piece in front is read as what it stands for.
+
+byte_read : (t : Bool) (b : ℕ) (here : List Item) (x y : Found) → (if t then None else Some (literal b [] ∷ [])) ≡ Some here
+    → (if t then x else followed (literal b [] ∷ []) y) ≡ followed here y
+byte_read true b here x y e = absurd (none_some here e)
+byte_read false b here x y e = ap (λ (is : List Item). followed is y) (some_same (literal b [] ∷ []) here e)
+
+letter_read : (o : Option Padding) (m : Option (List Item)) (here : List Item) (e : Fault) (x : Padding → Found) (y : Found) → m ≡ Some here
+    → ((p : Padding) → o ≡ Some p → m ≡ None) → by_option (started (or_fault e m) y) x o ≡ followed here y
+letter_read None m here e x y h g = ap (λ (n : Option (List Item)). started (or_fault e n) y) h
+letter_read (Some p) m here e x y h g = absurd (none_some here (sym (g p refl) ∙ h))
+
+both_read : (m : Option (List Item)) (q : Option Component) (e f : Fault) (is : List Item) (c : Component) → m ≡ Some is → q ≡ Some c
+    → (or_fault e m >>= λ js. or_fault f q >>= λ d. Ok (component d ∷ [])) ≡ Ok (component c ∷ [])
+both_read m q e f is c h g =
+    ap (λ (n : Option (List Item)). or_fault e n >>= λ js. or_fault f q >>= λ d. Ok (component d ∷ [])) h
+    ∙ ap (λ (n : Option Component). or_fault f n >>= λ d. Ok (component d ∷ [])) g
+
+abbrev one_item : Option Component → Option (List Item)
+one_item = option_map (λ c. component c ∷ [])
+
+padded_read : (p : Padding) (b : ℕ) (rest : List ℕ) (here : List Item) (q : Option Component) → padded p b ≡ q → one_item q ≡ Some here
+    → flagged p (b ∷ rest) ≡ followed here (strftime rest)
+unfolding flagged
+padded_read p b rest here None e h = absurd (none_some here h)
+padded_read p b rest here (Some c) e h =
+    let left : ℕ = length (b ∷ rest) in
+    let m = padded_means (b == 122) (option_map (map item_of_byte) (row_of shorthands b)) p c (row_of components b) e in
+    ap (λ (r : Result (List Item) Fault). started r (strftime rest))
+    (both_read (meaning b) (padded p b) (letter_fault (left + 2) left b) (fault.InvalidModifier (left + 1) 1) m.0 c m.1 e)
+    ∙ ap (λ (is : List Item). followed is (strftime rest)) (some_same (component c ∷ []) here h)
+
+flag_read : (o : Option Padding) (x : Found) (b : ℕ) (rest : List ℕ) (here : List Item)
+    → option_and_then (λ p. one_item (padded p b)) o ≡ Some here → by_option x (λ p. flagged p (b ∷ rest)) o ≡ followed here (strftime rest)
+flag_read None x b rest here h = absurd (none_some here h)
+flag_read (Some p) x b rest here h = padded_read p b rest here (padded p b) refl h
+
+piece_read : (q : Piece) (here : List Item) (rest : List ℕ) → piece_items q ≡ Some here
+    → strftime (piece_text q ++ rest) ≡ followed here (strftime rest)
+unfolding strftime conversion
+piece_read (byte b) here rest h = byte_read (b == 37) b here (conversion rest) (strftime rest) h
+piece_read (conversion_piece b) here rest h =
+    let left : ℕ = length (b ∷ rest) in
+    letter_read (flag_padding b) (meaning b) here (letter_fault (left + 1) left b) (λ p. flagged p rest) (strftime rest) h
+    (λ p e. flag_means b p (b == 45) (b == 95) (b == 48) refl refl refl e)
+piece_read (flagged_piece f b) here rest h =
+    let left : ℕ = length (f ∷ b ∷ rest) in
+    flag_read (flag_padding f) (started (or_fault (letter_fault (left + 1) left f) (meaning f)) (strftime (b ∷ rest))) b rest here h
+
+-- pieces are read one after another
+piece_on : (q : Piece) (ps : List Piece) (is : List Item) (o r : Option (List Item)) → piece_items q ≡ o → all_items ps ≡ r
+    → option_and_then (λ here. option_map (λ there. here ++ there) r) o ≡ Some is
+    → ((there : List Item) → all_items ps ≡ Some there → strftime (flat_map piece_text ps) ≡ (there, None))
+    → strftime (piece_text q ++ flat_map piece_text ps) ≡ (is, None)
+piece_on q ps is None r e f h ih = absurd (none_some is h)
+piece_on q ps is (Some here) None e f h ih = absurd (none_some is h)
+piece_on q ps is (Some here) (Some there) e f h ih =
+    let put : List Item → Found = λ js. (js, None) in
+    piece_read q here (flat_map piece_text ps) e ∙ ap (followed here) (ih there f) ∙ ap put (some_same (here ++ there) is h)
+
+pieces_read : (ps : List Piece) (is : List Item) → all_items ps ≡ Some is → strftime (flat_map piece_text ps) ≡ (is, None)
+unfolding strftime
+pieces_read [] is h = let put : List Item → Found = λ js. (js, None) in ap put (some_same [] is h)
+pieces_read (q ∷ ps) is h = piece_on q ps is (piece_items q) (all_items ps) refl refl h (pieces_read ps)
+
+-- A text without a fault begins with a piece.
+
+abbrev Clean : Found → Type 0
+Clean found = found.1 ≡ None
+
+abbrev Starts : List ℕ → Type 0
+Starts text =
+    record {
+      piece : Piece;
+      here : List Item;
+      rest : List ℕ;
+      is : text ≡ piece_text piece ++ rest;
+      means : piece_items piece ≡ Some here;
+      shorter : length rest + 1 ≤ length text;
+    }
+
+faulty : {A : Type 0} (e : Fault) → Some e ≡ None → A
+faulty e h = absurd (none_some e (sym h))
+
+first_letter : (c : ℕ) (text : List ℕ) (m : Option (List Item)) (e : Fault) → meaning c ≡ m → Clean (started (or_fault e m) (strftime text))
+    → Starts (37 ∷ c ∷ text)
+first_letter c text None e g h = faulty e h
+first_letter c text (Some is) e g h =
+    record { piece = conversion_piece c; here = is; rest = text; is = refl; means = g; shorter = omega arith }
+
+first_both : (p : Padding) (c d : ℕ) (text : List ℕ) (m : Option (List Item)) (q : Option Component) (e f : Fault) → flag_padding c ≡ Some p
+    → padded p d ≡ q → Clean (started (or_fault e m >>= λ is. or_fault f q >>= λ x. Ok (component x ∷ [])) (strftime text))
+    → Starts (37 ∷ c ∷ d ∷ text)
+first_both p c d text None q e f k g h = faulty e h
+first_both p c d text (Some is) None e f k g h = faulty f h
+first_both p c d text (Some is) (Some x) e f k g h =
+    record {
+      piece = flagged_piece c d;
+      here = component x ∷ [];
+      rest = text;
+      is = refl;
+      means = ap (option_and_then (λ r. one_item (padded r d))) k ∙ ap one_item g;
+      shorter = omega arith;
+    }
+
+first_flagged : (p : Padding) (c : ℕ) (text : List ℕ) → flag_padding c ≡ Some p → Clean (flagged p text) → Starts (37 ∷ c ∷ text)
+unfolding flagged
+first_flagged p c [] k h = faulty (fault.InvalidComponentName 0 0) h
+first_flagged p c (d ∷ text) k h =
+    let left : ℕ = length (d ∷ text) in
+    first_both p c d text (meaning d) (padded p d) (letter_fault (left + 2) left d) (fault.InvalidModifier (left + 1) 1) k refl h
+
+first_after : (c : ℕ) (text : List ℕ) (e : Fault) (o : Option Padding) → flag_padding c ≡ o
+    → Clean (by_option (started (or_fault e (meaning c)) (strftime text)) (λ p. flagged p text) o) → Starts (37 ∷ c ∷ text)
+first_after c text e None k h = first_letter c text (meaning c) e refl h
+first_after c text e (Some p) k h = first_flagged p c text k h
+
+first_conversion : (text : List ℕ) → Clean (conversion text) → Starts (37 ∷ text)
+unfolding conversion
+first_conversion [] h = faulty (fault.InvalidComponentName 0 0) h
+first_conversion (c ∷ text) h =
+    let left : ℕ = length (c ∷ text) in first_after c text (letter_fault (left + 1) left c) (flag_padding c) refl h
+
+first_on : (b : ℕ) (text : List ℕ) (t : Bool) → (b == 37) ≡ t
+    → Clean (if t then conversion text else followed (literal b [] ∷ []) (strftime text)) → Starts (b ∷ text)
+first_on b text true g h = subst (λ (n : ℕ). Starts (n ∷ text)) (sym (eqb-true b 37 g)) (first_conversion text h)
+first_on b text false g h =
+    let items : Bool → Option (List Item) = λ t. if t then None else Some (literal b [] ∷ []) in
+    record { piece = byte b; here = literal b [] ∷ []; rest = text; is = refl; means = ap items g; shorter = omega arith }
+
+first : (b : ℕ) (text : List ℕ) → Clean (strftime (b ∷ text)) → Starts (b ∷ text)
+unfolding strftime
+first b text h = first_on b text (b == 37) refl h
+
+no_pieces : (ps : List Piece) × ([] ≡ flat_map piece_text ps) × (all_items ps ≡ Some (strftime []).0)
+unfolding strftime
+no_pieces = ([], refl, refl)
+
+-- a text without a fault is of pieces
+pieces : (n : ℕ) (text : List ℕ) → length text ≤ n → (strftime text).1 ≡ None
+    → (ps : List Piece) × (text ≡ flat_map piece_text ps) × (all_items ps ≡ Some (strftime text).0)
+pieces n [] l h = no_pieces
+pieces zero (b ∷ text) l h = absurd (omega (arith, l))
+pieces (suc n) (b ∷ text) l h =
+    let s = first b text h in
+    let whole : strftime (b ∷ text) ≡ followed s.here (strftime s.rest) = ap strftime s.is ∙ piece_read s.piece s.here s.rest s.means in
+    let clean : (strftime s.rest).1 ≡ None = sym (ap (λ (f : Found). f.1) whole) ∙ h in
+    let others = pieces n s.rest (omega (arith, l, s.shorter)) clean in
+    let join : List Item → Option (List Item) = λ is. option_map (λ there. is ++ there) (all_items others.0) in
+    let put : Option (List Item) → Option (List Item) = option_map (λ there. s.here ++ there) in (
+      s.piece ∷ others.0,
+      s.is ∙ ap (λ (t : List ℕ). piece_text s.piece ++ t) others.1,
+      ap (option_and_then join) s.means ∙ ap put others.2 ∙ ap (λ (f : Found). Some f.0) (sym whole),
+    )
 
 parted : (text : List ℕ) (tree : Tree) → DescribesStrftime text tree → HasPieces text tree
 unfolding DescribesStrftime

@@ -1,4 +1,4 @@
-use Rattle.time_descriptions.specs.Letters.{components}
+use Rattle.time_descriptions.specs.Strftime.{components}
 use Rattle.time_descriptions.proofs.letters.component_of_letter.Goals as goal
 
 pub returns : goal.returns

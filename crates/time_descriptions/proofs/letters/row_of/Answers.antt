@@ -1,7 +1,7 @@
 use Rattle.std.proofs.Common.{◌≡◌, ℕ, ◌≤◌, List, [], ◌∷◌, length, drop, get_or, Some, refl, sym, subst, arith}
 use Rattle.std.proofs.lemmas.Grind.{common_steps}
 use Rattle.std.specs.Prelude.{◌==◌, if◌then◌else◌}
-use Rattle.time_descriptions.specs.Letters.{row_of}
+use Rattle.time_descriptions.specs.Strftime.{row_of}
 use Rattle.time_descriptions.proofs.letters.row_of.Goals as goal
 
 first_row : {V : Type 0} (left : List (ℕ × V)) (x : ℕ × V) (letter : ℕ) → 1 ≤ length left → x ≡ get_or left 0 x

@@ -1,5 +1,5 @@
 use Rattle.std.proofs.Common.{◌≡◌, length}
-use Rattle.time_descriptions.specs.Letters.{row_of}
+use Rattle.time_descriptions.specs.Strftime.{row_of}
 use Rattle.time_descriptions.proofs.letters.row_of.Given as goal
 
 -- the rows that are left have what all have

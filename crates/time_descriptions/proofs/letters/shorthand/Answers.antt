@@ -1,8 +1,8 @@
 use Rattle.std.proofs.Common.{List, ℕ, Bor, Option, Some, None, ◌≡◌, map, refl, ap, ◌∙◌, sym}
 use Rattle.std.specs.Option.{option_map}
 use Rattle.std.specs.Prelude.{true, false, ◌==◌, [], ◌∷◌, Bool, if◌then◌else◌}
-use Rattle.time_descriptions.specs.Leaves.{Sees}
-use Rattle.time_descriptions.specs.Letters.{row_of, shorthands}
+use Rattle.time_descriptions.specs.Items.{Sees}
+use Rattle.time_descriptions.specs.Strftime.{row_of, shorthands}
 use Rattle.time_descriptions.proofs.letters.shorthand.Goals as goal
 
 -- a row, without where its bytes lie

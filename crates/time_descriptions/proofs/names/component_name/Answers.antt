@@ -1,4 +1,4 @@
-use Rattle.time_descriptions.specs.Names.{component_names}
+use Rattle.time_descriptions.specs.Values.{component_names}
 use Rattle.time_descriptions.proofs.names.component_name.Goals as goal
 
 pub returns : goal.returns

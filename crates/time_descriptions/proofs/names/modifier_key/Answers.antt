@@ -1,4 +1,4 @@
-use Rattle.time_descriptions.specs.Names.{modifier_keys}
+use Rattle.time_descriptions.specs.Values.{modifier_keys}
 use Rattle.time_descriptions.proofs.names.modifier_key.Goals as goal
 
 pub returns-in-End : goal.returns-in-End

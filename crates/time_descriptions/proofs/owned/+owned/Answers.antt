@@ -1,12 +1,10 @@
 use Rattle.std.proofs.Common.{◌≡◌, ℕ, suc, ◌+◌, ◌-◌, ◌<◌, ◌≤◌, List, [], ◌∷◌, ◌++◌, length, true, false, refl, ap, sym, ◌∙◌, arith}
 use Rattle.std.proofs.lemmas.Grind.{common_steps}
-use Rattle.time_components.specs.declared.step.Group.TheVariants as groups
-use Rattle.time_descriptions.specs.Grammar.{ends, inside_by, item, list_by}
-use Rattle.time_descriptions.specs.Items.{group, items_of}
-use Rattle.time_descriptions.specs.Leaves.{leaf_item}
-use Rattle.time_descriptions.specs.Owned.{SaysItem}
+use Rattle.time_components.specs.declared.inspect.Group.TheVariants as groups
+use Rattle.time_descriptions.specs.Grammar.{ends, inside_by, item, list_by, SaysItem}
+use Rattle.time_descriptions.specs.Items.{group, items_of, leaf_item}
 use Rattle.time_descriptions.proofs.Adding.{at_end, at_fault, at_item, at_last, at_list, at_list_fault, before_none, deeper, not_ended, not_inside, not_opened, plain_item, too_deep}
-use Rattle.time_descriptions.proofs.Owning.{fails_on, fails_whole, group_not_closed, group_read, group_said, one_more}
+use Rattle.time_descriptions.proofs.Shapes.{fails_on, fails_whole, group_not_closed, group_read, group_said, one_more}
 use Rattle.time_descriptions.proofs.owned.+owned.Goals as goal
 
 pub read_group-returns-in_err-inside-clause-owns : goal.read_group-returns-in_err-inside-clause-owns
@@ -48,7 +46,7 @@ read_items-loop-alloc-init t c =
       most = length c.args.text.now;
       within = omega arith;
       shorter = omega arith;
-      said = ap (λ items. Rattle.std.proofs.Common.map Rattle.time_components.specs.Shape.owned_shape items) c.new-items.ensures.items;
+      said = ap (λ items. Rattle.std.proofs.Common.map Rattle.time_components.specs.Tree.owned_shape items) c.new-items.ensures.items;
       told = before_none _;
     }
 
@@ -95,7 +93,7 @@ read_lists-loop-lists-init t c =
       most = suc (length c.args.text.now);
       within = omega arith;
       shorter = omega arith;
-      said = ap (λ items. Rattle.std.proofs.Common.map Rattle.time_components.specs.Shape.owned_shape items) c.new-lists.ensures.items;
+      said = ap (λ items. Rattle.std.proofs.Common.map Rattle.time_components.specs.Tree.owned_shape items) c.new-lists.ensures.items;
       told = before_none _;
     }
 

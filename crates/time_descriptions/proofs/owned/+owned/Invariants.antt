@@ -1,7 +1,6 @@
 use Rattle.std.proofs.Common.{◌≡◌, ℕ, suc, ◌+◌, ◌*◌, ◌<◌, ◌≤◌, List, length, true}
-use Rattle.time_descriptions.specs.Grammar.{before, item, items_by, list_by, lists_by}
+use Rattle.time_descriptions.specs.Grammar.{before, item, items_by, list_by, lists_by, SaysItems}
 use Rattle.time_descriptions.specs.Items.{Item}
-use Rattle.time_descriptions.specs.Owned.{SaysItems}
 use Rattle.time_descriptions.proofs.owned.+owned.Given as goal
 
 abbrev pub decreases-read_item : goal.decreases-read_item

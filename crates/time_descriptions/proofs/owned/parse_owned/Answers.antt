@@ -1,5 +1,5 @@
 use Rattle.std.proofs.Common.{sym}
-use Rattle.time_descriptions.proofs.Owning.{owned_description}
+use Rattle.time_descriptions.proofs.Shapes.{owned_description}
 use Rattle.time_descriptions.proofs.owned.parse_owned.Goals as goal
 
 pub returns-in-Ok : goal.returns-in-Ok

@@ -1,8 +1,8 @@
 use Rattle.std.proofs.Common.{◌≡◌, ℕ, List, Some, ap, ◌∙◌, inl, inr}
 use Rattle.std.specs.Prelude.{◌⊎◌}
-use Rattle.time_components.specs.Steps.{steps_shape}
-use Rattle.time_descriptions.specs.declared.fault.Fault.{Fault}
-use Rattle.time_descriptions.specs.declared.fault.Fault.TheVariants as fault
+use Rattle.time_components.specs.Tree.{steps_shape}
+use Rattle.time_descriptions.specs.declared.error.Fault.{Fault}
+use Rattle.time_descriptions.specs.declared.error.Fault.TheVariants as fault
 use Rattle.time_descriptions.specs.Refusal.{Refusal, refusal_at}
 use Rattle.time_descriptions.specs.Strftime.{DescribesStrftime, Exceeds, Fits, IsRefusedStrftime, strftime}
 use Rattle.time_descriptions.proofs.Shapes.{steps_shape-flat}

@@ -1,12 +1,12 @@
 use Rattle.std.proofs.Common.{◌≡◌, ℕ, List, [], ◌∷◌, ◌++◌, map, Option, Some, None, refl, ap, ◌∙◌}
 use Rattle.std.proofs.lemmas.List.{length-map}
 use Rattle.time_components.specs.declared.format_description.Component.{Component}
-use Rattle.time_components.specs.declared.step.Step.{Step}
-use Rattle.time_components.specs.declared.step.Step.TheVariants as step
+use Rattle.time_components.specs.declared.inspect.Step.{Step}
+use Rattle.time_components.specs.declared.inspect.Step.TheVariants as step
 use Rattle.time_descriptions.specs.declared.strftime.Part.{Part}
 use Rattle.time_descriptions.specs.Grammar.{by_option}
 use Rattle.time_descriptions.specs.Items.{flat, literal, component, steps_of}
-use Rattle.time_descriptions.specs.Letters.{components, item_of_byte, row_of, step_of_byte}
+use Rattle.time_descriptions.specs.Strftime.{components, item_of_byte, row_of, step_of_byte}
 use Rattle.time_descriptions.specs.Parts.{part_items}
 use Rattle.time_descriptions.proofs.strftime.push_part.Goals as goal
 

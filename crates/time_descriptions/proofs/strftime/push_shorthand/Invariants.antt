@@ -1,5 +1,5 @@
 use Rattle.std.proofs.Common.{◌≡◌, ◌≤◌, ◌++◌, length, map, take}
-use Rattle.time_descriptions.specs.Letters.{step_of_byte}
+use Rattle.time_descriptions.specs.Strftime.{step_of_byte}
 use Rattle.time_descriptions.proofs.strftime.push_shorthand.Given as goal
 
 abbrev pub invariant-loop-byte : goal.invariant-loop-byte

@@ -1,9 +1,9 @@
 use Rattle.std.proofs.Common.{◌≡◌, ℕ, ◌+◌, ◌-◌, ◌<◌, ◌≤◌, List, [], ◌∷◌, ◌++◌, length, take, drop, get_or, ap, sym, ◌∙◌, append_assoc, append-nil, arith, length-append, Some, inr}
 use Rattle.std.proofs.lemmas.Grind.{common_steps}
-use Rattle.time_components.specs.declared.step.Step.{Step}
+use Rattle.time_components.specs.declared.inspect.Step.{Step}
 use Rattle.time_descriptions.specs.Items.{Item, flat}
 use Rattle.time_descriptions.specs.Parts.{HasSteps, part_items}
-use Rattle.time_descriptions.specs.declared.fault.Fault.{Fault}
+use Rattle.time_descriptions.specs.declared.error.Fault.{Fault}
 use Rattle.time_descriptions.specs.Strftime.{Fits, Found, failed, followed, strftime}
 use Rattle.time_descriptions.proofs.Adding.{flat-append}
 use Rattle.time_descriptions.proofs.strftime.read_steps.Goals as goal

@@ -1,7 +1,7 @@
 use Rattle.std.proofs.Common.{◌≡◌, ℕ, [], ◌∷◌, get_or, Bool, true, refl, sym, ◌∙◌, arith}
 use Rattle.std.proofs.lemmas.Bool.Decides.{nat_tests}
 use Rattle.std.specs.Char.{eq_ignore_ascii_case, to_ascii_lowercase}
-use Rattle.time_digits.proofs.CutLemmas.{first_byte}
+use Rattle.time_digits.proofs.WordBytes.{first_byte}
 use Rattle.time_digits.proofs.combinator.ascii_char_ignore_case.Goals as goal
 
 same_letter : (answer : Bool) (a b : ℕ) → answer ≡ eq_ignore_ascii_case a b → answer ≡ true → to_ascii_lowercase a ≡ to_ascii_lowercase b

@@ -1,6 +1,6 @@
 use Rattle.std.proofs.Common.{arith, drop}
-use Rattle.time_digits.proofs.CutLemmas.{take-drop}
-use Rattle.time_digits.proofs.PaddedRuns.{after_spaces}
+use Rattle.time_digits.proofs.WordBytes.{take-drop}
+use Rattle.time_digits.proofs.Runs.{after_spaces}
 use Rattle.time_digits.proofs.combinator.n_to_m_digits_padded.Goals as goal
 
 pub returns-in-Space : goal.returns-in-Space

@@ -1,5 +1,5 @@
 use Rattle.std.proofs.Common.{arith}
-use Rattle.time_digits.proofs.Threes.{three_cut}
+use Rattle.time_digits.proofs.Fractions.{three_cut}
 use Rattle.time_digits.proofs.combinator.three_digits.Goals as goal
 
 pub returns-in-48-to-57 : goal.returns-in-48-to-57

@@ -1,5 +1,5 @@
 use Rattle.time_digits.specs.Digits.{IsDigitRun}
-use Rattle.time_digits.proofs.CutLemmas.{IsUnique-cut}
+use Rattle.time_digits.proofs.WordBytes.{IsUnique-cut}
 use Rattle.time_digits.proofs.Runs.{IsDigitRun-one}
 use Rattle.time_digits.proofs.laws.law_one_digit_run.Goals as goal
 

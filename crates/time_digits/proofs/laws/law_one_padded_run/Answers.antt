@@ -1,6 +1,6 @@
 use Rattle.time_digits.specs.Digits.{IsPaddedRun}
-use Rattle.time_digits.proofs.CutLemmas.{IsUnique-cut}
-use Rattle.time_digits.proofs.PaddedRuns.{IsPaddedRun-unique}
+use Rattle.time_digits.proofs.WordBytes.{IsUnique-cut}
+use Rattle.time_digits.proofs.Runs.{IsPaddedRun-unique}
 use Rattle.time_digits.proofs.laws.law_one_padded_run.Goals as goal
 
 pub returns : goal.returns

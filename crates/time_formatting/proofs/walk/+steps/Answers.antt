@@ -1,9 +1,77 @@
-use Rattle.std.proofs.Common.{ap, sym, ◌∙◌, length, drop, ◌-◌, arith, length-take, length-drop}
-use Rattle.time_values.specs.Range.{greatest_year}
-use Rattle.time_components.specs.Steps.{trees_in}
-use Rattle.time_formatting.specs.Texts.{texts_after}
-use Rattle.time_formatting.proofs.Walking.{behind_first, first_end, first_is, row_is, texts_end, texts_on, texts_refused}
+use Rattle.std.proofs.Common.{◌≡◌, ℕ, zero, suc, ◌-◌, ◌≤◌, List, [], ◌∷◌, length, take, drop, get_or, Ok as WalkingOk, Err as WalkingErr, refl, ap, sym, ◌∙◌, arith, length-drop, length-take}
+use Rattle.std.proofs.lemmas.List.{take_all}
+use Rattle.time_values.specs.declared.offset_date_time.OffsetDateTime.{OffsetDateTime}
+use Rattle.time_values.specs.Calendar.{greatest_year}
+use Rattle.time_components.specs.Tree.{steps_after, further, tree_at, trees_in}
+use Rattle.time_components.specs.declared.inspect.Step.{Step}
+use Rattle.time_components.specs.declared.inspect.Step.TheVariants as step
+use Rattle.time_formatting.specs.Texts.{and_then, first_after, text_after, texts_after}
+use Rattle.time_formatting.specs.declared.walk.Unformattable.{Unformattable}
 use Rattle.time_formatting.proofs.walk.+steps.Goals as goal
+
+-- ---- The text of a row of steps, item by item
+
+-- what stands behind a first step, as a pattern has it
+abbrev behind_first : List Step → List Step
+behind_first left = take (length left - 1) (drop 1 left)
+
+row_is : (left : List Step) (x : Step) → 1 ≤ length left → x ≡ get_or left 0 x → left ≡ x ∷ behind_first left
+row_is [] x within is = absurd (omega arith)
+row_is (s ∷ left) x within is = ap (λ y. y ∷ left) (sym is) ∙ ap (λ l. x ∷ l) (sym (take_all (length (s ∷ left) - 1) left (omega arith)))
+
+after_fewer : (s : Step) (behind : List Step) → length (steps_after s behind) ≤ length behind
+after_fewer (step.Literal b) behind = omega (arith, length-drop (length (further behind)) behind)
+after_fewer (step.More b) behind = omega (arith, length-drop (length (further behind)) behind)
+after_fewer (step.Component c) behind = omega arith
+after_fewer (step.Group k len) behind = omega (arith, length-drop len behind)
+
+module _ (Y : ℕ) (v : OffsetDateTime) (before : List ℕ) (x : Step) (behind : List Step) where
+  -- the first item has been written
+  pub texts_on : (new : List ℕ) (n : ℕ) (left : List Step) → left ≡ x ∷ behind → length left ≤ n
+      → ((m : ℕ) → length behind ≤ m → text_after Y v before (tree_at (trees_in m) x behind) ≡ WalkingOk new)
+      → (m : ℕ) × (length (steps_after x behind) ≤ m)
+      × (texts_after Y v before (trees_in n left) ≡ texts_after Y v new (trees_in m (steps_after x behind)))
+  unfolding trees_in
+  texts_on new zero left is fits written = absurd (omega (arith, ap length is))
+  texts_on new (suc m) left is fits written = (
+    m,
+    omega (arith, ap length is, after_fewer x behind),
+    ap (λ l. texts_after Y v before (trees_in (suc m) l)) is
+        ∙ ap (λ r. and_then r (λ bytes. texts_after Y v bytes (trees_in m (steps_after x behind)))) (written m (omega (arith, ap length is))),
+  )
+
+  -- the first item has no text
+  pub texts_refused : (why : Unformattable) (n : ℕ) (left : List Step) → left ≡ x ∷ behind → length left ≤ n
+      → ((m : ℕ) → length behind ≤ m → text_after Y v before (tree_at (trees_in m) x behind) ≡ WalkingErr why)
+      → texts_after Y v before (trees_in n left) ≡ WalkingErr why
+  unfolding trees_in
+  texts_refused why zero left is fits refused = absurd (omega (arith, ap length is))
+  texts_refused why (suc m) left is fits refused =
+      ap (λ l. texts_after Y v before (trees_in (suc m) l)) is
+      ∙ ap (λ r. and_then r (λ bytes. texts_after Y v bytes (trees_in m (steps_after x behind)))) (refused m (omega (arith, ap length is)))
+
+  -- the first item of a choice
+  pub first_is : (n : ℕ) (left : List Step) → left ≡ x ∷ behind → length left ≤ n
+      → (m : ℕ) × (length behind ≤ m)
+      × (first_after Y v before (trees_in n left) ≡ text_after Y v before (tree_at (trees_in m) x behind))
+  unfolding trees_in
+  first_is zero left is fits = absurd (omega (arith, ap length is))
+  first_is (suc m) left is fits = (m, omega (arith, ap length is), ap (λ l. first_after Y v before (trees_in (suc m) l)) is)
+
+-- no step is left
+texts_end : (Y : ℕ) (v : OffsetDateTime) (before : List ℕ) (n : ℕ) (left : List Step) → length left ≤ 0
+    → texts_after Y v before (trees_in n left) ≡ WalkingOk before
+unfolding trees_in
+texts_end Y v before zero [] none = refl
+texts_end Y v before (suc n) [] none = refl
+texts_end Y v before n (s ∷ left) none = absurd (omega arith)
+
+first_end : (Y : ℕ) (v : OffsetDateTime) (before : List ℕ) (n : ℕ) (left : List Step) → length left ≤ 0
+    → first_after Y v before (trees_in n left) ≡ WalkingOk before
+unfolding trees_in
+first_end Y v before zero [] none = refl
+first_end Y v before (suc n) [] none = refl
+first_end Y v before n (s ∷ left) none = absurd (omega arith)
 
 pub write_first-returns-in_default : goal.write_first-returns-in_default
 write_first-returns-in_default t c = λ n fits.

@@ -1,5 +1,5 @@
 use Rattle.std.proofs.Common.{◌≡◌, ◌≤◌, ◌∷◌, length, drop}
-use Rattle.time_components.specs.Steps.{further}
+use Rattle.time_components.specs.Tree.{further}
 use Rattle.time_formatting.specs.Texts.{joined}
 use Rattle.time_formatting.proofs.walk.write_literal.Given as goal
 

@@ -1,8 +1,8 @@
 use Rattle.std.proofs.Common.{◌∙◌, ap, arith, w32}
 use Rattle.std.proofs.lemmas.Int.{ints, to_z-of_z}
-use Rattle.time_values.specs.Range.{greatest_year}
-use Rattle.time_formatting.specs.Years.{iso_year}
-use Rattle.time_formatting.proofs.IsoWeeks.{iso_year_is}
+use Rattle.time_values.specs.Calendar.{greatest_year}
+use Rattle.time_formatting.specs.Numbers.{iso_year}
+use Rattle.time_formatting.proofs.Spelled.{iso_year_is}
 use Rattle.time_formatting.proofs.years.iso_year.Goals as goal
 
 pub returns-clause-value : goal.returns-clause-value

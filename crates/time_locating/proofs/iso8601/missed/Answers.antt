@@ -1,12 +1,12 @@
 use Rattle.std.proofs.Common.{◌∙◌, Some, length, ap, sym, arith}
-use Rattle.time_values.specs.Range.{greatest_year}
-use Rattle.time_readers.specs.IsoAnswers.{Found}
+use Rattle.time_values.specs.Calendar.{greatest_year}
+use Rattle.time_readers.specs.IsoPieces.{Found}
 use Rattle.time_readers.specs.IsoDates.{IsoDate, iso_date}
 use Rattle.time_record.specs.Record.{empty}
 use Rattle.time_locating.specs.Located.{seen_miss}
 use Rattle.time_locating.specs.Misses.{further, missed, named}
 use Rattle.time_locating.proofs.IsoDates.{date-number}
-use Rattle.time_locating.proofs.IsoSteps.{great_date, held_date, no_date}
+use Rattle.time_locating.proofs.IsoLengths.{great_date, held_date, no_date}
 use Rattle.time_locating.proofs.iso8601.missed.Goals as goal
 
 pub returns-in_default : goal.returns-in_default

@@ -1,6 +1,6 @@
 use Rattle.std.proofs.Common.{◌∙◌, None, refl}
 use Rattle.time_locating.specs.Located.{seen_miss}
-use Rattle.time_locating.proofs.IsoSteps.{time_joined}
+use Rattle.time_locating.proofs.IsoLengths.{time_joined}
 use Rattle.time_locating.proofs.iso8601.missed_from_time.Goals as goal
 
 pub returns-in-Some : goal.returns-in-Some

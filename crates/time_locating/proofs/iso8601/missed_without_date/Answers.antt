@@ -2,7 +2,7 @@ use Rattle.std.proofs.Common.{false, ◌∙◌}
 use Rattle.time_readers.specs.declared.iso8601.ExtendedKind.TheVariants.{Unknown}
 use Rattle.time_locating.specs.Iso8601.{from_time, offset_misses}
 use Rattle.time_locating.specs.Located.{seen_miss}
-use Rattle.time_locating.proofs.IsoSteps.{joined}
+use Rattle.time_locating.proofs.IsoLengths.{joined}
 use Rattle.time_locating.proofs.iso8601.missed_without_date.Goals as goal
 
 pub returns : goal.returns

@@ -1,6 +1,6 @@
 use Rattle.std.proofs.Common.{drop, map}
 use Rattle.time_locating.specs.Located.{seen_miss}
-use Rattle.time_locating.proofs.IsoSteps.{Joined}
+use Rattle.time_locating.proofs.IsoLengths.{Joined}
 use Rattle.time_locating.proofs.iso8601.rows_missed.Given as goal
 
 abbrev pub invariant-loop-row : goal.invariant-loop-row

@@ -1,6 +1,6 @@
 use Rattle.std.proofs.Common.{arith}
 use Rattle.time_readers.specs.IsoDates.{iso_date}
-use Rattle.time_locating.proofs.IsoSteps.{Small, held}
+use Rattle.time_locating.proofs.IsoLengths.{Small, held}
 use Rattle.time_locating.proofs.iso8601.too_great.Goals as goal
 use Rattle.time_locating.proofs.iso8601.too_great.Goals.{in_default-via-in-Calendar+else-get-gt31, in_default-via-in-Ordinal+else-get-gt366, in_default-via-in-Week+else-get-gt53}
 

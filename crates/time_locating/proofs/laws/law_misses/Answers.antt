@@ -1,4 +1,4 @@
-use Rattle.time_locating.specs.exact.MissLaws.{Misses-one}
+use Rattle.time_locating.specs.exact.PlaceLaws.{Misses-one}
 use Rattle.time_locating.proofs.MissLemmas.{furthest_leaves_fewest, own_miss_first}
 use Rattle.time_locating.proofs.laws.law_misses.Goals as goal
 

@@ -1,5 +1,5 @@
 use Rattle.std.proofs.Common.{arith}
-use Rattle.time_values.specs.Range.{greatest_year}
+use Rattle.time_values.specs.Calendar.{greatest_year}
 use Rattle.time_locating.proofs.MarkSteps.{mark-within}
 use Rattle.time_locating.proofs.mark.index_of.Goals as goal
 

@@ -3,10 +3,10 @@ use Rattle.std.proofs.lemmas.List.{drop_all}
 use Rattle.std.proofs.lemmas.Option.{none-some, same_Some}
 use Rattle.time_readers.specs.Rfc2822.{Asks, fault, nothing_read, places}
 use Rattle.time_readers.specs.declared.rfc2822.Place.TheVariants.{WeekdayName}
-use Rattle.time_locating.specs.ByPlaces.{is_place_of}
+use Rattle.time_locating.specs.Marks.{is_place_of}
 use Rattle.time_locating.specs.MailPlaces.{Agrees}
 use Rattle.time_locating.specs.Rfc2822.{wanted_from}
-use Rattle.time_locating.proofs.PlaceMarks.{Left, Left-at, Left-end, Left-start}
+use Rattle.time_locating.proofs.WholeTexts.{Left, Left-at, Left-end, Left-start}
 use Rattle.time_locating.proofs.rfc2822.mark_of_place.Goals as goal
 
 pub loop-place-init : goal.loop-place-init

@@ -3,7 +3,7 @@ use Rattle.time_readers.specs.Rfc2822.{Asks, HasForm, fault, nothing_read, place
 use Rattle.time_readers.specs.declared.rfc2822.Numbers.{Numbers}
 use Rattle.time_locating.specs.MailPlaces.{Agrees}
 use Rattle.time_locating.specs.Rfc2822.{wanted_from}
-use Rattle.time_locating.proofs.PlaceMarks.{Left}
+use Rattle.time_locating.proofs.WholeTexts.{Left}
 use Rattle.time_locating.proofs.rfc2822.mark_of_place.Given as goal
 
 abbrev pub invariant-loop-place : goal.invariant-loop-place

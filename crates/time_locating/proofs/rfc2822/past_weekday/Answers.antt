@@ -1,11 +1,10 @@
 use Rattle.std.proofs.Common.{None, Some, ap, refl, sym}
 use Rattle.time_components.specs.Spelling.{weekday}
-use Rattle.time_components.proofs.ShortNames.{spelled, weekday_one}
-use Rattle.time_digits.specs.Cuts.{Cut}
+use Rattle.time_components.proofs.NameLemmas.{spelled, weekday_one}
+use Rattle.time_digits.specs.Digits.{Cut}
 use Rattle.time_readers.specs.MailBlanks.{opt_cfws}
 use Rattle.time_readers.specs.Rfc2822.{IsShortWeekday, IsWeekdayPart}
-use Rattle.time_readers.proofs.MailBlanks.{opt_cfws-leaves}
-use Rattle.time_readers.proofs.MailPlaces.{no_comma, read-cut, weekday-cut}
+use Rattle.time_readers.proofs.MailBlanks.{opt_cfws-leaves, no_comma, read-cut, weekday-cut}
 use Rattle.time_locating.proofs.MailParts.{weekday_same}
 use Rattle.time_locating.proofs.rfc2822.past_weekday.Goals as goal
 

@@ -1,7 +1,7 @@
 use Rattle.std.proofs.Common.{◌≡◌, ℕ, ◌-◌, ◌⊎◌, List, ◌∷◌, length, get_or, take, drop, ap, sym, ◌∙◌, subst, inl, inr, arith}
 use Rattle.std.proofs.lemmas.List.{drop_all}
 use Rattle.time_digits.specs.Digits.{NoDigitFirst}
-use Rattle.time_digits.proofs.CutLemmas.{first_byte}
+use Rattle.time_digits.proofs.WordBytes.{first_byte}
 use Rattle.time_locating.proofs.Rfc3339Places.{fraction_len-point}
 use Rattle.time_locating.proofs.rfc3339.fraction_len.Goals as goal
 

@@ -1,5 +1,5 @@
 use Rattle.std.proofs.Common.{refl, ◌∙◌, arith}
-use Rattle.time_digits.proofs.CutLemmas.{take-drop}
+use Rattle.time_digits.proofs.WordBytes.{take-drop}
 use Rattle.time_readers.specs.declared.rfc3339.Place.TheVariants as place
 use Rattle.time_locating.proofs.Rfc3339Places.{AfterFraction, at_offset_colon, at_offset_hour, at_offset_minute, fixed}
 use Rattle.time_locating.proofs.rfc3339.index_of.Goals as goal

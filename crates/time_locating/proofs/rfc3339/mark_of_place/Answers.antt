@@ -3,9 +3,9 @@ use Rattle.std.proofs.lemmas.List.{drop_all}
 use Rattle.std.proofs.lemmas.Option.{none-some, same_Some}
 use Rattle.time_readers.specs.Rfc3339.{Asks, fault, nothing_read, places}
 use Rattle.time_readers.specs.declared.rfc3339.Place.TheVariants.{Year}
-use Rattle.time_locating.specs.ByPlaces.{at_once, is_place_of}
+use Rattle.time_locating.specs.Marks.{at_once, is_place_of}
 use Rattle.time_locating.proofs.Rfc3339Places.{InUtc}
-use Rattle.time_locating.proofs.PlaceMarks.{Left, Left-at, Left-end, Left-start}
+use Rattle.time_locating.proofs.WholeTexts.{Left, Left-at, Left-end, Left-start}
 use Rattle.time_locating.proofs.rfc3339.mark_of_place.Goals as goal
 
 pub loop-place-init : goal.loop-place-init

@@ -1,9 +1,9 @@
 use Rattle.std.proofs.Common.{ℕ, List, drop, true}
 use Rattle.time_readers.specs.Rfc3339.{Asks, HasForm, fault, nothing_read, places}
 use Rattle.time_readers.specs.declared.rfc3339.Numbers.{Numbers}
-use Rattle.time_locating.specs.ByPlaces.{at_once}
+use Rattle.time_locating.specs.Marks.{at_once}
 use Rattle.time_locating.proofs.Rfc3339Places.{InUtc}
-use Rattle.time_locating.proofs.PlaceMarks.{Left}
+use Rattle.time_locating.proofs.WholeTexts.{Left}
 use Rattle.time_locating.proofs.rfc3339.mark_of_place.Given as goal
 
 abbrev pub invariant-loop-place : goal.invariant-loop-place

@@ -1,5 +1,5 @@
 use Rattle.std.proofs.Common.{subst, true}
-use Rattle.time_digits.specs.Cuts.{Cut}
+use Rattle.time_digits.specs.Digits.{Cut}
 use Rattle.time_readers.specs.Rfc3339.{Asks}
 use Rattle.time_locating.proofs.rfc3339.past.Goals as goal
 

@@ -1,12 +1,9 @@
 use Rattle.std.proofs.Common.{refl, sym, ◌∙◌, arith, rules}
 use Rattle.time_record.proofs.Counting.{places-item}
-use Rattle.time_record.proofs.Steps.{trees_from-end, trees_from-item}
+use Rattle.time_record.proofs.Unique.{trees_from-end, trees_from-item}
 use Rattle.time_locating.specs.Misses.{Misses}
-use Rattle.time_locating.proofs.ChoiceSteps.{Passes-kept, Passes-misses, Passes-none, Passes-nothing, Passes-reads, Passes-unread, no_trees, some_trees}
-use Rattle.time_locating.proofs.Leaves.{optional_reads}
-use Rattle.time_locating.proofs.MarkSteps.{CarriesAll-end, CarriesAll-reads, CarriesFirst-reads, CarriesFirst-unread, marks_read, marks_unread, no_marks}
-use Rattle.time_locating.proofs.Places.{empty_length, some_length}
-use Rattle.time_locating.proofs.TurnSteps.{Follows-end, Follows-kept, Follows-misses, Follows-reads, Follows-unread}
+use Rattle.time_locating.proofs.TurnSteps.{Passes-kept, Passes-misses, Passes-none, Passes-nothing, Passes-reads, Passes-unread, no_trees, some_trees, optional_reads, Follows-end, Follows-kept, Follows-misses, Follows-reads, Follows-unread}
+use Rattle.time_locating.proofs.MarkSteps.{CarriesAll-end, CarriesAll-reads, CarriesFirst-reads, CarriesFirst-unread, marks_read, marks_unread, no_marks, empty_length, some_length}
 use Rattle.time_locating.proofs.walk.+items.Goals as goal
 
 pub walk-returns-in-Literal-clause-misses : goal.walk-returns-in-Literal-clause-misses

@@ -1,13 +1,12 @@
 use Rattle.std.proofs.Common.{◌+◌, ◌*◌, map}
-use Rattle.time_values.specs.Range.{greatest_year}
+use Rattle.time_values.specs.Calendar.{greatest_year}
 use Rattle.time_components.specs.Tree.{trees}
-use Rattle.time_record.specs.Count.{places, places_of_all}
-use Rattle.time_record.proofs.Steps.{trees_from}
+use Rattle.time_record.specs.Reading.{places, places_of_all}
+use Rattle.time_record.proofs.Unique.{trees_from}
 use Rattle.time_locating.specs.Located.{seen_miss}
 use Rattle.time_locating.specs.Misses.{all_bytes}
-use Rattle.time_locating.proofs.ChoiceSteps.{Passes}
+use Rattle.time_locating.proofs.TurnSteps.{Passes, Follows}
 use Rattle.time_locating.proofs.MarkSteps.{CarriesAll, CarriesFirst}
-use Rattle.time_locating.proofs.TurnSteps.{Follows}
 use Rattle.time_locating.proofs.walk.+items.Given as goal
 
 abbrev pub decreases-walk : goal.decreases-walk

@@ -1,5 +1,5 @@
 use Rattle.std.proofs.Common.{refl}
-use Rattle.time_locating.proofs.Leaves.{literal_misses-furthest, literal_reads}
+use Rattle.time_locating.proofs.TurnSteps.{literal_misses-furthest, literal_reads}
 use Rattle.time_locating.proofs.MarkSteps.{literal_marks, marks_unread}
 use Rattle.time_locating.proofs.walk.literal.Goals as goal
 

@@ -1,5 +1,5 @@
 use Rattle.std.proofs.Common.{false}
-use Rattle.time_locating.proofs.Leaves.{component_misses, component_reads}
+use Rattle.time_locating.proofs.TurnSteps.{component_misses, component_reads}
 use Rattle.time_locating.proofs.MarkSteps.{component_marks, marks_unread}
 use Rattle.time_locating.proofs.walk.read_component.Goals as goal
 

@@ -1,8 +1,8 @@
 use Rattle.std.proofs.Common.{subst, true}
-use Rattle.time_values.specs.Range.{greatest_year}
+use Rattle.time_values.specs.Calendar.{greatest_year}
 use Rattle.time_values.specs.Refusal.{refusal_of_description}
 use Rattle.time_record.specs.Reading.{Reads, Refuses}
-use Rattle.time_locating.proofs.Leaves.{component_misses, component_reads, v3_component}
+use Rattle.time_locating.proofs.TurnSteps.{component_misses, component_reads, v3_component}
 use Rattle.time_locating.proofs.MarkSteps.{component_marks, marks_unread}
 use Rattle.time_locating.proofs.walk.read_whole_component.Goals as goal
 

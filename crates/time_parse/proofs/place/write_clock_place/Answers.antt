@@ -1,6 +1,5 @@
 use Rattle.std.proofs.Common.{ap, ◌∙◌}
-use Rattle.time_components.specs.Shape.{borrowed_shape}
-use Rattle.time_components.specs.Tree.{sequence, trees}
+use Rattle.time_components.specs.Tree.{borrowed_shape, sequence, trees}
 use Rattle.programs_answers.specs.Formats.{clock, clock_parts, second_parts}
 use Rattle.time_parse.proofs.PlaceLemmas.{Writes-tree}
 use Rattle.time_parse.proofs.place.write_clock_place.Goals as goal

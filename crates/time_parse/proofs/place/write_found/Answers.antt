@@ -1,7 +1,7 @@
 use Rattle.std.proofs.Common.{refl, ◌++◌}
 use Rattle.std.specs.Fmt.{decimal}
 use Rattle.std.specs.Prelude.{codes}
-use Rattle.programs_answers.proofs.LinesLemmas.{Appends-then}
+use Rattle.programs_answers.proofs.OutputLemmas.{Appends-then}
 use Rattle.time_parse.proofs.place.write_found.Goals as goal
 
 pub returns-clause-bytes : goal.returns-clause-bytes

@@ -1,7 +1,7 @@
 use Rattle.std.proofs.Common.{refl}
 use Rattle.std.specs.Prelude.{codes}
 use Rattle.std.proofs.KnownBytes.{Appends-nil}
-use Rattle.programs_answers.proofs.LinesLemmas.{Appends-then}
+use Rattle.programs_answers.proofs.OutputLemmas.{Appends-then}
 use Rattle.time_parse.proofs.place.write_index.Goals as goal
 
 pub returns-in_default-clause-bytes : goal.returns-in_default-clause-bytes

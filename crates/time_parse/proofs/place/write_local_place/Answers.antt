@@ -1,7 +1,6 @@
 use Rattle.std.specs.Prelude.{map}
 use Rattle.std.proofs.Common.{[], ◌∷◌, ap, ◌∙◌}
-use Rattle.time_components.specs.Shape.{borrowed_shape}
-use Rattle.time_components.specs.Tree.{sequence, first_of, trees}
+use Rattle.time_components.specs.Tree.{borrowed_shape, sequence, first_of, trees}
 use Rattle.programs_answers.specs.Formats.{local, date_time_parts}
 use Rattle.time_parse.proofs.PlaceLemmas.{Writes-tree}
 use Rattle.time_parse.proofs.place.write_local_place.Goals as goal

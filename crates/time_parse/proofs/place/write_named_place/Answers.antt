@@ -1,4 +1,4 @@
-use Rattle.time_components.specs.Shape.{v3_shape}
+use Rattle.time_components.specs.Tree.{v3_shape}
 use Rattle.programs_answers.specs.Formats.{unix}
 use Rattle.time_parse.proofs.PlaceLemmas.{Writes-tree}
 use Rattle.time_parse.proofs.place.write_named_place.Goals as goal

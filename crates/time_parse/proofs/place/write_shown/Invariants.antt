@@ -1,7 +1,7 @@
 -- The bytes so far were shown, and no write failed.
 use Rattle.std.proofs.Common.{◌≡◌, map, take}
 use Rattle.std.specs.Io.KnownBytes.{Appends}
-use Rattle.time_parse.specs.Fault.{shown}
+use Rattle.time_parse.specs.Request.{shown}
 use Rattle.time_parse.proofs.place.write_shown.Given as goal
 
 abbrev pub invariant-loop-byte : goal.invariant-loop-byte

@@ -1,6 +1,6 @@
 use Rattle.std.specs.Prelude.{◌≡◌, Option, None, Some, IfSome}
 use Rattle.std.proofs.Common.{Bool, ℕ, List}
-use Rattle.time_values.specs.Range.{greatest_year}
+use Rattle.time_values.specs.Calendar.{greatest_year}
 use Rattle.programs_answers.specs.Formats.{target_named}
 use Rattle.programs_answers.specs.Output as output
 use Rattle.programs_answers.specs.declared.formats.Target.{Target}

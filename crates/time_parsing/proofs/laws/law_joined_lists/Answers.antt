@@ -1,4 +1,4 @@
-use Rattle.time_parsing.proofs.JoinedLists.{joined_reads, joined_refuses, joined_leaves}
+use Rattle.time_parsing.proofs.TreeLemmas.{joined_reads, joined_refuses, joined_leaves}
 use Rattle.time_parsing.proofs.laws.law_joined_lists.Goals as goal
 
 pub returns-clause-reads : goal.returns-clause-reads

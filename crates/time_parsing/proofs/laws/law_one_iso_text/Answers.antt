@@ -1,4 +1,4 @@
-use Rattle.time_parsing.proofs.OneWrittenText.{one_extended_text, one_basic_text, extended_or_basic}
+use Rattle.time_parsing.proofs.OneOutcome.{one_extended_text, one_basic_text, extended_or_basic}
 use Rattle.time_parsing.proofs.laws.law_one_iso_text.Goals as goal
 
 pub returns-clause-extended : goal.returns-clause-extended

@@ -1,4 +1,4 @@
-use Rattle.time_parsing.proofs.OneWrittenText.{one_mail_text}
+use Rattle.time_parsing.proofs.OneOutcome.{one_mail_text}
 use Rattle.time_parsing.proofs.laws.law_one_mail_text.Goals as goal
 
 pub returns : goal.returns

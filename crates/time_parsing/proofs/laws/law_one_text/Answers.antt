@@ -1,4 +1,4 @@
-use Rattle.time_parsing.proofs.OneText.{one_text, one_short_text}
+use Rattle.time_parsing.proofs.OneOutcome.{one_text, one_short_text}
 use Rattle.time_parsing.proofs.laws.law_one_text.Goals as goal
 
 pub returns-clause-text : goal.returns-clause-text

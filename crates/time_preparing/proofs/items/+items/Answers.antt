@@ -1,9 +1,8 @@
 use Rattle.std.proofs.Common.{◌+◌, ◌-◌, ℕ, arith, ap, length, map, ◌∙◌}
 use Rattle.std.specs.Prelude.{slice_set}
-use Rattle.time_components.specs.Shape.{borrowed_shape}
-use Rattle.time_components.specs.Tree.{trees}
-use Rattle.time_components.specs.declared.step.Step.TheVariants as step
-use Rattle.time_record.proofs.Steps.{trees_from, trees_from-end, trees_from-item}
+use Rattle.time_components.specs.Tree.{borrowed_shape, trees}
+use Rattle.time_components.specs.declared.inspect.Step.TheVariants as step
+use Rattle.time_record.proofs.Unique.{trees_from, trees_from-end, trees_from-item}
 use Rattle.time_preparing.proofs.Placing.{group_put, inside_tells, stands_item, stands_last, stands_refused, tells}
 use Rattle.time_preparing.proofs.items.+items.Goals as goal
 

@@ -1,7 +1,6 @@
 use Rattle.std.proofs.Common.{map}
-use Rattle.time_components.specs.Shape.{borrowed_shape}
-use Rattle.time_components.specs.Tree.{trees}
-use Rattle.time_record.proofs.Steps.{trees_from}
+use Rattle.time_components.specs.Tree.{borrowed_shape, trees}
+use Rattle.time_record.proofs.Unique.{trees_from}
 use Rattle.time_preparing.proofs.Placing.{Stands}
 use Rattle.time_preparing.proofs.items.+items.Given as goal
 

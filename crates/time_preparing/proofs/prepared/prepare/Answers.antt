@@ -1,5 +1,5 @@
 use Rattle.std.proofs.Common.{arith}
-use Rattle.time_preparing.proofs.Preparing.{fits_more, kept_more}
+use Rattle.time_preparing.proofs.Rows.{fits_more, kept_more}
 use Rattle.time_preparing.proofs.prepared.prepare.Goals as goal
 
 pub loop-left-preserved : goal.loop-left-preserved

@@ -1,5 +1,5 @@
 use Rattle.std.proofs.Common.{◌≡◌, ◌++◌, length}
-use Rattle.time_preparing.specs.Joined.{Fits}
+use Rattle.time_preparing.specs.Forms.{Fits}
 use Rattle.time_preparing.proofs.prepared.prepare.Given as goal
 
 abbrev pub invariant-loop-left : goal.invariant-loop-left

@@ -1,15 +1,13 @@
 use Rattle.std.proofs.Common.{◌≡◌, ◌+◌, ◌*◌, ◌<◌, [], ◌∷◌, false, length, take, drop, refl, ap, sym, ◌∙◌, subst, arith, rules, length-take, length-drop}
 use Rattle.std.proofs.lemmas.List.{take_all, drop_all}
-use Rattle.time_values.specs.Range.{greatest_year}
+use Rattle.time_values.specs.Calendar.{greatest_year}
 use Rattle.time_values.specs.Refusal.{refusal_of_description}
-use Rattle.time_components.specs.Steps.{group_tree, steps_trees, tree_at}
-use Rattle.time_components.specs.Tree.{component, literal, more}
-use Rattle.time_components.specs.declared.step.Step.TheVariants as step
+use Rattle.time_components.specs.Tree.{group_tree, steps_trees, tree_at, component, literal, more}
+use Rattle.time_components.specs.declared.inspect.Step.TheVariants as step
 use Rattle.time_record.specs.Reading.{Reads, Refuses}
-use Rattle.time_preparing.specs.Joined.{Fits}
-use Rattle.time_record.proofs.StepRows.{behind_first, steps_trees-end}
-use Rattle.time_preparing.proofs.Choosing.{Chooses-fault, Chooses-nothing, Chooses-reads, Chooses-refused}
-use Rattle.time_preparing.proofs.Going.{answered, Goes-as, Goes-end, Goes-further, Goes-item, Goes-refused, one_reads, one_refused, one_told}
+use Rattle.time_preparing.specs.Forms.{Fits}
+use Rattle.time_record.proofs.WalkSteps.{behind_first, steps_trees-end}
+use Rattle.time_preparing.proofs.Going.{Chooses-fault, Chooses-nothing, Chooses-reads, Chooses-refused, answered, Goes-as, Goes-end, Goes-further, Goes-item, Goes-refused, one_reads, one_refused, one_told}
 use Rattle.time_preparing.proofs.Rows.{Fits-drop, Fits-take, group_row, item_row, item_trees, lone_row}
 use Rattle.time_preparing.proofs.walk.+walk.Goals as goal
 

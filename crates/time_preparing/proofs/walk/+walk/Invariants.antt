@@ -1,9 +1,9 @@
 use Rattle.std.proofs.Common.{◌≡◌, ◌+◌, ◌*◌, ◌≤◌, length}
-use Rattle.time_values.specs.Range.{greatest_year}
-use Rattle.time_components.specs.Steps.{steps_trees}
-use Rattle.time_preparing.specs.Joined.{Fits}
+use Rattle.time_values.specs.Calendar.{greatest_year}
+use Rattle.time_components.specs.Tree.{steps_trees}
+use Rattle.time_preparing.specs.Forms.{Fits}
 use Rattle.time_preparing.specs.Walk.{Goes}
-use Rattle.time_preparing.proofs.Choosing.{Chooses}
+use Rattle.time_preparing.proofs.Going.{Chooses}
 use Rattle.time_preparing.proofs.walk.+walk.Given as goal
 
 abbrev pub decreases-walk_list : goal.decreases-walk_list

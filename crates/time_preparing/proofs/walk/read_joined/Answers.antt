@@ -1,6 +1,5 @@
 use Rattle.std.proofs.Common.{arith}
-use Rattle.time_preparing.proofs.Fronts.{front_goes}
-use Rattle.time_preparing.proofs.Going.{Goes-further}
+use Rattle.time_preparing.proofs.Going.{front_goes, Goes-further}
 use Rattle.time_preparing.proofs.walk.read_joined.Goals as goal
 
 pub loop-next-preserved : goal.loop-next-preserved

@@ -1,6 +1,6 @@
 use Rattle.std.proofs.Common.{length, drop, ◌≤◌, ◌-◌}
-use Rattle.time_values.specs.Range.{greatest_year}
-use Rattle.time_components.specs.Steps.{steps_trees}
+use Rattle.time_values.specs.Calendar.{greatest_year}
+use Rattle.time_components.specs.Tree.{steps_trees}
 use Rattle.time_preparing.specs.Walk.{Goes}
 use Rattle.time_preparing.proofs.walk.read_joined.Given as goal
 

@@ -1,6 +1,6 @@
 //! Times by the halves of the day, whose second and fraction may be missing.
 ghost use Rattle.std.specs.Prelude.{◌≡◌, IfSome, Ok, Some};
-ghost use Rattle.time_values.specs.Range.{greatest_year};
+ghost use Rattle.time_values.specs.Calendar.{greatest_year};
 ghost use Rattle.time_record.specs.Components.{is_pm};
 ghost use Rattle.time_record.specs.Record.{Record, empty};
 ghost use Rattle.time_record.specs.Reading.{ReadsAll};
@@ -115,6 +115,7 @@ fn second_and_nanosecond(second: Option<(u8, Option<u32>)>) -> (u8, u32)
 
 // The time of these numbers. A leap second is none.
 #[inline(always)]
+#[tactic(auto, using(crate::proofs::Wholes::is_half))]
 fn time_of(numbers: &HalfNumbers) -> Option<Time>
     ensures { IfSome result (λ t. IsTimed (with_half numbers.now empty) (Ok t)) }
 {

@@ -2,12 +2,12 @@
 ghost use Rattle.std.specs.Prelude.{◌≡◌, FitsSigned, IfSome, Ok, Some, None};
 ghost use Rattle.std.specs.Int.{w32};
 ghost use Rattle.std.specs.Int.NonZero.{non_zero_u8_get};
-ghost use Rattle.time_values.specs.Range.{greatest_year};
+ghost use Rattle.time_values.specs.Calendar.{greatest_year};
 ghost use Rattle.time_values.specs.Dates as Dates;
 ghost use Rattle.time_record.specs.Record.{Record};
 ghost use Rattle.time_record.specs.Reading.{ReadsAll};
 ghost use Rattle.time_record.specs.Resolution.{IsPlain};
-ghost use Rattle.time_preparing.specs.Joined.{month_day_parts};
+ghost use Rattle.time_preparing.specs.Forms.{month_day_parts};
 ghost use Rattle.time_preparing.specs.Walk.{leaves};
 ghost use Rattle.time_preparing.specs.declared.whole.Whole.TheVariants as whole_;
 ghost use Rattle.time_preparing.specs.Whole.{in_year, in_year_parts, ReadsOver};

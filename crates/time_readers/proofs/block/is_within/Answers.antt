@@ -2,7 +2,7 @@ use Rattle.std.proofs.Common.{◌+◌, arith, ap, take, subst}
 use Rattle.std.proofs.lemmas.List.{take_all, length-take-le}
 use Rattle.std.proofs.lemmas.Bool.{eqb-true}
 use Rattle.time_readers.specs.Block.{AllWithin}
-use Rattle.time_readers.proofs.Masks.{all_within}
+use Rattle.time_readers.proofs.IsoDatesAndTimes.{all_within}
 use Rattle.time_readers.proofs.block.is_within.Goals as goal
 
 pub returns : goal.returns

@@ -1,4 +1,4 @@
-use Rattle.time_readers.proofs.Made.{not_made}
+use Rattle.time_readers.proofs.MailRanges.{not_made}
 use Rattle.time_readers.proofs.direct.moment.Goals as goal
 
 pub returns : goal.returns

@@ -1,9 +1,8 @@
 use Rattle.std.proofs.Common.{false, refl, None, arith}
-use Rattle.time_values.specs.Range.{greatest_year}
+use Rattle.time_values.specs.Calendar.{greatest_year}
 use Rattle.time_readers.specs.Direct.{said_rfc2822}
 use Rattle.time_readers.specs.Rfc2822.{HasForm, FailsAt, fault}
-use Rattle.time_readers.proofs.MailRanges.{HasForm-in_places}
-use Rattle.time_readers.proofs.Made.{after}
+use Rattle.time_readers.proofs.MailRanges.{HasForm-in_places, after}
 use Rattle.time_readers.proofs.direct.rfc2822.Goals as goal
 
 pub whole-requires-clause-year : goal.whole-requires-clause-year

@@ -1,9 +1,9 @@
 use Rattle.std.proofs.Common.{false, refl, inr, arith}
-use Rattle.time_values.specs.Range.{greatest_year}
+use Rattle.time_values.specs.Calendar.{greatest_year}
 use Rattle.time_readers.specs.Direct.{minute_refusal, said_rfc3339}
 use Rattle.time_readers.specs.Rfc3339.{HasForm, FailsAt, fault}
-use Rattle.time_readers.proofs.Keeping.{HasForm-in_places}
-use Rattle.time_readers.proofs.Made.{after, minute_stands, minute_past}
+use Rattle.time_readers.proofs.RangedForms.{HasForm-in_places}
+use Rattle.time_readers.proofs.MailRanges.{after, minute_stands, minute_past}
 use Rattle.time_readers.proofs.direct.rfc3339.Goals as goal
 
 pub returns-then-numbers-gt59 : goal.returns-then-numbers-gt59

@@ -1,5 +1,5 @@
 use Rattle.std.proofs.Common.{rules}
-use Rattle.time_readers.proofs.Made.{date_first, clock_first, offset_first, of_parts}
+use Rattle.time_readers.proofs.MailRanges.{date_first, clock_first, offset_first, of_parts}
 use Rattle.time_readers.proofs.direct.shown.Goals as goal
 
 pub returns-in_err-date : goal.returns-in_err-date

@@ -2,10 +2,9 @@ use Rattle.std.proofs.Common.{None, false}
 use Rattle.time_readers.specs.Direct.{minute_refusal, said_rfc3339, said_rfc2822}
 use Rattle.time_readers.specs.Rfc2822 as rfc2822
 use Rattle.time_readers.specs.Rfc3339 as rfc3339
-use Rattle.time_readers.proofs.OneDirect.{one_direct}
-use Rattle.time_readers.proofs.OneForm.{Asks-unique}
+use Rattle.time_readers.proofs.Repeats.{Asks-unique, one_form}
 use Rattle.time_readers.proofs.OneMailDate.{MailAsks-unique}
-use Rattle.time_readers.proofs.OneReading.{one_form}
+use Rattle.time_readers.proofs.Walking.{one_direct}
 use Rattle.time_readers.proofs.laws.law_one_direct.Goals as goal
 
 pub returns-clause-rfc3339 : goal.returns-clause-rfc3339

@@ -1,6 +1,5 @@
 use Rattle.time_readers.specs.Rfc3339.{Asks, places, nothing_read}
-use Rattle.time_readers.proofs.OneReading.{one_form}
-use Rattle.time_readers.proofs.OneForm.{Asks-unique}
+use Rattle.time_readers.proofs.Repeats.{one_form, Asks-unique}
 use Rattle.time_readers.proofs.laws.law_one_form.Goals as goal
 
 pub returns : goal.returns

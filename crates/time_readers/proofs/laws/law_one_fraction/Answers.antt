@@ -1,4 +1,4 @@
-use Rattle.time_readers.proofs.IsoFractions.{floor-one, round-one}
+use Rattle.time_readers.proofs.OneMailDate.{floor-one, round-one}
 use Rattle.time_readers.proofs.laws.law_one_fraction.Goals as goal
 
 pub returns : goal.returns

@@ -1,5 +1,5 @@
 use Rattle.time_readers.specs.Rfc2822.{Asks, places, nothing_read}
-use Rattle.time_readers.proofs.OneReading.{one_form}
+use Rattle.time_readers.proofs.Repeats.{one_form}
 use Rattle.time_readers.proofs.OneMailDate.{MailAsks-unique}
 use Rattle.time_readers.proofs.laws.law_one_mail_date.Goals as goal
 

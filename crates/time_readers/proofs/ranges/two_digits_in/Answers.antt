@@ -1,7 +1,7 @@
 use Rattle.std.proofs.Common.{subst}
-use Rattle.time_readers.specs.Ranges.{IsWithin}
+use Rattle.time_readers.specs.Readers.{IsWithin}
 use Rattle.time_digits.proofs.Runs.{IsDigitRun-same}
-use Rattle.time_readers.proofs.NotBoth.{not_both}
+use Rattle.time_readers.proofs.IsoDatesAndTimes.{not_both}
 use Rattle.time_readers.proofs.ranges.two_digits_in.Goals as goal
 
 pub returns-else-is_in_range : goal.returns-else-is_in_range

@@ -1,12 +1,11 @@
 //! A date of the calendar and a time up to the second, by sixteen bytes.
 ghost use Rattle.std.specs.Prelude.{◌≡◌, ℕ, List, [], ◌∷◌, map, IfSome, Ok};
 ghost use Rattle.time_readers.specs.Block.{AllWithin, pair_at};
-ghost use Rattle.time_readers.specs.IsoDatesAndTimes.{GivesDateAndTime};
-ghost use Rattle.time_readers.specs.IsoFast.{IsFirstSixteen};
+ghost use Rattle.time_readers.specs.IsoTimes.{GivesDateAndTime};
+ghost use Rattle.time_readers.specs.IsoGrammar.{IsFirstSixteen};
 
 use crate::block;
-use crate::iso8601::fast::dates::{CalendarDigits, date_of};
-use crate::iso8601::fast::times::second;
+use crate::iso8601::fast::{CalendarDigits, date_of, second};
 use crate::iso8601::grammar::pieces::byte;
 use crate::iso8601::{DateAndTime, ExtendedKind, Part, TimeNumbers};
 use std::simd::prelude::*;

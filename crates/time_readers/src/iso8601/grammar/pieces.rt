@@ -1,9 +1,8 @@
 //! The pieces of ISO 8601 texts. Each reads a text of a fixed form, or refuses by `None`.
 ghost use Rattle.std.specs.Prelude.{◌≡◌, ◌≤◌, ◌<◌, ◌^◌, IfSome};
 ghost use Rattle.std.specs.Int.NonZero.{non_zero_u8_get, non_zero_u16_get};
-ghost use Rattle.time_digits.specs.Cuts.{Finds};
-ghost use Rattle.time_digits.specs.Digits.{AllDigits, IsDigitRun};
-ghost use Rattle.time_readers.specs.IsoAnswers.{Gives, GivesAs, number_of};
+ghost use Rattle.time_digits.specs.Digits.{Finds, AllDigits, IsDigitRun};
+ghost use Rattle.time_readers.specs.IsoPieces.{Gives, GivesAs, number_of};
 ghost use Rattle.time_readers.specs.IsoGrammar.{Leaves};
 ghost use Rattle.time_readers.specs.IsoPieces as spec;
 
@@ -204,6 +203,7 @@ fn one_digit(input: &[u8]) -> Option<ParsedItem<'_, u8>>
 }
 
 #[inline(always)]
+#[tactic(auto, using(crate::proofs::IsoPieces::run_one))]
 fn run_of_one(input: &[u8]) -> Option<ParsedItem<'_, u8>>
     ensures { Finds (IsDigitRun 1 1) (λ v. v) input.now result }
 {

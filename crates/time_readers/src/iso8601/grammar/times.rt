@@ -1,16 +1,14 @@
 //! The time of an ISO 8601 text, as `T03`, `0304`, `03:04:05` or `03:04,5`.
 ghost use Rattle.std.specs.Prelude.{◌≡◌, ◌≤◌, ℕ, List, IfSome, Some, None, true, option_map};
 ghost use Rattle.time_digits.specs.Digits.{AllDigits};
-ghost use Rattle.time_readers.specs.IsoAnswers.{GivesPart, number_of};
-ghost use Rattle.time_readers.specs.IsoFractions.{floor_of};
+ghost use Rattle.time_readers.specs.IsoPieces.{GivesPart, number_of, number, byte, plain};
+ghost use Rattle.time_readers.specs.IsoTimes.{floor_of, not_basic};
 ghost use Rattle.time_readers.specs.IsoGrammar as pieces;
-ghost use Rattle.time_readers.specs.IsoKinds.{not_basic};
-ghost use Rattle.time_readers.specs.IsoPieces.{number, byte, plain};
 ghost use Rattle.time_readers.specs.IsoTimes as spec;
 
 use crate::ParsedItem;
-use crate::iso8601::grammar::fractions::{floor_fraction, round_fraction};
 use crate::iso8601::grammar::pieces::{byte, float};
+use crate::iso8601::grammar::{floor_fraction, round_fraction};
 use crate::iso8601::{ExtendedKind, Part, TimeNumbers};
 
 // The time of a text of that kind.

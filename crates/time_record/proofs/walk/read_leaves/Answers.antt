@@ -1,5 +1,5 @@
 use Rattle.std.proofs.Common.{arith}
-use Rattle.time_record.proofs.Leaves.{GoesOn-more, GoesOn-end}
+use Rattle.time_record.proofs.WalkSteps.{GoesOn-more, GoesOn-end}
 use Rattle.time_record.proofs.walk.read_leaves.Goals as goal
 
 pub returns-in-None-clause-leaves : goal.returns-in-None-clause-leaves

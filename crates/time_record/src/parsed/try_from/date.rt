@@ -1,13 +1,12 @@
 //! The date of a record.
 ghost use Rattle.std.specs.Prelude.{◌≡◌, ◌+◌, ◌-◌, ◌/◌, ◌%◌, ◌≤◌, Some, None, IfSome, IsTrue, MatchResult, unsigned_abs, codes, true};
 ghost use Rattle.std.specs.Int.NonZero.{non_zero_u8_get, non_zero_u16_get};
-ghost use Rattle.time_values.specs.DateRefusals.{is_year};
-ghost use Rattle.time_values.specs.Range.{greatest_year};
+ghost use Rattle.time_values.specs.Dates.{is_year};
+ghost use Rattle.time_values.specs.Calendar.{greatest_year};
 ghost use Rattle.time_values.specs.Refusal.{range};
-ghost use Rattle.time_values.specs.Weekday.{days_from_monday};
+ghost use Rattle.time_values.specs.Names.{days_from_monday};
 ghost use Rattle.time_values.specs.declared.date.Date.{Date};
-ghost use Rattle.time_record.specs.Rows.{year_of, full_year, full_iso_year, by_ordinal, by_month_and_day, by_iso_week, IsRowDate, IsWeekDate};
-ghost use Rattle.time_record.specs.Resolution.{IsDated, parsed_seen};
+ghost use Rattle.time_record.specs.Resolution.{year_of, full_year, full_iso_year, by_ordinal, by_month_and_day, by_iso_week, IsRowDate, IsWeekDate, IsDated, parsed_seen};
 
 use crate::Parsed;
 use crate::parsed::try_from::date_of;

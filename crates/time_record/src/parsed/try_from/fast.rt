@@ -5,16 +5,14 @@
 //! the one by precedence decides. So no refusal is carried along here.
 ghost use Rattle.std.specs.Prelude.{◌≡◌, Some, Ok, IfSome, IsTrue};
 ghost use Rattle.std.specs.Int.NonZero.{non_zero_u8_get};
-ghost use Rattle.time_values.specs.DateRefusals.{is_year};
-ghost use Rattle.time_values.specs.Range.{greatest_year};
-ghost use Rattle.time_record.specs.Resolution.{IsDated, IsMoment, IsMomentOfParts, IsOffset, IsPlain, IsTimed};
-ghost use Rattle.time_record.specs.Rows.{by_month_and_day, first_row};
+ghost use Rattle.time_values.specs.Dates.{is_year};
+ghost use Rattle.time_values.specs.Calendar.{greatest_year};
+ghost use Rattle.time_record.specs.Resolution.{IsDated, IsMoment, IsMomentOfParts, IsOffset, IsPlain, IsTimed, by_month_and_day, first_row};
 
 use crate::Parsed;
 use crate::parsed::cells::{DAY, HOUR_24, MINUTE, MONTH, ORDINAL, SECOND, YEAR};
 use crate::parsed::try_from::date::calendar_date;
-use crate::parsed::try_from::leap_second::is_leap_second;
-use crate::parsed::try_from::offset::offset_of;
+use crate::parsed::try_from::time::{is_leap_second, offset_of};
 use std::num::NonZero;
 use time_values::{Date, Month, OffsetDateTime, PlainDateTime, Time, UtcOffset};
 

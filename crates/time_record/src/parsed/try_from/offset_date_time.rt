@@ -4,15 +4,13 @@ ghost use Rattle.std.specs.Option.{ForSome};
 ghost use Rattle.time_values.specs.Instants.{is_instant, IsLeapSecondMoment};
 ghost use Rattle.time_values.specs.Moments as Moments;
 ghost use Rattle.time_values.specs.Offsets.{IsUtc};
-ghost use Rattle.time_values.specs.Range.{greatest_year};
+ghost use Rattle.time_values.specs.Calendar.{greatest_year};
 ghost use Rattle.time_record.specs.Resolution.{IsMoment, IsMomentOfParts, IsStamped, is_leap_second, parsed_seen};
 
 use crate::Parsed;
 use crate::parsed::cells::{DAY, HOUR_24, MINUTE, MONTH, SECOND, YEAR};
 use crate::parsed::try_from::date_of;
-use crate::parsed::try_from::leap_second::{is_leap_second, misplaced, stand_in};
-use crate::parsed::try_from::offset::offset_of;
-use crate::parsed::try_from::time::time_with;
+use crate::parsed::try_from::time::{is_leap_second, misplaced, offset_of, stand_in, time_with};
 use time_values::OffsetDateTime;
 use time_values::error::TryFromParsed;
 

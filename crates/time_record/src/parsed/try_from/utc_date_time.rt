@@ -1,19 +1,19 @@
-//! The moment of a record in UTC.
+//! The date and time of a record, its moment in UTC, and its instant.
 ghost use Rattle.std.specs.Prelude.{◌≤◌, IsOkAnd, IsTrue};
 ghost use Rattle.std.specs.Option.{ForSome};
 ghost use Rattle.time_values.specs.Instants.{instant, is_instant};
 ghost use Rattle.time_values.specs.Moments.{utc_date, utc_time};
-ghost use Rattle.time_values.specs.Range.{greatest_year};
-ghost use Rattle.time_record.specs.Resolution.{IsInUtc, IsOffsetOrUtc, IsStamped, IsUtcMoment, IsUtcMomentOfParts, parsed_seen};
+ghost use Rattle.time_values.specs.Calendar.{greatest_year};
+ghost use Rattle.time_record.specs.Resolution.{IsInUtc, IsOffsetOrUtc, IsStamped, IsUtcMoment, IsUtcMomentOfParts, parsed_seen, IsPlain, IsTimestamp};
 
 use crate::Parsed;
 use crate::parsed::try_from::date_of;
-use crate::parsed::try_from::leap_second::{is_leap_second, misplaced, stand_in};
-use crate::parsed::try_from::offset::offset_of;
-use crate::parsed::try_from::time::time_with;
+use crate::parsed::try_from::time::{
+    is_leap_second, misplaced, offset_of, stand_in, time_of, time_with,
+};
 use std::convert::TryFrom;
 use time_values::error::{ComponentRange, TryFromParsed};
-use time_values::{OffsetDateTime, UtcDateTime, UtcOffset};
+use time_values::{OffsetDateTime, PlainDateTime, Timestamp, UtcDateTime, UtcOffset};
 
 /// The moment of the timestamp, with a known subsecond in place of its own, or else that of the
 /// date, time and offset of the record, with their refusals in that order. Without an offset's
@@ -93,5 +93,38 @@ fn in_utc(moment: OffsetDateTime) -> Result<UtcDateTime, TryFromParsed>
             name: "year",
             conditional: true,
         })),
+    }
+}
+
+// The date and the time of a record.
+#[inline(always)]
+#[tactic(auto, unfolding(crate::specs::Resolution::IsPlain))]
+pub(super) fn date_and_time(parsed: &Parsed) -> Result<PlainDateTime, TryFromParsed>
+    ensures { IsPlain greatest_year parsed.now (parsed_seen result) }
+{
+    let date = date_of(parsed)?;
+    let time = time_of(parsed)?;
+    Ok(PlainDateTime::new(date, time))
+}
+
+/// The timestamp, whatever the subsecond, or else that of the date, time and offset of the record
+/// as a `UtcDateTime`.
+///
+/// `InsufficientInformation` where there is neither, for whatever reason.
+impl TryFrom<Parsed> for Timestamp {
+    type Error = TryFromParsed;
+
+    ghost try_from_gives = { λ p r. IsTimestamp greatest_year p (parsed_seen r) };
+
+    #[inline]
+    #[tactic(auto, unfolding(crate::specs::Resolution::IsTimestamp, crate::specs::Resolution::IsInstantOfParts))]
+    fn try_from(parsed: Parsed) -> Result<Timestamp, TryFromParsed> {
+        if let Some(nanos) = parsed.unix_timestamp_nanos() {
+            return Ok(Timestamp::from_nanoseconds(nanos)?);
+        }
+        match moment_of_parts(&parsed) {
+            Ok(moment) => Ok(Timestamp::from(moment)),
+            Err(_) => Err(TryFromParsed::InsufficientInformation),
+        }
     }
 }

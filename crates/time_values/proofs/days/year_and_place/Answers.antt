@@ -1,6 +1,6 @@
 use Rattle.std.proofs.Common.{◌+◌, ◌*◌, ◌≤◌, arith, refl, w32, to_z, of_z, pos, ◌-ℤ◌}
 use Rattle.std.proofs.lemmas.Int.{ints}
-use Rattle.time_values.specs.Range.{greatest_year}
+use Rattle.time_values.specs.Calendar.{greatest_year}
 use Rattle.time_values.proofs.YearLemmas.{days_of_years_closed, year_start_at, years_within}
 use Rattle.time_values.proofs.days.year_and_place.Goals as goal
 

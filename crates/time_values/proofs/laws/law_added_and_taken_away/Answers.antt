@@ -1,9 +1,8 @@
 use Rattle.std.proofs.Common.{arith, subst}
 use Rattle.std.proofs.lemmas.Int.{ints}
 use Rattle.time_values.specs.Instants.{IsInstant}
-use Rattle.time_values.specs.Range.{greatest_year}
-use Rattle.time_values.proofs.InstantLemmas.{clock_nanos_range}
-use Rattle.time_values.proofs.SameLemmas.{same_moment}
+use Rattle.time_values.specs.Calendar.{greatest_year}
+use Rattle.time_values.proofs.InstantLemmas.{clock_nanos_range, same_moment}
 use Rattle.time_values.proofs.laws.law_added_and_taken_away.Goals as goal
 
 pub unreachable-requires : goal.unreachable-requires

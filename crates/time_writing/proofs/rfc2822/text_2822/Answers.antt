@@ -2,7 +2,7 @@ use Rattle.std.proofs.Common.{sym, ◌∙◌}
 use Rattle.time_values.specs.Dates as Dates
 use Rattle.time_values.specs.Moments.{offset_date, offset_of}
 use Rattle.time_values.specs.Offsets as Offsets
-use Rattle.time_writing.proofs.WritableLemmas.{writable_2822}
+use Rattle.time_writing.proofs.KeptDigits.{writable_2822}
 use Rattle.time_writing.proofs.rfc2822.text_2822.Goals as goal
 
 pub write-requires : goal.write-requires

@@ -1,7 +1,16 @@
-use Rattle.std.proofs.Common.{arith, refl}
-use Rattle.time_values.proofs.DigitLemmas.{two}
-use Rattle.time_writing.proofs.Letters.{three}
+use Rattle.std.proofs.Common.{◌≡◌, ℕ, List, [], ◌∷◌, length, slice_index_or, refl, arith}
+use Rattle.time_values.proofs.NumberLemmas.{two}
 use Rattle.time_writing.proofs.rfc2822.weekday_and_day.Goals as goal
+
+-- ---- A list of three, by its elements
+
+three : (xs : List ℕ) → length xs ≡ 3
+    → xs ≡ slice_index_or xs 0 0 ∷ slice_index_or xs 1 0 ∷ slice_index_or xs 2 0 ∷ []
+three [] is = absurd (omega arith)
+three (x ∷ []) is = absurd (omega arith)
+three (x ∷ y ∷ []) is = absurd (omega arith)
+three (x ∷ y ∷ z ∷ []) is = refl
+three (x ∷ y ∷ z ∷ w ∷ more) is = absurd (omega arith)
 
 pub returns : goal.returns
 returns c =

@@ -1,5 +1,5 @@
 use Rattle.std.proofs.Common.{rules, refl, ap, Some, ◌∙◌}
-use Rattle.time_writing.proofs.WritableLemmas.{first_3339, none_3339}
+use Rattle.time_writing.proofs.KeptDigits.{first_3339, none_3339}
 use Rattle.time_writing.proofs.rfc3339.reason.Goals as goal
 
 pub returns-then-has_text : goal.returns-then-has_text

@@ -1,4 +1,4 @@
-use Rattle.time_zones.proofs.CheckingLemmas.{compared-other}
+use Rattle.time_zones.proofs.FolderLemmas.{compared-other}
 use Rattle.time_zones.proofs.checking.check_fixed.Goals as goal
 
 pub returns : goal.returns

@@ -1,4 +1,4 @@
-use Rattle.time_zones.proofs.CheckingLemmas.{goes_with_found}
+use Rattle.time_zones.proofs.FolderLemmas.{goes_with_found}
 use Rattle.time_zones.proofs.checking.check_told.Goals as goal
 
 pub returns-in-Some : goal.returns-in-Some

@@ -3,7 +3,7 @@ use Rattle.std.proofs.lemmas.Int.{ints}
 use Rattle.jiff_core.specs.Timestamp.{IsOffsetSeconds, IsTimestampNanos, nanos_of_seconds}
 use Rattle.jiff_tz.specs.Zone as Zone
 use Rattle.time_values.specs.Moments.{plain_instant}
-use Rattle.time_values.specs.Range.{greatest_year}
+use Rattle.time_values.specs.Calendar.{greatest_year}
 use Rattle.time_zones.specs.Spread.{HasOffset, IsSpread, Covers}
 use Rattle.time_zones.proofs.ZoneLemmas.{shows-HasOffset, shows-IsCivilNanos, told-IsCivilNanos, spread_reaches, clock-IsShownIn, two_offsets, one_of_two}
 use Rattle.time_zones.proofs.clocks.assume_zone.Goals as goal

@@ -3,8 +3,8 @@ use Rattle.std.specs.Int.{w64}
 use Rattle.std.proofs.lemmas.Int.{ints, to_z-of_z}
 use Rattle.jiff_tz.specs.Tzif.{floor_second}
 use Rattle.time_values.specs.Moments.{offset_instant}
-use Rattle.time_values.specs.Range.{greatest_year}
-use Rattle.time_zones.proofs.RowLemmas.{floor_of_whole}
+use Rattle.time_values.specs.Calendar.{greatest_year}
+use Rattle.time_zones.proofs.ZoneLemmas.{floor_of_whole}
 use Rattle.time_zones.proofs.clocks.offset_at.Goals as goal
 
 pub returns-in-Some-clause-told : goal.returns-in-Some-clause-told

@@ -1,4 +1,4 @@
-use Rattle.time_zones.proofs.AnswerLemmas.{left_as_it_is}
+use Rattle.time_zones.proofs.FolderLemmas.{left_as_it_is}
 use Rattle.time_zones.proofs.laws.law_left_as_it_is.Goals as goal
 
 pub returns : goal.returns

@@ -1,4 +1,4 @@
-use Rattle.time_zones.proofs.AnswerLemmas.{is_answer, one_answer}
+use Rattle.time_zones.proofs.FolderLemmas.{is_answer, one_answer}
 use Rattle.time_zones.proofs.laws.law_one_answer.Goals as goal
 
 pub returns : goal.returns

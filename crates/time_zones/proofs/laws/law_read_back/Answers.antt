@@ -1,7 +1,7 @@
 use Rattle.std.proofs.Common.{◌∙◌, refl, sym, subst}
 use Rattle.jiff_core.specs.Timestamp.{IsTimestampNanos}
 use Rattle.time_zones.specs.Zones.{IsTold}
-use Rattle.time_zones.proofs.AnswerLemmas.{is_answer, answers_back}
+use Rattle.time_zones.proofs.FolderLemmas.{is_answer, answers_back}
 use Rattle.time_zones.proofs.laws.law_read_back.Goals as goal
 
 pub returns-clause-back : goal.returns-clause-back

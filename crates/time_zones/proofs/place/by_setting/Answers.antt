@@ -1,7 +1,7 @@
 use Rattle.std.proofs.Common.{rules, arith, ◌≢◌, [], ap, sym, subst, ◌∙◌, refl, Some, None}
 use Rattle.std.proofs.lemmas.Str.Pattern.{strip_prefix_char}
 use Rattle.jiff_tz.specs.PosixReader.{read_whole}
-use Rattle.time_zones.specs.Names.{IsRuleOrPath}
+use Rattle.time_zones.specs.Finding.{IsRuleOrPath}
 use Rattle.time_zones.specs.declared.place.Place.TheVariants.{Rule}
 use Rattle.time_zones.proofs.NameLemmas.{by_text, none_of}
 use Rattle.time_zones.proofs.place.by_setting.Goals as goal

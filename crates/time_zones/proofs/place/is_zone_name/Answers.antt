@@ -1,6 +1,6 @@
 use Rattle.std.proofs.Common.{rules, arith, sym, subst, Some, None}
 use Rattle.std.proofs.lemmas.Str.Pattern.{split_parts}
-use Rattle.time_zones.specs.Names.{IsPart, IsZoneName}
+use Rattle.time_zones.specs.Finding.{IsPart, IsZoneName}
 use Rattle.time_zones.proofs.NameLemmas.{part_and_name, name_after, one_part, part_of_one}
 use Rattle.time_zones.proofs.place.is_zone_name.Goals as goal
 

@@ -1,7 +1,7 @@
 use Rattle.std.proofs.Common.{length}
 use denote.Text.{Utf8}
 use denote.Shadow.{shadow}
-use Rattle.time_zones.specs.Names.{IsZoneName}
+use Rattle.time_zones.specs.Finding.{IsZoneName}
 use Rattle.time_zones.proofs.place.is_zone_name.Given as goal
 
 abbrev pub invariant-parts : goal.invariant-parts

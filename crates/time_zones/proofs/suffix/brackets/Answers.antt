@@ -1,5 +1,4 @@
-use Rattle.time_zones.proofs.PassLemmas.{if_none}
-use Rattle.time_zones.proofs.BracketLemmas.{brackets_found, no_brackets}
+use Rattle.time_zones.proofs.NameLemmas.{if_none, brackets_found, no_brackets}
 use Rattle.time_zones.proofs.suffix.brackets.Goals as goal
 
 pub returns-in_err-rest-clause-none : goal.returns-in_err-rest-clause-none

@@ -1,5 +1,5 @@
 use Rattle.time_zones.proofs.LongestLemmas.{longest, suffix_read, none_of_map}
-use Rattle.time_zones.specs.SuffixValues.{zone_tag_of}
+use Rattle.time_zones.specs.Suffix.{zone_tag_of}
 use Rattle.time_zones.proofs.suffix.read_suffix.Goals as goal
 
 pub returns-clause-says : goal.returns-clause-says

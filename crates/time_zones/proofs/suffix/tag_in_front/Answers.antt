@@ -1,7 +1,7 @@
 use Rattle.std.proofs.Common.{ap, ◌∙◌}
 use Rattle.std.specs.Prelude.{option_map}
-use Rattle.time_zones.proofs.PassLemmas.{if_none}
-use Rattle.time_zones.proofs.SuffixLemmas.{no_tag_unbracketed, no_tag_unkeyed, tag_found, key_if_critical, shorter_by_tag}
+use Rattle.time_zones.proofs.NameLemmas.{if_none}
+use Rattle.time_zones.proofs.SuffixTextLemmas.{no_tag_unbracketed, no_tag_unkeyed, tag_found, key_if_critical, shorter_by_tag}
 use Rattle.time_zones.proofs.suffix.tag_in_front.Goals as goal
 
 pub returns-in_err-found-clause-none : goal.returns-in_err-found-clause-none

@@ -1,6 +1,6 @@
 use Rattle.std.proofs.Common.{ap, sym, subst, ◌∙◌}
 use Rattle.std.specs.Prelude.{option_map}
-use Rattle.time_zones.proofs.SuffixLemmas.{TagsRead, more_tags, option_map-or}
+use Rattle.time_zones.proofs.SuffixTextLemmas.{TagsRead, more_tags, option_map-or}
 use Rattle.time_zones.proofs.suffix.tags_in_front.Goals as goal
 
 pub tags-preserved : goal.tags-preserved

@@ -1,6 +1,6 @@
 use Rattle.std.proofs.Common.{length}
 use Rattle.std.specs.Prelude.{option_map}
-use Rattle.time_zones.proofs.SuffixLemmas.{TagsRead}
+use Rattle.time_zones.proofs.SuffixTextLemmas.{TagsRead}
 use Rattle.time_zones.proofs.suffix.tags_in_front.Given as goal
 
 abbrev pub invariant-tags : goal.invariant-tags

@@ -1,5 +1,5 @@
-use Rattle.time_zones.proofs.PassLemmas.{if_none}
-use Rattle.time_zones.proofs.SuffixLemmas.{no_zone_unbracketed, no_zone_untold, zone_found}
+use Rattle.time_zones.proofs.NameLemmas.{if_none}
+use Rattle.time_zones.proofs.SuffixTextLemmas.{no_zone_unbracketed, no_zone_untold, zone_found}
 use Rattle.time_zones.proofs.suffix.zone_in_front.Goals as goal
 
 pub returns-in_err-found-clause-none : goal.returns-in_err-found-clause-none

@@ -1,5 +1,5 @@
 use Rattle.std.proofs.Common.{take, map}
-use Rattle.time_zones.specs.Folder.{AreZonesOf}
+use Rattle.time_zones.specs.Finding.{AreZonesOf}
 use Rattle.time_zones.proofs.zones.find_zones_in.Given as goal
 
 abbrev pub invariant-loop-name : goal.invariant-loop-name

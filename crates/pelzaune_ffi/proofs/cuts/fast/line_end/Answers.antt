@@ -2,7 +2,7 @@ use Rattle.std.proofs.Common.{eqb, ap, ◌∙◌, arith, w8}
 use lib.Count.{count_trailing_zeros}
 use lib.Lanes.{chunk}
 use Rattle.std.proofs.lemmas.Simd.{length-chunk, bitmask_splat, run_in_chunk_le, trailing_mask_l}
-use Rattle.pelzaune_ffi.proofs.LineEnds.{below_all, cut_at}
+use Rattle.pelzaune_ffi.proofs.HeldRows.{below_all, cut_at}
 use Rattle.pelzaune_ffi.proofs.cuts.fast.line_end.Goals as goal
 
 pub returns-clause-within : goal.returns-clause-within

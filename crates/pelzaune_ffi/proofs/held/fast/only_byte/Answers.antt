@@ -1,7 +1,7 @@
 use Rattle.std.proofs.Common.{◌≡◌, [], ◌∷◌, map, refl, arith, rules}
-use Rattle.time_components.specs.Steps.{further}
+use Rattle.time_components.specs.Tree.{further}
 use Rattle.time_record.proofs.ComponentLemmas.{reads_byte}
-use Rattle.pelzaune_ffi.specs.Held.{step_of}
+use Rattle.pelzaune_ffi.specs.Described.{step_of}
 use Rattle.pelzaune_ffi.proofs.held.fast.only_byte.Goals as goal
 
 pub returns-in-len1-up-clause-read : goal.returns-in-len1-up-clause-read

@@ -1,6 +1,6 @@
 use Rattle.std.proofs.Common.{◌≡◌, ◌⊎◌, ◌-◌, ◌*◌, ◌+◌, drop, false, get_or, inl, inr, length, take, arith}
 use Rattle.std.proofs.lemmas.Bool.{cases_lt}
-use Rattle.time_readers.proofs.OffsetBytes.{offset_stands, zulu_stands}
+use Rattle.time_readers.proofs.ToSecond.{offset_stands, zulu_stands}
 use Rattle.pelzaune_ffi.proofs.moments.fast.front_offset.Goals as goal
 
 pub returns-in-90-clause-stands : goal.returns-in-90-clause-stands

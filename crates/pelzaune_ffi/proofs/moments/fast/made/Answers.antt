@@ -1,4 +1,4 @@
-use Rattle.pelzaune_ffi.proofs.InPlace.{made_of}
+use Rattle.pelzaune_ffi.proofs.IsoInPlace.{made_of}
 use Rattle.pelzaune_ffi.proofs.moments.fast.made.Goals as goal
 
 pub returns : goal.returns

@@ -1,5 +1,5 @@
 use Rattle.std.proofs.Common.{[]}
-use Rattle.pelzaune_ffi.proofs.InPlace.{outcome_of, whole_stands}
+use Rattle.pelzaune_ffi.proofs.IsoInPlace.{outcome_of, whole_stands}
 use Rattle.pelzaune_ffi.proofs.moments.fast.moment.Goals as goal
 
 pub returns : goal.returns

@@ -1,9 +1,9 @@
 use Rattle.std.proofs.Common.{◌≡◌, ◌⊎◌, ◌-◌, ◌*◌, ◌+◌, false, true, get_or, length, inl, inr, nat_eq, subst, arith}
 use Rattle.std.proofs.lemmas.Bool.{cases_lt}
-use Rattle.time_readers.specs.Places.{Stand}
+use Rattle.time_readers.specs.Readers.{Stand}
 use Rattle.time_readers.specs.Rfc3339.{Asks, offset_places}
-use Rattle.time_readers.proofs.OffsetBytes.{offset_numbers, offset_stands, zulu_stands}
-use Rattle.pelzaune_ffi.proofs.InPlace.{nothing_left}
+use Rattle.time_readers.proofs.ToSecond.{offset_numbers, offset_stands, zulu_stands}
+use Rattle.pelzaune_ffi.proofs.IsoInPlace.{nothing_left}
 use Rattle.pelzaune_ffi.proofs.moments.fast.offset.Goals as goal
 
 pub returns-in-90-clause-stands : goal.returns-in-90-clause-stands

@@ -1,4 +1,4 @@
-use Rattle.pelzaune_ffi.proofs.InPlace.{whole_stands}
+use Rattle.pelzaune_ffi.proofs.IsoInPlace.{whole_stands}
 use Rattle.pelzaune_ffi.proofs.moments.fast.places.Goals as goal
 
 pub returns-clause-form : goal.returns-clause-form

@@ -1,5 +1,5 @@
 use Rattle.std.proofs.Common.{◌≡◌, ◌∷◌, ◌∙◌, ◌-◌, Some, ap, drop, get_or, length, refl, take, arith}
-use Rattle.time_digits.proofs.CutLemmas.{first_byte}
+use Rattle.time_digits.proofs.WordBytes.{first_byte}
 use Rattle.pelzaune_ffi.proofs.moments.fast.subsecond.Goals as goal
 
 pub returns : goal.returns

@@ -1,7 +1,19 @@
-use Rattle.std.proofs.Common.{w64, arith}
-use Rattle.std.proofs.lemmas.Int.{to_z-of_z, ints}
-use Rattle.pelzaune_ffi.proofs.Instants.{whole_and_left}
+use Rattle.std.proofs.Common.{◌≡◌, arith, ℤ, pos, ◌+ℤ◌, ◌*ℤ◌, w64}
+use Rattle.std.proofs.lemmas.Int.{ints, to_z-of_z}
+use Rattle.time_values.specs.Instants.{instant, IsWhole}
+use Rattle.time_values.specs.Calendar.{greatest_year}
+use Rattle.time_values.specs.Times.{nanosecond}
+use Rattle.time_values.specs.declared.offset_date_time.OffsetDateTime.{OffsetDateTime}
+use Rattle.time_values.proofs.InstantLemmas.{clock_nanos_is, instant_is}
 use Rattle.pelzaune_ffi.proofs.parts.InstantFromOffsetDateTime.from.Goals as goal
+
+-- ---- Instants by their seconds and what is left
+
+-- after the whole seconds of an instant is what the clock shows of the second
+whole_and_left : (v : OffsetDateTime) (z : ℤ) → IsWhole 1_000_000_000 (instant greatest_year v.date v.time v.offset) z
+    → instant greatest_year v.date v.time v.offset ≡ z *ℤ pos 1_000_000_000 +ℤ pos (nanosecond v.time)
+whole_and_left v z h =
+    omega (arith, ints, h, instant_is v.date v.time v.offset, clock_nanos_is v.date v.time, v.time.nanosecond_in)
 
 pub returns : goal.returns
 returns c =

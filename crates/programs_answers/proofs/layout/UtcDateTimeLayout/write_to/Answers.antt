@@ -1,6 +1,5 @@
 use Rattle.std.proofs.Common.{◌++◌, codes, ap}
-use Rattle.programs_answers.proofs.LayoutLemmas.{same_date_time}
-use Rattle.programs_answers.proofs.LinesLemmas.{Appends-then}
+use Rattle.programs_answers.proofs.OutputLemmas.{same_date_time, Appends-then}
 use Rattle.programs_answers.proofs.layout.UtcDateTimeLayout.write_to.Goals as goal
 
 pub returns-clause-bytes : goal.returns-clause-bytes

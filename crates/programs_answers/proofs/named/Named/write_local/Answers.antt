@@ -1,6 +1,74 @@
+use Rattle.std.proofs.Common.{◌≡◌, ℕ, List, [], ◌∷◌, Option, Result, Ok, Err, OnOk, inl, inr, refl, subst, sym}
+use Rattle.time_values.specs.Refusal.{Refusal}
+use Rattle.time_values.specs.Calendar.{greatest_year}
+use Rattle.time_components.specs.Tree.{Tree, sequence, more, none, trees}
+use Rattle.time_record.specs.Reading.{Reads, ReadsAll, IsFault, IsFaultAll, Refuses}
+use Rattle.time_record.specs.Record.{Record, empty}
+use Rattle.time_record.specs.Resolution.{IsDated, IsTimed, IsOffset, IsPlain, IsUtcMoment, IsMoment, IsTimestamp}
+use Rattle.time_parsing.specs.Outcome.{IsOutcome, Reading, Refusing, Resolving, over_record}
+use Rattle.programs_answers.specs.Output.{IsAnswerFor, IsDescribed, Writes}
+use Rattle.programs_answers.specs.declared.formats.Target.{Target}
+use Rattle.programs_answers.specs.declared.formats.Target.TheVariants as target
 use Rattle.programs_answers.specs.Formats as formats
-use Rattle.programs_answers.proofs.SingleLists.{Writes-single}
 use Rattle.programs_answers.proofs.named.Named.write_local.Goals as goal
+
+-- ---- A list of one item answers as the item
+
+-- what a list of one tree reads, the tree reads
+single_reads : (Y : ℕ) (t : Tree) (b : List ℕ) (r : Record) (rest : List ℕ) (q : Record)
+    → Reads Y (sequence (more t none)) b r rest q → Reads Y t b r rest q
+unfolding Reads ReadsAll
+single_reads Y t b r rest q (mid, m, here, same) =
+    subst (λ x. Reads Y t b r x q) (sym same.0) (subst (λ x. Reads Y t b r mid x) (sym same.1) here)
+
+single_fault : (Y : ℕ) (t : Tree) (b : List ℕ) (r : Record) (e : Refusal)
+    → IsFault Y (sequence (more t none)) b r e → IsFault Y t b r e
+unfolding IsFault IsFaultAll
+single_fault Y t b r e (inl h) = h.1
+single_fault Y t b r e (inr h) = absurd h.3
+
+-- and what it refuses, the tree refuses
+single_refuses : (Y : ℕ) (t : Tree) (b : List ℕ) (r : Record) (e : Refusal)
+    → Refuses Y (sequence (more t none)) b r e → Refuses Y t b r e
+unfolding Reads ReadsAll
+single_refuses Y t b r e h = record {
+  unread = λ rest q here. h.unread rest q (rest, q, here, (refl, refl));
+  fault = single_fault Y t b r e h.fault;
+}
+
+module _ (reads others : Reading) (refuses denies : Refusing)
+    (on : (b : List ℕ) (r : Record) (rest : List ℕ) (q : Record) → reads b r rest q → others b r rest q)
+    (off : (b : List ℕ) (r : Record) (e : Refusal) → refuses b r e → denies b r e) where
+  same_outcome : {V : Type 0} (resolves : Resolving V) (text : List ℕ) (begin : Record) (result : Result V Refusal)
+      → IsOutcome resolves reads refuses text begin result → IsOutcome resolves others denies text begin result
+  same_outcome resolves text begin (Ok v) h = (h.0, on text begin [] h.0 h.1, h.2)
+  same_outcome resolves text begin (Err e) (inl (inl h)) = inl (inl (off text begin e h))
+  same_outcome resolves text begin (Err e) (inl (inr h)) = inl (inr (h.0, h.1, on text begin h.0 h.1 h.2, h.3, h.4))
+  same_outcome resolves text begin (Err e) (inr h) = inr (h.0, on text begin [] h.0 h.1, h.2)
+
+  same_answer : (t : Target) (text answer : List ℕ)
+      → IsAnswerFor greatest_year t over_record reads refuses text answer
+      → IsAnswerFor greatest_year t over_record others denies text answer
+  same_answer target.Date text answer h = (h.0, same_outcome (IsDated greatest_year) text empty h.0 h.1, h.2)
+  same_answer target.Time text answer h = (h.0, same_outcome IsTimed text empty h.0 h.1, h.2)
+  same_answer target.Offset text answer h = (h.0, same_outcome IsOffset text empty h.0 h.1, h.2)
+  same_answer target.Plain text answer h = (h.0, same_outcome (IsPlain greatest_year) text empty h.0 h.1, h.2)
+  same_answer target.Utc text answer h = (h.0, same_outcome (IsUtcMoment greatest_year) text empty h.0 h.1, h.2)
+  same_answer target.DateTime text answer h = (h.0, same_outcome (IsMoment greatest_year) text empty h.0 h.1, h.2)
+  same_answer target.Staged text answer h = (h.0, same_outcome (IsMoment greatest_year) text empty h.0 h.1, h.2)
+  same_answer target.Timestamp text answer h = (h.0, same_outcome (IsTimestamp greatest_year) text empty h.0 h.1, h.2)
+
+single_answers : (t : Tree) (target : Target) (text answer : List ℕ)
+    → IsDescribed greatest_year (sequence (more t none)) target text answer → IsDescribed greatest_year t target text answer
+single_answers t = same_answer _ _ _ _ (single_reads greatest_year t) (single_refuses greatest_year t)
+
+-- the outcome of a text by a list of one tree is the one by the tree
+Writes-single : {E : Type 0} (r : Result (Unit {0}) E) (list t : Tree) (target : Target) (text : List ℕ)
+    (a b : Option (List ℕ)) → list ≡ sequence (trees (t ∷ [])) → OnOk r (Writes (IsDescribed greatest_year list target text) a b)
+    → OnOk r (Writes (IsDescribed greatest_year t target text) a b)
+Writes-single (Ok u) list t target text a b is h =
+    (h.0, single_answers t target text h.0 (subst (λ l. IsDescribed greatest_year l target text h.0) is h.1), h.2)
+Writes-single (Err e) list t target text a b is h = tt
 
 pub returns-clause-bytes : goal.returns-clause-bytes
 returns-clause-bytes g c =

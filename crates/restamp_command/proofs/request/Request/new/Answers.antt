@@ -1,5 +1,5 @@
 use Rattle.std.proofs.Common.{refl}
-use Rattle.time_values.specs.Range.{greatest_year}
+use Rattle.time_values.specs.Calendar.{greatest_year}
 use Rattle.restamp_command.specs.Fault.{told}
 use Rattle.restamp_command.proofs.FormatLemmas.{fault_at, others_fault}
 use Rattle.restamp_command.proofs.request.Request.new.Goals as goal

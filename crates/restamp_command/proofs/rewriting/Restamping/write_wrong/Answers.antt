@@ -1,11 +1,9 @@
 use Rattle.std.proofs.Common.{Bool, true, false, ap, refl, sym}
-use Rattle.restamp_stream.proofs.ReportLemmas.{OnOk-map}
-use Rattle.restamp_verdict.specs.Missing.{why_text}
+use Rattle.restamp_stream.proofs.LinesLemmas.{OnOk-map}
+use Rattle.restamp_verdict.specs.Wrong.{why_text, seen_wrong}
 use Rattle.restamp_verdict.specs.Reason.{seen}
-use Rattle.restamp_verdict.specs.Wrong.{seen_wrong}
-use Rattle.restamp_command.specs.Expected.{expected_text}
-use Rattle.restamp_command.specs.Rewriting.{told_wrong}
-use Rattle.restamp_command.proofs.PointingLemmas.{Appends-plain, Appends-told}
+use Rattle.restamp_command.specs.Rewriting.{expected_text, told_wrong}
+use Rattle.restamp_command.proofs.FormatLemmas.{Appends-plain, Appends-told}
 use Rattle.restamp_command.proofs.rewriting.Restamping.write_wrong.Goals as goal
 
 pub returns-then-self-clause-told : goal.returns-then-self-clause-told

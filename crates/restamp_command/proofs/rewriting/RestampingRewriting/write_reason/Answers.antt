@@ -1,9 +1,21 @@
-use Rattle.restamp_stream.proofs.ReportLemmas.{OnOk-map}
-use Rattle.restamp_verdict.specs.Reason.{seen}
-use Rattle.restamp_verdict.specs.Job.{without, dropped}
+use Rattle.std.proofs.Common.{◌≡◌, ℕ, List, ap, ◌∙◌}
+use Rattle.time_values.specs.Calendar.{greatest_year}
+use Rattle.restamp_stream.specs.declared.fate.Fate.{Fate}
 use Rattle.restamp_stream.specs.declared.fate.Fate.TheVariants.{Refused}
-use Rattle.restamp_command.proofs.FateLemmas.{fate_of-verdict}
+use Rattle.restamp_stream.proofs.LinesLemmas.{OnOk-map}
+use Rattle.restamp_verdict.specs.Job.{Verdict, IsJudged, without, dropped}
+use Rattle.restamp_verdict.specs.declared.job.Job.{Job}
+use Rattle.restamp_verdict.specs.Reason.{seen}
+use Rattle.restamp_verdict.proofs.OneVerdict.{one_verdict}
+use Rattle.restamp_command.specs.Rewriting.{IsFate, fate_of}
 use Rattle.restamp_command.proofs.rewriting.RestampingRewriting.write_reason.Goals as goal
+
+-- ---- What a refused front's verdict is
+
+-- a front's fate is that of each of its verdicts
+fate_of-verdict : (job : Job) (front : List ℕ) (fate : Fate) (verdict : Verdict)
+    → IsFate greatest_year job front fate → IsJudged greatest_year job front verdict → fate ≡ fate_of verdict
+fate_of-verdict job front fate verdict p q = p.2 ∙ ap fate_of (one_verdict job front p.0 verdict p.1 q)
 
 pub returns-in-Without : goal.returns-in-Without
 returns-in-Without g c =

@@ -1,6 +1,6 @@
 use Rattle.std.proofs.Common.{arith, ap, ◌∙◌, take}
 use Rattle.time_values.specs.Shown.{Items}
-use Rattle.restamp_stream.proofs.BlockLemmas.{kept_last}
+use Rattle.restamp_stream.proofs.DidLemmas.{kept_last}
 use Rattle.restamp_stream.proofs.block.Held+LIMIT.keep_last.Goals as goal
 
 pub returns : goal.returns

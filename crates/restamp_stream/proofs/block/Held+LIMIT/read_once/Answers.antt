@@ -1,7 +1,7 @@
 use Rattle.std.proofs.Common.{ap, length, take, arith}
 use Rattle.std.proofs.lemmas.List.{length-take-le}
 use Rattle.time_values.specs.Shown.{Items}
-use Rattle.restamp_stream.proofs.BlockLemmas.{filled}
+use Rattle.restamp_stream.proofs.DidLemmas.{filled}
 use Rattle.restamp_stream.proofs.block.Held+LIMIT.read_once.Goals as goal
 
 pub returns-clause-read : goal.returns-clause-read

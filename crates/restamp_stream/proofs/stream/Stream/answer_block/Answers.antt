@@ -1,11 +1,10 @@
 use Rattle.std.proofs.Common.{lit<, Err, rules, [], ◌≡◌, refl, sym, ap, arith, ◌∙◌, length, drop, ◌-◌, ℕ, List}
 use Rattle.restamp_stream.specs.declared.fate.Rest.TheVariants.{Absent}
-use Rattle.restamp_stream.specs.Answers.{State}
+use Rattle.restamp_stream.specs.Streams.{State}
 use Rattle.restamp_stream.specs.Held.{held_state, held_out, job_at}
 use Rattle.restamp_stream.proofs.AnsweredLemmas.{Continues-then, Continues-same, Answered-begun, Ends-held, GoesOn-held}
 use Rattle.restamp_stream.proofs.LinesLemmas.{EndsWith-then, left_of, left_fills}
-use Rattle.restamp_stream.proofs.ServedLemmas.{IsHeld-left}
-use Rattle.restamp_stream.proofs.StoppedLemmas.{StoppedBy-map, Stops-then, Stops-same, Stops-long}
+use Rattle.restamp_stream.proofs.StoppedLemmas.{IsHeld-left, StoppedBy-map, Stops-then, Stops-same, Stops-long}
 use Rattle.restamp_stream.proofs.stream.Stream.answer_block.Goals as goal
 
 pub returns-in_default-ended-clause-ok : goal.returns-in_default-ended-clause-ok

@@ -1,8 +1,7 @@
 use Rattle.std.proofs.Common.{◌≡◌, ◌+◌, Err, rules, sym, ap, ap₂, ◌∙◌, subst}
 use Rattle.restamp_stream.specs.declared.fate.Rest.TheVariants.{Absent}
-use Rattle.restamp_stream.specs.Answers.{State}
+use Rattle.restamp_stream.specs.Streams.{State, Answered}
 use Rattle.restamp_stream.specs.Held.{job_at}
-use Rattle.restamp_stream.specs.Streams.{Answered}
 use Rattle.restamp_stream.proofs.AnsweredLemmas.{Answered-line}
 use Rattle.restamp_stream.proofs.DidLemmas.{same_state}
 use Rattle.restamp_stream.proofs.LinesLemmas.{EndsWith-line, line_fits}

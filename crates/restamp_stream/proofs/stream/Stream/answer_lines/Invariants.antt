@@ -2,7 +2,7 @@
 use Rattle.std.proofs.Common.{◌≡◌, length}
 use Rattle.restamp_stream.specs.Causes.{faults_of}
 use Rattle.restamp_stream.specs.Held.{Continues, held_state, job_at}
-use Rattle.restamp_stream.specs.Lines.{EndsWith}
+use Rattle.restamp_stream.specs.Streams.{EndsWith}
 use Rattle.restamp_stream.specs.declared.fate.Rest.TheVariants.{Absent}
 use Rattle.restamp_stream.proofs.stream.Stream.answer_lines.Given as goal
 

@@ -1,7 +1,6 @@
 use Rattle.std.proofs.Common.{refl}
 use Rattle.restamp_stream.proofs.AnsweredLemmas.{lines_of-text, held-none}
-use Rattle.restamp_stream.proofs.ServedLemmas.{finished, finished-none}
-use Rattle.restamp_stream.proofs.StoppedLemmas.{Stopped-last_settled}
+use Rattle.restamp_stream.proofs.StoppedLemmas.{finished, finished-none, Stopped-last_settled}
 use Rattle.restamp_stream.specs.Held.{job_at}
 use Rattle.restamp_stream.proofs.stream.Stream.finish.Goals as goal
 

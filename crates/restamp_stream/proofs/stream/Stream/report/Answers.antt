@@ -1,6 +1,6 @@
 use Rattle.std.proofs.Common.{[], refl}
 use Rattle.std.proofs.KnownBytes.{Appends-nil}
-use Rattle.restamp_stream.proofs.ReportLemmas.{OnOk-map}
+use Rattle.restamp_stream.proofs.LinesLemmas.{OnOk-map}
 use Rattle.restamp_stream.proofs.stream.Stream.report.Goals as goal
 
 pub returns-then-not-names-clause-reported : goal.returns-then-not-names-clause-reported

@@ -1,6 +1,6 @@
 use Rattle.std.proofs.Common.{rules, refl, Err, ◌≡◌, ◌∙◌, subst}
 use Rattle.restamp_stream.specs.Causes.{faults_of, IsCounted}
-use Rattle.restamp_stream.proofs.FilesLemmas.{DidFiles-more, StoppedIn-at, if_refused}
+use Rattle.restamp_stream.proofs.DidLemmas.{DidFiles-more, StoppedIn-at, if_refused}
 use Rattle.restamp_stream.proofs.stream.Stream.serve_files.Goals as goal
 
 pub loop-name-init : goal.loop-name-init

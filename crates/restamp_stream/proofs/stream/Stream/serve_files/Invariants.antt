@@ -1,8 +1,7 @@
 -- The files before the index were answered.
 use Rattle.std.proofs.Common.{◌≡◌, take, map}
 use Rattle.restamp_stream.specs.Causes.{faults_of}
-use Rattle.restamp_stream.specs.Files.{DidFiles}
-use Rattle.restamp_stream.specs.Streams.{state_of}
+use Rattle.restamp_stream.specs.Streams.{DidFiles, state_of}
 use Rattle.restamp_stream.proofs.stream.Stream.serve_files.Given as goal
 
 abbrev pub invariant-loop-name : goal.invariant-loop-name

@@ -1,9 +1,34 @@
-use Rattle.std.proofs.Common.{lit<, ◌≡◌, Err, rules, refl, subst, ◌∙◌}
-use Rattle.restamp_stream.specs.Held.{job_at}
-use Rattle.restamp_stream.proofs.ServedLemmas.{Served-none, Served-more, Served-all, Served-stopped, Served-stopped_at_end, IsHeld-short, HasNoLf-same}
-use Rattle.restamp_stream.specs.Causes.{faults_of, HasWriteCause, IsCounted}
-use Rattle.restamp_stream.proofs.CauseLemmas.{HaveCome-none, HaveCome-more, HaveCome-failed, HaveCome-end}
+use Rattle.std.proofs.Common.{ℕ, ◌+◌, ◌-◌, ◌^◌, ◌≤◌, inl, inr, refl, sym, subst, ◌∙◌, arith, lit<, ◌≡◌, Err, rules}
+use Rattle.programs_streams.specs.Faults.{Rises, IsCutOff}
+use Rattle.restamp_stream.specs.Causes.{HasCome, faults_of, HasWriteCause, IsCounted}
+use Rattle.restamp_stream.specs.Held.{HaveCome, job_at}
+use Rattle.restamp_stream.proofs.StoppedLemmas.{Served-none, Served-more, Served-all, Served-stopped, Served-stopped_at_end, IsHeld-short, HasNoLf-same}
 use Rattle.restamp_stream.proofs.stream.Stream.serve_lines.Goals as goal
+
+-- ---- Why the work stopped
+
+Rises-trans : (a b c : ℕ) → Rises a b → Rises b c → Rises a c
+Rises-trans a b c p q = (omega (arith, p.0, q.0), omega (arith, p.1, q.0))
+
+HaveCome-none : (faults given : ℕ) → HaveCome 0 faults faults given
+HaveCome-none faults given = inl (refl, omega arith)
+
+HaveCome-more : (turns f0 f1 f2 given more : ℕ)
+    → HaveCome turns f0 f1 given → HasCome f1 f2 given more → HaveCome (turns + 1) f0 f2 more
+HaveCome-more turns f0 f1 f2 given more (inl p) (inl q) = inl (q.0 ∙ p.0, omega (arith, p.1, q.1))
+HaveCome-more turns f0 f1 f2 given more (inl p) (inr q) = inr (subst (λ (n : ℕ). Rises n f2) p.0 q)
+HaveCome-more turns f0 f1 f2 given more (inr p) (inl q) = inr (subst (λ (n : ℕ). Rises f0 n) (sym q.0) p)
+HaveCome-more turns f0 f1 f2 given more (inr p) (inr q) = inr (Rises-trans f0 f1 f2 p q)
+
+-- a read more failed
+HaveCome-failed : (turns f0 f1 f2 given more : ℕ) → HaveCome turns f0 f1 given → Rises f1 f2 → IsCutOff f0 f2 more
+HaveCome-failed turns f0 f1 f2 given more (inl p) q = inl (subst (λ (n : ℕ). Rises n f2) p.0 q)
+HaveCome-failed turns f0 f1 f2 given more (inr p) q = inl (Rises-trans f0 f1 f2 p q)
+
+-- there was no end
+HaveCome-end : (turns f0 f1 given : ℕ) → 2 ^ 64 - 1 ≤ turns → HaveCome turns f0 f1 given → IsCutOff f0 f1 given
+HaveCome-end turns f0 f1 given all (inl p) = inr (omega (arith, all, p.1))
+HaveCome-end turns f0 f1 given all (inr p) = inl p
 
 pub loop-turn-init : goal.loop-turn-init
 loop-turn-init g c = (Served-none (job_at _ _ c.args.file.now) _ _ _ (lit< tt) c.requires.block, c.requires.waiting, refl, HaveCome-none _ _)

@@ -1,4 +1,4 @@
-use Rattle.restamp_stream.proofs.ReportLemmas.{Appends-unread, OnOk-map}
+use Rattle.restamp_stream.proofs.LinesLemmas.{Appends-unread, OnOk-map}
 use Rattle.restamp_stream.proofs.stream.Stream.tell_unread.Goals as goal
 
 pub returns-clause-told : goal.returns-clause-told

@@ -1,5 +1,5 @@
 use Rattle.std.proofs.Common.{refl}
-use Rattle.restamp_stream.proofs.ReportLemmas.{Appends-report, OnOk-map}
+use Rattle.restamp_stream.proofs.LinesLemmas.{Appends-report, OnOk-map}
 use Rattle.restamp_stream.proofs.stream.Stream.write_report.Goals as goal
 
 pub returns-clause-reported : goal.returns-clause-reported

@@ -1,5 +1,5 @@
 use Rattle.std.proofs.Common.{take, arith, refl}
-use Rattle.restamp_stream.proofs.BlockLemmas.{filled}
+use Rattle.restamp_stream.proofs.DidLemmas.{filled}
 use Rattle.restamp_stream.proofs.waiting.fast.put_block.Goals as goal
 
 pub returns : goal.returns

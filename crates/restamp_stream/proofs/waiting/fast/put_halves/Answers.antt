@@ -1,6 +1,6 @@
 use Rattle.std.proofs.Common.{◌≡◌, ℕ, ◌+◌, ◌-◌, ◌≤◌, List, ◌++◌, length, take, drop, ap, arith, refl, ◌∙◌, length-drop}
 use Rattle.std.proofs.lemmas.List.{take_all, take-take, length-take-le, append_assoc, length-append, take-append-drop}
-use Rattle.restamp_stream.proofs.BlockLemmas.{filled}
+use Rattle.restamp_stream.proofs.DidLemmas.{filled}
 use Rattle.restamp_stream.proofs.waiting.fast.put_halves.Goals as goal
 
 -- two halves of a text, put where the second overlaps the first

@@ -1,6 +1,6 @@
 use Rattle.std.proofs.Common.{◌≡◌, ℕ, true, [], ◌∷◌, None, Some, Result, Ok, string_bytes}
-use Rattle.restamp_in_place.specs.Folder.{Creates, leads}
-use Rattle.restamp_in_place.specs.Folder.Event.{Leads}
+use Rattle.restamp_in_place.specs.Replacing.{Creates, leads}
+use Rattle.restamp_in_place.specs.Replacing.Event.{Leads}
 use Rattle.restamp_tests.specs.Memory.{events_of, is_unused}
 use Rattle.restamp_tests.proofs.MemoryLemmas.{tries, creates, none}
 use Rattle.restamp_tests.proofs.memory.MemoryFolder.create.Goals as goal

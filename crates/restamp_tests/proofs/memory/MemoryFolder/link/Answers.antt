@@ -1,6 +1,6 @@
 use Rattle.std.proofs.Common.{◌≡◌, ℕ, List, [], ◌∷◌, ap, None, Some, string_bytes}
-use Rattle.restamp_in_place.specs.Folder.{Links, leads}
-use Rattle.restamp_in_place.specs.Folder.Event.{Leads}
+use Rattle.restamp_in_place.specs.Replacing.{Links, leads}
+use Rattle.restamp_in_place.specs.Replacing.Event.{Leads}
 use Rattle.restamp_tests.specs.Memory.{events_of}
 use Rattle.restamp_tests.proofs.MemoryLemmas.{tries, none}
 use Rattle.restamp_tests.proofs.memory.MemoryFolder.link.Goals as goal

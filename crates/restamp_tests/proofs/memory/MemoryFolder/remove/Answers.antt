@@ -1,6 +1,6 @@
 use Rattle.std.proofs.Common.{ℕ, List, [], ◌∷◌, ap, None, string_bytes}
-use Rattle.restamp_in_place.specs.Folder.{Removes}
-use Rattle.restamp_in_place.specs.Folder.Event.{Leads}
+use Rattle.restamp_in_place.specs.Replacing.{Removes}
+use Rattle.restamp_in_place.specs.Replacing.Event.{Leads}
 use Rattle.restamp_tests.proofs.MemoryLemmas.{tries}
 use Rattle.restamp_tests.proofs.memory.MemoryFolder.remove.Goals as goal
 

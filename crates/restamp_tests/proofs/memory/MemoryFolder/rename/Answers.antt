@@ -1,6 +1,6 @@
 use Rattle.std.proofs.Common.{◌≡◌, ℕ, List, [], ◌∷◌, inr, refl, None, Some, string_bytes}
-use Rattle.restamp_in_place.specs.Folder.{Event, Renames, leads}
-use Rattle.restamp_in_place.specs.Folder.Event.{Leads}
+use Rattle.restamp_in_place.specs.Replacing.{Event, Renames, leads}
+use Rattle.restamp_in_place.specs.Replacing.Event.{Leads}
 use Rattle.restamp_tests.specs.Memory.{events_of}
 use Rattle.restamp_tests.proofs.MemoryLemmas.{tries}
 use Rattle.restamp_tests.proofs.memory.MemoryFolder.rename.Goals as goal

@@ -1,6 +1,6 @@
 use Rattle.std.proofs.Common.{◌≡◌, [], ◌∷◌, ap, refl, inr, Some}
-use Rattle.restamp_in_place.specs.Folder.{Stores, leads}
-use Rattle.restamp_in_place.specs.Folder.Event.{Stored}
+use Rattle.restamp_in_place.specs.Replacing.{Stores, leads}
+use Rattle.restamp_in_place.specs.Replacing.Event.{Stored}
 use Rattle.restamp_tests.specs.Memory.{events_of}
 use Rattle.restamp_tests.proofs.MemoryLemmas.{tries}
 use Rattle.restamp_tests.proofs.memory.MemoryFolder.store.Goals as goal

@@ -1,5 +1,5 @@
 use Rattle.std.proofs.Common.{◌≡◌, length}
-use Rattle.restamp_in_place.specs.Folder.{leads}
+use Rattle.restamp_in_place.specs.Replacing.{leads}
 use Rattle.restamp_tests.specs.Memory.{events_of}
 use Rattle.restamp_tests.proofs.memory.event.leads.Given as goal
 

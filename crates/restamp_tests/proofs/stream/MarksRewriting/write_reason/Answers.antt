@@ -1,5 +1,5 @@
 use Rattle.std.proofs.Common.{codes, refl}
-use Rattle.restamp_stream.proofs.ReportLemmas.{OnOk-map}
+use Rattle.restamp_stream.proofs.LinesLemmas.{OnOk-map}
 use Rattle.restamp_tests.proofs.stream.MarksRewriting.write_reason.Goals as goal
 
 pub returns-clause-told : goal.returns-clause-told

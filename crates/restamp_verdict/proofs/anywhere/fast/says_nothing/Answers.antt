@@ -1,6 +1,6 @@
 use Rattle.std.proofs.Common.{◌≡◌, ◌-◌, length, drop, take, sym, ap, arith, length-drop, ◌∙◌}
 use Rattle.std.proofs.lemmas.List.{take_all}
-use Rattle.time_values.specs.Range.{greatest_year}
+use Rattle.time_values.specs.Calendar.{greatest_year}
 use Rattle.restamp_verdict.specs.Begins.{may_be_of}
 use Rattle.restamp_verdict.proofs.BeginsLemmas.{says-nothing}
 use Rattle.restamp_verdict.proofs.anywhere.fast.says_nothing.Goals as goal

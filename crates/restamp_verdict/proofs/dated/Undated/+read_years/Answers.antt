@@ -1,10 +1,10 @@
 use Rattle.std.proofs.Common.{◌-◌, ℤ, sym, subst, arith, ◌∙◌, Ok, Err}
 use Rattle.std.specs.Int.{w32}
 use Rattle.std.proofs.lemmas.Int.{ints, to_z-of_z}
-use Rattle.time_values.specs.Range.{greatest_year}
+use Rattle.time_values.specs.Calendar.{greatest_year}
 use Rattle.restamp_verdict.specs.Reading.{seen_undated, IsFinal, IsReadInYear, AreYearsTried}
 use Rattle.restamp_verdict.specs.Reason.{seen, seen_read}
-use Rattle.restamp_verdict.proofs.ReadingLemmas.{one_less, years-end, years-late, years-found, years-final, years-refused}
+use Rattle.restamp_verdict.proofs.SayingLemmas.{one_less, years-end, years-late, years-found, years-final, years-refused}
 use Rattle.restamp_verdict.proofs.dated.Undated.+read_years.Goals as goal
 
 pub returns-then-count-eq0-clause-said : goal.returns-then-count-eq0-clause-said

@@ -1,10 +1,9 @@
 use Rattle.std.proofs.Common.{◌-◌, ℤ, sym, subst, arith, refl, ◌∙◌, Ok, Err}
 use Rattle.std.specs.Int.{w32}
 use Rattle.std.proofs.lemmas.Int.{ints, to_z-of_z}
-use Rattle.time_values.specs.Range.{greatest_year}
+use Rattle.time_values.specs.Calendar.{greatest_year}
 use Rattle.restamp_verdict.specs.Reading.{seen_undated, in_year, is_of_clocks, IsReadInYear, AreYearsTried}
-use Rattle.restamp_verdict.proofs.ReadingLemmas.{one_less, on_false, years-end, years-late, years-found, years-refused}
-use Rattle.restamp_verdict.proofs.SayingLemmas.{clocks-none, said_so}
+use Rattle.restamp_verdict.proofs.SayingLemmas.{one_less, on_false, years-end, years-late, years-found, years-refused, clocks-none, said_so}
 use Rattle.restamp_verdict.proofs.dated.Undated.+say_years.Goals as goal
 
 pub returns-then-count-eq0-clause-said : goal.returns-then-count-eq0-clause-said

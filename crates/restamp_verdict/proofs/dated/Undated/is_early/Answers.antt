@@ -1,10 +1,10 @@
 use Rattle.std.proofs.Common.{ℤ, false, not, ap, refl, ◌∙◌, Ok, Err}
 use Rattle.std.specs.Int.{w32}
 use Rattle.std.proofs.lemmas.Int.{to_z-of_z}
-use Rattle.time_values.specs.Range.{greatest_year}
+use Rattle.time_values.specs.Calendar.{greatest_year}
 use Rattle.restamp_verdict.specs.Reading.{in_year, seen_undated}
 use Rattle.restamp_verdict.specs.Reason.{seen}
-use Rattle.restamp_verdict.proofs.LocalLemmas.{early}
+use Rattle.restamp_verdict.proofs.SayingLemmas.{early}
 use Rattle.restamp_verdict.proofs.dated.Undated.is_early.Goals as goal
 
 pub returns-in-Ok : goal.returns-in-Ok

@@ -1,7 +1,7 @@
 use Rattle.std.proofs.Common.{ℤ, ap, subst, ◌∙◌}
 use Rattle.std.specs.Int.{w32}
 use Rattle.std.proofs.lemmas.Int.{to_z-of_z}
-use Rattle.time_values.specs.Range.{greatest_year}
+use Rattle.time_values.specs.Calendar.{greatest_year}
 use Rattle.restamp_verdict.specs.Reading.{IsSaid, SaysLocally, in_year, seen_undated}
 use Rattle.restamp_verdict.specs.declared.reading.Defaults.{Defaults}
 use Rattle.restamp_verdict.proofs.SayingLemmas.{said_locally}

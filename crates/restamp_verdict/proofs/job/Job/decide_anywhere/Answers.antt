@@ -1,5 +1,5 @@
 use Rattle.std.proofs.Common.{List, ℕ, refl, subst, None, Some}
-use Rattle.time_values.specs.Range.{greatest_year}
+use Rattle.time_values.specs.Calendar.{greatest_year}
 use Rattle.restamp_verdict.specs.Job.{IsFirst, missed}
 use Rattle.restamp_verdict.proofs.job.Job.decide_anywhere.Goals as goal
 

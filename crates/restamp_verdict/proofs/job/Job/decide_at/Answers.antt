@@ -1,11 +1,10 @@
 use Rattle.std.proofs.Common.{◌+◌, Bool, refl, sym, subst, ◌∙◌, Ok, Err}
 use Rattle.std.specs.Prelude.{slice_range}
 use Rattle.restamp_place.specs.Cuts.{span_of}
-use Rattle.time_values.specs.Range.{greatest_year}
+use Rattle.time_values.specs.Calendar.{greatest_year}
 use Rattle.restamp_verdict.specs.Job.{IsJudgedPart, missed, refused}
 use Rattle.restamp_verdict.specs.Reading.{Says}
-use Rattle.restamp_verdict.proofs.ReadingLemmas.{in_turn-first, on_none, on_some}
-use Rattle.restamp_verdict.proofs.SayingLemmas.{in_turn-alone}
+use Rattle.restamp_verdict.proofs.SayingLemmas.{in_turn-first, on_none, on_some, in_turn-alone}
 use Rattle.restamp_verdict.proofs.job.Job.decide_at.Goals as goal
 
 pub returns-in_default-clause-at : goal.returns-in_default-clause-at

@@ -1,5 +1,5 @@
 use Rattle.std.proofs.Common.{ℕ, List, subst, None, Some}
-use Rattle.time_values.specs.Range.{greatest_year}
+use Rattle.time_values.specs.Calendar.{greatest_year}
 use Rattle.restamp_verdict.specs.Job.{IsFirst}
 use Rattle.restamp_verdict.proofs.job.Job.judge_anywhere.Goals as goal
 

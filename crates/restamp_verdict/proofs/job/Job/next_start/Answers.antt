@@ -1,4 +1,4 @@
-use Rattle.time_values.specs.Range.{greatest_year}
+use Rattle.time_values.specs.Calendar.{greatest_year}
 use Rattle.restamp_verdict.proofs.BeginsLemmas.{says-none}
 use Rattle.restamp_verdict.proofs.job.Job.next_start.Goals as goal
 

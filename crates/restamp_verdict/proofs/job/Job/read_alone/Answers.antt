@@ -1,6 +1,6 @@
 use Rattle.std.proofs.Common.{sym, ◌∙◌}
-use Rattle.time_values.specs.Range.{greatest_year}
-use Rattle.restamp_verdict.proofs.AloneLemmas.{alone-refused, alone-inside, alone-said}
+use Rattle.time_values.specs.Calendar.{greatest_year}
+use Rattle.restamp_verdict.proofs.SayingLemmas.{alone-refused, alone-inside, alone-said}
 use Rattle.restamp_verdict.proofs.job.Job.read_alone.Goals as goal
 
 pub returns-in_err-said-clause-said : goal.returns-in_err-said-clause-said

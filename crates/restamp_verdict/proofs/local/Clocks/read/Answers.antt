@@ -1,7 +1,7 @@
 use Rattle.std.proofs.Common.{refl}
-use Rattle.time_values.specs.Range.{greatest_year}
+use Rattle.time_values.specs.Calendar.{greatest_year}
 use Rattle.restamp_verdict.specs.Reason.{seen, seen_read}
-use Rattle.restamp_verdict.proofs.LocalLemmas.{on-unread, on-refused, on-shown}
+use Rattle.restamp_verdict.proofs.SayingLemmas.{on-unread, on-refused, on-shown}
 use Rattle.restamp_verdict.proofs.local.Clocks.read.Goals as goal
 
 pub returns-in-Err-clause-said : goal.returns-in-Err-clause-said

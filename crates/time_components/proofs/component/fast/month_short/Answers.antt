@@ -1,8 +1,8 @@
 use Rattle.std.proofs.Common.{◌-◌, [], ◌∷◌, length, take, drop, get_or}
 use Rattle.time_values.specs.Names.{month_name}
 use Rattle.time_components.specs.Spelling.{month}
-use Rattle.time_digits.proofs.CutLemmas.{first_three}
-use Rattle.time_components.proofs.ShortNames.{months_titled, is_titled}
+use Rattle.time_digits.proofs.WordBytes.{first_three}
+use Rattle.time_components.proofs.NameLemmas.{months_titled, is_titled}
 use Rattle.time_components.proofs.component.fast.month_short.Goals as goal
 
 pub returns : goal.returns

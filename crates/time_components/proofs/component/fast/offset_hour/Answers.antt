@@ -2,8 +2,7 @@ use Rattle.std.proofs.Common.{refl, arith}
 use Rattle.time_digits.specs.Digits.{IsPaddedRun}
 use Rattle.time_components.specs.Spelling.{flagged}
 use Rattle.time_components.proofs.NumberLemmas.{signed_cut}
-use Rattle.time_digits.proofs.PaddedRuns.{full_run}
-use Rattle.time_digits.proofs.Runs.{IsDigitRun-below}
+use Rattle.time_digits.proofs.Runs.{full_run, IsDigitRun-below}
 use Rattle.time_components.proofs.component.fast.offset_hour.Goals as goal
 
 pub signed_hour-requires : goal.signed_hour-requires

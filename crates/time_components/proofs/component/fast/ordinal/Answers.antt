@@ -1,7 +1,6 @@
 use Rattle.std.proofs.Common.{refl, ap, arith}
 use Rattle.time_components.specs.Spelling.{number}
-use Rattle.time_digits.proofs.PaddedRuns.{full_run}
-use Rattle.time_digits.proofs.Runs.{IsDigitRun-below}
+use Rattle.time_digits.proofs.Runs.{full_run, IsDigitRun-below}
 use Rattle.time_components.proofs.component.fast.ordinal.Goals as goal
 
 pub overflow_cast-ordinal : goal.overflow_cast-ordinal

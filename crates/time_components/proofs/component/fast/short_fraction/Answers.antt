@@ -1,5 +1,5 @@
 use Rattle.std.proofs.Common.{arith}
-use Rattle.time_components.proofs.ShortFractions.{begun_more, begun_below}
+use Rattle.time_components.proofs.NameLemmas.{begun_more, begun_below}
 use Rattle.time_components.proofs.component.fast.short_fraction.Goals as goal
 
 pub overflow_add-nanoseconds : goal.overflow_add-nanoseconds

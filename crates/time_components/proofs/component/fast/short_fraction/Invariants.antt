@@ -1,5 +1,5 @@
 use Rattle.std.proofs.Common.{length}
-use Rattle.time_components.proofs.ShortFractions.{IsBegun}
+use Rattle.time_components.proofs.NameLemmas.{IsBegun}
 use Rattle.time_components.proofs.component.fast.short_fraction.Given as goal
 
 abbrev pub invariant-loop-rest : goal.invariant-loop-rest

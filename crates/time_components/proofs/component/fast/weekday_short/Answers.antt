@@ -1,8 +1,8 @@
 use Rattle.std.proofs.Common.{◌-◌, [], ◌∷◌, length, take, drop, get_or}
 use Rattle.time_values.specs.Names.{weekday_name}
 use Rattle.time_components.specs.Spelling.{weekday}
-use Rattle.time_digits.proofs.CutLemmas.{first_three}
-use Rattle.time_components.proofs.ShortNames.{weekdays_titled, is_titled}
+use Rattle.time_digits.proofs.WordBytes.{first_three}
+use Rattle.time_components.proofs.NameLemmas.{weekdays_titled, is_titled}
 use Rattle.time_components.proofs.component.fast.weekday_short.Goals as goal
 
 pub returns : goal.returns

@@ -2,8 +2,7 @@ use Rattle.std.proofs.Common.{◌≡◌, ◌<◌, ◌^◌, pos, to_z, w32, refl,
 use Rattle.std.proofs.lemmas.Int.{ints}
 use Rattle.time_digits.specs.declared.Sign.TheVariants.{Positive}
 use Rattle.time_components.specs.Spelling.{signed}
-use Rattle.time_digits.proofs.PaddedRuns.{full_run}
-use Rattle.time_digits.proofs.Runs.{IsDigitRun-below}
+use Rattle.time_digits.proofs.Runs.{full_run, IsDigitRun-below}
 use Rattle.time_components.proofs.component.fast.year.Goals as goal
 
 pub overflow_cast-result : goal.overflow_cast-result

@@ -1,6 +1,6 @@
 use Rattle.time_values.specs.Names.{month_name}
 use Rattle.time_components.specs.Spelling.{month}
-use Rattle.time_components.proofs.ShortNames.{months_titled, no_letters, no_short, is_short}
+use Rattle.time_components.proofs.NameLemmas.{months_titled, no_letters, no_short, is_short}
 use Rattle.time_components.proofs.component.names.month_short.Goals as goal
 
 pub returns-in_err-letters : goal.returns-in_err-letters

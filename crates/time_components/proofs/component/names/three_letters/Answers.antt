@@ -1,6 +1,6 @@
 use Rattle.std.proofs.Common.{◌≡◌, ◌∷◌, [], refl, get_or, true, rules}
 use Rattle.time_components.specs.ShortNames as ShortNames
-use Rattle.time_digits.proofs.CutLemmas.{first_three}
+use Rattle.time_digits.proofs.WordBytes.{first_three}
 use Rattle.time_components.proofs.component.names.three_letters.Goals as goal
 use Rattle.time_components.proofs.component.names.three_letters.Goals.{else-case_sensitive-via-then-case_sensitive+else-not-is_title_case, else-case_sensitive-via-else-case_sensitive}
 

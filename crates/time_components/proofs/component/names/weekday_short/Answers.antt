@@ -1,6 +1,6 @@
 use Rattle.time_values.specs.Names.{weekday_name}
 use Rattle.time_components.specs.Spelling.{weekday}
-use Rattle.time_components.proofs.ShortNames.{weekdays_titled, no_letters, no_short, is_short}
+use Rattle.time_components.proofs.NameLemmas.{weekdays_titled, no_letters, no_short, is_short}
 use Rattle.time_components.proofs.component.names.weekday_short.Goals as goal
 
 pub returns-in_err-letters : goal.returns-in_err-letters

@@ -1,7 +1,7 @@
 use Rattle.std.proofs.Common.{◌≡◌, ◌<◌, ◌^◌, ap, arith, pos, to_z, w8}
 use Rattle.std.proofs.lemmas.Int.{ints}
 use Rattle.time_components.specs.Spelling.{signed}
-use Rattle.time_digits.proofs.PaddedRuns.{IsPaddedRun-below}
+use Rattle.time_digits.proofs.Runs.{IsPaddedRun-below}
 use Rattle.time_components.proofs.component.numbers.offset_part.Goals as goal
 
 pub overflow_cast-result : goal.overflow_cast-result

@@ -1,5 +1,5 @@
 use Rattle.std.proofs.Common.{arith}
-use Rattle.time_digits.proofs.PaddedRuns.{spaced_digit_cut}
+use Rattle.time_digits.proofs.Runs.{spaced_digit_cut}
 use Rattle.time_components.proofs.component.numbers.spaced_digit.Goals as goal
 
 pub returns-then-digit-le57 : goal.returns-then-digit-le57

@@ -1,8 +1,7 @@
 use Rattle.std.proofs.Common.{ℕ, ◌-◌, length, take, drop, ap, sym, ◌∙◌, subst, arith}
-use Rattle.time_digits.specs.Cuts.{Cut}
-use Rattle.time_digits.specs.Digits.{AllDigits, digits_value, IsDigitRun}
-use Rattle.time_digits.proofs.CutLemmas.{take-drop}
-use Rattle.time_digits.proofs.ExactRuns.{exact_cut, first_of_eight}
+use Rattle.time_digits.specs.Digits.{Cut, AllDigits, digits_value, IsDigitRun}
+use Rattle.time_digits.proofs.WordBytes.{take-drop}
+use Rattle.time_digits.proofs.Fractions.{exact_cut, first_of_eight}
 use Rattle.time_digits.proofs.combinator.fast.digits_of_word.Goals as goal
 
 pub returns : goal.returns

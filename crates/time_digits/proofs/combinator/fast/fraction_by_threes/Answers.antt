@@ -1,5 +1,5 @@
 use Rattle.std.proofs.Common.{arith}
-use Rattle.time_digits.proofs.Threes.{three_below, three_fraction, six_fraction}
+use Rattle.time_digits.proofs.Fractions.{three_below, three_fraction, six_fraction}
 use Rattle.time_digits.proofs.combinator.fast.fraction_by_threes.Goals as goal
 
 pub overflow_mul-result : goal.overflow_mul-result

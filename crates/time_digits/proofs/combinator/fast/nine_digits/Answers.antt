@@ -1,7 +1,6 @@
 use Rattle.std.proofs.Common.{ℕ, ◌+◌, ◌*◌, arith, sym, subst}
-use Rattle.time_digits.specs.Cuts.{Cut}
-use Rattle.time_digits.specs.Digits.{IsDigitRun}
-use Rattle.time_digits.proofs.ExactRuns.{nine_cut}
+use Rattle.time_digits.specs.Digits.{Cut, IsDigitRun}
+use Rattle.time_digits.proofs.Fractions.{nine_cut}
 use Rattle.time_digits.proofs.Runs.{IsDigitRun-below}
 use Rattle.time_digits.proofs.combinator.fast.nine_digits.Goals as goal
 

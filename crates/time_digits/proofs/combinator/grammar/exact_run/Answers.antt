@@ -1,6 +1,6 @@
 use Rattle.std.proofs.Common.{arith}
 use Rattle.time_digits.specs.Digits.{IsDigitRun, IsDigitRunUpTo}
-use Rattle.time_digits.proofs.CutLemmas.{Finds-same}
+use Rattle.time_digits.proofs.WordBytes.{Finds-same}
 use Rattle.time_digits.proofs.Runs.{IsDigitRun-below, pow-mono}
 use Rattle.time_digits.proofs.combinator.grammar.exact_run.Goals as goal
 

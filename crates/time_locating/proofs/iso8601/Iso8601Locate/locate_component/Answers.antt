@@ -1,7 +1,7 @@
-use Rattle.time_values.specs.Range.{greatest_year}
+use Rattle.time_values.specs.Calendar.{greatest_year}
 use Rattle.time_parsing.specs.Outcome.{begun}
 use Rattle.time_parsing.specs.Rfc3339.{with_leap_second}
-use Rattle.time_locating.proofs.IsoMarks.{iso_marked, iso_unmarked}
+use Rattle.time_locating.proofs.IsoDates.{iso_marked, iso_unmarked}
 use Rattle.time_locating.proofs.iso8601.Iso8601Locate.locate_component.Goals as goal
 
 pub returns-in_default : goal.returns-in_default

@@ -1,8 +1,7 @@
-use Rattle.time_values.specs.Range.{greatest_year}
-use Rattle.time_readers.specs.IsoAnswers.{Found}
+use Rattle.time_values.specs.Calendar.{greatest_year}
+use Rattle.time_readers.specs.IsoPieces.{Found}
 use Rattle.time_readers.specs.IsoDates.{IsoDate, iso_date}
-use Rattle.time_locating.proofs.IsoDates.{date-number}
-use Rattle.time_locating.proofs.IsoMarks.{either, great_date-mark, held_date-mark, no_date-mark}
+use Rattle.time_locating.proofs.IsoDates.{date-number, either, great_date-mark, held_date-mark, no_date-mark}
 use Rattle.time_locating.proofs.iso8601.marks.text_mark.Goals as goal
 
 pub returns-in_default : goal.returns-in_default

@@ -1,7 +1,7 @@
 use Rattle.std.proofs.Common.{◌≡◌, true, false, arith}
 use Rattle.std.specs.Prelude.{nat_le}
 use Rattle.std.proofs.lemmas.Bool.Decides.{nat_tests}
-use Rattle.time_locating.proofs.IsoSteps.{digits_beyond, digits_there, no_digits}
+use Rattle.time_locating.proofs.IsoLengths.{digits_beyond, digits_there, no_digits}
 use Rattle.time_locating.proofs.iso8601.pieces.past_digits.Goals as goal
 
 pub returns-in_err-found : goal.returns-in_err-found

@@ -2,8 +2,8 @@ use Rattle.std.proofs.Common.{◌≡◌, false, refl, arith}
 use Rattle.std.specs.Prelude.{nat_lt, nat_le}
 use Rattle.std.proofs.Math.Bool.{and-false}
 use Rattle.std.proofs.lemmas.Bool.Decides.{nat_tests}
-use Rattle.time_readers.specs.IsoFractions.{round_of}
-use Rattle.time_readers.proofs.IsoFractions.{round-is}
+use Rattle.time_readers.specs.IsoTimes.{round_of}
+use Rattle.time_readers.proofs.OneMailDate.{round-is}
 use Rattle.time_locating.proofs.iso8601.pieces.past_second.Goals as goal
 
 pub returns-in-Some : goal.returns-in-Some

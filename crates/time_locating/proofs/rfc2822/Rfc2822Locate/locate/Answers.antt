@@ -1,6 +1,6 @@
 use Rattle.std.proofs.Common.{◌≡◌, ℕ, ◌≤◌, List, [], true, Some, length, refl, inl, ap, ◌∙◌, arith}
 use Rattle.std.proofs.lemmas.Option.{none-some, same_Some}
-use Rattle.time_values.specs.Range.{greatest_year}
+use Rattle.time_values.specs.Calendar.{greatest_year}
 use Rattle.time_readers.specs.Rfc2822.{Asks, FailsAt, nothing_read, places}
 use Rattle.time_readers.specs.declared.rfc2822.Place.{Place}
 use Rattle.time_parsing.specs.Outcome.{begun}
@@ -8,8 +8,7 @@ use Rattle.time_parsing.specs.Rfc2822.{Reads}
 use Rattle.time_locating.specs.Misses.{missed}
 use Rattle.time_locating.specs.Rfc2822.{wanted_at, wanted_from}
 use Rattle.time_locating.proofs.MailParts.{wanted_from-within}
-use Rattle.time_locating.proofs.PlaceSteps.{left-within, stands-located}
-use Rattle.time_locating.proofs.WholeTexts.{mail_reads_form}
+use Rattle.time_locating.proofs.WholeTexts.{left-within, stands-located, mail_reads_form}
 use Rattle.time_locating.proofs.rfc2822.Rfc2822Locate.locate.Goals as goal
 
 pub after_all-requires : goal.after_all-requires

@@ -3,7 +3,7 @@ use Rattle.time_parsing.specs.Outcome.{begun}
 use Rattle.time_readers.specs.Rfc2822.{Asks, fault, nothing_read, places}
 use Rattle.time_locating.specs.Rfc2822.{wanted_from}
 use Rattle.time_locating.proofs.MailParts.{wanted_from-within}
-use Rattle.time_locating.proofs.PlaceMarks.{places_marked}
+use Rattle.time_locating.proofs.WholeTexts.{places_marked}
 use Rattle.time_locating.proofs.rfc2822.Rfc2822Locate.locate_component.Goals as goal
 
 pub returns-in-Ok : goal.returns-in-Ok

@@ -1,13 +1,12 @@
 use Rattle.std.proofs.Common.{[], true, length, refl, inl}
-use Rattle.time_values.specs.Range.{greatest_year}
+use Rattle.time_values.specs.Calendar.{greatest_year}
 use Rattle.time_readers.specs.Rfc3339.{Asks, nothing_read, places}
 use Rattle.time_parsing.specs.Outcome.{begun}
 use Rattle.time_parsing.specs.Rfc3339.{Reads}
-use Rattle.time_locating.specs.ByPlaces.{at_once}
+use Rattle.time_locating.specs.Marks.{at_once}
 use Rattle.time_locating.specs.Misses.{missed}
 use Rattle.time_locating.specs.Rfc3339.{wanted_at}
-use Rattle.time_locating.proofs.PlaceSteps.{left-within, stands-located}
-use Rattle.time_locating.proofs.WholeTexts.{reads_form}
+use Rattle.time_locating.proofs.WholeTexts.{left-within, stands-located, reads_form}
 use Rattle.time_locating.proofs.rfc3339.Rfc3339Locate.locate.Goals as goal
 
 pub after_all-requires : goal.after_all-requires

@@ -1,8 +1,8 @@
 use Rattle.std.proofs.Common.{inl, refl, true, arith}
 use Rattle.time_parsing.specs.Outcome.{begun}
 use Rattle.time_readers.specs.Rfc3339.{Asks, fault, nothing_read, places}
-use Rattle.time_locating.specs.ByPlaces.{at_once}
-use Rattle.time_locating.proofs.PlaceMarks.{places_marked}
+use Rattle.time_locating.specs.Marks.{at_once}
+use Rattle.time_locating.proofs.WholeTexts.{places_marked}
 use Rattle.time_locating.proofs.rfc3339.Rfc3339Locate.locate_component.Goals as goal
 
 pub returns-in-Ok : goal.returns-in-Ok

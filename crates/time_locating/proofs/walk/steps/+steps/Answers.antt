@@ -1,14 +1,10 @@
 use Rattle.std.proofs.Common.{◌≡◌, get_or, refl, ap, sym, subst, ◌∙◌, arith, false}
-use Rattle.time_components.specs.Steps.{steps_trees, tree_at}
-use Rattle.time_components.specs.Tree.{component, more, none}
-use Rattle.time_record.proofs.StepRows.{behind_first}
+use Rattle.time_components.specs.Tree.{steps_trees, tree_at, component, more, none}
+use Rattle.time_record.proofs.WalkSteps.{behind_first}
 use Rattle.time_locating.specs.Misses.{Misses}
-use Rattle.time_locating.proofs.ChoiceSteps.{Passes-kept, Passes-misses, Passes-none, Passes-nothing, Passes-reads, Passes-unread}
-use Rattle.time_locating.proofs.Leaves.{optional_reads}
-use Rattle.time_locating.proofs.MarkSteps.{CarriesAll-end, CarriesAll-reads, CarriesFirst-reads, CarriesFirst-unread, marks_read, marks_unread, no_marks}
-use Rattle.time_locating.proofs.Places.{empty_length, some_length}
-use Rattle.time_locating.proofs.StepRows.{first_tree, group_inside, literal_tree, no_item, no_steps, some_steps}
-use Rattle.time_locating.proofs.TurnSteps.{Follows-end, Follows-kept, Follows-misses, Follows-reads, Follows-unread}
+use Rattle.time_locating.proofs.TurnSteps.{Passes-kept, Passes-misses, Passes-none, Passes-nothing, Passes-reads, Passes-unread, optional_reads, Follows-end, Follows-kept, Follows-misses, Follows-reads, Follows-unread}
+use Rattle.time_locating.proofs.MarkSteps.{CarriesAll-end, CarriesAll-reads, CarriesFirst-reads, CarriesFirst-unread, marks_read, marks_unread, no_marks, empty_length, some_length}
+use Rattle.time_locating.proofs.MissLemmas.{first_tree, group_inside, literal_tree, no_item, no_steps, some_steps}
 use Rattle.time_locating.proofs.walk.steps.+steps.Goals as goal
 
 pub walk_first-returns-in-Some-unread-clause-reads : goal.walk_first-returns-in-Some-unread-clause-reads

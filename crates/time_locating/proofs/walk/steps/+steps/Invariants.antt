@@ -1,11 +1,10 @@
 use Rattle.std.proofs.Common.{◌+◌, ◌*◌, ◌≤◌, length}
-use Rattle.time_values.specs.Range.{greatest_year}
-use Rattle.time_components.specs.Steps.{steps_trees}
+use Rattle.time_values.specs.Calendar.{greatest_year}
+use Rattle.time_components.specs.Tree.{steps_trees}
 use Rattle.time_locating.specs.Located.{seen_miss}
 use Rattle.time_locating.specs.Misses.{first_byte}
-use Rattle.time_locating.proofs.ChoiceSteps.{Passes}
+use Rattle.time_locating.proofs.TurnSteps.{Passes, Follows}
 use Rattle.time_locating.proofs.MarkSteps.{CarriesAll, CarriesFirst}
-use Rattle.time_locating.proofs.TurnSteps.{Follows}
 use Rattle.time_locating.proofs.walk.steps.+steps.Given as goal
 
 abbrev pub decreases-walk_list : goal.decreases-walk_list

@@ -1,4 +1,4 @@
-use Rattle.time_locating.proofs.Leaves.{alone_reads, alone_unread, literal_misses-furthest, literal_reads}
+use Rattle.time_locating.proofs.TurnSteps.{alone_reads, alone_unread, literal_misses-furthest, literal_reads}
 use Rattle.time_locating.proofs.MarkSteps.{literal_marks, marks_unread}
 use Rattle.time_locating.proofs.walk.steps.literal.Goals as goal
 

@@ -1,5 +1,5 @@
 use Rattle.std.proofs.Common.{◌≡◌, ◌∷◌, length}
-use Rattle.time_components.specs.Steps.{further}
+use Rattle.time_components.specs.Tree.{further}
 use Rattle.time_locating.specs.Misses.{first_byte, literal_misses}
 use Rattle.time_locating.proofs.walk.steps.missed_in.Given as goal
 

@@ -1,5 +1,5 @@
 use Rattle.std.proofs.Common.{◌≡◌, ◌+◌, length, drop}
-use Rattle.time_components.specs.Steps.{further}
+use Rattle.time_components.specs.Tree.{further}
 use Rattle.time_locating.proofs.walk.steps.more_bytes.Given as goal
 
 abbrev pub invariant-loop-step : goal.invariant-loop-step

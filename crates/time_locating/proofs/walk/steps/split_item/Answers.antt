@@ -1,7 +1,7 @@
 use Rattle.std.proofs.Common.{◌+◌, ◌-◌, ◌≡◌, length, take, drop, subst, sym, ap, ◌∙◌, arith, length-take, length-drop}
-use Rattle.time_record.proofs.StepRows.{behind_first}
+use Rattle.time_record.proofs.WalkSteps.{behind_first}
 use Rattle.time_locating.specs.StepRows.{IsSplit}
-use Rattle.time_locating.proofs.StepRows.{inside_short, split_row}
+use Rattle.time_locating.proofs.MissLemmas.{inside_short, split_row}
 use Rattle.time_locating.proofs.walk.steps.split_item.Goals as goal
 
 pub overflow_sub-after : goal.overflow_sub-after

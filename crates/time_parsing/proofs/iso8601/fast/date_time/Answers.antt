@@ -1,5 +1,5 @@
 use Rattle.std.proofs.Common.{sym, ◌∙◌}
-use Rattle.time_parsing.proofs.IsoWhole.{plain-whole, moment-whole, no_bytes}
+use Rattle.time_parsing.proofs.IsoParts.{plain-whole, moment-whole, no_bytes}
 use Rattle.time_parsing.proofs.iso8601.fast.date_time.Goals as goal
 
 pub returns-in_ok-offset_to_the_end : goal.returns-in_ok-offset_to_the_end

@@ -1,5 +1,5 @@
 use Rattle.std.proofs.Common.{◌∙◌}
-use Rattle.time_parsing.proofs.IsoWhole.{moment-whole}
+use Rattle.time_parsing.proofs.IsoParts.{moment-whole}
 use Rattle.time_parsing.proofs.iso8601.fast.moment.Goals as goal
 
 pub returns : goal.returns

@@ -1,9 +1,9 @@
 use Rattle.std.proofs.Common.{◌≡◌, ◌∙◌, ◌≤◌, ℕ, Option, Some, IfSome, true, ap, arith, subst, sym}
-use Rattle.time_values.specs.Range.{greatest_year}
-use Rattle.time_readers.specs.Ranges.{IsWithin}
+use Rattle.time_values.specs.Calendar.{greatest_year}
+use Rattle.time_readers.specs.Readers.{IsWithin}
 use Rattle.time_readers.proofs.MailRanges.{InPlaces, HasForm-in_places}
 use Rattle.time_parsing.specs.Rfc2822.{date_entries, time_entries, offset_entries}
-use Rattle.time_parsing.proofs.EntryLemmas.{put_all-parts}
+use Rattle.time_parsing.proofs.TreeLemmas.{put_all-parts}
 use Rattle.time_parsing.proofs.rfc2822.Rfc2822Parsable.parse_into.Goals as goal
 use Rattle.time_parsing.proofs.rfc2822.Rfc2822Parsable.parse_into.Goals.{In-Ok}
 

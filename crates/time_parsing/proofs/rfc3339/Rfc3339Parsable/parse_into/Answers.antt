@@ -1,8 +1,8 @@
 use Rattle.std.proofs.Common.{◌≡◌, ◌∙◌, ◌<◌, ◌≤◌, ℕ, Option, Some, IfSome, true, ap, arith, subst, sym}
-use Rattle.time_values.specs.Range.{greatest_year}
-use Rattle.time_readers.proofs.Keeping.{InPlaces, HasForm-in_places}
+use Rattle.time_values.specs.Calendar.{greatest_year}
+use Rattle.time_readers.proofs.RangedForms.{InPlaces, HasForm-in_places}
 use Rattle.time_parsing.specs.Rfc3339.{date_entries, time_entries, offset_entries}
-use Rattle.time_parsing.proofs.EntryLemmas.{put_all-parts}
+use Rattle.time_parsing.proofs.TreeLemmas.{put_all-parts}
 use Rattle.time_parsing.proofs.rfc3339.Rfc3339Parsable.parse_into.Goals as goal
 use Rattle.time_parsing.proofs.rfc3339.Rfc3339Parsable.parse_into.Goals.{In-Ok}
 

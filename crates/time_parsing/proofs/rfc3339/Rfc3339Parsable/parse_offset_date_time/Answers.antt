@@ -1,8 +1,8 @@
-use Rattle.time_values.specs.Range.{greatest_year}
+use Rattle.time_values.specs.Calendar.{greatest_year}
 use Rattle.time_parsing.specs.Outcome.{seen}
 use Rattle.time_parsing.specs.exact.RecordedRfc3339.{direct-outcome}
 use Rattle.time_parsing.specs.Rfc3339.{Reads, Refuses}
-use Rattle.time_parsing.proofs.ResolvedLemmas.{outcome_before}
+use Rattle.time_parsing.proofs.OneOutcome.{outcome_before}
 use Rattle.time_parsing.proofs.rfc3339.Rfc3339Parsable.parse_offset_date_time.Goals as goal
 
 pub returns-in-None : goal.returns-in-None

@@ -1,5 +1,5 @@
 use Rattle.std.proofs.Common.{arith}
-use Rattle.time_values.specs.Range.{greatest_year}
+use Rattle.time_values.specs.Calendar.{greatest_year}
 use Rattle.time_preparing.proofs.Parts.{fraction_read, no_fraction}
 use Rattle.time_preparing.proofs.forms.fast.fraction.Goals as goal
 

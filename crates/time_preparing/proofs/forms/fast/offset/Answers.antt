@@ -3,7 +3,7 @@ use Rattle.std.proofs.lemmas.Bool.{le-leb}
 use Rattle.std.proofs.lemmas.Int.{ints, to_z-of_z}
 use Rattle.std.specs.Prelude.{FitsSigned, unsigned_abs}
 use Rattle.std.specs.Int.{w8}
-use Rattle.time_values.specs.Range.{greatest_year}
+use Rattle.time_values.specs.Calendar.{greatest_year}
 use Rattle.time_record.specs.Record.{Record}
 use Rattle.time_preparing.proofs.Parts.{offset_read, put_offset_hour, put_offset_minute}
 use Rattle.time_preparing.proofs.forms.fast.offset.Goals as goal

@@ -1,5 +1,5 @@
 use Rattle.std.proofs.Common.{refl, arith}
-use Rattle.time_digits.proofs.PaddedRuns.{full_run}
+use Rattle.time_digits.proofs.Runs.{full_run}
 use Rattle.time_preparing.proofs.forms.fast.places.Goals as goal
 
 pub returns-in-Some : goal.returns-in-Some

@@ -1,5 +1,5 @@
 use Rattle.std.proofs.Common.{Some, arith}
-use Rattle.time_values.specs.Range.{greatest_year}
+use Rattle.time_values.specs.Calendar.{greatest_year}
 use Rattle.time_record.specs.Record.{Record}
 use Rattle.time_preparing.proofs.Parts.{no_seconds, put_second, seconds_read}
 use Rattle.time_preparing.proofs.forms.fast.second.Goals as goal

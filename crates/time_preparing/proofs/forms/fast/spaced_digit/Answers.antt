@@ -1,5 +1,5 @@
 use Rattle.std.proofs.Common.{arith}
-use Rattle.time_digits.proofs.PaddedRuns.{spaced_digit_cut}
+use Rattle.time_digits.proofs.Runs.{spaced_digit_cut}
 use Rattle.time_preparing.proofs.forms.fast.spaced_digit.Goals as goal
 
 pub returns-in-32 : goal.returns-in-32

@@ -3,8 +3,7 @@ use Rattle.std.proofs.lemmas.Bool.{le-leb}
 use Rattle.std.proofs.lemmas.Int.{ints}
 use Rattle.time_digits.specs.declared.Sign.TheVariants.{Positive}
 use Rattle.time_components.specs.Spelling.{signed}
-use Rattle.time_digits.proofs.PaddedRuns.{full_run}
-use Rattle.time_digits.proofs.Runs.{IsDigitRun-below}
+use Rattle.time_digits.proofs.Runs.{full_run, IsDigitRun-below}
 use Rattle.time_preparing.proofs.forms.fast.year.Goals as goal
 
 pub returns-clause-cut : goal.returns-clause-cut

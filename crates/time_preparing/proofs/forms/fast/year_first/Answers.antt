@@ -1,7 +1,7 @@
 use Rattle.std.proofs.Common.{Some, refl, arith}
 use Rattle.std.specs.Int.{w32}
 use Rattle.std.proofs.lemmas.Int.{to_z-of_z}
-use Rattle.time_values.specs.Range.{greatest_year}
+use Rattle.time_values.specs.Calendar.{greatest_year}
 use Rattle.time_components.specs.Spelling.{signed, month, number}
 use Rattle.time_components.specs.declared.format_description.Component.TheVariants.{CalendarYearFullExtendedRange, CalendarYearFullStandardRange, MonthNumerical, Day}
 use Rattle.time_record.specs.Record.{Record}

@@ -1,6 +1,6 @@
-use Rattle.time_values.specs.Range.{greatest_year}
+use Rattle.time_values.specs.Calendar.{greatest_year}
 use Rattle.time_record.specs.Resolution.{IsDated}
-use Rattle.time_preparing.proofs.Outcomes.{whole_outcome}
+use Rattle.time_preparing.proofs.Placing.{whole_outcome}
 use Rattle.time_preparing.proofs.parsable.fast.date.Goals as goal
 
 pub returns : goal.returns

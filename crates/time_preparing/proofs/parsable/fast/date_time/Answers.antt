@@ -1,6 +1,6 @@
-use Rattle.time_values.specs.Range.{greatest_year}
+use Rattle.time_values.specs.Calendar.{greatest_year}
 use Rattle.time_record.specs.Resolution.{IsPlain}
-use Rattle.time_preparing.proofs.Outcomes.{over_outcome, whole_outcome}
+use Rattle.time_preparing.proofs.Placing.{over_outcome, whole_outcome}
 use Rattle.time_preparing.proofs.parsable.fast.date_time.Goals as goal
 
 pub returns-in-Some : goal.returns-in-Some

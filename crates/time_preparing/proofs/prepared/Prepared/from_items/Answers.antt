@@ -1,6 +1,5 @@
 use Rattle.std.proofs.Common.{map, ◌∙◌}
-use Rattle.time_components.specs.Shape.{borrowed_shape}
-use Rattle.time_components.specs.Tree.{trees}
+use Rattle.time_components.specs.Tree.{borrowed_shape, trees}
 use Rattle.time_preparing.proofs.Placing.{prepares, unprepared}
 use Rattle.time_preparing.proofs.prepared.Prepared.from_items.Goals as goal
 

@@ -1,4 +1,4 @@
-use Rattle.time_values.specs.Range.{greatest_year}
+use Rattle.time_values.specs.Calendar.{greatest_year}
 use Rattle.time_preparing.specs.Walk.{fraction_tree}
 use Rattle.time_components.specs.Tree.{none}
 use Rattle.time_preparing.proofs.Parts.{read_all, tree_read}

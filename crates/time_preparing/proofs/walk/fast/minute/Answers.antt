@@ -1,5 +1,5 @@
 use Rattle.std.proofs.Common.{false}
-use Rattle.time_values.specs.Range.{greatest_year}
+use Rattle.time_values.specs.Calendar.{greatest_year}
 use Rattle.time_components.specs.Spelling.{number}
 use Rattle.time_components.specs.declared.format_description.Component.TheVariants.{Minute}
 use Rattle.time_record.proofs.ComponentLemmas.{spelled}

@@ -1,6 +1,6 @@
 use Rattle.std.proofs.Common.{false, Some, subst, w32}
 use Rattle.std.proofs.lemmas.Int.{to_z-of_z}
-use Rattle.time_values.specs.Range.{greatest_year}
+use Rattle.time_values.specs.Calendar.{greatest_year}
 use Rattle.time_components.specs.Spelling.{signed}
 use Rattle.time_components.specs.declared.format_description.Component.TheVariants.{CalendarYearFullExtendedRange}
 use Rattle.time_record.specs.Record.{put, Sets, year_is}

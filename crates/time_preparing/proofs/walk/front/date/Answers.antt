@@ -1,5 +1,5 @@
 use Rattle.std.proofs.Common.{false}
-use Rattle.time_values.specs.Range.{greatest_year}
+use Rattle.time_values.specs.Calendar.{greatest_year}
 use Rattle.time_components.specs.Tree.{component, none}
 use Rattle.time_components.specs.declared.format_description.Component.TheVariants.{CalendarYearFullExtendedRange, MonthNumerical, Day}
 use Rattle.time_preparing.specs.declared.forms.TheConstants.{YEAR, MONTH, DAY}

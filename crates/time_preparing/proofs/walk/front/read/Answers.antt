@@ -1,10 +1,10 @@
 use Rattle.std.proofs.Common.{[], ◌∷◌, false, inr, arith}
-use Rattle.time_values.specs.Range.{greatest_year}
+use Rattle.time_values.specs.Calendar.{greatest_year}
 use Rattle.time_components.specs.Tree.{component, none, more}
-use Rattle.time_components.specs.declared.step.Step.TheVariants as step
+use Rattle.time_components.specs.declared.inspect.Step.TheVariants as step
 use Rattle.time_preparing.specs.Walk.{fraction_tree, seconds_tree}
 use Rattle.time_preparing.specs.declared.joined.Joined.TheVariants.{Byte, Component, Date, DayFirst, MonthDay, Time, Fraction, Seconds}
-use Rattle.time_preparing.proofs.Fronts.{plain_front, whole_front}
+use Rattle.time_preparing.proofs.Going.{plain_front, whole_front}
 use Rattle.time_preparing.proofs.Parts.{byte_may_read, tree_may_read}
 use Rattle.time_preparing.proofs.Rows.{fraction_row, plain_row, second_row}
 use Rattle.time_preparing.proofs.walk.front.read.Goals as goal

@@ -1,6 +1,6 @@
 use Rattle.std.proofs.Common.{Some, ap, sym, ◌∙◌, inl, arith}
-use Rattle.time_digits.proofs.CutLemmas.{take-drop}
-use Rattle.time_readers.proofs.ShortCuts.{cfws-short}
+use Rattle.time_digits.proofs.WordBytes.{take-drop}
+use Rattle.time_readers.proofs.OpenComments.{cfws-short}
 use Rattle.time_readers.proofs.rfc2822.fast.cfws.Goals as goal
 
 pub returns-in-32 : goal.returns-in-32

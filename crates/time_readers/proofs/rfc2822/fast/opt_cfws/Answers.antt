@@ -1,7 +1,7 @@
 use Rattle.std.proofs.Common.{Some, ap, sym, ◌∙◌, arith}
 use Rattle.std.proofs.lemmas.Bool.{eqb-true}
-use Rattle.time_digits.proofs.CutLemmas.{take-drop}
-use Rattle.time_readers.proofs.ShortCuts.{opt_cfws-empty, opt_cfws-short, opt_cfws-one}
+use Rattle.time_digits.proofs.WordBytes.{take-drop}
+use Rattle.time_readers.proofs.OpenComments.{opt_cfws-empty, opt_cfws-short, opt_cfws-one}
 use Rattle.time_readers.proofs.rfc2822.fast.opt_cfws.Goals as goal
 
 pub returns-then-is_empty : goal.returns-then-is_empty

@@ -1,7 +1,6 @@
 use Rattle.std.proofs.Common.{◌∙◌}
 use Rattle.time_readers.specs.MailBlanks.{cfws}
-use Rattle.time_readers.proofs.MailBlanks.{cfws-takes}
-use Rattle.time_readers.proofs.MailPlaces.{read-answer}
+use Rattle.time_readers.proofs.MailBlanks.{cfws-takes, read-answer}
 use Rattle.time_readers.proofs.Repeats.{takes-leaves}
 use Rattle.time_readers.proofs.rfc2822.grammar.blanks_with_comments.Goals as goal
 

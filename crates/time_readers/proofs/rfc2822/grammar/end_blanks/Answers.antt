@@ -1,7 +1,6 @@
 use Rattle.std.proofs.Common.{Some}
 use Rattle.time_readers.specs.MailBlanks.{opt_cfws}
-use Rattle.time_readers.proofs.MailBlanks.{opt_cfws-leaves}
-use Rattle.time_readers.proofs.MailPlaces.{read-answer}
+use Rattle.time_readers.proofs.MailBlanks.{opt_cfws-leaves, read-answer}
 use Rattle.time_readers.proofs.rfc2822.grammar.end_blanks.Goals as goal
 
 pub returns : goal.returns

@@ -1,7 +1,6 @@
 use Rattle.std.proofs.Common.{◌∙◌}
 use Rattle.time_readers.specs.MailBlanks.{opt_cfws_colon_opt_cfws}
-use Rattle.time_readers.proofs.MailBlanks.{colon-leaves}
-use Rattle.time_readers.proofs.MailPlaces.{read-answer}
+use Rattle.time_readers.proofs.MailBlanks.{colon-leaves, read-answer}
 use Rattle.time_readers.proofs.rfc2822.grammar.hour_colon.Goals as goal
 
 pub returns : goal.returns

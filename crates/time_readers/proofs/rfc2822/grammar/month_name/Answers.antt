@@ -1,6 +1,6 @@
 use Rattle.std.proofs.Common.{refl}
 use Rattle.time_components.specs.Spelling.{month}
-use Rattle.time_readers.proofs.MailPlaces.{Reads-none}
+use Rattle.time_readers.proofs.MailBlanks.{Reads-none}
 use Rattle.time_readers.proofs.rfc2822.grammar.month_name.Goals as goal
 
 pub returns-in_err-found : goal.returns-in_err-found

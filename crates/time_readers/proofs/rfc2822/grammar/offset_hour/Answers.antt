@@ -1,12 +1,11 @@
 use Rattle.std.proofs.Common.{◌≡◌, pos, ◌∷◌, [], ◌++◌, drop, None, Some, refl, ap, sym, ◌∙◌, inl, inr, arith, rules, w8, SFits}
 use Rattle.std.proofs.lemmas.Int.{to_z-of_z}
 use Rattle.std.proofs.lemmas.Option.{none-some}
-use Rattle.time_digits.specs.Bytes.{sign_byte}
+use Rattle.time_digits.specs.Digits.{sign_byte}
 use Rattle.time_values.specs.Sign.{signed_by}
-use Rattle.time_readers.specs.MailZones.{zone_literal}
-use Rattle.time_readers.proofs.MailOffset.{no_zone}
-use Rattle.time_readers.proofs.MailPlaces.{Reads-none, two_digits-below}
-use Rattle.time_readers.proofs.MailZones.{zone-cut}
+use Rattle.time_readers.specs.MailBlanks.{zone_literal}
+use Rattle.time_readers.proofs.MailOffset.{no_zone, zone-cut}
+use Rattle.time_readers.proofs.MailBlanks.{Reads-none, two_digits-below}
 use Rattle.time_readers.proofs.rfc2822.grammar.offset_hour.Goals as goal
 
 pub returns-in_err-zone : goal.returns-in_err-zone

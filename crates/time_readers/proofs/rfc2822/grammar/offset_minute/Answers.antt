@@ -1,5 +1,5 @@
 use Rattle.std.proofs.Common.{arith}
-use Rattle.time_readers.proofs.MailPlaces.{two_digits-below}
+use Rattle.time_readers.proofs.MailBlanks.{two_digits-below}
 use Rattle.time_readers.proofs.rfc2822.grammar.offset_minute.Goals as goal
 
 pub signed-numbers-requires : goal.signed-numbers-requires

@@ -1,5 +1,5 @@
 use Rattle.std.proofs.Common.{Some, refl, sym}
-use Rattle.time_readers.proofs.MailPlaces.{second-cut}
+use Rattle.time_readers.proofs.MailBlanks.{second-cut}
 use Rattle.time_readers.proofs.rfc2822.grammar.second.Goals as goal
 
 pub returns : goal.returns

@@ -2,9 +2,8 @@ use Rattle.std.proofs.Common.{None, Some, refl, sym}
 use Rattle.time_components.specs.Spelling.{weekday}
 use Rattle.time_readers.specs.Rfc2822.{IsShortWeekday}
 use Rattle.time_readers.specs.MailBlanks.{opt_cfws}
-use Rattle.time_readers.proofs.MailBlanks.{opt_cfws-leaves}
-use Rattle.time_readers.proofs.MailPlaces.{Reads-none, read-cut, weekday-cut, no_comma}
-use Rattle.time_components.proofs.ShortNames.{weekday_one, spelled}
+use Rattle.time_readers.proofs.MailBlanks.{opt_cfws-leaves, Reads-none, read-cut, weekday-cut, no_comma}
+use Rattle.time_components.proofs.NameLemmas.{weekday_one, spelled}
 use Rattle.time_readers.proofs.rfc2822.grammar.weekday_name.Goals as goal
 
 pub returns-in_default : goal.returns-in_default

@@ -1,7 +1,7 @@
 use Rattle.std.proofs.Common.{false, refl}
 use Rattle.time_readers.specs.Rfc2822.{Asks}
 use Rattle.time_readers.specs.declared.rfc2822.Place.TheVariants as place
-use Rattle.time_readers.proofs.MailPlaces.{Reads-none, no_year}
+use Rattle.time_readers.proofs.MailBlanks.{Reads-none, no_year}
 use Rattle.time_readers.proofs.rfc2822.grammar.year.Goals as goal
 
 pub returns-then-full-lt1900 : goal.returns-then-full-lt1900

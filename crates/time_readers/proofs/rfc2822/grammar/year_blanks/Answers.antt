@@ -1,5 +1,5 @@
 use Rattle.std.proofs.Common.{true, false, ◌∙◌}
-use Rattle.time_readers.proofs.MailPlaces.{after-year}
+use Rattle.time_readers.proofs.MailBlanks.{after-year}
 use Rattle.time_readers.proofs.rfc2822.grammar.year_blanks.Goals as goal
 
 pub returns-then-year_is_full : goal.returns-then-year_is_full

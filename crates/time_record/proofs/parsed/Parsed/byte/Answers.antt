@@ -2,9 +2,9 @@ use Rattle.std.proofs.Common.{◌≡◌, pos, slice_index_or, sym, ◌∙◌, ar
 use Rattle.std.specs.Int.{w8}
 use Rattle.std.specs.Prelude.{FitsSigned}
 use Rattle.std.proofs.lemmas.Int.{to_z-of_z}
-use Rattle.time_values.specs.Range.{greatest_year}
+use Rattle.time_values.specs.Calendar.{greatest_year}
 use Rattle.time_record.specs.Cells.{value_at}
-use Rattle.time_record.specs.Layout.{record_of}
+use Rattle.time_record.specs.Inverse.{record_of}
 use Rattle.time_record.proofs.CellLemmas.{read_in_cell, reads_none, reads_some, value_byte}
 use Rattle.time_record.proofs.parsed.Parsed.byte.Goals as goal
 

@@ -1,5 +1,5 @@
 use Rattle.std.proofs.Common.{◌∙◌}
-use Rattle.time_record.specs.Layout.{record_of}
+use Rattle.time_record.specs.Inverse.{record_of}
 use Rattle.time_record.proofs.CellLemmas.{bit_holds}
 use Rattle.time_record.proofs.parsed.Parsed.flag.Goals as goal
 

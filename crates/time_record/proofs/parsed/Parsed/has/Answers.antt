@@ -1,7 +1,7 @@
 use Rattle.std.proofs.Common.{◌≡◌, ◌&&◌, ℕ, Bool, cond, eqb, ap, ◌∙◌, true}
 use Rattle.time_record.specs.Cells.{bit}
 use Rattle.time_record.specs.CellAnswers.{changed, holds}
-use Rattle.time_record.specs.Layout.{record_of}
+use Rattle.time_record.specs.Inverse.{record_of}
 use Rattle.time_record.proofs.CellLemmas.{bit_holds, three_set}
 use Rattle.time_record.proofs.parsed.Parsed.has.Goals as goal
 

@@ -1,6 +1,6 @@
 use Rattle.std.proofs.Common.{refl, arith}
 use Rattle.time_record.proofs.Counting.{CountsAll-end, CountsAll-refuses, CountsAll-reads}
-use Rattle.time_record.proofs.Steps.{Continues-refuses, Continues-reads, Continues-end}
+use Rattle.time_record.proofs.Unique.{Continues-refuses, Continues-reads, Continues-end}
 use Rattle.time_record.proofs.parsed.Parsed.parse_items_counted.Goals as goal
 
 pub returns-in-Err-clause-answers : goal.returns-in-Err-clause-answers

@@ -1,7 +1,7 @@
-use Rattle.time_values.specs.Range.{greatest_year}
-use Rattle.time_record.specs.Count.{BeginsAll}
+use Rattle.time_values.specs.Calendar.{greatest_year}
+use Rattle.time_record.specs.Reading.{BeginsAll}
 use Rattle.time_record.proofs.Counting.{Counted}
-use Rattle.time_record.proofs.Steps.{Continues}
+use Rattle.time_record.proofs.Unique.{Continues}
 use Rattle.time_record.proofs.parsed.Parsed.parse_items_counted.Given as goal
 
 abbrev pub invariant-loop-item : goal.invariant-loop-item

@@ -1,11 +1,11 @@
 use Rattle.std.proofs.Common.{ap, ◌∙◌, arith}
 use Rattle.std.specs.Int.{w128}
 use Rattle.std.proofs.lemmas.Int.{to_z-of_z}
-use Rattle.time_values.specs.Range.{greatest_year}
+use Rattle.time_values.specs.Calendar.{greatest_year}
 use Rattle.time_values.proofs.InstantLemmas.{is_instant-IsInstant}
 use Rattle.time_record.specs.Cells.{bit, value_at}
 use Rattle.time_record.specs.CellAnswers.{put_cell}
-use Rattle.time_record.specs.Layout.{record_of}
+use Rattle.time_record.specs.Inverse.{record_of}
 use Rattle.time_record.proofs.CellLemmas.{put_is, sound_after, value_set_stamp}
 use Rattle.time_record.proofs.parsed.Parsed.put_stamp.Goals as goal
 

@@ -2,10 +2,10 @@ use Rattle.std.proofs.Common.{◌-◌, set, ap, ◌∙◌, arith}
 use Rattle.std.specs.Int.{w32}
 use Rattle.std.proofs.lemmas.Int.{to_z-of_z}
 use Rattle.std.proofs.lemmas.List.{length-set}
-use Rattle.time_values.specs.Range.{greatest_year}
+use Rattle.time_values.specs.Calendar.{greatest_year}
 use Rattle.time_record.specs.Cells.{bit, value_at}
 use Rattle.time_record.specs.CellAnswers.{put_cell}
-use Rattle.time_record.specs.Layout.{record_of}
+use Rattle.time_record.specs.Inverse.{record_of}
 use Rattle.time_record.proofs.CellLemmas.{put_is, sound_after, value_set_word}
 use Rattle.time_record.proofs.parsed.Parsed.put_word.Goals as goal
 

@@ -1,8 +1,8 @@
 use Rattle.std.proofs.Common.{ap, ◌∙◌}
-use Rattle.time_values.specs.Range.{greatest_year}
+use Rattle.time_values.specs.Calendar.{greatest_year}
 use Rattle.time_record.specs.Cells.{bit, value_at}
 use Rattle.time_record.specs.CellAnswers.{put_flag}
-use Rattle.time_record.specs.Layout.{record_of}
+use Rattle.time_record.specs.Inverse.{record_of}
 use Rattle.time_record.proofs.CellLemmas.{flag_is, sound_flag}
 use Rattle.time_record.proofs.parsed.Parsed.set_flag.Goals as goal
 

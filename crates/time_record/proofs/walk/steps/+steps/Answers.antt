@@ -1,12 +1,9 @@
 use Rattle.std.proofs.Common.{ap, sym, subst, ◌∙◌, length, drop, ◌-◌, refl, arith, length-take, length-drop}
-use Rattle.time_values.specs.Range.{greatest_year}
-use Rattle.time_components.specs.Steps.{steps_after, steps_trees, tree_at}
-use Rattle.time_components.specs.Tree.{more}
-use Rattle.time_record.specs.Count.{raised}
-use Rattle.time_record.proofs.ChooseSteps.{Chooses-start, Chooses-reads, Chooses-counts, Chooses-refused, Chooses-fault, Chooses-nothing, Chooses-counts_end}
-use Rattle.time_record.proofs.Counting.{Counts-sequence}
-use Rattle.time_record.proofs.StepRows.{behind_first, first_item, steps_trees-end}
-use Rattle.time_record.proofs.WalkSteps.{Goes-end, Goes-refused, Walked, Walked-counts, Walked-counts_refused, Walked-further, Walked-reads, raised_further}
+use Rattle.time_values.specs.Calendar.{greatest_year}
+use Rattle.time_components.specs.Tree.{steps_after, steps_trees, tree_at, more}
+use Rattle.time_record.specs.Reading.{raised}
+use Rattle.time_record.proofs.Counting.{Chooses-start, Chooses-reads, Chooses-counts, Chooses-refused, Chooses-fault, Chooses-nothing, Chooses-counts_end, Counts-sequence}
+use Rattle.time_record.proofs.WalkSteps.{behind_first, first_item, steps_trees-end, Goes-end, Goes-refused, Walked, Walked-counts, Walked-counts_refused, Walked-further, Walked-reads, raised_further}
 use Rattle.time_record.proofs.walk.steps.+steps.Goals as goal
 
 pub walk_group-returns-in-Optional-clause-counts : goal.walk_group-returns-in-Optional-clause-counts

@@ -1,8 +1,8 @@
 use Rattle.std.proofs.Common.{◌+◌, ◌-◌, ◌*◌, ◌≤◌, length, Some}
-use Rattle.time_values.specs.Range.{greatest_year}
-use Rattle.time_components.specs.Steps.{steps_trees}
-use Rattle.time_record.specs.Count.{raised}
-use Rattle.time_record.proofs.ChooseSteps.{Chooses}
+use Rattle.time_values.specs.Calendar.{greatest_year}
+use Rattle.time_components.specs.Tree.{steps_trees}
+use Rattle.time_record.specs.Reading.{raised}
+use Rattle.time_record.proofs.Counting.{Chooses}
 use Rattle.time_record.proofs.WalkSteps.{Walked}
 use Rattle.time_record.proofs.walk.steps.+steps.Given as goal
 

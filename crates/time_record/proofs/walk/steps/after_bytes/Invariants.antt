@@ -1,6 +1,6 @@
 use Rattle.std.proofs.Common.{length}
-use Rattle.time_components.specs.Steps.{further}
-use Rattle.time_record.proofs.Literals.{Strips}
+use Rattle.time_components.specs.Tree.{further}
+use Rattle.time_record.proofs.ComponentLemmas.{Strips}
 use Rattle.time_record.proofs.walk.steps.after_bytes.Given as goal
 
 abbrev pub invariant-loop-byte : goal.invariant-loop-byte

@@ -1,5 +1,5 @@
 use Rattle.std.proofs.Common.{◌≡◌, ◌≤◌, length, drop}
-use Rattle.time_components.specs.Steps.{further}
+use Rattle.time_components.specs.Tree.{further}
 use Rattle.time_record.proofs.walk.steps.after_further.Given as goal
 
 abbrev pub invariant-loop-behind : goal.invariant-loop-behind

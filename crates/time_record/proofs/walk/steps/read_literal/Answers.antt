@@ -1,7 +1,6 @@
 use Rattle.std.proofs.Common.{◌∷◌, refl, sym, arith}
-use Rattle.time_components.specs.Steps.{further}
-use Rattle.time_record.proofs.ComponentLemmas.{reads_literal, refuses_literal}
-use Rattle.time_record.proofs.Literals.{Strips-more, Strips-other, Strips-start}
+use Rattle.time_components.specs.Tree.{further}
+use Rattle.time_record.proofs.ComponentLemmas.{reads_literal, refuses_literal, Strips-more, Strips-other, Strips-start}
 use Rattle.time_record.proofs.walk.steps.read_literal.Goals as goal
 
 pub returns-in-Some : goal.returns-in-Some

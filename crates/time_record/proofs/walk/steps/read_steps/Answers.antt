@@ -1,10 +1,8 @@
 use Rattle.std.proofs.Common.{ap, subst, ◌∙◌, length, drop, ◌-◌, arith, length-take, length-drop}
-use Rattle.time_values.specs.Range.{greatest_year}
-use Rattle.time_components.specs.Steps.{steps_trees, tree_at}
-use Rattle.time_components.specs.Tree.{more}
+use Rattle.time_values.specs.Calendar.{greatest_year}
+use Rattle.time_components.specs.Tree.{steps_trees, tree_at, more}
 use Rattle.time_record.specs.WalkSteps.{Goes}
-use Rattle.time_record.proofs.StepRows.{behind_first, first_item}
-use Rattle.time_record.proofs.WalkSteps.{Goes-leaf}
+use Rattle.time_record.proofs.WalkSteps.{behind_first, first_item, Goes-leaf}
 use Rattle.time_record.proofs.walk.steps.read_steps.Goals as goal
 
 pub loop-left-preserved : goal.loop-left-preserved

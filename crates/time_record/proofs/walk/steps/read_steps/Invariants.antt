@@ -1,6 +1,6 @@
 use Rattle.std.proofs.Common.{length, ◌-◌, ◌≤◌}
-use Rattle.time_values.specs.Range.{greatest_year}
-use Rattle.time_components.specs.Steps.{steps_trees}
+use Rattle.time_values.specs.Calendar.{greatest_year}
+use Rattle.time_components.specs.Tree.{steps_trees}
 use Rattle.time_record.specs.WalkSteps.{Goes}
 use Rattle.time_record.proofs.walk.steps.read_steps.Given as goal
 

@@ -1,12 +1,10 @@
 use Rattle.std.proofs.Common.{refl, arith, rules}
-use Rattle.time_values.specs.Range.{greatest_year}
-use Rattle.time_components.specs.Steps.{steps_trees}
-use Rattle.time_components.specs.Tree.{first_of}
-use Rattle.time_components.specs.declared.step.Group.TheVariants as groups
-use Rattle.time_record.specs.Count.{raised}
+use Rattle.time_values.specs.Calendar.{greatest_year}
+use Rattle.time_components.specs.Tree.{steps_trees, first_of}
+use Rattle.time_components.specs.declared.inspect.Group.TheVariants as groups
+use Rattle.time_record.specs.Reading.{raised}
 use Rattle.time_record.proofs.Counting.{Counts-first_of, Counts-sequence}
-use Rattle.time_record.proofs.StepRows.{behind_first, whole_group}
-use Rattle.time_record.proofs.WalkSteps.{Answers-one, Counts-one, raised_twice}
+use Rattle.time_record.proofs.WalkSteps.{behind_first, whole_group, Answers-one, Counts-one, raised_twice}
 use Rattle.time_record.proofs.walk.steps.walk_steps.Goals as goal
 
 pub returns-in-Group-clause-answers : goal.returns-in-Group-clause-answers

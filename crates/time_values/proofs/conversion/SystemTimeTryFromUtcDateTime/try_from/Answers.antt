@@ -1,8 +1,7 @@
 use Rattle.std.proofs.Common.{◌≡◌, ap, subst, arith, w64, ℤ, pos, ◌+ℤ◌, ◌*ℤ◌, to_z, of_z}
 use Rattle.std.proofs.lemmas.Int.{ints}
-use Rattle.time_values.specs.Moments.{utc_instant}
-use Rattle.time_values.specs.Range.{greatest_year}
-use Rattle.time_values.specs.SystemClock.{ConstructsSystemTime}
+use Rattle.time_values.specs.Moments.{utc_instant, ConstructsSystemTime}
+use Rattle.time_values.specs.Calendar.{greatest_year}
 use Rattle.time_values.specs.Times.{nanosecond}
 use Rattle.time_values.proofs.InstantLemmas.{clock_nanos_is}
 use Rattle.time_values.proofs.conversion.SystemTimeTryFromUtcDateTime.try_from.Goals as goal

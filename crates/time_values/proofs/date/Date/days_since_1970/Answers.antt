@@ -1,11 +1,9 @@
 use Rattle.std.proofs.Common.{◌+◌, refl, arith}
 use Rattle.std.proofs.lemmas.Int.{ints}
-use Rattle.time_values.specs.Calendar.{years_before}
+use Rattle.time_values.specs.Calendar.{years_before, greatest_year}
 use Rattle.time_values.specs.March.{march_days, march_year}
-use Rattle.time_values.specs.Month.{month_number}
-use Rattle.time_values.specs.Range.{greatest_year}
-use Rattle.time_values.proofs.MarchLemmas.{days_by_march, march_days_in}
-use Rattle.time_values.proofs.NumberLemmas.{month_number_in}
+use Rattle.time_values.specs.Names.{month_number}
+use Rattle.time_values.proofs.NumberLemmas.{days_by_march, march_days_in, month_number_in}
 use Rattle.time_values.proofs.date.Date.days_since_1970.Goals as goal
 
 pub returns-clause-value : goal.returns-clause-value

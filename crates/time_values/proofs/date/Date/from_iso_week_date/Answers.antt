@@ -1,11 +1,9 @@
 use Rattle.std.proofs.Common.{◌+◌, ◌-◌, ◌*◌, inl, inr, arith, rules, FitsSigned, w32}
 use Rattle.std.proofs.lemmas.Int.{ints, to_z-of_z}
-use Rattle.time_values.specs.Calendar.{year_start, year_length, IsYear}
-use Rattle.time_values.specs.Range.{greatest_year}
-use Rattle.time_values.specs.Weekday.{days_from_monday}
+use Rattle.time_values.specs.Calendar.{year_start, year_length, IsYear, greatest_year}
+use Rattle.time_values.specs.Names.{days_from_monday}
 use Rattle.time_values.specs.Dates.{day_number}
-use Rattle.time_values.proofs.YearLemmas.{year_length-leap_day}
-use Rattle.time_values.proofs.WeekLemmas.{thursdays_from_first, iso_day_at, has_iso_week}
+use Rattle.time_values.proofs.YearLemmas.{year_length-leap_day, thursdays_from_first, iso_day_at, has_iso_week}
 use Rattle.time_values.proofs.date.Date.from_iso_week_date.Goals as goal
 use Rattle.time_values.proofs.date.Date.from_iso_week_date.Goals.{After-first_thursday-thursday, then-week-eq0-via-then-week-eq0, then-week-eq0-via-else-week-eq0+then-week-year_length}
 

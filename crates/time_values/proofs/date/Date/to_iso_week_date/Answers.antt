@@ -1,9 +1,8 @@
 use Rattle.std.proofs.Common.{arith, rules, refl, FitsSigned, w32}
 use Rattle.std.proofs.lemmas.Int.{ints, to_z-of_z}
 use Rattle.time_values.specs.Dates.{day_number}
-use Rattle.time_values.specs.Range.{greatest_year}
-use Rattle.time_values.proofs.YearLemmas.{year_end, day_limit-weekday}
-use Rattle.time_values.proofs.WeekLemmas.{iso_week_at}
+use Rattle.time_values.specs.Calendar.{greatest_year}
+use Rattle.time_values.proofs.YearLemmas.{year_end, day_limit-weekday, iso_week_at}
 use Rattle.time_values.proofs.date.Date.to_iso_week_date.Goals as goal
 
 pub unreachable-requires : goal.unreachable-requires

@@ -1,6 +1,6 @@
 use Rattle.std.proofs.Common.{arith}
 use Rattle.std.proofs.lemmas.Int.{ints}
-use Rattle.time_values.proofs.MarchLemmas.{march_years_at, march_year_in}
+use Rattle.time_values.proofs.NumberLemmas.{march_years_at, march_year_in}
 use Rattle.time_values.proofs.month.Month.march_years.Goals as goal
 
 pub returns-clause-bound : goal.returns-clause-bound

@@ -2,9 +2,9 @@ use Rattle.std.proofs.Common.{◌≡◌, ◌∙◌, arith, rules, refl, FitsSign
 use Rattle.std.specs.Int.{w128}
 use Rattle.std.proofs.lemmas.Int.{ints, to_z-of_z}
 use Rattle.time_values.specs.Instants.{clock_nanos, timestamp_refusal}
-use Rattle.time_values.specs.Range.{greatest_year}
+use Rattle.time_values.specs.Calendar.{greatest_year}
 use Rattle.time_values.proofs.InstantLemmas.{instant_is}
-use Rattle.time_values.proofs.RefusalLemmas.{Constructs-map}
+use Rattle.time_values.proofs.NumberLemmas.{Constructs-map}
 use Rattle.time_values.proofs.offset_date_time.OffsetDateTime.from_unix_timestamp_nanos.Goals as goal
 
 pub returns : goal.returns

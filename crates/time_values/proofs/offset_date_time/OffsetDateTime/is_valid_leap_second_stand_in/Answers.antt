@@ -1,6 +1,5 @@
 use Rattle.std.proofs.Common.{◌∙◌, sym}
-use Rattle.time_values.proofs.SameLemmas.{same_moment}
-use Rattle.time_values.proofs.InstantLemmas.{clock_nanos_range}
+use Rattle.time_values.proofs.InstantLemmas.{same_moment, clock_nanos_range}
 use Rattle.time_values.proofs.offset_date_time.OffsetDateTime.is_valid_leap_second_stand_in.Goals as goal
 
 pub returns-in-Some : goal.returns-in-Some

@@ -1,6 +1,18 @@
-use Rattle.std.proofs.Common.{◌∙◌, ◌++◌, ap, take, arith, rules}
-use Rattle.time_values.proofs.TextLemmas.{some_put}
+use Rattle.std.proofs.Common.{◌≡◌, ℕ, ◌+◌, ◌≤◌, List, ◌++◌, length, take, drop, sym, ap, ◌∙◌, arith, rules}
+use Rattle.std.proofs.lemmas.List.{take-append-le, length-take-le}
+use Rattle.std.proofs.Math.Seq.{take-append-add}
+use borrow.Rule.Slice.PartMut.{put_mid}
 use Rattle.time_values.proofs.text.Text.append_some.Goals as goal
+
+-- ---- Bytes put into an array
+
+-- the front of an array up to a part of what was put
+some_put : (xs ys : List ℕ) (a k count : ℕ) → a ≤ length xs → count ≤ length ys
+    → take (a + count) (put_mid a k xs ys) ≡ take a xs ++ take count ys
+some_put xs ys a k count h g =
+    let long : length (take a xs) ≡ a = length-take-le a xs h in
+    ap (λ n. take (n + count) (put_mid a k xs ys)) (sym long) ∙ take-append-add (take a xs) (ys ++ drop k (drop a xs)) count
+    ∙ ap (λ l. take a xs ++ l) (take-append-le count ys (drop k (drop a xs)) g)
 
 pub returns : goal.returns
 returns c =

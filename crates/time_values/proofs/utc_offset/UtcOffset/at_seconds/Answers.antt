@@ -1,6 +1,6 @@
 use Rattle.std.proofs.Common.{arith}
 use Rattle.std.proofs.lemmas.Int.{ints}
-use Rattle.time_values.proofs.SignLemmas.{below-one}
+use Rattle.time_values.proofs.YearLemmas.{below-one}
 use Rattle.time_values.proofs.utc_offset.UtcOffset.at_seconds.Goals as goal
 
 pub invariant_of-result-clause-one_sign : goal.invariant_of-result-clause-one_sign

@@ -1,8 +1,7 @@
 use Rattle.std.proofs.Common.{◌≡◌, ap, ◌∙◌, arith, w8}
 use Rattle.std.proofs.lemmas.Int.{ints, to_z-of_z}
 use Rattle.time_values.specs.Sign.{same_sign}
-use Rattle.time_values.proofs.OffsetLemmas.{no_offset_refusal}
-use Rattle.time_values.proofs.SignLemmas.{signed-one}
+use Rattle.time_values.proofs.YearLemmas.{no_offset_refusal, signed-one}
 use Rattle.time_values.proofs.utc_offset.UtcOffset.from_hms.Goals as goal
 
 pub invariant_of-result-clause-minutes_in : goal.invariant_of-result-clause-minutes_in

@@ -4,8 +4,8 @@ use Rattle.std.specs.Prelude.{IfSome}
 use Rattle.std.proofs.lemmas.Int.{to_z-of_z}
 use Rattle.jiff_core.proofs.SignedLemmas.{signed_arith}
 use Rattle.jiff_tz.specs.Tzif.{count_at}
-use Rattle.time_zones.specs.Rows.{IsRowOffset}
-use Rattle.time_zones.proofs.RowLemmas.{if_some, past_rows, row_offset}
+use Rattle.time_zones.specs.Spread.{IsRowOffset}
+use Rattle.time_zones.proofs.ZoneLemmas.{if_some, past_rows, row_offset}
 use Rattle.time_zones.proofs.clocks.fast.offset_by_rows.Goals as goal
 
 pub returns-then-second-last : goal.returns-then-second-last

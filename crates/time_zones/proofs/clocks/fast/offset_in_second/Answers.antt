@@ -2,8 +2,8 @@ use Rattle.std.proofs.Common.{◌∙◌, sym, arith}
 use Rattle.std.specs.Int.{w64}
 use Rattle.std.proofs.lemmas.Int.{to_z-of_z}
 use Rattle.jiff_core.proofs.SignedLemmas.{signed_arith}
-use Rattle.time_zones.specs.Rows.{HasOneOffset}
-use Rattle.time_zones.proofs.RowLemmas.{if_some, second_told, zone_row, zone_rule}
+use Rattle.time_zones.specs.Spread.{HasOneOffset}
+use Rattle.time_zones.proofs.ZoneLemmas.{if_some, second_told, zone_row, zone_rule}
 use Rattle.time_zones.proofs.clocks.fast.offset_in_second.Goals as goal
 
 pub returns-in-Tzif : goal.returns-in-Tzif

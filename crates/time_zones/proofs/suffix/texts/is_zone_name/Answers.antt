@@ -3,7 +3,7 @@ use Rattle.std.proofs.lemmas.Iterator.{cases_from_all}
 use Rattle.std.proofs.lemmas.Iterator.Splits.{YieldsList-from_slice_split}
 use Rattle.std.specs.List.{slice_split}
 use Rattle.time_zones.specs.Suffix.{IsTimeZonePart}
-use Rattle.time_zones.proofs.PassLemmas.{true_of_all}
+use Rattle.time_zones.proofs.NameLemmas.{true_of_all}
 use Rattle.time_zones.proofs.suffix.texts.is_zone_name.Goals as goal
 
 pub returns : goal.returns

@@ -1,8 +1,7 @@
 use Rattle.std.proofs.Common.{sym, ◌∙◌}
 use Rattle.std.proofs.lemmas.Bool.{false≢true}
 use Rattle.time_zones.specs.Suffix.{IsSuffixKey, AreSuffixValues}
-use Rattle.time_zones.proofs.PassLemmas.{if_none}
-use Rattle.time_zones.proofs.BracketLemmas.{no_key, bad_key}
+use Rattle.time_zones.proofs.NameLemmas.{if_none, no_key, bad_key}
 use Rattle.time_zones.proofs.suffix.texts.key_of.Goals as goal
 
 pub returns-in_err-values-clause-none : goal.returns-in_err-values-clause-none

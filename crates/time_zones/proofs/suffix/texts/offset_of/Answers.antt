@@ -1,5 +1,4 @@
-use Rattle.time_zones.proofs.PassLemmas.{if_none}
-use Rattle.time_zones.proofs.BracketLemmas.{no_offset}
+use Rattle.time_zones.proofs.NameLemmas.{if_none, no_offset}
 use Rattle.time_zones.proofs.suffix.texts.offset_of.Goals as goal
 
 pub returns-in_err-seconds-clause-none : goal.returns-in_err-seconds-clause-none

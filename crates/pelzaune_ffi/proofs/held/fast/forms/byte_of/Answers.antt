@@ -1,4 +1,4 @@
-use Rattle.pelzaune_ffi.proofs.HeldForms.{literal}
+use Rattle.pelzaune_ffi.proofs.HeldRows.{literal}
 use Rattle.pelzaune_ffi.proofs.held.fast.forms.byte_of.Goals as goal
 
 pub returns : goal.returns

@@ -1,6 +1,6 @@
 use Rattle.std.proofs.Common.{get_or, refl, false, arith}
-use Rattle.pelzaune_ffi.proofs.HeldForms.{flagged, padded, row_of}
-use Rattle.pelzaune_ffi.specs.Held.{chosen}
+use Rattle.pelzaune_ffi.proofs.HeldRows.{flagged, padded, row_of}
+use Rattle.pelzaune_ffi.specs.Described.{chosen}
 use Rattle.pelzaune_ffi.proofs.held.fast.forms.dated.Goals as goal
 
 pub returns-then-is_flagged-2 : goal.returns-then-is_flagged-2

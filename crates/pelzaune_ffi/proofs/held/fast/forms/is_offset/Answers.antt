@@ -1,5 +1,5 @@
 use Rattle.std.proofs.Common.{refl}
-use Rattle.pelzaune_ffi.proofs.HeldForms.{flagged, padded}
+use Rattle.pelzaune_ffi.proofs.HeldRows.{flagged, padded}
 use Rattle.pelzaune_ffi.proofs.held.fast.forms.is_offset.Goals as goal
 
 pub returns-then-is_flagged : goal.returns-then-is_flagged

@@ -1,6 +1,6 @@
 use Rattle.std.proofs.Common.{get_or, refl, false, arith}
-use Rattle.pelzaune_ffi.proofs.HeldForms.{padded, row_of}
-use Rattle.pelzaune_ffi.specs.Held.{chosen}
+use Rattle.pelzaune_ffi.proofs.HeldRows.{padded, row_of}
+use Rattle.pelzaune_ffi.specs.Described.{chosen}
 use Rattle.pelzaune_ffi.proofs.held.fast.forms.timed.Goals as goal
 
 pub returns : goal.returns

@@ -1,7 +1,7 @@
 use Rattle.std.proofs.Common.{◌≡◌, ◌≤◌, ◌∷◌, [], get_or, drop, arith, rules, None}
 use Rattle.time_digits.specs.Digits.{AllDigits}
-use Rattle.time_digits.proofs.CutLemmas.{take-drop}
-use Rattle.time_readers.specs.IsoFast.{two_digits}
+use Rattle.time_digits.proofs.WordBytes.{take-drop}
+use Rattle.time_readers.specs.IsoGrammar.{two_digits}
 use Rattle.time_readers.specs.IsoPieces.{point}
 use Rattle.pelzaune_ffi.proofs.IsoInPlace.{extended_time}
 use Rattle.pelzaune_ffi.proofs.moments.fast.iso8601.extended_time.Goals as goal

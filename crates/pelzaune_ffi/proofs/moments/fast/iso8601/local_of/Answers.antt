@@ -1,5 +1,5 @@
 use Rattle.std.proofs.Common.{sym, ◌∙◌}
-use Rattle.time_parsing.proofs.IsoWhole.{plain-whole, no_bytes}
+use Rattle.time_parsing.proofs.IsoParts.{plain-whole, no_bytes}
 use Rattle.pelzaune_ffi.proofs.moments.fast.iso8601.local_of.Goals as goal
 
 pub returns : goal.returns

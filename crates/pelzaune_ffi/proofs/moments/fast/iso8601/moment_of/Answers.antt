@@ -1,5 +1,5 @@
 use Rattle.std.proofs.Common.{◌∙◌}
-use Rattle.time_parsing.proofs.IsoWhole.{moment-whole}
+use Rattle.time_parsing.proofs.IsoParts.{moment-whole}
 use Rattle.pelzaune_ffi.proofs.moments.fast.iso8601.moment_of.Goals as goal
 
 pub returns : goal.returns

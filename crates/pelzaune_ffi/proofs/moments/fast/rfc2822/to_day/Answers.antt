@@ -1,5 +1,5 @@
 use Rattle.std.proofs.Common.{refl}
-use Rattle.time_readers.specs.Places.{Stand}
+use Rattle.time_readers.specs.Readers.{Stand}
 use Rattle.pelzaune_ffi.proofs.moments.fast.rfc2822.to_day.Goals as goal
 
 pub returns : goal.returns

@@ -1,5 +1,5 @@
 use Rattle.std.proofs.Common.{arith}
-use Rattle.time_values.specs.Range.{greatest_year}
+use Rattle.time_values.specs.Calendar.{greatest_year}
 use Rattle.time_preparing.proofs.Parts.{half_read}
 use Rattle.time_preparing.proofs.whole.fast.halves.numbers.Goals as goal
 

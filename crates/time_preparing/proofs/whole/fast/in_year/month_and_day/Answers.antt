@@ -1,5 +1,5 @@
 use Rattle.std.proofs.Common.{Some, refl, arith}
-use Rattle.time_values.specs.Range.{greatest_year}
+use Rattle.time_values.specs.Calendar.{greatest_year}
 use Rattle.time_components.specs.Spelling.{month, number}
 use Rattle.time_components.specs.declared.format_description.Component.TheVariants.{MonthShort, Day}
 use Rattle.time_record.specs.Record.{Record}

@@ -1,6 +1,6 @@
-use Rattle.time_values.specs.Range.{greatest_year}
+use Rattle.time_values.specs.Calendar.{greatest_year}
 use Rattle.time_record.specs.Resolution.{IsPlain}
-use Rattle.time_preparing.proofs.Outcomes.{whole_outcome}
+use Rattle.time_preparing.proofs.Placing.{whole_outcome}
 use Rattle.time_preparing.proofs.Wholes.{own}
 use Rattle.time_preparing.proofs.whole.fast.values.date_time.Goals as goal
 

@@ -1,5 +1,5 @@
 use Rattle.time_record.specs.Resolution.{IsTimed}
-use Rattle.time_preparing.proofs.Outcomes.{whole_outcome}
+use Rattle.time_preparing.proofs.Placing.{whole_outcome}
 use Rattle.time_preparing.proofs.Wholes.{own}
 use Rattle.time_preparing.proofs.whole.fast.values.time.Goals as goal
 

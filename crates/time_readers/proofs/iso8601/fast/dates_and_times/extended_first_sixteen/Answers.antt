@@ -1,6 +1,6 @@
 use Rattle.std.proofs.Common.{◌≡◌, ◌∙◌, ◌∷◌, length, ◌++◌, ap, sym, refl, arith}
 use Rattle.std.proofs.lemmas.List.{length-take-le, take-append-drop}
-use Rattle.time_digits.proofs.CutLemmas.{take-drop}
+use Rattle.time_digits.proofs.WordBytes.{take-drop}
 use Rattle.time_readers.proofs.IsoPieces.{byte-first}
 use Rattle.time_readers.proofs.IsoDatesAndTimes.{extended_first_sixteen}
 use Rattle.time_readers.proofs.iso8601.fast.dates_and_times.extended_first_sixteen.Goals as goal

@@ -1,5 +1,5 @@
 use Rattle.std.proofs.Common.{refl}
-use Rattle.time_readers.proofs.IsoFractions.{floor-is}
+use Rattle.time_readers.proofs.OneMailDate.{floor-is}
 use Rattle.time_readers.proofs.iso8601.grammar.times.past_minute.Goals as goal
 
 pub returns : goal.returns

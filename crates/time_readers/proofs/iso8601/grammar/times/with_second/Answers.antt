@@ -1,7 +1,7 @@
 use Rattle.std.proofs.Common.{refl, arith}
 use Rattle.std.proofs.lemmas.Bool.{le-leb, lt-ltb}
-use Rattle.time_readers.specs.IsoFractions.{round_of}
-use Rattle.time_readers.proofs.IsoFractions.{round-is}
+use Rattle.time_readers.specs.IsoTimes.{round_of}
+use Rattle.time_readers.proofs.OneMailDate.{round-is}
 use Rattle.time_readers.proofs.iso8601.grammar.times.with_second.Goals as goal
 use Rattle.time_readers.proofs.iso8601.grammar.times.with_second.Goals.{in-Some+else-nanoseconds-ge1000000000, in-None}
 

@@ -2,8 +2,8 @@ use Rattle.std.proofs.Common.{Ok, Err, w32, FitsSigned}
 use Rattle.std.proofs.lemmas.Int.{to_z-of_z}
 use Rattle.std.proofs.lemmas.Result.{err_from_is_err_and}
 use Rattle.std.specs.Int.NonZero.{non_zero_u8_get}
-use Rattle.time_values.specs.Range.{greatest_year}
-use Rattle.time_record.proofs.RowLemmas.{IsRowDate-month_and_day}
+use Rattle.time_values.specs.Calendar.{greatest_year}
+use Rattle.time_record.proofs.ComponentLemmas.{IsRowDate-month_and_day}
 use Rattle.time_record.proofs.parsed.try_from.date.calendar_date.Goals as goal
 
 pub returns : goal.returns

@@ -2,7 +2,7 @@ use Rattle.std.proofs.Common.{Ok, Err, w32, FitsSigned}
 use Rattle.std.proofs.lemmas.Int.{to_z-of_z}
 use Rattle.std.proofs.lemmas.Result.{err_from_is_err_and}
 use Rattle.std.specs.Int.NonZero.{non_zero_u8_get}
-use Rattle.time_record.proofs.RowLemmas.{IsRowDate-iso_week}
+use Rattle.time_record.proofs.ComponentLemmas.{IsRowDate-iso_week}
 use Rattle.time_record.proofs.parsed.try_from.date.iso_week_date.Goals as goal
 
 pub returns : goal.returns

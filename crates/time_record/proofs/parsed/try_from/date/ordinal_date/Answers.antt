@@ -2,8 +2,8 @@ use Rattle.std.proofs.Common.{Ok, Err, w32, FitsSigned}
 use Rattle.std.proofs.lemmas.Int.{to_z-of_z}
 use Rattle.std.proofs.lemmas.Result.{err_from_is_err_and}
 use Rattle.std.specs.Int.NonZero.{non_zero_u16_get}
-use Rattle.time_values.specs.Range.{greatest_year}
-use Rattle.time_record.proofs.RowLemmas.{IsRowDate-ordinal}
+use Rattle.time_values.specs.Calendar.{greatest_year}
+use Rattle.time_record.proofs.ComponentLemmas.{IsRowDate-ordinal}
 use Rattle.time_record.proofs.parsed.try_from.date.ordinal_date.Goals as goal
 
 pub returns : goal.returns

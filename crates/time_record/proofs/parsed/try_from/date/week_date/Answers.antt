@@ -1,16 +1,83 @@
-use Rattle.std.proofs.Common.{◌≡◌, ◌+◌, ◌-◌, ◌*◌, Ok, Err, arith, refl, w32, FitsSigned}
+use Rattle.std.proofs.Common.{◌≡◌, ℕ, ◌+◌, ◌-◌, ◌*◌, ◌%◌, ◌<◌, ◌≤◌, true, Result, MatchResult, IsTrue, ap, arith, ℤ, codes, Ok, Err, refl, w32, FitsSigned}
+use Rattle.std.proofs.lemmas.Result.{MatchResult-weaker, err_from_is_err_and}
 use Rattle.std.proofs.lemmas.Int.{to_z-of_z}
-use Rattle.std.proofs.lemmas.Result.{err_from_is_err_and}
 use Rattle.time_values.specs.declared.date.Date.{Date}
-use Rattle.time_values.specs.DateRefusals.{ordinal_date_refusal}
-use Rattle.time_values.specs.Dates.{ordinal}
-use Rattle.time_values.specs.Range.{greatest_year}
-use Rattle.time_values.specs.Weekday.{days_from_monday}
-use Rattle.time_values.proofs.NumberLemmas.{days_from_monday_in}
-use Rattle.time_values.proofs.RefusalLemmas.{Constructs-Ok}
-use Rattle.time_record.proofs.WeekDates.{place_in_year, week_place_is, no_early_week, week_date_seen}
+use Rattle.time_values.specs.declared.error.ComponentRange.{ComponentRange}
+use Rattle.time_values.specs.Calendar.{weekdays_in, year_start, greatest_year}
+use Rattle.time_values.specs.Dates.{is_year, ordinal_date_refusal, ordinal, weekday}
+use Rattle.time_values.specs.Refusal.{Constructs, range}
+use Rattle.time_values.specs.Names.{days_from_monday}
+use Rattle.time_values.proofs.InstantLemmas.{ordinal_in}
+use Rattle.time_values.proofs.YearLemmas.{weekdays_in_closed}
+use Rattle.time_values.proofs.NumberLemmas.{days_from_monday_in, Constructs-Ok}
+use Rattle.time_record.specs.Resolution.{IsWeekDate}
+use Rattle.time_record.proofs.ComponentLemmas.{IsRowDate-ordinal, range_seen}
 use Rattle.time_record.proofs.parsed.try_from.date.week_date.Goals as goal
 use Rattle.time_record.proofs.parsed.try_from.date.week_date.Goals.{After-days_since-2}
+
+-- ---- The place in its year of a day by its week and weekday
+
+-- the place, where 8 is the first of January, of a week and weekday in weeks that begin on the
+-- weekday `start`, where 1 January has the weekday `first`
+abbrev week_place : (first start week w : ℕ) → ℕ
+week_place first start week w = (start + 7 - first) % 7 + 1 + 7 * week + (w + 7 - start) % 7
+
+-- a day has the place that its week and weekday give
+place_of_week : (begin n start week w : ℕ) → 1 ≤ n → start < 7 → weekdays_in start begin n ≡ week →
+    (begin + (n - 1)) % 7 ≡ w → n + 7 ≡ week_place (begin % 7) start week w
+place_of_week begin n start week w low small count day =
+    omega (arith, weekdays_in_closed start begin n small)
+
+-- and the day at that place has that week and weekday
+week_of_place : (begin n start week w : ℕ) → 1 ≤ n → start < 7 → w < 7 →
+    n + 7 ≡ week_place (begin % 7) start week w → (weekdays_in start begin n ≡ week) × ((begin + (n - 1)) % 7 ≡ w)
+week_of_place begin n start week w low small within e =
+    (omega (arith, weekdays_in_closed start begin n small), omega arith)
+
+-- the place in a year
+abbrev place_in_year : (y : ℤ) (start week w : ℕ) → ℕ
+place_in_year y start week w = week_place (year_start greatest_year y % 7) start week w
+
+-- the same of dates
+place_of_date : (y : ℤ) (start week w : ℕ) (d : Date) → start < 7 → IsWeekDate greatest_year start y week w d →
+    ordinal d + 7 ≡ place_in_year y start week w
+place_of_date y start week w d small h =
+    let begin = year_start greatest_year d.year in
+    let place = place_of_week begin (ordinal d) start week w (ordinal_in d).0 small h.1 h.2 in
+    omega (arith, ap (year_start greatest_year) h.0)
+
+date_of_place : (y : ℤ) (start week w : ℕ) (d : Date) → start < 7 → w < 7 → d.year ≡ y →
+    ordinal d + 7 ≡ place_in_year y start week w → IsWeekDate greatest_year start y week w d
+date_of_place y start week w d small within year e =
+    let begin = year_start greatest_year d.year in
+    let here : ordinal d + 7 ≡ week_place (begin % 7) start week w = omega (arith, ap (year_start greatest_year) year) in
+    let found = week_of_place begin (ordinal d) start week w (ordinal_in d).0 small within here in
+    (year, found.0, found.1)
+
+-- the place that the code computes from the weekday of the first day
+week_place_is : (y : ℤ) (d : Date) (first since days week start w : ℕ) → (d.year ≡ y) × (ordinal d ≡ 1) →
+    first ≡ weekday greatest_year d → since ≡ (start + 7 - first) % 7 → days ≡ (w + 7 - start) % 7 →
+    since + 1 + 7 * week + days ≡ place_in_year y start week w
+week_place_is y d first since days week start w h is e f =
+    let g : first ≡ year_start greatest_year y % 7 = omega (arith, ap (year_start greatest_year) h.0) in
+    rw (e, f, g)
+
+-- no date stands at a place before the first of January
+no_early_week : (y : ℤ) (start week w place : ℕ) → start < 7 → place ≡ place_in_year y start week w → place ≤ 7 →
+    (d : Date) → IsWeekDate greatest_year start y week w d → ⊥
+no_early_week y start week w place small e low d h =
+    omega (arith, place_of_date y start week w d small h, ordinal_in d)
+
+-- and from there on the constructor decides
+week_date_seen : (y : ℤ) (start week w n : ℕ) (r : Result Date ComponentRange) → start < 7 → w < 7 →
+    IsTrue (is_year greatest_year y) → n + 7 ≡ place_in_year y start week w →
+    Constructs (ordinal_date_refusal greatest_year y n) (λ (d : Date). (d.year ≡ y) × (ordinal d ≡ n)) r →
+    MatchResult (range_seen r) (IsWeekDate greatest_year start y week w)
+    (λ e. ((d : Date) → IsWeekDate greatest_year start y week w d → ⊥) × (e ≡ range (codes "ordinal") true))
+week_date_seen y start week w n r small within year e a =
+    MatchResult-weaker (range_seen r) (IsRowDate-ordinal greatest_year y n r year a)
+    (λ d h. date_of_place y start week w d small within h.0 (omega (arith, h.1)))
+    (λ e' h. (λ d k. h.0 d (k.0, omega (arith, place_of_date y start week w d small k)), h.1))
 
 -- the place that the code computes is the one of the week and weekday
 place_is : (c : After-days_since-2) → c.days_since.result + 1 + 7 * c.args.week + c.days_since-2.result ≡

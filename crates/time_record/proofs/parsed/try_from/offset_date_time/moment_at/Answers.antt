@@ -4,10 +4,10 @@ use Rattle.std.proofs.lemmas.Int.{to_z-of_z}
 use Rattle.time_values.specs.declared.offset_date_time.OffsetDateTime.{OffsetDateTime}
 use Rattle.time_values.specs.Instants.{instant, timestamp_refusal}
 use Rattle.time_values.specs.Offsets.{IsUtc}
-use Rattle.time_values.specs.Range.{greatest_year}
+use Rattle.time_values.specs.Calendar.{greatest_year}
 use Rattle.time_values.specs.Times.{HasClock, nanosecond_refusal}
-use Rattle.time_values.proofs.RefusalLemmas.{Constructs-Ok}
-use Rattle.time_record.proofs.Stamps.{IsStamped-none, IsStamped-some, clock_nanos-utc}
+use Rattle.time_values.proofs.NumberLemmas.{Constructs-Ok}
+use Rattle.time_record.proofs.ResolutionLemmas.{IsStamped-none, IsStamped-some, clock_nanos-utc}
 use Rattle.time_record.proofs.parsed.try_from.offset_date_time.moment_at.Goals as goal
 
 pub returns-in_ok-replace_nanosecond-in-Some : goal.returns-in_ok-replace_nanosecond-in-Some

@@ -3,10 +3,10 @@ use Rattle.std.specs.Int.{w128}
 use Rattle.std.proofs.lemmas.Int.{to_z-of_z}
 use Rattle.time_values.specs.declared.utc_date_time.UtcDateTime.{UtcDateTime}
 use Rattle.time_values.specs.Instants.{clock_nanos, timestamp_refusal}
-use Rattle.time_values.specs.Range.{greatest_year}
+use Rattle.time_values.specs.Calendar.{greatest_year}
 use Rattle.time_values.specs.Times.{HasClock, nanosecond_refusal}
-use Rattle.time_values.proofs.RefusalLemmas.{Constructs-Ok}
-use Rattle.time_record.proofs.Stamps.{IsStamped-none, IsStamped-some}
+use Rattle.time_values.proofs.NumberLemmas.{Constructs-Ok}
+use Rattle.time_record.proofs.ResolutionLemmas.{IsStamped-none, IsStamped-some}
 use Rattle.time_record.proofs.parsed.try_from.utc_date_time.moment_at.Goals as goal
 
 pub returns-in_ok-replace_nanosecond-in-Some : goal.returns-in_ok-replace_nanosecond-in-Some

@@ -1,2 +1,0 @@
-//! The steps that a description is kept as.
-pub use time_components::{Group, Step};

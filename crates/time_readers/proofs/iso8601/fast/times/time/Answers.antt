@@ -1,4 +1,0 @@
-use Rattle.time_readers.proofs.iso8601.fast.times.time.Goals as goal
-
-pub returns : goal.returns
-returns c needed = rw c.in_ok-byte.ensures c.after_t.ensures

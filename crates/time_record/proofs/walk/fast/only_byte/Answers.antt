@@ -1,9 +1,0 @@
-use Rattle.std.proofs.Common.{◌≡◌, [], ◌∷◌, refl, arith, rules}
-use Rattle.time_components.specs.Steps.{further}
-use Rattle.time_record.proofs.ComponentLemmas.{reads_byte}
-use Rattle.time_record.proofs.walk.fast.only_byte.Goals as goal
-
-pub returns-in-len1-up-clause-read : goal.returns-in-len1-up-clause-read
-returns-in-len1-up-clause-read c = λ r.
-    let none : further c.args.behind.now ≡ [] = search rules in
-    rw none (reads_byte _ (c.args.byte ∷ []) c.args.input.now r refl (omega arith) (cc))

@@ -325,7 +325,7 @@ fn find_bounds<'a>(
 
 impl<'a> Request<'a> {
     /// What the options ask for. Where `--color` is `auto`, colours are shown if reports go to a terminal. A zone that they
-    /// name is read from its file, and for the format `rfc9557` all zones of the system are. The clock shows `now`, or
+    /// name is read from its file, and for the format `rfc9557` the folder of zones is opened. The clock shows `now`, or
     /// `None` out of its range, which counts only where a bound is a word.
     ///
     /// # Errors
@@ -392,14 +392,14 @@ impl<'a> Request<'a> {
         }
     }
 
-    /// What is done with each line.
-    pub fn job(&self) -> Job<'_>
-        ensures { spec.IsJobOf self.now result }
+    /// What is done with each line, where these are the formats.
+    pub fn job(&self, first: Reading, others: Vec<Reading>) -> Job<'_>
+        ensures { spec.IsJobOf (spec.with_formats self.now first others) result }
     {
         Job {
             place: self.place,
-            first: &self.first,
-            others: self.others.as_slice(),
+            first,
+            others,
             defaults: self.given.defaults(),
             form: Form {
                 writing: &self.style.writing,

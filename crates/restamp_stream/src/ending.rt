@@ -26,4 +26,6 @@ pub enum Stop {
     Unwritten,
     /// A line was refused, where the work stops at the first.
     Refused,
+    /// Memory ran out for what a line asks for.
+    Unprepared,
 }

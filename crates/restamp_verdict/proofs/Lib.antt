@@ -14,3 +14,4 @@ pub mod LackMoments
 pub mod LackUses
 pub mod SayingLemmas
 pub mod NamedZonesLemmas
+pub mod PreparedLemmas

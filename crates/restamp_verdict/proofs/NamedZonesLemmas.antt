@@ -8,7 +8,7 @@ use Rattle.time_values.specs.Refusal.{Refusal, trailing}
 use Rattle.time_values.specs.Shown.{Items}
 use Rattle.time_values.specs.declared.offset_date_time.OffsetDateTime.{OffsetDateTime}
 use Rattle.time_values.specs.declared.utc_offset.UtcOffset.{UtcOffset}
-use Rattle.time_zones.specs.Suffix.{Checked, GoesWith, GoesWithNamed, GoesWithZone, IsSuffix, Zone, ZoneTag, Tag, IsZoneText, at_offset as by_offset, bracketed, critical_key, named, tags_text}
+use Rattle.time_zones.specs.Suffix.{Checked, GoesWith, GoesWithNamed, GoesWithZone, IsSuffix, Zone, ZoneTag, Tag, IsZoneText, at_offset as by_offset, bracketed, critical_key, named, tags_text, StandsIn, IsNameIn}
 use Rattle.time_zones.specs.declared.checking.SuffixFault.TheVariants.{UnknownZone}
 use Rattle.time_zones.specs.declared.finding.NamedZone.{NamedZone}
 use Rattle.time_zones.specs.Finding.{zone_named}
@@ -20,7 +20,7 @@ use Rattle.restamp_place.specs.declared.fields.Span.{Span}
 use Rattle.restamp_verdict.specs.Form.{IsWritten}
 use Rattle.restamp_verdict.specs.Job.{Verdict, IsJudgedAnywhere, IsJudgedAt, IsJudgedPart, IsPut, IsFirst, SaysAlone, AreTriedAlone, SaysFrom, is_inside, is_before, missed, refused, without, verdict_of, dropped}
 use Rattle.restamp_verdict.specs.Zoned.{IsOffsetWhen, IsChecked, IsLongestSuffix, IsSuffixed, Suffix, has_tail, tells_offset}
-use Rattle.restamp_verdict.specs.Laws.{StandsIn, SameZones, AreAlike, AllAlike, DiffersInZones, NeedsNamedZones}
+use Rattle.restamp_verdict.specs.Laws.{SameZones, AreAlike, AllAlike, DiffersInZones, NeedsNamedZones}
 use Rattle.restamp_verdict.specs.Reading.{Says, SaysOn, SaysLocally, undated, at_offset, in_year, is_after, is_of_clocks, IsEarly, IsFinal, year_after, AreYearsTried, IsDated, AreTried, IsReadInTurn}
 use Rattle.restamp_verdict.specs.Reason.{Reason, missing, too_far, unread}
 use Rattle.restamp_verdict.specs.declared.form.Form.{Form}
@@ -57,18 +57,25 @@ of_drop n bytes = record {
 of_range : (start stop : ℕ) (bytes : List ℕ) → StandsIn (slice_range bytes start stop) bytes
 of_range start stop bytes = deeper (slice_range bytes start stop) (drop start bytes) bytes (of_take (stop - start) (drop start bytes)) (of_drop start bytes)
 
-in_brackets : (is_critical : Bool) (name : List ℕ) → StandsIn name (bracketed is_critical name)
-in_brackets false name = record { before = 91 ∷ []; after = 93 ∷ []; whole = refl }
-in_brackets true name = record { before = 91 ∷ 33 ∷ []; after = 93 ∷ []; whole = refl }
+-- a name that stands in a part stands in the whole
+name_deeper : (name part bytes : List ℕ) → IsNameIn part name → StandsIn part bytes → IsNameIn bytes name
+name_deeper name part bytes (is, (c, p)) q = (is, (c, deeper (bracketed c name) part bytes p q))
 
 -- the name of a suffix's zone stands in it
 name_of_suffix : (text : List ℕ) (tag : ZoneTag) (tags : List Tag) (name : List ℕ) → tag.zone ≡ named name
-    → IsSuffix text (Some tag) tags → StandsIn name text
+    → IsSuffix text (Some tag) tags → IsNameIn text name
 name_of_suffix text tag tags name e s =
-    let told : s.is_zone.inside ≡ name = (subst (IsZoneText s.is_zone.inside) e s.is_zone.is_zone).0 in
-    let front : StandsIn name s.front =
-    subst (StandsIn name) (sym (s.is_zone.whole ∙ ap (bracketed tag.is_critical) told)) (in_brackets tag.is_critical name) in
-    deeper name s.front text front (record { before = []; after = tags_text tags; whole = s.whole })
+    let told = subst (IsZoneText s.is_zone.inside) e s.is_zone.is_zone in (
+      told.1,
+      (
+        tag.is_critical,
+        record {
+          before = [];
+          after = tags_text tags;
+          whole = s.whole ∙ ap (λ l. l ++ tags_text tags) (s.is_zone.whole ∙ ap (bracketed tag.is_critical) told.0);
+        },
+      ),
+    )
 
 goes_zone : (zone : Zone) (zones other : Zones) (tells : Bool) (m : OffsetDateTime) (a : Checked)
     → ((name : List ℕ) → zone ≡ named name → zone_named other name ≡ zone_named zones name)
@@ -92,8 +99,8 @@ module _ (zones other : Zones) (text : List ℕ) (same : SameZones text zones ot
       let rest = drop front.length text in (
         p.0,
         goes s.zone (critical_key s.tags) zones other (tells_offset (take front.length text)) front.moment p.0
-            (λ z name e n. same name (deeper name rest text
-            (deeper name (take s.len rest) rest
+            (λ z name e n. same name (name_deeper name rest text
+            (name_deeper name (take s.len rest) rest
             (name_of_suffix (take s.len rest) z s.tags name n (subst (λ (tag : Option ZoneTag). IsSuffix (take s.len rest) tag s.tags) e longest.is_suffix))
             (of_take s.len rest)) (of_drop front.length text))) p.1,
         p.2,
@@ -273,7 +280,7 @@ module _ (Y : ℕ) (is_open : Bool) (text : List ℕ) where
 part_alike : (part bytes : List ℕ) (format other : Reading) → StandsIn part bytes → AreAlike bytes format other → AreAlike part format other
 part_alike part bytes format other stands (inl e) = inl e
 part_alike part bytes format other stands (inr (zones, same, e, f, h)) =
-    inr (zones, same, e, f, λ name p. h name (deeper name part bytes p stands))
+    inr (zones, same, e, f, λ name p. h name (name_deeper name part bytes p stands))
 
 parts_alike : (part bytes : List ℕ) (formats others : List Reading) → StandsIn part bytes → AllAlike bytes formats others
     → AllAlike part formats others
@@ -312,10 +319,10 @@ module _ (Y : ℕ) (job other : Job) (line : List ℕ) (same : DiffersInZones li
       → IsJudgedPart Y job is_open start text verdict → IsJudgedPart Y other is_open start text verdict
   judged_part is_open start text verdict stands p = (
     p.0,
-    subst (λ (d : Defaults). IsReadInTurn Y other.first.now other.others.now is_open text d p.0) same.defaults
-        (in_turn_alike Y is_open text job.first.now other.first.now job.others.now other.others.now job.defaults p.0
-        (part_alike text line job.first.now other.first.now stands same.first)
-        (parts_alike text line job.others.now other.others.now stands same.others) p.1),
+    subst (λ (d : Defaults). IsReadInTurn Y other.first other.others.items is_open text d p.0) same.defaults
+        (in_turn_alike Y is_open text job.first other.first job.others.items other.others.items job.defaults p.0
+        (part_alike text line job.first other.first stands same.first)
+        (parts_alike text line job.others.items other.others.items stands same.others) p.1),
     after_read start p.0 verdict p.2,
   )
 
@@ -357,11 +364,11 @@ module _ (Y : ℕ) (job other : Job) (line : List ℕ) (same : DiffersInZones li
   )
 
   outside_alike : (inside : Bool) (body : List ℕ) (k : ℕ) (a : Option Said) → StandsIn body line
-      → MatchBool inside (a ≡ None) (AreTriedAlone Y job body k (job.first.now ∷ job.others.now) a)
-      → MatchBool inside (a ≡ None) (AreTriedAlone Y other body k (other.first.now ∷ other.others.now) a)
+      → MatchBool inside (a ≡ None) (AreTriedAlone Y job body k (job.first ∷ job.others.items) a)
+      → MatchBool inside (a ≡ None) (AreTriedAlone Y other body k (other.first ∷ other.others.items) a)
   outside_alike true body k a stands p = p
   outside_alike false body k a stands p =
-      tried_alone body k (job.first.now ∷ job.others.now) (other.first.now ∷ other.others.now) a stands (same.first, same.others) p
+      tried_alone body k (job.first ∷ job.others.items) (other.first ∷ other.others.items) a stands (same.first, same.others) p
 
   says_from : (body : List ℕ) (k : ℕ) (a : Option Said) → StandsIn body line → SaysFrom Y job body k a → SaysFrom Y other body k a
   says_from body k a stands p = outside_alike (is_inside body k) body k a stands p

@@ -6,7 +6,7 @@ use Rattle.time_values.specs.Shown.{Items}
 use Rattle.time_values.specs.Times as Times
 use Rattle.time_values.specs.declared.offset_date_time.OffsetDateTime.{OffsetDateTime}
 use Rattle.time_values.specs.declared.utc_offset.UtcOffset.{UtcOffset}
-use Rattle.time_zones.specs.Suffix.{GoesWith, IsSuffix, IsZoneText, Tag, Zone, ZoneTag, at_offset, bracketed, critical_key, named}
+use Rattle.time_zones.specs.Suffix.{GoesWith, IsNameIn, IsSuffix, IsZoneText, Tag, Zone, ZoneTag, at_offset, bracketed, critical_key, named}
 use Rattle.time_zones.specs.Finding.{zone_named, IsZoneIfAny, SameNamed}
 use Rattle.time_zones.specs.declared.zones.Zones.{Zones}
 use Rattle.time_writing.specs.declared.parts.FractionDigits.{FractionDigits}
@@ -142,7 +142,7 @@ ChangesNothing Y =
     (job : Job) (place : Place) (line : List ℕ) (span : Span) (v : OffsetDateTime) (bytes : List ℕ) (verdict : Verdict)
     → job.place ≡ Some place → is_open place ≡ false → span_of place line ≡ Some span
     → slice_range line span.start span.stop ≡ bytes
-    → IsReadable Y job.first.now job.defaults job.form v bytes → IsJudged Y job line verdict
+    → IsReadable Y job.first job.defaults job.form v bytes → IsJudged Y job line verdict
     → MatchBool (nat_lt LIMIT (span.start + length bytes)) (verdict ≡ refused (span.start + 1) too_far)
     (MatchBool (is_kept Y job v) (verdict ≡ rewritten span.start (length bytes) bytes) (verdict ≡ dropped))
 
@@ -181,15 +181,9 @@ CommonReadsBack Y =
 
 -- ---- Verdicts by tables of zones that differ in names which a line doesn't have
 
--- bytes that stand in others, one behind the other
-pub record StandsIn (part bytes : List ℕ) : Type 0 where
-  pub before : List ℕ
-  pub after : List ℕ
-  pub whole : bytes ≡ before ++ (part ++ after)
-
--- each name that stands in the bytes has one zone in both tables, or none
+-- each name that stands in brackets in the bytes has one zone in both tables, or none
 abbrev pub SameZones : List ℕ → Zones → Zones → Type 0
-SameZones bytes zones other = (name : List ℕ) → StandsIn name bytes → SameNamed zones other name
+SameZones bytes zones other = (name : List ℕ) → IsNameIn bytes name → SameNamed zones other name
 
 -- the formats are one, but for such tables
 abbrev pub AreAlike : List ℕ → Reading → Reading → Type 0
@@ -207,8 +201,8 @@ AllAlike bytes (format ∷ formats) (other ∷ others) = AreAlike bytes format o
 
 -- the jobs are one, but for tables of zones that have the same zones for each name in the line
 pub record DiffersInZones (line : List ℕ) (job other : Job) : Type 0 where
-  pub first : AreAlike line job.first.now other.first.now
-  pub others : AllAlike line job.others.now other.others.now
+  pub first : AreAlike line job.first other.first
+  pub others : AllAlike line job.others.items other.others.items
   pub place : job.place ≡ other.place
   pub defaults : job.defaults ≡ other.defaults
   pub form : job.form ≡ other.form

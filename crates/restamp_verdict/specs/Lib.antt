@@ -10,3 +10,4 @@ pub mod Begins
 pub mod Told
 pub mod Laws
 pub mod Wrong
+pub mod Prepared

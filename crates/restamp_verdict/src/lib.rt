@@ -13,6 +13,7 @@ mod local;
 mod missing;
 mod naming;
 mod outcome;
+mod preparing;
 mod reading;
 mod reason;
 mod saying;

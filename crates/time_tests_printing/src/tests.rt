@@ -1,6 +1,5 @@
 //! Values by their numbers, which the tests share.
 mod surface;
-mod texts;
 mod values;
 
 use time_values::error::ComponentRange;
@@ -61,5 +60,429 @@ fn is_written(written: Result<Text, Unwritable>, text: &str) -> bool {
     match written {
         Ok(written) => written.as_bytes() == text.as_bytes(),
         Err(_) => false,
+    }
+}
+
+mod texts {
+    //! Texts of moments, what is read of them again, and values as they are printed.
+    use super::{FIRST, IN_1937, IN_1985, IN_1996, Numbers, is_written, moment};
+    use Format::{BasicIso8601, Iso8601, Rfc2822, Rfc3339};
+    use time_values::error::ComponentRange;
+    use time_values::{Month, OffsetDateTime};
+    use time_writing::FractionDigits::{Auto, Exactly};
+    use time_writing::{
+        FractionDigits, Text, Unwritable, text_2822, text_3339, text_8601, text_8601_basic,
+    };
+
+    #[derive(Clone, Copy)]
+    enum Format {
+        Rfc3339(FractionDigits),
+        Rfc2822,
+        Iso8601,
+        BasicIso8601,
+    }
+
+    // The text of the moment by the format.
+    fn write(value: OffsetDateTime, format: Format) -> Result<Text, Unwritable> {
+        match format {
+            Rfc3339(digits) => text_3339(value, digits),
+            Rfc2822 => text_2822(value),
+            Iso8601 => text_8601(value),
+            BasicIso8601 => text_8601_basic(value),
+        }
+    }
+
+    // The moment 2021-01-02T03:04:05Z and that nanosecond.
+    macro_rules! in_2021 {
+        ($nanosecond:literal) => {
+            ((2021, Month::January, 2), (3, 4, 5, $nanosecond), (0, 0, 0))
+        };
+    }
+
+    // The texts of RFC 3339 are those of its section 5.8 and some with other digits of a fraction. The dates of mail are of
+    // RFC 2822, appendix A, which leaves the first digit of the second one's day out.
+    static TEXTS: [(Numbers, Format, &str); 18] = [
+        (IN_1985, Rfc3339(Auto), "1985-04-12T23:20:50.52Z"),
+        (IN_1996, Rfc3339(Auto), "1996-12-19T16:39:57-08:00"),
+        (IN_1937, Rfc3339(Auto), "1937-01-01T12:00:27.87+00:20"),
+        (
+            in_2021!(123_456_789),
+            Rfc3339(Exactly(0)),
+            "2021-01-02T03:04:05Z",
+        ),
+        (
+            in_2021!(123_456_789),
+            Rfc3339(Exactly(3)),
+            "2021-01-02T03:04:05.123Z",
+        ),
+        (
+            in_2021!(123_456_789),
+            Rfc3339(Exactly(9)),
+            "2021-01-02T03:04:05.123456789Z",
+        ),
+        (
+            in_2021!(123_456_789),
+            Rfc3339(Exactly(200)),
+            "2021-01-02T03:04:05.123456789Z",
+        ),
+        (in_2021!(0), Rfc3339(Auto), "2021-01-02T03:04:05Z"),
+        (
+            in_2021!(100_000_000),
+            Rfc3339(Auto),
+            "2021-01-02T03:04:05.1Z",
+        ),
+        (
+            in_2021!(123_000_000),
+            Rfc3339(Auto),
+            "2021-01-02T03:04:05.123Z",
+        ),
+        (in_2021!(1000), Rfc3339(Auto), "2021-01-02T03:04:05.000001Z"),
+        (in_2021!(1), Rfc3339(Auto), "2021-01-02T03:04:05.000000001Z"),
+        (
+            ((1997, Month::November, 21), (9, 55, 6, 0), (-6, 0, 0)),
+            Rfc2822,
+            "Fri, 21 Nov 1997 09:55:06 -0600",
+        ),
+        (
+            ((2003, Month::July, 1), (10, 52, 37, 5), (2, 0, 0)),
+            Rfc2822,
+            "Tue, 01 Jul 2003 10:52:37 +0200",
+        ),
+        (
+            ((1969, Month::February, 13), (23, 32, 54, 0), (-3, -30, 0)),
+            Rfc2822,
+            "Thu, 13 Feb 1969 23:32:54 -0330",
+        ),
+        (IN_1985, Iso8601, "1985-04-12T23:20:50.520000000Z"),
+        (IN_1985, BasicIso8601, "19850412T232050Z"),
+        (IN_1996, BasicIso8601, "19961219T163957-0800"),
+    ];
+
+    // The format has that text of the moment.
+    fn is_text(numbers: Numbers, format: Format, text: &str) -> Result<bool, ComponentRange> {
+        Ok(is_written(write(moment(numbers)?, format), text))
+    }
+
+    #[test]
+    fn texts(rt: HostRuntime) {
+        for (numbers, format, text) in &TEXTS {
+            assert!(rt; is_text(*numbers, *format, text) == Ok(true), "{text}");
+        }
+    }
+
+    const YEAR: Option<Unwritable> = Some(Unwritable::Year);
+
+    const HOUR: Option<Unwritable> = Some(Unwritable::OffsetHour);
+
+    const SECOND: Option<Unwritable> = Some(Unwritable::OffsetSecond);
+
+    // Why a moment has no text of RFC 3339, of RFC 2822, of ISO 8601, and of its basic form.
+    type Reasons = (
+        Option<Unwritable>,
+        Option<Unwritable>,
+        Option<Unwritable>,
+        Option<Unwritable>,
+    );
+
+    static REASONS: [(Numbers, Reasons); 5] = [
+        (
+            ((10_000, Month::May, 1), (0, 0, 0, 0), (0, 0, 0)),
+            (YEAR, YEAR, YEAR, YEAR),
+        ),
+        (FIRST, (YEAR, YEAR, YEAR, YEAR)),
+        (
+            ((1899, Month::May, 1), (0, 0, 0, 0), (0, 0, 0)),
+            (None, YEAR, None, None),
+        ),
+        (
+            ((2021, Month::May, 1), (0, 0, 0, 0), (24, 0, 0)),
+            (HOUR, None, HOUR, HOUR),
+        ),
+        (
+            ((2021, Month::May, 1), (0, 0, 0, 0), (1, 0, 1)),
+            (SECOND, SECOND, SECOND, SECOND),
+        ),
+    ];
+
+    // Why that moment has none.
+    fn reasons(numbers: Numbers) -> Result<Reasons, ComponentRange> {
+        let value = moment(numbers)?;
+        Ok((
+            text_3339(value, Auto).err(),
+            text_2822(value).err(),
+            text_8601(value).err(),
+            text_8601_basic(value).err(),
+        ))
+    }
+
+    #[test]
+    fn moments_without_a_text(rt: HostRuntime) {
+        for (numbers, wanted) in &REASONS {
+            assert!(rt; reasons(*numbers) == Ok(*wanted));
+        }
+    }
+
+    // Texts of moments that are read again.
+    mod read_back {
+        use super::super::{Numbers, is_written, moment};
+        use time_parsing::{Iso8601, Parsable, Rfc2822, Rfc3339};
+        use time_record::Parsed;
+        use time_values::error::ComponentRange;
+        use time_values::{Month, OffsetDateTime};
+        use time_writing::{FractionDigits, Text, Unwritable, text_2822, text_3339, text_8601};
+
+        // Whether that text is written, and is read as that moment by the format, without defaults and over an empty record.
+        fn reads<F: Parsable>(
+            written: Result<Text, Unwritable>,
+            text: &str,
+            format: &F,
+            value: OffsetDateTime,
+        ) -> bool {
+            let bytes = text.as_bytes();
+            is_written(written, text)
+                && format.parse_offset_date_time(bytes, None) == Ok(value)
+                && format.parse_offset_date_time(bytes, Some(Parsed::new())) == Ok(value)
+        }
+
+        // The first and the last year, UTC, and an offset of minutes alone behind it.
+        static ALL_DIGITS: [(Numbers, &str); 4] = [
+            (
+                ((0, Month::January, 1), (0, 0, 0, 0), (-23, -59, 0)),
+                "0000-01-01T00:00:00.000000000-23:59",
+            ),
+            (
+                (
+                    (9999, Month::December, 31),
+                    (23, 59, 59, 999_999_999),
+                    (23, 59, 0),
+                ),
+                "9999-12-31T23:59:59.999999999+23:59",
+            ),
+            (
+                (
+                    (2021, Month::January, 2),
+                    (3, 4, 5, 500_000_000),
+                    (0, -30, 0),
+                ),
+                "2021-01-02T03:04:05.500000000-00:30",
+            ),
+            (
+                ((2020, Month::February, 29), (3, 4, 5, 6), (0, 0, 0)),
+                "2020-02-29T03:04:05.000000006Z",
+            ),
+        ];
+
+        // The text has all digits, and both formats read the moment from it.
+        fn keeps_all_digits(numbers: Numbers, text: &str) -> Result<bool, ComponentRange> {
+            let value = moment(numbers)?;
+            let nine = text_3339(value, FractionDigits::Exactly(9));
+            Ok(reads(nine, text, &Rfc3339, value) && reads(text_8601(value), text, &Iso8601, value))
+        }
+
+        #[test]
+        fn all_digits(rt: HostRuntime) {
+            for (numbers, text) in &ALL_DIGITS {
+                assert!(rt; keeps_all_digits(*numbers, text) == Ok(true));
+            }
+        }
+
+        // The digits that are written of 120456789 nanoseconds, the text, and the nanoseconds that it says.
+        static FEWER_DIGITS: [(FractionDigits, &str, u32); 4] = [
+            (
+                FractionDigits::Auto,
+                "2021-01-02T03:04:05.120456789+05:30",
+                120_456_789,
+            ),
+            (FractionDigits::Exactly(0), "2021-01-02T03:04:05+05:30", 0),
+            (
+                FractionDigits::Exactly(3),
+                "2021-01-02T03:04:05.120+05:30",
+                120_000_000,
+            ),
+            (
+                FractionDigits::Exactly(8),
+                "2021-01-02T03:04:05.12045678+05:30",
+                120_456_780,
+            ),
+        ];
+
+        // What is read has the digits that were written.
+        fn keeps_digits(
+            digits: FractionDigits,
+            text: &str,
+            nanosecond: u32,
+        ) -> Result<bool, ComponentRange> {
+            let value = moment((
+                (2021, Month::January, 2),
+                (3, 4, 5, 120_456_789),
+                (5, 30, 0),
+            ))?;
+            let read = value.replace_nanosecond(nanosecond)?;
+            Ok(reads(text_3339(value, digits), text, &Rfc3339, read))
+        }
+
+        #[test]
+        fn fewer_digits(rt: HostRuntime) {
+            for (digits, text, nanosecond) in &FEWER_DIGITS {
+                assert!(rt; keeps_digits(*digits, text, *nanosecond) == Ok(true));
+            }
+        }
+
+        static MAIL_DATES: [(Numbers, &str); 3] = [
+            (
+                ((1900, Month::January, 1), (0, 0, 0, 7), (-25, -59, 0)),
+                "Mon, 01 Jan 1900 00:00:00 -2559",
+            ),
+            (
+                (
+                    (2021, Month::January, 2),
+                    (3, 4, 5, 500_000_000),
+                    (0, -30, 0),
+                ),
+                "Sat, 02 Jan 2021 03:04:05 -0030",
+            ),
+            (
+                ((2000, Month::February, 29), (23, 59, 59, 0), (0, 0, 0)),
+                "Tue, 29 Feb 2000 23:59:59 +0000",
+            ),
+        ];
+
+        // A date of mail has no fraction.
+        fn keeps_seconds(numbers: Numbers, text: &str) -> Result<bool, ComponentRange> {
+            let value = moment(numbers)?;
+            let read = value.replace_nanosecond(0)?;
+            Ok(reads(text_2822(value), text, &Rfc2822, read))
+        }
+
+        #[test]
+        fn mail_dates(rt: HostRuntime) {
+            for (numbers, text) in &MAIL_DATES {
+                assert!(rt; keeps_seconds(*numbers, text) == Ok(true));
+            }
+        }
+    }
+
+    // Values as they are printed.
+    mod printed {
+        use super::super::{FIRST, IN_1937, IN_1985, Numbers, in_utc, moment, plain};
+        use std::alloc::Global;
+        use std::fmt::Display;
+        use time_values::error::ComponentRange;
+        use time_values::{Date, Month, Time, Timestamp, UtcOffset, Weekday};
+
+        // The value is printed so.
+        fn prints(alloc: Global, value: impl Display + Drop, text: &str) -> bool {
+            match format!(in alloc; "{value}") {
+                Ok(printed) => printed.as_str() == text,
+                Err(_) => false,
+            }
+        }
+
+        // A value, by its numbers.
+        #[derive(Clone, Copy)]
+        enum Value {
+            Date(i32),
+            Time(u8, u32),
+            Offset(i8, i8, i8),
+            Timestamp(i128),
+            Month(Month),
+            Weekday(Weekday),
+        }
+
+        // Years whose 2 January is printed, then hours and nanoseconds at whose minute 5 and second 9 the times are.
+        static VALUES: [(Value, &str); 17] = [
+            (Value::Date(2021), "2021-01-02"),
+            (Value::Date(0), "0000-01-02"),
+            (Value::Date(-1), "-0001-01-02"),
+            (Value::Date(9999), "9999-01-02"),
+            (Value::Date(10_000), "+10000-01-02"),
+            (Value::Date(-999_999), "-999999-01-02"),
+            (Value::Time(0, 0), "0:05:09.0"),
+            (Value::Time(1, 250_000_000), "1:05:09.25"),
+            (Value::Time(23, 1), "23:05:09.000000001"),
+            (Value::Time(10, 123_456_789), "10:05:09.123456789"),
+            (Value::Time(9, 1000), "9:05:09.000001"),
+            (Value::Offset(5, 30, 0), "+05:30:00"),
+            (Value::Offset(0, 0, -7), "-00:00:07"),
+            (Value::Offset(0, 0, 0), "+00:00:00"),
+            (Value::Timestamp(-1_500_000_000), "-1500000000"),
+            (Value::Month(Month::September), "September"),
+            (Value::Weekday(Weekday::Wednesday), "Wednesday"),
+        ];
+
+        // The value of these numbers is printed so.
+        fn is_printed(alloc: Global, value: Value, text: &str) -> Result<bool, ComponentRange> {
+            let is_printed = match value {
+                Value::Date(year) => prints(
+                    alloc,
+                    Date::from_calendar_date(year, Month::January, 2)?,
+                    text,
+                ),
+                Value::Time(hour, nanosecond) => {
+                    prints(alloc, Time::from_hms_nano(hour, 5, 9, nanosecond)?, text)
+                }
+                Value::Offset(hours, minutes, seconds) => {
+                    prints(alloc, UtcOffset::from_hms(hours, minutes, seconds)?, text)
+                }
+                Value::Timestamp(nanoseconds) => {
+                    prints(alloc, Timestamp::from_nanoseconds(nanoseconds)?, text)
+                }
+                Value::Month(month) => prints(alloc, month, text),
+                Value::Weekday(weekday) => prints(alloc, weekday, text),
+            };
+            Ok(is_printed)
+        }
+
+        #[test]
+        fn values(rt: HostRuntime) {
+            for (value, text) in &VALUES {
+                assert!(rt; is_printed(rt.alloc(), *value, text) == Ok(true), "{text}");
+            }
+        }
+
+        // Moments, and how they are printed without an offset, in UTC and with their offset.
+        static MOMENTS: [(Numbers, &str, &str, &str); 3] = [
+            (
+                IN_1985,
+                "1985-04-12 23:20:50.52",
+                "1985-04-12 23:20:50.52 +00",
+                "1985-04-12 23:20:50.52 +00:00:00",
+            ),
+            (
+                IN_1937,
+                "1937-01-01 12:00:27.87",
+                "1937-01-01 12:00:27.87 +00",
+                "1937-01-01 12:00:27.87 +00:20:00",
+            ),
+            (
+                FIRST,
+                "-999999-01-01 0:00:00.0",
+                "-999999-01-01 0:00:00.0 +00",
+                "-999999-01-01 0:00:00.0 +00:00:00",
+            ),
+        ];
+
+        // The moment is printed so in each of these ways.
+        fn is_moment_printed(
+            alloc: Global,
+            numbers: Numbers,
+            [without, utc, with]: [&str; 3],
+        ) -> Result<bool, ComponentRange> {
+            let value = moment(numbers)?;
+            Ok(
+                prints(alloc, plain(value), without)
+                    && prints(alloc, in_utc(value), utc)
+                    && prints(alloc, value, with),
+            )
+        }
+
+        #[test]
+        fn moments(rt: HostRuntime) {
+            for (numbers, without, utc, with) in &MOMENTS {
+                assert!(rt;
+                    is_moment_printed(rt.alloc(), *numbers, [*without, *utc, *with]) == Ok(true)
+                );
+            }
+        }
     }
 }

@@ -297,7 +297,7 @@ mod finding {
     use super::{BERLIN, Shelf};
     use std::alloc::{AllocError, Global};
     use std::test::Fail;
-    use time_zones::{ZoneFault, find_zone, find_zone_in, find_zones_in};
+    use time_zones::{Zones, find_zone, find_zone_in};
 
     // Values of `TZ`, names, and what is found: the name of a zone, or what the refusal says.
     static FOUND: [(Option<&str>, &str, &str); 14] = [
@@ -366,8 +366,8 @@ mod finding {
         Ok(())
     }
 
-    // What a folder may list: names of one zone and of none.
-    static LISTED: [&str; 8] = [
+    // Names of one zone and of none.
+    static NAMES: [&str; 9] = [
         "tab",
         "Asia/Pyongyang",
         "Asia",
@@ -375,45 +375,72 @@ mod finding {
         "Asia/Seoul",
         "",
         "../zone",
+        "posix/Asia/Pyongyang",
         "Asia/Pyongyang",
     ];
+
+    // No zone is known yet, of a folder of files that are made up.
+    fn unknown(alloc: Global) -> Result<Zones, AllocError> {
+        Ok(Zones::new(alloc, String::from_str(alloc, "/zones")?))
+    }
 
     #[test]
     fn zones_of_names(rt: HostRuntime) -> Result<(), Fail> {
         let alloc = rt.alloc();
-        let zones = find_zones_in(alloc, &Shelf { alloc }, "/zones", &LISTED)?;
-        for name in &LISTED {
+        let mut zones = unknown(alloc)?;
+        for name in &NAMES {
+            zones.look_up(&Shelf { alloc }, name)?;
             let found = match zones.get(name.as_bytes()) {
                 Some(zone) => zone.iana_name() == Some(*name),
                 None => *name != "Asia/Pyongyang",
             };
             assert!(rt; found, "{name}");
         }
+        assert!(rt; zones.get(b"UTC").is_none());
+        zones.look_up(&Shelf { alloc }, "UTC")?;
         assert!(rt; zones.get(b"UTC").is_some());
         assert!(rt; zones.get(b"pyongyang").is_none());
         Ok(())
     }
 
-    // UTC is there whatever is listed.
+    // Texts, and whether the zone is known once what they name was looked up.
+    static TEXTS: [(&[u8], bool); 8] = [
+        (b"", false),
+        (b"Asia/Pyongyang", false),
+        (b"[Asia/Pyongyang", false),
+        (b"[Asia/Pyongyang]", true),
+        (b"a [[!Asia/Pyongyang]", true),
+        (b"[!!Asia/Pyongyang]", false),
+        (b"[UTC][b=c] [Asia/Pyongyang] ]", true),
+        (b"[ Asia/Pyongyang]", false),
+    ];
+
     #[test]
-    fn zones_of_few_names(rt: HostRuntime) -> Result<(), Fail> {
+    fn zones_that_texts_name(rt: HostRuntime) -> Result<(), Fail> {
         let alloc = rt.alloc();
-        let names: [&[&str]; 2] = [&[], &["UTC"]];
-        for names in &names {
-            let zones = find_zones_in(alloc, &Shelf { alloc }, "/zones", names)?;
-            assert!(rt; zones.get(b"UTC").is_some());
-            assert!(rt; zones.get(b"Asia/Pyongyang").is_none());
+        for (text, wanted) in &TEXTS {
+            let mut zones = unknown(alloc)?;
+            zones.look_up_names(&Shelf { alloc }, text)?;
+            assert!(rt;
+                zones.get(b"Asia/Pyongyang").is_some() == *wanted,
+                "{text:?}"
+            );
         }
         Ok(())
     }
 
-    // A zone isn't left out for want of memory.
+    // A zone isn't taken for none for want of memory.
     #[test]
-    fn zones_for_which_memory_is_short(rt: HostRuntime) {
+    fn zones_for_which_memory_is_short(rt: HostRuntime) -> Result<(), AllocError> {
         let alloc = rt.alloc();
-        let names = ["Asia/Pyongyang", "Vast", "tab"];
-        let found = find_zones_in(alloc, &Shelf { alloc }, "/zones", &names);
-        assert!(rt; found.err() == Some(ZoneFault::OutOfMemory));
+        let mut zones = unknown(alloc)?;
+        assert!(rt; zones.look_up(&Shelf { alloc }, "Vast").is_err());
+        assert!(rt;
+            zones
+                .look_up_names(&Shelf { alloc }, b"[tab][Vast]")
+                .is_err()
+        );
+        Ok(())
     }
 
     #[test]
@@ -431,11 +458,11 @@ mod checking {
     use std::alloc::Global;
     use time_values::Month::{January, July, November};
     use time_zones::SuffixFault::{CriticalKey, OtherOffset, UnknownZone, Untold};
-    use time_zones::{NamedZone, SuffixFault, Zones, check_suffix, find_zones, read_suffix};
+    use time_zones::{Disk, NamedZone, SuffixFault, Zones, check_suffix, find_zones, read_suffix};
 
     // Berlin and New York, by their rules, and UTC.
     fn three(alloc: Global) -> Option<Zones> {
-        let mut zones = Zones::new(alloc);
+        let mut zones = Zones::new(alloc, String::new(alloc));
         zones
             .insert("Europe/Berlin", by_setting(alloc, BERLIN)?)
             .ok()?;
@@ -551,8 +578,10 @@ mod checking {
     #[test]
     fn zones_of_the_system(rt: HostRuntime) {
         match find_zones(&rt) {
-            Ok(zones) => {
+            Ok(mut zones) => {
                 assert!(rt; zones.get(b"UTC").is_some());
+                let line = b"[posix/UTC] [../zoneinfo/UTC]";
+                assert!(rt; zones.look_up_names(&Disk { rt: &rt }, line).is_ok());
                 assert!(rt; zones.get(b"posix/UTC").is_none());
                 assert!(rt; zones.get(b"../zoneinfo/UTC").is_none());
             }

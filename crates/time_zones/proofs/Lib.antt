@@ -4,3 +4,4 @@ pub mod NameLemmas
 pub mod SuffixTextLemmas
 pub mod LongestLemmas
 pub mod FolderLemmas
+pub mod LookLemmas

@@ -165,6 +165,16 @@ OneSuffix = (text : List ℕ) (zone zone' : Option ZoneTag) (tags tags' : List T
 abbrev pub NamesInFolder : Type 0
 NamesInFolder = (name : List ℕ) → IsTimeZoneName name → IsZoneName name
 
+-- the one text is a part of the other
+pub record StandsIn (part bytes : List ℕ) : Type 0 where
+  pub before : List ℕ
+  pub after : List ℕ
+  pub whole : bytes ≡ before ++ (part ++ after)
+
+-- the name of a zone stands in brackets in the text
+abbrev pub IsNameIn : List ℕ → List ℕ → Type 0
+IsNameIn text name = IsTimeZoneName name × ((is_critical : Bool) × StandsIn (bracketed is_critical name) text)
+
 -- ---- What contracts see of a suffix that was read
 
 abbrev pub zone_of : ZoneText → Zone

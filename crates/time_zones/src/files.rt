@@ -35,8 +35,9 @@ pub trait ZoneFiles {
 
 /// The files of the system.
 #[derive(Drop)]
-pub(crate) struct Disk<'a, R> {
-    pub(crate) rt: &'a R,
+pub struct Disk<'a, R> {
+    /// What gives them.
+    pub rt: &'a R,
 }
 
 // An error of the system as one of a file.

@@ -1,24 +1,25 @@
 -- A moment of RFC 3339 that is the whole of some bytes is also one in front of more.
-use Rattle.std.proofs.Common.{◌≡◌, ◌≢◌, ◌≤◌, ◌-◌, ◌∙◌, ℕ, Bool, true, false, List, [], ◌∷◌, ◌++◌, length, take, drop, length-drop, take-append-drop, ap, refl, subst, inl, inr, arith, append_assoc, Option, Some, None, Ok, ◌+◌, Err, sym, length-append, nat_lt}
+use Rattle.std.specs.Char.{to_ascii_lowercase}
+use Rattle.std.proofs.Common.{◌≡◌, ◌≢◌, ◌≤◌, ◌-◌, ◌∙◌, ℕ, Bool, IsTrue, true, false, List, [], ◌∷◌, ◌++◌, length, take, drop, length-drop, take-append-drop, ap, refl, subst, inl, inr, arith, append_assoc, Option, Some, None, Ok, ◌+◌, Err, sym, length-append, nat_lt}
 use Rattle.std.proofs.Math.Seq.{take-length, take-append_seam, drop-append_seam}
 use Rattle.std.proofs.lemmas.Bool.Decides.{nat_tests}
 use Rattle.time_values.specs.Calendar.{greatest_year}
 use Rattle.time_values.specs.declared.offset_date_time.OffsetDateTime.{OffsetDateTime}
-use Rattle.time_zones.specs.Suffix.{GoesWith, IsSuffix, Tag, ZoneTag, critical_key}
+use Rattle.time_zones.specs.Suffix.{GoesWith, IsSuffix, Tag, ZoneTag, critical_key, is_time_end}
 use Rattle.time_zones.specs.declared.zones.Zones.{Zones}
-use Rattle.time_digits.specs.Digits.{Cut, IsDigitRun, NoDigitFirst}
+use Rattle.time_digits.specs.Digits.{Cut, IsDigit, IsDigitRun, NoDigitFirst, sign_byte}
 use Rattle.time_readers.specs.Readers.{Stand}
-use Rattle.time_readers.specs.Rfc3339.{Asks, HasForm, IsOffsetMinute, IsSubsecond, NoDotFirst, nothing_read, offset_places, to_second_places}
+use Rattle.time_readers.specs.Rfc3339.{Asks, HasForm, IsOffsetColon, IsOffsetMinute, IsSubsecond, NoDotFirst, date_places, nothing_read, offset_places, time_places, to_second_places}
 use Rattle.time_readers.specs.declared.rfc3339.Numbers.{Numbers}
 use Rattle.time_readers.specs.declared.rfc3339.Place.{Place}
 use Rattle.time_readers.specs.declared.rfc3339.Place.TheVariants as place
 use Rattle.time_readers.specs.Direct.{RefusesRfc3339}
-use Rattle.time_readers.proofs.Walking.{Stand-append, Stand-split}
+use Rattle.time_readers.proofs.Walking.{Stand-append, Stand-ends, Stand-split}
 use Rattle.time_record.specs.Record.{empty}
 use Rattle.time_record.specs.Resolution.{IsMoment}
 use Rattle.time_parsing.specs.Rfc3339.{Reads, Refuses}
 use Rattle.time_parsing.specs.Outcome.{IsOutcome, IsFront, direct}
-use Rattle.restamp_verdict.specs.Reading.{IsReadBy, said, Says}
+use Rattle.restamp_verdict.specs.Reading.{IsReadBy, IsReadInFront, said, Says}
 use Rattle.restamp_verdict.specs.Laws.{ReadsSuffixedBack}
 use Rattle.restamp_verdict.specs.Zoned.{IsLongestSuffix, IsSuffixed, Suffix, has_tail, tells_offset}
 use Rattle.restamp_verdict.specs.declared.reading.Defaults.{Defaults}
@@ -160,6 +161,82 @@ front-said text end v fits moment =
           (take-append-drop end text) (front-moment (take end text) rest v moment),
       ap (λ (k : ℕ). Ok (said v k)) long,
     )
+
+-- ---- A time in front of a text ends with a digit or the letter of UTC
+
+-- it ends so before the rest
+pub record EndsBefore (text rest : List ℕ) : Type 0 where
+  pub before : List ℕ
+  pub end : ℕ
+  pub is_end : IsTrue (is_time_end end)
+  pub whole : text ≡ before ++ end ∷ rest
+
+ends_longer : (front text rest longer : List ℕ) → longer ≡ front ++ text → EndsBefore text rest → EndsBefore longer rest
+ends_longer front text rest longer e ends = record {
+  before = front ++ ends.before;
+  end = ends.end;
+  is_end = ends.is_end;
+  whole = e ∙ ap (λ (l : List ℕ). front ++ l) ends.whole ∙ sym (append_assoc front ends.before (ends.end ∷ rest));
+}
+
+digit_ends : (b : ℕ) → IsDigit b → is_time_end b ≡ true
+digit_ends b h = grind (arith, nat_tests)
+
+zulu_ends : (b : ℕ) → to_ascii_lowercase b ≡ to_ascii_lowercase 90 → is_time_end b ≡ true
+zulu_ends b h = grind (arith, nat_tests)
+
+run_ends : (text after rest : List ℕ) (v : ℕ) → IsDigitRun 2 2 text after v → EndsBefore (text ++ rest) rest
+run_ends [] after rest v h = absurd (omega (arith, h.enough))
+run_ends (a ∷ []) after rest v h = absurd (omega (arith, h.enough))
+run_ends (a ∷ b ∷ []) after rest v h = record { before = a ∷ []; end = b; is_end = digit_ends b h.digits.1.0; whole = refl }
+run_ends (a ∷ b ∷ c ∷ text) after rest v h = absurd (omega (arith, h.within))
+
+hour_ends : (n m : Numbers) (bytes rest : List ℕ) → Cut (Asks true place.OffsetHour n) bytes rest m → EndsBefore bytes rest
+hour_ends n m bytes rest (text, e, inl utc) = record {
+  before = [];
+  end = utc.0.0;
+  is_end = zulu_ends utc.0.0 utc.0.2;
+  whole = e ∙ ap (λ x. x ++ rest) utc.0.1;
+}
+hour_ends n m bytes rest (text, e, inr signed) =
+    ends_longer (sign_byte signed.sign ∷ []) (signed.digits ++ rest) rest bytes (e ∙ ap (λ x. x ++ rest) signed.cut)
+    (run_ends signed.digits rest rest signed.hour signed.run.0)
+
+minute_ends : (utc : Bool) (n m : Numbers) (bytes mid next last colon minute : List ℕ) → EndsBefore bytes mid → mid ≡ colon ++ next
+    → IsOffsetColon utc colon → next ≡ minute ++ last → IsOffsetMinute true utc n minute last m → EndsBefore bytes last
+minute_ends true n m bytes mid next last colon minute ends e is f asks =
+    subst (EndsBefore bytes) (e ∙ ap (λ x. x ++ next) is ∙ f ∙ ap (λ x. x ++ last) asks.0) ends
+minute_ends false n m bytes mid next last colon minute ends e is f asks =
+    ends_longer (ends.before ++ ends.end ∷ colon) next last bytes
+    (ends.whole ∙ ap (λ x. ends.before ++ ends.end ∷ x) e ∙ sym (append_assoc ends.before (ends.end ∷ colon) next))
+    (subst (λ x. EndsBefore x last) (sym f) (run_ends minute last last asks.0 asks.1.0))
+
+offset_ends : (n m : Numbers) (bytes rest : List ℕ) → Stand (Asks true) offset_places n bytes rest m → EndsBefore bytes rest
+unfolding Stand
+offset_ends n m bytes rest (mid, k, hour, (next, j, (colon, e, (is, same)), (last, i, (minute, f, asks), (ended, all)))) =
+    subst (EndsBefore bytes) (sym ended)
+    (minute_ends j.is_utc j i bytes mid next last colon minute (hour_ends n k bytes mid hour) e
+    (subst (λ (now : Numbers). IsOffsetColon now.is_utc colon) (sym same) is) f asks)
+
+form_ends : (bytes rest : List ℕ) (n : Numbers) → HasForm true bytes rest n → EndsBefore bytes rest
+form_ends bytes rest n h =
+    let cut = Stand-split (Asks true) (date_places ++ time_places) offset_places nothing_read n bytes rest h in
+    let before = Stand-ends (Asks true) (date_places ++ time_places) nothing_read cut.1.0 bytes cut.0 cut.1.1 in
+    ends_longer before.0 cut.0 rest bytes before.1 (offset_ends cut.1.0 n cut.0 rest cut.1.2)
+
+what_is_left : (text rest : List ℕ) (ends : EndsBefore text rest) → drop (length text - length rest) text ≡ rest
+what_is_left text rest ends =
+    let front = ends.before ++ ends.end ∷ [] in
+    let whole : text ≡ front ++ rest = ends.whole ∙ sym (append_assoc ends.before (ends.end ∷ []) rest) in
+    let long : length text - length rest ≡ length front = omega (arith, ap length whole, length-append front rest) in
+    ap (λ (n : ℕ). drop n text) long ∙ ap (drop (length front)) whole ∙ drop-append_seam front rest
+
+pub front_ends : (Y : ℕ) (text : List ℕ) (s : Said) → IsReadInFront Y text (Ok s) → EndsBefore text (drop s.length text)
+front_ends Y text s (Ok (v, rest), (r, (n, m, form, month, put), moment), e) =
+    let ends = form_ends text rest n form in
+    let same : s ≡ said v (length text - length rest) = cc in
+    subst (EndsBefore text) (sym (ap (λ (x : Said). drop x.length text) same ∙ what_is_left text rest ends)) ends
+front_ends Y text s (Err f, front, e) = absurd cc
 
 -- ---- A text of RFC 3339 with a suffix that goes with its moment is read back
 

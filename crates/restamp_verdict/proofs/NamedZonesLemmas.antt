@@ -21,7 +21,7 @@ use Rattle.restamp_verdict.specs.Form.{IsWritten}
 use Rattle.restamp_verdict.specs.Job.{Verdict, IsJudgedAnywhere, IsJudgedAt, IsJudgedPart, IsPut, IsFirst, SaysAlone, AreTriedAlone, SaysFrom, is_inside, is_before, missed, refused, without, verdict_of, dropped}
 use Rattle.restamp_verdict.specs.Zoned.{IsOffsetWhen, IsChecked, IsLongestSuffix, IsSuffixed, Suffix, has_tail, tells_offset}
 use Rattle.restamp_verdict.specs.Laws.{SameZones, AreAlike, AllAlike, DiffersInZones, NeedsNamedZones}
-use Rattle.restamp_verdict.specs.Reading.{Says, SaysOn, SaysLocally, undated, at_offset, in_year, is_after, is_of_clocks, IsEarly, IsFinal, year_after, AreYearsTried, IsDated, AreTried, IsReadInTurn}
+use Rattle.restamp_verdict.specs.Reading.{IsReadInFront, Says, SaysOn, SaysLocally, undated, at_offset, in_year, is_after, is_of_clocks, IsEarly, IsFinal, year_after, AreYearsTried, IsDated, AreTried, IsReadInTurn}
 use Rattle.restamp_verdict.specs.Reason.{Reason, missing, too_far, unread}
 use Rattle.restamp_verdict.specs.declared.form.Form.{Form}
 use Rattle.restamp_verdict.specs.declared.job.Job.{Job}
@@ -31,6 +31,7 @@ use Rattle.restamp_verdict.specs.declared.reading.Defaults.{Defaults}
 use Rattle.restamp_verdict.specs.declared.reading.Reading.{Reading}
 use Rattle.restamp_verdict.specs.declared.reading.Reading.TheVariants as reading
 use Rattle.restamp_verdict.specs.declared.reading.Said.{Said}
+use Rattle.restamp_verdict.proofs.FrontLemmas.{EndsBefore, front_ends}
 
 -- what stands in a part stands in the whole
 deeper : (name part bytes : List ℕ) → StandsIn name part → StandsIn part bytes → StandsIn name bytes
@@ -59,23 +60,35 @@ of_range start stop bytes = deeper (slice_range bytes start stop) (drop start by
 
 -- a name that stands in a part stands in the whole
 name_deeper : (name part bytes : List ℕ) → IsNameIn part name → StandsIn part bytes → IsNameIn bytes name
-name_deeper name part bytes (is, (c, p)) q = (is, (c, deeper (bracketed c name) part bytes p q))
+name_deeper name part bytes p q = record {
+  end = p.end;
+  is_critical = p.is_critical;
+  is_end = p.is_end;
+  is_name = p.is_name;
+  stands = deeper (p.end ∷ bracketed p.is_critical name) part bytes p.stands q;
+}
 
--- the name of a suffix's zone stands in it
-name_of_suffix : (text : List ℕ) (tag : ZoneTag) (tags : List Tag) (name : List ℕ) → tag.zone ≡ named name
-    → IsSuffix text (Some tag) tags → IsNameIn text name
-name_of_suffix text tag tags name e s =
-    let told = subst (IsZoneText s.is_zone.inside) e s.is_zone.is_zone in (
-      told.1,
-      (
-        tag.is_critical,
-        record {
-          before = [];
-          after = tags_text tags;
-          whole = s.whole ∙ ap (λ l. l ++ tags_text tags) (s.is_zone.whole ∙ ap (bracketed tag.is_critical) told.0);
-        },
-      ),
-    )
+-- the name of the zone of a suffix behind a time stands in the text
+name_of_suffix : (text rest : List ℕ) (len : ℕ) (tag : ZoneTag) (tags : List Tag) (name : List ℕ) → EndsBefore text rest
+    → tag.zone ≡ named name → IsSuffix (take len rest) (Some tag) tags → IsNameIn text name
+name_of_suffix text rest len tag tags name ends e s =
+    let told = subst (IsZoneText s.is_zone.inside) e s.is_zone.is_zone in
+    let front : take len rest ≡ bracketed tag.is_critical name ++ tags_text tags =
+    s.whole ∙ ap (λ l. l ++ tags_text tags) (s.is_zone.whole ∙ ap (bracketed tag.is_critical) told.0) in
+    record {
+      end = ends.end;
+      is_critical = tag.is_critical;
+      is_end = ends.is_end;
+      is_name = told.1;
+      stands = record {
+        before = ends.before;
+        after = tags_text tags ++ drop len rest;
+        whole =
+            ends.whole ∙ ap (λ (l : List ℕ). ends.before ++ ends.end ∷ l)
+            (sym (take-append-drop len rest) ∙ ap (λ (l : List ℕ). l ++ drop len rest) front
+            ∙ append_assoc (bracketed tag.is_critical name) (tags_text tags) (drop len rest));
+      };
+    }
 
 goes_zone : (zone : Zone) (zones other : Zones) (tells : Bool) (m : OffsetDateTime) (a : Checked)
     → ((name : List ℕ) → zone ≡ named name → zone_named other name ≡ zone_named zones name)
@@ -93,31 +106,31 @@ goes None None zones other tells m a same p = p
 goes (Some z) None zones other tells m a same p = goes_zone z.zone zones other tells m a (λ name e. same z name refl e) p
 
 module _ (zones other : Zones) (text : List ℕ) (same : SameZones text zones other) where
-  checked_alike : (front : Said) (s : Suffix) (a : Result Said Reason) → IsLongestSuffix (drop front.length text) s
-      → IsChecked zones text front s a → IsChecked other text front s a
-  checked_alike front s a longest p =
+  checked_alike : (front : Said) (s : Suffix) (a : Result Said Reason) → EndsBefore text (drop front.length text)
+      → IsLongestSuffix (drop front.length text) s → IsChecked zones text front s a → IsChecked other text front s a
+  checked_alike front s a ends longest p =
       let rest = drop front.length text in (
         p.0,
         goes s.zone (critical_key s.tags) zones other (tells_offset (take front.length text)) front.moment p.0
-            (λ z name e n. same name (name_deeper name rest text
-            (name_deeper name (take s.len rest) rest
-            (name_of_suffix (take s.len rest) z s.tags name n (subst (λ (tag : Option ZoneTag). IsSuffix (take s.len rest) tag s.tags) e longest.is_suffix))
-            (of_take s.len rest)) (of_drop front.length text))) p.1,
+            (λ z name e n. same name
+            (name_of_suffix text rest s.len z s.tags name ends n
+            (subst (λ (tag : Option ZoneTag). IsSuffix (take s.len rest) tag s.tags) e longest.is_suffix))) p.1,
         p.2,
       )
 
-  ended_alike : (tail : Bool) (front : Said) (s : Suffix) (a : Result Said Reason) → IsLongestSuffix (drop front.length text) s
+  ended_alike : (tail : Bool) (front : Said) (s : Suffix) (a : Result Said Reason) → EndsBefore text (drop front.length text)
+      → IsLongestSuffix (drop front.length text) s
       → MatchBool tail (a ≡ Err (unread trailing)) (IsChecked zones text front s a)
       → MatchBool tail (a ≡ Err (unread trailing)) (IsChecked other text front s a)
-  ended_alike true front s a longest p = p
-  ended_alike false front s a longest p = checked_alike front s a longest p
+  ended_alike true front s a ends longest p = p
+  ended_alike false front s a ends longest p = checked_alike front s a ends longest p
 
-  told_alike : (is_open : Bool) (outcome : Result Said Refusal) (a : Result Said Reason)
+  told_alike : (Y : ℕ) (is_open : Bool) (outcome : Result Said Refusal) (a : Result Said Reason) → IsReadInFront Y text outcome
       → MatchResult outcome (λ s. IsSuffixed zones is_open text s a) (λ e. a ≡ Err (unread e))
       → MatchResult outcome (λ s. IsSuffixed other is_open text s a) (λ e. a ≡ Err (unread e))
-  told_alike is_open (Ok s) a p =
-      (p.0, p.1, ended_alike (has_tail is_open text (s.length + p.0.len)) s p.0 a p.1 p.2)
-  told_alike is_open (Err e) a p = p
+  told_alike Y is_open (Ok s) a front p =
+      (p.0, p.1, ended_alike (has_tail is_open text (s.length + p.0.len)) s p.0 a (front_ends Y text s front) p.1 p.2)
+  told_alike Y is_open (Err e) a front p = p
 
 -- what a text says by both formats of a kind
 abbrev Alike : ℕ → Bool → List ℕ → Reading → Reading → Type 0
@@ -128,7 +141,7 @@ says_alike : (Y : ℕ) (is_open : Bool) (text : List ℕ) (format other : Readin
 says_alike Y is_open text format other (inl e) d a p = subst (λ (f : Reading). Says Y f is_open text d a) e p
 says_alike Y is_open text format other (inr (zones, same, e, f, h)) d a p =
     let q : Says Y (reading.Zoned zones) is_open text d a = subst (λ (r : Reading). Says Y r is_open text d a) e p in
-    let r : Says Y (reading.Zoned same) is_open text d a = (q.0, q.1, told_alike zones same text h is_open q.0 a q.2) in
+    let r : Says Y (reading.Zoned same) is_open text d a = (q.0, q.1, told_alike zones same text h Y is_open q.0 a q.1 q.2) in
     subst (λ (r : Reading). Says Y r is_open text d a) (sym f) r
 
 -- what both say stays what follows from it: on clocks, in years, by several formats

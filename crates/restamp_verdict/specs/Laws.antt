@@ -181,7 +181,7 @@ CommonReadsBack Y =
 
 -- ---- Verdicts by tables of zones that differ in names which a line doesn't have
 
--- each name that stands in brackets in the bytes has one zone in both tables, or none
+-- each name that stands in brackets where a time may end has one zone in both tables, or none
 abbrev pub SameZones : List ℕ → Zones → Zones → Type 0
 SameZones bytes zones other = (name : List ℕ) → IsNameIn bytes name → SameNamed zones other name
 
@@ -210,7 +210,7 @@ pub record DiffersInZones (line : List ℕ) (job other : Job) : Type 0 where
   pub until : job.until ≡ other.until
   pub asks_for_times : job.asks_for_times ≡ other.asks_for_times
 
--- the verdict on a line rests on no zone whose name doesn't stand in it
+-- the verdict on a line rests on no zone whose name doesn't stand in it where a time may end
 abbrev pub NeedsNamedZones : ℕ → Type 0
 NeedsNamedZones Y =
     (job other : Job) (line : List ℕ) (verdict : Verdict) → DiffersInZones line job other

@@ -70,7 +70,8 @@ pub fn law_common_read_back()
     ensures { CommonReadsBack greatest_year }
 {}
 
-/// The verdict on a line rests on no zone whose name doesn't stand in it: jobs that differ in such zones alone have one.
+/// The verdict on a line rests on no zone whose name doesn't stand in brackets in it where a time may end: jobs that differ
+/// in such zones alone have one.
 #[tactic(auto, using(crate::proofs::NamedZonesLemmas::needs_named_zones))]
 pub fn law_named_zones()
     ensures { NeedsNamedZones greatest_year }

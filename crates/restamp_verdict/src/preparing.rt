@@ -9,7 +9,8 @@ use std::alloc::AllocError;
 use time_zones::ZoneFiles;
 
 impl Reading {
-    /// Looks up the zones whose names stand in brackets in the line, where a suffix may name one.
+    /// Looks up the zones whose names stand in brackets where a time of the line may end, where a suffix may name one.
+    #[inline(always)]
     fn prepare<F: ZoneFiles>(&mut self, files: &F, line: &[u8]) -> Result<(), AllocError>
         ensures ready { OnOk result (spec.IsReadyFor line.now self.new) }
         ensures looks_up { spec.LooksUpFor (F.gives files.now) (IsNameIn line.now) self.old self.new }
@@ -38,8 +39,8 @@ fn prepare_all<F: ZoneFiles>(
 }
 
 impl Job<'_> {
-    /// Looks up the zones whose names stand in brackets in the line, for the formats by which a suffix may name one. What
-    /// was looked up once stays known, so that no verdict changes.
+    /// Looks up the zones whose names stand in brackets where a time of the line may end, for the formats by which a suffix
+    /// may name one. What was looked up once stays known, so that no verdict changes.
     #[inline(always)]
     pub fn prepare<F: ZoneFiles>(&mut self, files: &F, line: &[u8]) -> Result<(), AllocError>
         ensures ready { OnOk result (spec.IsReady line.now self.new) }

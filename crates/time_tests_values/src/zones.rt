@@ -403,16 +403,29 @@ mod finding {
         Ok(())
     }
 
-    // Texts, and whether the zone is known once what they name was looked up.
-    static TEXTS: [(&[u8], bool); 8] = [
+    // Texts, and whether the zone is known once what they name was looked up: behind a digit, `Z` or `z`, with which a time
+    // ends, and nowhere else.
+    static TEXTS: [(&[u8], bool); 20] = [
         (b"", false),
-        (b"Asia/Pyongyang", false),
-        (b"[Asia/Pyongyang", false),
-        (b"[Asia/Pyongyang]", true),
-        (b"a [[!Asia/Pyongyang]", true),
-        (b"[!!Asia/Pyongyang]", false),
-        (b"[UTC][b=c] [Asia/Pyongyang] ]", true),
-        (b"[ Asia/Pyongyang]", false),
+        (b"0Asia/Pyongyang", false),
+        (b"0[Asia/Pyongyang", false),
+        (b"0[Asia/Pyongyang]", true),
+        (b"9[!Asia/Pyongyang]", true),
+        (b"Z[Asia/Pyongyang]", true),
+        (b"z[Asia/Pyongyang]", true),
+        (b"[Asia/Pyongyang]", false),
+        (b"/[Asia/Pyongyang]", false),
+        (b":[Asia/Pyongyang]", false),
+        (b"Y[Asia/Pyongyang]", false),
+        (b"y[Asia/Pyongyang]", false),
+        (b"0 [Asia/Pyongyang]", false),
+        (b"0[[Asia/Pyongyang]", false),
+        (b"0[UTC][Asia/Pyongyang]", false),
+        (b"0[!!Asia/Pyongyang]", false),
+        (b"0[ Asia/Pyongyang]", false),
+        (b"0[Asia]1[+01:00]2[Asia/Pyongyang]", true),
+        (b"[UTC] 0[b=c] Z[Asia/Pyongyang] ]", true),
+        (b"0[Z[Asia/Pyongyang]", true),
     ];
 
     #[test]
@@ -437,7 +450,7 @@ mod finding {
         assert!(rt; zones.look_up(&Shelf { alloc }, "Vast").is_err());
         assert!(rt;
             zones
-                .look_up_names(&Shelf { alloc }, b"[tab][Vast]")
+                .look_up_names(&Shelf { alloc }, b"0[tab]1[Vast]")
                 .is_err()
         );
         Ok(())
@@ -580,7 +593,7 @@ mod checking {
         match find_zones(&rt) {
             Ok(mut zones) => {
                 assert!(rt; zones.get(b"UTC").is_some());
-                let line = b"[posix/UTC] [../zoneinfo/UTC]";
+                let line = b"0[posix/UTC] 0[../zoneinfo/UTC]";
                 assert!(rt; zones.look_up_names(&Disk { rt: &rt }, line).is_ok());
                 assert!(rt; zones.get(b"posix/UTC").is_none());
                 assert!(rt; zones.get(b"../zoneinfo/UTC").is_none());

@@ -4,21 +4,22 @@ use Rattle.std.specs.Borrow.{Bor}
 use Rattle.std.specs.Result.{result_ok}
 use Rattle.std.specs.List.{AllPass}
 use Rattle.std.specs.Str.{IsAscii, bytes_eq}
-use Rattle.std.proofs.Common.{Bool, ◌≡◌, ◌≢◌, ◌⊎◌, ℕ, zero, suc, ◌-◌, ◌<◌, true, false, List, [], ◌∷◌, ◌++◌, length, take, drop, take-append-drop, append_assoc, Option, Some, None, refl, sym, ap, subst, ◌∙◌, arith, inl, inr}
+use Rattle.std.proofs.Common.{Bool, ◌≡◌, ◌≢◌, ◌⊎◌, ℕ, zero, suc, ◌-◌, ◌<◌, true, false, List, [], ◌∷◌, ◌++◌, length, take, drop, append_assoc, Option, Some, None, refl, sym, ap, subst, ◌∙◌, arith, inl, inr}
+use Rattle.std.proofs.lemmas.Bool.{false≢true}
 use Rattle.std.proofs.lemmas.Bool.Decides.{nat_tests}
 use Rattle.std.proofs.lemmas.List.{drop_at, take_all, length-drop}
 use Rattle.std.proofs.lemmas.Slice.Eq.{bytes_eq-Decides}
 use Rattle.std.proofs.lemmas.Str.{IsUtf8-from_ascii}
 use Rattle.time_zones.specs.Finding.{Giving, known_of, IsKnown, folder_of, IsInserted, IsSame, IsLookedUp, LooksUp}
-use Rattle.time_zones.specs.Suffix.{IsTimeZoneName, named, at_offset, IsZoneText, bracketed, flagged, ZoneTag, zone_of, IsNameIn}
+use Rattle.time_zones.specs.Suffix.{IsTimeZoneName, named, at_offset, IsZoneText, bracketed, flagged, ZoneTag, zone_of, is_time_end, is_zone_initial, IsNameIn}
 use Rattle.time_zones.specs.declared.suffix.ZoneText.{ZoneText}
 use Rattle.time_zones.specs.declared.suffix.ZoneText.TheVariants.{Name, Offset}
 use Rattle.time_values.specs.declared.utc_offset.UtcOffset.{UtcOffset}
-use Rattle.time_zones.specs.SuffixFronts.{is_held, BeginsWithName, BeginsWithZone, HasNone}
+use Rattle.time_zones.specs.SuffixFronts.{is_held, BeginsWithName, BeginsWithZone, EndsTime, HasNone}
 use Rattle.time_zones.specs.declared.finding.NamedZone.{NamedZone}
 use Rattle.time_zones.specs.declared.zones.Zones.{Zones}
 use Rattle.time_zones.proofs.NameLemmas.{head_passes, tail_passes, brackets_once}
-use Rattle.time_zones.proofs.SuffixTextLemmas.{zone_held, zone_once}
+use Rattle.time_zones.proofs.SuffixTextLemmas.{name_initial, zone_held, zone_once}
 
 -- ---- The zone in front of a text that begins with a name
 
@@ -57,12 +58,21 @@ same_tail a b xs ys e = cc
 first_of : (a b : ℕ) (xs ys : List ℕ) → a ∷ xs ≡ b ∷ ys → a ≡ b
 first_of a b xs ys e = cc
 
-split : (before after b w : List ℕ) → HasNone 91 before → before ++ 91 ∷ after ≡ b ++ 91 ∷ w
-    → (after ≡ w) ⊎ ((m : List ℕ) × (after ≡ m ++ 91 ∷ w))
-split [] after [] w none e = inl (same_tail _ _ _ _ e)
-split [] after (x ∷ b) w none e = inr (b, same_tail _ _ _ _ e)
-split (y ∷ before) after [] w none e = absurd (none 0 (omega arith) (first_of _ _ _ _ e))
-split (y ∷ before) after (x ∷ b) w none e = split before after b w (λ k below. none (suc k) (omega arith)) (same_tail _ _ _ _ e)
+split : (end : ℕ) (before after b w : List ℕ) → end ≢ 91 → HasNone 91 before → before ++ 91 ∷ after ≡ b ++ end ∷ 91 ∷ w
+    → ((after ≡ w) × (before ≡ b ++ end ∷ [])) ⊎ ((m : List ℕ) × (after ≡ m ++ end ∷ 91 ∷ w))
+split end [] after [] w other none e = absurd (other (sym (first_of _ _ _ _ e)))
+split end [] after (x ∷ b) w other none e = inr (b, same_tail _ _ _ _ e)
+split end (y ∷ []) after [] w other none e =
+    inl (same_tail _ _ _ _ (same_tail _ _ _ _ e), ap (λ (c : ℕ). c ∷ []) (first_of _ _ _ _ e))
+split end (y ∷ z ∷ before) after [] w other none e = absurd (none 1 (omega arith) (first_of _ _ _ _ (same_tail _ _ _ _ e)))
+split end (y ∷ before) after (x ∷ b) w other none e =
+    elim (split end before after b w other (λ k below. none (suc k) (omega arith)) (same_tail _ _ _ _ e)) [
+      | inl here ↦ inl (here.0, ap (λ (l : List ℕ). y ∷ l) here.1 ∙ ap (λ (c : ℕ). c ∷ (b ++ end ∷ [])) (first_of _ _ _ _ e))
+      | inr later ↦ inr later
+    ]
+
+no_end : (end : ℕ) → is_time_end end ≡ true → end ≢ 91
+no_end end is e = let bracket : is_time_end 91 ≡ true = ap is_time_end (sym e) ∙ is in absurd cc
 
 none_there : (b w : List ℕ) → HasNone 91 (b ++ 91 ∷ w) → ⊥
 none_there [] w none = none 0 (omega arith) refl
@@ -72,37 +82,54 @@ all_left : (n : ℕ) (text : List ℕ) → take (length text - n) (drop n text) 
 all_left n text = take_all (length text - n) (drop n text) (omega (arith, length-drop n text))
 
 pub next_name : (rest before after name : List ℕ) → rest ≡ before ++ 91 ∷ after → HasNone 91 before → IsNameIn rest name
-    → BeginsWithName (take (length rest - length before) (drop (length before) rest)) name ⊎ IsNameIn after name
-next_name rest before after name e none (is, (c, stands)) =
-    let begun : take (length rest - length before) (drop (length before) rest) ≡ 91 ∷ after =
-    all_left (length before) rest ∙ ap (drop (length before)) e ∙ drop_at before (91 ∷ after) (length before) refl in
-    elim (split before after stands.before (flagged c name ++ 93 ∷ [] ++ stands.after) none (sym e ∙ stands.whole)) [
-      | inl here ↦ inl (is, (c, stands.after, begun ∙ ap (λ (l : List ℕ). 91 ∷ l) here))
-      | inr later ↦ inr (is, (c, record { before = later.0; after = stands.after; whole = later.1 }))
+    → (BeginsWithName (91 ∷ after) name × EndsTime before) ⊎ IsNameIn after name
+next_name rest before after name e none is =
+    let c = is.is_critical in
+    let stands = is.stands in
+    elim (split is.end before after stands.before (flagged c name ++ 93 ∷ [] ++ stands.after) (no_end is.end is.is_end) none (sym e ∙ stands.whole)) [
+      | inl here ↦ inl (
+        (is.is_name, (c, stands.after, ap (λ (l : List ℕ). 91 ∷ l) here.0)),
+        record { before = stands.before; end = is.end; whole = here.1; is_end = is.is_end },
+      )
+      | inr later ↦ inr (record {
+        end = is.end;
+        is_critical = c;
+        is_end = is.is_end;
+        is_name = is.is_name;
+        stands = record { before = later.0; after = stands.after; whole = later.1 };
+      })
     ]
 
 pub no_name : (rest name : List ℕ) → HasNone 91 rest → IsNameIn rest name → ⊥
-no_name rest name none (is, (c, stands)) =
-    none_there stands.before (flagged c name ++ 93 ∷ [] ++ stands.after) (subst (HasNone 91) stands.whole none)
+no_name rest name none is =
+    let stands = is.stands in
+    none_there (stands.before ++ is.end ∷ []) (flagged is.is_critical name ++ 93 ∷ [] ++ stands.after)
+    (subst (HasNone 91) (stands.whole ∙ sym (append_assoc stands.before (is.end ∷ []) (bracketed is.is_critical name ++ stands.after))) none)
 
 -- a name in front of what is left stands in the text
-pub name_there : (text front rest before name : List ℕ) → text ≡ front ++ rest
-    → BeginsWithName (take (length rest - length before) (drop (length before) rest)) name → IsNameIn text name
-name_there text front rest before name e (is, (c, more, begun)) =
-    let n = length before in
-    let here : drop n rest ≡ bracketed c name ++ more = sym (all_left n rest) ∙ begun in (
-      is,
-      (
-        c,
-        record {
-          before = front ++ take n rest;
-          after = more;
-          whole =
-              e ∙ ap (λ (l : List ℕ). front ++ l) (sym (take-append-drop n rest) ∙ ap (λ (l : List ℕ). take n rest ++ l) here)
-              ∙ sym (append_assoc front (take n rest) (bracketed c name ++ more));
-        },
-      ),
-    )
+pub name_there : (text front rest before after name : List ℕ) → text ≡ front ++ rest → rest ≡ before ++ 91 ∷ after → EndsTime before
+    → BeginsWithName (91 ∷ after) name → IsNameIn text name
+name_there text front rest before after name e cut ends (is, (c, more, begun)) = record {
+  end = ends.end;
+  is_critical = c;
+  is_end = ends.is_end;
+  is_name = is;
+  stands = record {
+    before = front ++ ends.before;
+    after = more;
+    whole =
+        e ∙ ap (λ (l : List ℕ). front ++ l)
+        (cut ∙ ap (λ (l : List ℕ). before ++ l) begun ∙ ap (λ (l : List ℕ). l ++ (bracketed c name ++ more)) ends.whole
+        ∙ append_assoc ends.before (ends.end ∷ []) (bracketed c name ++ more))
+        ∙ sym (append_assoc front ends.before (ends.end ∷ (bracketed c name ++ more)));
+  };
+}
+
+-- what begins with the bracket, as the code cuts it
+pub from_bracket : (rest before after : List ℕ) → rest ≡ before ++ 91 ∷ after
+    → take (length rest - length before) (drop (length before) rest) ≡ 91 ∷ after
+from_bracket rest before after e =
+    all_left (length before) rest ∙ ap (drop (length before)) e ∙ drop_at before (91 ∷ after) (length before) refl
 
 -- what is left behind the bracket is a part of the text
 pub left_behind : (text front rest before after : List ℕ) → text ≡ front ++ rest → rest ≡ before ++ 91 ∷ after
@@ -240,12 +267,19 @@ looks_up_as Gives IsAsked IsMore a b p asks = record {
   folder = p.folder;
 }
 
--- the next name, by what stands behind the bracket
-pub next_after : (rest before after name : List ℕ) → rest ≡ before ++ 91 ∷ after → HasNone 91 before → IsNameIn rest name
-    → BeginsWithName (91 ∷ after) name ⊎ IsNameIn after name
-next_after rest before after name e none stands = elim (next_name rest before after name e none stands) [
-  | inl here ↦
-      inl (subst (λ (t : List ℕ). BeginsWithName t name)
-      (all_left (length before) rest ∙ ap (drop (length before)) e ∙ drop_at before (91 ∷ after) (length before) refl) here)
-  | inr later ↦ inr later
-]
+-- ---- No name in front
+
+name_begun : (text name more : List ℕ) → ((b : ℕ) (rest : List ℕ) → text ≡ b ∷ rest → is_zone_initial b ≡ false) → IsTimeZoneName name
+    → text ≡ (name ++ 93 ∷ []) ++ more → ⊥
+name_begun text [] more none is e = (is 0 [] (omega arith)).0
+name_begun text (x ∷ name) more none is e =
+    false≢true (sym (none x ((name ++ 93 ∷ []) ++ more) e) ∙ name_initial x name is)
+
+begun_by : (is_critical : Bool) (text name more : List ℕ) → ((b : ℕ) (rest : List ℕ) → text ≡ b ∷ rest → is_zone_initial b ≡ false)
+    → ((rest : List ℕ) → text ≢ 33 ∷ rest) → IsTimeZoneName name → 91 ∷ text ≡ bracketed is_critical name ++ more → ⊥
+begun_by false text name more none plain is e = name_begun text name more none is (same_tail _ _ _ _ e)
+begun_by true text name more none plain is e = plain ((name ++ 93 ∷ []) ++ more) (same_tail _ _ _ _ e)
+
+pub no_name_begun : (text name : List ℕ) → ((b : ℕ) (rest : List ℕ) → text ≡ b ∷ rest → is_zone_initial b ≡ false)
+    → ((rest : List ℕ) → text ≢ 33 ∷ rest) → BeginsWithName (91 ∷ text) name → ⊥
+no_name_begun text name none plain p = begun_by p.1.0 text name p.1.1 none plain p.0 p.1.2

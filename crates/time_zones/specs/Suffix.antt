@@ -171,9 +171,17 @@ pub record StandsIn (part bytes : List ℕ) : Type 0 where
   pub after : List ℕ
   pub whole : bytes ≡ before ++ (part ++ after)
 
--- the name of a zone stands in brackets in the text
-abbrev pub IsNameIn : List ℕ → List ℕ → Type 0
-IsNameIn text name = IsTimeZoneName name × ((is_critical : Bool) × StandsIn (bracketed is_critical name) text)
+-- a time of RFC 3339 ends with a digit, or with the letter of UTC
+abbrev pub is_time_end : ℕ → Bool
+is_time_end b = is_ascii_digit b || b == 90 || b == 122
+
+-- the name of a zone stands in brackets in the text where a time may end
+pub record IsNameIn (text name : List ℕ) : Type 0 where
+  pub end : ℕ
+  pub is_critical : Bool
+  pub is_end : IsTrue (is_time_end end)
+  pub is_name : IsTimeZoneName name
+  pub stands : StandsIn (end ∷ bracketed is_critical name) text
 
 -- ---- What contracts see of a suffix that was read
 

@@ -1,14 +1,14 @@
 //! Zones by their names, each read once, where its name is looked up.
-ghost use Rattle.std.specs.Prelude.{◌≡◌, ◌≢◌, false, ◌++◌, ◌∷◌, ℕ, List, Some, None, codes, IfOk, IfErr, OnOk, OnErr, IsTrue, MatchOption, string_bytes};
+ghost use Rattle.std.specs.Prelude.{◌≡◌, ◌≢◌, false, ◌++◌, ◌∷◌, ℕ, List, Some, None, codes, IfOk, IfErr, OnOk, OnErr, IsTrue, MatchBool, MatchOption, string_bytes};
 ghost use Rattle.time_zones.specs.Finding.{zone_named, known_of, folder_of, IsKnown, IsInserted, IsSame, IsZoneIfAny, is_again, IsLookedUp, LooksUp, IsFolderFault};
 ghost use Rattle.time_zones.specs.Suffix.{IsNameIn};
-ghost use Rattle.time_zones.specs.SuffixFronts.{BeginsWithName, HasNone};
+ghost use Rattle.time_zones.specs.SuffixFronts.{BeginsWithName, EndsTime, HasNone};
 ghost use Rattle.time_zones.specs.declared.finding.NamedZone.TheVariants as Named;
 
 use crate::files::ZoneFiles;
 use crate::finding::{NamedZone, find_at, folder};
 use crate::place::named;
-use crate::suffix::name_in_front;
+use crate::suffix::{begins_name, name_in_front};
 use crate::zone_fault::ZoneFault;
 use jiff_tz::TimeZone;
 use memchr::memchr;
@@ -93,16 +93,16 @@ impl Zones {
         self.put(name, found)
     }
 
-    // Whether the name that ends with the first `]` is known, so that it need not be read once more.
+    // Whether the name that ends with the first `]` is known, or there is none, so that it need not be looked up.
     fn knows_front(&self, text: &[u8]) -> bool
         ensures { IsTrue result → (name : List ℕ) → BeginsWithName (91 ∷ text.now) name → IsKnown self.now name }
     {
+        if !begins_name(text) {
+            return !is_flagged(text);
+        }
         let Some((front, _)) = split_at(text, b']') else {
             return false;
         };
-        if is_flagged(front) {
-            return false;
-        }
         match str::from_utf8(front) {
             Ok(name) => self.zones.get(name).is_some(),
             Err(_) => false,
@@ -120,20 +120,27 @@ impl Zones {
         Ok(())
     }
 
-    /// Looks up the names of zones that stand in brackets in a text.
+    /// Looks up the names of zones that stand in brackets in a text where a time may end: behind a digit, `Z` or `z`.
     pub fn look_up_names<F: ZoneFiles>(&mut self, files: &F, text: &[u8]) -> Result<(), AllocError>
         ensures known { OnOk result ((name : List ℕ) → IsNameIn text.now name → IsKnown self.new name) }
         ensures looks_up { LooksUp (F.gives files.now) (IsNameIn text.now) self.old self.new }
     {
         let mut rest = text;
         while let Some((before, after)) = split_at(rest, b'[') {
-            if !self.knows_front(after) {
+            if may_end_time(before) && !self.knows_front(after) {
                 self.look_up_front(files, &rest[before.len()..])?;
             }
             rest = after;
         }
         Ok(())
     }
+}
+
+// Whether a time may end where the text does.
+fn may_end_time(text: &[u8]) -> bool
+    ensures { MatchBool result (EndsTime text.now) (¬ EndsTime text.now) }
+{
+    matches!(text, [.., b'0'..=b'9' | b'Z' | b'z'])
 }
 
 // Whether a text begins with the flag of what is critical.

@@ -7,6 +7,7 @@ pub mod WrittenAgain
 pub mod DescribedBack
 pub mod Telling
 pub mod CommonBack
+mod ClocksOnce
 pub mod OneWrong
 pub mod LackRecords
 pub mod LackTrees

@@ -162,7 +162,7 @@ module _ (v : OffsetDateTime) where
       ) refl in
       subst (λ r. IsConstructed r (HasClock t.hour t.minute t.second t.nanosecond) (Ok t)) (sym none) (refl, refl, refl, refl)
 
-  offset_made : (m s : ℤ) → m ≡ o.minutes → s ≡ o.seconds
+  pub offset_made : (m s : ℤ) → m ≡ o.minutes → s ≡ o.seconds
       → IsConstructed (offset_refusal o.hours m s) (Offsets.HasOffset o.hours m s) (Ok o)
   offset_made m s minutes seconds =
       subst (λ m. IsConstructed (offset_refusal o.hours m s) (Offsets.HasOffset o.hours m s) (Ok o)) (sym minutes)

@@ -4,7 +4,7 @@ ghost use Rattle.time_values.specs.Calendar.{greatest_year};
 ghost use Rattle.restamp_verdict.specs.Reading as spec;
 ghost use Rattle.restamp_verdict.specs.Reason.{Reason as Reason_, seen, seen_read};
 
-use crate::local::{Clocks, read_local, read_unplaced};
+use crate::local::{Clocks, read_local, read_once, read_unplaced};
 use crate::reading::{Defaults, Reading, Said, read};
 use crate::reason::Reason;
 use crate::saying::say;
@@ -287,5 +287,23 @@ pub fn read_in_turn(
     match read(first, is_open, text, defaults) {
         Ok(said) => Ok(said),
         Err(reason) => read_further(first, others, is_open, text, defaults, reason),
+    }
+}
+
+/// The same where clocks of a zone may tell an offset, with a short cut.
+#[inline(always)]
+pub(crate) fn read_on_clocks(
+    first: &Reading,
+    others: &[Reading],
+    is_open: bool,
+    text: &[u8],
+    defaults: &Defaults<'_>,
+) -> Result<Said, Reason>
+    ensures said { spec.IsReadInTurn greatest_year first.now others.now is_open text.now defaults.now (seen_read result) }
+    ensures within { IfOk result (λ said. said.start + said.length ≤ length text.now) }
+{
+    match read_once(first, is_open, text, defaults) {
+        Some(said) => Ok(said),
+        None => read_in_turn(first, others, is_open, text, defaults),
     }
 }

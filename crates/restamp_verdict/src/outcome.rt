@@ -6,7 +6,7 @@ ghost use Rattle.restamp_verdict.specs.Job as job;
 
 mod fast;
 
-use crate::dated::read_in_turn;
+use crate::dated::read_on_clocks;
 use crate::job::{Job, Verdict};
 use crate::reading::Said;
 use crate::saying::{say, say_in_turn};
@@ -82,7 +82,7 @@ impl Job<'_> {
         ensures within { job.EndsWithin (start + length part.now) result }
     {
         let others = self.others.as_slice();
-        match read_in_turn(&self.first, others, is_open, part, &self.defaults) {
+        match read_on_clocks(&self.first, others, is_open, part, &self.defaults) {
             Ok(said) => self.decide_said(start, said, text),
             Err(_) => Outcome::Refused,
         }

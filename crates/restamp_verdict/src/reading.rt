@@ -86,7 +86,7 @@ pub(crate) fn has_year(parsed: &Parsed) -> bool
 
 // Puts the year into a record that says no part of one.
 #[inline(always)]
-fn put_year(year: Option<i32>, parsed: &mut Parsed)
+pub(crate) fn put_year(year: Option<i32>, parsed: &mut Parsed)
     ensures { parsed.new ≡ spec.with_year greatest_year year parsed.old }
 {
     let Some(year) = year else {
@@ -126,7 +126,7 @@ pub(crate) fn complete(defaults: &Defaults<'_>, parsed: &mut Parsed)
 
 // The moment that the text says up to that rest.
 #[inline(always)]
-fn said_before(rest: &[u8], text: &[u8], moment: OffsetDateTime) -> Said
+pub(crate) fn said_before(rest: &[u8], text: &[u8], moment: OffsetDateTime) -> Said
     ensures said { result ≡ spec.said moment (length text.now - length rest.now) }
     ensures within { result.start + result.length ≤ length text.now }
 {

@@ -1,0 +1,156 @@
+-- A text that leaves its offset to clocks of a zone is read once.
+use Rattle.std.proofs.Common.{◌≡◌, ◌-◌, ◌∙◌, ◌==◌, ◌∷◌, ℕ, ℤ, Bool, true, false, List, [], length, Option, None, Some, Result, Ok, Err, refl, sym, ap, subst, inl, inr, arith, is_some, if◌then◌else◌}
+use Rattle.std.specs.Prelude.{IsOkAnd, MatchOption}
+use Rattle.std.proofs.lemmas.Bool.{false≢true}
+use Rattle.std.proofs.lemmas.Bool.Decides.{nat_tests}
+use Rattle.time_values.specs.Moments.{offset_date, offset_of, offset_time, plain_date, plain_time}
+use Rattle.time_values.specs.Offsets as Offsets
+use Rattle.time_values.specs.Offsets.{IsUtc}
+use Rattle.time_values.specs.Refusal.{Refusal, insufficient}
+use Rattle.time_values.specs.declared.date.Date.{Date}
+use Rattle.time_values.specs.declared.time.Time.{Time}
+use Rattle.time_values.specs.declared.utc_offset.UtcOffset.{UtcOffset}
+use Rattle.time_values.specs.declared.offset_date_time.OffsetDateTime.{OffsetDateTime}
+use Rattle.time_values.specs.declared.plain_date_time.PlainDateTime.{PlainDateTime}
+use Rattle.time_components.specs.Tree.{steps_shape}
+use Rattle.time_record.specs.Reading as Description
+use Rattle.time_record.specs.Record.{Record, empty}
+use Rattle.time_record.specs.Resolution.{IsDated, IsMoment, IsPlain, IsStamped, IsMomentOfParts, IsOffset, IsTimed, is_leap_second, stand_in}
+use Rattle.restamp_verdict.specs.Reading.{Says, SaysLocally, SaysOn, at_offset, completed, said, with_offset, with_year}
+use Rattle.restamp_verdict.specs.Reason.{unread}
+use Rattle.restamp_verdict.specs.Zoned.{IsOffsetWhen}
+use Rattle.restamp_verdict.specs.declared.local.Clocks.{Clocks}
+use Rattle.restamp_verdict.specs.declared.reading.Defaults.{Defaults}
+use Rattle.restamp_verdict.specs.declared.reading.Reading.TheVariants as reading
+use Rattle.time_components.specs.declared.inspect.Step.{Step}
+use Rattle.restamp_verdict.proofs.Telling.{offset_made}
+
+-- the record with the parts of an offset
+abbrev placed : UtcOffset → Record → Record
+placed o r = record r {
+  offset_hour = Some (Offsets.hours o);
+  offset_minute = Some (Offsets.minutes o);
+  offset_second = Some (Offsets.seconds o);
+  offset_is_negative = false;
+}
+
+-- the moment of a record without a timestamp is that of its parts
+by_parts : (Y : ℕ) (r : Record) (result : Result OffsetDateTime Refusal) → r.unix_timestamp_nanos ≡ None → IsMomentOfParts Y r result → IsMoment Y r result
+unfolding IsMoment
+by_parts Y r result none parts =
+    subst (λ (n : Option ℤ). MatchOption n (IsMomentOfParts Y r result) (λ n. IsOkAnd result
+    (λ v. IsStamped Y n r.subsecond (offset_date v) (offset_time v) × IsUtc (offset_of v)))) (sym none) parts
+
+module _ (Y : ℕ) (r : Record) (d : Date) (t : Time) (dated : IsDated Y r (Ok d)) (timed : IsTimed r (Ok t))
+    (no_hour : r.offset_hour ≡ None) (no_stamp : r.unix_timestamp_nanos ≡ None) (no_leap : is_leap_second r ≡ false) where
+  no_offset : IsOffset r (Err insufficient)
+  unfolding IsOffset
+  no_offset = rw no_hour refl
+
+  stands : IsTimed (stand_in r) (Ok t)
+  stands = rw no_leap timed
+
+  parts_without : IsMomentOfParts Y r (Err insufficient)
+  unfolding IsMomentOfParts
+  parts_without = inr (d, dated, inr (t, stands, inl (insufficient, no_offset, refl)))
+
+  without : IsMoment Y r (Err insufficient)
+  without = by_parts Y r (Err insufficient) no_stamp parts_without
+
+  placed_dated : (o : UtcOffset) → IsDated Y (placed o r) (Ok d)
+  unfolding IsDated
+  placed_dated o = dated
+
+  placed_timed : (o : UtcOffset) → IsTimed (stand_in (placed o r)) (Ok t)
+  unfolding IsTimed
+  placed_timed o = rw no_leap timed
+
+  placed_offset : (v : OffsetDateTime) → IsOffset (placed (offset_of v) r) (Ok (offset_of v))
+  unfolding IsOffset
+  placed_offset v = offset_made v _ _ refl refl
+
+  parts_placed : (v : OffsetDateTime) → offset_date v ≡ d → offset_time v ≡ t → IsMomentOfParts Y (placed (offset_of v) r) (Ok v)
+  unfolding IsMomentOfParts
+  parts_placed v date time = inr (
+    d,
+    placed_dated (offset_of v),
+    inr (
+      t,
+      placed_timed (offset_of v),
+      inr (offset_of v, placed_offset v, ((date, time, refl), λ is. absurd (false≢true (sym no_leap ∙ is)))),
+    ),
+  )
+
+  at_placed : (v : OffsetDateTime) → offset_date v ≡ d → offset_time v ≡ t → IsMoment Y (placed (offset_of v) r) (Ok v)
+  at_placed v date time = by_parts Y (placed (offset_of v) r) (Ok v) no_stamp (parts_placed v date time)
+
+  moment_at : (v : OffsetDateTime) → offset_date v ≡ d → offset_time v ≡ t → IsMoment Y (with_offset (Some (offset_of v)) r) (Ok v)
+  moment_at v date time =
+      subst (λ (x : Record). IsMoment Y x (Ok v)) (ap (λ (h : Option ℤ). if is_some h then r else placed (offset_of v) r) (sym no_hour))
+      (at_placed v date time)
+
+-- a date and time of a record are its date and its time
+pub plain_parts : (Y : ℕ) (r : Record) (p : PlainDateTime) → IsPlain Y r (Ok p) → IsDated Y r (Ok (plain_date p)) × IsTimed r (Ok (plain_time p))
+unfolding IsPlain
+plain_parts Y r p (inl (e, first, is)) = absurd cc
+plain_parts Y r p (inr (d, first, inl (e, second, is))) = absurd cc
+plain_parts Y r p (inr (d, first, inr (t, second, is))) =
+    (subst (λ (x : Date). IsDated Y r (Ok x)) (sym is.0) first, subst (λ (x : Time). IsTimed r (Ok x)) (sym is.1) second)
+
+pub nothing_left : (rest : List ℕ) → true ≡ (length rest == 0) → rest ≡ []
+nothing_left [] e = refl
+nothing_left (x ∷ rest) e = absurd (grind (arith, nat_tests))
+
+-- what a description says, by the record of what was read
+module _ (Y : ℕ) (e : List Step) (text rest : List ℕ) (r : Record) (read : Description.Reads Y (steps_shape e) text empty rest r) where
+  says_none : (is_open : Bool) (defaults : Defaults) → (is_open ≡ false → rest ≡ []) → IsMoment Y (completed Y defaults r) (Err insufficient)
+      → Says Y (reading.Described e) is_open text defaults (Err (unread insufficient))
+  says_none true defaults all moment = (Err insufficient, (Err insufficient, inr (rest, r, read, moment), refl), refl)
+  says_none false defaults all moment = (
+    Err insufficient,
+    (Err insufficient, inr (r, subst (λ (x : List ℕ). Description.Reads Y (steps_shape e) text empty x r) (all refl) read, moment), refl),
+    refl,
+  )
+
+  says_moment : (is_open : Bool) (defaults : Defaults) (v : OffsetDateTime) → (is_open ≡ false → rest ≡ []) → IsMoment Y (completed Y defaults r) (Ok v)
+      → Says Y (reading.Described e) is_open text defaults (Ok (said v (length text - length rest)))
+  says_moment true defaults v all moment =
+      (Ok (said v (length text - length rest)), (Ok (v, rest), (r, read, moment), refl), refl)
+  says_moment false defaults v all moment =
+      let none = all refl in
+      let whole : length text ≡ length text - length rest = omega (arith, ap length none) in (
+        Ok (said v (length text - length rest)),
+        (
+          Ok v,
+          (r, subst (λ (x : List ℕ). Description.Reads Y (steps_shape e) text empty x r) none read, moment),
+          ap (λ (n : ℕ). Ok (said v n)) (sym whole),
+        ),
+        refl,
+      )
+
+  pub says_once : (is_open : Bool) (defaults : Defaults) (clocks : Clocks) (utc v : OffsetDateTime) (d : Date) (t : Time)
+      → (is_open ≡ false → rest ≡ []) → defaults.clocks ≡ Some clocks → defaults.offset ≡ None
+      → IsDated Y (with_year Y defaults.year r) (Ok d) → IsTimed (with_year Y defaults.year r) (Ok t)
+      → ((with_year Y defaults.year r).offset_hour ≡ None) × ((with_year Y defaults.year r).unix_timestamp_nanos ≡ None)
+      × (is_leap_second (with_year Y defaults.year r) ≡ false)
+      → (offset_date utc ≡ d) × (offset_time utc ≡ t) × IsUtc (offset_of utc) → IsOffsetWhen clocks utc (Ok (offset_of v))
+      → (offset_date v ≡ d) × (offset_time v ≡ t)
+      → SaysLocally Y (reading.Described e) is_open text defaults (Ok (said v (length text - length rest)))
+  says_once is_open defaults clocks utc v d t all on none dated timed plain in_utc when at =
+      let base = with_year Y defaults.year r in
+      let first = subst (λ (o : Option UtcOffset). IsMoment Y (with_offset o base) (Err insufficient)) (sym none)
+      (without Y base d t dated timed plain.0 plain.1 plain.2) in
+      let shown = moment_at Y base d t dated timed plain.0 plain.1 plain.2 utc in_utc.0 in_utc.1 in
+      let last = moment_at Y base d t dated timed plain.0 plain.1 plain.2 v at.0 at.1 in
+      let on_these : SaysOn Y clocks (reading.Described e) is_open text defaults (Ok (said v (length text - length rest))) = (
+        offset_of utc,
+        in_utc.2,
+        Ok (said utc (length text - length rest)),
+        says_moment is_open (at_offset (offset_of utc) defaults) utc all shown,
+        (Ok (offset_of v), when, says_moment is_open (at_offset (offset_of v) defaults) v all last),
+      ) in (
+        Err (unread insufficient),
+        says_none is_open defaults all first,
+        subst (λ (c : Option Clocks). MatchOption c (Ok (said v (length text - length rest)) ≡ Err (unread insufficient))
+            (λ clocks. SaysOn Y clocks (reading.Described e) is_open text defaults (Ok (said v (length text - length rest))))) (sym on) on_these,
+      )

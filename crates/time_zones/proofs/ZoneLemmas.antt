@@ -1,7 +1,7 @@
 -- The offsets that a zone can have where its clocks show a date and time.
 use Rattle.std.specs.Borrow.{Bor}
 use Rattle.std.specs.Prelude.{IfSome, option_map}
-use Rattle.std.proofs.Common.{◌≡◌, ℕ, ◌-◌, ◌<◌, ℤ, pos, neg_ℤ, ◌≤ℤ◌, true, false, ◌==◌, if◌then◌else◌, List, length, map, get_or, Option, None, Some, refl, sym, ap, subst, ◌∙◌, arith, vec_len, ◌⊎◌, ◌-ℤ◌, ◌<ℤ◌, cond, inl, inr}
+use Rattle.std.proofs.Common.{◌≡◌, ℕ, ◌-◌, ◌<◌, ℤ, pos, neg_ℤ, ◌≤ℤ◌, true, false, ◌==◌, if◌then◌else◌, List, length, map, get_or, Option, None, Some, refl, sym, ap, subst, ◌∙◌, arith, vec_len, ◌⊎◌, ◌+ℤ◌, ◌-ℤ◌, ◌<ℤ◌, cond, inl, inr}
 use Rattle.std.proofs.lemmas.Bool.Decides.{nat_tests}
 use Rattle.std.proofs.lemmas.Grind.{common_steps}
 use Rattle.std.proofs.lemmas.List.{get_or-map}
@@ -37,7 +37,7 @@ use Rattle.time_values.specs.Calendar.{greatest_year}
 use Rattle.time_values.specs.declared.offset_date_time.OffsetDateTime.{OffsetDateTime}
 use Rattle.time_values.specs.declared.plain_date_time.PlainDateTime.{PlainDateTime}
 use Rattle.time_zones.specs.Spread.{HasOneOffset, IsRowOffset, HasOffset, Covers, IsSide, IsOfDst, IsOfRule, rule_text}
-use Rattle.time_zones.specs.Zones.{Shows, HasClock, IsShownIn, HasOneSource}
+use Rattle.time_zones.specs.Zones.{Shows, HasClock, IsShownIn, IsOnlyMoment, HasOneSource}
 use Rattle.time_zones.specs.declared.spread.Spread.{Spread}
 use Rattle.time_zones.proofs.TableLemmas.{table_side}
 
@@ -56,19 +56,19 @@ module _ (z : Tzif) (rows : List Transition) (same : map transition_text rows �
       sym (row_at rows k e is below) ∙ ap (λ (texts : List _). get_or texts k no_row) same
       ∙ get_or-map transition_text z.transitions.items k (no_transition z) no_row (omega (arith, same_length))
 
-  module _ (second : ℤ) (o : Offset) (r : IsRowOffset rows second o) where
+  module _ (begin end : ℤ) (o : Offset) (r : IsRowOffset rows begin end o) where
     last_is : transition_text r.last ≡ transition_text (transition_at z (r.place - 1))
     last_is = row_is (r.place - 1) r.last r.is_last (omega (arith, r.within))
 
     next_is : transition_text r.next ≡ transition_text (transition_at z r.place)
     next_is = row_is r.place r.next r.is_next r.within
 
-    count : count_at z second ≡ r.place
-    count =
+    count : (second : ℤ) → IsBetween begin end second → count_at z second ≡ r.place
+    count second within =
         let last = ap (λ t. t.second) last_is in
         let next = ap (λ t. t.second) next_is in
         count_is z second r.place (omega (arith, r.within, same_length))
-        (λ l. omega (arith, signed_arith, last, r.begun)) (λ l. omega (arith, signed_arith, next, r.ended))
+        (λ l. omega (arith, signed_arith, last, r.begun, within)) (λ l. omega (arith, signed_arith, next, r.ended, within))
 
     -- the rule doesn't go on there
     no_rule : rule_after z r.place ≡ None
@@ -83,9 +83,9 @@ module _ (z : Tzif) (rows : List Transition) (same : map transition_text rows �
         ap (λ b. (if b then z.first else (transition_at z (r.place - 1)).after).offset.seconds) some
         ∙ sym (ap (λ t. t.after.seconds) last_is) ∙ ap (λ (p : Offset). p.seconds) (sym r.offset)
 
-    pub row_offset : (n : ℤ) → floor_second n ≡ second → o.seconds ≡ (Table.offset_at z n).seconds
-    row_offset n is =
-        let there = ap (count_at z) is ∙ count in
+    pub row_offset : (n : ℤ) → IsBetween begin end (floor_second n) → o.seconds ≡ (Table.offset_at z n).seconds
+    row_offset n within =
+        let there = count (floor_second n) within in
         sym (ap (λ (k : ℕ). (match_some (rule_after z k) (type_after z k).offset (λ tz. Rule.offset_at tz n)).seconds) there
         ∙ ap (λ rule. (match_some rule (type_after z r.place).offset (λ tz. Rule.offset_at tz n)).seconds) no_rule ∙ type_is)
 
@@ -114,9 +114,9 @@ pub floor_of_whole : (n z : ℤ) → IsWhole 1_000_000_000 n z → floor_second 
 floor_of_whole n z is = omega (arith, signed_arith, is)
 
 -- zones tell of an instant in one of their seconds
-pub second_told : (n second : ℤ) → floor_second n ≡ second → neg_ℤ (pos 377_705_023_201) ≤ℤ second → second ≤ℤ pos 253_402_207_200
-    → IsTimestampNanos n
-second_told n second is first last = omega (arith, signed_arith, is, first, last)
+pub second_told : (n begin end : ℤ) → IsBetween begin end (floor_second n) → neg_ℤ (pos 377_705_023_201) ≤ℤ begin
+    → end ≤ℤ pos 253_402_207_200 → IsTimestampNanos n
+second_told n begin end within first last = omega (arith, signed_arith, within, first, last)
 
 -- the offset of a rule that has one
 one_offset : (rule : PosixTimeZone) (o : Offset) (n : ℤ) → HasOneOffset rule o → o ≡ Rule.offset_at rule n
@@ -253,6 +253,27 @@ pub clock-IsShownIn : (zone : TimeZone) (clock : PlainDateTime) (m : OffsetDateT
 clock-IsShownIn zone clock m s h o =
     let at = sym h.instant in
     (h.date, h.time, h.offset ∙ subst (λ n. s ≡ Zone.offset_at zone n) at (sym o.same), subst IsTimestampNanos at o.told)
+
+-- an instant at which a clock shows a reading lies as near to it as offsets reach
+near : (reading n s second : ℤ) → IsOffsetSeconds s → n +ℤ nanos_of_seconds s ≡ reading → floor_second reading ≡ second
+    → IsBetween (second -ℤ pos 93_599) (second +ℤ pos 93_599) (floor_second n)
+near reading n s second within shows is = omega (arith, signed_arith, within, shows, is)
+
+-- with one offset that near there is one moment
+pub one_moment : (zone : TimeZone) (clock : PlainDateTime) (m : OffsetDateTime) (o : Offset) (second : ℤ)
+    → floor_second (plain_instant greatest_year clock) ≡ second
+    → ((n : ℤ) → IsBetween (second -ℤ pos 93_599) (second +ℤ pos 93_599) (floor_second n)
+    → IsTimestampNanos n × (o.seconds ≡ Zone.offset_at zone n))
+    → HasClock clock o.seconds m → IsOnlyMoment zone clock m
+one_moment zone clock m o second is same has =
+    let reading = plain_instant greatest_year clock in
+    let at = same (reading -ℤ nanos_of_seconds o.seconds)
+    (near reading (reading -ℤ nanos_of_seconds o.seconds) o.seconds second o.in_range (omega (arith, ints)) is) in (
+      clock-IsShownIn zone clock m o.seconds has record { told = at.0; same = sym at.1 },
+      λ n h.
+          let there = same n (near reading n (Zone.offset_at zone n) second (zone_offset_in zone n) h.1 is) in
+          omega (arith, ints, there.1, h.1, has.instant),
+    )
 
 -- a reading whose moment is told of at each offset is one of those years
 pub told-IsCivilNanos : (reading : ℤ) → ((s : ℤ) → IsOffsetSeconds s → IsTimestampNanos (reading -ℤ nanos_of_seconds s)) → IsCivilNanos reading

@@ -57,8 +57,8 @@ IsOfRule (Some rule) s = (s ≡ rule.std_seconds) ⊎ IsOfDst rule.dst s
 
 -- ---- The offset that a table has between two of its rows, or a rule at each moment
 
--- a second lies between two rows that follow each other, and the first sets the offset
-pub record IsRowOffset (rows : List Transition) (second : ℤ) (o : Offset) : Type 0 where
+-- seconds from one to another lie between two rows that follow each other, and the first sets the offset
+pub record IsRowOffset (rows : List Transition) (begin end : ℤ) (o : Offset) : Type 0 where
   pub place : ℕ
   pub last : Transition
   pub next : Transition
@@ -66,8 +66,8 @@ pub record IsRowOffset (rows : List Transition) (second : ℤ) (o : Offset) : Ty
   pub within : place < length rows
   pub is_last : last ≡ get_or rows (place - 1) last
   pub is_next : next ≡ get_or rows place next
-  pub begun : last.second ≤ℤ second
-  pub ended : second <ℤ next.second
+  pub begun : last.second ≤ℤ begin
+  pub ended : end <ℤ next.second
   pub offset : o ≡ last.after.offset
 
 -- a rule has no other offset

@@ -35,7 +35,8 @@ pub fn offset_at(zone: &TimeZone<'_>, moment: OffsetDateTime) -> Option<UtcOffse
     ensures told { IsSome result ↔ IsTold moment }
     ensures value { IfSome result (λ o. offset_seconds o ≡ Zone.offset_at zone.now (offset_instant greatest_year moment)) }
 {
-    if let Some(offset) = fast::offset_in_second(zone, moment.unix_timestamp()) {
+    let second = moment.unix_timestamp();
+    if let Some(offset) = fast::offset_within(zone, second, second) {
         return Some(offset_from(offset));
     }
     let Ok(stamp) = Timestamp::from_nanosecond(moment.unix_timestamp_nanos()) else {
@@ -128,12 +129,12 @@ fn moment_with(clock: PlainDateTime, offset: Offset) -> OffsetDateTime
     clock.assume_offset(offset_from(offset))
 }
 
-/// The moment at which clocks of the zone show the date and time.
-pub fn assume_zone(clock: PlainDateTime, zone: &TimeZone<'_>) -> Result<OffsetDateTime, NotOne>
+// The moment at which clocks of the zone show the date and time, by each offset that they can have then. It isn't inlined, so
+// that it takes no place beside `fast`.
+#[inline(never)]
+fn assume_by_offsets(clock: PlainDateTime, zone: &TimeZone<'_>) -> Result<OffsetDateTime, NotOne>
     ensures ok { IfOk result (IsOnlyMoment zone.now clock) }
     ensures err { IfErr result (IsNotOne zone.now clock) }
-
-    // Where clocks go back by the last row of a table and again by its rule within hours, there may be more than two.
     ensures two { HasOneSource zone.now → IfErr result (HasNoThird zone.now clock) }
 {
     let Some(civil) = civil_from(clock) else {
@@ -151,4 +152,19 @@ pub fn assume_zone(clock: PlainDateTime, zone: &TimeZone<'_>) -> Result<OffsetDa
         return Err(NotOne::Fold { earlier, later });
     }
     Ok(earlier)
+}
+
+/// The moment at which clocks of the zone show the date and time.
+#[inline(always)]
+pub fn assume_zone(clock: PlainDateTime, zone: &TimeZone<'_>) -> Result<OffsetDateTime, NotOne>
+    ensures ok { IfOk result (IsOnlyMoment zone.now clock) }
+    ensures err { IfErr result (IsNotOne zone.now clock) }
+
+    // Where clocks go back by the last row of a table and again by its rule within hours, there may be more than two.
+    ensures two { HasOneSource zone.now → IfErr result (HasNoThird zone.now clock) }
+{
+    match fast::only_moment(clock, zone) {
+        Some(moment) => Ok(moment),
+        None => assume_by_offsets(clock, zone),
+    }
 }

@@ -11,7 +11,7 @@ returns c = record {
   within = omega (arith, c.if-rows-place.false);
   is_last = c.index-rows-place.is;
   is_next = c.index-rows-place-2.is;
-  begun = omega (arith, ints, c.if-second-last.false);
-  ended = omega (arith, ints, c.if-next-second.false);
+  begun = omega (arith, ints, c.if-begin-last.false);
+  ended = omega (arith, ints, c.if-next-end.false);
   offset = refl;
 }

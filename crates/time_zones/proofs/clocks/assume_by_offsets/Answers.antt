@@ -6,7 +6,7 @@ use Rattle.time_values.specs.Moments.{plain_instant}
 use Rattle.time_values.specs.Calendar.{greatest_year}
 use Rattle.time_zones.specs.Spread.{HasOffset, IsSpread, Covers}
 use Rattle.time_zones.proofs.ZoneLemmas.{shows-HasOffset, shows-IsCivilNanos, told-IsCivilNanos, spread_reaches, clock-IsShownIn, two_offsets, one_of_two}
-use Rattle.time_zones.proofs.clocks.assume_zone.Goals as goal
+use Rattle.time_zones.proofs.clocks.assume_by_offsets.Goals as goal
 
 pub returns-in_default-clause-err : goal.returns-in_default-clause-err
 returns-in_default-clause-err c =

@@ -150,10 +150,10 @@ pub front-moment : (bytes tail : List ℕ) (v : OffsetDateTime)
 front-moment bytes tail v (r, (n, m, whole, month, put), moment) = (r, (n, m, form tail bytes n whole, month, put), moment)
 
 -- so a front of a text says it
-pub front-said : (text : List ℕ) (end : ℕ) (v : OffsetDateTime) → end ≤ length text
+pub front_said : (text : List ℕ) (end : ℕ) (v : OffsetDateTime) → end ≤ length text
     → IsOutcome (IsMoment greatest_year) (Reads greatest_year) (Refuses greatest_year) (take end text) empty (Ok v)
     → IsReadBy greatest_year true (direct (RefusesRfc3339 greatest_year)) (Reads greatest_year) (Refuses greatest_year) text (Ok (said v end))
-front-said text end v fits moment =
+front_said text end v fits moment =
     let rest = drop end text in
     let long : end ≡ length text - length rest = omega (arith, fits, length-drop end text) in (
       Ok (v, rest),
@@ -282,6 +282,6 @@ pub reads_suffixed_back : ReadsSuffixedBack greatest_year
 reads_suffixed_back zones defaults v text behind zone tags read says is goes reads =
     let moment = subst (λ (front : List ℕ). IsOutcome (IsMoment greatest_year) (Reads greatest_year) (Refuses greatest_year) front empty (Ok v))
     (sym (take-append_seam text behind)) (whole-moment text defaults v says) in
-    let front = front-said (text ++ behind) (length text) v (omega (arith, length-append text behind)) moment in
+    let front = front_said (text ++ behind) (length text) v (omega (arith, length-append text behind)) moment in
     one_says (reading.Zoned zones) false (text ++ behind) defaults read (Ok (said v (length (text ++ behind)))) reads
     (Ok (said v (length text)), front, suffixed zones v text behind zone tags is goes)

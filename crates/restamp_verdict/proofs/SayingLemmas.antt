@@ -26,6 +26,16 @@ use Rattle.restamp_verdict.specs.declared.job.TheConstants.{REACH}
 use Rattle.restamp_verdict.specs.Zoned.{IsOffsetWhen, IsChecked, IsSuffixed, Suffix, checked, extended, has_tail}
 use Rattle.restamp_verdict.specs.declared.local.Clocks.{Clocks}
 
+-- ---- What a text says at once
+
+pub dated_at_once : (Y : ℕ) (format : Reading) (is_open : Bool) (text : List ℕ) (defaults : Defaults) (s : Said)
+    → Says Y format is_open text defaults (Ok s) → IsDated Y format is_open text defaults (Ok s)
+dated_at_once Y format is_open text defaults s says = (Ok s, (Ok s, says, refl), refl)
+
+pub in_turn_at_once : (Y : ℕ) (format : Reading) (formats : List Reading) (is_open : Bool) (text : List ℕ) (defaults : Defaults) (s : Said)
+    → SaysLocally Y format is_open text defaults (Ok s) → IsReadInTurn Y format formats is_open text defaults (Ok s)
+in_turn_at_once Y format formats is_open text defaults s says = (Ok s, (Ok s, says, refl), refl)
+
 -- ---- Formats that are tried in turn
 
 pub at_item : (formats : List Reading) (i : ℕ) (format : Reading) → i < length formats → format ≡ get_or formats i format

@@ -146,6 +146,12 @@ IsRead Y (reading.Complete d) is_open text defaults =
 IsRead Y (reading.Counted d) is_open text defaults =
     IsReadWith Y is_open (Description.Reads Y (steps_shape d)) (Description.Refuses Y (steps_shape d)) text defaults
 
+-- a front of a text says a record over another, by a format that has no zones and may leave parts of a moment out
+abbrev pub ReadsRecord : ℕ → Reading → Outcome.Reading
+ReadsRecord Y reading.Iso8601 text base rest r = Iso8601.Reads Y text base rest r
+ReadsRecord Y (reading.Described d) text base rest r = Description.Reads Y (steps_shape d) text base rest r
+ReadsRecord Y format text base rest r = ⊥
+
 -- the zones by whose names a suffix may stand behind a time
 abbrev pub zones_of : Reading → Option Zones
 zones_of (reading.Zoned zones) = Some zones

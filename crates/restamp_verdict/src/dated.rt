@@ -1,10 +1,14 @@
 //! What a text says by the first of several formats, also where it leaves its year out.
+//!
+//! `fast` reads a time once that leaves its offset to the clocks of a zone.
 ghost use Rattle.std.specs.Prelude.{◌≡◌, ◌+◌, ◌≤◌, ◌≤ℤ◌, ◌-ℤ◌, neg_ℤ, pos, length, None, Err, IfOk, IfSome};
 ghost use Rattle.time_values.specs.Calendar.{greatest_year};
 ghost use Rattle.restamp_verdict.specs.Reading as spec;
 ghost use Rattle.restamp_verdict.specs.Reason.{Reason as Reason_, seen, seen_read};
 
-use crate::local::{Clocks, read_local, read_once, read_unplaced};
+mod fast;
+
+use crate::local::{Clocks, read_local, read_unplaced};
 use crate::reading::{Defaults, Reading, Said, read};
 use crate::reason::Reason;
 use crate::saying::say;
@@ -291,6 +295,7 @@ pub fn read_in_turn(
 }
 
 /// The same where clocks of a zone may tell an offset, with a short cut.
+#[tactic(auto, using(crate::proofs::SayingLemmas::in_turn_at_once))]
 #[inline(always)]
 pub(crate) fn read_on_clocks(
     first: &Reading,
@@ -302,7 +307,7 @@ pub(crate) fn read_on_clocks(
     ensures said { spec.IsReadInTurn greatest_year first.now others.now is_open text.now defaults.now (seen_read result) }
     ensures within { IfOk result (λ said. said.start + said.length ≤ length text.now) }
 {
-    match read_once(first, is_open, text, defaults) {
+    match fast::read_once(first, is_open, text, defaults) {
         Some(said) => Ok(said),
         None => read_in_turn(first, others, is_open, text, defaults),
     }

@@ -1,16 +1,12 @@
 //! Times that leave their offset to the clocks of a zone.
-ghost use Rattle.std.specs.Prelude.{◌≡◌, ◌+◌, ◌≤◌, false, length, None, Ok, Err, IfOk, IfSome};
+ghost use Rattle.std.specs.Prelude.{◌≡◌, ◌+◌, ◌≤◌, length, Err, IfOk};
 ghost use Rattle.time_values.specs.Calendar.{greatest_year};
-ghost use Rattle.time_record.specs.Resolution.{is_leap_second};
 ghost use Rattle.restamp_verdict.specs.Zoned as spec;
 ghost use Rattle.restamp_verdict.specs.Reading.{Says, SaysOn, SaysLocally, at_offset};
 ghost use Rattle.restamp_verdict.specs.Reason.{seen, seen_read};
 
-use crate::reading::{Defaults, Reading, Said, put_year, read, said_before};
+use crate::reading::{Defaults, Reading, Said, read};
 use crate::reason::{OffsetParts, Reason, TwoOffsets};
-use std::convert::TryFrom;
-use time_parsing::Parsable;
-use time_record::Parsed;
 use time_values::{OffsetDateTime, PlainDateTime, UtcOffset};
 use time_zones::{NotOne, TimeZone, assume_zone};
 
@@ -35,7 +31,7 @@ pub struct Clocks<'a> {
 }
 
 // The date and time of a moment on its own clock.
-fn clock_of(moment: OffsetDateTime) -> PlainDateTime
+pub(crate) fn clock_of(moment: OffsetDateTime) -> PlainDateTime
     ensures { result ≡ spec.clock_of moment }
 {
     PlainDateTime::new(moment.date(), moment.time())
@@ -142,53 +138,4 @@ pub(crate) fn read_local(
         Ok(said) => Ok(said),
         Err(reason) => read_unplaced(reading, is_open, text, defaults, reason),
     }
-}
-
-// Whether the record says an hour of an offset, a timestamp or a leap second.
-#[inline(always)]
-fn is_placed(parsed: &Parsed) -> bool
-    ensures { result ≡ false → (parsed.now.offset_hour ≡ None) × (parsed.now.unix_timestamp_nanos ≡ None)
-        × (is_leap_second parsed.now ≡ false) }
-{
-    parsed.offset_hour().is_some()
-        || parsed.unix_timestamp_nanos().is_some()
-        || parsed.second() == Some(60)
-}
-
-/// What a text says by a description, its offset left to clocks of a zone, where it has none and no leap second: it is read
-/// once, and not as it stands, in UTC and at the offset that the clocks have.
-#[inline(always)]
-pub(crate) fn read_once(
-    reading: &Reading,
-    is_open: bool,
-    text: &[u8],
-    defaults: &Defaults<'_>,
-) -> Option<Said>
-    ensures said { IfSome result (λ said. SaysLocally greatest_year reading.now is_open text.now defaults.now (Ok said)) }
-    ensures within { IfSome result (λ said. said.start + said.length ≤ length text.now) }
-{
-    let Reading::Described(described) = reading else {
-        return None;
-    };
-    let (Some(clocks), None) = (defaults.clocks, defaults.offset) else {
-        return None;
-    };
-    let mut parsed = Parsed::new();
-    let Ok(rest) = described.parse_into(text, &mut parsed) else {
-        return None;
-    };
-    if !is_open && !rest.is_empty() {
-        return None;
-    }
-    put_year(defaults.year, &mut parsed);
-    if is_placed(&parsed) {
-        return None;
-    }
-    let Ok(clock) = PlainDateTime::try_from(parsed) else {
-        return None;
-    };
-    let Ok(offset) = clocks.offset_when(clock.assume_utc()) else {
-        return None;
-    };
-    Some(said_before(rest, text, clock.assume_offset(offset)))
 }

@@ -64,6 +64,7 @@ fn say_tried(reading: &Reading, is_open: bool, text: &[u8], defaults: &Defaults<
 }
 
 /// What a text says by the format, if something, also where it leaves out its offset or its year.
+#[tactic(auto, using(crate::proofs::SayingLemmas::dated_at_once))]
 #[inline(never)]
 pub(crate) fn say_dated(
     reading: &Reading,

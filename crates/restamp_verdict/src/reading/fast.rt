@@ -48,6 +48,7 @@ fn moment_end(text: &[u8]) -> Option<usize>
 }
 
 /// What a front of the bytes says.
+#[tactic(auto, using(crate::proofs::FrontLemmas::front_said))]
 #[inline(always)]
 pub(super) fn front_3339(text: &[u8]) -> Option<Said>
     ensures said { IfSome result (λ said. spec.IsReadBy greatest_year true (direct (RefusesRfc3339 greatest_year))

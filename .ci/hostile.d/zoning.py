@@ -81,12 +81,12 @@ def in_zone(rng, tally, command, name):
 
 
 def clocks(rng, zone, name):
-    """Dates and times around each transition, and random ones."""
+    """Dates and times around each transition, also as far from it as offsets reach, and random ones."""
     for second in [*transitions(name), *(rng.randint(-5_000_000_000, 20_000_000_000) for _ in range(30))]:
         for at in (second - 1, second):
             try:
                 clock = (EPOCH + at * SECOND).astimezone(zone).replace(tzinfo=None, fold=0)
-                for hours in (-1, 0, 1):
+                for hours in (-1, 0, 1, rng.randint(-27, 27)):
                     yield clock + (hours * 3600 + rng.choice([0, rng.randint(-1800, 1800)])) * SECOND
             except OverflowError:
                 continue
@@ -115,7 +115,8 @@ def on_clocks(rng, tally, command, name):
             wanted.append(shown(moment) if moment else text)
         lines.append(b"2021-01-01T00:00:00 is a line that is refused as a whole, and no short one")
         wanted.append(lines[-1].decode())
-        answers(tally, "zones", [*command, "-f", READ, "--in", name, "--fold", fold, "-t", SHOWN, "-q"], lines, wanted)
+        form = rng.choice([READ, "iso8601"])
+        answers(tally, "zones", [*command, "-f", form, "--in", name, "--fold", fold, "-t", SHOWN, "-q"], lines, wanted)
 
 
 def offset_text(seconds):

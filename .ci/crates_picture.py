@@ -1,10 +1,10 @@
 """The picture of the crates: bands from bottom to top, and in the last one, side by side, what is built of them.
 
 A box has its name, and below it its one purpose. A line leads from a crate to one that stands on it, where no other path
-says so. It is told where a label doesn't fit, where two things overlap, where a line runs behind a box or a label, and
-where the lines aren't those of crates.txt.
+says so. It is told where a crate isn't shown, where a label doesn't fit, where two things overlap, where a line runs
+behind a box or a label, and where the lines aren't those of crates.txt.
 """
-from html import escape
+import re
 
 BANDS = ("values and texts of digits", "readers, descriptions and the record", "parsing, what stands on it, and streams", "built of them")
 # Each box: its band, row and column, its purpose, and further lines in it.
@@ -24,7 +24,8 @@ BOXES = {
     "time_locating": (2, 4, 1, "where a text goes wrong"),
     "programs_streams": (2, 4, 2.15, "calls that fail, counted"),
     "programs": (3, 5, 0, "texts parsed line by line", "programs_answers", "time_lines", "time_parse"),
-    "restamp": (3, 5, 2.15, "times rewritten in lines", "restamp_place, restamp_verdict,", "restamp_stream, restamp_options,", "restamp_command, restamp"),
+    "restamp": (3, 5, 2.15, "times rewritten in lines", "restamp_place, restamp_verdict,", "restamp_stream, restamp_options,",
+                "restamp_in_place,", "restamp_command, restamp"),
     "C": (3, 5, 1.1, "C, Rust, Python and SQL", "pelzaune_ffi", "pelzaune"),
     "tests and benches": (3, 5, 3.25, "stand on all of these", "time_tests_.., restamp_tests", "time_bench"),
 }
@@ -51,6 +52,12 @@ def box_of(crate):
     if "_tests" in crate or crate == "time_bench":
         return "tests and benches"
     return next((box for box, crates in MEMBERS.items() if crate in crates), crate)
+
+
+def is_shown(crate):
+    """Whether a box has the crate's name, in its lines or as its own. Crates of tests need none."""
+    box = BOXES.get(box_of(crate))
+    return "_tests" in crate or box is not None and crate in re.findall(r"\w+", " ".join(box[4:]) or crate)
 
 
 def wanted_lines(below):
@@ -83,6 +90,7 @@ class Plan:
                     self.wrong.append(f"`{line}` doesn't fit its box")
         for title, foot in zip(BANDS, self.feet()):
             self.label("a band", 18, foot - 18, title, STEP)
+        self.wrong += [f"{it} isn't shown" for it in below if not is_shown(it)]
         lines = {(low, high) for low, high, _ in LINES}
         for low, high in sorted(wanted_lines(below) ^ lines):
             self.wrong.append(f"a line from {low} to {high} {'is missing' if (low, high) not in lines else 'says nothing new'}")

@@ -1,6 +1,7 @@
 -- A record makes one value of each kind, or one refusal.
 use Rattle.std.specs.Prelude.{unwrap_or}
-use Rattle.std.proofs.Common.{◌≡◌, ℕ, ℤ, Bool, false, if◌then◌else◌, Option, Some, None, Result, Ok, Err, MatchOption, IsOkAnd, ◌⊎◌, inl, inr, sym, ap, subst, ◌∙◌, arith, refl}
+use Rattle.std.proofs.Common.{◌≡◌, ℕ, ℤ, Bool, false, if◌then◌else◌, Option, Some, None, Result, Ok, Err, MatchOption, IsOkAnd, ◌⊎◌, inl, inr, sym}
+use Rattle.std.proofs.Common.{ap, subst, ◌∙◌, arith, refl}
 use Rattle.std.proofs.lemmas.Int.{ints}
 use Rattle.time_values.specs.declared.date.Date.{Date}
 use Rattle.time_values.specs.declared.offset_date_time.OffsetDateTime.{OffsetDateTime}
@@ -15,9 +16,13 @@ use Rattle.time_values.specs.Calendar.{greatest_year}
 use Rattle.time_values.specs.Refusal.{Refusal, insufficient}
 use Rattle.time_values.specs.Times.{HasClock, time_refusal}
 use Rattle.time_values.specs.Names.{days_from_monday}
-use Rattle.time_values.proofs.InstantLemmas.{clock_nanos_range, same_date_by_iso_week, same_date_by_ordinal, same_date_by_parts, same_date_by_week, same_moment, same_offset, same_offset_by_parts, same_time_by_clock, same_timestamp, instant_is}
+use Rattle.time_values.proofs.InstantLemmas.{clock_nanos_range, same_date_by_iso_week, same_date_by_ordinal, same_date_by_parts, same_date_by_week}
+use Rattle.time_values.proofs.InstantLemmas.{same_moment, same_offset, same_offset_by_parts, same_time_by_clock, same_timestamp, instant_is}
 use Rattle.time_record.specs.Record.{Record}
-use Rattle.time_record.specs.Resolution.{IsConstructed, IsDated, IsInUtc, IsInstantOfParts, IsMoment, IsMomentOfParts, IsOffset, IsOffsetOr, IsOffsetOrUtc, IsPlain, IsStamped, IsTimed, IsTimestamp, IsUtcMoment, IsUtcMomentOfParts, Judged, Then, Clock, clock_of, is_leap_second, offset_part, offset_seconds_of, stand_in, HasRow, IsRowDate, Row, by_iso_week, by_monday_week, by_month_and_day, by_ordinal, by_sunday_week, first_row}
+use Rattle.time_record.specs.Resolution.{IsConstructed, IsDated, IsInUtc, IsInstantOfParts, IsMoment, IsMomentOfParts, IsOffset, IsOffsetOr}
+use Rattle.time_record.specs.Resolution.{IsOffsetOrUtc, IsPlain, IsStamped, IsTimed, IsTimestamp, IsUtcMoment, IsUtcMomentOfParts, Judged, Then}
+use Rattle.time_record.specs.Resolution.{Clock, clock_of, is_leap_second, offset_part, offset_seconds_of, stand_in, HasRow, IsRowDate, Row}
+use Rattle.time_record.specs.Resolution.{by_iso_week, by_monday_week, by_month_and_day, by_ordinal, by_sunday_week, first_row}
 
 -- at most one value has the property
 abbrev pub IsOne : {A : Type 0} → (A → Type 0) → Type 0
@@ -80,7 +85,7 @@ IsThat-one that r s h k = h ∙ sym k
 HasRow-one : (row : Row) → IsOne (HasRow greatest_year row)
 HasRow-one (by_ordinal y n) a b h k = same_date_by_ordinal a b (h.0 ∙ sym k.0) (h.1 ∙ sym k.1)
 HasRow-one (by_month_and_day y m n) a b h k =
-    same_date_by_parts a b (h.0 ∙ sym k.0) (h.1 ∙ sym k.1) (h.2 ∙ sym k.2)
+    same_date_by_parts a b (h.0.0 ∙ sym k.0.0) (h.0.1 ∙ sym k.0.1) (h.0.2 ∙ sym k.0.2)
 HasRow-one (by_iso_week y week w) a b h k =
     same_date_by_iso_week y week (days_from_monday w) a b h k
 HasRow-one (by_sunday_week y week w) a b h k =
@@ -180,9 +185,9 @@ IsMoment-one r =
 -- an instant has one date and time in UTC, or none
 IsInUtc-one : (n : ℤ) → IsOne (IsInUtc greatest_year n)
 IsInUtc-one n (Ok a) (Ok b) h k =
-    let same = same_moment a.date b.date a.time b.time (h ∙ sym k) in ap Ok (same_utc a b same.0 same.1)
-IsInUtc-one n (Ok a) (Err f) h k = absurd (k.0 (subst (IsInstant greatest_year) h (clock_nanos_range a.date a.time)))
-IsInUtc-one n (Err e) (Ok b) h k = absurd (h.0 (subst (IsInstant greatest_year) k (clock_nanos_range b.date b.time)))
+    let same = same_moment a.date b.date a.time b.time (h.0 ∙ sym k.0) in ap Ok (same_utc a b same.0 same.1)
+IsInUtc-one n (Ok a) (Err f) h k = absurd (k.0 (subst (IsInstant greatest_year) h.0 (clock_nanos_range a.date a.time)))
+IsInUtc-one n (Err e) (Ok b) h k = absurd (h.0 (subst (IsInstant greatest_year) k.0 (clock_nanos_range b.date b.time)))
 IsInUtc-one n (Err e) (Err f) h k = ap Err (h.1 ∙ sym k.1)
 
 IsUtcMomentOfParts-one : (r : Record) → IsOne (IsUtcMomentOfParts greatest_year r)
@@ -215,19 +220,20 @@ IsInstantOfParts-one r (Err e) (Err f) h k = ap Err (h.1 ∙ sym k.1)
 pub IsTimestamp-one : (r : Record) → IsOne (IsTimestamp greatest_year r)
 unfolding IsTimestamp
 IsTimestamp-one r =
-    MatchOption-one r.unix_timestamp_nanos (IsInstantOfParts greatest_year r) (λ n s. IsOkAnd s (λ v. v.nanoseconds ≡ n)) (IsInstantOfParts-one r)
-    (λ n. IsOkAnd-one (λ (v : Timestamp). v.nanoseconds ≡ n) (λ a b h k. same_timestamp a b (h ∙ sym k)))
+    let At = λ (n : ℤ) (v : Timestamp). (v.nanoseconds ≡ n) × IsInstant greatest_year v.nanoseconds in
+    MatchOption-one r.unix_timestamp_nanos (IsInstantOfParts greatest_year r) (λ n s. IsOkAnd s (At n)) (IsInstantOfParts-one r)
+    (λ n. IsOkAnd-one (At n) (λ a b h k. same_timestamp a b (h.0 ∙ sym k.0)))
 
 -- ---- The moments of timestamps
 
 -- a moment as it is
 pub IsStamped-none : (n : ℤ) (d : Date) (t : Time) → clock_nanos greatest_year d t ≡ n → IsStamped greatest_year n None d t
-IsStamped-none n d t e = (t, e, (refl, refl, refl, refl))
+IsStamped-none n d t e = (t, e, (refl, refl, refl, refl), d.year_in)
 
 -- and with another nanosecond in its second
 pub IsStamped-some : (n : ℤ) (k : ℕ) (from d : Date) (t time : Time) → clock_nanos greatest_year from t ≡ n → d ≡ from →
     HasClock t.hour t.minute t.second k time → IsStamped greatest_year n (Some k) d time
-IsStamped-some n k from d t time e same h = (t, ap (λ x. clock_nanos greatest_year x t) same ∙ e, h)
+IsStamped-some n k from d t time e same h = (t, ap (λ x. clock_nanos greatest_year x t) same ∙ e, h, d.year_in)
 
 -- without an offset a clock shows UTC
 pub clock_nanos-utc : (n : ℤ) (d : Date) (t : Time) (o : UtcOffset) → IsUtc o → instant greatest_year d t o ≡ n → clock_nanos greatest_year d t ≡ n

@@ -5,7 +5,7 @@ use Rattle.time_values.specs.declared.date.Date.{Date}
 use Rattle.time_values.specs.declared.month.Month.{Month}
 use Rattle.time_values.specs.declared.weekday.Weekday.{Weekday}
 use Rattle.time_values.specs.Calendar.{iso_weeks_in}
-use Rattle.time_values.specs.Dates.{IsIsoDate, is_within, HasParts, ordinal, weekday, weekdays_so_far}
+use Rattle.time_values.specs.Dates.{IsIsoDate, IsDateWithin, is_within, HasParts, ordinal, weekday, weekdays_so_far}
 use Rattle.time_values.specs.Dates as Dates
 use Rattle.time_values.specs.Refusal.{Refusal, range, insufficient, refusal_of_parsed}
 use Rattle.time_values.specs.Names.{days_from_monday}
@@ -79,12 +79,12 @@ first_row r =
 -- `start`, and the days before the first such weekday are week 0
 abbrev pub IsWeekDate : ℕ → ℕ → ℤ → ℕ → ℕ → Date → Type 0
 IsWeekDate Y start year week w d =
-    (Dates.year d ≡ year) × (weekdays_so_far Y start d ≡ week) × (weekday Y d ≡ w)
+    (Dates.year d ≡ year) × (weekdays_so_far Y start d ≡ week) × (weekday Y d ≡ w) × IsDateWithin Y d
 
 -- the date has the numbers of the row
 abbrev pub HasRow : ℕ → Row → Date → Type 0
-HasRow Y (by_ordinal year n) d = (Dates.year d ≡ year) × (ordinal d ≡ n)
-HasRow Y (by_month_and_day year month day) d = HasParts year month day d
+HasRow Y (by_ordinal year n) d = (Dates.year d ≡ year) × (ordinal d ≡ n) × IsDateWithin Y d
+HasRow Y (by_month_and_day year month day) d = HasParts year month day d × IsDateWithin Y d
 HasRow Y (by_iso_week year week w) d = IsIsoDate Y year week (days_from_monday w) d
 HasRow Y (by_sunday_week year week w) d = IsWeekDate Y 6 year week (days_from_monday w) d
 HasRow Y (by_monday_week year week w) d = IsWeekDate Y 0 year week (days_from_monday w) d
@@ -193,7 +193,7 @@ IsPlain Y r = Then (IsDated Y r) (λ d. Then (IsTimed r)
 abbrev pub IsStamped : ℕ → ℤ → Option ℕ → Date → Time → Type 0
 IsStamped Y n subsecond date time =
     (t : Time) × (clock_nanos Y date t ≡ n)
-    × HasSecond t (unwrap_or subsecond (Times.nanosecond t)) time
+    × HasSecond t (unwrap_or subsecond (Times.nanosecond t)) time × IsDateWithin Y date
 
 -- the record's second is a leap second that is allowed
 abbrev pub is_leap_second : Record → Bool
@@ -223,7 +223,7 @@ IsMoment Y r result = MatchOption r.unix_timestamp_nanos (IsMomentOfParts Y r re
 
 -- the date and time in UTC of an instant, refused where it is beyond the dates
 abbrev pub IsInUtc : ℕ → ℤ → Result UtcDateTime Refusal → Type 0
-IsInUtc Y n (Ok u) = utc_instant Y u ≡ n
+IsInUtc Y n (Ok u) = (utc_instant Y u ≡ n) × IsDateWithin Y (utc_date u)
 IsInUtc Y n (Err e) = (IsInstant Y n → ⊥) × (e ≡ range (codes "year") true)
 
 -- the moment in UTC of a date, a time and an offset, with their refusals and then its own
@@ -248,4 +248,4 @@ IsInstantOfParts Y r (Err e) =
 -- the instant of a record: its timestamp, or else that of its parts
 unfoldable pub IsTimestamp : ℕ → Record → Result Timestamp Refusal → Type 0
 IsTimestamp Y r result = MatchOption r.unix_timestamp_nanos (IsInstantOfParts Y r result)
-    (λ n. IsOkAnd result (λ v. nanoseconds v ≡ n))
+    (λ n. IsOkAnd result (λ v. (nanoseconds v ≡ n) × IsInstant Y (nanoseconds v)))

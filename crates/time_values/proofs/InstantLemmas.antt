@@ -1,7 +1,8 @@
 -- Instants: the day of 1970-01-01, and the range.
 use Rattle.std.specs.Int.{IsInRange}
 use Rattle.std.specs.Int.Signed.{le_z}
-use Rattle.std.proofs.Common.{◌≡◌, ℕ, ◌+◌, ◌*◌, ◌<◌, refl, arith, IsTrue, ◌↔◌, ◌&&◌, ℤ, pos, neg_ℤ, ◌+ℤ◌, ◌-ℤ◌, ◌*ℤ◌, [], suc, ◌-◌, ◌%◌, ◌≤◌, inl, inr, sym, ap, ◌∙◌, ◌≤ℤ◌, ◌<ℤ◌, zero, subst}
+use Rattle.std.proofs.Common.{◌≡◌, ℕ, ◌+◌, ◌*◌, ◌<◌, refl, arith, IsTrue, ◌↔◌, ◌&&◌, ℤ, pos, neg_ℤ, ◌+ℤ◌, ◌-ℤ◌, ◌*ℤ◌, [], suc, ◌-◌, ◌%◌, ◌≤◌, inl}
+use Rattle.std.proofs.Common.{inr, sym, ap, ◌∙◌, ◌≤ℤ◌, ◌<ℤ◌, zero, subst}
 use Rattle.std.proofs.lemmas.Int.{ints, by_lt_z}
 use Rattle.std.proofs.lemmas.Bool.{cases_order}
 use Rattle.std.proofs.lemmas.Bool.Decides.{nat_tests}
@@ -9,8 +10,9 @@ use Rattle.std.proofs.Props.{props}
 use mathlib.Core.HLevel.{is_prop→PathP}
 use Rattle.time_values.specs.declared.date.Date.{Date}
 use Rattle.time_values.specs.Names.{month_number}
-use Rattle.time_values.specs.Calendar.{year_length, IsBetween, years_before, day_limit, greatest_year, IsYear, year_start, month_length, days_of_months, ordinal_of, weekdays_in, thursday_of, days_of_years}
-use Rattle.time_values.specs.Dates.{ordinal, day_number, weekday, weekdays_so_far, IsIsoDate, IsIsoDay}
+use Rattle.time_values.specs.Calendar.{year_length, IsBetween, years_before, day_limit, greatest_year, IsYear, year_start, month_length}
+use Rattle.time_values.specs.Calendar.{days_of_months, ordinal_of, weekdays_in, thursday_of, days_of_years}
+use Rattle.time_values.specs.Dates.{IsDateWithin, ordinal, day_number, weekday, weekdays_so_far, IsIsoDate, IsIsoDay}
 use Rattle.time_values.specs.declared.time.Time.{Time}
 use Rattle.time_values.specs.declared.utc_offset.UtcOffset.{UtcOffset}
 use Rattle.time_values.specs.MovedClocks.{IsNear}
@@ -20,7 +22,8 @@ use Rattle.time_values.specs.Instants.{IsInstant, is_instant, first_instant, las
 use Rattle.time_values.specs.declared.aligned.Aligned.{Aligned}
 use Rattle.time_values.specs.declared.timestamp.Timestamp.{Timestamp}
 use Rattle.time_values.specs.Sign.{HasOneSign}
-use Rattle.time_values.proofs.YearLemmas.{ordinal_within, days_of_years_closed, year_end, year_start-next, closed_mono, days_of_months_closed, weekdays_in_closed}
+use Rattle.time_values.proofs.YearLemmas.{ordinal_within, days_of_years_closed, year_end, year_start-next, closed_mono, days_of_months_closed}
+use Rattle.time_values.proofs.YearLemmas.{weekdays_in_closed}
 use Rattle.time_values.proofs.NumberLemmas.{month_number_in, same_month}
 
 -- ---- What holds of each date
@@ -35,8 +38,11 @@ epoch_day_is = omega (arith, days_of_years_closed greatest_year (years_before gr
 pub day_limit_is : day_limit greatest_year ≡ 730_484_634
 day_limit_is = omega (arith, days_of_years_closed greatest_year (2 * greatest_year + 1) refl)
 
+pub day_number_within : (Y : ℕ) (d : Date) → (Y + 1) % 400 ≡ 0 → IsDateWithin Y d → day_number Y d < day_limit Y
+day_number_within Y d whole within = omega (arith, ordinal_in d, year_end Y d.year whole within)
+
 pub day_number_in : (d : Date) → day_number greatest_year d < day_limit greatest_year
-day_number_in d = omega (arith, ordinal_in d, year_end greatest_year d.year refl d.year_in)
+day_number_in d = day_number_within greatest_year d refl d.year_in
 
 -- the limits of instants
 pub first_instant_is : first_instant greatest_year ≡ neg_ℤ (pos 31_619_087_596_800_000_000_000)
@@ -55,6 +61,11 @@ pub is_instant-IsInstant : (Y : ℕ) (n : ℤ) → IsTrue (is_instant Y n) ↔ I
 is_instant-IsInstant Y n = between_tested (first_instant Y) (last_instant Y) n
 
 -- the definitions, for a proof that does not unfold them
+clock_nanos_by : (Y : ℕ) (d : Date) (t : Time)
+    → clock_nanos Y d t ≡ (pos (day_number Y d) -ℤ pos (epoch_day Y)) *ℤ pos nanos_per_day +ℤ pos (nanos_of_day t)
+unfolding clock_nanos
+clock_nanos_by Y d t = refl
+
 pub clock_nanos_is : (d : Date) (t : Time)
     → clock_nanos greatest_year d t ≡ (pos (day_number greatest_year d) -ℤ pos 365_961_662) *ℤ pos nanos_per_day +ℤ pos (nanos_of_day t)
 unfolding clock_nanos
@@ -65,10 +76,15 @@ unfolding instant
 instant_is d t o = refl
 
 -- each date and time in UTC is an instant
-pub clock_nanos_range : (d : Date) (t : Time) → IsInstant greatest_year (clock_nanos greatest_year d t)
-clock_nanos_range d t =
+pub clock_nanos_within : (Y : ℕ) (d : Date) (t : Time) → (Y + 1) % 400 ≡ 0 → IsDateWithin Y d → IsInstant Y (clock_nanos Y d t)
+unfolding first_instant last_instant
+clock_nanos_within Y d t whole within =
     let time : nanos_of_day t < nanos_per_day = omega arith in
-    omega (arith, ints, clock_nanos_is d t, first_instant_is, last_instant_is, day_limit_is, day_number_in d)
+    let is = clock_nanos_by Y d t in
+    (omega (arith, ints, is), omega (arith, ints, is, day_number_within Y d whole within))
+
+pub clock_nanos_range : (d : Date) (t : Time) → IsInstant greatest_year (clock_nanos greatest_year d t)
+clock_nanos_range d t = clock_nanos_within greatest_year d t refl d.year_in
 
 pub ruleset instant_facts = (first_instant_is, last_instant_is, day_limit_is, day_number_in, clock_nanos_is, instant_is)
 
@@ -152,19 +168,22 @@ same_date_by_ordinal a b year places =
     (month_number_in a.month) (month_number_in b.month) a.day_in (rw year b.day_in) place in
     same_date_by_parts a b year (same_month _ _ p.0) p.1
 
-same_year : (a b : Date) → day_number greatest_year a ≡ day_number greatest_year b → a.year ≡ b.year
-same_year a b e =
+same_year : (Y : ℕ) (a b : Date) → (Y + 1) % 400 ≡ 0 → IsDateWithin Y a → IsDateWithin Y b → day_number Y a ≡ day_number Y b → a.year ≡ b.year
+same_year Y a b whole a_in b_in e =
     by_lt_z a.year b.year
-    (λ lt. absurd (omega (arith, ordinal_in a, ordinal_in b, year_start_later greatest_year a.year b.year refl a.year_in.0 lt)))
+    (λ lt. absurd (omega (arith, ordinal_in a, ordinal_in b, year_start_later Y a.year b.year whole a_in.0 lt)))
     (λ ge. by_lt_z b.year a.year
-    (λ gt. absurd (omega (arith, ordinal_in a, ordinal_in b, year_start_later greatest_year b.year a.year refl b.year_in.0 gt)))
+    (λ gt. absurd (omega (arith, ordinal_in a, ordinal_in b, year_start_later Y b.year a.year whole b_in.0 gt)))
     (λ le. omega (arith, ints)))
 
--- and with the same day number
+-- and within the range of years with the same day number
+pub same_date_within : (Y : ℕ) (a b : Date) → (Y + 1) % 400 ≡ 0 → IsDateWithin Y a → IsDateWithin Y b → day_number Y a ≡ day_number Y b → a ≡ b
+same_date_within Y a b whole a_in b_in e =
+    let year = same_year Y a b whole a_in b_in e in
+    same_date_by_ordinal a b year (omega (arith, ap (year_start Y) year, ordinal_in a, ordinal_in b))
+
 pub same_date : (a b : Date) → day_number greatest_year a ≡ day_number greatest_year b → a ≡ b
-same_date a b e =
-    let year = same_year a b e in
-    same_date_by_ordinal a b year (omega (arith, ap (year_start greatest_year) year, ordinal_in a, ordinal_in b))
+same_date a b e = same_date_within greatest_year a b refl a.year_in b.year_in e
 
 -- a weekday and how many such weekdays, or weekdays w, a stretch of days has tell its length
 same_count : (w start m n : ℕ) → w < 7 → 1 ≤ m → 1 ≤ n → weekdays_in w start m ≡ weekdays_in w start n → (start + (m - 1)) % 7 ≡ (start + (n - 1)) % 7 → m ≡ n
@@ -180,7 +199,7 @@ same_date_by_week w a b small year weeks days =
     (same_count w (year_start greatest_year b.year) (ordinal a) (ordinal b) small (ordinal_in a).0 (ordinal_in b).0 (rw start at weeks) (rw start at days))
 
 -- the Thursday of a day and its weekday tell the day
-same_iso_day : (Y : ℕ) (y : ℤ) (week w m n : ℕ) → IsIsoDay Y y week w m → IsIsoDay Y y week w n → m ≡ n
+pub same_iso_day : (Y : ℕ) (y : ℤ) (week w m n : ℕ) → IsIsoDay Y y week w m → IsIsoDay Y y week w n → m ≡ n
 same_iso_day Y y week w m n h k =
     let start = year_start Y y in
     omega (arith, weekdays_in_closed 3 start (thursday_of m + 1 - start) (omega arith), weekdays_in_closed 3 start (thursday_of n + 1 - start) (omega arith))
@@ -230,12 +249,20 @@ same_offset_by_parts a b h m s = λ i. record {
 pub same_offset : (h m s : ℤ) (a b : UtcOffset) → HasOffset h m s a → HasOffset h m s b → a ≡ b
 same_offset h m s a b p q = same_offset_by_parts a b (p.0 ∙ sym q.0) (p.1 ∙ sym q.1) (p.2 ∙ sym q.2)
 
--- one moment in UTC has one date and time
+-- the nanoseconds on a clock tell the day and the nanoseconds of the day
+clock_nanos-apart : (Y : ℕ) (a b : Date) (s t : Time) → clock_nanos Y a s ≡ clock_nanos Y b t
+    → (day_number Y a ≡ day_number Y b) × (nanos_of_day s ≡ nanos_of_day t)
+clock_nanos-apart Y a b s t e = omega (arith, ints, clock_nanos_by Y a s, clock_nanos_by Y b t)
+
+-- one moment in UTC has one date and time within the range of years
+pub same_moment_within : (Y : ℕ) (a b : Date) (s t : Time) → (Y + 1) % 400 ≡ 0 → IsDateWithin Y a → IsDateWithin Y b
+    → clock_nanos Y a s ≡ clock_nanos Y b t → (a ≡ b) × (s ≡ t)
+same_moment_within Y a b s t whole a_in b_in e =
+    let apart = clock_nanos-apart Y a b s t e in
+    (same_date_within Y a b whole a_in b_in apart.0, same_time s t apart.1)
+
 pub same_moment : (a b : Date) (s t : Time) → clock_nanos greatest_year a s ≡ clock_nanos greatest_year b t → (a ≡ b) × (s ≡ t)
-same_moment a b s t e =
-    let apart : (day_number greatest_year a ≡ day_number greatest_year b)
-    × (nanos_of_day s ≡ nanos_of_day t) = omega (arith, ints, clock_nanos_is a s, clock_nanos_is b t) in
-    (same_date a b apart.0, same_time s t apart.1)
+same_moment a b s t e = same_moment_within greatest_year a b s t refl a.year_in b.year_in e
 
 -- timestamps with the same nanoseconds are one timestamp
 pub same_timestamp : (a b : Timestamp) → a.nanoseconds ≡ b.nanoseconds → a ≡ b

@@ -6,7 +6,7 @@ use Rattle.time_values.specs.declared.time.Time.{Time}
 use Rattle.time_values.specs.declared.utc_offset.UtcOffset.{UtcOffset}
 use Rattle.time_values.specs.Calendar.{IsBetween, year_start, day_limit, month_length}
 use Rattle.time_values.specs.Names.{month_number}
-use Rattle.time_values.specs.Dates.{day_number, year, month, day}
+use Rattle.time_values.specs.Dates.{day_number, year, month, day, IsDateWithin}
 use Rattle.time_values.specs.Refusal.{Refusal, range}
 use Rattle.time_values.specs.Times.{nanos_of_day}
 use Rattle.time_values.specs.Offsets.{offset_seconds}
@@ -59,4 +59,4 @@ IsLeapSecondStandIn date time =
 -- the instant is the last nanosecond of a month in UTC
 abbrev pub IsLeapSecondMoment : ℕ → ℤ → Type 0
 IsLeapSecondMoment Y n =
-    (date : Date) × (time : Time) × (clock_nanos Y date time ≡ n) × IsLeapSecondStandIn date time
+    (date : Date) × (time : Time) × (clock_nanos Y date time ≡ n) × IsLeapSecondStandIn date time × IsDateWithin Y date

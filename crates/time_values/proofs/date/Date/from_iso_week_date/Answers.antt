@@ -5,7 +5,8 @@ use Rattle.time_values.specs.Names.{days_from_monday}
 use Rattle.time_values.specs.Dates.{day_number}
 use Rattle.time_values.proofs.YearLemmas.{year_length-leap_day, thursdays_from_first, iso_day_at, has_iso_week}
 use Rattle.time_values.proofs.date.Date.from_iso_week_date.Goals as goal
-use Rattle.time_values.proofs.date.Date.from_iso_week_date.Goals.{After-first_thursday-thursday, then-week-eq0-via-then-week-eq0, then-week-eq0-via-else-week-eq0+then-week-year_length}
+use Rattle.time_values.proofs.date.Date.from_iso_week_date.Goals.{After-first_thursday-thursday, then-week-eq0-via-then-week-eq0}
+use Rattle.time_values.proofs.date.Date.from_iso_week_date.Goals.{then-week-eq0-via-else-week-eq0+then-week-year_length}
 
 pub returns-then-week-eq0 : goal.returns-then-week-eq0
 returns-then-week-eq0 c =
@@ -62,4 +63,5 @@ returns c =
       has_iso_week greatest_year y from c.args.week year first c.first_thursday-thursday.ensures.bound (omega arith) (omega arith),
       iso_day_at greatest_year y from c.args.week (days_from_monday c.args.weekday) (day_number greatest_year d) year first
           c.first_thursday-thursday.ensures.bound (omega arith) (omega arith) (omega arith) (omega arith),
+      d.year_in,
     )

@@ -6,7 +6,7 @@ pub returns-in-Some : goal.returns-in-Some
 returns-in-Some c =
     let utc = c.in-Some.utc in
     let here = c.in-Some.ensures.value in (
-      λ yes. (utc.date, utc.time, here, c.is_valid_leap_second_stand_in.ensures.0 yes),
+      λ yes. (utc.date, utc.time, here, c.is_valid_leap_second_stand_in.ensures.0 yes, utc.date.year_in),
       λ h. let same = same_moment h.0 utc.date h.1 utc.time (h.2 ∙ sym here) in
           c.is_valid_leap_second_stand_in.ensures.1 (rw (← same.0, ← same.1) h.3),
     )

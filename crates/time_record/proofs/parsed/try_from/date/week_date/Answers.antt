@@ -52,7 +52,7 @@ date_of_place y start week w d small within year e =
     let begin = year_start greatest_year d.year in
     let here : ordinal d + 7 ≡ week_place (begin % 7) start week w = omega (arith, ap (year_start greatest_year) year) in
     let found = week_of_place begin (ordinal d) start week w (ordinal_in d).0 small within here in
-    (year, found.0, found.1)
+    (year, found.0, found.1, d.year_in)
 
 -- the place that the code computes from the weekday of the first day
 week_place_is : (y : ℤ) (d : Date) (first since days week start w : ℕ) → (d.year ≡ y) × (ordinal d ≡ 1) →
@@ -77,7 +77,7 @@ week_date_seen : (y : ℤ) (start week w n : ℕ) (r : Result Date ComponentRang
 week_date_seen y start week w n r small within year e a =
     MatchResult-weaker (range_seen r) (IsRowDate-ordinal greatest_year y n r year a)
     (λ d h. date_of_place y start week w d small within h.0 (omega (arith, h.1)))
-    (λ e' h. (λ d k. h.0 d (k.0, omega (arith, place_of_date y start week w d small k)), h.1))
+    (λ e' h. (λ d k. h.0 d (k.0, omega (arith, place_of_date y start week w d small k), k.3), h.1))
 
 -- the place that the code computes is the one of the week and weekday
 place_is : (c : After-days_since-2) → c.days_since.result + 1 + 7 * c.args.week + c.days_since-2.result ≡

@@ -1,5 +1,6 @@
 -- A tree that tells all of a moment.
-use Rattle.std.proofs.Common.{◌≡◌, ◌≤◌, ◌<◌, ◌+◌, ◌-◌, ◌%◌, ◌^◌, ℕ, ℤ, pos, neg_ℤ, unsigned_abs, Bool, true, false, List, [], ◌∷◌, None, Some, Ok, Err, inr, refl, sym, ap, ◌∙◌, subst, arith}
+use Rattle.std.proofs.Common.{◌≡◌, ◌≤◌, ◌<◌, ◌+◌, ◌-◌, ◌%◌, ◌^◌, ℕ, ℤ, pos, neg_ℤ, unsigned_abs, Bool, true, false, List, [], ◌∷◌, None, Some, Ok}
+use Rattle.std.proofs.Common.{Err, inr, refl, sym, ap, ◌∙◌, subst, arith}
 use Rattle.std.specs.Prelude.{◌==◌, ◌&&◌, if◌then◌else◌, Option, MatchOption, option_map, option_and_then, nat_le}
 use Rattle.std.specs.Option.{option_map_or, option_or}
 use Rattle.std.proofs.lemmas.Bool.{le-leb, eqb-false, ne_eqb}
@@ -29,7 +30,8 @@ use Rattle.time_components.specs.declared.format_description.Component.TheVarian
 use Rattle.time_formatting.specs.Components.{count_of, hour_12, kept, value_of}
 use Rattle.time_record.specs.Components.{put_value, with_offset_sign}
 use Rattle.time_record.specs.Record.{Record, empty}
-use Rattle.time_record.specs.Resolution.{Clock, IsMoment, IsMomentOfParts, IsDated, IsTimed, IsOffset, IsConstructed, clock_at, clock_of, hour_of, is_leap_second, stand_in, Row, by_ordinal, by_month_and_day, row_of_two, row_of_three, full_year, IsRowDate}
+use Rattle.time_record.specs.Resolution.{Clock, IsMoment, IsMomentOfParts, IsDated, IsTimed, IsOffset, IsConstructed, clock_at, clock_of, hour_of}
+use Rattle.time_record.specs.Resolution.{is_leap_second, stand_in, Row, by_ordinal, by_month_and_day, row_of_two, row_of_three, full_year, IsRowDate}
 use Rattle.restamp_verdict.specs.Laws.{SaysAllTold, SignsTell}
 use Rattle.restamp_verdict.specs.Reading.{completed}
 use Rattle.restamp_verdict.specs.Told.{Piece, verbatim, part, pieces, put_values, with_told, with_all_told, clock, HasAll}
@@ -143,13 +145,12 @@ module _ (v : OffsetDateTime) where
       → MatchOption (option_or (row_of_two by_ordinal year number) (option_or (row_of_three by_month_and_day year month day) later))
       (Ok d ≡ Err insufficient) (λ row. IsRowDate greatest_year row (Ok d))
   dated None number month day later e is = absurd cc
-  dated (Some y) (Some n) month day later e is = (sym (same_Some y (Dates.year d) e), sym is)
+  dated (Some y) (Some n) month day later e is = (sym (same_Some y (Dates.year d) e), sym is, d.year_in)
   dated (Some y) None None day later e is = absurd (none-some (Dates.month d) is.0)
   dated (Some y) None (Some m) None later e is = absurd (none-some (Dates.day d) is.1)
   dated (Some y) None (Some m) (Some n) later e is = (
-    sym (same_Some y (Dates.year d) e),
-    sym (same_Some m (Dates.month d) is.0),
-    sym (same_Some n (Dates.day d) is.1),
+    (sym (same_Some y (Dates.year d) e), sym (same_Some m (Dates.month d) is.0), sym (same_Some n (Dates.day d) is.1)),
+    d.year_in,
   )
 
   clock_made : IsConstructed (time_refusal t.hour t.minute t.second t.nanosecond) (HasClock t.hour t.minute t.second t.nanosecond) (Ok t)

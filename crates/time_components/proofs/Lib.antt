@@ -1,3 +1,4 @@
 pub mod NameLemmas
 pub mod NumberLemmas
 pub mod OneSpelling
+pub mod StandardFacts

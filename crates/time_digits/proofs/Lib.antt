@@ -1,3 +1,4 @@
 pub mod Fractions
 pub mod Runs
 pub mod WordBytes
+pub mod StandardFacts

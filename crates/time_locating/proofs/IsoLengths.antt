@@ -11,7 +11,7 @@ use Rattle.time_digits.specs.declared.ParsedItem.{ParsedItem}
 use Rattle.time_digits.specs.declared.Sign.{Sign}
 use Rattle.time_readers.specs.IsoPieces.{Found, IsNumber, IsYear, Number, at_most, byte, digits_saying, month, months, not_zero, number, numbered, positive, sign, up_to, weekday, weekdays, year, digits}
 use Rattle.time_readers.specs.IsoOffsets as offsets
-use Rattle.time_readers.specs.IsoOffsets.{OffsetParts, offset_rows, offset_text, nothing_said, numbers_of}
+use Rattle.time_readers.specs.IsoOffsets.{OffsetParts, offset_rows, offset_text, nothing_said, numbers_found}
 use Rattle.time_readers.specs.IsoTimes.{Row, Stands, all_stand, first_fitting, fits, when, nothing_given, says, time_after, time_rows, time_text}
 use Rattle.time_readers.specs.IsoTimes as times
 use Rattle.time_readers.specs.declared.iso8601.ExtendedKind.{ExtendedKind}
@@ -207,17 +207,15 @@ mapped : {A B P : Type 0} (f : A → B) (o : Option A) (b : B) → option_map f 
 mapped f None b h k = absurd (none-some b h)
 mapped f (Some a) b h k = k a refl (same_Some (f a) b h)
 
-pub offset_text-within : (kind : ExtendedKind) (b rest : List ℕ) (n : OffsetNumbers) → offset_text kind b ≡ Some (rest, n)
-    → length rest ≤ length b
+pub offset_text-within : (kind : ExtendedKind) (b : List ℕ) (o : Found OffsetNumbers) → offset_text kind b ≡ Some o
+    → length o.rest ≤ length b
 unfolding offset_text
-offset_text-within kind b rest n h =
-    let said : Found OffsetParts → (List ℕ × OffsetNumbers) =
-    λ f. (f.rest, numbers_of f.value.signed f.value.hour f.value.minute) in
-    mapped said (first_fitting offsets.stands nothing_said offset_rows kind b) (rest, n) h
+offset_text-within kind b o h =
+    mapped numbers_found (first_fitting offsets.stands nothing_said offset_rows kind b) o h
     (λ t e is. omega (
       arith,
       first_fitting-within offsets.stands offset-within nothing_said kind b offset_rows t e,
-      ap (λ (x : List ℕ × OffsetNumbers). length x.0) is,
+      ap (λ (x : Found OffsetNumbers). length x.rest) is,
     ))
 
 -- ---- What the pieces of ISO 8601 leave, from what their readers answer, and what their rows miss

@@ -20,7 +20,7 @@ use Rattle.time_digits.specs.Digits.{sign_byte, is_negative, NoDigitFirst}
 use Rattle.time_digits.specs.declared.Sign.{Sign}
 use Rattle.time_readers.specs.IsoPieces.{NoPointFirst, with_sign}
 use Rattle.time_readers.specs.IsoDates.{calendar}
-use Rattle.time_readers.specs.IsoOffsets.{offset_text}
+use Rattle.time_readers.specs.IsoOffsets.{offset_found}
 use Rattle.time_readers.specs.declared.iso8601.ExtendedKind.TheVariants.{Basic, Extended}
 use Rattle.time_readers.specs.declared.iso8601.OffsetNumbers.{OffsetNumbers}
 use Rattle.time_readers.specs.declared.iso8601.OffsetNumbers.TheVariants.{Zulu, Numeric}
@@ -119,7 +119,7 @@ module _ (k : ℕ) (few : k ≤ 9) (v w : OffsetDateTime) (cut : IsCut k v w)
     abbrev plain_of : PlainDateTime
     plain_of = record { date = offset_date w; time = offset_time w }
 
-    extended-back : offset_text Extended offset ≡ Some ([], n) → IsBack (with_offset offset)
+    extended-back : offset_found Extended offset ≡ Some ([], n) → IsBack (with_offset offset)
     extended-back text =
         let d = offset_date v in
         let t = offset_time v in
@@ -134,7 +134,7 @@ module _ (k : ℕ) (few : k ≤ 9) (v w : OffsetDateTime) (cut : IsCut k v w)
         text date_is time_is is in
         (whole.0, whole.1, whole.3 w refl refl refl)
 
-    basic-back : offset_text Basic offset ≡ Some ([], n) → IsBack (basic_with offset)
+    basic-back : offset_found Basic offset ≡ Some ([], n) → IsBack (basic_with offset)
     basic-back text =
         let d = offset_date v in
         let t = offset_time v in

@@ -1,6 +1,6 @@
 -- The parts of a text of ISO 8601 that was written say what they were written of.
 use Rattle.std.proofs.Common.{◌≡◌, ◌≢◌, ◌≤◌, ◌<◌, ◌+◌, ◌-◌, ◌*◌, ◌^◌, ◌/◌, ◌%◌, ℕ, zero, suc, pos, List, [], ◌∷◌, ◌++◌, length, take, true, Option, Some, None, Ok, refl, sym, ap, subst, ◌∙◌, ⊎_elim, inl, inr, arith, append_assoc, mul-le-mul_right, add-mul, mul_assoc, div-mul-le_self, pow-suc}
-use Rattle.std.specs.Prelude.{◌&&◌, nat_le, nat_lt}
+use Rattle.std.specs.Prelude.{◌&&◌, nat_le, nat_lt, option_map}
 use Rattle.std.proofs.lemmas.Bool.{le-leb, lt-ltb, ne_eqb}
 use Rattle.std.proofs.lemmas.List.{take_all, length-take-le}
 use Rattle.std.proofs.lemmas.Nat.{pow-add}
@@ -11,12 +11,14 @@ use Rattle.time_values.proofs.NumberLemmas.{month_number_in}
 use Rattle.time_digits.specs.Digits.{sign_byte, IsFraction, NoDigitFirst, digits_value}
 use Rattle.time_digits.specs.declared.Sign.{Sign}
 use Rattle.time_digits.specs.declared.Sign.TheVariants.{Negative, Positive}
-use Rattle.time_readers.specs.IsoPieces.{NoPointFirst, Number, plain, fraction, number, year, month, positive, digits, up_to, byte, sign, with_sign}
+use Rattle.time_readers.specs.IsoPieces.{Found, NoPointFirst, Number, plain, fraction, number, year, month, positive, digits, up_to, byte, sign, with_sign}
 use Rattle.time_readers.specs.IsoDates.{date_text, forms, calendar}
 use Rattle.time_readers.specs.IsoGrammar.{SaysSecond, offset_by_pieces, offset_minute}
 use Rattle.time_readers.specs.IsoTimes.{round_of, when, time_text}
-use Rattle.time_readers.specs.IsoOffsets.{offset_text}
+use Rattle.time_readers.specs.IsoOffsets.{offset_found}
+use Rattle.time_readers.specs.declared.iso8601.ExtendedKind.{ExtendedKind}
 use Rattle.time_readers.specs.declared.iso8601.ExtendedKind.TheVariants.{Basic, Extended}
+use Rattle.time_readers.specs.declared.iso8601.OffsetNumbers.{OffsetNumbers}
 use Rattle.time_readers.specs.declared.iso8601.OffsetNumbers.TheVariants.{Zulu, Numeric}
 use Rattle.time_readers.specs.declared.iso8601.TimeNumbers.{TimeNumbers}
 use Rattle.time_readers.proofs.IsoDatesAndTimes.{byte_found, byte_missing}
@@ -225,21 +227,24 @@ second_stands (suc k) s n rest few small below digit point =
     rw (not_zero k) (fraction s (take (suc k) (fixed 9 n)), both.0, both.1)
 
 -- offsets
-pub zulu_offset : offset_text Extended (90 ∷ []) ≡ Some ([], Zulu)
-unfolding offset_by_pieces
-zulu_offset = offset_by_pieces_is Extended (90 ∷ []) ∙ rw (byte_found 90 90 [] refl) refl
+found_is : (kind : ExtendedKind) (b : List ℕ) → offset_found kind b ≡ option_map (λ (f : Found OffsetNumbers). (f.rest, f.value)) (offset_by_pieces kind b)
+found_is kind b = ap (option_map (λ (f : Found OffsetNumbers). (f.rest, f.value))) (offset_by_pieces_is kind b)
 
-pub basic_zulu_offset : offset_text Basic (90 ∷ []) ≡ Some ([], Zulu)
+pub zulu_offset : offset_found Extended (90 ∷ []) ≡ Some ([], Zulu)
 unfolding offset_by_pieces
-basic_zulu_offset = offset_by_pieces_is Basic (90 ∷ []) ∙ rw (byte_found 90 90 [] refl) refl
+zulu_offset = found_is Extended (90 ∷ []) ∙ rw (byte_found 90 90 [] refl) refl
+
+pub basic_zulu_offset : offset_found Basic (90 ∷ []) ≡ Some ([], Zulu)
+unfolding offset_by_pieces
+basic_zulu_offset = found_is Basic (90 ∷ []) ∙ rw (byte_found 90 90 [] refl) refl
 
 module _ (s : Sign) (h m : ℕ) (hour : h ≤ 25) (minute : m ≤ 59) where
-  pub extended_offset : offset_text Extended (sign_byte s ∷ (fixed 2 h ++ (58 ∷ (fixed 2 m ++ []))))
+  pub extended_offset : offset_found Extended (sign_byte s ∷ (fixed 2 h ++ (58 ∷ (fixed 2 m ++ []))))
       ≡ Some ([], Numeric (with_sign s h) (with_sign s m))
   unfolding offset_by_pieces offset_minute
   extended_offset =
       let after = fixed 2 m ++ [] in
-      offset_by_pieces_is Extended (sign_byte s ∷ (fixed 2 h ++ (58 ∷ after)))
+      found_is Extended (sign_byte s ∷ (fixed 2 h ++ (58 ∷ after)))
       ∙ rw (
         no_z s (fixed 2 h ++ (58 ∷ after)),
         sign_there s (fixed 2 h ++ (58 ∷ after)),
@@ -248,12 +253,12 @@ module _ (s : Sign) (h m : ℕ) (hour : h ≤ 25) (minute : m ≤ 59) where
         up_to_there 59 m [] minute (omega (arith, minute)),
       ) refl
 
-  pub basic_offset : offset_text Basic (sign_byte s ∷ (fixed 2 h ++ (fixed 2 m ++ [])))
+  pub basic_offset : offset_found Basic (sign_byte s ∷ (fixed 2 h ++ (fixed 2 m ++ [])))
       ≡ Some ([], Numeric (with_sign s h) (with_sign s m))
   unfolding offset_by_pieces offset_minute
   basic_offset =
       let after = fixed 2 m ++ [] in
-      offset_by_pieces_is Basic (sign_byte s ∷ (fixed 2 h ++ after))
+      found_is Basic (sign_byte s ∷ (fixed 2 h ++ after))
       ∙ rw (
         no_z s (fixed 2 h ++ after),
         sign_there s (fixed 2 h ++ after),

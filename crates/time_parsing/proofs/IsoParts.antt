@@ -1,7 +1,8 @@
 -- The parts of a text of ISO 8601 are what is read after each of them.
-use Rattle.std.specs.Prelude.{MatchResult, ◌==◌, nat_le, unsigned_abs}
+use Rattle.std.specs.Prelude.{MatchResult, ◌==◌, nat_le, unsigned_abs, option_map}
 use Rattle.std.specs.Borrow.{Bor}
-use Rattle.std.proofs.Common.{◌≡◌, ◌∙◌, refl, sym, ap, ◌⊎◌, inl, inr, ℕ, List, true, false, Option, Some, None, Result, Ok, Err, ◌≤◌, ℤ, pos, subst, arith, [], ◌∷◌, length, IfSome}
+use Rattle.std.proofs.Common.{◌≡◌, ◌∙◌, refl, sym, ap, ◌⊎◌, inl, inr, ℕ, List, true, false, Option, Some, None, Result, Ok, Err, ◌≤◌, ℤ, pos, subst}
+use Rattle.std.proofs.Common.{arith, [], ◌∷◌, length, IfSome}
 use Rattle.std.proofs.lemmas.Option.{none-some, same_Some}
 use Rattle.std.proofs.lemmas.Bool.{le-leb, eqb-true}
 use Rattle.std.proofs.lemmas.Bool.Decides.{nat_tests}
@@ -22,7 +23,7 @@ use Rattle.time_readers.specs.IsoPieces.{Found, byte, sign}
 use Rattle.time_readers.specs.declared.iso8601.ExtendedKind.TheVariants.{Unknown}
 use Rattle.time_readers.specs.IsoDates.{IsoDate, date_text}
 use Rattle.time_readers.specs.IsoGrammar.{offset_by_pieces}
-use Rattle.time_readers.specs.IsoOffsets.{offset_text}
+use Rattle.time_readers.specs.IsoOffsets.{offset_text, offset_found}
 use Rattle.time_readers.specs.IsoTimes.{time_text}
 use Rattle.time_readers.specs.declared.iso8601.ExtendedKind.{ExtendedKind}
 use Rattle.time_readers.specs.declared.iso8601.OffsetNumbers.{OffsetNumbers}
@@ -54,11 +55,11 @@ module _ (Y : ℕ) (b : List ℕ) (r : Record) where
 
   -- a date
   module _ (d : Found Record) (date : date_over Y b r ≡ Ok d) where
-    after_both : (t : Found Record) (o : Option (List ℕ × Record)) → time_over Y true d.kind d.rest d.value ≡ Some t
+    after_both : (t : Found Record) (o : Option (Found Record)) → time_over Y true d.kind d.rest d.value ≡ Some t
         → offset_over Y t.kind t.rest t.value ≡ o → Agree
     unfolding answer reading after_time
     after_both t None time offset = inl ((t.rest, t.value), rw (date, time, offset) refl, rw (date, time, offset) refl)
-    after_both t (Some (x, q)) time offset = inl ((x, q), rw (date, time, offset) refl, rw (date, time, offset) refl)
+    after_both t (Some f) time offset = inl ((f.rest, f.value), rw (date, time, offset) refl, rw (date, time, offset) refl)
 
     with_date : (t : Option (Found Record)) → time_over Y true d.kind d.rest d.value ≡ t → Agree
     unfolding answer reading
@@ -67,16 +68,16 @@ module _ (Y : ℕ) (b : List ℕ) (r : Record) where
 
   -- no date
   module _ (fault : Refusal) (date : date_over Y b r ≡ Err fault) where
-    time_alone : (t : Found Record) (o : Option (List ℕ × Record)) → time_over Y false Unknown b r ≡ Some t
+    time_alone : (t : Found Record) (o : Option (Found Record)) → time_over Y false Unknown b r ≡ Some t
         → offset_over Y t.kind t.rest t.value ≡ o → Agree
     unfolding answer reading after_time
     time_alone t None time offset = inl ((t.rest, t.value), rw (date, time, offset) refl, rw (date, time, offset) refl)
-    time_alone t (Some (x, q)) time offset = inl ((x, q), rw (date, time, offset) refl, rw (date, time, offset) refl)
+    time_alone t (Some f) time offset = inl ((f.rest, f.value), rw (date, time, offset) refl, rw (date, time, offset) refl)
 
-    offset_alone : (o : Option (List ℕ × Record)) → time_over Y false Unknown b r ≡ None → offset_over Y Unknown b r ≡ o → Agree
+    offset_alone : (o : Option (Found Record)) → time_over Y false Unknown b r ≡ None → offset_over Y Unknown b r ≡ o → Agree
     unfolding answer reading
     offset_alone None time offset = inr (fault, rw (date, time, offset) refl, rw (date, time, offset) refl, date)
-    offset_alone (Some (x, q)) time offset = inl ((x, q), rw (date, time, offset) refl, rw (date, time, offset) refl)
+    offset_alone (Some f) time offset = inl ((f.rest, f.value), rw (date, time, offset) refl, rw (date, time, offset) refl)
 
     no_date : (t : Option (Found Record)) → time_over Y false Unknown b r ≡ t → Agree
     no_date None time = offset_alone (offset_over Y Unknown b r) time refl
@@ -181,7 +182,7 @@ parts_put bytes between rest k l x y d t date time said told =
 
 dated : (d : Date) (t : Time) (h m s : Option ℤ) → IsDated greatest_year (recorded d t h m s) (Ok d)
 unfolding IsDated
-dated d t h m s = (refl, refl, refl)
+dated d t h m s = ((refl, refl, refl), d.year_in)
 
 timed : (d : Date) (t : Time) (h m s : Option ℤ) → IsTimed (recorded d t h m s) (Ok t)
 unfolding IsTimed
@@ -248,16 +249,29 @@ plain-whole bytes between rest k l x y p date time end said told =
       tt,
     )
 
+with_its_kind : (l : ExtendedKind) (after rest : List ℕ) (n : OffsetNumbers) (f : Option (Found OffsetNumbers)) → offset_text l after ≡ f
+    → option_map {U = List ℕ × OffsetNumbers} (λ (g : Found OffsetNumbers). (g.rest, g.value)) f ≡ Some (rest, n)
+    → (k : ExtendedKind) × (offset_text l after ≡ Some (record { rest = rest; value = n; kind = k }))
+with_its_kind l after rest n None is h = absurd (none-some (rest, n) h)
+with_its_kind l after rest n (Some f) is h =
+    let same = same_Some (f.rest, f.value) (rest, n) h in
+    (f.kind, is ∙ ap (λ (z : List ℕ × OffsetNumbers). Some (record { rest = z.0; value = z.1; kind = f.kind })) same)
+
+-- the text of an offset that is found, with the kind after it
+found_text : (l : ExtendedKind) (after rest : List ℕ) (n : OffsetNumbers) → offset_found l after ≡ Some (rest, n)
+    → (k : ExtendedKind) × (offset_text l after ≡ Some (record { rest = rest; value = n; kind = k }))
+found_text l after rest n h = with_its_kind l after rest n (offset_text l after) refl h
+
 -- the offset is put after them, in components that resolve to it
-offset_put : (l : ExtendedKind) (after rest : List ℕ) (n : OffsetNumbers) (o : UtcOffset)
-    → offset_text l after ≡ Some (rest, n) → IsOffsetSaid n o
+offset_put : (l k : ExtendedKind) (after rest : List ℕ) (n : OffsetNumbers) (o : UtcOffset)
+    → offset_text l after ≡ Some (record { rest = rest; value = n; kind = k }) → IsOffsetSaid n o
     → (h m s : Option ℤ)
     × ((d : Date) (t : Time) → after_time greatest_year l after (recorded d t None None None) ≡ (rest, recorded d t h m s))
     × ((d : Date) (t : Time) → IsOffset (recorded d t h m s) (Ok o))
 unfolding after_time offset_over IsOffset
-offset_put l after rest Zulu o text said =
+offset_put l k after rest Zulu o text said =
     (Some (pos 0), Some (pos 0), Some (pos 0), λ d t. rw text refl, λ d t. said)
-offset_put l after rest (Numeric hour minute) o text said =
+offset_put l k after rest (Numeric hour minute) o text said =
     let parts = given (offset_refusal hour minute (pos 0)) (HasOffset hour minute (pos 0)) o said in
     let ranges = offset_accepted hour minute parts.0 in (
       Some hour,
@@ -272,13 +286,14 @@ pub moment-whole : (bytes between after : List ℕ) (k l : ExtendedKind) (x : Is
     (p : PlainDateTime) (o : UtcOffset)
     → date_text bytes ≡ Ok (record { rest = between; value = x; kind = k })
     → time_text true k between ≡ Some (record { rest = after; value = y; kind = l })
-    → offset_text l after ≡ Some ([], n)
+    → offset_found l after ≡ Some ([], n)
     → x ≡ date_said (plain_date p) → y ≡ time_said (plain_time p) → IsOffsetSaid n o
     → IsWholeText bytes p (Some o)
 moment-whole bytes between after k l x y n p o date time offset said told shown =
     let d = plain_date p in
     let t = plain_time p in
-    let put = offset_put l after [] n o offset shown in
+    let text = found_text l after [] n offset in
+    let put = offset_put l text.0 after [] n o text.1 shown in
     let h = put.0 in
     let m = put.1 in
     let s = put.2 in (

@@ -1,7 +1,8 @@
 -- A text of ISO 8601 that is read whole where years have four digits is read so where they have more. A date
 -- with a longer year begins with a sign and six digits, and no time begins so, and no offset is that long.
 use Rattle.std.specs.Prelude.{nat_le, option_map, option_and_then, unwrap_or, codes}
-use Rattle.std.proofs.Common.{◌≡◌, ◌∙◌, ℕ, ◌+◌, ◌<◌, ◌≤◌, ℤ, pos, unsigned_abs, Bool, true, false, Option, None, Some, Result, Ok, Err, List, [], ◌∷◌, ◌++◌, length, length-append, refl, sym, ap, arith}
+use Rattle.std.proofs.Common.{◌≡◌, ◌∙◌, ℕ, ◌+◌, ◌<◌, ◌≤◌, ℤ, pos, unsigned_abs, Bool, true, false, Option, None, Some, Result, Ok, Err, List, [], ◌∷◌}
+use Rattle.std.proofs.Common.{◌++◌, length, length-append, refl, sym, ap, arith}
 use Rattle.std.proofs.Math.Bool.{and-false}
 use Rattle.std.proofs.lemmas.Bool.{le-leb, leb-true, leb-false}
 use Rattle.std.proofs.lemmas.Option.{none-some, same_Some, cond_some, some_pair_parts, option_and_then_some}
@@ -11,8 +12,9 @@ use Rattle.time_digits.specs.declared.Sign.{Sign}
 use Rattle.time_digits.specs.declared.Sign.TheVariants.{Negative, Positive}
 use Rattle.time_digits.proofs.Runs.{IsDigitRun-below}
 use Rattle.time_readers.specs.IsoPieces.{Found, byte, digits, sign, with_sign, year, year_after, month, positive, up_to, weekday, number, at_most}
-use Rattle.time_readers.specs.IsoDates.{IsoDate, calendar, ordinal as iso_ordinal, week, FormOrFault, need, dash, first_form, second_form, third_form, first_standing, forms, of_kind, after_year, date_text}
-use Rattle.time_readers.specs.IsoGrammar.{minute_or_none, minute_after, offset_minute, after_hour, offset_by_pieces}
+use Rattle.time_readers.specs.IsoDates.{IsoDate, calendar, ordinal as iso_ordinal, week, FormOrFault, need, dash, first_form, second_form, third_form}
+use Rattle.time_readers.specs.IsoDates.{first_standing, forms, of_kind, after_year, date_text}
+use Rattle.time_readers.specs.IsoGrammar.{with_kind, minute_or_none, minute_after, offset_minute, after_hour, offset_by_pieces}
 use Rattle.time_readers.specs.IsoOffsets.{numbers_of, offset_text}
 use Rattle.time_readers.specs.IsoTimes.{time_after, time_text}
 use Rattle.time_readers.specs.declared.iso8601.ExtendedKind.{ExtendedKind}
@@ -22,8 +24,9 @@ use Rattle.time_readers.specs.declared.iso8601.OffsetNumbers.TheVariants.{Zulu, 
 use Rattle.time_readers.proofs.IsoTimes.{offset_by_pieces_is}
 use Rattle.time_readers.proofs.IsoCuts.{digits-tells, said-tells, sign-tells}
 use Rattle.time_record.specs.Record.{Record, put_all}
-use Rattle.time_parsing.specs.Iso8601.{Reads as Iso8601Reads, date_entries, time_entries, offset_entries, put_or_fault, result_and_then, with_value, date_over, time_over, offset_over}
-use Rattle.time_parsing.specs.IsoSteps.{answer, after_time, after_date, without_date, date_or_none}
+use Rattle.time_parsing.specs.Iso8601.{Reads as Iso8601Reads, date_entries, time_entries, offset_entries, put_or_fault, result_and_then, with_value}
+use Rattle.time_parsing.specs.Iso8601.{date_over, time_over, offset_over}
+use Rattle.time_parsing.specs.IsoSteps.{answer, after_offset, after_time, after_date, without_date, date_or_none}
 use Rattle.time_parsing.specs.TreeLaws.{KeepsTexts}
 use Rattle.time_parsing.specs.Rfc3339.{with_leap_second, without_offset_sign}
 use Rattle.time_parsing.proofs.IsoParts.{answered-read, read-answered}
@@ -121,30 +124,40 @@ minute_or_none-length : (b : List ℕ) (o : Option (List ℕ × ℕ)) (m : ℕ) 
 minute_or_none-length b None m h = let is = some_pair_parts b [] 0 m h in omega (arith, ap length is.0)
 minute_or_none-length b (Some f) m h = omega (arith, up_to-length 59 2 b [] m h)
 
-minute_after-length : (b : List ℕ) (o : Option (List ℕ)) (m : ℕ) → byte 58 b ≡ o → minute_after b o ≡ Some ([], m) → length b ≤ 3
-minute_after-length b None m is h = omega (arith, minute_or_none-length b (digits 2 b) m h)
-minute_after-length b (Some after) m is h = omega (arith, byte-length 58 b after is, up_to-length 59 2 after [] m h)
+-- a piece of that kind, after which nothing follows
+whole_piece : (kind : ExtendedKind) (p : Option (List ℕ × ℕ)) (m : Found ℕ) → option_map (with_kind kind) p ≡ Some m → m.rest ≡ []
+    → p ≡ Some ([], m.value)
+whole_piece kind p m h end =
+    option_map_some (with_kind kind) p m h
+    (λ q found same. found ∙ ap (λ (z : Found ℕ). Some (z.rest, z.value)) same ∙ ap (λ x. Some (x, m.value)) end)
 
-offset_minute-length : (b : List ℕ) (m : ℕ) → offset_minute Unknown b ≡ Some ([], m) → length b ≤ 3
+minute_after-length : (b : List ℕ) (o : Option (List ℕ)) (m : Found ℕ) → byte 58 b ≡ o → minute_after Unknown b o ≡ Some m
+    → m.rest ≡ [] → length b ≤ 3
+minute_after-length b None m is h end =
+    omega (arith, minute_or_none-length b (digits 2 b) m.value (whole_piece Unknown (minute_or_none b (digits 2 b)) m h end))
+minute_after-length b (Some after) m is h end =
+    omega (arith, byte-length 58 b after is, up_to-length 59 2 after [] m.value (whole_piece Extended (up_to 59 2 after) m h end))
+
+offset_minute-length : (b : List ℕ) (m : Found ℕ) → offset_minute Unknown b ≡ Some m → m.rest ≡ [] → length b ≤ 3
 unfolding offset_minute
-offset_minute-length b m h = minute_after-length b (byte 58 b) m refl h
+offset_minute-length b m h end = minute_after-length b (byte 58 b) m refl h end
 
-after_hour-length : (s : Sign) (f : List ℕ × ℕ) (o : OffsetNumbers) → after_hour Unknown s f ≡ Some ([], o) → length f.0 ≤ 3
-after_hour-length s f o h =
-    option_map_some (λ m. (m.0, numbers_of (Some s) f.1 m.1)) (offset_minute Unknown f.0) ([], o) h
-    (λ m found is.
-    let whole : offset_minute Unknown f.0 ≡ Some ([], m.1) = found ∙ ap (λ x. Some (x, m.1)) (ap (λ z. z.0) is) in
-    offset_minute-length f.0 m.1 whole)
+after_hour-length : (s : Sign) (f : List ℕ × ℕ) (o : Found OffsetNumbers) → after_hour Unknown s f ≡ Some o → o.rest ≡ [] → length f.0 ≤ 3
+after_hour-length s f o h end =
+    option_map_some {A = Found ℕ} {B = Found OffsetNumbers} (λ m. record { rest = m.rest; value = numbers_of (Some s) f.1 m.value; kind = m.kind })
+    (offset_minute Unknown f.0) o h
+    (λ m found is. offset_minute-length f.0 m found (ap (λ (z : Found OffsetNumbers). z.rest) is ∙ end))
 
 -- an offset after a sign has at most five bytes
-offset-length : (s : Sign) (b : List ℕ) (o : OffsetNumbers) → offset_by_pieces Unknown (sign_byte s ∷ b) ≡ Some ([], o) → length b ≤ 5
+offset-length : (s : Sign) (b : List ℕ) (o : Found OffsetNumbers) → offset_by_pieces Unknown (sign_byte s ∷ b) ≡ Some o → o.rest ≡ []
+    → length b ≤ 5
 unfolding offset_by_pieces byte sign
-offset-length Negative b o h =
-    option_and_then_some (after_hour Unknown Negative) (up_to 25 2 b) ([], o) h
-    (λ f found is. omega (arith, up_to-length 25 2 b f.0 f.1 found, after_hour-length Negative f o is))
-offset-length Positive b o h =
-    option_and_then_some (after_hour Unknown Positive) (up_to 25 2 b) ([], o) h
-    (λ f found is. omega (arith, up_to-length 25 2 b f.0 f.1 found, after_hour-length Positive f o is))
+offset-length Negative b o h end =
+    option_and_then_some (after_hour Unknown Negative) (up_to 25 2 b) o h
+    (λ f found is. omega (arith, up_to-length 25 2 b f.0 f.1 found, after_hour-length Negative f o is end))
+offset-length Positive b o h end =
+    option_and_then_some (after_hour Unknown Positive) (up_to 25 2 b) o h
+    (λ f found is. omega (arith, up_to-length 25 2 b f.0 f.1 found, after_hour-length Positive f o is end))
 
 -- ---- a time
 
@@ -205,11 +218,14 @@ module _ (Y Z : ℕ) where
   offset_over-same : (kind : ExtendedKind) (b : List ℕ) (r : Record) → offset_over Y kind b r ≡ offset_over Z kind b r
   unfolding offset_over
   offset_over-same kind b r = λ i.
-      option_and_then (λ o. option_map (λ q. (o.0, q)) (put_offset-same o.1 (without_offset_sign r) i)) (offset_text kind b)
+      option_and_then (λ o. option_map (with_value o) (put_offset-same o.value (without_offset_sign r) i)) (offset_text kind b)
+
+  after_offset-same : (kind : ExtendedKind) (b : List ℕ) (r : Record) → after_offset Y kind b r ≡ after_offset Z kind b r
+  after_offset-same kind b r = ap (option_map (λ (o : Found Record). (o.rest, o.value))) (offset_over-same kind b r)
 
   after_time-same : (kind : ExtendedKind) (b : List ℕ) (r : Record) → after_time Y kind b r ≡ after_time Z kind b r
   unfolding after_time
-  after_time-same kind b r = ap (λ o. unwrap_or o (b, r)) (offset_over-same kind b r)
+  after_time-same kind b r = ap (λ o. unwrap_or o (b, r)) (after_offset-same kind b r)
 
   after_date-same : (d : Found Record) (t : Option (Found Record)) → after_date Y d t ≡ after_date Z d t
   after_date-same d (Some t) = after_time-same t.kind t.rest t.value
@@ -217,7 +233,7 @@ module _ (Y Z : ℕ) where
 
   without_date-same : (fault : Refusal) (b : List ℕ) (r : Record) (t : Option (Found Record)) → without_date Y fault b r t ≡ without_date Z fault b r t
   without_date-same fault b r (Some t) = ap (λ x. Ok x) (after_time-same t.kind t.rest t.value)
-  without_date-same fault b r None = ap (λ o. need o fault (λ x. Ok x)) (offset_over-same Unknown b r)
+  without_date-same fault b r None = ap (λ o. need o fault (λ x. Ok x)) (after_offset-same Unknown b r)
 
   date_or_none-same : (b : List ℕ) (r : Record) (d : Result (Found Record) Refusal) → date_or_none Y b r d ≡ date_or_none Z b r d
   date_or_none-same b r (Ok d) =
@@ -241,16 +257,21 @@ module _ (Y : ℕ) where
   put_date-fault (week y w d) r out = rw out refl
 
   -- after a longer year no whole text is read as anything but a date
-  no_offset : (b : List ℕ) (r q : Record) → HasLongYear b → offset_over Y Unknown b r ≡ Some ([], q) → ⊥
+  no_offset_over : (b : List ℕ) (r : Record) (f : Found Record) → HasLongYear b → offset_over Y Unknown b r ≡ Some f → f.rest ≡ [] → ⊥
   unfolding offset_over
-  no_offset b r q (s, after, is, long) h =
-      option_and_then_some (λ o. option_map (λ x. (o.0, x)) (put_all Y (offset_entries o.1) (without_offset_sign r)))
-      (offset_text Unknown b) ([], q) h
-      (λ o found put. option_map_some (λ x. (o.0, x)) (put_all Y (offset_entries o.1) (without_offset_sign r)) ([], q) put
+  no_offset_over b r f (s, after, is, long) h end =
+      option_and_then_some (λ o. option_map (with_value o) (put_all Y (offset_entries o.value) (without_offset_sign r)))
+      (offset_text Unknown b) f h
+      (λ o found put. option_map_some (with_value o) (put_all Y (offset_entries o.value) (without_offset_sign r)) f put
       (λ p _ same.
-      let whole : offset_by_pieces Unknown (sign_byte s ∷ after) ≡ Some ([], o.1) =
-      sym (offset_by_pieces_is Unknown (sign_byte s ∷ after)) ∙ ap (offset_text Unknown) (sym is) ∙ found ∙ ap (λ x. Some (x, o.1)) (ap (λ z. z.0) same) in
-      omega (arith, offset-length s after o.1 whole, long)))
+      let whole : offset_by_pieces Unknown (sign_byte s ∷ after) ≡ Some o =
+      sym (offset_by_pieces_is Unknown (sign_byte s ∷ after)) ∙ ap (offset_text Unknown) (sym is) ∙ found in
+      omega (arith, offset-length s after o whole (ap (λ (z : Found Record). z.rest) same ∙ end), long)))
+
+  no_offset : (b : List ℕ) (r q : Record) → HasLongYear b → after_offset Y Unknown b r ≡ Some ([], q) → ⊥
+  no_offset b r q long h =
+      option_map_some (λ (o : Found Record). (o.rest, o.value)) (offset_over Y Unknown b r) ([], q) h
+      (λ f found same. no_offset_over b r f long found (ap (λ (z : List ℕ × Record). z.0) same))
 
   no_time_over : (b : List ℕ) (r : Record) → HasLongYear b → time_over Y false Unknown b r ≡ None
   unfolding time_over
@@ -261,7 +282,7 @@ module _ (Y : ℕ) where
   no_other : (fault : Refusal) (b : List ℕ) (r q : Record) → HasLongYear b
       → without_date Y fault b r (time_over Y false Unknown b r) ≡ Ok ([], q) → ⊥
   no_other fault b r q long h =
-      need-Ok (offset_over Y Unknown b r) fault (λ o. Ok o) ([], q) (rw (no_time_over b r long) at h)
+      need-Ok (after_offset Y Unknown b r) fault (λ o. Ok o) ([], q) (rw (no_time_over b r long) at h)
       (λ o found is. no_offset b r q long (found ∙ ap (λ x. Some x) (same_Ok o ([], q) is)))
 
 -- a date put into a record, and the answer of a text whose date is put or refused so

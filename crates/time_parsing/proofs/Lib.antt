@@ -7,3 +7,6 @@ pub mod IsoParts
 mod IsoForm
 pub mod IsoBack
 pub mod KeptIsoTexts
+mod StandardFacts
+mod IsoFacts
+mod OutcomeFacts

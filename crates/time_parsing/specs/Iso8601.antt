@@ -66,9 +66,10 @@ time_over Y needs_t kind bytes r =
     option_and_then (λ t. option_map (with_value t) (put_all Y (time_entries t.value) r)) (time_text needs_t kind bytes)
 
 -- the text of an offset of that kind, put into the record, which keeps no sign of an offset from before
-unfoldable pub offset_over : ℕ → ExtendedKind → List ℕ → Record → Option (List ℕ × Record)
+unfoldable pub offset_over : ℕ → ExtendedKind → List ℕ → Record → Option (Found Record)
 offset_over Y kind bytes r =
-    option_and_then (λ o. option_map (λ q. (o.0, q)) (put_all Y (offset_entries o.1) (without_offset_sign r)))
+    option_and_then
+    (λ o. option_map (with_value o) (put_all Y (offset_entries o.value) (without_offset_sign r)))
     (offset_text kind bytes)
 
 -- Each part is a reader, from the rest, the record and the kind before it to those after it. A date, which needs no
@@ -82,7 +83,7 @@ time Y needs_t f = time_over Y needs_t f.kind f.rest f.value
 
 -- an offset of the kind so far
 abbrev pub offset : ℕ → ReaderOf (Found Record)
-offset Y f = option_map (λ o. record { rest = o.0; value = o.1; kind = f.kind }) (offset_over Y f.kind f.rest f.value)
+offset Y f = offset_over Y f.kind f.rest f.value
 
 -- A date, after which a time may stand, which needs its `T`; or else a time; or else an offset. After a time an offset
 -- may stand.

@@ -1,7 +1,7 @@
 -- No public contract rests on this file.
 --
 -- What is read of ISO 8601 after each part over a record. `Y` is the greatest year.
-use Rattle.std.specs.Prelude.{ℕ, List, true, false, Option, Some, None, unwrap_or, Result, Ok, Err}
+use Rattle.std.specs.Prelude.{ℕ, List, true, false, Option, Some, None, option_map, unwrap_or, Result, Ok, Err}
 use Rattle.time_values.specs.Refusal.{Refusal}
 use Rattle.time_readers.specs.IsoPieces.{Found}
 use Rattle.time_readers.specs.IsoDates.{need}
@@ -10,9 +10,13 @@ use Rattle.time_readers.specs.declared.iso8601.ExtendedKind.TheVariants.{Unknown
 use Rattle.time_record.specs.Record.{Record}
 use Rattle.time_parsing.specs.Iso8601.{date_over, time_over, offset_over}
 
+-- after an offset, which is the last part: its kind no longer counts
+abbrev pub after_offset : ℕ → ExtendedKind → List ℕ → Record → Option (List ℕ × Record)
+after_offset Y kind bytes r = option_map (λ o. (o.rest, o.value)) (offset_over Y kind bytes r)
+
 -- after a time: an offset, or nothing
 unfoldable pub after_time : ℕ → ExtendedKind → List ℕ → Record → List ℕ × Record
-after_time Y kind bytes r = unwrap_or (offset_over Y kind bytes r) (bytes, r)
+after_time Y kind bytes r = unwrap_or (after_offset Y kind bytes r) (bytes, r)
 
 -- after a date: a time and what stands after it, or nothing, and so no offset
 abbrev pub after_date : ℕ → Found Record → Option (Found Record) → List ℕ × Record
@@ -22,7 +26,7 @@ after_date Y d None = (d.rest, d.value)
 -- without a date, whose fault is given: a time and what stands after it, or an offset, or else the fault
 abbrev pub without_date : ℕ → Refusal → List ℕ → Record → Option (Found Record) → Result (List ℕ × Record) Refusal
 without_date Y fault bytes r (Some t) = Ok (after_time Y t.kind t.rest t.value)
-without_date Y fault bytes r None = need (offset_over Y Unknown bytes r) fault (λ o. Ok o)
+without_date Y fault bytes r None = need (after_offset Y Unknown bytes r) fault (λ o. Ok o)
 
 -- the text with a date, after which a time needs its `T`, or without one
 abbrev pub date_or_none : ℕ → List ℕ → Record → Result (Found Record) Refusal → Result (List ℕ × Record) Refusal

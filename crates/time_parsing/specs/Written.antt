@@ -1,10 +1,11 @@
 -- Texts of RFC 3339 and RFC 2822 that were written, and are read.
 use Rattle.std.specs.Prelude.{◌≡◌, ℕ, ◌-◌, ◌*◌, ◌/◌, ◌^◌, ◌<◌, List, None, Ok, pos, neg_ℤ, ◌++◌, codes, Some, ◌≢◌}
-use Rattle.time_values.specs.Moments.{offset_date, offset_time, offset_of, offset_instant, utc_instant}
+use Rattle.time_values.specs.Moments.{offset_date, offset_time, offset_of, offset_instant, utc_date, utc_instant}
 use Rattle.time_values.specs.Times as Times
 use Rattle.time_values.specs.declared.offset_date_time.OffsetDateTime.{OffsetDateTime}
 use Rattle.time_values.specs.Calendar.{IsBetween}
 use Rattle.time_values.specs.Dates as Dates
+use Rattle.time_values.specs.Dates.{IsDateWithin}
 use Rattle.time_values.specs.Offsets as Offsets
 use Rattle.time_values.specs.Shown.{fixed}
 use Rattle.time_values.specs.declared.utc_date_time.UtcDateTime.{UtcDateTime}
@@ -102,7 +103,8 @@ ReadsBasicBack Y path reads refuses =
 
 -- the date and time in UTC of the moment, of whose fraction k digits are kept
 abbrev pub IsUtcCut : ℕ → ℕ → OffsetDateTime → UtcDateTime → Type 0
-IsUtcCut Y k v u = (w : OffsetDateTime) × IsCut k v w × (utc_instant Y u ≡ offset_instant Y w)
+IsUtcCut Y k v u =
+    (w : OffsetDateTime) × IsCut k v w × (utc_instant Y u ≡ offset_instant Y w) × IsDateWithin Y (utc_date u)
 
 -- The text of a moment is read back as its date and time in UTC, but for the digits that aren't written.
 abbrev pub ReadsUtcBack : ℕ → Reading → Refusing → Type 0

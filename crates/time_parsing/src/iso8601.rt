@@ -175,16 +175,16 @@ fn time_over<'a>(
     Some((found.rest, found.kind))
 }
 
-// Reads an offset of that kind over the record, and answers the rest.
+// Reads an offset of that kind over the record, and answers the rest. No part that needs its kind follows.
 #[inline(always)]
 fn offset_over<'a>(input: &'a [u8], parsed: &mut Parsed, kind: ExtendedKind) -> Option<&'a [u8]>
     ensures { MatchOption result
         ((spec.offset_over greatest_year kind input.now parsed.old ≡ None) × (parsed.new ≡ parsed.old))
-        (λ rest. spec.offset_over greatest_year kind input.now parsed.old ≡ Some (rest.now, parsed.new)) }
+        (λ rest. steps.after_offset greatest_year kind input.now parsed.old ≡ Some (rest.now, parsed.new)) }
 {
     let found = offset(input, kind)?;
-    put_offset(found.1, parsed)?;
-    Some(found.0)
+    put_offset(found.value, parsed)?;
+    Some(found.rest)
 }
 
 // Reads an offset after a time, or nothing, and answers the rest.

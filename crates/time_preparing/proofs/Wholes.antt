@@ -1,5 +1,6 @@
 -- Whole texts of one form: their steps, and the values of their records.
-use Rattle.std.proofs.Common.{◌≡◌, ◌≢◌, ℕ, ◌≤◌, List, [], ◌∷◌, ◌++◌, length, take, drop, get_or, true, false, Option, Some, None, Ok, Err, pos, inr, refl, ap, sym, ◌∙◌, subst, arith}
+use Rattle.std.proofs.Common.{◌≡◌, ◌≢◌, ℕ, ◌≤◌, List, [], ◌∷◌, ◌++◌, length, take, drop, get_or, true, false, Option, Some, None, Ok, Err, pos, inr}
+use Rattle.std.proofs.Common.{refl, ap, sym, ◌∙◌, subst, arith}
 use Rattle.std.specs.Prelude.{◌==◌, MatchOption, option_and_then}
 use Rattle.std.proofs.lemmas.Bool.{le-leb, eqb-true}
 use Rattle.std.proofs.lemmas.List.{take_all, drop_all}
@@ -27,9 +28,11 @@ use Rattle.time_record.specs.Record.{Record, empty}
 use Rattle.time_record.specs.Resolution.{Clock, clock_at, hour_of_half, IsConstructed, IsDated, IsMoment, IsMomentOfParts, IsOffset, IsTimed, IsPlain}
 use Rattle.time_record.proofs.WalkSteps.{behind_first, steps_trees-end}
 use Rattle.time_record.proofs.Unique.{first_of-some, ReadsSome-here}
-use Rattle.time_preparing.specs.Forms.{byte_parts, bytes_of, dated_parts, offset_parts, time_parts, with_half, with_offset, with_second, month_day_parts, second_parts}
+use Rattle.time_preparing.specs.Forms.{byte_parts, bytes_of, dated_parts, offset_parts, time_parts, with_half, with_offset, with_second}
+use Rattle.time_preparing.specs.Forms.{month_day_parts, second_parts}
 use Rattle.time_preparing.specs.Walk.{followed_by, leaves, seconds_tree}
-use Rattle.time_preparing.specs.Whole.{clock_second, dated, half_parts, half_trees, in_year, in_year_parts, IsLed, IsOf, IsWholeSecond, Leads, ReadsOver, ReadsWhole, timed, whole_parts, whole_trees}
+use Rattle.time_preparing.specs.Whole.{clock_second, dated, half_parts, half_trees, in_year, in_year_parts, IsLed, IsOf, IsWholeSecond, Leads}
+use Rattle.time_preparing.specs.Whole.{ReadsOver, ReadsWhole, timed, whole_parts, whole_trees}
 use Rattle.time_preparing.specs.declared.forms.HalfNumbers.{HalfNumbers}
 use Rattle.time_preparing.specs.declared.forms.InHalf.{InHalf}
 use Rattle.time_preparing.specs.declared.forms.InMoment.{InMoment}
@@ -58,7 +61,7 @@ constructed (Some e) P v h = absurd h
 
 pub is_dated : (d : Date) → IsDated greatest_year (dated d empty) (Ok d)
 unfolding IsDated
-is_dated d = (refl, refl, refl)
+is_dated d = ((refl, refl, refl), d.year_in)
 
 module _ (t : Time) (exact : IsWholeSecond t) where
   timed_by : (r : Record) → r.subsecond ≡ None → IsTimed (timed t r) (Ok t)
@@ -79,14 +82,14 @@ module _ (t : Time) (exact : IsWholeSecond t) where
       IsPlain greatest_year (timed t (dated d empty)) (Ok p)
   unfolding IsPlain IsDated
   is_plain d p same_date same_time =
-      inr (d, (refl, refl, refl), inr (t, timed_by (dated d empty) refl, (same_date, same_time)))
+      inr (d, ((refl, refl, refl), d.year_in), inr (t, timed_by (dated d empty) refl, (same_date, same_time)))
 
   -- in a year that is known
   pub is_plain_in : (r : Record) (d : Date) (p : PlainDateTime) → r.year ≡ Some (Dates.year d) → r.ordinal ≡ None → r.subsecond ≡ None →
       plain_date p ≡ d → plain_time p ≡ t → IsPlain greatest_year (timed t (in_year d r)) (Ok p)
   unfolding IsPlain IsDated
   is_plain_in r d p same_year no_ordinal no_fraction same_date same_time =
-      inr (d, rw (same_year, no_ordinal) (refl, refl, refl), inr (t, timed_by (in_year d r) no_fraction, (same_date, same_time)))
+      inr (d, rw (same_year, no_ordinal) ((refl, refl, refl), d.year_in), inr (t, timed_by (in_year d r) no_fraction, (same_date, same_time)))
 
   -- and an offset
   module _ (d : Date) (n : OffsetNumbers) (o : UtcOffset) (of : IsOf n o) where
@@ -100,7 +103,7 @@ module _ (t : Time) (exact : IsWholeSecond t) where
     is_moment v same_date same_time same_offset =
         inr (
           d,
-          (refl, refl, refl),
+          ((refl, refl, refl), d.year_in),
           inr (
             t,
             timed_by (with_offset n (dated d empty)) refl,

@@ -12,7 +12,7 @@ use Rattle.time_readers.specs.declared.iso8601.ExtendedKind.TheVariants.{Basic, 
 use Rattle.time_readers.specs.declared.iso8601.OffsetNumbers.{OffsetNumbers}
 use Rattle.time_readers.specs.declared.iso8601.OffsetNumbers.TheVariants.{Zulu}
 use Rattle.time_readers.specs.declared.iso8601.TimeNumbers.{TimeNumbers}
-use Rattle.time_readers.specs.IsoPieces.{Found, Piece, Number, number, digits, up_to, sign, byte}
+use Rattle.time_readers.specs.IsoPieces.{Found, Number, number, digits, up_to, sign, byte}
 use Rattle.time_readers.specs.IsoTimes.{not_basic, nothing_given, says, any_second, time_text}
 use Rattle.time_readers.specs.IsoOffsets.{numbers_of}
 use Rattle.time_readers.specs.IsoDates.{AreCalendarDigits}
@@ -52,30 +52,36 @@ abbrev pub minute_or_none : List ℕ → Option (List ℕ × ℕ) → Option (Li
 minute_or_none bytes None = Some (bytes, 0)
 minute_or_none bytes (Some f) = up_to 59 2 bytes
 
+-- a piece, and the kind after it
+abbrev pub with_kind : {V : Type 0} → ExtendedKind → (List ℕ × V) → Found V
+with_kind kind p = record { rest = p.0; value = p.1; kind = kind }
+
 -- a minute after a colon, where one stands, or without
-abbrev pub minute_after : List ℕ → Option (List ℕ) → Option (List ℕ × ℕ)
-minute_after bytes (Some after) = up_to 59 2 after
-minute_after bytes None = minute_or_none bytes (digits 2 bytes)
+abbrev pub minute_after : ExtendedKind → List ℕ → Option (List ℕ) → Option (Found ℕ)
+minute_after kind bytes (Some after) = option_map (with_kind Extended) (up_to 59 2 after)
+minute_after kind bytes None = option_map (with_kind kind) (minute_or_none bytes (digits 2 bytes))
 
 -- a colon, in a text that may be extended
 abbrev pub colon_of : ExtendedKind → List ℕ → Option (List ℕ)
 colon_of kind bytes = if not_basic kind then byte 58 bytes else None
 
 -- the minute of an offset, 0 where none stands
-unfoldable pub offset_minute : ExtendedKind → Piece ℕ
-offset_minute kind bytes = minute_after bytes (colon_of kind bytes)
+unfoldable pub offset_minute : ExtendedKind → List ℕ → Option (Found ℕ)
+offset_minute kind bytes = minute_after kind bytes (colon_of kind bytes)
 
 -- what stands after a sign and its hour
-abbrev pub after_hour : ExtendedKind → Sign → (List ℕ × ℕ) → Option (List ℕ × OffsetNumbers)
-after_hour kind s h = option_map (λ m. (m.0, numbers_of (Some s) h.1 m.1)) (offset_minute kind h.0)
+abbrev pub after_hour : ExtendedKind → Sign → (List ℕ × ℕ) → Option (Found OffsetNumbers)
+after_hour kind s h =
+    option_map (λ m. record { rest = m.rest; value = numbers_of (Some s) h.1 m.value; kind = m.kind })
+    (offset_minute kind h.0)
 
-abbrev pub offset_after : ExtendedKind → List ℕ → Option (List ℕ) → Option (List ℕ × OffsetNumbers)
-offset_after kind bytes (Some after) = Some (after, Zulu)
+abbrev pub offset_after : ExtendedKind → List ℕ → Option (List ℕ) → Option (Found OffsetNumbers)
+offset_after kind bytes (Some after) = Some (record { rest = after; value = Zulu; kind = kind })
 offset_after kind bytes None =
     option_and_then (λ s. option_and_then (after_hour kind s.1) (up_to 25 2 s.0)) (sign bytes)
 
 -- an offset, one piece after another
-unfoldable pub offset_by_pieces : ExtendedKind → Piece OffsetNumbers
+unfoldable pub offset_by_pieces : ExtendedKind → List ℕ → Option (Found OffsetNumbers)
 offset_by_pieces kind bytes = offset_after kind bytes (byte 90 bytes)
 
 -- ---- What the short forms of ISO 8601 are

@@ -5,7 +5,7 @@ use Rattle.time_readers.specs.declared.iso8601.ExtendedKind.{ExtendedKind}
 use Rattle.time_readers.specs.declared.iso8601.OffsetNumbers.{OffsetNumbers}
 use Rattle.time_readers.specs.declared.iso8601.OffsetNumbers.TheVariants.{Zulu, Numeric}
 use Rattle.time_readers.specs.IsoPieces.{Found, Piece, digits, up_to, sign, with_sign, byte}
-use Rattle.time_readers.specs.IsoTimes.{any, is_basic, not_basic, as_before, Row, row, anything, no_colon, Stands, first_fitting, fitting}
+use Rattle.time_readers.specs.IsoTimes.{any, is_basic, not_basic, as_before, extended, Row, row, anything, no_colon, Stands, first_fitting, fitting}
 
 -- What stands in a text of the table: `Z`, `-` or `+`, two digits of 0 to 25, `:`, or two digits of 0 to 59.
 pub data OffsetPlace : Type 0 where
@@ -22,14 +22,14 @@ no_digits bytes = is_none (digits 2 bytes)
 abbrev pub no_colon_no_digits : List ℕ → Bool
 no_colon_no_digits bytes = no_colon bytes && no_digits bytes
 
--- The texts of an offset, after which the kind is as before. At most one of them fits (`law_one_offset_row`).
+-- The texts of an offset. A colon makes an unknown kind extended. At most one of them fits (`law_one_offset_row`).
 abbrev pub offset_rows : List (Row OffsetPlace)
 offset_rows =
     row (z ∷ []) any anything as_before
     ∷ row (plus_or_minus ∷ hour ∷ []) is_basic no_digits as_before
     ∷ row (plus_or_minus ∷ hour ∷ []) not_basic no_colon_no_digits as_before
     ∷ row (plus_or_minus ∷ hour ∷ minute ∷ []) any anything as_before
-    ∷ row (plus_or_minus ∷ hour ∷ colon ∷ minute ∷ []) not_basic anything as_before
+    ∷ row (plus_or_minus ∷ hour ∷ colon ∷ minute ∷ []) not_basic anything extended
     ∷ []
 
 -- what the places say: an offset without a sign is `Z`, and a minute that doesn't stand is 0
@@ -58,8 +58,20 @@ abbrev pub numbers_of : Option Sign → ℕ → ℕ → OffsetNumbers
 numbers_of None h m = Zulu
 numbers_of (Some s) h m = Numeric (with_sign s h) (with_sign s m)
 
+-- what the places of a text say, as numbers
+abbrev pub numbers_found : Found OffsetParts → Found OffsetNumbers
+numbers_found f = record {
+  rest = f.rest;
+  value = numbers_of f.value.signed f.value.hour f.value.minute;
+  kind = f.kind;
+}
+
 -- the text of an offset
-unfoldable pub offset_text : ExtendedKind → Piece OffsetNumbers
+unfoldable pub offset_text : ExtendedKind → List ℕ → Option (Found OffsetNumbers)
 offset_text kind bytes =
-    option_map (λ f. (f.rest, numbers_of f.value.signed f.value.hour f.value.minute))
+    option_map numbers_found
     (first_fitting stands nothing_said offset_rows kind bytes)
+
+-- the bytes after an offset, and what it says, where the kind after it doesn't count
+abbrev pub offset_found : ExtendedKind → Piece OffsetNumbers
+offset_found kind bytes = option_map (λ f. (f.rest, f.value)) (offset_text kind bytes)

@@ -153,7 +153,7 @@ made-resolves r m s v t same made =
     to_parts r v t.stamp
     (inr (
       offset_date v,
-      to_date r row (offset_date v) t.row date,
+      to_date r row (offset_date v) t.row (date, (offset_date v).year_in),
       inr (
         offset_time v,
         to_time (stand_in r) (clock_said s) (offset_time v) t.clock clock,
@@ -252,7 +252,7 @@ by_parts r m s v t year named (inr (d, dated, inr (w, timed, inl (e, refused, cl
 by_parts r m s v t year named (inr (d, dated, inr (w, timed, inr (o, offset, judged)))) =
     let second = shown_second s in
     let nanosecond = shown_nanosecond s in
-    let date = of_date r (by_month_and_day (pos s.year) m s.day) d t.row dated in
+    let date = (of_date r (by_month_and_day (pos s.year) m s.day) d t.row dated).0 in
     let clock = given (time_refusal s.hour s.minute second nanosecond) (HasClock s.hour s.minute second nanosecond) w
     (of_time (stand_in r) (clock_said s) w t.clock timed) in
     let parts =

@@ -6,7 +6,7 @@ ghost use Rattle.time_values.specs.Moments.{plain_date, plain_time};
 ghost use Rattle.time_values.specs.Calendar.{greatest_year};
 ghost use Rattle.time_readers.specs.IsoDates.{iso_date};
 ghost use Rattle.time_readers.specs.IsoTimes.{GivesDateAndTime};
-ghost use Rattle.time_readers.specs.IsoOffsets.{offset_text};
+ghost use Rattle.time_readers.specs.IsoOffsets.{offset_found};
 ghost use Rattle.time_readers.specs.declared.iso8601.OffsetNumbers.{OffsetNumbers as OffsetNumbers_};
 ghost use Rattle.time_record.specs.Record.{empty};
 ghost use Rattle.time_record.specs.Resolution.{IsMoment, IsPlain};
@@ -90,11 +90,11 @@ fn parts(input: &[u8]) -> Option<DateAndTime<'_>>
 /// The offset of ISO 8601 that is all of the bytes. `None`: not this form.
 #[inline(always)]
 pub fn offset_to_the_end(input: &[u8], kind: ExtendedKind) -> Option<UtcOffset>
-    ensures { IfSome result (λ o. (n : OffsetNumbers_) × (offset_text kind input.now ≡ Some ([], n)) × IsOffsetSaid n o) }
+    ensures { IfSome result (λ o. (n : OffsetNumbers_) × (offset_found kind input.now ≡ Some ([], n)) × IsOffsetSaid n o) }
 {
     let found = offset(input, kind)?;
-    if !found.0.is_empty() {
+    if !found.rest.is_empty() {
         return None;
     }
-    offset_of(found.1)
+    offset_of(found.value)
 }

@@ -1,7 +1,7 @@
 //! The texts of ISO 8601, one piece after another.
 ghost use Rattle.time_readers.specs.IsoTimes.{GivesDateAndTime, IsFloor, IsRounded};
 ghost use Rattle.std.specs.Prelude.{◌≡◌, ◌≤◌, IfSome, ◌<◌};
-ghost use Rattle.time_readers.specs.IsoPieces.{GivesPartOrFault, Gives};
+ghost use Rattle.time_readers.specs.IsoPieces.{GivesPart, GivesPartOrFault};
 ghost use Rattle.time_readers.specs.IsoGrammar.{Leaves, GivesForm};
 ghost use Rattle.time_readers.specs.IsoDates as spec;
 ghost use Rattle.time_readers.specs.IsoGrammar as parts;
@@ -140,14 +140,19 @@ fn dash(input: &[u8], is_extended: bool) -> Option<&[u8]>
 /// Reads the offset of a text of that kind: `Z`, or a sign and two digits of 0 to 25, and a minute.
 ///
 /// Where the text isn't basic and a colon follows, two digits of 0 to 59 have to stand after it. Where none
-/// follows two digits may stand, and if they do they have to be 0 to 59. It refuses by `None`.
+/// follows two digits may stand, and if they do they have to be 0 to 59. It refuses by `None`. A colon makes a
+/// text of unknown kind extended, and else the kind is as before.
 #[inline(always)]
 #[tactic(auto, using(crate::proofs::IsoTimes::offset_by_pieces_is), unfolding(crate::specs::IsoGrammar::offset_by_pieces))]
-pub fn offset(input: &[u8], kind: ExtendedKind) -> Option<ParsedItem<'_, OffsetNumbers>>
-    ensures { Gives (offset_text kind input.now) result }
+pub fn offset(input: &[u8], kind: ExtendedKind) -> Option<Part<'_, OffsetNumbers>>
+    ensures { GivesPart (offset_text kind input.now) result }
 {
-    if let Some(after) = byte::<b'Z'>(input) {
-        return Some(ParsedItem(after, OffsetNumbers::Zulu));
+    if let Some(rest) = byte::<b'Z'>(input) {
+        return Some(Part {
+            rest,
+            value: OffsetNumbers::Zulu,
+            kind,
+        });
     }
     let found = sign(input)?;
     let hour = up_to::<25>(found.0)?;
@@ -155,27 +160,42 @@ pub fn offset(input: &[u8], kind: ExtendedKind) -> Option<ParsedItem<'_, OffsetN
     let is_negative = found.1.is_negative();
     let numbers = OffsetNumbers::Numeric(
         signed(is_negative, hour.1),
-        signed(is_negative, minute.1),
+        signed(is_negative, minute.value),
     );
-    Some(ParsedItem(minute.0, numbers))
+    Some(Part {
+        rest: minute.rest,
+        value: numbers,
+        kind: minute.kind,
+    })
 }
 
-// The minute of an offset, 0 where none stands.
+// The minute of an offset, 0 where none stands, and the kind after it.
 #[inline(always)]
 #[tactic(auto, unfolding(crate::specs::IsoGrammar::offset_minute))]
-fn offset_minute(input: &[u8], kind: ExtendedKind) -> Option<ParsedItem<'_, u8>>
-    ensures is { Gives (parts.offset_minute kind input.now) result }
-    ensures within { IfSome result (λ p. p.1 ≤ 59) }
+fn offset_minute(input: &[u8], kind: ExtendedKind) -> Option<Part<'_, u8>>
+    ensures is { GivesPart (parts.offset_minute kind input.now) result }
+    ensures within { IfSome result (λ p. p.value ≤ 59) }
 {
     if kind.maybe_extended() {
         if let Some(after) = byte::<b':'>(input) {
-            return up_to::<59>(after);
+            let minute = up_to::<59>(after)?;
+            let kind = ExtendedKind::Extended;
+            return Some(Part {
+                rest: minute.0,
+                value: minute.1,
+                kind,
+            });
         }
     }
-    match two_digits(input) {
-        Some(_) => up_to::<59>(input),
-        None => Some(ParsedItem(input, 0)),
-    }
+    let minute = match two_digits(input) {
+        Some(_) => up_to::<59>(input)?,
+        None => ParsedItem(input, 0),
+    };
+    Some(Part {
+        rest: minute.0,
+        value: minute.1,
+        kind,
+    })
 }
 
 /// The fraction of a unit, cut to a whole number: of n digits that say w it is the floor of w times the unit

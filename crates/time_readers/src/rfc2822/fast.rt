@@ -2,7 +2,7 @@
 //!
 //! Each reader answers what the plain reader of the same name answers, or `None`: not this form. No blank and no
 //! comment begins with a byte above `(`.
-ghost use Rattle.std.specs.Prelude.{IfSome, MatchOption, Some, ◌≡◌, ◌<◌, ◌∷◌, [], map, false, unwrap_or};
+ghost use Rattle.std.specs.Prelude.{IfSome, IsTrue, MatchOption, Some, ◌≡◌, ◌≢◌, ◌<◌, ◌∷◌, [], map, false, unwrap_or};
 ghost use Rattle.time_readers.specs.Block.{AllWithin, pair_at};
 ghost use Rattle.time_digits.specs.Digits.{Cut};
 ghost use Rattle.time_readers.specs.MailBlanks as spec;
@@ -23,24 +23,46 @@ const LEAST: [u8; 16] = *b" A\x00\x00 0000 00:00:";
 
 const GREATEST: [u8; 16] = *b" \xff\xff\xff 9999 29:59:";
 
-// One space, and then a byte above it. `None`: not this form.
+// Whether the byte is no blank and no carriage return, so that no blank and no fold begins with it.
+#[inline(always)]
+fn ends_blanks(byte: u8) -> bool
+    ensures { IsTrue result → (byte ≢ 32) × (byte ≢ 9) × (byte ≢ 13) }
+{
+    !matches!(byte, b' ' | b'\t' | b'\r')
+}
+
+// One blank: a space before a byte above it, or a space or tab before a byte that is no blank and no carriage return.
+// `None`: not this form.
 #[inline(always)]
 pub(super) fn fws(input: &[u8]) -> Option<ParsedItem<'_, ()>>
     ensures { IfSome result (λ p. spec.fws input.now ≡ Some p.0.now) }
 {
     match input {
         [b' ', b'!'..=u8::MAX, ..] => Some(ParsedItem(&input[1..], ())),
+        [b' ', next, ..] if ends_blanks(*next) => Some(ParsedItem(&input[1..], ())),
+        [b'\t', next, ..] if ends_blanks(*next) => Some(ParsedItem(&input[1..], ())),
         _ => None,
     }
 }
 
-// One space, and then a byte above `(`. `None`: not this form.
+// Whether the byte is none of those, and no `(`, with which a comment begins.
+#[inline(always)]
+fn ends_comments(byte: u8) -> bool
+    ensures { IsTrue result → (byte ≢ 32) × (byte ≢ 9) × (byte ≢ 13) × (byte ≢ 40) }
+{
+    !matches!(byte, b' ' | b'\t' | b'\r' | b'(')
+}
+
+// One blank: a space before a byte above `(`, or a space or tab before a byte that is no blank, no carriage return and
+// no `(`. `None`: not this form.
 #[inline(always)]
 pub(super) fn cfws(input: &[u8]) -> Option<ParsedItem<'_, ()>>
     ensures { IfSome result (λ p. spec.cfws input.now ≡ Some p.0.now) }
 {
     match input {
         [b' ', b')'..=u8::MAX, ..] => Some(ParsedItem(&input[1..], ())),
+        [b' ', next, ..] if ends_comments(*next) => Some(ParsedItem(&input[1..], ())),
+        [b'\t', next, ..] if ends_comments(*next) => Some(ParsedItem(&input[1..], ())),
         _ => None,
     }
 }

@@ -10,7 +10,8 @@ use Rattle.time_values.specs.declared.offset_date_time.OffsetDateTime.{OffsetDat
 use Rattle.time_values.specs.declared.utc_date_time.UtcDateTime.{UtcDateTime}
 use Rattle.time_values.proofs.InstantLemmas.{instant_is, same_moment}
 use Rattle.time_record.specs.Record.{Record, empty}
-use Rattle.time_record.specs.Resolution.{IsMoment, IsMomentOfParts, IsUtcMoment, IsUtcMomentOfParts, IsConstructed, IsOffset, IsOffsetOrUtc, IsStamped, offset_part, offset_seconds_of}
+use Rattle.time_record.specs.Resolution.{IsMoment, IsMomentOfParts, IsUtcMoment, IsUtcMomentOfParts, IsConstructed, IsOffset, IsOffsetOrUtc}
+use Rattle.time_record.specs.Resolution.{IsStamped, offset_part, offset_seconds_of}
 use Rattle.time_parsing.specs.Iso8601 as Iso8601
 use Rattle.time_parsing.specs.Outcome.{IsOutcome, Reading, Refusing}
 use Rattle.time_parsing.specs.Rfc2822 as Rfc2822
@@ -41,7 +42,7 @@ offset_or_utc r o is = or_utc r.offset_hour (offset_part r r.offset_minute) (off
 -- a leap second at the instant of a date and time in UTC is one there
 leap_there : (u : UtcDateTime) (n : ℤ) → utc_instant greatest_year u ≡ n → IsLeapSecondMoment greatest_year n
     → IsLeapSecondStandIn (utc_date u) (utc_time u)
-leap_there u n is (date, time, shown, leap) =
+leap_there u n is (date, time, shown, leap, within) =
     let same = same_moment date (utc_date u) time (utc_time u) (shown ∙ sym is) in
     subst (λ d. IsLeapSecondStandIn d (utc_time u)) same.0 (subst (λ t. IsLeapSecondStandIn date t) same.1 leap)
 
@@ -67,7 +68,7 @@ parts_in_utc r w u is (inr (d, dated, inr (t, timed, inr (o, offset, judged)))) 
           offset_or_utc r o offset,
           inr (
             u,
-            there,
+            (there, (utc_date u).year_in),
             ((refl, refl), λ leap. leap_there u (instant greatest_year d t o) there (judged.1 leap)),
           ),
         ),
@@ -101,19 +102,19 @@ outcome_in_utc : (reads : Reading) (refuses : Refusing) (bytes : List ℕ) (w : 
 outcome_in_utc reads refuses bytes w u is (r, read, moment) = (r, read, moment_in_utc r w u is moment)
 
 utc_read_back : ReadsUtcBack greatest_year (Rfc3339.Reads greatest_year) (Rfc3339.Refuses greatest_year)
-utc_read_back digits v u none (w, cut, is) =
+utc_read_back digits v u none (w, cut, is, within) =
     outcome_in_utc (Rfc3339.Reads greatest_year) (Rfc3339.Refuses greatest_year) _ w u is (read_back digits v w none cut).1
 
 utc_mail_read_back : ReadsMailUtcBack greatest_year (Rfc2822.Reads greatest_year) (Rfc2822.Refuses greatest_year)
-utc_mail_read_back v u bytes none (w, cut, is) text =
+utc_mail_read_back v u bytes none (w, cut, is, within) text =
     outcome_in_utc (Rfc2822.Reads greatest_year) (Rfc2822.Refuses greatest_year) bytes w u is (mail_read_back v w bytes none cut text).1
 
 utc_iso_read_back : ReadsUtcBack greatest_year (Iso8601.Reads greatest_year) (Iso8601.Refuses greatest_year)
-utc_iso_read_back digits v u none (w, cut, is) =
+utc_iso_read_back digits v u none (w, cut, is, within) =
     outcome_in_utc (Iso8601.Reads greatest_year) (Iso8601.Refuses greatest_year) _ w u is (iso_read_back digits v w none cut).1
 
 utc_basic_read_back : ReadsBasicUtcBack greatest_year (Iso8601.Reads greatest_year) (Iso8601.Refuses greatest_year)
-utc_basic_read_back v u none (w, cut, is) =
+utc_basic_read_back v u none (w, cut, is, within) =
     outcome_in_utc (Iso8601.Reads greatest_year) (Iso8601.Refuses greatest_year) _ w u is (basic_read_back v w none cut).1
 
 pub returns-clause-rfc3339 : goal.returns-clause-rfc3339

@@ -1,7 +1,7 @@
 use Rattle.std.specs.Prelude.{option_map, unwrap_or, option_copied}
 use Rattle.std.specs.Result.{result_ok}
 use Rattle.std.proofs.Common.{◌≡◌, ℕ, ◌-◌, ◌≤◌, List, [], ◌∷◌, ◌++◌, length, Bool, true, false, Option, Some, None, Result, Ok, Err, Bor, refl, ap, sym, subst, arith}
-use Rattle.std.proofs.lemmas.Option.{none-some, same_Some, some_pair_parts, option_and_then_some}
+use Rattle.std.proofs.lemmas.Option.{none-some, same_Some, option_and_then_some}
 use Rattle.time_values.specs.Refusal.{Refusal}
 use Rattle.time_values.specs.declared.error.Parse.{Parse}
 use Rattle.time_values.specs.Calendar.{greatest_year}
@@ -14,7 +14,7 @@ use Rattle.time_readers.specs.declared.iso8601.ExtendedKind.TheVariants.{Unknown
 use Rattle.time_readers.specs.declared.iso8601.TimeNumbers.{TimeNumbers}
 use Rattle.time_record.specs.Record.{Record, put_all}
 use Rattle.time_parsing.specs.Iso8601.{Reads, Refuses, date_entries, date_over, offset_entries, offset_over, put_or_fault, reading, result_and_then, time_entries, time_over, with_value}
-use Rattle.time_parsing.specs.IsoSteps.{after_date, after_time, answer, date_or_none, without_date}
+use Rattle.time_parsing.specs.IsoSteps.{after_date, after_offset, after_time, answer, date_or_none, without_date}
 use Rattle.time_parsing.specs.Outcome.{ParsesInto, begun}
 use Rattle.time_parsing.specs.Rfc3339.{with_leap_second, without_offset_sign}
 use Rattle.time_parsing.proofs.IsoParts.{read-answered}
@@ -105,10 +105,6 @@ value-rest : {V W : Type 0} (u : Found V) (o : Option W) (t : Found W) → optio
 value-rest u None t h = absurd (none-some t h)
 value-rest {V} {W} u (Some w) t h = sym (ap (λ (z : Found W). z.rest) (same_Some (with_value u w) t h))
 
-pair-rest : {W : Type 0} (x y : List ℕ) (o : Option W) (q : W) → option_map {U = List ℕ × W} (λ w. (y, w)) o ≡ Some (x, q) → y ≡ x
-pair-rest x y None q h = absurd (none-some (x, q) h)
-pair-rest x y (Some w) q h = (some_pair_parts y x w q h).0
-
 put-rest : (d : Found IsoDate) (p : Result Record Refusal) (x : Found Record)
     → result_and_then (λ q. Ok (with_value d q)) p ≡ Ok x → x.rest ≡ d.rest
 put-rest d (Ok q) x h = sym (ap (λ (z : Found Record). z.rest) (same_Ok (with_value d q) x h))
@@ -136,20 +132,29 @@ module _ (Y : ℕ) where
       (λ u e k.
       omega (arith, ap length (value-rest u (put_all Y (time_entries u.value) r) t k), time_text-within needs_t kind b u e))
 
-  offset_over-within : (kind : ExtendedKind) (b : List ℕ) (r : Record) (x : List ℕ) (q : Record)
-      → offset_over Y kind b r ≡ Some (x, q) → length x ≤ length b
+  offset_over-within : (kind : ExtendedKind) (b : List ℕ) (r : Record) (o : Found Record)
+      → offset_over Y kind b r ≡ Some o → length o.rest ≤ length b
   unfolding offset_over
-  offset_over-within kind b r x q h =
-      option_and_then_some (λ o. option_map {U = List ℕ × Record} (λ p. (o.0, p)) (put_all Y (offset_entries o.1) (without_offset_sign r))) (offset_text kind b)
-      (x, q) h
-      (λ o e k.
-      let same = ap length (pair-rest x o.0 (put_all Y (offset_entries o.1) (without_offset_sign r)) q k) in
-      omega (arith, offset_text-within kind b o.0 o.1 e))
+  offset_over-within kind b r o h =
+      option_and_then_some (λ u. option_map (with_value u) (put_all Y (offset_entries u.value) (without_offset_sign r))) (offset_text kind b) o h
+      (λ u e k.
+      omega (
+        arith,
+        ap length (value-rest u (put_all Y (offset_entries u.value) (without_offset_sign r)) o k),
+        offset_text-within kind b u e,
+      ))
 
-  unwrapped : (kind : ExtendedKind) (b : List ℕ) (r : Record) (o : Option (List ℕ × Record)) → offset_over Y kind b r ≡ o
-      → length (unwrap_or o (b, r)).0 ≤ length b
+  unwrapped : (kind : ExtendedKind) (b : List ℕ) (r : Record) (o : Option (Found Record)) → offset_over Y kind b r ≡ o
+      → length (unwrap_or {T = List ℕ × Record} (option_map {U = List ℕ × Record} (λ (f : Found Record). (f.rest, f.value)) o) (b, r)).0 ≤ length b
   unwrapped kind b r None is = omega arith
-  unwrapped kind b r (Some (x, q)) is = offset_over-within kind b r x q is
+  unwrapped kind b r (Some f) is = offset_over-within kind b r f is
+
+  after_offset-within : (kind : ExtendedKind) (b : List ℕ) (r : Record) (o : Option (Found Record)) (p : List ℕ × Record)
+      → offset_over Y kind b r ≡ o → option_map {U = List ℕ × Record} (λ (f : Found Record). (f.rest, f.value)) o ≡ Some p
+      → length p.0 ≤ length b
+  after_offset-within kind b r None p is h = absurd (none-some p h)
+  after_offset-within kind b r (Some f) p is h =
+      omega (arith, offset_over-within kind b r f is, ap (λ (z : List ℕ × Record). length z.0) (same_Some (f.rest, f.value) p h))
 
   after_time-within : (kind : ExtendedKind) (b : List ℕ) (r : Record) → length (after_time Y kind b r).0 ≤ length b
   unfolding after_time
@@ -169,9 +174,9 @@ module _ (Y : ℕ) where
       let offset = after_time-within t.kind t.rest t.value in
       omega (arith, ap (λ (z : List ℕ × Record). length z.0) (same_Ok (after_time Y t.kind t.rest t.value) p h))
   without_date-rest b r e None p is h =
-      need-Ok (offset_over Y Unknown b r) e (λ o. Ok o) p h
+      need-Ok (after_offset Y Unknown b r) e (λ o. Ok o) p h
       (λ o found k.
-      omega (arith, offset_over-within Unknown b r o.0 o.1 found, ap (λ (z : List ℕ × Record). length z.0) (same_Ok o p k)))
+      omega (arith, after_offset-within Unknown b r (offset_over Y Unknown b r) o refl found, ap (λ (z : List ℕ × Record). length z.0) (same_Ok o p k)))
 
   parts-rest : (b : List ℕ) (r : Record) (o : Result (Found Record) Refusal) (p : List ℕ × Record) → date_over Y b r ≡ o
       → date_or_none Y b r o ≡ Ok p → length p.0 ≤ length b

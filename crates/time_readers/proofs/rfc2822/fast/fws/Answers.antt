@@ -1,4 +1,4 @@
-use Rattle.std.proofs.Common.{Some, ap, sym, ◌∙◌, inl, arith}
+use Rattle.std.proofs.Common.{Some, refl, ap, sym, ◌∙◌, inl, inr, arith}
 use Rattle.time_digits.proofs.WordBytes.{take-drop}
 use Rattle.time_readers.proofs.OpenComments.{fws-short}
 use Rattle.time_readers.proofs.rfc2822.fast.fws.Goals as goal
@@ -7,4 +7,18 @@ pub returns-in-32 : goal.returns-in-32
 returns-in-32 c =
     let input = c.args.input.now in
     fws-short input (omega arith) (inl (omega arith), omega arith, omega arith, omega arith)
+    ∙ sym (ap Some (take-drop input 1 (omega arith)))
+
+pub returns-in-32-2 : goal.returns-in-32-2
+returns-in-32-2 c =
+    let input = c.args.input.now in
+    let next = c.if-ends_blanks.ensures refl in
+    fws-short input (omega arith) (inl (omega arith), next.0, next.1, next.2)
+    ∙ sym (ap Some (take-drop input 1 (omega arith)))
+
+pub returns-in-9 : goal.returns-in-9
+returns-in-9 c =
+    let input = c.args.input.now in
+    let next = c.if-ends_blanks-2.ensures refl in
+    fws-short input (omega arith) (inr (omega arith), next.0, next.1, next.2)
     ∙ sym (ap Some (take-drop input 1 (omega arith)))

@@ -1,0 +1,335 @@
+-- Worked values of RFC 3339 and RFC 2822, read over records, so that a wrong rule in the specs does not check. They
+-- follow from the definitions, and no code lies between.
+use Rattle.std.proofs.Common.{◌≡◌, ◌≢◌, ℕ, List, [], ◌∷◌, ◌++◌, length, pos, neg_ℤ, Bool, true, false, Some, None, codes, refl, sym, ap, inl, arith}
+use Rattle.time_values.specs.Calendar.{greatest_year}
+use Rattle.time_values.specs.Refusal.{component, literal, range}
+use Rattle.time_values.specs.Shown.{fixed}
+use Rattle.time_values.specs.declared.month.Month.TheVariants.{January, April}
+use Rattle.time_values.specs.declared.weekday.Weekday.TheVariants.{Monday, Saturday}
+use Rattle.time_digits.specs.Digits.{IsDigitRun}
+use Rattle.time_digits.specs.declared.Sign.TheVariants.{Negative, Positive}
+use Rattle.time_digits.proofs.Runs.{IsDigitRun-unique}
+use Rattle.time_readers.specs.IsoPieces.{digits, month, weekday, year}
+use Rattle.time_readers.specs.MailBlanks.{blanks, cfws, comment, comment_end, fws, hours_of, line_fold, no_crlf, opt_cfws, zone_literal}
+use Rattle.time_readers.specs.Readers.{Stand, repeat, zero_or_more}
+use Rattle.time_readers.specs.Rfc2822 as mail
+use Rattle.time_readers.specs.Rfc3339.{Asks, HasForm, InRanges, IsSubsecond, nothing_read, offset_places, time_places}
+use Rattle.time_readers.specs.declared.rfc2822.Numbers.{Numbers as MailNumbers}
+use Rattle.time_readers.specs.declared.rfc2822.Place.TheVariants as mail_place
+use Rattle.time_readers.specs.declared.rfc3339.Numbers.{Numbers}
+use Rattle.time_readers.specs.declared.rfc3339.Place.TheVariants.{Year, YearDash, Month, MonthDash, Day}
+use Rattle.time_readers.proofs.OpenComments.{opt_cfws-short, opt_cfws-one}
+use Rattle.time_readers.proofs.RangedForms.{ranged_forms}
+use Rattle.time_readers.proofs.RangedMail.{ranged_mail}
+use Rattle.time_record.specs.Record.{Record, empty}
+use Rattle.time_parsing.specs.Rfc2822 as Rfc2822
+use Rattle.time_parsing.specs.Rfc3339.{Reads, Refuses}
+use Rattle.time_parsing.specs.exact.Laws.{rfc2822_exact, rfc3339_exact}
+use Rattle.time_parsing.proofs.MailForm.{mail_form, mail_numbers}
+use Rattle.time_parsing.proofs.WrittenBack.{Stand-none, Stand-text, fixed-run, numeric, numeric-stands, written_form, zulu, zulu-stands}
+
+abbrev Y : ℕ
+Y = greatest_year
+
+-- ---- RFC 3339
+
+-- a text of section 5.8 of the RFC, and its numbers
+abbrev pub example : List ℕ
+example = codes "1985-04-12T23:20:50.52Z"
+
+abbrev pub example_numbers : Numbers
+example_numbers = zulu 1985 4 12 23 20 50 (Some 520_000_000)
+
+example_subsecond : IsSubsecond (codes ".52") (codes "Z") (Some 520_000_000)
+example_subsecond = (
+  codes "52",
+  refl,
+  record {
+    digits = ((omega arith, omega arith), ((omega arith, omega arith), tt));
+    enough = omega arith;
+    ends = λ d. omega (arith, d);
+    is = refl;
+  },
+)
+
+pub example_form : HasForm false example [] example_numbers
+unfolding fixed
+example_form =
+    written_form 1985 4 12 23 20 50 (Some 520_000_000) (codes ".52") (codes "Z") example_numbers example_subsecond
+    (zulu-stands 1985 4 12 23 20 50 (Some 520_000_000)) (omega arith, omega arith, omega arith)
+    (omega arith) (λ e. omega (arith, e)) (omega arith) (omega arith)
+
+pub no_fraction : (rest : List ℕ) (c : ℕ) → c ≢ 46 → IsSubsecond [] (c ∷ rest) None
+no_fraction rest c other = (refl, other)
+
+-- five hours and a half ahead, and half an hour behind UTC
+ahead_form : HasForm false (codes "2021-01-02T03:04:05+05:30") [] (numeric 2021 1 2 3 4 5 None Positive 5 30)
+unfolding fixed
+ahead_form =
+    written_form 2021 1 2 3 4 5 None [] (codes "+05:30") (numeric 2021 1 2 3 4 5 None Positive 5 30)
+    (no_fraction (codes "05:30") 43 (λ e. omega (arith, e))) (numeric-stands 2021 1 2 3 4 5 None Positive 5 30 (omega arith) (omega arith))
+    (omega arith, omega arith, omega arith) (omega arith) (λ e. omega (arith, e)) (omega arith) (omega arith)
+
+behind_form : HasForm false (codes "2021-01-02T03:04:05-00:30") [] (numeric 2021 1 2 3 4 5 None Negative 0 30)
+unfolding fixed
+behind_form =
+    written_form 2021 1 2 3 4 5 None [] (codes "-00:30") (numeric 2021 1 2 3 4 5 None Negative 0 30)
+    (no_fraction (codes "00:30") 45 (λ e. omega (arith, e))) (numeric-stands 2021 1 2 3 4 5 None Negative 0 30 (omega arith) (omega arith))
+    (omega arith, omega arith, omega arith) (omega arith) (λ e. omega (arith, e)) (omega arith) (omega arith)
+
+module _ (r : Record) where
+  abbrev pub after_example : Record
+  after_example = record r {
+    year = Some (pos 1985);
+    month = Some April;
+    day = Some 12;
+    hour_24 = Some 23;
+    minute = Some 20;
+    second = Some 50;
+    subsecond = Some 520_000_000;
+    offset_hour = Some (pos 0);
+    offset_minute = Some (pos 0);
+    offset_second = Some (pos 0);
+    offset_is_negative = false;
+    leap_second_allowed = true;
+  }
+
+  -- `Z` sets all three parts of the offset to 0, and clears its flag
+  pub example_is_read : Reads Y example r [] after_example
+  example_is_read =
+      let ranges : InRanges example_numbers = record {
+        month = (omega arith, omega arith);
+        day = (omega arith, omega arith);
+        hour = (omega arith, omega arith);
+        minute = (omega arith, omega arith);
+        second = (omega arith, omega arith);
+        offset_minute = (omega arith, omega arith);
+      } in
+      (example_numbers, April, (ranged_forms example [] example_numbers).1 (example_form, ranges), refl, refl)
+
+  abbrev pub after_2021 : Record
+  after_2021 = record r {
+    year = Some (pos 2021);
+    month = Some January;
+    day = Some 2;
+    hour_24 = Some 3;
+    minute = Some 4;
+    second = Some 5;
+    offset_is_negative = false;
+    leap_second_allowed = true;
+  }
+
+  -- a numeric offset leaves the second of the offset
+  pub offset_ahead_is_read : Reads Y (codes "2021-01-02T03:04:05+05:30") r [] (record after_2021 { offset_hour = Some (pos 5); offset_minute = Some (pos 30) })
+  offset_ahead_is_read =
+      let ranges : InRanges (numeric 2021 1 2 3 4 5 None Positive 5 30) = record {
+        month = (omega arith, omega arith);
+        day = (omega arith, omega arith);
+        hour = (omega arith, omega arith);
+        minute = (omega arith, omega arith);
+        second = (omega arith, omega arith);
+        offset_minute = (omega arith, omega arith);
+      } in
+      let n = numeric 2021 1 2 3 4 5 None Positive 5 30 in
+      (n, January, (ranged_forms (codes "2021-01-02T03:04:05+05:30") [] n).1 (ahead_form, ranges), refl, refl)
+
+  -- a minus before the hour 00 counts for the minute
+  pub offset_behind_is_read : Reads Y (codes "2021-01-02T03:04:05-00:30") r [] (record after_2021 {
+    offset_hour = Some (pos 0);
+    offset_minute = Some
+        (neg_ℤ (pos 30));
+  })
+  offset_behind_is_read =
+      let ranges : InRanges (numeric 2021 1 2 3 4 5 None Negative 0 30) = record {
+        month = (omega arith, omega arith);
+        day = (omega arith, omega arith);
+        hour = (omega arith, omega arith);
+        minute = (omega arith, omega arith);
+        second = (omega arith, omega arith);
+        offset_minute = (omega arith, omega arith);
+      } in
+      let n = numeric 2021 1 2 3 4 5 None Negative 0 30 in
+      (n, January, (ranged_forms (codes "2021-01-02T03:04:05-00:30") [] n).1 (behind_form, ranges), refl, refl)
+
+  -- the place of the month requires its range, whatever follows it
+  pub month_13_is_refused : (tail : List ℕ) → Refuses Y (codes "2021-13" ++ tail) r (component (codes "month"))
+  unfolding fixed
+  month_13_is_refused tail =
+      let y : Numbers = record nothing_read { year = 2021 } in (
+        Month,
+        record {
+          before = Year ∷ YearDash ∷ [];
+          after = MonthDash ∷ Day ∷ (time_places ++ offset_places);
+          place = refl;
+          mid = codes "13" ++ tail;
+          numbers = y;
+          stand =
+              Stand-text (Asks true) Year _ nothing_read y _ (codes "2021") _ (codes "13" ++ tail) (2021, fixed-run 4 2021 _ (omega arith), refl)
+              (Stand-text (Asks true) YearDash [] y y _ (codes "-") _ (codes "13" ++ tail) (refl, refl) (Stand-none (Asks true) y (codes "13" ++ tail)));
+          stops = λ text after m e asked.
+              let is = IsDigitRun-unique 2 2 2 text (codes "13") after tail asked.0 13 asked.1.0 (fixed-run 2 13 tail (omega arith)) (sym e) in
+              omega (arith, is.2, asked.1.1.1);
+        },
+        refl,
+      )
+
+  pub no_reading_of_month_13 : (rest : List ℕ) (new : Record) → Reads Y (codes "2021-13-01T00:00:00Z") r rest new → ⊥
+  no_reading_of_month_13 rest new h =
+      (rfc3339_exact Y).not_both (codes "2021-13-01T00:00:00Z") r rest new (component (codes "month")) h (month_13_is_refused (codes "-01T00:00:00Z"))
+
+  pub no_refusal_of_the_date : Refuses Y (codes "2021-13-01T00:00:00Z") r (range (codes "month") false) → ⊥
+  no_refusal_of_the_date h =
+      let same : component (codes "month") ≡ range (codes "month") false =
+      (rfc3339_exact Y).one_refusal (codes "2021-13-01T00:00:00Z") r _ _ (month_13_is_refused (codes "-01T00:00:00Z")) h in
+      cc
+
+  -- no reading leaves a byte of a whole text
+  pub no_z_is_left : (new : Record) → Reads Y example r (codes "Z") new → ⊥
+  no_z_is_left new h =
+      let same = (rfc3339_exact Y).one_rest example r [] (codes "Z") after_example new example_is_read h in
+      omega (arith, ap length same)
+
+-- defaults with the flag of a negative offset
+abbrev pub behind_five : Record
+behind_five = record empty { offset_hour = Some (neg_ℤ (pos 5)); offset_is_negative = true }
+
+pub no_sign_is_kept : Reads Y (codes "2021-01-02T03:04:05+05:30") behind_five []
+    (record (after_2021 behind_five) { offset_hour = Some (pos 5); offset_minute = Some (pos 30); offset_is_negative = true }) → ⊥
+no_sign_is_kept h =
+    let same = (rfc3339_exact Y).one_record (codes "2021-01-02T03:04:05+05:30") behind_five [] [] _ _ (offset_ahead_is_read behind_five) h in
+    let flags : false ≡ true = ap (λ (q : Record). q.offset_is_negative) same in
+    cc
+
+-- ---- RFC 2822
+
+module _ (r : Record) where
+  abbrev after_mail : Record
+  after_mail = record r {
+    weekday = Some Monday;
+    day = Some 2;
+    month = Some January;
+    year = Some (pos 2021);
+    hour_24 = Some 3;
+    minute = Some 4;
+    second = Some 5;
+    offset_is_negative = false;
+    leap_second_allowed = true;
+  }
+
+  -- the weekday isn't compared with the date, which is a Saturday
+  pub mail_date_is_read : Rfc2822.Reads Y (codes "Mon, 02 Jan 2021 03:04:05 +0607") r []
+      (record after_mail { offset_hour = Some (pos 6); offset_minute = Some (pos 7) })
+  unfolding fixed
+  mail_date_is_read =
+      let n = mail_numbers Monday 2 January 2021 3 4 5 Positive 6 7 in
+      let form = mail_form Monday 2 January 2021 3 4 5 Positive 6 7 (omega arith) (omega arith) (
+        omega arith,
+        omega arith,
+        omega arith,
+      ) (omega arith) (omega arith) (omega arith) in
+      let ranges : mail.InRanges n = record {
+        day = (omega arith, omega arith);
+        hour = (omega arith, omega arith);
+        minute = (omega arith, omega arith);
+        second = (omega arith, omega arith);
+        offset_hour = (omega arith, omega arith);
+        offset_minute = (omega arith, omega arith);
+      } in
+      (n, (ranged_mail (codes "Mon, 02 Jan 2021 03:04:05 +0607") [] n).1 (form, ranges), refl)
+
+  -- an offset of -0030 is behind UTC
+  pub mail_offset_keeps_its_sign : Rfc2822.Reads Y (codes "Mon, 02 Jan 2021 03:04:05 -0030") r []
+      (record after_mail { offset_hour = Some (pos 0); offset_minute = Some (neg_ℤ (pos 30)) })
+  unfolding fixed
+  mail_offset_keeps_its_sign =
+      let n = mail_numbers Monday 2 January 2021 3 4 5 Negative 0 30 in
+      let form = mail_form Monday 2 January 2021 3 4 5 Negative 0 30 (omega arith) (omega arith) (
+        omega arith,
+        omega arith,
+        omega arith,
+      ) (omega arith) (omega arith) (omega arith) in
+      let ranges : mail.InRanges n = record {
+        day = (omega arith, omega arith);
+        hour = (omega arith, omega arith);
+        minute = (omega arith, omega arith);
+        second = (omega arith, omega arith);
+        offset_hour = (omega arith, omega arith);
+        offset_minute = (omega arith, omega arith);
+      } in
+      (n, (ranged_mail (codes "Mon, 02 Jan 2021 03:04:05 -0030") [] n).1 (form, ranges), refl)
+
+  -- the place of the day requires its range, whatever follows it
+  pub day_0_is_refused : (tail : List ℕ) → Rfc2822.Refuses Y (codes "Mon, 00 " ++ tail) r (component (codes "day"))
+  day_0_is_refused tail =
+      let named : MailNumbers = record mail.nothing_read { weekday = Some Monday } in (
+        mail_place.Day,
+        record {
+          before = mail_place.WeekdayName ∷ [];
+          after = mail.to_offset_places ++ mail.offset_places;
+          place = refl;
+          mid = codes "00 " ++ tail;
+          numbers = named;
+          stand =
+              Stand-text (mail.Asks true) mail_place.WeekdayName [] mail.nothing_read named _ (codes "Mon, ") _ (codes "00 " ++ tail) (
+                Some Monday,
+                (
+                  [],
+                  codes "Mon",
+                  codes " ",
+                  refl,
+                  opt_cfws-short (codes "Mon, 00 " ++ tail) (omega arith),
+                  refl,
+                  opt_cfws-one (codes " 00 " ++ tail) (omega arith) refl (omega arith),
+                ),
+                refl,
+              )
+              (Stand-none (mail.Asks true) named (codes "00 " ++ tail));
+          stops = λ text after m e asked.
+              let zero : IsDigitRun 1 2 (codes "00") (codes " " ++ tail) 0 = record {
+                digits = ((omega arith, omega arith), ((omega arith, omega arith), tt));
+                enough = omega arith;
+                within = omega arith;
+                ends = inl refl;
+                is = refl;
+              } in
+              let is = IsDigitRun-unique 1 1 2 text (codes "00") after (codes " " ++ tail) asked.0 0 asked.1 zero (sym e) in
+              omega (arith, is.2, asked.2.0);
+        },
+        refl,
+      )
+
+  pub no_reading_of_day_0 : (rest : List ℕ) (new : Record) → Rfc2822.Reads Y (codes "Mon, 00 Jan 2021 03:04 GMT") r rest new → ⊥
+  no_reading_of_day_0 rest new h =
+      (rfc2822_exact Y).not_both (codes "Mon, 00 Jan 2021 03:04 GMT") r rest new (component (codes "day")) h (day_0_is_refused (codes "Jan 2021 03:04 GMT"))
+
+  pub no_literal_at_the_day : Rfc2822.Refuses Y (codes "Mon, 00 Jan 2021 03:04 GMT") r literal → ⊥
+  no_literal_at_the_day h =
+      let same : component (codes "day") ≡ literal =
+      (rfc2822_exact Y).one_refusal (codes "Mon, 00 Jan 2021 03:04 GMT") r _ _ (day_0_is_refused (codes "Jan 2021 03:04 GMT")) h in
+      cc
+
+-- a comment may follow the name of a zone, on both paths
+pub comment_after_a_zone : (ranged : Bool) (n : MailNumbers)
+    → Stand (mail.Asks ranged) mail.offset_places n (codes "GMT (x)") [] (record n { offset_sign = None; offset_hour = pos 0 })
+unfolding zone_literal hours_of opt_cfws cfws fws line_fold blanks no_crlf comment comment_end zero_or_more repeat
+comment_after_a_zone ranged n =
+    let m : MailNumbers = record n { offset_sign = None; offset_hour = pos 0 } in
+    Stand-text (mail.Asks ranged) mail_place.OffsetHour _ n m _ (codes "GMT") _ [] (inl (pos 0, refl, refl))
+    (Stand-text (mail.Asks ranged) mail_place.OffsetMinute _ m m _ [] _ [] (refl, refl)
+    (Stand-text (mail.Asks ranged) mail_place.EndBlanks [] m m _ (codes " (x)") [] [] (refl, refl) (Stand-none (mail.Asks ranged) m [])))
+
+-- half an hour behind UTC isn't read as ahead
+pub no_mail_offset_turned : Rfc2822.Reads Y (codes "Mon, 02 Jan 2021 03:04:05 -0030") empty []
+    (record (after_mail empty) { offset_hour = Some (pos 0); offset_minute = Some (pos 30) }) → ⊥
+no_mail_offset_turned h =
+    let same = (rfc2822_exact Y).one_record (codes "Mon, 02 Jan 2021 03:04:05 -0030") empty [] [] _ _ (mail_offset_keeps_its_sign empty) h in
+    let turned : Some (neg_ℤ (pos 30)) ≡ Some (pos 30) = ap (λ (q : Record). q.offset_minute) same in
+    cc
+
+-- the weekday of the date doesn't replace that of the text
+pub no_weekday_of_the_date : Rfc2822.Reads Y (codes "Mon, 02 Jan 2021 03:04:05 -0030") empty []
+    (record (after_mail empty) { weekday = Some Saturday; offset_hour = Some (pos 0); offset_minute = Some (neg_ℤ (pos 30)) }) → ⊥
+no_weekday_of_the_date h =
+    let same = (rfc2822_exact Y).one_record (codes "Mon, 02 Jan 2021 03:04:05 -0030") empty [] [] _ _ (mail_offset_keeps_its_sign empty) h in
+    let days : Some Monday ≡ Some Saturday = ap (λ (q : Record). q.weekday) same in
+    cc

@@ -2,6 +2,7 @@
 use crate::serving::{run, serve, serve_in};
 use linked_list_allocator::LocalHeap;
 use programs_answers::Stop;
+use refusing::Refusing;
 use std::alloc::{AllocError, Global};
 use std::io;
 use std::io::{ErrorKind, Read, Write};
@@ -10,7 +11,6 @@ use std::process::Abort;
 
 mod hostile;
 mod whole_parses;
-mod wide_years;
 
 /// An input and its output.
 type Row = (&'static str, &'static str);
@@ -28,7 +28,9 @@ fn are_answered(rt: &(impl Abort + AllocGlobal), rows: &[Row]) {
     }
 }
 
-static FIRST_PATH: [Row; 20] = [
+static FIRST_PATH: [Row; 21] = [
+    // An empty line, and one whose target is unknown.
+    ("\nrfc3339\tx\ty", "error: line\nerror: target\n"),
     (
         "rfc3339\tstaged\t1990-12-31T15:59:60-08:00",
         "1990-12-31 15:59:59.999999999 -08:00:00\n",
@@ -194,6 +196,70 @@ impl Write for Page<'_> {
     }
 }
 
+// An allocator that refuses one allocation.
+mod refusing {
+    use std::alloc::{AllocError, Allocator};
+    use std::cell::Cell;
+
+    /// An allocator that passes each call on, but for one allocation, which it refuses.
+    pub struct Refusing<B: Allocator> {
+        inner: B,
+        // How many allocations come before the one that is refused, or 18446744073709551615 after it.
+        left: Cell<u64>,
+    }
+
+    impl<B: Allocator> Refusing<B> {
+        /// An allocator that refuses the allocation after so many others.
+        pub fn new(inner: B, left: u64) -> Refusing<B> {
+            Refusing {
+                inner,
+                left: Cell::new(left),
+            }
+        }
+
+        /// Whether it has refused an allocation.
+        pub fn has_refused(&self) -> bool {
+            self.left.get() == u64::MAX
+        }
+    }
+
+    impl<B: Allocator> Drop for Refusing<B> {
+        fn drop(self) {
+            let Self { inner: _, left: _ } = self;
+        }
+    }
+
+    // Counts an allocation, and returns whether it is the one to refuse.
+    fn is_due(left: &Cell<u64>) -> bool {
+        match left.get() {
+            u64::MAX => false,
+            0 => {
+                left.set(u64::MAX);
+                true
+            }
+            n => {
+                left.set(n - 1);
+                false
+            }
+        }
+    }
+
+    unsafe impl<B: Allocator> Allocator for Refusing<B> {
+        ghost dealloc_token = { λ heap ty ptr. B.dealloc_token heap.inner ty ptr };
+
+        fn allocate(&self, size: usize, align: usize) -> Result<*mut u8, AllocError> {
+            if is_due(&self.left) {
+                return Err(AllocError);
+            }
+            self.inner.allocate(size, align)
+        }
+
+        unsafe fn deallocate(&self, ptr: *mut u8, size: usize, align: usize) {
+            self.inner.deallocate(ptr, size, align);
+        }
+    }
+}
+
 const NEVER: usize = 1000000;
 
 /// What `run` tells where this write fails.
@@ -235,6 +301,44 @@ fn served_within(
     };
     let answer = serve_in(&heap, &mut source, &mut page);
     page.told(answer)
+}
+
+/// What `serve_in` tells where the allocation after so many others is refused, and whether there is such a one.
+fn served_but_for(
+    alloc: Global,
+    left: u64,
+    mut source: Source<'_>,
+    output: &[u8],
+) -> Option<(Told, bool)> {
+    let heap = Refusing::new(alloc, left);
+    let mut page = Page {
+        rest: output,
+        writes: 0,
+        fails_at: NEVER,
+    };
+    let answer = serve_in(&heap, &mut source, &mut page);
+    Some((page.told(answer)?, heap.has_refused()))
+}
+
+/// Each allocation is refused in turn, until none is left to refuse, and then the output is whole.
+fn try_allocations(rt: &(impl Abort + AllocGlobal), input: &[u8], output: &[u8], most: usize) {
+    for left in 0..64 {
+        let source = Source {
+            bytes: input,
+            most,
+            reads: 0,
+            fails_at: NEVER,
+        };
+        match served_but_for(rt.alloc(), left, source, output) {
+            Some(((Err(Stop::Memory), 0), true)) => {}
+            Some(((Ok(()), 1), false)) => {
+                assert!(rt; left > 0);
+                return;
+            }
+            _ => panic!(rt; "{left}"),
+        }
+    }
+    panic!(rt; "too many allocations");
 }
 
 /// The input takes so many reads of at most so many bytes, and each is told where it fails.
@@ -329,6 +433,7 @@ fn statuses(rt: HostRuntime) {
     try_reads(&rt, INPUT, OUTPUT, (1, INPUT.len() + 1));
     try_writes(&rt, INPUT, OUTPUT, (1, 1));
     try_writes(&rt, INPUT, OUTPUT, (65536, 1));
+    try_allocations(&rt, INPUT, OUTPUT, 1);
     try_sizes(&rt, INPUT, OUTPUT, 1, (1, 64..400));
 }
 

@@ -1,7 +1,10 @@
 //! The options of a record by name, and their values as numbers.
 pub use puts::{set, with};
+use std::convert::TryFrom;
 use std::num::NonZero;
+use time_readers::{Component, Padding, modifier};
 use time_record::Parsed;
+use time_values::OffsetDateTime;
 
 /// The options of a record.
 #[derive(Clone, Copy)]
@@ -158,8 +161,53 @@ pub fn record_of(numbers: &[(Field, i128)]) -> Option<Parsed> {
     Some(parsed)
 }
 
-/// All that two records hold of components is the same.
-pub fn same(a: &Parsed, b: &Parsed) -> bool {
+/// A record of the greatest number of each option but the timestamp, with each flag but that leap seconds are allowed.
+pub fn full_record() -> Option<Parsed> {
+    let mut parsed = Parsed::new();
+    let hour = Component::OffsetHour(modifier::OffsetHour {
+        padding: Padding::Zero,
+        sign_is_mandatory: false,
+    });
+    // The minus of an hour sets the flag of a negative offset.
+    parsed.parse_component(b"-05", hour).ok()?;
+    for (field, _, high) in RANGES {
+        if !matches!(field, Field::UnixTimestampNanos) {
+            set(&mut parsed, field, high)?;
+        }
+    }
+    parsed.set_year_century(0, true)?;
+    parsed.set_iso_year_century(0, true)?;
+    Some(parsed)
+}
+
+// Whether numbers of the offset are negated, which a minute shows, since no getter returns the flag.
+fn negates_offset(parsed: &Parsed) -> bool {
+    let mut copy = *parsed;
+    let is_set = copy.set_offset_minute_signed(1).is_some();
+    is_set && copy.offset_minute_signed() == Some(-1)
+}
+
+// The leap second at the end of 2016, with what else the record has.
+fn leap_second(parsed: &Parsed) -> Option<Parsed> {
+    let mut leap = *parsed;
+    leap.set_year(2016)?;
+    leap.set_ordinal(NonZero::<u16>::new(366)?)?;
+    leap.set_hour_24(23)?;
+    leap.set_minute(59)?;
+    leap.set_second(60)?;
+    leap.set_offset_hour(0)?;
+    leap.set_offset_minute_signed(0)?;
+    leap.set_offset_second_signed(0)?;
+    Some(leap)
+}
+
+// Whether a second of 60 may be a leap second, which no getter returns, so one is converted. A timestamp counts before it.
+fn takes_leap_second(parsed: &Parsed) -> bool {
+    leap_second(parsed).is_some_and(|leap| OffsetDateTime::try_from(leap).is_ok())
+}
+
+/// Whether two records are equal: each option, and each of the four flags.
+pub fn same_record(a: &Parsed, b: &Parsed) -> bool {
     for (field, _, _) in RANGES {
         if get(a, field) != get(b, field) {
             return false;
@@ -167,6 +215,8 @@ pub fn same(a: &Parsed, b: &Parsed) -> bool {
     }
     a.year_century_is_negative() == b.year_century_is_negative()
         && a.iso_year_century_is_negative() == b.iso_year_century_is_negative()
+        && negates_offset(a) == negates_offset(b)
+        && takes_leap_second(a) == takes_leap_second(b)
 }
 
 // The setters of a record and its builders by a field's name.

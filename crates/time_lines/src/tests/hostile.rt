@@ -1,8 +1,8 @@
 //! Lines at the ends of the range of years, and every refusal that the program may meet.
-use super::{Row, are_answered, fills, joined, try_parts, try_reads, try_sizes};
+use super::{Row, are_answered, fills, joined, try_allocations, try_parts, try_reads, try_sizes};
 
-// The first moment of the years of four digits, and the first that there is.
-static RANGE_ENDS: [Row; 7] = [
+/// The first moment of the years of four digits, and the first that there is.
+pub(super) static RANGE_ENDS: [Row; 7] = [
     (
         "unix\tdatetime\t-377705116800",
         "-9999-01-01 00:00:00.000000000 +00:00:00\n",
@@ -38,6 +38,79 @@ fn range_ends(rt: HostRuntime) {
     are_answered(&rt, &RANGE_ENDS);
 }
 
+// Years of more than four digits, in and out of UTC.
+pub(super) mod wide_years {
+    use crate::tests::{Row, are_answered};
+
+    const UNIX_TIMESTAMP: &str = "error: the 'unix_timestamp' component could not be parsed\n";
+
+    static LINES: [Row; 9] = [
+        (
+            "rfc3339\tutc\t9999-12-31T23:59:59.999999999-23:59",
+            "10000-01-01 23:58:59.999999999 +00:00:00\n",
+        ),
+        (
+            "rfc3339\ttimestamp\t9999-12-31T23:59:59.999999999-23:59",
+            "253402387139999999999\n",
+        ),
+        ("iso8601\tdate\t9999-W52-6", "10000-01-01\n"),
+        ("iso8601\tdate\t+012345-01-02", "12345-01-02\n"),
+        ("iso8601\tdate\t-012345-01-02", "-12345-01-02\n"),
+        (
+            "iso8601\tplain\t+100000-01-02T03",
+            "100000-01-02 03:00:00.000000000\n",
+        ),
+        (
+            "iso8601\tdatetime\t+999999-12-31T23:59:59-00:01",
+            "999999-12-31 23:59:59.000000000 -00:01:00\n",
+        ),
+        (
+            "iso8601\tutc\t+999999-12-31T23:59:59-00:01",
+            "error: year is out of range for the other components\n",
+        ),
+        (
+            "iso8601\tdate\t+999999-W52-6",
+            "error: weekday is out of range for the other components\n",
+        ),
+    ];
+
+    /// Lines of the formats that are described.
+    pub(in crate::tests) static DESCRIBED_YEARS: [Row; 8] = [
+        (
+            "unix\tdatetime\t253402300800",
+            "10000-01-01 00:00:00.000000000 +00:00:00\n",
+        ),
+        (
+            "unix\tdatetime\t-377705116801",
+            "-10000-12-31 23:59:59.000000000 +00:00:00\n",
+        ),
+        (
+            "unix\tdatetime\t31494784780799",
+            "999999-12-31 23:59:59.000000000 +00:00:00\n",
+        ),
+        ("unix\tdatetime\t31494784780800", UNIX_TIMESTAMP),
+        (
+            "unix\tdatetime\t-31619087596800",
+            "-999999-01-01 00:00:00.000000000 +00:00:00\n",
+        ),
+        ("unix\tdatetime\t-31619087596801", UNIX_TIMESTAMP),
+        (
+            "local\tutc\t-9999-01-01 00:00:00 +00:01",
+            "-10000-12-31 23:59:00.000000000 +00:00:00\n",
+        ),
+        (
+            "local\ttimestamp\t-9999-01-01 00:00:00 +00:01",
+            "-377705116860000000000\n",
+        ),
+    ];
+
+    #[test]
+    fn wide_years(rt: HostRuntime) {
+        are_answered(&rt, &LINES);
+        are_answered(&rt, &DESCRIBED_YEARS);
+    }
+}
+
 // A line of each format, one that is refused, and one that is none.
 const LINES: &[u8] = b"rfc3339\tdatetime\t1985-04-12T23:20:50.52Z
 rfc2822\tstaged\tMon, 02 Jan 2021 03:04:05 +0607
@@ -61,11 +134,13 @@ error: the 'month' component could not be parsed
 error: line
 ";
 
-// The input takes some growths of the buffer, and each is refused at some of these sizes.
+// The input takes some growths of the buffer. Each is refused in turn, and then by a heap of some of these sizes. `run` is
+// passed no allocator, and its output is written without one.
 #[test]
 fn hostile_program(rt: HostRuntime) {
     let input = joined(rt.alloc(), &[(&[LINES], 40)]).expect(&rt, "memory");
     let output = joined(rt.alloc(), &[(&[ANSWERS], 40)]).expect(&rt, "memory");
+    try_allocations(&rt, input.as_slice(), output.as_slice(), 1024);
     try_sizes(
         &rt,
         input.as_slice(),

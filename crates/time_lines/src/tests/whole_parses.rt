@@ -14,82 +14,6 @@ const TRAILING: &str = "error: unexpected trailing characters; the end of input 
 
 const YEAR: &str = "error: the 'year' component could not be parsed\n";
 
-static DIRECT_PARSES: [Row; 20] = [
-    (
-        "rfc3339\tdatetime\t1985-04-12T23:20:50.52Z",
-        "1985-04-12 23:20:50.520000000 +00:00:00\n",
-    ),
-    (
-        "rfc3339\tdatetime\t1990-12-31T15:59:60-08:00",
-        "1990-12-31 15:59:59.999999999 -08:00:00\n",
-    ),
-    (
-        "rfc3339\tdatetime\t1990-12-30T23:59:60Z",
-        "error: second is out of range for the other components\n",
-    ),
-    (
-        "rfc3339\tdatetime\t2021-13-01T00:00:00Z",
-        "error: month is out of range\n",
-    ),
-    ("rfc3339\tstaged\t2021-13-01T00:00:00Z", MONTH),
-    ("rfc3339\tdatetime\t2021-13-01T00:00:00Zx", TRAILING),
-    ("rfc3339\tstaged\t2021-13-01T00:00:00Zx", MONTH),
-    (
-        "rfc3339\tdatetime\t9999-12-31T23:59:59.999999999-23:59",
-        "9999-12-31 23:59:59.999999999 -23:59:00\n",
-    ),
-    (
-        "rfc3339\tdatetime\t2021-01-02T03:04:05.1234567899Z",
-        "2021-01-02 03:04:05.123456789 +00:00:00\n",
-    ),
-    (
-        "rfc3339\tdatetime\t2021-01-02\u{e9}03:04:05Z",
-        "error: the 'hour' component could not be parsed\n",
-    ),
-    (
-        "rfc3339\tdatetime\t",
-        "error: the 'year' component could not be parsed\n",
-    ),
-    (
-        "rfc3339\tdatetime\t2021-01-02T03:04:05+05:60x",
-        "error: minutes is out of range\n",
-    ),
-    (
-        "rfc2822\tdatetime\tMon, 02 Jan 2021 03:04:05 +0607",
-        "2021-01-02 03:04:05.000000000 +06:07:00\n",
-    ),
-    (
-        "rfc2822\tdatetime\t02 Jan 49 03:04 EST",
-        "2049-01-02 03:04:00.000000000 -05:00:00\n",
-    ),
-    (
-        "rfc2822\tdatetime\t02 Jan 2021 03:04 -0030",
-        "2021-01-02 03:04:00.000000000 -00:30:00\n",
-    ),
-    (
-        "rfc2822\tdatetime\t02 (a(b\\)c)) Jan 2021 03:04 +0000",
-        SECOND_OF_JANUARY,
-    ),
-    ("rfc2822\tdatetime\t02 Jan 2021\r03:04 +0000", LITERAL),
-    (
-        "rfc2822\tdatetime\t1 Jan 2021 24:00 GMT",
-        "error: hour is out of range\n",
-    ),
-    (
-        "rfc2822\tdatetime\t1 Jan 2021 03:04:61 GMT",
-        "error: second is out of range\n",
-    ),
-    (
-        "rfc2822\tdatetime\t1 Jan 2021 03:04 -2600",
-        "error: hours is out of range\n",
-    ),
-];
-
-#[test]
-fn direct_parses(rt: HostRuntime) {
-    are_answered(&rt, &DIRECT_PARSES);
-}
-
 static RFC3339: [Row; 10] = [
     (
         "rfc3339\tdate\t2021-01-02T03:04:05.25-00:30",
@@ -227,7 +151,8 @@ static ISO8601: [Row; 31] = [
     ("iso8601\ttime\t03.0001", "03:00:00.360000000\n"),
 ];
 
-static DESCRIBED: [Row; 30] = [
+/// Lines of the formats that are described.
+pub(super) static DESCRIBED: [Row; 30] = [
     ("ymd\tdate\t-0044-03-15", "-0044-03-15\n"),
     ("ymd\tdate\t+2021-03-04", "2021-03-04\n"),
     ("ymd\tdatetime\t2021-03-04", INSUFFICIENT),
@@ -305,4 +230,283 @@ fn whole_parses(rt: HostRuntime) {
     are_answered(&rt, &RFC2822);
     are_answered(&rt, &ISO8601);
     are_answered(&rt, &DESCRIBED);
+}
+
+// Stamps and mail dates as `datetime`, which is parsed without a record, and as `staged`, over an empty record.
+mod two_paths {
+    use crate::serving::run;
+    use crate::tests::{Row as Line, are_answered, joined};
+    use std::alloc::{AllocError, Global};
+
+    /// A format, a text, and its answers as `datetime` and as `staged`.
+    type Row = (&'static [u8], &'static [u8], &'static [u8], &'static [u8]);
+
+    /// Both answers of the row are those of `run`.
+    fn are_both_answered(alloc: Global, row: &Row) -> Result<bool, AllocError> {
+        let (format, text, without_record, over_record) = *row;
+        let lines: [&[u8]; 7] = [
+            format,
+            b"\tdatetime\t",
+            text,
+            b"\n",
+            format,
+            b"\tstaged\t",
+            text,
+        ];
+        let input = joined(alloc, &[(&lines, 1)])?;
+        let answers: [&[u8]; 4] = [without_record, b"\n", over_record, b"\n"];
+        let output = joined(alloc, &[(&answers, 1)])?;
+        let mut found = Vec::new(alloc);
+        Ok(run(input.as_slice(), &mut found).is_ok() && found.as_slice() == output.as_slice())
+    }
+
+    const LITERAL: &[u8] = b"error: a character literal was not valid";
+
+    const TRAILING: &[u8] = b"error: unexpected trailing characters; the end of input was expected";
+
+    const YEAR: &[u8] = b"error: the 'year' component could not be parsed";
+
+    const MONTH: &[u8] = b"error: the 'month' component could not be parsed";
+
+    const DAY: &[u8] = b"error: the 'day' component could not be parsed";
+
+    const HOUR: &[u8] = b"error: the 'hour' component could not be parsed";
+
+    const SECOND: &[u8] = b"error: the 'second' component could not be parsed";
+
+    const OFFSET_HOUR: &[u8] = b"error: the 'offset hour' component could not be parsed";
+
+    const OFFSET_MINUTE: &[u8] = b"error: the 'offset minute' component could not be parsed";
+
+    const NO_LEAP_SECOND: &[u8] = b"error: second is out of range for the other components";
+
+    const NO_DAY: &[u8] = b"error: day is out of range for the other components";
+
+    static STAMPS: [Row; 13] = [
+        (
+            b"rfc3339",
+            b"1985-04-12T23:20:50.52Z",
+            b"1985-04-12 23:20:50.520000000 +00:00:00",
+            b"1985-04-12 23:20:50.520000000 +00:00:00",
+        ),
+        (
+            b"rfc3339",
+            b"1990-12-31T15:59:60-08:00",
+            b"1990-12-31 15:59:59.999999999 -08:00:00",
+            b"1990-12-31 15:59:59.999999999 -08:00:00",
+        ),
+        (
+            b"rfc3339",
+            b"1990-12-30T23:59:60Z",
+            NO_LEAP_SECOND,
+            NO_LEAP_SECOND,
+        ),
+        (
+            b"rfc3339",
+            b"2021-13-01T00:00:00Z",
+            b"error: month is out of range",
+            MONTH,
+        ),
+        (b"rfc3339", b"2021-13-01T00:00:00Zx", TRAILING, MONTH),
+        (
+            b"rfc3339",
+            b"9999-12-31T23:59:59.999999999-23:59",
+            b"9999-12-31 23:59:59.999999999 -23:59:00",
+            b"9999-12-31 23:59:59.999999999 -23:59:00",
+        ),
+        (
+            b"rfc3339",
+            b"2021-01-02T03:04:05.1234567899Z",
+            b"2021-01-02 03:04:05.123456789 +00:00:00",
+            b"2021-01-02 03:04:05.123456789 +00:00:00",
+        ),
+        (b"rfc3339", b"2021-01-02\xc3\xa903:04:05Z", HOUR, HOUR),
+        (b"rfc3339", b"", YEAR, YEAR),
+        (
+            b"rfc3339",
+            b"2021-01-02T03:04:05+05:60x",
+            b"error: minutes is out of range",
+            OFFSET_MINUTE,
+        ),
+        (b"rfc3339", b"2021-01-32T25:00:00Z", NO_DAY, DAY),
+        (b"rfc3339", b"2021-00-01T00:00:00Z", MONTH, MONTH),
+        (b"rfc3339", b"2021-01-00T00:00:00Z", NO_DAY, DAY),
+    ];
+
+    const SECOND_OF_JANUARY: &[u8] = b"2021-01-02 03:04:00.000000000 +00:00:00";
+
+    static MAIL_DATES: [Row; 12] = [
+        (
+            b"rfc2822",
+            b"Mon, 02 Jan 2021 03:04:05 +0607",
+            b"2021-01-02 03:04:05.000000000 +06:07:00",
+            b"2021-01-02 03:04:05.000000000 +06:07:00",
+        ),
+        (
+            b"rfc2822",
+            b"02 Jan 49 03:04 EST",
+            b"2049-01-02 03:04:00.000000000 -05:00:00",
+            b"2049-01-02 03:04:00.000000000 -05:00:00",
+        ),
+        (
+            b"rfc2822",
+            b"02 Jan 2021 03:04 -0030",
+            b"2021-01-02 03:04:00.000000000 -00:30:00",
+            b"2021-01-02 03:04:00.000000000 -00:30:00",
+        ),
+        (
+            b"rfc2822",
+            b"02 Jan 2021 03:04 GMT (x)",
+            SECOND_OF_JANUARY,
+            SECOND_OF_JANUARY,
+        ),
+        (
+            b"rfc2822",
+            b"02 (a(b\\)c)) Jan 2021 03:04 +0000",
+            SECOND_OF_JANUARY,
+            SECOND_OF_JANUARY,
+        ),
+        // A comment of 31 levels, the most that are parsed, and one of 32.
+        (
+            b"rfc2822",
+            b"02 ((((((((((((((((((((((((((((((())))))))))))))))))))))))))))))) Jan 2021 03:04 +0000",
+            SECOND_OF_JANUARY,
+            SECOND_OF_JANUARY,
+        ),
+        (
+            b"rfc2822",
+            b"02 (((((((((((((((((((((((((((((((()))))))))))))))))))))))))))))))) Jan 2021 03:04 +0000",
+            MONTH,
+            MONTH,
+        ),
+        (b"rfc2822", b"02 Jan 2021\r03:04 +0000", LITERAL, LITERAL),
+        (b"rfc2822", b"02 Jan 1899 03:04 +0000", YEAR, YEAR),
+        (
+            b"rfc2822",
+            b"1 Jan 2021 24:00 GMT",
+            b"error: hour is out of range",
+            HOUR,
+        ),
+        (
+            b"rfc2822",
+            b"1 Jan 2021 03:04:61 GMT",
+            b"error: second is out of range",
+            SECOND,
+        ),
+        (
+            b"rfc2822",
+            b"1 Jan 2021 03:04 -2600",
+            b"error: hours is out of range",
+            OFFSET_HOUR,
+        ),
+    ];
+
+    /// Texts of these for other targets, which are parsed over a record.
+    static OTHER_TARGETS: [Line; 4] = [
+        (
+            "rfc3339\tutc\t9999-12-31T23:59:59.999999999-23:59",
+            "10000-01-01 23:58:59.999999999 +00:00:00\n",
+        ),
+        (
+            "rfc3339\ttimestamp\t9999-12-31T23:59:59.999999999-23:59",
+            "253402387139999999999\n",
+        ),
+        (
+            "rfc3339\ttime\t1990-12-31T23:59:60Z",
+            "error: second is out of range\n",
+        ),
+        (
+            "rfc2822\tutc\t02 Jan 2021 03:04 GMT (x)",
+            "2021-01-02 03:04:00.000000000 +00:00:00\n",
+        ),
+    ];
+
+    #[test]
+    fn two_paths(rt: HostRuntime) {
+        for row in &STAMPS {
+            assert!(rt;
+                are_both_answered(rt.alloc(), row) == Ok(true),
+                "{:?}",
+                row.1
+            );
+        }
+        for row in &MAIL_DATES {
+            assert!(rt;
+                are_both_answered(rt.alloc(), row) == Ok(true),
+                "{:?}",
+                row.1
+            );
+        }
+        are_answered(&rt, &OTHER_TARGETS);
+    }
+}
+
+// Lines of the described formats, parsed by the trees of their items, and not by what the program prepares of these.
+mod walks {
+    use super::DESCRIBED;
+    use crate::serving::cut_tab;
+    use crate::tests::hostile::RANGE_ENDS;
+    use crate::tests::hostile::wide_years::DESCRIBED_YEARS;
+    use crate::tests::{Row, are_answered};
+    use programs_answers::formats::{
+        Target, clock_items, compound, date_items, find_target, first, fraction_items, local_items,
+        second_items, unix,
+    };
+    use programs_answers::write_value;
+    use programs_streams::{Lent, Sink, Unwritten};
+    use std::alloc::Global;
+    use std::process::Abort;
+
+    fn write_clock<W: Sink>(target: Target, text: &[u8], out: &mut W) -> Result<(), Unwritten> {
+        let fraction = fraction_items();
+        let fraction = compound(&fraction);
+        let seconds = second_items(&fraction);
+        let seconds = compound(&seconds);
+        write_value(&compound(&clock_items(&seconds)), target, text, out)
+    }
+
+    fn write_local<W: Sink>(target: Target, text: &[u8], out: &mut W) -> Result<(), Unwritten> {
+        let items = local_items();
+        let (date_time, ordinal) = items.split_at(15);
+        let lists = [compound(date_time), compound(ordinal)];
+        write_value(&first(&lists), target, text, out)
+    }
+
+    /// Writes the answer to a line, or nothing where its format isn't described or its target is unknown.
+    fn write_walked<W: Sink>(line: &[u8], out: &mut W) -> Option<()> {
+        let (format, rest) = cut_tab(line)?;
+        let (target, text) = cut_tab(rest)?;
+        let target = find_target(target)?;
+        let written = match format {
+            b"ymd" => write_value(&compound(&date_items()), target, text, out),
+            b"clock" => write_clock(target, text, out),
+            b"unix" => write_value(&unix(), target, text, out),
+            b"local" => write_local(target, text, out),
+            _ => return None,
+        };
+        written.ok()
+    }
+
+    /// The tree of the line's format gives the output without its LF.
+    fn is_walked(alloc: Global, line: &str, output: &str) -> bool {
+        let mut text = Vec::new(alloc);
+        let written = write_walked(line.as_bytes(), &mut Lent::new(&mut text));
+        written == Some(()) && output.as_bytes().strip_suffix(b"\n") == Some(text.as_slice())
+    }
+
+    /// Each row has its output, by the tree and by the program.
+    fn are_walked(rt: &(impl Abort + AllocGlobal), rows: &[Row]) {
+        for (line, output) in rows {
+            assert!(rt; is_walked(rt.alloc(), line, output), "{line:?}");
+        }
+        are_answered(rt, rows);
+    }
+
+    #[test]
+    fn trees_of_described_formats(rt: HostRuntime) {
+        are_walked(&rt, &DESCRIBED);
+        are_walked(&rt, &DESCRIBED_YEARS);
+        // The other ends are those of ISO 8601.
+        are_walked(&rt, &RANGE_ENDS[..4]);
+    }
 }

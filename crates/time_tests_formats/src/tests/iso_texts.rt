@@ -318,10 +318,15 @@ mod offsets {
     // The offset in front of the text.
     fn found(text: &'static [u8], kind: ExtendedKind) -> Option<Found> {
         let found = offset(text, kind)?;
-        match found.1 {
-            OffsetNumbers::Numeric(hours, minutes) => Some((Some((hours, minutes)), found.0)),
-            OffsetNumbers::Zulu => Some((None, found.0)),
+        match found.value {
+            OffsetNumbers::Numeric(hours, minutes) => Some((Some((hours, minutes)), found.rest)),
+            OffsetNumbers::Zulu => Some((None, found.rest)),
         }
+    }
+
+    // The kind after the offset in front of the text.
+    fn kind_after(text: &[u8], kind: ExtendedKind) -> Option<ExtendedKind> {
+        Some(offset(text, kind)?.kind)
     }
 
     // Texts, what is found behind a basic form, in which no colon is read, and what behind an extended or unknown one.
@@ -367,6 +372,30 @@ mod offsets {
                 "{text:?}"
             );
         }
+    }
+
+    // Offsets, and what an unknown kind becomes.
+    static UNKNOWN: [(&[u8], ExtendedKind); 6] = [
+        (b"Z", ExtendedKind::Unknown),
+        (b"-05", ExtendedKind::Unknown),
+        (b"-0530", ExtendedKind::Unknown),
+        (b"-05:30", ExtendedKind::Extended),
+        (b"-05x", ExtendedKind::Unknown),
+        (b"+00:00:", ExtendedKind::Extended),
+    ];
+
+    #[test]
+    fn a_colon_makes_an_offset_extended(rt: HostRuntime) {
+        for (text, unknown) in &UNKNOWN {
+            assert!(rt;
+                kind_after(text, ExtendedKind::Unknown) == Some(*unknown),
+                "{text:?}"
+            );
+            for kind in [ExtendedKind::Basic, ExtendedKind::Extended] {
+                assert!(rt; kind_after(text, kind) == Some(kind), "{text:?}");
+            }
+        }
+        assert!(rt; kind_after(b"-05:", ExtendedKind::Unknown) == None);
     }
 }
 

@@ -1,7 +1,8 @@
 //! Mail dates: their places, zone names, blanks and comments, and the short cuts of those.
 
-// The places of mail dates, without their ranges, and zone names.
+// Whole mail dates, their places without the ranges of these, and zone names.
 mod mail_dates {
+    use crate::tests::answers::unanswered_mail_date;
     use time_readers::rfc2822::{Place, place_fault, read, zone_literal};
     use time_values::error::ParseFromDescription;
 
@@ -26,6 +27,13 @@ mod mail_dates {
         assert!(rt; places(b"99 Jan 2021 99:99:99 -9999") == Some(most));
         assert!(rt; places(b"1 Jan 1899 00:00 GMT") == None);
         assert!(rt; place_fault(Place::EndBlanks) == ParseFromDescription::InvalidLiteral);
+    }
+
+    // Each mail date has its moment, or its error, without a record and over an empty one.
+    #[test]
+    fn mail_dates(rt: HostRuntime) {
+        let text = unanswered_mail_date();
+        assert!(rt; text == None, "{text:?}");
     }
 
     // The hours that the zone name before the text says, and how many bytes are left behind it.
@@ -289,6 +297,43 @@ mod short_cuts {
             OptionalCfws | Colon => Some(3),
         };
         left(reader, behind_colon(reader, &text)) == wanted
+    }
+
+    // Texts in front of which one blank stands or none, and how many bytes are left of each: by `Fws`, and by `Cfws`.
+    static ONE_BLANK: [(&[u8], Option<usize>, Option<usize>); 20] = [
+        (b" !", Some(1), Some(1)),
+        (b"\t!", Some(1), Some(1)),
+        (b"\tJan", Some(3), Some(3)),
+        (b" )", Some(1), Some(1)),
+        (b"\t)", Some(1), Some(1)),
+        (b" \xff", Some(1), Some(1)),
+        (b"\t\xff", Some(1), Some(1)),
+        // Comments.
+        (b" (x)y", Some(4), Some(1)),
+        (b"\t(x)y", Some(4), Some(1)),
+        (b"\t(", Some(1), Some(1)),
+        // Bytes below a space.
+        (b" \0", Some(1), Some(1)),
+        (b"\t\x08", Some(1), Some(1)),
+        (b" \x0bx", Some(2), Some(2)),
+        (b"\t\x1f", Some(1), Some(1)),
+        (b" \nx", Some(2), Some(2)),
+        (b"\t\nx", Some(2), Some(2)),
+        // A carriage return is no blank, and behind one it isn't read.
+        (b"\rx", None, None),
+        (b"\r x", None, None),
+        (b" \rx", Some(2), Some(2)),
+        (b"\t\r\nx", None, None),
+    ];
+
+    #[test]
+    fn one_blank_before_each_kind_of_byte(rt: HostRuntime) {
+        for (text, fws, cfws) in &ONE_BLANK {
+            assert!(rt;
+                left(Fws, text) == *fws && left(Cfws, text) == *cfws,
+                "{text:?}"
+            );
+        }
     }
 
     #[test]

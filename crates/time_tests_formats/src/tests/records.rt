@@ -1,6 +1,7 @@
 //! What texts put into records.
 use super::formats::{Format, described};
 use super::refusals::{DAY, DESCRIPTION, LITERAL, OFFSET_MINUTE, YEAR};
+use std::alloc::{AllocError, Global};
 use std::num::NonZero;
 use time_parsing::{Iso8601, Parsable, Rfc2822, Rfc3339};
 use time_record::Parsed;
@@ -284,23 +285,39 @@ static RECORDS: [Row; 16] = [
     ),
 ];
 
-// The text of the row puts that into the record.
-fn is_stored(row: &Row) -> bool {
-    let (format, month, before, text, left, cells) = *row;
+// Whether two records have one debug text, which has each option and each flag.
+fn same_record(alloc: Global, a: &Parsed, b: &Parsed) -> Result<bool, AllocError> {
+    let a = format!(in alloc; "{a:?}")?;
+    let b = format!(in alloc; "{b:?}")?;
+    Ok(a.as_str() == b.as_str())
+}
+
+// The record before the text of the row is parsed over it.
+fn begun(row: &Row) -> Option<Parsed> {
+    let (format, month, before, _, _, _) = *row;
     let mut record = Parsed::new();
-    if let Some(month) = month
-        && record.set_month(month).is_none()
-    {
-        return false;
+    if let Some(month) = month {
+        record.set_month(month)?;
     }
-    // The empty text is refused, and leaves the record as it is.
+    // The empty text is rejected, and leaves the record as it is.
     let _ = stored(format, before, &mut record);
-    stored(format, text, &mut record) == (left, cells)
+    Some(record)
+}
+
+// The text of the row stores that in the record, or nothing where it is rejected.
+fn is_stored(alloc: Global, row: &Row) -> Result<bool, AllocError> {
+    let (format, _, _, text, left, cells) = *row;
+    let Some(before) = begun(row) else {
+        return Ok(false);
+    };
+    let mut record = before;
+    let is_right = stored(format, text, &mut record) == (left, cells);
+    Ok(is_right && (left.is_ok() || same_record(alloc, &record, &before)?))
 }
 
 #[test]
 fn records(rt: HostRuntime) {
     for row in &RECORDS {
-        assert!(rt; is_stored(row), "{:?}", row.3);
+        assert!(rt; is_stored(rt.alloc(), row) == Ok(true), "{:?}", row.3);
     }
 }

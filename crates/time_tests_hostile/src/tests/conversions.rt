@@ -36,7 +36,7 @@ type Day = (i32, Month, u8);
 // The hour, the minute, the second and the nanosecond.
 type Clock = (u8, u8, u8, u32);
 
-static DATES: [Row<Day>; 13] = [
+static DATES: [Row<Day>; 15] = [
     (
         &[(Field::Year, 2020), (Field::Month, 2), (Field::Day, 29)],
         Ok((2020, Month::February, 29)),
@@ -87,7 +87,23 @@ static DATES: [Row<Day>; 13] = [
         ],
         Ok((2018, Month::January, 1)),
     ),
-    // ISO 8601 weeks, whose year comes as a century and two digits.
+    // ISO 8601 weeks, whose year comes whole, or as a century and two digits.
+    (
+        &[
+            (Field::IsoYear, 2020),
+            (Field::IsoWeekNumber, 53),
+            (Field::Weekday, 5),
+        ],
+        Ok((2021, Month::January, 2)),
+    ),
+    (
+        &[
+            (Field::IsoYear, 2021),
+            (Field::IsoWeekNumber, 53),
+            (Field::Weekday, 0),
+        ],
+        Err(out!("week", true)),
+    ),
     (
         &[
             (Field::IsoYearCentury, 20),

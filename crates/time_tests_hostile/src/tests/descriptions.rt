@@ -1,5 +1,5 @@
 //! Components and descriptions, read into a record.
-use crate::fields::{Field, record_of, same};
+use crate::fields::{Field, record_of, same_record};
 use kinds::{Cased, Indexed, Kind, Padded, Signed, Timestamp, component};
 use std::alloc::Global;
 use std::num::NonZero;
@@ -91,6 +91,8 @@ enum Held {
     Century(i16, bool),
     // The same of an ISO 8601 century.
     IsoCentury(i16, bool),
+    // The hour of an offset, behind a minus.
+    West(i8),
 }
 
 // What a text makes of a record.
@@ -107,6 +109,11 @@ const HOUR: Component = Component::Hour24(modifier::Hour24 {
 
 const MINUTE: Component = Component::Minute(modifier::Minute {
     padding: Padding::Zero,
+});
+
+const OFFSET_HOUR: Component = Component::OffsetHour(modifier::OffsetHour {
+    padding: Padding::Zero,
+    sign_is_mandatory: false,
 });
 
 const NO_IGNORED: ParseFromDescription = ParseFromDescription::InvalidComponent("ignore");
@@ -130,7 +137,16 @@ fn record(held: &Held) -> Option<Parsed> {
             *century,
             *is_negative,
         ),
+        Held::West(hour) => west(*hour),
     }
+}
+
+// A record with the hour of an offset, and with the flag that the minus before it set.
+fn west(hour: i8) -> Option<Parsed> {
+    let mut parsed = Parsed::new();
+    parsed.parse_component(b"-00", OFFSET_HOUR).ok()?;
+    parsed.set_offset_hour(hour)?;
+    Some(parsed)
 }
 
 // The record before a text is read, and the record behind it.
@@ -143,7 +159,7 @@ fn item_sees<I: AnyFormatItem>(item: &I, text: &str, seen: &Seen) -> bool {
     let Some((mut parsed, after)) = records(seen) else {
         return false;
     };
-    parsed.parse_item(text.as_bytes(), item) == seen.answer && same(&parsed, &after)
+    parsed.parse_item(text.as_bytes(), item) == seen.answer && same_record(&parsed, &after)
 }
 
 // A component by itself makes that of the text.
@@ -151,7 +167,8 @@ fn component_sees(component: Component, text: &str, seen: &Seen) -> bool {
     let Some((mut parsed, after)) = records(seen) else {
         return false;
     };
-    parsed.parse_component(text.as_bytes(), component) == seen.answer && same(&parsed, &after)
+    parsed.parse_component(text.as_bytes(), component) == seen.answer
+        && same_record(&parsed, &after)
 }
 
 // A component makes that of the text, by itself and as an item of either type.
@@ -600,7 +617,7 @@ mod version_3 {
         HALF_PAST, HOUR, Held, MARCH_AT_NOON, MINUTE, NO_HOUR, NO_IGNORED, NO_LITERAL, NOON,
         NOTHING, Seen, Tree, ignore, records,
     };
-    use crate::fields::same;
+    use crate::fields::same_record;
     use std::alloc::Global;
     use time_readers::FormatDescriptionV3Inner;
 
@@ -655,7 +672,7 @@ mod version_3 {
         let Some((mut parsed, after)) = records(seen) else {
             return false;
         };
-        parsed.parse_v3(text.as_bytes(), items) == seen.answer && same(&parsed, &after)
+        parsed.parse_v3(text.as_bytes(), items) == seen.answer && same_record(&parsed, &after)
     }
 
     fn tree_sees(alloc: Global, tree: &Tree, text: &str, seen: &Seen) -> bool {

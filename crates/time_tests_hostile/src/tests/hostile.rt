@@ -202,12 +202,11 @@ mod comments {
 // Texts of the two RFC formats with each byte replaced by each other, and cut at each place.
 mod changed_bytes {
     use super::super::parts;
-    use crate::fields::same;
+    use crate::fields::{full_record, same_record};
     use std::alloc::{AllocError, Global};
     use std::ops::Range;
     use time_parsing::{Parsable, Rfc2822, Rfc3339};
     use time_record::Parsed;
-    use time_values::Month;
 
     static STAMPS: [&[u8]; 10] = [
         b"1985-04-12T23:20:50.52Z",
@@ -258,24 +257,26 @@ mod changed_bytes {
         }
     }
 
-    // A record is as it was, where a front of the text isn't read over it.
-    fn keeps_the_record<F: Parsable>(format: &F, text: &[u8]) -> bool {
-        let mut before = Parsed::new();
-        let _ = before.set_month(Month::March);
-        let _ = before.set_hour_24(12);
-        let mut record = before;
-        format.parse_into(text, &mut record).is_ok() || same(&record, &before)
+    // A record is as it was, where a front of the text isn't parsed over it.
+    fn keeps_the_record<F: Parsable>(format: &F, text: &[u8], before: &Parsed) -> bool {
+        let mut record = *before;
+        format.parse_into(text, &mut record).is_ok() || same_record(&record, before)
     }
 
     // All that holds of each text.
-    fn is_right<F: Parsable>(format: &F, text: &[u8]) -> bool {
+    fn is_right<F: Parsable>(format: &F, text: &[u8], full: &Parsed) -> bool {
         has_one_moment(format, text)
             && is_refused_alike(format, text)
-            && keeps_the_record(format, text)
+            && keeps_the_record(format, text, full)
     }
 
     // It holds of the text with each byte at the place. The text is left as it was.
-    fn is_right_with_each_byte<F: Parsable>(format: &F, text: &mut [u8], place: usize) -> bool {
+    fn is_right_with_each_byte<F: Parsable>(
+        format: &F,
+        text: &mut [u8],
+        place: usize,
+        full: &Parsed,
+    ) -> bool {
         let Some(kept) = text.get(place).copied() else {
             return false;
         };
@@ -284,7 +285,7 @@ mod changed_bytes {
             if let Some(it) = text.get_mut(place) {
                 *it = kept.wrapping_add(difference);
             }
-            all_right = all_right && is_right(format, text);
+            all_right = all_right && is_right(format, text, full);
         }
         if let Some(it) = text.get_mut(place) {
             *it = kept;
@@ -299,14 +300,17 @@ mod changed_bytes {
         text: &[u8],
         places: Range<usize>,
     ) -> Result<bool, AllocError> {
+        let Some(full) = full_record() else {
+            return Ok(false);
+        };
         let mut changed = Vec::new(alloc);
         changed.extend_from_slice(text)?;
-        let mut all_right = is_right(format, text);
+        let mut all_right = is_right(format, text, &full);
         for place in places {
             if let Some(front) = text.get(..place) {
                 all_right = all_right
-                    && is_right(format, front)
-                    && is_right_with_each_byte(format, &mut changed, place);
+                    && is_right(format, front, &full)
+                    && is_right_with_each_byte(format, &mut changed, place, &full);
             }
         }
         Ok(all_right)

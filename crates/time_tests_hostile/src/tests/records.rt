@@ -1,5 +1,5 @@
 //! Records: their options, the walk that counts, and the laws of parsing.
-use crate::fields::{Field, RANGES, get, set, with};
+use crate::fields::{Field, RANGES, full_record, get, record_of, same_record, set, with};
 use std::num::NonZero;
 use time_record::Parsed;
 
@@ -80,7 +80,7 @@ fn is_built(field: Field, n: i128) -> bool {
 }
 
 #[test]
-fn ranges(rt: HostRuntime) {
+fn digits_and_record_at_the_ends(rt: HostRuntime) {
     for (field, low, high) in RANGES {
         for n in [low, high] {
             assert!(rt; holds_in_range(field, low, high, n), "{low} to {high}");
@@ -111,10 +111,51 @@ static ENDS: [(i16, bool, bool); 4] = [
 ];
 
 #[test]
-fn signs_of_centuries(rt: HostRuntime) {
+fn digits_and_record_of_centuries(rt: HostRuntime) {
     for (century, sign, is_negative) in &ENDS {
         assert!(rt; century_sign(*century, *sign) == Some(*is_negative));
         assert!(rt; iso_century_sign(*century, *sign) == Some(*is_negative));
+    }
+}
+
+// A record of one option differs from an empty one.
+fn is_told_from_none(field: Field, n: i128) -> bool {
+    match record_of(&[(field, n)]) {
+        Some(one) => same_record(&one, &one) && !same_record(&one, &Parsed::new()),
+        None => false,
+    }
+}
+
+#[test]
+fn same_records(rt: HostRuntime) {
+    for (field, low, high) in RANGES {
+        for n in [low, high] {
+            assert!(rt; is_told_from_none(field, n), "{low} to {high}");
+        }
+    }
+    assert!(rt; full_record().is_some_and(|full| same_record(&full, &full)));
+}
+
+// Records that differ from a full one in a flag alone.
+fn with_a_flag_turned(full: Parsed) -> Option<[Parsed; 4]> {
+    let mut east = full;
+    east.forget_offset_sign();
+    // The getters return these numbers of the full record, too.
+    east.set_offset_minute_signed(full.offset_minute_signed()?)?;
+    east.set_offset_second_signed(full.offset_second_signed()?)?;
+    let calendar = full.with_year_century(0, false)?;
+    let iso = full.with_iso_year_century(0, false)?;
+    let mut leap = full;
+    leap.allow_leap_second();
+    Some([east, calendar, iso, leap])
+}
+
+#[test]
+fn same_records_by_their_flags(rt: HostRuntime) {
+    let full = full_record().expect(&rt, "a full record");
+    let turned = with_a_flag_turned(full).expect(&rt, "records in range");
+    for record in &turned {
+        assert!(rt; !same_record(record, &full));
     }
 }
 

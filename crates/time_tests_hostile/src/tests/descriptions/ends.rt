@@ -1,7 +1,7 @@
 //! Each component at the first and the last value of its range, under each padding, and years of more than four
 //! digits.
 use super::kinds::{Cased, Indexed, Kind, Padded, Signed, Timestamp};
-use super::{Held, Row, reads};
+use super::{Held, OFFSET_HOUR, Row, reads};
 use crate::fields::Field;
 use time_readers::{
     BorrowedFormatItem, Component, OwnedFormatItem, Padding, SubsecondDigits, modifier,
@@ -280,9 +280,9 @@ static ENDS: [Row; 131] = [
         number!(Subsecond, 123_456_789),
     ),
     // Offsets.
-    (signed!(OffsetHour, Zero), "-25", number!(OffsetHour, -25)),
+    (signed!(OffsetHour, Zero), "-25", Held::West(-25)),
     (signed!(OffsetHour, Zero), "+25", number!(OffsetHour, 25)),
-    (signed!(OffsetHour, Space), "- 5", number!(OffsetHour, -5)),
+    (signed!(OffsetHour, Space), "- 5", Held::West(-5)),
     (signed!(OffsetHour, None), "5", number!(OffsetHour, 5)),
     (
         padded!(OffsetMinute, Zero),
@@ -465,11 +465,6 @@ fn components_at_the_ends(rt: HostRuntime) {
         assert!(rt; reads(kind, text, *held), "{text}");
     }
 }
-
-const OFFSET_HOUR: Component = Component::OffsetHour(modifier::OffsetHour {
-    padding: Padding::Zero,
-    sign_is_mandatory: false,
-});
 
 const OFFSET_MINUTE: Component = Component::OffsetMinute(modifier::OffsetMinute {
     padding: Padding::Zero,

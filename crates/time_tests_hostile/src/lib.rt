@@ -3,5 +3,6 @@
 #![tactic(auto)]
 
 pub mod fields;
+pub mod inspected;
 #[cfg(test)]
 mod tests;

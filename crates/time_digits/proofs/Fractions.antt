@@ -1,5 +1,5 @@
 -- The digits of a fraction of a second: nine count, and the others are passed over.
-use Rattle.std.proofs.Common.{◌≡◌, ℕ, zero, suc, ◌+◌, ◌-◌, ◌*◌, ◌≤◌, List, [], ◌∷◌, ◌++◌, length, take, drop, replicate, ap, sym, ◌∙◌, inl, arith, length-append, append_assoc, ◌^◌, ◌<◌, ◌⊎◌, get_or, refl, inr, subst, mul-le-mul_right, add-mul}
+use Rattle.std.proofs.Common.{◌≡◌, ℕ, ◌+◌, ◌-◌, ◌*◌, ◌≤◌, List, [], ◌∷◌, ◌++◌, length, take, drop, ap, sym, ◌∙◌, inl, arith, length-append, append_assoc, ◌^◌, ◌<◌, ◌⊎◌, get_or, refl, inr, subst, mul-le-mul_right, add-mul}
 use Rattle.std.proofs.lemmas.List.{length-take-le, take-append-drop, take-append-le, append-nil, take_all, length-take}
 use Rattle.std.proofs.lemmas.Bool.{cases_lt}
 use Rattle.std.proofs.lemmas.Nat.{pow-add}
@@ -262,19 +262,3 @@ six_fraction s mid rest a b first second none =
         is = omega (arith, first.2.is, second.2.is, said, six_value t u lt lu);
       },
     )
-
--- ---- Texts shorter than a word, after which zeros stand
-
--- no zero is a digit, so that digits end before them
-enough_digits : (n k : ℕ) (s : List ℕ) → n ≤ length s + k → AllDigits (take n (s ++ replicate k 0)) → n ≤ length s
-enough_digits zero k s h digits = omega arith
-enough_digits (suc n) zero [] h digits = absurd (omega arith)
-enough_digits (suc n) (suc k) [] h digits = absurd (omega (arith, digits.0.0))
-enough_digits (suc n) k (c ∷ s) h digits = let rest = enough_digits n k s (omega arith) digits.1 in omega arith
-
--- the first bytes of the word are those of the text, where they are digits
-pub first_of_short : (n : ℕ) (s bytes : List ℕ) → n ≤ 8 → length s < 8 → bytes ≡ s ++ replicate (8 - length s) 0 → AllDigits (take n bytes)
-    → (n ≤ length s) × (take n bytes ≡ take n s)
-first_of_short n s bytes most short same digits =
-    let enough = enough_digits n (8 - length s) s (omega arith) (subst (λ t. AllDigits (take n t)) same digits) in
-    (enough, ap (λ t. take n t) same ∙ take-append-le n s (replicate (8 - length s) 0) enough)

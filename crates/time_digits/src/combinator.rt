@@ -80,6 +80,27 @@ fn three_digits(input: &[u8]) -> Option<ParsedItem<'_, u32>>
     }
 }
 
+/// Reads exactly four digits, and answers their decimal value.
+#[inline(always)]
+pub fn four_digits(input: &[u8]) -> Option<ParsedItem<'_, u16>>
+    ensures { Finds (IsDigitRun 4 4) (λ v. v) input.now result }
+{
+    match input {
+        [
+            a @ b'0'..=b'9',
+            b @ b'0'..=b'9',
+            c @ b'0'..=b'9',
+            d @ b'0'..=b'9',
+            rest @ ..,
+        ] => {
+            let high = u16::from(10 * (*a - b'0') + (*b - b'0'));
+            let low = u16::from(10 * (*c - b'0') + (*d - b'0'));
+            Some(ParsedItem(rest, 100 * high + low))
+        }
+        _ => None,
+    }
+}
+
 /// Reads exactly `N` digits, 1 to 9 of them, and answers their decimal value.
 #[inline]
 pub fn exactly_n_digits<const N: u8>(input: &[u8]) -> Option<ParsedItem<'_, u32>>

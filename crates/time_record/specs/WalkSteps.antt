@@ -1,16 +1,13 @@
 -- No public contract rests on this file.
 --
 -- What a walk over trees in turn does. `Y` is the greatest year.
-use Rattle.std.specs.Prelude.{◌≡◌, ℕ, ◌+◌, ◌<◌, ◌≤◌, List, ◌∷◌, length, drop, get_or, map, Option, Some, None, Result}
+use Rattle.std.specs.Prelude.{◌≡◌, ℕ, ◌+◌, ◌<◌, List, ◌∷◌, length, drop, Option, Some, None, zero, suc}
 use Rattle.std.specs.Borrow.{Bor}
-use Rattle.time_values.specs.Refusal.{Refusal, refusal_of_description}
-use Rattle.time_values.specs.declared.error.ParseFromDescription.{ParseFromDescription}
-use Rattle.time_components.specs.Tree.{further as further_bytes, node_tree, trees, Trees, Tree, literal, component, more}
+use Rattle.time_values.specs.Refusal.{Refusal}
+use Rattle.time_components.specs.Tree.{further as further_bytes, Trees, Tree, literal, component, none, more}
 use Rattle.time_components.specs.declared.inspect.Step.{Step}
-use Rattle.time_record.specs.Reading.{places_of_all, Answers, BeginsAll, BeginsFirst, Rises, ReadsAll, Refuses, RefusesAll, NoReading, Reads}
+use Rattle.time_record.specs.Reading.{places_of_all, BeginsAll, BeginsFirst, Rises, ReadsAll, RefusesAll, NoReading, Reads}
 use Rattle.time_record.specs.Record.{Record}
-use Rattle.time_record.specs.declared.walk.Stop.{Stop}
-use Rattle.time_record.specs.declared.walk.Stop.TheVariants as stop
 
 -- What the trees that are left answer, all of them answer: those before them were read, and so many items begun.
 pub record Goes (Y : ℕ) (all : Trees) (b0 : List ℕ) (r0 : Record) (begun : ℕ) (left : Trees) (b : List ℕ)
@@ -48,40 +45,15 @@ abbrev pub MayRead : ℕ → Tree → List ℕ → Record → Option (Bor (List 
 MayRead Y t bytes r (Some rest) r' = Reads Y t bytes r rest.now r'
 MayRead Y t bytes r None r' = r' ≡ r
 
--- the reading or the refusal of a component; or nothing is read here, and the record is as it was
-abbrev pub MayAttempt : ℕ → Tree → List ℕ → Record → Option (Option (Bor (List ℕ))) → Record → Type 0
-MayAttempt Y t bytes r (Some read) r' = Attempts Y t bytes r read r'
-MayAttempt Y t bytes r None r' = r' ≡ r
-
--- the same, with the fault of a refusal
-abbrev pub MayAnswer :
-    ℕ → Tree → List ℕ → Record → Option (Result (Bor (List ℕ)) ParseFromDescription) → Record → Type 0
-MayAnswer Y t bytes r (Some answer) r' = Answers Y t bytes r answer r'
-MayAnswer Y t bytes r None r' = r' ≡ r
-
 -- a literal or a component, which has nothing inside it
 abbrev pub IsLeaf : Tree → Type 0
 IsLeaf (literal t) = Unit {0}
 IsLeaf (component whole c) = Unit {0}
 IsLeaf t = ⊥
 
--- The first of the trees is a leaf, and refused.
-pub record RefusesLeaf (Y : ℕ) (ts : Trees) (bytes : List ℕ) (r : Record) (e : Refusal) : Type 0 where
-  pub leaf : Tree
-  pub later : Trees
-  pub is : ts ≡ more leaf later
-  pub is_leaf : IsLeaf leaf
-  pub refuses : Refuses Y leaf bytes r e
-
--- The item of an index is this tree.
-pub record HasItem {X : Type 0} (f : X → Tree) (xs : List X) (i : ℕ) (t : Tree) : Type 0 where
-  pub item : X
-  pub within : i < length xs
-  pub is : item ≡ get_or xs i item
-  pub tree : f item ≡ t
-
--- Why no leaf is read from an index on: there is none, or that one is refused, or it is an item that is unread.
-abbrev pub Stops : (Y : ℕ) {X : Type 0} (f : X → Tree) (xs : List X) (i : ℕ) → List ℕ → Record → Stop X → Type 0
-Stops Y f xs i bytes r stop.AtEnd = length xs ≤ i
-Stops Y f xs i bytes r (stop.AtFault e) = RefusesLeaf Y (trees (map f (drop i xs))) bytes r (refusal_of_description e)
-Stops Y f xs i bytes r (stop.AtItem node) = HasItem f xs i (node_tree f node)
+-- So many leaves in front are read one after another.
+unfoldable pub ReadsLeaves : ℕ → Trees → ℕ → List ℕ → Record → List ℕ → Record → Type 0
+ReadsLeaves Y ts zero bytes r rest new = (rest ≡ bytes) × (new ≡ r)
+ReadsLeaves Y none (suc n) bytes r rest new = ⊥
+ReadsLeaves Y (more t ts) (suc n) bytes r rest new =
+    IsLeaf t × ((mid : List ℕ) × (q : Record) × Reads Y t bytes r mid q × ReadsLeaves Y ts n mid q rest new)

@@ -3,6 +3,5 @@
 #![tactic(auto)]
 
 pub mod fields;
-pub mod inspected;
 #[cfg(test)]
 mod tests;

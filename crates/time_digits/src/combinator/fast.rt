@@ -1,14 +1,14 @@
 //! Runs of digits by one word of eight bytes, and the commonest fractions of a second.
 //!
 //! Each reader answers what the grammar's reader of the same name answers, or `None`: not this form.
-ghost use Rattle.std.specs.Prelude.{◌≤◌, ◌<◌, IfSome, length};
+ghost use Rattle.std.specs.Prelude.{◌≤◌, IfSome};
 ghost use Rattle.time_digits.specs.Digits.{Cut, IsDigitRun, IsFraction};
 
 use crate::ParsedItem;
 use crate::combinator::grammar::without_digits;
 use crate::combinator::{any_digit, three_digits, words};
 
-// Reads exactly `N` digits, 4 to 9 of them. `None`: not this form.
+// Reads exactly `N` digits, 4 to 9 of them, where eight bytes are left. `None`: not this form.
 #[inline(always)]
 pub(super) fn exactly_n_digits<const N: u8>(input: &[u8]) -> Option<ParsedItem<'_, u32>>
     ensures { IfSome result (λ found. Cut (IsDigitRun N N) input.now found.0.now found.1) }
@@ -37,23 +37,8 @@ fn digits_of_word<const N: u8>(input: &[u8]) -> Option<ParsedItem<'_, u32>>
     requires most { N ≤ 8 }
     ensures { IfSome result (λ found. Cut (IsDigitRun N N) input.now found.0.now found.1) }
 {
-    let Some(first) = input.first_chunk::<8>() else {
-        return digits_of_short_word::<N>(input);
-    };
+    let first = input.first_chunk::<8>()?;
     let value = words::join_bytes(first, N)?;
-    Some(ParsedItem(&input[usize::from(N)..], value))
-}
-
-// Reads exactly `N` digits by one word, of which the last bytes are absent. `None`: not this form.
-#[inline(never)]
-fn digits_of_short_word<const N: u8>(input: &[u8]) -> Option<ParsedItem<'_, u32>>
-    requires least { 4 ≤ N }
-    requires most { N ≤ 8 }
-    requires short { length input.now < 8 }
-    ensures { IfSome result (λ found. Cut (IsDigitRun N N) input.now found.0.now found.1) }
-{
-    let bytes = words::with_zeros(input);
-    let value = words::join_bytes(&bytes, N)?;
     Some(ParsedItem(&input[usize::from(N)..], value))
 }
 

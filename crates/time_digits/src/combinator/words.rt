@@ -1,5 +1,5 @@
 //! Digits that stand in one word.
-ghost use Rattle.std.specs.Prelude.{◌≡◌, ◌≤◌, ◌-◌, ◌++◌, MatchOption, length, replicate, take};
+ghost use Rattle.std.specs.Prelude.{◌≡◌, ◌≤◌, MatchOption, take};
 ghost use Rattle.time_digits.specs.Digits.{AllDigits, digits_value};
 ghost use Rattle.time_digits.specs.CombinatorFast.{first_bytes};
 
@@ -30,17 +30,6 @@ fn join_word(word: u64, n: u8) -> Option<u32>
     let fours = (pairs * 100 + (pairs >> 16)) & 0x0000_ffff_0000_ffff;
     let value = (fours * 10_000 + (fours >> 32)) & 0xffff_ffff;
     Some(value as u32)
-}
-
-// The bytes, and a 0, which is no digit, for each that is absent.
-#[inline(always)]
-pub(super) fn with_zeros(bytes: &[u8]) -> [u8; 8]
-    requires { length bytes.now ≤ 8 }
-    ensures { result ≡ bytes.now ++ replicate (8 - length bytes.now) 0 }
-{
-    let mut word = [0; 8];
-    word[..bytes.len()].copy_from_slice(bytes);
-    word
 }
 
 // Joins the first `n` of eight bytes, where all are digits.
@@ -79,26 +68,6 @@ mod tests {
         }
     }
 
-    // The first so many of the digits. The bytes after them are absent.
-    fn first_digits(count: u8) -> [u8; 8] {
-        let mut bytes = DIGITS;
-        for place in count..8 {
-            if let Some(it) = bytes.get_mut(usize::from(place)) {
-                *it = 0;
-            }
-        }
-        bytes
-    }
-
-    // Fewer digits than are asked for are not joined.
-    fn is_refused_short(n: u8) -> bool {
-        let mut all_refused = true;
-        for count in 0..n {
-            all_refused = all_refused && joined(first_digits(count), n).is_none();
-        }
-        all_refused
-    }
-
     // No byte but a digit is joined in that place.
     fn is_refused_at(place: usize, n: u8) -> bool {
         let mut all_refused = true;
@@ -126,7 +95,6 @@ mod tests {
         for (n, number) in NUMBERS {
             assert_eq!(rt; joined(DIGITS, n), Some(number));
             assert!(rt; is_refused(n));
-            assert!(rt; is_refused_short(n));
         }
     }
 }

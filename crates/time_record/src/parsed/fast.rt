@@ -1,71 +1,52 @@
 //! The components and literals that most lists are made of, read with no call.
 //!
-//! Each reader answers and puts what the item's plain reader does; or it answers `None`: it doesn't know such an item, and
-//! has read nothing. Then the item's walk reads it.
+//! Each reader answers the rest after what the item's plain reader reads, and puts what that one puts; or it answers
+//! `None`: not this form, and the record is as it was. Then the item's walk decides.
 ghost use Rattle.std.specs.Prelude.{false, true};
 ghost use Rattle.time_values.specs.Calendar.{greatest_year};
 ghost use Rattle.time_components.specs.Tree as tree;
 ghost use Rattle.time_record.specs.Record.{Record};
-ghost use Rattle.time_record.specs.WalkSteps.{MayAnswer, MayAttempt};
+ghost use Rattle.time_record.specs.WalkSteps.{MayRead};
 
 use crate::Parsed;
-use crate::parsed::component::fault;
 use time_components::Component;
 use time_components::component::fast;
-use time_values::error::ParseFromDescription;
 
-/// Reads one of the commonest components, and puts its value. `None`: it isn't one of them, and nothing is read.
+/// Reads one of the commonest components, and puts its value. `None`: not this form, and the record is as it was.
 #[inline(always)]
-#[tactic(auto, using(crate::proofs::ComponentLemmas::refused))]
 pub(crate) fn component<'a>(
     parsed: &mut Parsed,
     input: &'a [u8],
     component: &Component,
-) -> Option<Result<&'a [u8], ParseFromDescription>>
-    ensures { MayAnswer greatest_year (tree.component false component.now) input.now parsed.old result parsed.new }
-{
-    match attempt(parsed, input, component) {
-        Some(Some(rest)) => Some(Ok(rest)),
-        Some(None) => Some(Err(fault(*component))),
-        None => None,
-    }
-}
-
-// The same. `Some(None)` is a refusal.
-#[inline(always)]
-fn attempt<'a>(
-    parsed: &mut Parsed,
-    input: &'a [u8],
-    component: &Component,
-) -> Option<Option<&'a [u8]>>
-    ensures { MayAttempt greatest_year (tree.component false component.now) input.now parsed.old result parsed.new }
+) -> Option<&'a [u8]>
+    ensures { MayRead greatest_year (tree.component false component.now) input.now parsed.old result parsed.new }
 {
     match *component {
         Component::CalendarYearFullStandardRange(modifiers) => {
             let year = fast::year::<4>(input, modifiers.padding, modifiers.sign_is_mandatory);
-            Some(parsed.read_found(input, modifiers, year))
+            parsed.put_found(input, modifiers, year)
         }
-        Component::MonthNumerical(modifiers) => Some(parsed.read(input, modifiers)),
-        Component::Day(modifiers) => Some(parsed.read(input, modifiers)),
+        Component::MonthNumerical(modifiers) => parsed.read(input, modifiers),
+        Component::Day(modifiers) => parsed.read(input, modifiers),
         Component::Ordinal(modifiers) => {
-            Some(parsed.read_found(input, modifiers, fast::ordinal(input, modifiers.padding)))
+            parsed.put_found(input, modifiers, fast::ordinal(input, modifiers.padding))
         }
-        Component::Hour12(modifiers) => Some(parsed.read(input, modifiers)),
-        Component::Hour24(modifiers) => Some(parsed.read(input, modifiers)),
-        Component::Minute(modifiers) => Some(parsed.read(input, modifiers)),
-        Component::Period(modifiers) => Some(parsed.read(input, modifiers)),
-        Component::Second(modifiers) => Some(parsed.read(input, modifiers)),
+        Component::Hour12(modifiers) => parsed.read(input, modifiers),
+        Component::Hour24(modifiers) => parsed.read(input, modifiers),
+        Component::Minute(modifiers) => parsed.read(input, modifiers),
+        Component::Period(modifiers) => parsed.read(input, modifiers),
+        Component::Second(modifiers) => parsed.read(input, modifiers),
         Component::Subsecond(modifiers) => {
-            Some(parsed.read_found(input, modifiers, fast::subsecond(input, modifiers.digits)))
+            parsed.put_found(input, modifiers, fast::subsecond(input, modifiers.digits))
         }
         Component::OffsetHour(modifiers) => {
             let hour = fast::offset_hour(input, modifiers.padding, modifiers.sign_is_mandatory);
-            Some(parsed.read_found(input, modifiers, hour))
+            parsed.put_found(input, modifiers, hour)
         }
-        Component::OffsetMinute(modifiers) => Some(parsed.read(input, modifiers)),
+        Component::OffsetMinute(modifiers) => parsed.read(input, modifiers),
         Component::CalendarYearFullExtendedRange(modifiers) => {
             let year = fast::year::<6>(input, modifiers.padding, modifiers.sign_is_mandatory);
-            Some(parsed.read_found(input, modifiers, year))
+            parsed.put_found(input, modifiers, year)
         }
         _ => None,
     }
@@ -77,8 +58,8 @@ pub(crate) fn whole_component<'a>(
     parsed: &mut Parsed,
     input: &'a [u8],
     whole: &Component,
-) -> Option<Result<&'a [u8], ParseFromDescription>>
-    ensures { MayAnswer greatest_year (tree.component true whole.now) input.now parsed.old result parsed.new }
+) -> Option<&'a [u8]>
+    ensures { MayRead greatest_year (tree.component true whole.now) input.now parsed.old result parsed.new }
 {
     match *whole {
         Component::Ignore(_) => None,
@@ -86,16 +67,17 @@ pub(crate) fn whole_component<'a>(
     }
 }
 
-/// Reads a literal of one byte. `None`: it has more or none, and nothing is read.
+/// Reads a literal of one byte. `None`: not this form.
 #[inline(always)]
-pub(crate) fn literal<'a>(
-    input: &'a [u8],
-    literal: &[u8],
-) -> Option<Result<&'a [u8], ParseFromDescription>>
-    ensures { (r : Record) → MayAnswer greatest_year (tree.literal literal.now) input.now r result r }
+#[tactic(auto, using(crate::proofs::ComponentLemmas::reads_byte))]
+pub(crate) fn literal<'a>(input: &'a [u8], literal: &[u8]) -> Option<&'a [u8]>
+    ensures { (r : Record) → MayRead greatest_year (tree.literal literal.now) input.now r result r }
 {
     let [byte] = literal else {
         return None;
     };
-    Some(Parsed::read_byte(input, *byte))
+    match input {
+        [first, rest @ ..] if *first == *byte => Some(rest),
+        _ => None,
+    }
 }

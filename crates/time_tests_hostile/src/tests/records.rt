@@ -161,7 +161,6 @@ fn same_records_by_their_flags(rt: HostRuntime) {
 
 // The walk that counts, and the laws of parsing.
 mod counted_and_laws {
-    use crate::inspected::Inspected;
     use std::cell::Cell;
     use std::test::Fail;
     use time_parsing::laws::text_3339;
@@ -309,39 +308,6 @@ mod counted_and_laws {
         assert!(rt; clock_of(b"12x", &calls) == (true, 2));
         let [hour, colon, minute] = &calls;
         assert!(rt; (hour.get(), colon.get(), minute.get()) == (1, 1, 0));
-    }
-
-    // Reads a list of an hour, a colon and a minute inside a list, and says how often the inner list and each of its items
-    // are inspected, and how many items were begun.
-    fn inspected(input: &[u8]) -> ([u32; 4], u64) {
-        let counts = [Cell::new(0), Cell::new(0), Cell::new(0), Cell::new(0)];
-        let [list, hour, colon, minute] = &counts;
-        let zero = Padding::Zero;
-        let inside = [
-            Inspected::Component(hour, Component::Hour24(Hour24 { padding: zero })),
-            Inspected::Literal(colon, b":"),
-            Inspected::Component(minute, Component::Minute(Minute { padding: zero })),
-        ];
-        let items = [Inspected::List(list, &inside)];
-        let mut tries = Tries::new();
-        let _ = Parsed::new().parse_items_counted(input, &items, &mut tries);
-        let seen = [list.get(), hour.get(), colon.get(), minute.get()];
-        (seen, tries.count())
-    }
-
-    // Texts, and how often the items of that list are inspected: once each, up to the one that is refused.
-    static INSPECTED: [(&[u8], [u32; 4], u64); 4] = [
-        (b"x", [1, 1, 0, 0], 2),
-        (b"12x", [1, 1, 1, 0], 3),
-        (b"12:x", [1, 1, 1, 1], 4),
-        (b"12:34", [1, 1, 1, 1], 4),
-    ];
-
-    #[test]
-    fn inspected_once(rt: HostRuntime) {
-        for (input, counts, begun) in &INSPECTED {
-            assert!(rt; inspected(input) == (*counts, *begun), "{input:?}");
-        }
     }
 
     // Items that are read over an empty record: the answer, and the hour and the minute behind it.

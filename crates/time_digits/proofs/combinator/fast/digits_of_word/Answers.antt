@@ -8,8 +8,8 @@ pub returns : goal.returns
 returns g c =
     let s = c.args.input.now in
     let n = g.row.N in
-    let whole = c.in-Some.ensures.cases in
-    let first = first_of_eight n s c.in-Some.first.now c.requires.most whole.enough whole.same in
+    let whole = c.in_ok-first.ensures.cases in
+    let first = first_of_eight n s c.in_ok-first.first.now c.requires.most whole.enough whole.same in
     let value = c.in_ok-value.ensures in
     let cut = exact_cut n c.in_ok-value.value s (omega (arith, whole.enough)) (subst AllDigits first value.0) (value.1 ∙ ap digits_value first) in
     subst (λ (m : ℕ). Cut (IsDigitRun n n) s (take (length s - m) (drop m s)) c.in_ok-value.value) (sym c.from.ensures)

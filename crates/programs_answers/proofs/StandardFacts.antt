@@ -77,7 +77,7 @@ pub a_time : (t : Time) → HasClock 3 4 5 500_000_000 t → time_text t ≡ cod
 unfolding fixed
 a_time t clock = simp (clock.0, clock.1, clock.2, clock.3)
 
--- a minus stands where any part is negative
+-- an offset has a minus if any of its parts is negative
 pub an_offset : (o : UtcOffset) → HasOffset (pos 0) (neg_ℤ (pos 30)) (pos 0) o → offset_text o ≡ codes "-00:30:00"
 unfolding fixed
 an_offset o has = simp (has.0, has.1, has.2)

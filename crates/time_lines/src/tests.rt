@@ -209,7 +209,7 @@ mod refusing {
     }
 
     impl<B: Allocator> Refusing<B> {
-        /// An allocator that refuses the allocation after so many others.
+        /// An allocator that refuses one allocation, after a given number of others.
         pub fn new(inner: B, left: u64) -> Refusing<B> {
             Refusing {
                 inner,
@@ -303,7 +303,7 @@ fn served_within(
     page.told(answer)
 }
 
-/// What `serve_in` tells where the allocation after so many others is refused, and whether there is such a one.
+/// The result of `serve_in` if one allocation is refused after a given number of others, and whether it was reached.
 fn served_but_for(
     alloc: Global,
     left: u64,

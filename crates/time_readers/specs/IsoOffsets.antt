@@ -58,7 +58,7 @@ abbrev pub numbers_of : Option Sign → ℕ → ℕ → OffsetNumbers
 numbers_of None h m = Zulu
 numbers_of (Some s) h m = Numeric (with_sign s h) (with_sign s m)
 
--- what the places of a text say, as numbers
+-- the numbers of the places of a text
 abbrev pub numbers_found : Found OffsetParts → Found OffsetNumbers
 numbers_found f = record {
   rest = f.rest;
@@ -72,6 +72,6 @@ offset_text kind bytes =
     option_map numbers_found
     (first_fitting stands nothing_said offset_rows kind bytes)
 
--- the bytes after an offset, and what it says, where the kind after it doesn't count
+-- the bytes after an offset, and its numbers, without the kind
 abbrev pub offset_found : ExtendedKind → Piece OffsetNumbers
 offset_found kind bytes = option_map (λ f. (f.rest, f.value)) (offset_text kind bytes)

@@ -82,11 +82,11 @@ module _ (Y : ℕ) (r : Record) where
   unfolding Begins
   an_optional_begins_two = (1, refl, refl)
 
-  -- no alternative is begun twice
+  -- no alternative is visited twice
   pub no_eight_begun : Begins Y clock_or_hour (codes "12x") r 8 → ⊥
   no_eight_begun h = omega (arith, one_count Y clock_or_hour (codes "12x") r 5 8 five_are_begun h)
 
-  -- the minute after the missing colon isn't begun
+  -- the minute after the missing colon isn't visited
   pub no_six_begun : Begins Y clock_or_hour (codes "12x") r 6 → ⊥
   no_six_begun h = omega (arith, one_count Y clock_or_hour (codes "12x") r 5 6 five_are_begun h)
 
@@ -137,7 +137,7 @@ module _ (Y : ℕ) (r : Record) (m : Ignore) (one : m.count.value ≡ 1) where
   not_clean_inside_a_character clean =
       elim (clean m (169 ∷ []) r refl one_byte_is_ignored) [ inl a ↦ omega (arith, a) | inr a ↦ omega (arith, a) ]
 
-  -- an item that isn't begun may end inside a character
+  -- an item that isn't visited may end inside a character
   pub clean_after_a_fault : Clean Y (sequence (trees (colon ∷ component false (kind.Ignore m) ∷ []))) (codes "x") r
   unfolding Clean CleanAll
   clean_after_a_fault = (tt, λ mid q h. absurd (no_colon Y r [] mid q h))

@@ -42,7 +42,7 @@ two n rest few = record {
   is = omega arith;
 }
 
--- fewer digits than two are none
+-- fewer than two digits don't match
 no_two : (front rest : List ℕ) → AllDigits front → NoDigitFirst rest → length front < 2 → NoCut (IsDigitRun 2 2) (front ++ rest)
 no_two front rest digits ends few text after v e run =
     let found : IsDigitRun 0 2 front rest (digits_value front) = record {

@@ -74,7 +74,7 @@ module _ (Y : ℕ) (r : Record) where
   pub no_offset_hour_26 : put Y (offset_hour_is (neg_ℤ (pos 26))) r ≡ None
   no_offset_hour_26 = refl
 
-  -- nothing is put after a value out of range
+  -- a value out of range is not stored
   pub no_put_after_it : put_all Y (minute_is 60 ∷ hour_24_is 1 ∷ []) r ≡ None
   no_put_after_it = refl
 

@@ -169,7 +169,7 @@ pub fn offset(input: &[u8], kind: ExtendedKind) -> Option<Part<'_, OffsetNumbers
     })
 }
 
-// The minute of an offset, 0 where none stands, and the kind after it.
+// The minute of an offset, 0 if it is missing, and the kind after it.
 #[inline(always)]
 #[tactic(auto, unfolding(crate::specs::IsoGrammar::offset_minute))]
 fn offset_minute(input: &[u8], kind: ExtendedKind) -> Option<Part<'_, u8>>

@@ -45,7 +45,7 @@ pub(super) fn fws(input: &[u8]) -> Option<ParsedItem<'_, ()>>
     }
 }
 
-// Whether the byte is none of those, and no `(`, with which a comment begins.
+// Whether the byte ends blanks and begins no comment, as `(` does.
 #[inline(always)]
 fn ends_comments(byte: u8) -> bool
     ensures { IsTrue result → (byte ≢ 32) × (byte ≢ 9) × (byte ≢ 13) × (byte ≢ 40) }

@@ -299,7 +299,7 @@ mod short_cuts {
         left(reader, behind_colon(reader, &text)) == wanted
     }
 
-    // Texts in front of which one blank stands or none, and how many bytes are left of each: by `Fws`, and by `Cfws`.
+    // Texts with one blank or none in front, and how many bytes are left after it: by `Fws`, and by `Cfws`.
     static ONE_BLANK: [(&[u8], Option<usize>, Option<usize>); 20] = [
         (b" !", Some(1), Some(1)),
         (b"\t!", Some(1), Some(1)),

@@ -257,7 +257,7 @@ mod changed_bytes {
         }
     }
 
-    // A record is as it was, where a front of the text isn't parsed over it.
+    // A record is unchanged if no prefix of the text is parsed into it.
     fn keeps_the_record<F: Parsable>(format: &F, text: &[u8], before: &Parsed) -> bool {
         let mut record = *before;
         format.parse_into(text, &mut record).is_ok() || same_record(&record, before)

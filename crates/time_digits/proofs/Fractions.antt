@@ -10,12 +10,6 @@ use Rattle.time_digits.proofs.WordBytes.{first_byte, first_three}
 
 -- ---- Runs of exactly so many digits
 
--- the first bytes of the first eight
-pub first_of_eight : (n : ℕ) (s bytes : List ℕ) → n ≤ 8 → 8 ≤ length s → bytes ≡ take 8 s → take n bytes ≡ take n s
-first_of_eight n s bytes most enough same =
-    let l : length (take 8 s) ≡ 8 = length-take-le 8 s enough in
-    ap (λ t. take n t) same ∙ sym (take-append-le n (take 8 s) (drop 8 s) (omega arith)) ∙ ap (λ t. take n t) (take-append-drop 8 s)
-
 -- the first bytes are digits
 pub exact_cut : (n v : ℕ) (s : List ℕ) → n ≤ length s → AllDigits (take n s) → v ≡ digits_value (take n s) → Cut (IsDigitRun n n) s (drop n s) v
 exact_cut n v s h digits is =

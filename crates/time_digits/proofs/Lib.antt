@@ -1,4 +1,5 @@
 pub mod Fractions
 pub mod Runs
 pub mod WordBytes
+pub mod Words
 pub mod StandardFacts

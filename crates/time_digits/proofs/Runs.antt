@@ -163,21 +163,6 @@ pub IsDigitRun-same : (least most : ℕ) (s rest : List ℕ) (value : ℕ) → C
 IsDigitRun-same least most s rest value cut text after v e run =
     (IsDigitRun-unique least least most text cut.0 after rest v value run cut.2 (sym e ∙ cut.1)).2
 
--- four digits that stand there
-pub IsDigitRun-four : (s : List ℕ) (value : ℕ) → 4 ≤ length s → IsDigit (get_or s 0 0) → IsDigit (get_or s 1 0)
-    → IsDigit (get_or s 2 0) → IsDigit (get_or s 3 0)
-    → value ≡ 1000 * (get_or s 0 0 - 48) + 100 * (get_or s 1 0 - 48) + 10 * (get_or s 2 0 - 48) + (get_or s 3 0 - 48)
-    → Cut (IsDigitRun 4 4) s (take (length s - 4) (drop 4 s)) value
-IsDigitRun-four [] value h i j k l e = absurd (omega arith)
-IsDigitRun-four (a ∷ []) value h i j k l e = absurd (omega arith)
-IsDigitRun-four (a ∷ b ∷ []) value h i j k l e = absurd (omega arith)
-IsDigitRun-four (a ∷ b ∷ c ∷ []) value h i j k l e = absurd (omega arith)
-IsDigitRun-four (a ∷ b ∷ c ∷ d ∷ s) value h i j k l e = (
-  a ∷ b ∷ c ∷ d ∷ [],
-  ap (λ r. a ∷ b ∷ c ∷ d ∷ r) (sym (take-drop (a ∷ b ∷ c ∷ d ∷ s) 4 h)),
-  record { digits = (i, (j, (k, (l, tt)))); enough = omega arith; within = omega arith; ends = inl refl; is = omega arith },
-)
-
 -- what is said by a run of digits at the beginning of a text
 pub run_says : {N : Type 0} (least most : ℕ) (f : ℕ → N) (a b x y : List ℕ) (v w : ℕ) (m k : N) → IsDigitRun least most a x v
     → IsDigitRun least most b y w → a ++ x ≡ b ++ y → m ≡ f v → k ≡ f w → (x ≡ y) × (m ≡ k)

@@ -1,2 +1,2 @@
-pub mod CombinatorFast
 pub mod Digits
+pub mod Words

@@ -5,13 +5,14 @@
 ghost use Rattle.std.specs.Prelude.{◌≤◌};
 ghost use Rattle.time_digits.specs.Digits.{Finds, IsDigitRun, IsDigitRunUpTo, IsPaddedRunUpTo, IsFraction, IsByte, IsByteIgnoringCase, IsDigitByte, IsSign};
 
-pub mod fast;
+mod fast;
 mod grammar;
 mod words;
 
 use crate::{Integer, Padding, ParsedItem, Sign};
 pub use grammar::leading_digits;
 use grammar::{digit_run, leading_spaces};
+pub use words::nine_digits;
 
 /// Reads a sign, `-` or `+`.
 #[inline]
@@ -80,27 +81,6 @@ fn three_digits(input: &[u8]) -> Option<ParsedItem<'_, u32>>
     }
 }
 
-/// Reads exactly four digits, and answers their decimal value.
-#[inline(always)]
-pub fn four_digits(input: &[u8]) -> Option<ParsedItem<'_, u16>>
-    ensures { Finds (IsDigitRun 4 4) (λ v. v) input.now result }
-{
-    match input {
-        [
-            a @ b'0'..=b'9',
-            b @ b'0'..=b'9',
-            c @ b'0'..=b'9',
-            d @ b'0'..=b'9',
-            rest @ ..,
-        ] => {
-            let high = u16::from(10 * (*a - b'0') + (*b - b'0'));
-            let low = u16::from(10 * (*c - b'0') + (*d - b'0'));
-            Some(ParsedItem(rest, 100 * high + low))
-        }
-        _ => None,
-    }
-}
-
 /// Reads exactly `N` digits, 1 to 9 of them, and answers their decimal value.
 #[inline]
 pub fn exactly_n_digits<const N: u8>(input: &[u8]) -> Option<ParsedItem<'_, u32>>
@@ -108,9 +88,15 @@ pub fn exactly_n_digits<const N: u8>(input: &[u8]) -> Option<ParsedItem<'_, u32>
     requires most { N ≤ 9 }
     ensures { Finds (IsDigitRun N N) (λ v. v) input.now result }
 {
-    match fast::exactly_n_digits::<N>(input) {
-        Some(found) => Some(found),
-        None => grammar::exactly_n_digits::<N>(input),
+    match N {
+        2 => match two_digits(input) {
+            Some(found) => Some(ParsedItem(found.0, u32::from(found.1))),
+            None => None,
+        },
+        3 => three_digits(input),
+        4..=8 => words::digits::<N>(input),
+        9 => nine_digits(input),
+        _ => grammar::exact_run(input, N),
     }
 }
 

@@ -17,7 +17,7 @@ use crate::located::{after_all, past_bytes};
 use crate::mark::{index_of, is_place_of, wanted_of};
 use crate::{Expected, Locate, Located};
 use time_parsing::Rfc2822;
-use time_readers::combinator::{ascii_char, four_digits, one_or_two_digits};
+use time_readers::combinator::{ascii_char, exactly_n_digits, one_or_two_digits};
 use time_readers::component::parse_weekday_short;
 use time_readers::rfc2822::{
     Place, cfws, fws, opt_cfws, opt_cfws_colon_opt_cfws, place_fault, read, zone_literal,
@@ -119,7 +119,7 @@ fn past_year(input: &[u8]) -> (Option<&[u8]>, bool)
     ensures { (full : Bool) (rest : List ℕ) (v : ℕ) → Cut (IsYear full) input.now rest v
         → (option_copied result.0 ≡ Some rest) × (result.1 ≡ full) }
 {
-    match four_digits(input) {
+    match exactly_n_digits::<4>(input) {
         Some(found) => (Some(found.0), true),
         None => (past_bytes(input, 2), false),
     }

@@ -1,10 +1,10 @@
-//! Numbers of places, whose range is asked or not.
+//! Numbers of places, whose range is asked or not, and years of four digits.
 ghost use Rattle.std.specs.Prelude.{IsTrue, ◌↔◌};
-ghost use Rattle.time_digits.specs.Digits.{Finds};
+ghost use Rattle.time_digits.specs.Digits.{Finds, IsDigitRun};
 ghost use Rattle.time_readers.specs.Readers.{IsTwoDigits, IsWithin};
 
 use crate::ParsedItem;
-use crate::combinator::two_digits;
+use crate::combinator::{exactly_n_digits, two_digits};
 
 // Whether the number lies in the range, where that is asked.
 #[inline(always)]
@@ -29,4 +29,13 @@ pub(crate) fn two_digits_in<const CHECK_RANGES: bool>(
     } else {
         None
     }
+}
+
+// Four digits.
+#[inline(always)]
+pub(crate) fn four_digits(input: &[u8]) -> Option<ParsedItem<'_, u16>>
+    ensures { Finds (IsDigitRun 4 4) (λ v. v) input.now result }
+{
+    let found = exactly_n_digits::<4>(input)?;
+    Some(ParsedItem(found.0, found.1 as u16))
 }

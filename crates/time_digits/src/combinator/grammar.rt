@@ -2,7 +2,7 @@
 ghost use Rattle.std.specs.Prelude.{◌≡◌, ◌-◌, ◌^◌, ◌<◌, ◌≤◌, ◌⊎◌, ℕ, List, ◌++◌, MatchOption, IsTrue, ◌↔◌, length, take, drop, replicate};
 ghost use Rattle.time_digits.specs.Digits.{Finds, IsDigit, AllDigits, digits_value, NoDigitFirst, NoSpaceFirst, IsDigitRun, IsDigitRunUpTo, IsFraction};
 
-use crate::combinator::{n_to_m_digits, three_digits, two_digits};
+use crate::combinator::n_to_m_digits;
 use crate::{Integer, ParsedItem};
 
 // How many nanoseconds a one counts so many places after the point of a second.
@@ -19,27 +19,9 @@ const NANOSECONDS_OF_PLACE: [u32; 10] = [
     1,
 ];
 
-// Reads exactly `N` digits.
-#[inline]
-pub(super) fn exactly_n_digits<const N: u8>(input: &[u8]) -> Option<ParsedItem<'_, u32>>
-    requires { N ≤ 9 }
-    ensures { Finds (IsDigitRun N N) (λ v. v) input.now result }
-{
-    if N == 2 {
-        return match two_digits(input) {
-            Some(found) => Some(ParsedItem(found.0, u32::from(found.1))),
-            None => None,
-        };
-    }
-    if N == 3 {
-        return three_digits(input);
-    }
-    exact_run(input, N)
-}
-
 // Reads exactly `n` digits, one after another.
 #[inline]
-fn exact_run(input: &[u8], n: u8) -> Option<ParsedItem<'_, u32>>
+pub(super) fn exact_run(input: &[u8], n: u8) -> Option<ParsedItem<'_, u32>>
     requires { n ≤ 9 }
     ensures { Finds (IsDigitRun n n) (λ v. v) input.now result }
 {

@@ -1,7 +1,65 @@
 //! Digits that stand in one word.
-ghost use Rattle.std.specs.Prelude.{◌≡◌, ◌≤◌, MatchOption, take};
-ghost use Rattle.time_digits.specs.Digits.{AllDigits, digits_value};
-ghost use Rattle.time_digits.specs.CombinatorFast.{first_bytes};
+ghost use Rattle.std.specs.Prelude.{◌≡◌, ◌≤◌, ◌<◌, ◌-◌, ◌++◌, MatchOption, length, replicate, take};
+ghost use Rattle.time_digits.specs.Digits.{AllDigits, digits_value, Finds, IsDigitRun};
+ghost use Rattle.time_digits.specs.Words.{first_bytes, Leads};
+
+use crate::ParsedItem;
+use crate::combinator::any_digit;
+
+// Reads exactly `N` digits by one word.
+#[inline(always)]
+pub(super) fn digits<const N: u8>(input: &[u8]) -> Option<ParsedItem<'_, u32>>
+    requires least { 4 ≤ N }
+    requires most { N ≤ 8 }
+    ensures { Finds (IsDigitRun N N) (λ v. v) input.now result }
+{
+    let bytes = leading_bytes::<N>(input)?;
+    let value = join_bytes(&bytes, N)?;
+    Some(ParsedItem(&input[usize::from(N)..], value))
+}
+
+/// Reads exactly nine digits, and returns their decimal value.
+#[inline(always)]
+pub fn nine_digits(input: &[u8]) -> Option<ParsedItem<'_, u32>>
+    ensures { Finds (IsDigitRun 9 9) (λ v. v) input.now result }
+{
+    let eight = digits::<8>(input)?;
+    let ninth = any_digit(eight.0)?;
+    Some(ParsedItem(ninth.0, 10 * eight.1 + u32::from(ninth.1 - b'0')))
+}
+
+// The first bytes of the input, `N` of them at least. A byte that is absent is 0, which is no digit. `None`: four or eight
+// are wanted, and there are fewer.
+#[inline(always)]
+fn leading_bytes<const N: u8>(input: &[u8]) -> Option<[u8; 8]>
+    requires least { 4 ≤ N }
+    requires most { N ≤ 8 }
+    ensures { MatchOption result (length input.now < N) (λ bytes. Leads N input.now bytes) }
+{
+    if N == 4 {
+        return match input {
+            [a, b, c, d, ..] => Some([*a, *b, *c, *d, 0, 0, 0, 0]),
+            _ => None,
+        };
+    }
+    match input.first_chunk::<8>() {
+        Some(first) => Some(*first),
+        None if N == 8 => None,
+        None => Some(with_zeros(input)),
+    }
+}
+
+// The bytes, and a 0 for each that is absent. It is not inlined, since most inputs have eight bytes.
+#[cold]
+#[inline(never)]
+fn with_zeros(bytes: &[u8]) -> [u8; 8]
+    requires { length bytes.now ≤ 8 }
+    ensures { result ≡ bytes.now ++ replicate (8 - length bytes.now) 0 }
+{
+    let mut word = [0; 8];
+    word[..bytes.len()].copy_from_slice(bytes);
+    word
+}
 
 // Joins the first `n` bytes of the text in the word, of which the lowest byte is the first, where all are
 // digits.
@@ -34,7 +92,7 @@ fn join_word(word: u64, n: u8) -> Option<u32>
 
 // Joins the first `n` of eight bytes, where all are digits.
 #[inline(always)]
-pub(super) fn join_bytes(bytes: &[u8; 8], n: u8) -> Option<u32>
+fn join_bytes(bytes: &[u8; 8], n: u8) -> Option<u32>
     requires least { 4 ≤ n }
     requires most { n ≤ 8 }
     ensures { MatchOption result
@@ -68,6 +126,26 @@ mod tests {
         }
     }
 
+    // The first so many of the digits. The bytes after them are absent.
+    fn first_digits(count: u8) -> [u8; 8] {
+        let mut bytes = DIGITS;
+        for place in count..8 {
+            if let Some(it) = bytes.get_mut(usize::from(place)) {
+                *it = 0;
+            }
+        }
+        bytes
+    }
+
+    // Fewer digits than `n` are not joined.
+    fn is_refused_short(n: u8) -> bool {
+        let mut all_refused = true;
+        for count in 0..n {
+            all_refused = all_refused && joined(first_digits(count), n).is_none();
+        }
+        all_refused
+    }
+
     // No byte but a digit is joined in that place.
     fn is_refused_at(place: usize, n: u8) -> bool {
         let mut all_refused = true;
@@ -95,6 +173,7 @@ mod tests {
         for (n, number) in NUMBERS {
             assert_eq!(rt; joined(DIGITS, n), Some(number));
             assert!(rt; is_refused(n));
+            assert!(rt; is_refused_short(n));
         }
     }
 }

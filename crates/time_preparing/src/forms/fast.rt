@@ -20,7 +20,7 @@ use super::{
     OffsetNumbers, YEAR,
 };
 use std::num::NonZero;
-use time_components::combinator::{four_digits, one_or_two_digits, two_digits};
+use time_components::combinator::{exactly_n_digits, one_or_two_digits, two_digits};
 use time_components::component::fast;
 use time_components::{Padding, ParsedItem, SubsecondDigits, modifier};
 use time_values::Month;
@@ -79,7 +79,7 @@ pub(crate) fn year(
     if modifiers.sign_is_mandatory {
         return None;
     }
-    let year = four_digits(input)?;
+    let year = exactly_n_digits::<4>(input)?;
     Some(ParsedItem(year.0, year.1 as i32))
 }
 

@@ -11,8 +11,7 @@ ghost use Rattle.time_readers.specs.IsoTimes as spec;
 
 mod dates_and_times;
 
-use crate::combinator::fast::nine_digits;
-use crate::combinator::leading_digits;
+use crate::combinator::{leading_digits, nine_digits};
 use crate::iso8601::grammar::pieces::{byte, float, point, two_digits};
 use crate::iso8601::grammar::round_fraction;
 use crate::iso8601::{DateNumbers, ExtendedKind, Part, TimeNumbers};

@@ -10,9 +10,9 @@ ghost use Rattle.time_readers.specs.declared.rfc2822.Place.TheVariants as place;
 
 pub(super) mod blanks;
 
-use crate::combinator::{ascii_char, four_digits, one_or_two_digits, sign, two_digits};
+use crate::combinator::{ascii_char, one_or_two_digits, sign, two_digits};
 use crate::component::{parse_month_short, parse_weekday_short};
-use crate::ranges::{is_in_range, two_digits_in};
+use crate::ranges::{four_digits, is_in_range, two_digits_in};
 use crate::rfc2822::{Numbers, Place, cfws, fws, opt_cfws, opt_cfws_colon_opt_cfws, zone_literal};
 use crate::{ParsedItem, modifier};
 use time_values::sign::signed;

@@ -4,7 +4,7 @@ use Rattle.std.proofs.lemmas.Bool.{cases_lt, eqb-true, eq-eqb}
 use lib.Dec.{eqb}
 use mathlib.Core.Bool.{Bool, true, false, ◌&&◌}
 use Rattle.time_digits.specs.Digits.{AllDigits, digits_value}
-use Rattle.time_digits.specs.CombinatorFast.{first_bytes}
+use Rattle.time_digits.specs.Words.{first_bytes}
 use Rattle.time_digits.proofs.WordBytes.{low_first, each, Aligned, Within, tested, tests, bytes_of, AllBelow, three_joins, all_joined}
 use Rattle.time_digits.proofs.combinator.words.join_word.Goals as goal
 

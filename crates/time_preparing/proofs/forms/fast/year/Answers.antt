@@ -6,6 +6,12 @@ use Rattle.time_components.specs.Spelling.{signed}
 use Rattle.time_digits.proofs.Runs.{full_run, IsDigitRun-below}
 use Rattle.time_preparing.proofs.forms.fast.year.Goals as goal
 
+pub overflow_cast-result : goal.overflow_cast-result
+overflow_cast-result c =
+    let year = c.in_ok-year.ensures in
+    let below = IsDigitRun-below 4 4 year.0 c.in_ok-year.year.0.now c.in_ok-year.year.1 year.2 in
+    omega (arith, ints)
+
 pub returns-clause-cut : goal.returns-clause-cut
 returns-clause-cut c =
     let year = c.in_ok-year.ensures in

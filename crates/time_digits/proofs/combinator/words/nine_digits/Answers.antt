@@ -2,7 +2,8 @@ use Rattle.std.proofs.Common.{ℕ, ◌+◌, ◌*◌, arith, sym, subst}
 use Rattle.time_digits.specs.Digits.{Cut, IsDigitRun}
 use Rattle.time_digits.proofs.Fractions.{nine_cut}
 use Rattle.time_digits.proofs.Runs.{IsDigitRun-below}
-use Rattle.time_digits.proofs.combinator.fast.nine_digits.Goals as goal
+use Rattle.time_digits.proofs.Words.{eight_none, ninth_none}
+use Rattle.time_digits.proofs.combinator.words.nine_digits.Goals as goal
 
 pub overflow_mul-result : goal.overflow_mul-result
 overflow_mul-result c =
@@ -23,3 +24,11 @@ returns c =
     let ninth = c.in_ok-ninth in
     subst (λ (d : ℕ). Cut (IsDigitRun 9 9) s ninth.ninth.0.now (10 * eight.eight.1 + d)) (sym c.from.ensures)
     (nine_cut s eight.eight.0.now ninth.ninth.0.now eight.eight.1 ninth.ninth.1 eight.ensures ninth.ensures)
+
+pub returns-in_err-eight : goal.returns-in_err-eight
+returns-in_err-eight c = rw c.from_residual.ensures (eight_none c.args.input.now c.in_err-eight.ensures)
+
+pub returns-in_err-ninth : goal.returns-in_err-ninth
+returns-in_err-ninth c =
+    rw c.from_residual-in_err-ninth.ensures
+    (ninth_none c.args.input.now c.in_ok-eight.eight.0.now c.in_ok-eight.eight.1 c.in_ok-eight.ensures c.in_err-ninth.ensures)

@@ -1,59 +1,21 @@
 -- How the answer and the count of trees in turn follow from those of their beginnings. `Y` is the greatest year.
 use Rattle.std.specs.Borrow.{Bor}
-use Rattle.std.proofs.Common.{◌≡◌, ℕ, zero, suc, ◌+◌, ◌-◌, ◌<◌, ◌≤◌, List, [], ◌∷◌, length, drop, get_or, map, refl, ap, sym, ◌∙◌, subst, inr, arith, inl, Result, Ok, Err, take, length-take, length-drop}
-use Rattle.std.proofs.Math.Seq.{drop-nil}
+use Rattle.std.proofs.Common.{◌≡◌, ℕ, zero, suc, ◌+◌, ◌-◌, ◌<◌, ◌≤◌, List, [], ◌∷◌, length, drop, get_or, map, refl, ap, sym, ◌∙◌, subst, inr, arith}
+use Rattle.std.proofs.Common.{inl, Result, Ok, Err, take, length-take, length-drop}
 use Rattle.std.proofs.lemmas.List.{drop_all, take_all}
 use Rattle.time_values.specs.Refusal.{Refusal}
 use Rattle.time_values.specs.declared.error.ParseFromDescription.{ParseFromDescription}
-use Rattle.time_components.specs.Tree.{Tree, literal, component, trees, Trees, sequence, none as tree_none, more, group_tree, further, steps_after, steps_trees, tree_at, trees_in}
+use Rattle.time_components.specs.Tree.{Tree, literal, component, trees, Trees, sequence, none as tree_none, more, group_tree, further, steps_after}
+use Rattle.time_components.specs.Tree.{steps_trees, tree_at, trees_in}
 use Rattle.time_components.specs.declared.inspect.Group.{Group}
 use Rattle.time_components.specs.declared.inspect.Step.{Step}
 use Rattle.time_components.specs.declared.inspect.Step.TheVariants as step
-use Rattle.time_record.specs.Reading.{Begins, BeginsAll, raised, Reads, ReadsAll, RefusesAll, Answers, Counts, CountsAll, NoReading, IsFault, Refuses}
-use Rattle.time_record.specs.WalkSteps.{IsLeaf, ReadsLeaves, Goes}
+use Rattle.time_record.specs.Reading.{places, places_of_all, Begins, BeginsAll, raised, Reads, ReadsAll, RefusesAll, Answers, Counts, CountsAll}
+use Rattle.time_record.specs.Reading.{NoReading, IsFault, Refuses}
+use Rattle.time_record.specs.WalkSteps.{IsLeaf, leaf_refusal, Goes, RefusesLeaf, Unread}
 use Rattle.time_record.specs.Record.{Record}
-use Rattle.time_record.proofs.Counting.{Counted, BeginsAll-within_places}
-use Rattle.time_record.proofs.Unique.{trees_from, trees_from-item, ReadsAll-more, RefusesAll-more, Continues, RefusesAll-here}
-
--- ---- Leaves in front of a list, read one after another. `Y` is the greatest year.
-
--- The leaves from an index on, after those before it, are leaves from the first on.
-pub record GoesOn (Y : ℕ) {X : Type 0} (f : X → Tree) (xs : List X) (first i : ℕ)
-    (b0 : List ℕ) (r0 : Record) (b : List ℕ) (r : Record) : Type 0 where
-  pub least : first ≤ i
-  pub within : i ≤ length xs
-  pub leaves : (n : ℕ) (rest : List ℕ) (q : Record) → ReadsLeaves Y (trees_from f i xs) n b r rest q →
-      ReadsLeaves Y (trees_from f first xs) ((i - first) + n) b0 r0 rest q
-
-module _ {Y : ℕ} {X : Type 0} {f : X → Tree} {xs : List X} {first i : ℕ}
-    {b0 : List ℕ} {r0 : Record} {b : List ℕ} {r : Record} (k : GoesOn Y f xs first i b0 r0 b r) where
-  -- one more
-  pub GoesOn-more : {x : X} → i < length xs → x ≡ get_or xs i x → IsLeaf (f x) → {mid : List ℕ} {q : Record} → Reads Y (f x) b r mid q →
-      GoesOn Y f xs first (i + 1) b0 r0 mid q
-  unfolding ReadsLeaves
-  GoesOn-more {x} within is leaf {mid} {q} s = let least = k.least in record {
-    least = omega arith;
-    within = omega arith;
-    leaves = λ n rest p h.
-        let here = sym (trees_from-item f xs i x within is) in
-        let with_it = subst (λ ts. ReadsLeaves Y ts (suc n) b r rest p) here (leaf, (mid, q, s, h)) in
-        subst (λ m. ReadsLeaves Y (trees_from f first xs) m b0 r0 rest p) (omega arith) (k.leaves (suc n) rest p with_it);
-  }
-
-  -- no more
-  pub GoesOn-end : ReadsLeaves Y (trees_from f first xs) (i - first) b0 r0 b r
-  unfolding ReadsLeaves
-  GoesOn-end = subst (λ m. ReadsLeaves Y (trees_from f first xs) m b0 r0 b r) (omega arith) (k.leaves 0 b r (refl, refl))
-
-drop_drop : {X : Type 0} (n i : ℕ) (xs : List X) → drop (i + n) xs ≡ drop n (drop i xs)
-drop_drop n zero xs = let none : zero + n ≡ n = omega arith in ap (λ m. drop m xs) none
-drop_drop n (suc i) [] = drop-nil (suc i + n) ∙ sym (drop-nil n)
-drop_drop n (suc i) (x ∷ xs) =
-    let one_less : suc i + n ≡ suc (i + n) = omega arith in ap (λ m. drop m (x ∷ xs)) one_less ∙ drop_drop n i xs
-
-drop_past : {X : Type 0} (xs : List X) (i j : ℕ) → i ≤ j → drop j xs ≡ drop (j - i) (drop i xs)
-drop_past xs i j least =
-    let same : i + (j - i) ≡ j = omega arith in subst (λ n. drop n xs ≡ drop (j - i) (drop i xs)) same (drop_drop (j - i) i xs)
+use Rattle.time_record.proofs.Counting.{BeginsAll-within_places, Counts-leaf, places-item}
+use Rattle.time_record.proofs.Unique.{trees_from, trees_from-item, ReadsAll-more, RefusesAll-more, RefusesAll-here}
 
 pub Begins-leaf : (Y : ℕ) (t : Tree) (b : List ℕ) (r : Record) → IsLeaf t → Begins Y t b r 1
 unfolding Begins
@@ -61,59 +23,47 @@ Begins-leaf Y (literal text) b r leaf = refl
 Begins-leaf Y (component w c) b r leaf = refl
 Begins-leaf Y t b r leaf = absurd leaf
 
--- What the items after the leaves do, all do.
-module _ (Y : ℕ) {X : Type 0} (f : X → Tree) (mid : List ℕ) (q : Record) where
-  reads_after : (n : ℕ) (ys : List X) (b : List ℕ) (r : Record) → ReadsLeaves Y (trees (map f ys)) n b r mid q →
-      (rest : List ℕ) (p : Record) → ReadsAll Y (trees (map f (drop n ys))) mid q rest p → ReadsAll Y (trees (map f ys)) b r rest p
-  unfolding ReadsLeaves
-  reads_after zero ys b r h rest p s = rw (sym h.0, sym h.1) s
-  reads_after (suc n) [] b r h rest p s = absurd h
-  reads_after (suc n) (y ∷ ys) b r (leaf, (x, o, reads, hs)) rest p s =
-      ReadsAll-more Y (f y) (trees (map f ys)) b r x o rest p reads (reads_after n ys x o hs rest p s)
+-- a leaf that has no reading
+leaf_refuses : (Y : ℕ) (t : Tree) (b : List ℕ) (r : Record) (e : Refusal) → IsLeaf t → NoReading Y t b r → e ≡ leaf_refusal t → Refuses Y t b r e
+unfolding IsFault
+leaf_refuses Y (literal text) b r e leaf unread is = record { unread = unread; fault = is }
+leaf_refuses Y (component w c) b r e leaf unread is = record { unread = unread; fault = is }
+leaf_refuses Y t b r e leaf unread is = absurd leaf
 
-  refuses_after : (n : ℕ) (ys : List X) (b : List ℕ) (r : Record) → ReadsLeaves Y (trees (map f ys)) n b r mid q →
-      (e : Refusal) → RefusesAll Y (trees (map f (drop n ys))) mid q e → RefusesAll Y (trees (map f ys)) b r e
-  unfolding ReadsLeaves
-  refuses_after zero ys b r h e s = rw (sym h.0, sym h.1) s
-  refuses_after (suc n) [] b r h e s = absurd h
-  refuses_after (suc n) (y ∷ ys) b r (leaf, (x, o, reads, hs)) e s =
-      RefusesAll-more Y (f y) (trees (map f ys)) b r x o e reads (refuses_after n ys x o hs e s)
+-- the first of the trees is a leaf, and refused
+pub leaf_refused : {Y : ℕ} {ts : Trees} {b : List ℕ} {r q : Record} {e : Refusal} (t : Tree) (later : Trees) → ts ≡ more t later →
+    IsLeaf t → Unread Y t b r q → e ≡ leaf_refusal t → RefusesLeaf Y ts b q e
+leaf_refused {Y} {ts} {b} {r} {q} {e} t later is leaf h fault =
+    rw h.same (record { leaf = t; later = later; is = is; is_leaf = leaf; refuses = leaf_refuses Y t b r e leaf h.unread fault })
 
-  begins_after : (n : ℕ) (ys : List X) (b : List ℕ) (r : Record) → ReadsLeaves Y (trees (map f ys)) n b r mid q →
-      (m : ℕ) → BeginsAll Y (trees (map f (drop n ys))) mid q m → BeginsAll Y (trees (map f ys)) b r (n + m)
-  unfolding ReadsLeaves BeginsAll
-  begins_after zero ys b r h m s = rw (sym h.0, sym h.1) (subst (BeginsAll Y (trees (map f ys)) mid q) (omega arith) s)
-  begins_after (suc n) [] b r h m s = absurd h
-  begins_after (suc n) (y ∷ ys) b r (leaf, (x, o, reads, hs)) m s =
-      (1, Begins-leaf Y (f y) b r leaf, inr (x, o, reads, n + m, begins_after n ys x o hs m s, omega arith))
+-- The item of an index is this tree.
+pub record HasItem {X : Type 0} (f : X → Tree) (xs : List X) (i : ℕ) (t : Tree) : Type 0 where
+  pub item : X
+  pub within : i < length xs
+  pub is : item ≡ get_or xs i item
+  pub tree : f item ≡ t
 
--- Past the leaves from an index on, up to another index.
-module _ (Y : ℕ) {X : Type 0} {f : X → Tree} {xs : List X} {i : ℕ} {b0 : List ℕ} {r0 : Record} {b : List ℕ} {r : Record}
-    (j : ℕ) (least : i ≤ j) {mid : List ℕ} {q : Record} (h : ReadsLeaves Y (trees_from f i xs) (j - i) b r mid q) where
-  pub Continues-leaves : Continues Y f xs i b0 r0 b r → Continues Y f xs j b0 r0 mid q
-  Continues-leaves k = record {
-    reads = λ rest p s.
-        let here = subst (λ ys. ReadsAll Y (trees (map f ys)) mid q rest p) (drop_past xs i j least) s in
-        k.reads rest p (reads_after Y f mid q (j - i) (drop i xs) b r h rest p here);
-    refuses = λ e s.
-        let here = subst (λ ys. RefusesAll Y (trees (map f ys)) mid q e) (drop_past xs i j least) s in
-        k.refuses e (refuses_after Y f mid q (j - i) (drop i xs) b r h e here);
-  }
+-- the item of an index
+pub item_at : {X : Type 0} {f : X → Tree} {xs : List X} {i : ℕ} {t : Tree} {x : X} → i < length xs → x ≡ get_or xs i x → f x ≡ t →
+    HasItem f xs i t
+item_at {x = x} within is tree = record { item = x; within = within; is = is; tree = tree }
 
-  pub Counted-leaves : (before now next : ℕ) → next ≡ raised now (j - i) → Counted (BeginsAll Y) f xs i b0 r0 b r before now →
-      Counted (BeginsAll Y) f xs j b0 r0 mid q before next
-  Counted-leaves before now next is c = let s = c.stands in record {
-    so_far = c.so_far + (j - i);
-    begins = λ m hs.
-        let here = subst (λ ys. BeginsAll Y (trees (map f ys)) mid q m) (drop_past xs i j least) hs in
-        let all = c.begins ((j - i) + m) (begins_after Y f mid q (j - i) (drop i xs) b r h m here) in
-        subst (BeginsAll Y (trees (map f xs)) b0 r0) (omega arith) all;
-    stands = omega arith;
-  }
+module _ {X : Type 0} {f : X → Tree} {xs : List X} {i : ℕ} {t : Tree} (h : HasItem f xs i t) where
+  -- the item is the first of those from its index on
+  pub HasItem-first : trees_from f i xs ≡ more t (trees_from f (i + 1) xs)
+  HasItem-first = trees_from-item f xs i h.item h.within h.is ∙ ap (λ u. more u (trees_from f (i + 1) xs)) h.tree
+
+  pub HasItem-places : places t ≤ places_of_all (trees (map f xs))
+  HasItem-places = subst (λ u. places u ≤ places_of_all (trees (map f xs))) h.tree (places-item f xs i h.item h.within h.is)
 
 -- nothing was read yet
 pub Goes-start : (Y : ℕ) (all : Trees) (b : List ℕ) (r : Record) → Goes Y all b r 0 all b r
 Goes-start Y all b r = record { reads = λ rest q h. h; refuses = λ e h. h; begins = λ m h. subst (BeginsAll Y all b r) (omega arith) h }
+
+-- the number that is begun, written otherwise
+pub Goes-counted : {Y : ℕ} {all : Trees} {b0 : List ℕ} {r0 : Record} {n k : ℕ} {left : Trees} {b : List ℕ} {r : Record} → n ≡ k →
+    Goes Y all b0 r0 n left b r → Goes Y all b0 r0 k left b r
+Goes-counted {Y} {all} {b0} {r0} {n} {k} {left} {b} {r} is g = subst (λ m. Goes Y all b0 r0 m left b r) is g
 
 -- further and further
 pub Goes-further : {Y : ℕ} {all : Trees} {b0 : List ℕ} {r0 : Record} {n : ℕ} {left : Trees} {b : List ℕ} {r : Record}
@@ -209,6 +159,11 @@ module _ {Y : ℕ} {all : Trees} {b0 : List ℕ} {r0 : Record} {left : Trees} {b
         within = BeginsAll-within_places Y all b0 r0 (w.so_far + 0) begins;
         rises = omega arith;
       }
+
+  -- a leaf is refused
+  pub Walked-counts_leaf : {e : Refusal} (leaf : RefusesLeaf Y left b r e) (next : ℕ) → next ≡ raised now 1 → CountsAll Y all b0 r0 old next
+  Walked-counts_leaf leaf next is =
+      Walked-counts_refused leaf.leaf leaf.later leaf.is next (Counts-leaf Y b r now next is leaf.leaf leaf.is_leaf) leaf.refuses.unread
 
 -- a list of one tree
 module _ (Y : ℕ) (all : Trees) (t : Tree) (is : all ≡ more t tree_none) (b : List ℕ) (r : Record) where

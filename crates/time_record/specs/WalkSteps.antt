@@ -1,12 +1,13 @@
 -- No public contract rests on this file.
 --
 -- What a walk over trees in turn does. `Y` is the greatest year.
-use Rattle.std.specs.Prelude.{◌≡◌, ℕ, ◌+◌, ◌<◌, List, ◌∷◌, length, drop, Option, Some, None, zero, suc}
+use Rattle.std.specs.Prelude.{◌≡◌, ℕ, ◌+◌, ◌<◌, List, ◌∷◌, length, drop, Option, Some, None}
 use Rattle.std.specs.Borrow.{Bor}
-use Rattle.time_values.specs.Refusal.{Refusal}
-use Rattle.time_components.specs.Tree.{further as further_bytes, Trees, Tree, literal, component, none, more}
+use Rattle.time_values.specs.Refusal.{Refusal, literal as of_literal}
+use Rattle.time_components.specs.Tree.{further as further_bytes, Trees, Tree, literal, component, more}
 use Rattle.time_components.specs.declared.inspect.Step.{Step}
-use Rattle.time_record.specs.Reading.{places_of_all, BeginsAll, BeginsFirst, Rises, ReadsAll, RefusesAll, NoReading, Reads}
+use Rattle.time_record.specs.Reading.{places_of_all, BeginsAll, BeginsFirst, Rises, ReadsAll, Refuses, RefusesAll, NoReading, Reads}
+use Rattle.time_record.specs.Components.{component_fault}
 use Rattle.time_record.specs.Record.{Record}
 
 -- What the trees that are left answer, all of them answer: those before them were read, and so many items begun.
@@ -45,15 +46,26 @@ abbrev pub MayRead : ℕ → Tree → List ℕ → Record → Option (Bor (List 
 MayRead Y t bytes r (Some rest) r' = Reads Y t bytes r rest.now r'
 MayRead Y t bytes r None r' = r' ≡ r
 
+-- the reading or the refusal of a tree; or it isn't tried, and the record is unchanged
+abbrev pub MayAttempt : ℕ → Tree → List ℕ → Record → Option (Option (Bor (List ℕ))) → Record → Type 0
+MayAttempt Y t bytes r (Some read) r' = Attempts Y t bytes r read r'
+MayAttempt Y t bytes r None r' = r' ≡ r
+
 -- a literal or a component, which has nothing inside it
 abbrev pub IsLeaf : Tree → Type 0
 IsLeaf (literal t) = Unit {0}
 IsLeaf (component whole c) = Unit {0}
 IsLeaf t = ⊥
 
--- So many leaves in front are read one after another.
-unfoldable pub ReadsLeaves : ℕ → Trees → ℕ → List ℕ → Record → List ℕ → Record → Type 0
-ReadsLeaves Y ts zero bytes r rest new = (rest ≡ bytes) × (new ≡ r)
-ReadsLeaves Y none (suc n) bytes r rest new = ⊥
-ReadsLeaves Y (more t ts) (suc n) bytes r rest new =
-    IsLeaf t × ((mid : List ℕ) × (q : Record) × Reads Y t bytes r mid q × ReadsLeaves Y ts n mid q rest new)
+-- the fault of a literal or a component that is refused
+abbrev pub leaf_refusal : Tree → Refusal
+leaf_refusal (component whole c) = component_fault c
+leaf_refusal t = of_literal
+
+-- The first of the trees is a leaf, and refused.
+pub record RefusesLeaf (Y : ℕ) (ts : Trees) (bytes : List ℕ) (r : Record) (e : Refusal) : Type 0 where
+  pub leaf : Tree
+  pub later : Trees
+  pub is : ts ≡ more leaf later
+  pub is_leaf : IsLeaf leaf
+  pub refuses : Refuses Y leaf bytes r e

@@ -4,7 +4,7 @@ ghost use Rattle.time_record.specs.Record.{empty};
 
 mod builders;
 mod cells;
-mod component;
+pub(crate) mod component;
 pub(crate) mod fast;
 mod getters;
 mod parse;

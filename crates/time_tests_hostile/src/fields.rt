@@ -1,4 +1,4 @@
-//! The options of a record by name, and their values as numbers.
+//! The fields of a record by name, and their values as numbers.
 pub use puts::{set, with};
 use std::convert::TryFrom;
 use std::num::NonZero;
@@ -6,7 +6,7 @@ use time_readers::{Component, Padding, modifier};
 use time_record::Parsed;
 use time_values::OffsetDateTime;
 
-/// The options of a record.
+/// The fields of a record.
 #[derive(Clone, Copy)]
 pub enum Field {
     Year,
@@ -36,7 +36,7 @@ pub enum Field {
     UnixTimestampNanos,
 }
 
-/// Each option, with the least and the greatest number that it takes.
+/// Each field, with the least and the greatest number of its range.
 pub const RANGES: [(Field, i128, i128); 25] = [
     (Field::Year, -999_999, 999_999),
     (Field::YearCentury, -9_999, 9_999),
@@ -69,7 +69,7 @@ pub const RANGES: [(Field, i128, i128); 25] = [
     ),
 ];
 
-// The number of an option that has names.
+// The number of a field whose values are named.
 fn get_named(parsed: &Parsed, field: Field) -> Option<u8> {
     match field {
         Field::Month => Some(parsed.month()?.number()),
@@ -79,7 +79,7 @@ fn get_named(parsed: &Parsed, field: Field) -> Option<u8> {
     }
 }
 
-// What an option holds that is never 0.
+// The value of a field that is never 0.
 fn get_positive(parsed: &Parsed, field: Field) -> Option<NonZero<u8>> {
     match field {
         Field::IsoWeekNumber => parsed.iso_week_number(),
@@ -89,7 +89,7 @@ fn get_positive(parsed: &Parsed, field: Field) -> Option<NonZero<u8>> {
     }
 }
 
-// What an option of an offset holds with its sign.
+// The value of an offset's field, with its sign.
 fn get_signed(parsed: &Parsed, field: Field) -> Option<i8> {
     match field {
         Field::OffsetHour => parsed.offset_hour(),
@@ -99,7 +99,7 @@ fn get_signed(parsed: &Parsed, field: Field) -> Option<i8> {
     }
 }
 
-// What an option of two digits holds.
+// The value of a field of two digits.
 fn get_small(parsed: &Parsed, field: Field) -> Option<u8> {
     match field {
         Field::YearLastTwo => parsed.year_last_two(),
@@ -115,7 +115,7 @@ fn get_small(parsed: &Parsed, field: Field) -> Option<u8> {
     }
 }
 
-// What an option of years holds, of the day of a year, or of nanoseconds.
+// The value of a field of years, of the day of a year, or of nanoseconds.
 fn get_wide(parsed: &Parsed, field: Field) -> Option<i128> {
     Some(match field {
         Field::Year => parsed.year()? as i128,
@@ -129,7 +129,7 @@ fn get_wide(parsed: &Parsed, field: Field) -> Option<i128> {
     })
 }
 
-/// What the option holds.
+/// The value of the field.
 pub fn get(parsed: &Parsed, field: Field) -> Option<i128> {
     Some(match field {
         Field::OffsetHour | Field::OffsetMinuteSigned | Field::OffsetSecondSigned => get_signed(
@@ -152,7 +152,7 @@ pub fn get(parsed: &Parsed, field: Field) -> Option<i128> {
     })
 }
 
-/// A record of these numbers, where each is in its range.
+/// A record of these numbers, or `None` where one is out of range.
 pub fn record_of(numbers: &[(Field, i128)]) -> Option<Parsed> {
     let mut parsed = Parsed::new();
     for (field, n) in numbers {
@@ -161,7 +161,8 @@ pub fn record_of(numbers: &[(Field, i128)]) -> Option<Parsed> {
     Some(parsed)
 }
 
-/// A record of the greatest number of each option but the timestamp, with each flag but that leap seconds are allowed.
+/// A record with the greatest number of each field but the timestamp, and with each flag but the one that allows leap
+/// seconds.
 pub fn full_record() -> Option<Parsed> {
     let mut parsed = Parsed::new();
     let hour = Component::OffsetHour(modifier::OffsetHour {
@@ -180,14 +181,14 @@ pub fn full_record() -> Option<Parsed> {
     Some(parsed)
 }
 
-// Whether numbers of the offset are negated, which a minute shows, since no getter returns the flag.
+// Whether numbers of the offset are negated. A minute shows it, since no getter returns the flag.
 fn negates_offset(parsed: &Parsed) -> bool {
     let mut copy = *parsed;
     let is_set = copy.set_offset_minute_signed(1).is_some();
     is_set && copy.offset_minute_signed() == Some(-1)
 }
 
-// The leap second at the end of 2016, with what else the record has.
+// The leap second at the end of 2016, with the other fields of the record.
 fn leap_second(parsed: &Parsed) -> Option<Parsed> {
     let mut leap = *parsed;
     leap.set_year(2016)?;
@@ -201,12 +202,13 @@ fn leap_second(parsed: &Parsed) -> Option<Parsed> {
     Some(leap)
 }
 
-// Whether a second of 60 may be a leap second, which no getter returns, so one is converted. A timestamp counts before it.
+// Whether a second of 60 is allowed as a leap second. A conversion shows it, since no getter returns the flag. A
+// timestamp would take precedence over it.
 fn takes_leap_second(parsed: &Parsed) -> bool {
     leap_second(parsed).is_some_and(|leap| OffsetDateTime::try_from(leap).is_ok())
 }
 
-/// Whether two records are equal: each option, and each of the four flags.
+/// Whether two records have equal fields and equal flags.
 pub fn same_record(a: &Parsed, b: &Parsed) -> bool {
     for (field, _, _) in RANGES {
         if get(a, field) != get(b, field) {
@@ -219,7 +221,7 @@ pub fn same_record(a: &Parsed, b: &Parsed) -> bool {
         && takes_leap_second(a) == takes_leap_second(b)
 }
 
-// The setters of a record and its builders by a field's name.
+// The setters and builders of a record by a field's name.
 mod puts {
     use super::Field;
     use std::num::NonZero;
@@ -252,7 +254,7 @@ mod puts {
         }
     }
 
-    // Sets an option that has names, by its number.
+    // Sets a field whose values are named, by its number.
     fn set_named(parsed: &mut Parsed, field: Field, n: u8) -> Option<()> {
         match field {
             Field::Month => parsed.set_month(month_of(n)?),
@@ -262,7 +264,7 @@ mod puts {
         }
     }
 
-    // Sets an option that is never 0.
+    // Sets a field that is never 0.
     fn set_positive(parsed: &mut Parsed, field: Field, n: NonZero<u8>) -> Option<()> {
         match field {
             Field::IsoWeekNumber => parsed.set_iso_week_number(n),
@@ -272,7 +274,7 @@ mod puts {
         }
     }
 
-    // Sets an option of an offset with its sign.
+    // Sets an offset's field, with its sign.
     fn set_signed(parsed: &mut Parsed, field: Field, n: i8) -> Option<()> {
         match field {
             Field::OffsetHour => parsed.set_offset_hour(n),
@@ -282,7 +284,7 @@ mod puts {
         }
     }
 
-    // Sets an option of two digits.
+    // Sets a field of two digits.
     fn set_small(parsed: &mut Parsed, field: Field, n: u8) -> Option<()> {
         match field {
             Field::YearLastTwo => parsed.set_year_last_two(n),
@@ -298,7 +300,7 @@ mod puts {
         }
     }
 
-    // Sets an option of years, of the day of a year, or of nanoseconds.
+    // Sets a field of years, of the day of a year, or of nanoseconds.
     fn set_wide(parsed: &mut Parsed, field: Field, n: i128) -> Option<()> {
         match field {
             Field::Year => parsed.set_year(i32::try_from(n).ok()?),
@@ -312,7 +314,7 @@ mod puts {
         }
     }
 
-    /// Sets that option to the number, or `None` where its type has no such value.
+    /// Sets the field to the number. `None`: its type has no such value.
     pub fn set(parsed: &mut Parsed, field: Field, n: i128) -> Option<()> {
         match field {
             Field::OffsetHour | Field::OffsetMinuteSigned | Field::OffsetSecondSigned => {
@@ -339,7 +341,7 @@ mod puts {
         }
     }
 
-    // Puts an option that has names, by its number.
+    // Builds a record with a field whose values are named, by its number.
     fn with_named(parsed: Parsed, field: Field, n: u8) -> Option<Parsed> {
         match field {
             Field::Month => parsed.with_month(month_of(n)?),
@@ -349,7 +351,7 @@ mod puts {
         }
     }
 
-    // Puts an option that is never 0.
+    // Builds a record with a field that is never 0.
     fn with_positive(parsed: Parsed, field: Field, n: NonZero<u8>) -> Option<Parsed> {
         match field {
             Field::IsoWeekNumber => parsed.with_iso_week_number(n),
@@ -359,7 +361,7 @@ mod puts {
         }
     }
 
-    // Puts an option of an offset with its sign.
+    // Builds a record with an offset's field, with its sign.
     fn with_signed(parsed: Parsed, field: Field, n: i8) -> Option<Parsed> {
         match field {
             Field::OffsetHour => parsed.with_offset_hour(n),
@@ -369,7 +371,7 @@ mod puts {
         }
     }
 
-    // Puts an option of two digits.
+    // Builds a record with a field of two digits.
     fn with_small(parsed: Parsed, field: Field, n: u8) -> Option<Parsed> {
         match field {
             Field::YearLastTwo => parsed.with_year_last_two(n),
@@ -385,7 +387,7 @@ mod puts {
         }
     }
 
-    // Puts an option of years, of the day of a year, or of nanoseconds.
+    // Builds a record with a field of years, of the day of a year, or of nanoseconds.
     fn with_wide(parsed: Parsed, field: Field, n: i128) -> Option<Parsed> {
         match field {
             Field::Year => parsed.with_year(i32::try_from(n).ok()?),
@@ -399,7 +401,7 @@ mod puts {
         }
     }
 
-    /// The same by the builder.
+    /// Builds a record with the field set to the number. `None`: its type has no such value.
     pub fn with(parsed: Parsed, field: Field, n: i128) -> Option<Parsed> {
         match field {
             Field::OffsetHour | Field::OffsetMinuteSigned | Field::OffsetSecondSigned => {

@@ -1,4 +1,4 @@
-//! Values as plain numbers, which the tests share, and the examples of the README.
+//! Shared values as plain numbers, and the examples of the README.
 mod callers;
 mod conversions;
 mod descriptions;
@@ -45,7 +45,7 @@ mod parts {
     }
 }
 
-// The examples of `README.md`, as they stand there.
+// The examples of `README.md`, quoted as they are.
 mod readme {
     mod clock {
         use time_parsing::Parsable;

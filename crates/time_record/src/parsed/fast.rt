@@ -1,52 +1,53 @@
 //! The components and literals that most lists are made of, read with no call.
 //!
-//! Each reader answers the rest after what the item's plain reader reads, and puts what that one puts; or it answers
-//! `None`: not this form, and the record is as it was. Then the item's walk decides.
+//! Each reader reads what the item's plain reader reads, and puts what that one puts; or it returns `None`: it is another
+//! item, and nothing is read.
 ghost use Rattle.std.specs.Prelude.{false, true};
 ghost use Rattle.time_values.specs.Calendar.{greatest_year};
 ghost use Rattle.time_components.specs.Tree as tree;
 ghost use Rattle.time_record.specs.Record.{Record};
-ghost use Rattle.time_record.specs.WalkSteps.{MayRead};
+ghost use Rattle.time_record.specs.WalkSteps.{MayAttempt};
 
 use crate::Parsed;
 use time_components::Component;
 use time_components::component::fast;
 
-/// Reads one of the commonest components, and puts its value. `None`: not this form, and the record is as it was.
+/// Reads one of the commonest components, and puts its value. `Some(None)` is a refusal. `None`: it isn't one of them,
+/// and nothing is read.
 #[inline(always)]
 pub(crate) fn component<'a>(
     parsed: &mut Parsed,
     input: &'a [u8],
     component: &Component,
-) -> Option<&'a [u8]>
-    ensures { MayRead greatest_year (tree.component false component.now) input.now parsed.old result parsed.new }
+) -> Option<Option<&'a [u8]>>
+    ensures { MayAttempt greatest_year (tree.component false component.now) input.now parsed.old result parsed.new }
 {
     match *component {
         Component::CalendarYearFullStandardRange(modifiers) => {
             let year = fast::year::<4>(input, modifiers.padding, modifiers.sign_is_mandatory);
-            parsed.put_found(input, modifiers, year)
+            Some(parsed.read_found(input, modifiers, year))
         }
-        Component::MonthNumerical(modifiers) => parsed.read(input, modifiers),
-        Component::Day(modifiers) => parsed.read(input, modifiers),
+        Component::MonthNumerical(modifiers) => Some(parsed.read(input, modifiers)),
+        Component::Day(modifiers) => Some(parsed.read(input, modifiers)),
         Component::Ordinal(modifiers) => {
-            parsed.put_found(input, modifiers, fast::ordinal(input, modifiers.padding))
+            Some(parsed.read_found(input, modifiers, fast::ordinal(input, modifiers.padding)))
         }
-        Component::Hour12(modifiers) => parsed.read(input, modifiers),
-        Component::Hour24(modifiers) => parsed.read(input, modifiers),
-        Component::Minute(modifiers) => parsed.read(input, modifiers),
-        Component::Period(modifiers) => parsed.read(input, modifiers),
-        Component::Second(modifiers) => parsed.read(input, modifiers),
+        Component::Hour12(modifiers) => Some(parsed.read(input, modifiers)),
+        Component::Hour24(modifiers) => Some(parsed.read(input, modifiers)),
+        Component::Minute(modifiers) => Some(parsed.read(input, modifiers)),
+        Component::Period(modifiers) => Some(parsed.read(input, modifiers)),
+        Component::Second(modifiers) => Some(parsed.read(input, modifiers)),
         Component::Subsecond(modifiers) => {
-            parsed.put_found(input, modifiers, fast::subsecond(input, modifiers.digits))
+            Some(parsed.read_found(input, modifiers, fast::subsecond(input, modifiers.digits)))
         }
         Component::OffsetHour(modifiers) => {
             let hour = fast::offset_hour(input, modifiers.padding, modifiers.sign_is_mandatory);
-            parsed.put_found(input, modifiers, hour)
+            Some(parsed.read_found(input, modifiers, hour))
         }
-        Component::OffsetMinute(modifiers) => parsed.read(input, modifiers),
+        Component::OffsetMinute(modifiers) => Some(parsed.read(input, modifiers)),
         Component::CalendarYearFullExtendedRange(modifiers) => {
             let year = fast::year::<6>(input, modifiers.padding, modifiers.sign_is_mandatory);
-            parsed.put_found(input, modifiers, year)
+            Some(parsed.read_found(input, modifiers, year))
         }
         _ => None,
     }
@@ -58,8 +59,8 @@ pub(crate) fn whole_component<'a>(
     parsed: &mut Parsed,
     input: &'a [u8],
     whole: &Component,
-) -> Option<&'a [u8]>
-    ensures { MayRead greatest_year (tree.component true whole.now) input.now parsed.old result parsed.new }
+) -> Option<Option<&'a [u8]>>
+    ensures { MayAttempt greatest_year (tree.component true whole.now) input.now parsed.old result parsed.new }
 {
     match *whole {
         Component::Ignore(_) => None,
@@ -67,17 +68,13 @@ pub(crate) fn whole_component<'a>(
     }
 }
 
-/// Reads a literal of one byte. `None`: not this form.
+/// Reads a literal of one byte. `Some(None)` is a refusal. `None`: it has more or none, and nothing is read.
 #[inline(always)]
-#[tactic(auto, using(crate::proofs::ComponentLemmas::reads_byte))]
-pub(crate) fn literal<'a>(input: &'a [u8], literal: &[u8]) -> Option<&'a [u8]>
-    ensures { (r : Record) → MayRead greatest_year (tree.literal literal.now) input.now r result r }
+pub(crate) fn literal<'a>(input: &'a [u8], literal: &[u8]) -> Option<Option<&'a [u8]>>
+    ensures { (r : Record) → MayAttempt greatest_year (tree.literal literal.now) input.now r result r }
 {
     let [byte] = literal else {
         return None;
     };
-    match input {
-        [first, rest @ ..] if *first == *byte => Some(rest),
-        _ => None,
-    }
+    Some(Parsed::read_byte(input, *byte))
 }

@@ -1,8 +1,8 @@
 //! A leaf in front of a list, read with no call.
 ghost use Rattle.std.specs.Prelude.{◌≡◌, ◌∷◌, [], IfSome};
 ghost use Rattle.time_values.specs.Calendar.{greatest_year};
-ghost use Rattle.time_components.specs.Tree.{further, steps_after, steps_trees, tree_at, literal};
-ghost use Rattle.time_record.specs.WalkSteps.{IsLeaf, MayRead};
+ghost use Rattle.time_components.specs.Tree.{further, node_tree, steps_after, steps_trees, tree_at, literal};
+ghost use Rattle.time_record.specs.WalkSteps.{IsLeaf, MayAttempt};
 ghost use Rattle.time_record.specs.Record.{Record};
 
 use super::steps::further_byte;
@@ -10,18 +10,18 @@ use crate::Parsed;
 use crate::parsed::fast;
 use time_components::{Inspect, Node, Step};
 
-/// Reads an item that has nothing inside it, and answers the rest that the walk would. `None`: not this form, and the
-/// record is as it was.
+/// Reads an item that has nothing inside it, and returns the rest that the walk would. `Some(None)` is a refusal. `None`:
+/// it is another item, and nothing is read.
 #[inline(always)]
 pub(super) fn leaf<'a, I: Inspect>(
-    item: &I,
+    node: Node<'_, I>,
     parsed: &mut Parsed,
     input: &'a [u8],
-) -> Option<&'a [u8]>
-    ensures read { MayRead greatest_year (I.shape item.now) input.now parsed.old result parsed.new }
-    ensures leaf { IfSome result (λ rest. IsLeaf (I.shape item.now)) }
+) -> Option<Option<&'a [u8]>>
+    ensures read { MayAttempt greatest_year (node_tree I.shape node.entry) input.now parsed.old result parsed.new }
+    ensures leaf { IfSome result (λ read. IsLeaf (node_tree I.shape node.entry)) }
 {
-    match item.node() {
+    match node {
         Node::Literal(text) => fast::literal(input, text),
         Node::Component(component) => fast::component(parsed, input, component),
         Node::WholeComponent(component) => fast::whole_component(parsed, input, component),
@@ -29,18 +29,18 @@ pub(super) fn leaf<'a, I: Inspect>(
     }
 }
 
-/// Reads an item of one step, which has nothing inside it, and answers the rest that the walk would. `None`: not this
-/// form, and the record is as it was.
+/// Reads an item of one step, which has nothing inside it, and returns the rest that the walk would. `Some(None)` is a
+/// refusal. `None`: it is another item, and nothing is read.
 #[inline(always)]
 pub(super) fn step<'a>(
     step: &Step,
     behind: &[Step],
     parsed: &mut Parsed,
     input: &'a [u8],
-) -> Option<&'a [u8]>
-    ensures read { MayRead greatest_year (tree_at steps_trees step.now behind.now) input.now parsed.old result parsed.new }
-    ensures leaf { IfSome result (λ rest. IsLeaf (tree_at steps_trees step.now behind.now)) }
-    ensures alone { IfSome result (λ rest. steps_after step.now behind.now ≡ behind.now) }
+) -> Option<Option<&'a [u8]>>
+    ensures read { MayAttempt greatest_year (tree_at steps_trees step.now behind.now) input.now parsed.old result parsed.new }
+    ensures leaf { IfSome result (λ read. IsLeaf (tree_at steps_trees step.now behind.now)) }
+    ensures alone { IfSome result (λ read. steps_after step.now behind.now ≡ behind.now) }
 {
     match step {
         Step::Literal(byte) | Step::More(byte) => only_byte(*byte, behind, input),
@@ -49,18 +49,14 @@ pub(super) fn step<'a>(
     }
 }
 
-// Reads a literal of one byte. `None`: not this form.
+// Reads a literal of one byte. `Some(None)` is a refusal. `None`: it has more, and nothing is read.
 #[inline(always)]
-#[tactic(auto, using(crate::proofs::ComponentLemmas::reads_byte))]
-fn only_byte<'a>(byte: u8, behind: &[Step], input: &'a [u8]) -> Option<&'a [u8]>
-    ensures read { (r : Record) → MayRead greatest_year (literal (byte ∷ further behind.now)) input.now r result r }
-    ensures alone { IfSome result (λ rest. further behind.now ≡ []) }
+fn only_byte<'a>(byte: u8, behind: &[Step], input: &'a [u8]) -> Option<Option<&'a [u8]>>
+    ensures read { (r : Record) → MayAttempt greatest_year (literal (byte ∷ further behind.now)) input.now r result r }
+    ensures alone { IfSome result (λ read. further behind.now ≡ []) }
 {
     if further_byte(behind).is_some() {
         return None;
     }
-    match input {
-        [found, rest @ ..] if *found == byte => Some(rest),
-        _ => None,
-    }
+    Some(Parsed::read_byte(input, byte))
 }

@@ -1,13 +1,16 @@
 //! The walk over the steps of a description that was read from a text, a second root over the short cuts of leaves.
-ghost use Rattle.std.specs.Prelude.{◌≡◌, ◌≢◌, ◌-◌, ◌≤◌, ◌++◌, ◌∷◌, [], ℕ, List, Ok, length, drop, MatchOption};
+ghost use Rattle.std.specs.Prelude.{◌≡◌, ◌≢◌, ◌-◌, ◌≤◌, ◌++◌, ◌∷◌, [], ℕ, List, Ok, IfSome, length, drop, MatchOption};
 ghost use Rattle.time_values.specs.Calendar.{greatest_year};
+ghost use Rattle.time_values.specs.Refusal.{refusal_of_description};
 ghost use Rattle.time_components.specs.Tree as steps_;
 ghost use Rattle.time_components.specs.Tree.{steps_shape, steps_trees, tree_at, first_of, optional, sequence, literal};
 ghost use Rattle.time_record.specs.Reading.{Answers, Counts, CountsAll};
-ghost use Rattle.time_record.specs.WalkSteps.{CountsFirst, Goes, IsFurther};
+ghost use Rattle.time_record.specs.WalkSteps.{CountsFirst, Goes, IsFurther, leaf_refusal, RefusesLeaf};
+ghost use Rattle.time_components.specs.declared.inspect.Step.{Step};
 ghost use Rattle.time_record.specs.Record.{Record};
 
 use super::fast;
+use crate::parsed::component::fault;
 use crate::{Parsed, Tries};
 use time_components::{Group, Step};
 use time_values::error::ParseFromDescription;
@@ -51,11 +54,16 @@ pub fn walk_list<'a>(
     let mut left = steps;
     let mut rest = input;
     loop {
-        let (later, unread) = read_steps(left, parsed, rest);
+        let (later, unread, fault) = read_steps(left, parsed, rest);
         tries.add(uncounted - later.len());
         let [step, behind @ ..] = later else {
             return Ok(unread);
         };
+        if let Some(fault) = fault {
+            tries.add(1);
+            *parsed = before;
+            return Err(fault);
+        }
         let after = steps_after(step, behind);
         match walk_item(step, behind, parsed, unread, tries) {
             Ok(more) => rest = more,
@@ -69,28 +77,43 @@ pub fn walk_list<'a>(
     }
 }
 
-// Reads items of one step one after the other, and answers the steps from the first item on that its short cut doesn't
-// read, and the rest. No walk is called in this loop, so it keeps no room for a walk's result.
+// Reads items of one step one after the other, each at most once. Returns the steps from the first item on that is not
+// read, the rest in front of it, and its fault if it is a leaf that is refused. No walk is called in this loop, so it keeps
+// no room for a walk's result.
 #[inline(always)]
 fn read_steps<'s, 'a>(
     steps: &'s [Step],
     parsed: &mut Parsed,
     input: &'a [u8],
-) -> (&'s [Step], &'a [u8])
+) -> (&'s [Step], &'a [u8], Option<ParseFromDescription>)
     ensures fewer { length result.0.now ≤ length steps.now }
     ensures goes { Goes greatest_year (steps_trees steps.now) input.now parsed.old
         (length steps.now - length result.0.now) (steps_trees result.0.now) result.1.now parsed.new }
+    ensures fault { IfSome result.2 (λ fault. RefusesLeaf greatest_year (steps_trees result.0.now) result.1.now parsed.new
+        (refusal_of_description fault)) }
 {
     let mut left = steps;
     let mut rest = input;
     while let [step, behind @ ..] = left {
         match fast::step(step, behind, parsed, rest) {
-            Some(unread) => rest = unread,
-            None => return (left, rest),
+            Some(Some(unread)) => rest = unread,
+            Some(None) => return (left, rest, Some(step_fault(step))),
+            None => return (left, rest, None),
         }
         left = behind;
     }
-    (left, rest)
+    (left, rest, None)
+}
+
+// The fault of an item of one step, which has nothing inside it and is refused.
+#[inline(always)]
+fn step_fault(step: &Step) -> ParseFromDescription
+    ensures { (behind : List Step) → refusal_of_description result ≡ leaf_refusal (tree_at steps_trees step.now behind) }
+{
+    match step {
+        Step::Component(component) => fault(*component),
+        _ => ParseFromDescription::InvalidLiteral,
+    }
 }
 
 // Reads the item of a step, with those behind it that belong to it. By `Ok(..?)` a result is handed on in parts, and not

@@ -35,7 +35,7 @@ fn noon(year: i32, month: Month, day: u8) -> Result<PlainDateTime, ComponentRang
     Ok(PlainDateTime::new(date, time))
 }
 
-// The place in its year of a 29 February, and the hour of its noon.
+// The day of the year of a 29 February, and the hour of its noon.
 fn noon_of_leap_day(year: i32) -> Result<(u16, u8), ComponentRange> {
     let found = noon(year, Month::February, 29)?;
     Ok((found.date().ordinal(), found.time().hour()))
@@ -53,7 +53,7 @@ fn callers_of_values(rt: HostRuntime) {
     }
 }
 
-// The hour and the minute in front of a text, as `0930`, and the unread rest. This is no second way of reading.
+// The hour and the minute at the start of a text, as `0930`, and the unread rest. This is no second way of reading.
 fn hour_and_minute(input: &[u8]) -> Option<ParsedItem<'_, (u32, u32)>>
     ensures { IfSome result (λ p. (mid : List ℕ) × Cut (IsDigitRun 2 2) input.now mid p.1.0
         × Cut (IsDigitRun 2 2) mid p.0.now p.1.1) }
@@ -63,7 +63,7 @@ fn hour_and_minute(input: &[u8]) -> Option<ParsedItem<'_, (u32, u32)>>
     Some(ParsedItem(minute.0, (hour.1, minute.1)))
 }
 
-// A text, and the hour, the minute and the rest that are found in it.
+// A text, and the hour, the minute and the rest that are parsed from it.
 static HOURS: [(&[u8], Option<((u32, u32), &[u8])>); 2] = [
     (b"0930x", Some(((9, 30), b"x"))),
     (b"093", None),
@@ -81,7 +81,7 @@ fn callers_of_digits(rt: HostRuntime) {
     }
 }
 
-// The numbers of a moment of RFC 3339 in front of a text, and the unread rest, or the first place that fails.
+// The numbers of a moment of RFC 3339 at the start of a text, and the unread rest, or the first place that fails.
 fn numbers(input: &[u8]) -> Result<(Numbers, &[u8]), Place>
     ensures { IfOk result (λ found. HasForm true input.now found.1.now found.0) }
 {
@@ -89,7 +89,7 @@ fn numbers(input: &[u8]) -> Result<(Numbers, &[u8]), Place>
     Ok((found.1, found.0))
 }
 
-// A text, and the day and the rest that are found in it.
+// A text, and the day and the rest that are parsed from it.
 static STAMPS: [(&[u8], Option<(u8, &[u8])>); 2] = [
     (b"2021-01-02T03:04:05Z, and more", Some((2, b", and more"))),
     (b"2021-01-02T25:04:05Z", None),
@@ -107,7 +107,7 @@ fn callers_of_readers(rt: HostRuntime) {
     }
 }
 
-// The date of a text that the description reads whole.
+// The date of a text that the description parses whole.
 fn date_of(text: &[u8], description: &BorrowedFormatItem<'_>) -> Result<Date, Parse>
     ensures { IfOk result (λ date. (r : Record)
         × Reads greatest_year (borrowed_shape description.now) text.now empty [] r
@@ -162,7 +162,7 @@ fn callers_of_records(rt: HostRuntime) {
     }
 }
 
-// The date of a configuration entry, which may leave out the year for this one.
+// The date of a configuration entry, which may omit the year for this one.
 fn date_in<F: Parsable>(year: i32, text: &[u8], format: &F) -> Result<Date, Parse>
     ensures { IsOutcome (IsDated greatest_year) (F.reads format.now) (F.refuses format.now) text.now
         (begun (put greatest_year (year_is year) empty)) (seen result) }

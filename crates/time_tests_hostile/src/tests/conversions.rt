@@ -7,7 +7,7 @@ use time_values::{
     Date, Month, OffsetDateTime, PlainDateTime, Time, Timestamp, UtcDateTime, UtcOffset,
 };
 
-// The refusal of a component, whose range may depend on others.
+// The error of a component, whose range may depend on others.
 macro_rules! out {
     ($name:expr, $conditional:expr) => {
         TryFromParsed::ComponentRange(ComponentRange {
@@ -27,7 +27,7 @@ const NO_SECOND: TryFromParsed = out!("second", false);
 
 const NO_LEAP_SECOND: TryFromParsed = out!("second", true);
 
-// The options of a record, and what it is converted to.
+// The fields of a record, and what it converts to.
 type Row<T> = (&'static [(Field, i128)], Result<T, TryFromParsed>);
 
 // A year, a month and a day.
@@ -46,7 +46,7 @@ static DATES: [Row<Day>; 15] = [
         Err(NO_DAY),
     ),
     (&[(Field::Year, 2021)], Err(UNKNOWN)),
-    // A Sunday that ends a year, weeks of Sundays and of Mondays, and days that no year has.
+    // A Sunday that ends a year, weeks from Sunday and from Monday, and days that no year has.
     (
         &[
             (Field::Year, 2023),
@@ -87,7 +87,7 @@ static DATES: [Row<Day>; 15] = [
         ],
         Ok((2018, Month::January, 1)),
     ),
-    // ISO 8601 weeks, whose year comes whole, or as a century and two digits.
+    // ISO 8601 weeks, with a whole year, or with a century and two digits.
     (
         &[
             (Field::IsoYear, 2020),
@@ -131,7 +131,7 @@ static DATES: [Row<Day>; 15] = [
         ],
         Err(out!("weekday", true)),
     ),
-    // A 31 December, and the place of another day.
+    // A 31 December, and the day of the year of another date.
     (
         &[
             (Field::Year, 2021),
@@ -164,7 +164,7 @@ fn conversions(rt: HostRuntime) {
     }
 }
 
-// A year's first day, where the year comes as a century, its sign and two digits.
+// The first day of a year that is given as a century, its sign and two digits.
 fn dated_by_century(
     century: i16,
     is_negative: bool,
@@ -297,7 +297,7 @@ fn conversions_to_offsets(rt: HostRuntime) {
 
 const STAMP: &[(Field, i128)] = &[(Field::UnixTimestampNanos, -1), (Field::Subsecond, 5)];
 
-// The first midnight, at an offset of whole hours where one is given.
+// The first midnight, at an offset in whole hours if one is given.
 macro_rules! first_midnight {
     ($($offset:expr),*) => {
         &[
@@ -311,7 +311,7 @@ macro_rules! first_midnight {
 
 const EAST: &[(Field, i128)] = first_midnight!(1);
 
-// A midnight that is in UTC on the last day of the year before.
+// A midnight that is on the last day of the year before in UTC.
 const NEW_YEAR: &[(Field, i128)] = &[
     (Field::Year, -9999),
     (Field::Ordinal, 1),
@@ -338,7 +338,7 @@ fn conversions_to_timestamps(rt: HostRuntime) {
     }
 }
 
-// A day and the time of it.
+// A day and a time of day.
 type Moment = (Day, Clock);
 
 fn plain(parsed: Parsed) -> Result<Moment, TryFromParsed> {
@@ -367,7 +367,7 @@ const FIRST: Moment = ((-999_999, Month::January, 1), (0, 0, 0, 0));
 
 const BEFORE_1970: Moment = ((1969, Month::December, 31), (23, 59, 59, 5));
 
-// The last moment of 2016, which stands for the leap second behind it.
+// The last moment of 2016, which is also the value of the leap second after it.
 const LAST: Moment = ((2016, Month::December, 31), (23, 59, 59, 999_999_999));
 
 const UTC: Offset = (0, 0, 0);
@@ -388,14 +388,14 @@ macro_rules! second_60 {
     };
 }
 
-// What a record is as a moment without an offset, in UTC and with an offset.
+// A record's moments: without an offset, in UTC and with an offset.
 type Moments = (
     Result<Moment, TryFromParsed>,
     Result<Moment, TryFromParsed>,
     Result<(Moment, Offset), TryFromParsed>,
 );
 
-// The options of a record, whether it takes leap seconds, and its moments.
+// The fields of a record, whether it allows leap seconds, and its moments.
 static MOMENTS: [(&[(Field, i128)], bool, Moments); 8] = [
     (
         STAMP,

@@ -1,4 +1,4 @@
-//! Components and descriptions, read into a record.
+//! Components and descriptions, parsed into a record.
 use crate::fields::{Field, record_of, same_record};
 use kinds::{Cased, Indexed, Kind, Padded, Signed, Timestamp, component};
 use std::alloc::Global;
@@ -40,7 +40,7 @@ macro_rules! indexed {
     };
 }
 
-// A text is read up to the rest, and the record behind it holds these options.
+// A text is parsed up to the rest, and the record has these fields afterwards.
 macro_rules! read {
     ($rest:expr, $after:expr) => {
         Seen {
@@ -51,14 +51,14 @@ macro_rules! read {
     };
 }
 
-// The record holds this number alone.
+// The record has this number alone.
 macro_rules! number {
     ($field:ident, $number:expr) => {
         Held::Number(Field::$field, $number)
     };
 }
 
-// A text is refused, and the record is as it was.
+// A text is rejected, and the record is unchanged.
 macro_rules! refused {
     ($error:expr) => {
         Seen {
@@ -81,7 +81,7 @@ const NOON: Held = Held::Number(Field::Hour24, 12);
 
 const HALF_PAST: Held = Held::Numbers(&[(Field::Hour24, 12), (Field::Minute, 30)]);
 
-// The options that a record holds.
+// The fields that a record has.
 #[derive(Clone, Copy)]
 enum Held {
     Nothing,
@@ -89,13 +89,13 @@ enum Held {
     Numbers(Numbers),
     // A calendar century, and whether it is negative.
     Century(i16, bool),
-    // The same of an ISO 8601 century.
+    // An ISO 8601 century, and whether it is negative.
     IsoCentury(i16, bool),
-    // The hour of an offset, behind a minus.
+    // The hour of an offset, after a minus.
     West(i8),
 }
 
-// What a text makes of a record.
+// A record before a parse, the result, and the record after it.
 #[derive(Drop)]
 struct Seen {
     before: Numbers,
@@ -141,7 +141,7 @@ fn record(held: &Held) -> Option<Parsed> {
     }
 }
 
-// A record with the hour of an offset, and with the flag that the minus before it set.
+// A record with the hour of an offset, and with the flag that the minus before it sets.
 fn west(hour: i8) -> Option<Parsed> {
     let mut parsed = Parsed::new();
     parsed.parse_component(b"-00", OFFSET_HOUR).ok()?;
@@ -149,12 +149,12 @@ fn west(hour: i8) -> Option<Parsed> {
     Some(parsed)
 }
 
-// The record before a text is read, and the record behind it.
+// The record before a text is parsed, and the record after it.
 fn records(seen: &Seen) -> Option<(Parsed, Parsed)> {
     Some((record_of(seen.before)?, record(&seen.after)?))
 }
 
-// An item makes that of the text.
+// Whether the parse by an item has that result and record.
 fn item_sees<I: AnyFormatItem>(item: &I, text: &str, seen: &Seen) -> bool {
     let Some((mut parsed, after)) = records(seen) else {
         return false;
@@ -162,7 +162,7 @@ fn item_sees<I: AnyFormatItem>(item: &I, text: &str, seen: &Seen) -> bool {
     parsed.parse_item(text.as_bytes(), item) == seen.answer && same_record(&parsed, &after)
 }
 
-// A component by itself makes that of the text.
+// Whether the parse by a component has that result and record.
 fn component_sees(component: Component, text: &str, seen: &Seen) -> bool {
     let Some((mut parsed, after)) = records(seen) else {
         return false;
@@ -171,14 +171,14 @@ fn component_sees(component: Component, text: &str, seen: &Seen) -> bool {
         && same_record(&parsed, &after)
 }
 
-// A component makes that of the text, by itself and as an item of either type.
+// Whether the parses by a component, and by an item of it of either type, have that result and record.
 fn sees(component: Component, text: &str, seen: &Seen) -> bool {
     component_sees(component, text, seen)
         && item_sees(&BorrowedFormatItem::Component(component), text, seen)
         && item_sees(&OwnedFormatItem::Component(component), text, seen)
 }
 
-// A kind of component, a text, and what it makes of that.
+// A kind of component, a text, and the result and record of its parse.
 static COMPONENTS: [(Kind, &str, Seen); 8] = [
     (
         signed!(CalendarYearFullExtendedRange, Zero),
@@ -229,7 +229,7 @@ fn components(rt: HostRuntime) {
     }
 }
 
-// A kind of component, a text that it refuses, and the name by which it does.
+// A kind of component, a text that it rejects, and the component that the error names.
 static REFUSED: [(Kind, &str, &str); 38] = [
     (padded!(Day, Zero), "00", "day"),
     (padded!(Day, Zero), "32", "day"),
@@ -311,7 +311,7 @@ fn components_refused(rt: HostRuntime) {
     }
 }
 
-// A kind of component, a text that it reads to its end, and what the record then holds.
+// A kind of component, a text that it parses to its end, and the record afterwards.
 type Row = (Kind, &'static str, Held);
 
 fn reads(kind: &Kind, text: &str, held: Held) -> bool {
@@ -323,7 +323,7 @@ fn ignore(count: u16) -> Option<Component> {
     Some(Component::Ignore(modifier::Ignore { count }))
 }
 
-// A skipped part of so many bytes makes that of the text.
+// Whether skipping this many bytes has that result and record.
 fn skipped_sees(count: u16, text: &str, seen: &Seen) -> bool {
     match ignore(count) {
         Some(component) => sees(component, text, seen),
@@ -348,13 +348,13 @@ fn components_skipped(rt: HostRuntime) {
 enum Tree {
     // `Hour24`, a colon and `Minute`.
     Clock,
-    // A clock that may be missing.
+    // An optional clock.
     Part,
     // A part and `Hour24`.
     PartAndHour,
     // A clock, or else `Hour24`.
     Either,
-    // A choice of nothing.
+    // A choice without alternatives.
     Nothing,
     // `Minute`, or else an `x`.
     Others,
@@ -375,7 +375,7 @@ const OTHERS: [BorrowedFormatItem<'static>; 2] = [
     BorrowedFormatItem::Literal(b"x"),
 ];
 
-// A tree that borrows its items makes that of the text.
+// Whether the parse by a tree that borrows its items has that result and record.
 fn borrowed_sees(tree: &Tree, text: &str, seen: &Seen) -> bool {
     match tree {
         Tree::Part => {
@@ -452,7 +452,7 @@ fn owned(alloc: Global, tree: &Tree) -> Option<OwnedFormatItem> {
     }
 }
 
-// A tree that owns its items makes that of the text.
+// Whether the parse by a tree that owns its items has that result and record.
 fn owned_sees(alloc: Global, tree: &Tree, text: &str, seen: &Seen) -> bool {
     match owned(alloc, tree) {
         Some(item) => item_sees(&item, text, seen),
@@ -478,20 +478,20 @@ fn components_in_owned_trees(rt: HostRuntime) {
     }
 }
 
-// Components by plain names, since a table that is static can't hold a component itself.
+// Components by plain names, since a static table can't have a component itself.
 mod kinds {
     use time_readers::{Component, Padding, SubsecondDigits, TrailingInput, modifier};
 
     pub(super) enum Kind {
         Padded(Padded, Padding),
-        // A number that may have a sign.
+        // A number with an optional sign.
         Signed(Signed, Padding),
         Timestamp(Timestamp),
-        // A name, and whether its case counts.
+        // A name, and whether it is case sensitive.
         Cased(Cased, bool),
         // A weekday's number, and whether the first is 1.
         Indexed(Indexed, bool),
-        // Whether it is in capitals, and whether its case counts.
+        // Whether the letters are upper case, and whether they are case sensitive.
         Period(bool, bool),
         Subsecond(SubsecondDigits),
         End(TrailingInput),
@@ -545,7 +545,7 @@ mod kinds {
         WeekdayMonday,
     }
 
-    // The component of a name, with these modifiers.
+    // The component with a name and these modifiers.
     macro_rules! named {
         ($name:expr, $names:ident, $modifiers:tt, $($component:ident)+) => {
             match $name {
@@ -636,7 +636,7 @@ mod version_3 {
         Some(FormatDescriptionV3Inner::OwnedOptional { format: true, item })
     }
 
-    // The item, and behind it `Hour24`.
+    // The item, followed by `Hour24`.
     fn v3_before_hour(
         alloc: Global,
         item: FormatDescriptionV3Inner<'static>,
@@ -667,7 +667,7 @@ mod version_3 {
         Some(FormatDescriptionV3Inner::OwnedFirst(items))
     }
 
-    // A tree makes that of the text.
+    // Whether the parse by a tree has that result and record.
     fn v3_sees(items: &FormatDescriptionV3Inner<'_>, text: &str, seen: &Seen) -> bool {
         let Some((mut parsed, after)) = records(seen) else {
             return false;

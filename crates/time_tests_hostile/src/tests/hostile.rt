@@ -1,18 +1,18 @@
-//! Texts, records and descriptions that somebody chose to do harm by.
+//! Malicious texts, records and descriptions.
 use super::parts::{self, Moment};
 use std::alloc::{AllocError, Global};
 use time_parsing::Parsable;
 use time_record::Parsed;
 use time_values::error::Parse;
 
-// The second of January 2021 at 03:04:05 and the nanosecond, in UTC.
+// 2021-01-02T03:04:05Z, and that nanosecond.
 macro_rules! second_of_january {
     ($nanosecond:expr) => {
         ((2021, Month::January, 2), (3, 4, 5, $nanosecond), (0, 0, 0))
     };
 }
 
-// The front, the byte so many times, and the end.
+// The byte, repeated, between a start and an end.
 fn stretched(
     alloc: Global,
     front: &[u8],
@@ -29,13 +29,13 @@ fn stretched(
     Ok(text)
 }
 
-// The text has this answer, without defaults and over an empty record.
+// Whether the text has this result, without defaults and over an empty record.
 fn is_answered<F: Parsable>(format: &F, text: &[u8], answer: Result<Moment, Parse>) -> bool {
     parts::moment(format, text, None) == answer
         && parts::moment(format, text, Some(Parsed::new())) == answer
 }
 
-// Runs of digits without an end in sight.
+// Very long runs of digits.
 mod digits {
     use super::super::parts::{self, Clock, Moment};
     use super::{is_answered, stretched};
@@ -48,7 +48,7 @@ mod digits {
 
     const YEAR: Parse = Parse::ParseFromDescription(ParseFromDescription::InvalidComponent("year"));
 
-    // What stands before and behind 100,000 digits in a text of RFC 3339, and its answer.
+    // The bytes before and after 100,000 digits in a text of RFC 3339, and the result.
     static STAMPS: [(&[u8], &[u8], Result<Moment, Parse>); 2] = [
         (
             b"2021-01-02T03:04:05.",
@@ -78,7 +78,7 @@ mod digits {
         }
     }
 
-    // What stands before 100,000 digits in a time of ISO 8601, and its answer.
+    // The bytes before 100,000 digits in a time of ISO 8601, and the result.
     static TIMES: [(&[u8], Result<Clock, Parse>); 2] = [
         (b"03.", Ok((3, 59, 59, 999_999_999))),
         (b"12:34:56.", Err(YEAR)),
@@ -104,7 +104,7 @@ mod digits {
     }
 }
 
-// Comments of mail dates, as deep as they may be, and deeper.
+// Comments of mail dates, nested as deep as is allowed, and deeper.
 mod comments {
     use super::super::parts::Moment;
     use super::{is_answered, stretched};
@@ -113,7 +113,7 @@ mod comments {
     use time_values::Month;
     use time_values::error::{Parse, ParseFromDescription};
 
-    // A comment of so many levels between the front and the end.
+    // A comment, nested this deep, between a start and an end.
     fn commented(
         alloc: Global,
         front: &[u8],
@@ -144,8 +144,8 @@ mod comments {
         ParseFromDescription::UnexpectedTrailingCharacters,
     );
 
-    // What stands before and behind each place of a mail date that takes comments, and how a comment there that
-    // is none is refused.
+    // The bytes before and after each place of a mail date that allows comments, and the error of a comment there that
+    // is nested too deep.
     static PLACES: [(&[u8], &[u8], Parse); 12] = [
         (b"", b"Sat, 02 Jan 21 03:04:05 +0000", DAY),
         (b"", b"02 Jan 21 03:04:05 +0000", DAY),
@@ -199,7 +199,7 @@ mod comments {
     }
 }
 
-// Texts of the two RFC formats with each byte replaced by each other, and cut at each place.
+// Texts of the two RFC formats with each byte replaced by each other, and truncated at each place.
 mod changed_bytes {
     use super::super::parts;
     use crate::fields::{full_record, same_record};
@@ -232,13 +232,13 @@ mod changed_bytes {
         b"1 Jan 99 00:00 Z",
     ];
 
-    // Without defaults and over an empty record the text has one moment, with one date, time and offset, or none.
+    // Whether the text has equal moments without defaults and over an empty record, or none.
     fn has_one_moment<F: Parsable>(format: &F, text: &[u8]) -> bool {
         let direct = parts::moment(format, text, None);
         direct.ok() == parts::moment(format, text, Some(Parsed::new())).ok()
     }
 
-    // A text that isn't read is refused so for each other type.
+    // Whether a text that doesn't parse has an equal error for each type of value.
     fn is_refused_alike<F: Parsable>(format: &F, text: &[u8]) -> bool {
         let answers = (
             format.parse_date(text, None),
@@ -257,20 +257,20 @@ mod changed_bytes {
         }
     }
 
-    // A record is unchanged if no prefix of the text is parsed into it.
+    // Whether the record is unchanged unless a prefix of the text is parsed into it.
     fn keeps_the_record<F: Parsable>(format: &F, text: &[u8], before: &Parsed) -> bool {
         let mut record = *before;
         format.parse_into(text, &mut record).is_ok() || same_record(&record, before)
     }
 
-    // All that holds of each text.
+    // Whether all of these are true of the text.
     fn is_right<F: Parsable>(format: &F, text: &[u8], full: &Parsed) -> bool {
         has_one_moment(format, text)
             && is_refused_alike(format, text)
             && keeps_the_record(format, text, full)
     }
 
-    // It holds of the text with each byte at the place. The text is left as it was.
+    // Whether they are with each byte at the place. The text is restored.
     fn is_right_with_each_byte<F: Parsable>(
         format: &F,
         text: &mut [u8],
@@ -293,7 +293,7 @@ mod changed_bytes {
         all_right
     }
 
-    // It holds of the text with each byte at each of these places, and of the text cut there.
+    // Whether they are with each byte at each of these places, and of the text truncated there.
     pub(super) fn is_right_if_changed_at<F: Parsable>(
         alloc: Global,
         format: &F,
@@ -316,7 +316,7 @@ mod changed_bytes {
         Ok(all_right)
     }
 
-    // It holds of the text with each byte at each place, and of the text cut there.
+    // Whether they are with each byte at each place, and of the text truncated there.
     fn is_right_if_changed<F: Parsable>(
         alloc: Global,
         format: &F,
@@ -325,7 +325,7 @@ mod changed_bytes {
         is_right_if_changed_at(alloc, format, text, 0..text.len())
     }
 
-    // It holds of each of the texts.
+    // Whether they are for each of the texts.
     fn all_are_right_if_changed<F: Parsable>(alloc: Global, format: &F, texts: &[&[u8]]) -> bool {
         let mut all_right = true;
         for text in texts {
@@ -365,17 +365,17 @@ mod changed_bytes {
     }
 }
 
-// Mail dates with a comment as deep as one may be, and a deeper one, with each byte replaced by each other. A test has
-// some fifteen places, so that each ends within its time on any machine.
+// Mail dates with the deepest comment that is allowed, and with a deeper one, with each byte replaced by each other. A
+// test has some fifteen places, so that each ends in time on any machine.
 mod deep_comments {
     use super::changed_bytes::is_right_if_changed_at;
     use time_parsing::Rfc2822;
 
-    // With a comment of 31 levels, which is read.
+    // A comment nested 31 deep, which is parsed.
     const LEVELS_31: &[u8] =
         b"02 ((((((((((((((((((((((((((((((())))))))))))))))))))))))))))))) Jan 2021 03:04 +0000";
 
-    // With a comment of 32 levels, which is refused.
+    // A comment nested 32 deep, which is rejected.
     const LEVELS_32: &[u8] =
         b"02 (((((((((((((((((((((((((((((((()))))))))))))))))))))))))))))))) Jan 2021 03:04 +0000";
 
@@ -440,14 +440,14 @@ mod deep_comments {
     }
 }
 
-// Descriptions with many alternatives, and with many options in one another.
+// Descriptions with many alternatives, and with many nested options.
 mod trees {
     use std::alloc::{AllocError, Global};
     use time_readers::{BorrowedFormatItem, Component, OwnedFormatItem, Padding, modifier};
     use time_record::{AnyFormatItem, Parsed, Tries};
     use time_values::error::ParseFromDescription;
 
-    // How the item reads the text over an empty record, and how many items were begun.
+    // The result of an item over an empty record, and how many items were visited.
     fn counted<'a, I: AnyFormatItem>(
         item: &I,
         text: &'a [u8],
@@ -464,7 +464,7 @@ mod trees {
         assert!(rt; counted(&BorrowedFormatItem::First(&literals), b"b") == refused);
     }
 
-    // A minute within so many options in one another.
+    // A minute in nested options.
     fn nested(alloc: Global, levels: usize) -> Result<OwnedFormatItem, AllocError> {
         let padding = Padding::Zero;
         let mut item = OwnedFormatItem::Component(Component::Minute(modifier::Minute { padding }));
@@ -474,7 +474,7 @@ mod trees {
         Ok(item)
     }
 
-    // Nested options leave an `x` unread, after so many tries.
+    // Whether nested options leave an `x` unread, after this many visited items.
     fn leaves_an_x(alloc: Global, levels: usize, tries: u64) -> Result<bool, AllocError> {
         let item = nested(alloc, levels)?;
         Ok(counted(&item, b"x") == (Ok(b"x".as_slice()), tries))
@@ -486,7 +486,7 @@ mod trees {
     }
 }
 
-// Defaults of which a text leaves a part standing.
+// Defaults with a component that the text leaves unchanged.
 mod stale_defaults {
     use super::super::parts::{self, Clock};
     use crate::fields::{Field, record_of};
@@ -508,7 +508,7 @@ mod stale_defaults {
         item!(Subsecond, digits: SubsecondDigits::OneOrMore),
     ];
 
-    // `:09`, and a fraction that may be missing.
+    // `:09`, with an optional fraction.
     fn second_items<'a>(fraction: &'a BorrowedFormatItem<'a>) -> [BorrowedFormatItem<'a>; 3] {
         [
             BorrowedFormatItem::StringLiteral(":"),
@@ -517,7 +517,7 @@ mod stale_defaults {
         ]
     }
 
-    // `1:05 PM`, and before the space a second that may be missing.
+    // `1:05 PM`, with an optional second before the space.
     fn clock_items<'a>(seconds: &'a BorrowedFormatItem<'a>) -> [BorrowedFormatItem<'a>; 6] {
         [
             item!(Hour12, padding: Padding::None),
@@ -529,7 +529,7 @@ mod stale_defaults {
         ]
     }
 
-    // The time of a text such as `1:05:09.25 PM`, in which the second and its fraction may be missing.
+    // The time of a text such as `1:05:09.25 PM`, in which the second and its fraction are optional.
     fn clock(text: &[u8], defaults: Option<Parsed>) -> Result<Clock, Parse> {
         let fraction = BorrowedFormatItem::Compound(&FRACTION_ITEMS);
         let seconds = second_items(&fraction);
@@ -538,7 +538,7 @@ mod stale_defaults {
         parts::clock(&BorrowedFormatItem::Compound(&items), text, defaults)
     }
 
-    // A text, and its offset where a second of 10 was left standing.
+    // A text, and its offset with the default second of 10.
     static OFFSETS: [(&[u8], (i8, i8, i8)); 2] = [
         (b"2021-01-02T03:04:05-00:30", (0, -30, -10)),
         (b"2021-01-02T03:04:05Z", (0, 0, 0)),
@@ -557,7 +557,7 @@ mod stale_defaults {
         }
     }
 
-    // How a text is read.
+    // The format of a text.
     enum Format {
         Rfc2822,
         Rfc3339,
@@ -565,7 +565,7 @@ mod stale_defaults {
         Clock,
     }
 
-    // A format, a text, the option that was left standing, and the time.
+    // A format, a text, the default field that it keeps, and the time.
     static TIMES: [(Format, &[u8], (Field, i128), Clock); 4] = [
         (
             Format::Rfc3339,

@@ -1,9 +1,9 @@
-//! Records: their options, the walk that counts, and the laws of parsing.
+//! Records: their fields, the walk that counts, and the laws of parsing.
 use crate::fields::{Field, RANGES, full_record, get, record_of, same_record, set, with};
 use std::num::NonZero;
 use time_record::Parsed;
 
-// A second of 60 is put, and none past it.
+// Whether a second of 60 is stored, and 61 rejected.
 fn holds_a_leap_second() -> bool {
     let mut parsed = Parsed::default();
     parsed.second().is_none()
@@ -12,7 +12,7 @@ fn holds_a_leap_second() -> bool {
         && parsed.second() == Some(60)
 }
 
-// Centuries put in turn, with the given sign of 0, and whether each is then negative.
+// Centuries that are stored in turn, the sign for a century of 0, and whether each is then negative.
 static SIGNS: [(i16, bool, bool); 3] = [(0, true, true), (-5, false, true), (5, true, false)];
 
 fn holds_signs_of_centuries() -> bool {
@@ -25,7 +25,7 @@ fn holds_signs_of_centuries() -> bool {
     is_right
 }
 
-// Without the sign that was read, the numbers of an offset are held with their own.
+// Whether an offset's numbers keep their own signs after the parsed sign is dropped.
 fn holds_an_offset() -> bool {
     let mut parsed = Parsed::new();
     let minute = parsed.set_offset_minute_signed(-30);
@@ -39,7 +39,7 @@ fn holds_an_offset() -> bool {
         && parsed.offset_second() == Some(15)
 }
 
-// No ordinal and no timestamp is put that is past the greatest.
+// Whether an ordinal and a timestamp past the greatest are rejected.
 fn takes_nothing_past_the_ends() -> bool {
     let ordinal = match NonZero::<u16>::new(367) {
         Some(past) => Parsed::new().with_ordinal(past),
@@ -57,7 +57,7 @@ fn digits_and_record(rt: HostRuntime) {
     assert!(rt; takes_nothing_past_the_ends());
 }
 
-// A number in range is put and got, and none past either end of it changes it.
+// Whether a number in range is stored, and numbers past either end of the range are rejected.
 fn holds_in_range(field: Field, low: i128, high: i128, n: i128) -> bool {
     let mut parsed = Parsed::new();
     if get(&parsed, field).is_some() || set(&mut parsed, field, n).is_none() {
@@ -71,7 +71,7 @@ fn holds_in_range(field: Field, low: i128, high: i128, n: i128) -> bool {
     get(&parsed, field) == Some(n)
 }
 
-// A builder puts the number.
+// Whether a builder stores the number.
 fn is_built(field: Field, n: i128) -> bool {
     match with(Parsed::new(), field, n) {
         Some(built) => get(&built, field) == Some(n),
@@ -89,20 +89,20 @@ fn digits_and_record_at_the_ends(rt: HostRuntime) {
     }
 }
 
-// The sign of a calendar century that is put, with the given sign of 0.
+// The sign of a calendar century that is stored with the given sign for 0.
 fn century_sign(century: i16, is_negative: bool) -> Option<bool> {
     let parsed = Parsed::new().with_year_century(century, is_negative)?;
     parsed.year_century_is_negative()
 }
 
-// The same of an ISO 8601 century.
+// The sign of an ISO 8601 century that is stored with the given sign for 0.
 fn iso_century_sign(century: i16, is_negative: bool) -> Option<bool> {
     let mut parsed = Parsed::new();
     parsed.set_iso_year_century(century, is_negative)?;
     parsed.iso_year_century_is_negative()
 }
 
-// Centuries, the given sign of 0, and whether they are negative.
+// Centuries, the given sign for 0, and whether they are negative.
 static ENDS: [(i16, bool, bool); 4] = [
     (-9999, false, true),
     (0, false, false),
@@ -118,7 +118,7 @@ fn digits_and_record_of_centuries(rt: HostRuntime) {
     }
 }
 
-// A record of one option differs from an empty one.
+// Whether a record with one field differs from an empty one.
 fn is_told_from_none(field: Field, n: i128) -> bool {
     match record_of(&[(field, n)]) {
         Some(one) => same_record(&one, &one) && !same_record(&one, &Parsed::new()),
@@ -136,11 +136,11 @@ fn same_records(rt: HostRuntime) {
     assert!(rt; full_record().is_some_and(|full| same_record(&full, &full)));
 }
 
-// Records that differ from a full one in a flag alone.
+// Records that differ from a full one in one flag only.
 fn with_a_flag_turned(full: Parsed) -> Option<[Parsed; 4]> {
     let mut east = full;
     east.forget_offset_sign();
-    // The getters return these numbers of the full record, too.
+    // For these numbers the getters return those of the full record, too.
     east.set_offset_minute_signed(full.offset_minute_signed()?)?;
     east.set_offset_second_signed(full.offset_second_signed()?)?;
     let calendar = full.with_year_century(0, false)?;
@@ -161,6 +161,7 @@ fn same_records_by_their_flags(rt: HostRuntime) {
 
 // The walk that counts, and the laws of parsing.
 mod counted_and_laws {
+    use crate::inspected::Inspected;
     use std::cell::Cell;
     use std::test::Fail;
     use time_parsing::laws::text_3339;
@@ -185,22 +186,22 @@ mod counted_and_laws {
         },
     ));
 
-    // The unread rest, or what isn't there.
+    // The unread rest, or the error.
     type Read<'a> = Result<&'a [u8], ParseFromDescription>;
 
-    // What an answer is, how many items were begun, and the hour and the minute of the record behind it.
+    // The result, how many items were visited, and the hour and the minute of the record afterwards.
     type Seen<'a> = (Read<'a>, u64, Option<u8>, Option<u8>);
 
-    // Which items a text is read by.
+    // The items that parse a text.
     enum Items {
         // An hour, a colon and a minute, or else an hour.
         Choice,
-        // A minute that may be missing.
+        // An optional minute.
         Option,
         Colon,
     }
 
-    // Reads the items over a record of the hour 7.
+    // Parses by the items over a record with the hour 7.
     fn read<'a>(input: &'a [u8], items: &[BorrowedFormatItem<'_>]) -> Seen<'a> {
         let mut parsed = Parsed::new();
         let _ = parsed.set_hour_24(7);
@@ -240,7 +241,7 @@ mod counted_and_laws {
         }
     }
 
-    // The count goes on from call to call, and a call that doesn't count answers the same.
+    // The count continues from call to call, and a call that doesn't count has an equal result.
     #[test]
     fn counted_on(rt: HostRuntime) {
         let mut parsed = Parsed::new();
@@ -254,7 +255,7 @@ mod counted_and_laws {
         assert!(rt; parsed.parse_items(b"x", &option) == Ok(b"x".as_slice()));
     }
 
-    // An item that hands on to a borrowed one, and counts how often it is asked to.
+    // An item that passes each parse on to a borrowed one, and counts the parses.
     #[derive(Drop)]
     struct Watched<'b> {
         item: BorrowedFormatItem<'b>,
@@ -277,7 +278,7 @@ mod counted_and_laws {
         }
     }
 
-    // A list of an hour, a colon and a minute, whose items count how often each is asked.
+    // A list of an hour, a colon and a minute, whose items count their parses.
     fn clock_of(input: &[u8], calls: &[Cell<u32>; 3]) -> (bool, u64) {
         let [hour, colon, minute] = calls;
         let items = [
@@ -310,7 +311,40 @@ mod counted_and_laws {
         assert!(rt; (hour.get(), colon.get(), minute.get()) == (1, 1, 0));
     }
 
-    // Items that are read over an empty record: the answer, and the hour and the minute behind it.
+    // Parses by a list of an hour, a colon and a minute inside a list. Returns how often the inner list and each of its
+    // items are inspected, and how many items are visited.
+    fn inspected(input: &[u8]) -> ([u32; 4], u64) {
+        let counts = [Cell::new(0), Cell::new(0), Cell::new(0), Cell::new(0)];
+        let [list, hour, colon, minute] = &counts;
+        let zero = Padding::Zero;
+        let inside = [
+            Inspected::Component(hour, Component::Hour24(Hour24 { padding: zero })),
+            Inspected::Literal(colon, b":"),
+            Inspected::Component(minute, Component::Minute(Minute { padding: zero })),
+        ];
+        let items = [Inspected::List(list, &inside)];
+        let mut tries = Tries::new();
+        let _ = Parsed::new().parse_items_counted(input, &items, &mut tries);
+        let seen = [list.get(), hour.get(), colon.get(), minute.get()];
+        (seen, tries.count())
+    }
+
+    // Texts, and how often the items of that list are inspected: once each, up to the one that fails.
+    static INSPECTED: [(&[u8], [u32; 4], u64); 4] = [
+        (b"x", [1, 1, 0, 0], 2),
+        (b"12x", [1, 1, 1, 0], 3),
+        (b"12:x", [1, 1, 1, 1], 4),
+        (b"12:34", [1, 1, 1, 1], 4),
+    ];
+
+    #[test]
+    fn inspected_once(rt: HostRuntime) {
+        for (input, counts, begun) in &INSPECTED {
+            assert!(rt; inspected(input) == (*counts, *begun), "{input:?}");
+        }
+    }
+
+    // The result of items over an empty record, and the hour and the minute afterwards.
     fn answered<'a>(
         input: &'a [u8],
         items: &[BorrowedFormatItem<'_>],
@@ -320,7 +354,7 @@ mod counted_and_laws {
         (answer, parsed.hour_24(), parsed.minute())
     }
 
-    // A list that is two lists joined is read as the one, and then as the other.
+    // Whether a concatenation of two lists parses as the first, and then as the second.
     fn is_joined(input: &[u8]) -> bool {
         let mut parsed = Parsed::new();
         let joined = match parsed.parse_items(input, &[HOUR, COLON]) {
@@ -330,14 +364,14 @@ mod counted_and_laws {
         answered(input, &[HOUR, COLON, MINUTE]).0 == joined
     }
 
-    // A list inside a list is flattened.
+    // Whether a list inside a list parses as its items do.
     fn is_flattened(input: &[u8]) -> bool {
         let inside = [COLON, MINUTE];
         answered(input, &[HOUR, BorrowedFormatItem::Compound(&inside)])
             == answered(input, &[HOUR, COLON, MINUTE])
     }
 
-    // Items of one shape answer alike, and what they leave is a suffix.
+    // Whether items of equal shape have equal results, and what they leave is a suffix.
     fn is_alike(input: &[u8]) -> bool {
         let bytes = [HOUR, BorrowedFormatItem::Literal(b":"), MINUTE];
         let answer = answered(input, &[HOUR, COLON, MINUTE]);
@@ -359,7 +393,7 @@ mod counted_and_laws {
         }
     }
 
-    // Whether that is written, and is read back by the direct path and over an empty record.
+    // Whether this is the moment's text, and is parsed as it on the direct path and over an empty record.
     fn is_canonical(value: OffsetDateTime, written: [u8; 35], text: &[u8; 35]) -> bool {
         written == *text
             && Rfc3339.parse_offset_date_time(text, None) == Ok(value)

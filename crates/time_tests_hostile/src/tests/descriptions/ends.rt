@@ -470,7 +470,7 @@ const OFFSET_MINUTE: Component = Component::OffsetMinute(modifier::OffsetMinute 
     padding: Padding::Zero,
 });
 
-// A minute without a sign takes the sign of the hour before it.
+// Whether a minute without a sign takes the sign of the hour before it.
 fn reads_half_an_hour_west<I: AnyFormatItem>(items: &[I]) -> bool {
     let mut parsed = Parsed::new();
     parsed.parse_items(b"-0030", items) == Ok(b"".as_slice())
@@ -584,7 +584,7 @@ mod wide_years {
 
     static IN_A_CHOICE: Seen = read!(b"", number!(Year, 12_345));
 
-    // A choice takes a year of five digits for the year, and not for the text behind it.
+    // The first alternative, a year, parses five digits, before the second, a literal of these bytes.
     #[test]
     fn wide_years_in_choices(rt: HostRuntime) {
         let choice = BorrowedFormatItem::First(&CHOICE);

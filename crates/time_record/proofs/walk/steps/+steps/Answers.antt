@@ -2,8 +2,10 @@ use Rattle.std.proofs.Common.{ap, sym, subst, ◌∙◌, length, drop, ◌-◌, 
 use Rattle.time_values.specs.Calendar.{greatest_year}
 use Rattle.time_components.specs.Tree.{steps_after, steps_trees, tree_at, more}
 use Rattle.time_record.specs.Reading.{raised}
-use Rattle.time_record.proofs.Counting.{Chooses-start, Chooses-reads, Chooses-counts, Chooses-refused, Chooses-fault, Chooses-nothing, Chooses-counts_end, Counts-sequence}
-use Rattle.time_record.proofs.WalkSteps.{behind_first, first_item, steps_trees-end, Goes-end, Goes-refused, Walked, Walked-counts, Walked-counts_refused, Walked-further, Walked-reads, raised_further}
+use Rattle.time_record.proofs.Counting.{Chooses-start, Chooses-reads, Chooses-counts, Chooses-refused, Chooses-fault, Chooses-nothing}
+use Rattle.time_record.proofs.Counting.{Chooses-counts_end, Counts-sequence}
+use Rattle.time_record.proofs.WalkSteps.{behind_first, first_item, steps_trees-end, Goes-end, Goes-refused, Walked, Walked-counts, Walked-counts_leaf}
+use Rattle.time_record.proofs.WalkSteps.{Walked-counts_refused, Walked-further, Walked-reads, raised_further}
 use Rattle.time_record.proofs.walk.steps.+steps.Goals as goal
 
 pub walk_group-returns-in-Optional-clause-counts : goal.walk_group-returns-in-Optional-clause-counts
@@ -22,6 +24,21 @@ walk_list-returns-in_default-clause-counts t c =
     let w = Walked-further c.loop-later.invariant.0 _ _ c.read_steps.ensures.goes counted in
     Counts-sequence greatest_year c.args.input.now c.args.parsed.now c.args.tries.now _ _ refl _
     (Walked-counts w (steps_trees-end c.read_steps.result.0.now (omega arith)))
+
+pub walk_list-returns-in-Some-clause-answers : goal.walk_list-returns-in-Some-clause-answers
+walk_list-returns-in-Some-clause-answers t c =
+    let counted = c.add.ensures ∙ raised_further _ _ _ _ c.read_steps.ensures.fewer c.loop-later.invariant.2 in
+    let w = Walked-further c.loop-later.invariant.0 _ _ c.read_steps.ensures.goes counted in
+    let leaf = rw c.in-Some.is at c.read_steps.ensures.fault in
+    (Goes-refused w.goes leaf.leaf leaf.later leaf.is leaf.refuses, refl)
+
+pub walk_list-returns-in-Some-clause-counts : goal.walk_list-returns-in-Some-clause-counts
+walk_list-returns-in-Some-clause-counts t c =
+    let counted = c.add.ensures ∙ raised_further _ _ _ _ c.read_steps.ensures.fewer c.loop-later.invariant.2 in
+    let w = Walked-further c.loop-later.invariant.0 _ _ c.read_steps.ensures.goes counted in
+    let leaf = rw c.in-Some.is at c.read_steps.ensures.fault in
+    Counts-sequence greatest_year c.args.input.now c.args.parsed.now c.args.tries.now _ _ refl _
+    (Walked-counts_leaf w leaf _ c.add-in-Some.ensures)
 
 pub walk_list-returns-in-Err-clause-answers : goal.walk_list-returns-in-Err-clause-answers
 walk_list-returns-in-Err-clause-answers t c =

@@ -1,23 +1,22 @@
 -- Worked values of RFC 3339 and RFC 2822, read over records, so that a wrong rule in the specs does not check. They
 -- follow from the definitions, and no code lies between.
-use Rattle.std.proofs.Common.{◌≡◌, ◌≢◌, ℕ, List, [], ◌∷◌, ◌++◌, length, pos, neg_ℤ, Bool, true, false, Some, None, codes, refl, sym, ap, inl, arith}
+use Rattle.std.proofs.Common.{◌≡◌, ◌≢◌, ℕ, List, [], ◌∷◌, ◌++◌, length, pos, neg_ℤ, true, false, Some, None, codes, refl, sym, ap, inl, arith}
 use Rattle.time_values.specs.Calendar.{greatest_year}
 use Rattle.time_values.specs.Refusal.{component, literal, range}
 use Rattle.time_values.specs.Shown.{fixed}
-use Rattle.time_values.specs.declared.month.Month.TheVariants.{January, April}
+use Rattle.time_values.specs.declared.month.Month.TheVariants.{January, April, November}
 use Rattle.time_values.specs.declared.weekday.Weekday.TheVariants.{Monday, Saturday}
 use Rattle.time_digits.specs.Digits.{IsDigitRun}
 use Rattle.time_digits.specs.declared.Sign.TheVariants.{Negative, Positive}
 use Rattle.time_digits.proofs.Runs.{IsDigitRun-unique}
 use Rattle.time_readers.specs.IsoPieces.{digits, month, weekday, year}
-use Rattle.time_readers.specs.MailBlanks.{blanks, cfws, comment, comment_end, fws, hours_of, line_fold, no_crlf, opt_cfws, zone_literal}
-use Rattle.time_readers.specs.Readers.{Stand, repeat, zero_or_more}
 use Rattle.time_readers.specs.Rfc2822 as mail
 use Rattle.time_readers.specs.Rfc3339.{Asks, HasForm, InRanges, IsSubsecond, nothing_read, offset_places, time_places}
 use Rattle.time_readers.specs.declared.rfc2822.Numbers.{Numbers as MailNumbers}
 use Rattle.time_readers.specs.declared.rfc2822.Place.TheVariants as mail_place
 use Rattle.time_readers.specs.declared.rfc3339.Numbers.{Numbers}
 use Rattle.time_readers.specs.declared.rfc3339.Place.TheVariants.{Year, YearDash, Month, MonthDash, Day}
+use Rattle.time_readers.proofs.MailDateFacts as mail_facts
 use Rattle.time_readers.proofs.OpenComments.{opt_cfws-short, opt_cfws-one}
 use Rattle.time_readers.proofs.RangedForms.{ranged_forms}
 use Rattle.time_readers.proofs.RangedMail.{ranged_mail}
@@ -308,15 +307,21 @@ module _ (r : Record) where
       (rfc2822_exact Y).one_refusal (codes "Mon, 00 Jan 2021 03:04 GMT") r _ _ (day_0_is_refused (codes "Jan 2021 03:04 GMT")) h in
       cc
 
--- a comment may follow the name of a zone, on both paths
-pub comment_after_a_zone : (ranged : Bool) (n : MailNumbers)
-    → Stand (mail.Asks ranged) mail.offset_places n (codes "GMT (x)") [] (record n { offset_sign = None; offset_hour = pos 0 })
-unfolding zone_literal hours_of opt_cfws cfws fws line_fold blanks no_crlf comment comment_end zero_or_more repeat
-comment_after_a_zone ranged n =
-    let m : MailNumbers = record n { offset_sign = None; offset_hour = pos 0 } in
-    Stand-text (mail.Asks ranged) mail_place.OffsetHour _ n m _ (codes "GMT") _ [] (inl (pos 0, refl, refl))
-    (Stand-text (mail.Asks ranged) mail_place.OffsetMinute _ m m _ [] _ [] (refl, refl)
-    (Stand-text (mail.Asks ranged) mail_place.EndBlanks [] m m _ (codes " (x)") [] [] (refl, refl) (Stand-none (mail.Asks ranged) m [])))
+-- two digits are a year from 1950 to 2049, and a zone's name sets all three parts of the offset
+pub obsolete_date_is_read : (r : Record) → Rfc2822.Reads Y (codes "21 Nov 97 09:55:06 GMT") r [] (record r {
+  day = Some 21;
+  month = Some November;
+  year = Some (pos 1997);
+  hour_24 = Some 9;
+  minute = Some 55;
+  second = Some 6;
+  offset_hour = Some (pos 0);
+  offset_minute = Some (pos 0);
+  offset_second = Some (pos 0);
+  offset_is_negative = false;
+  leap_second_allowed = true;
+})
+obsolete_date_is_read r = (mail_facts.obsolete, mail_facts.obsolete_date, refl)
 
 -- half an hour behind UTC isn't read as ahead
 pub no_mail_offset_turned : Rfc2822.Reads Y (codes "Mon, 02 Jan 2021 03:04:05 -0030") empty []

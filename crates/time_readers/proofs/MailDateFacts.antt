@@ -4,7 +4,7 @@ use Rattle.std.specs.Char.{to_ascii_lowercase}
 use Rattle.std.proofs.Common.{◌≡◌, ◌≢◌, ◌<◌, ◌≤◌, ℕ, ℤ, pos, neg_ℤ, List, [], ◌∷◌, ◌++◌, get_or, take, codes, Option, Some, None, Bool, true, false}
 use Rattle.std.proofs.Common.{inl, inr, refl, ap, sym, ◌∙◌, arith, rules}
 use Rattle.time_values.specs.Names.{weekday_name}
-use Rattle.time_values.specs.declared.month.Month.TheVariants.{January}
+use Rattle.time_values.specs.declared.month.Month.TheVariants.{January, November}
 use Rattle.time_values.specs.declared.weekday.Weekday.{Weekday}
 use Rattle.time_values.specs.declared.weekday.Weekday.TheVariants.{Monday}
 use Rattle.time_digits.specs.declared.Sign.TheVariants.{Negative, Positive}
@@ -128,6 +128,29 @@ two_digit_year_and_a_zone = form_of (
     ([], refl, (refl, refl)) next
     ([], refl, (refl, refl)) next done)
 
+-- an obsolete date of the standard's appendix, and its numbers
+abbrev pub obsolete : Numbers
+obsolete = at_clock (record nothing_read { day = 21; month = November; year = 1997 }) 9 55 (Some 6)
+
+pub obsolete_date : HasForm true (codes "21 Nov 97 09:55:06 GMT") [] obsolete
+unfolding opt_cfws_colon_opt_cfws opt_cfws cfws fws blanks line_fold no_crlf comment comment_end zero_or_more repeat zone_literal hours_of
+obsolete_date = form_of (
+    ([], refl, (None, (refl, no_weekday 50 _ (omega arith)), refl)) next
+    (codes "21", refl, (21, search rules, search rules, refl)) next
+    (codes " ", refl, (refl, refl)) next
+    (codes "Nov", refl, (November, refl, refl)) next
+    (codes " ", refl, (refl, refl)) next
+    (codes "97", refl, (false, 1997, (too_few_digits 4 4 (codes "97") (codes " 09:55:06 GMT") (search rules) (omega arith), (97, search rules, refl)), refl)) next
+    (codes " ", refl, (refl, refl)) next
+    (codes "09", refl, (9, search rules, refl)) next
+    (codes ":", refl, (refl, refl)) next
+    (codes "55", refl, (55, search rules, refl)) next
+    (codes ":06", refl, (Some 6, (codes ":", codes "06", refl, refl, search rules), refl)) next
+    (codes " ", refl, (refl, refl)) next
+    (codes "GMT", refl, inl (pos 0, refl, refl)) next
+    ([], refl, (refl, refl)) next
+    ([], refl, (refl, refl)) next done)
+
 pub minus_of_offset_hour_0 : HasForm true (codes "02 Jan 2021 03:04 -0030") [] (record front { offset_sign = Some Negative; offset_minute = neg_ℤ (pos 30) })
 unfolding opt_cfws_colon_opt_cfws opt_cfws cfws fws blanks line_fold no_crlf comment comment_end zero_or_more repeat zone_literal hours_of
 minus_of_offset_hour_0 = whole true _ _ _ (form_of (
@@ -155,10 +178,12 @@ rest_after_a_zone = whole false _ _ _ (form_of (
     ([], refl, (refl, refl)) next
     ([], refl, (refl, refl)) next done))
 
-pub hour_24_has_the_form : HasForm false (codes "02 Jan 2021 24:00 GMT") [] (at_clock (dated 2 2021 true) 24 0 None)
-unfolding opt_cfws_colon_opt_cfws opt_cfws cfws fws blanks line_fold no_crlf comment comment_end zero_or_more repeat zone_literal hours_of
-hour_24_has_the_form = Stand-append (Asks false) to_month_places (clock_places ++ end_places) nothing_read (dated 2 0 false) _ (codes "02 Jan 2021 24:00 GMT")
-    (codes "2021 24:00 GMT") [] (to_month false (codes "021 24:00 GMT")) (form_of (
+-- bytes may follow the zone
+hour_24 : (after : List ℕ) → zone_literal (codes "GMT" ++ after) ≡ Some (pos 0, after) → opt_cfws after ≡ Some after
+    → HasForm false (codes "02 Jan 2021 24:00 GMT" ++ after) after (at_clock (dated 2 2021 true) 24 0 None)
+unfolding opt_cfws_colon_opt_cfws opt_cfws cfws fws blanks line_fold no_crlf comment comment_end zero_or_more repeat
+hour_24 after zone no_blank = Stand-append (Asks false) to_month_places (clock_places ++ end_places) nothing_read (dated 2 0 false) _
+    (codes "02 Jan 2021 24:00 GMT" ++ after) (codes "2021 24:00 GMT" ++ after) after (to_month false (codes "021 24:00 GMT" ++ after)) (form_of (
     (codes "2021", refl, (true, 2021, search rules, refl)) next
     (codes " ", refl, (refl, refl)) next
     (codes "24", refl, (24, search rules, refl)) next
@@ -166,15 +191,23 @@ hour_24_has_the_form = Stand-append (Asks false) to_month_places (clock_places +
     (codes "00", refl, (0, search rules, refl)) next
     ([], refl, (None, (refl, refl), refl)) next
     (codes " ", refl, (refl, refl)) next
-    (codes "GMT", refl, inl (pos 0, refl, refl)) next
+    (codes "GMT", refl, inl (pos 0, zone, refl)) next
     ([], refl, (refl, refl)) next
-    ([], refl, (refl, refl)) next done))
+    ([], refl, (no_blank, refl)) next done))
+
+pub hour_24_has_the_form : HasForm false (codes "02 Jan 2021 24:00 GMT") [] (at_clock (dated 2 2021 true) 24 0 None)
+unfolding opt_cfws cfws fws blanks line_fold no_crlf comment comment_end zero_or_more repeat zone_literal hours_of
+hour_24_has_the_form = hour_24 [] refl refl
+
+pub rest_after_hour_24 : HasForm false (codes "02 Jan 2021 24:00 GMTx") (codes "x") (at_clock (dated 2 2021 true) 24 0 None)
+unfolding opt_cfws cfws fws blanks line_fold no_crlf comment comment_end zero_or_more repeat zone_literal hours_of
+rest_after_hour_24 = hour_24 (codes "x") refl refl
 
 -- ---- Dates without it, by the first place that doesn't match
 
-pub weekday_without_a_comma : FailsAt true (codes "Mon 02 Jan 2021 03:04 +0000") WeekdayName
+pub weekday_without_a_comma : (check : Bool) → FailsAt check (codes "Mon 02 Jan 2021 03:04 +0000") WeekdayName
 unfolding opt_cfws cfws fws blanks line_fold no_crlf comment comment_end zero_or_more repeat
-weekday_without_a_comma = record {
+weekday_without_a_comma check = record {
   before = [];
   after = _;
   place = refl;

@@ -2,7 +2,6 @@
 use crate::folder::find;
 use crate::output::Erasing;
 use crate::progress::{Progress, Telling};
-use crate::tell_unprepared;
 use programs_streams::{Counted, Sink};
 use restamp_command::{Request, replace};
 use restamp_in_place::{Made, Step, Target, Unreplaced, backup_name, write_unreplaced};
@@ -10,7 +9,6 @@ use restamp_stream::{Block, Stop, Tally, status};
 use std::alloc::Global;
 use std::io;
 use std::io::{BufWriter, ErrorKind};
-use time_zones::Disk as ZoneDisk;
 
 // The name of a file's backup, where one is asked for.
 fn backup_of(alloc: Global, name: &str, suffix: &str) -> io::Result<Option<String>> {
@@ -32,7 +30,7 @@ fn target_of<'a>(name: &'a str, backup: Option<&'a str>, shown: &'a [u8]) -> Tar
 // Replaces a file, where it is one that may be.
 fn try_to_replace<'a, L: Sink + Drop>(
     rt: &'a HostRuntime,
-    request: &mut Request<'_>,
+    request: &Request<'_>,
     shown: &'a [u8],
     progress: &'a Progress<'a, HostRuntime>,
     log: L,
@@ -60,14 +58,13 @@ fn try_to_replace<'a, L: Sink + Drop>(
         None => None,
     };
     let target = target_of(name.as_str(), second, shown);
-    let files = ZoneDisk { rt };
-    replace(files, request, target, &mut folder, rt.alloc(), log, block)
+    replace(request, target, &mut folder, rt.alloc(), log, block)
 }
 
 // The same, and tells why it wasn't replaced. A file of which a read failed, or that wasn't replaced, stops nothing.
 fn replace_next<'a, L: Sink + Drop>(
     rt: &'a HostRuntime,
-    request: &mut Request<'_>,
+    request: &Request<'_>,
     shown: &'a [u8],
     progress: &'a Progress<'a, HostRuntime>,
     log: L,
@@ -98,7 +95,7 @@ fn add(total: &mut Tally, file: &Tally) {
 /// Replaces the files, one after the other, and gives the exit status.
 pub(crate) fn replace_all(
     rt: &HostRuntime,
-    request: &mut Request<'_>,
+    request: &Request<'_>,
     names: &[&[u8]],
     telling: Telling,
 ) -> io::Result<u8> {
@@ -118,8 +115,5 @@ pub(crate) fn replace_all(
     }
     drop(log);
     progress.erase();
-    if let Some(Stop::Unprepared) = stop {
-        tell_unprepared(rt)?;
-    }
     Ok(status(&total, stop, request.strict))
 }

@@ -16,8 +16,7 @@ use opening::Disk;
 use output::Erasing;
 use programs_streams::Counted;
 use progress::{Progress, Telling};
-use restamp_command::{Fault, Request, serve};
-use restamp_options::{Options, make_command};
+use restamp_command::{Fault, Options, Request, make_command, serve};
 use restamp_stream::{Block, Stop, Stream, status};
 use std::alloc::AllocError;
 use std::convert::TryFrom;
@@ -26,7 +25,6 @@ use std::process::ExitCode;
 use std::time::SystemTime;
 use std::{env, io};
 use time_values::UtcDateTime;
-use time_zones::Disk as ZoneDisk;
 use words::words_of;
 
 // The names of the files, or that of standard input where none is given.
@@ -67,17 +65,12 @@ fn tell_unwritten(rt: &HostRuntime, failure: Option<ErrorKind>) -> io::Result<()
     }
 }
 
-/// Tells that memory ran out for what a line asks for.
-pub(crate) fn tell_unprepared(rt: &HostRuntime) -> io::Result<()> {
-    eprintln!(rt; "restamp: memory is short for the zones that lines name")
-}
-
 // Answers the files, and gives the exit status. It stands in line, so that the loop over lines has what the options ask for
 // in its own frame.
 #[inline(always)]
 fn answer(
     rt: &HostRuntime,
-    request: &mut Request<'_>,
+    request: &Request<'_>,
     names: &[&[u8]],
     telling: Telling,
 ) -> io::Result<u8> {
@@ -86,28 +79,16 @@ fn answer(
     let log = BufWriter::new(rt.alloc(), Erasing::new(rt.stderr(), &progress))?;
     let mut stream = Stream::new(out, Counted::new(log));
     let mut disk = Disk::new(rt, &progress);
-    let files = ZoneDisk { rt };
-    let mut block = Block::new();
-    let served = serve(
-        rt.alloc(),
-        files,
-        request,
-        names,
-        &mut disk,
-        &mut stream,
-        &mut block,
-    );
-    let stop = served.err();
+    let stop = match serve(request, names, &mut disk, &mut stream, &mut Block::new()) {
+        Ok(()) => None,
+        Err(stop) => Some(stop),
+    };
     let (out, log, tally) = stream.into_parts();
     drop(log);
     progress.erase();
-    match stop {
-        Some(Stop::Unwritten) => {
-            let (_, error) = out.into_parts();
-            tell_unwritten(rt, error.map(|error| error.kind()))?;
-        }
-        Some(Stop::Unprepared) => tell_unprepared(rt)?,
-        _ => {}
+    if let Some(Stop::Unwritten) = stop {
+        let (_, error) = out.into_parts();
+        tell_unwritten(rt, error.map(|error| error.kind()))?;
     }
     Ok(status(&tally, stop, request.strict))
 }
@@ -177,7 +158,7 @@ fn follow_in_place(rt: &HostRuntime, matches: &ArgMatches<'_>) -> io::Result<u8>
         }
     }
     match Request::new(rt, &Options::of(matches), shows_colors(rt), now_of(rt)) {
-        Ok(mut request) => replace_all(rt, &mut request, names.as_slice(), telling_of(rt, matches)),
+        Ok(request) => replace_all(rt, &request, names.as_slice(), telling_of(rt, matches)),
         Err(fault) => tell(rt, fault),
     }
 }
@@ -187,7 +168,7 @@ fn follow_in_place(rt: &HostRuntime, matches: &ArgMatches<'_>) -> io::Result<u8>
 fn follow_lines(rt: &HostRuntime, matches: &ArgMatches<'_>) -> io::Result<u8> {
     let names = names_of(rt, matches)?;
     match Request::new(rt, &Options::of(matches), shows_colors(rt), now_of(rt)) {
-        Ok(mut request) => answer(rt, &mut request, names.as_slice(), telling_of(rt, matches)),
+        Ok(request) => answer(rt, &request, names.as_slice(), telling_of(rt, matches)),
         Err(fault) => tell(rt, fault),
     }
 }

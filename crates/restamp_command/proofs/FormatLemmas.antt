@@ -2,8 +2,6 @@
 use Rattle.std.specs.Int.{int_div_euclid}
 use Rattle.std.specs.Fmt.{decimal}
 use Rattle.std.specs.Io.KnownBytes.{Appends}
-use Rattle.std.specs.declared.alloc.Global.{Global}
-use Rattle.std.specs.declared.vec.Vec.{Vec}
 use Rattle.std.proofs.Common.{◌≡◌, ℕ, ℤ, pos, neg_ℤ, negsuc, arith, Some, None, zero, suc, ◌+◌, ◌<◌, List, [], ◌∷◌, ◌++◌, length, take, map, get_or, Bool, Option, inl, inr, sym, ap, subst, ◌-◌, min, codes, true, drop, append_assoc, length-drop, ◌∙◌}
 use Rattle.std.proofs.lemmas.Int.{ints}
 use Rattle.std.proofs.lemmas.List.{map_more, take_all, take_min, drop_min}
@@ -14,23 +12,16 @@ use Rattle.time_values.specs.MovedClocks.{IsNear}
 use Rattle.time_values.specs.Refusal.{Refusal}
 use Rattle.time_values.specs.declared.utc_date_time.UtcDateTime.{UtcDateTime}
 use Rattle.time_values.proofs.InstantLemmas.{first_instant_is, is_instant-IsInstant, last_instant_is}
-use Rattle.time_zones.specs.Finding.{Giving}
 use Rattle.restamp_stream.specs.Reports.{reason_text}
-use Rattle.restamp_stream.specs.declared.settings.Settings.{Settings}
 use Rattle.restamp_verdict.specs.declared.reading.Reading.{Reading}
-use Rattle.restamp_verdict.specs.Prepared.{LooksUpFor, AllLookUpFor}
-use Rattle.restamp_verdict.specs.declared.form.Form.{Form}
-use Rattle.restamp_verdict.specs.declared.job.Job.{Job}
-use Rattle.restamp_verdict.specs.declared.reading.Defaults.{Defaults}
-use Rattle.restamp_options.specs.Options.{other_names}
-use Rattle.restamp_options.specs.declared.options.Options.{Options}
+use Rattle.restamp_command.specs.Options.{other_names}
+use Rattle.restamp_command.specs.declared.options.Options.{Options}
 use Rattle.restamp_command.specs.Fault as fault
 use Rattle.restamp_command.specs.Fault.{Fault}
-use Rattle.restamp_command.specs.Request.{AddsFormats, IsFault, IsFaultAt, IsFormat, IsFormatFault, IsOneOf, IsSuffixFault, gives_year, zone_of, AreSettingsOf, IsJobOf, LooksUp, with_formats}
-use Rattle.restamp_command.specs.Zones.{IsZone, AreDefaultsOf, IsClockOf}
+use Rattle.restamp_command.specs.Request.{AddsFormats, IsFault, IsFaultAt, IsFormat, IsFormatFault, IsOneOf, IsSuffixFault, gives_year, zone_of}
+use Rattle.restamp_command.specs.Zones.{IsZone}
 use Rattle.restamp_command.specs.declared.zone.Zone.{Zone}
-use Rattle.restamp_command.specs.Rewriting.{around, blanks, red, pointer, told_reason, Grows}
-use Rattle.restamp_command.specs.declared.request.Request.{Request}
+use Rattle.restamp_command.specs.Rewriting.{around, blanks, red, pointer, told_reason}
 
 -- ---- Instants near 1970, their days, and those that have no date
 
@@ -154,42 +145,3 @@ pub Appends-plain : (a b c : Option (List ℕ)) (reason expected : List ℕ) (co
     → Appends a c (reason_text column (reason ++ expected))
 Appends-plain a b c reason expected column p q =
     subst (Appends a c) (plain_joined (decimal column) (codes ": ") reason expected) (Appends-trans a b c _ expected p q)
-
--- ---- The job of a request whose zones were looked up
-
--- Such a request has the job that one job comes to by looking up zones.
-pub job_grown : (Gives : Giving) (a b : Request) (job later : Job) → IsJobOf a job → Grows Gives job later → later.first ≡ b.first
-    → later.others ≡ b.others → b ≡ with_formats a b.first b.others → IsJobOf b later
-job_grown Gives a b job later p grows first others same =
-    let here : IsJobOf (with_formats a b.first b.others) later = record {
-      place = grows.place ∙ p.place;
-      first = first;
-      others = others;
-      defaults = subst (λ (d : Defaults). AreDefaultsOf a.given d) (sym grows.defaults) p.defaults;
-      writing = ap (λ (form : Form). form.writing.now) grows.form ∙ p.writing;
-      digits = ap (λ (form : Form). form.digits) grows.form ∙ p.digits;
-      clock = subst (λ (form : Form). IsClockOf a.style.zone form.clock) (sym grows.form) p.clock;
-      since = grows.since ∙ p.since;
-      until = grows.until ∙ p.until;
-      asks_for_times = grows.asks_for_times ∙ p.asks_for_times;
-    } in
-    subst (λ (r : Request). IsJobOf r later) (sym same) here
-
--- It has the same settings.
-pub settings_grown : (a b : Request) (s : Settings) → AreSettingsOf a s → b ≡ with_formats a b.first b.others → AreSettingsOf b s
-settings_grown a b s p same =
-    let here : AreSettingsOf (with_formats a b.first b.others) s =
-    record { output = p.output; suffix = p.suffix; reports = p.reports; strict = p.strict } in
-    subst (λ (r : Request). AreSettingsOf r s) (sym same) here
-
-pub request_grown : (Gives : Giving) (old b : Request) (job later : Job) → job.first ≡ old.first → job.others ≡ old.others
-    → Grows Gives job later → later.first ≡ b.first → later.others ≡ b.others → b ≡ with_formats old b.first b.others → LooksUp Gives old b
-request_grown Gives old b job later e f grows first others same = record {
-  first =
-      subst (λ (format : Reading). LooksUpFor Gives (λ name. Unit {0}) format b.first) e
-      (subst (LooksUpFor Gives (λ name. Unit {0}) job.first) first grows.first);
-  others =
-      subst (λ (formats : Vec Reading Global). AllLookUpFor Gives (λ name. Unit {0}) formats.items b.others.items) f
-      (subst (λ (formats : Vec Reading Global). AllLookUpFor Gives (λ name. Unit {0}) job.others.items formats.items) others grows.others);
-  same = same;
-}

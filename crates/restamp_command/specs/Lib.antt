@@ -1,3 +1,4 @@
+pub mod Options
 pub mod Fault
 pub mod Values
 pub mod Zones

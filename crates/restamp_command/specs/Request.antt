@@ -1,8 +1,6 @@
 -- What options ask for. `Y` is the greatest year.
 use Rattle.std.specs.Prelude.{◌≡◌, ℕ, ℤ, List, [], ◌∷◌, ◌++◌, codes, Bool, true, false, ◌&&◌, ◌||◌, not, if◌then◌else◌, ◌==◌, ◌⊎◌, MatchBool, Option, None, Some, is_some, IfSome, IsSomeAnd, Result, Ok, Err}
 use Rattle.std.specs.Borrow.{Bor}
-use Rattle.std.specs.declared.alloc.Global.{Global}
-use Rattle.std.specs.declared.vec.Vec.{Vec}
 use Rattle.std.specs.List.{list_any}
 use Rattle.std.specs.Option.{option_map}
 use Rattle.std.specs.Str.{bytes_eq}
@@ -12,7 +10,6 @@ use Rattle.restamp_place.specs.declared.fields.Fields.{Fields}
 use Rattle.restamp_place.specs.declared.fields.Fields.TheVariants.{Delimited, Blank, Quoted}
 use Rattle.restamp_verdict.specs.Lack.{format_lack, takes}
 use Rattle.restamp_verdict.specs.Naming as naming
-use Rattle.restamp_verdict.specs.Prepared.{LooksUpFor, AllLookUpFor}
 use Rattle.restamp_verdict.specs.Naming.{Means, MeansWriting, meaning_of, way_of}
 use Rattle.restamp_verdict.specs.declared.form.Named.TheVariants.{Rfc3339}
 use Rattle.restamp_verdict.specs.declared.form.Writing.{Writing}
@@ -25,8 +22,8 @@ use Rattle.restamp_verdict.specs.declared.local.Fold.TheVariants.{Refuse}
 use Rattle.restamp_verdict.specs.declared.reading.Defaults.{Defaults}
 use Rattle.restamp_verdict.specs.declared.reading.Reading.{Reading}
 use Rattle.restamp_verdict.specs.declared.reading.Reading.TheVariants as reading
-use Rattle.restamp_options.specs.Options.{other_names, text_behind}
-use Rattle.restamp_options.specs.declared.options.Options.{Options}
+use Rattle.restamp_command.specs.Options.{other_names, text_behind}
+use Rattle.restamp_command.specs.declared.options.Options.{Options}
 use Rattle.restamp_stream.specs.declared.settings.Output.{Output}
 use Rattle.restamp_stream.specs.declared.settings.Output.TheVariants.{AllLines, RewrittenLines, Times}
 use Rattle.restamp_stream.specs.declared.settings.Reports.{Reports}
@@ -36,7 +33,7 @@ use Rattle.time_values.specs.Offsets.{IsUtc}
 use Rattle.time_values.specs.declared.offset_date_time.OffsetDateTime.{OffsetDateTime}
 use Rattle.time_values.specs.declared.utc_date_time.UtcDateTime.{UtcDateTime}
 use Rattle.time_values.specs.declared.utc_offset.UtcOffset.{UtcOffset}
-use Rattle.time_zones.specs.Finding.{Giving, zone_named, IsFolderFault}
+use Rattle.time_zones.specs.Finding.{zone_named, IsFolderFault}
 use Rattle.time_zones.specs.declared.finding.NamedZone.TheVariants as NamedZone
 use Rattle.restamp_command.specs.Fault as fault
 use Rattle.restamp_command.specs.Fault.{Fault, NoMoment, seen_none}
@@ -362,21 +359,11 @@ pub record AreSettingsOf (r : Request) (s : Settings) : Type 0 where
   pub reports : s.reports ≡ r.reports
   pub strict : s.strict ≡ r.stops
 
--- the same request with those formats
-abbrev pub with_formats : Request → Reading → Vec Reading Global → Request
-with_formats r first others = record r { first = first; others = others }
-
--- A request is the same, but for zones that were looked up in files.
-pub record LooksUp (Gives : Giving) (old new : Request) : Type 0 where
-  pub first : LooksUpFor Gives (λ name. Unit {0}) old.first new.first
-  pub others : AllLookUpFor Gives (λ name. Unit {0}) old.others.items new.others.items
-  pub same : new ≡ with_formats old new.first new.others
-
 -- A job does what a request asks for.
 pub record IsJobOf (r : Request) (job : Job) : Type 0 where
   pub place : job.place ≡ r.place
-  pub first : job.first ≡ r.first
-  pub others : job.others ≡ r.others
+  pub first : job.first.now ≡ r.first
+  pub others : job.others.now ≡ r.others.items
   pub defaults : AreDefaultsOf r.given job.defaults
   pub writing : job.form.writing.now ≡ r.style.writing
   pub digits : job.form.digits ≡ r.style.digits

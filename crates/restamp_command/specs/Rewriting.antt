@@ -7,14 +7,11 @@ use Rattle.time_locating.specs.Misses.{Wanted, these_bytes, named, the_end}
 use Rattle.restamp_stream.specs.declared.fate.Fate.{Fate}
 use Rattle.restamp_stream.specs.declared.fate.Fate.TheVariants.{Without, Rewritten, Dropped, Refused}
 use Rattle.restamp_verdict.specs.Job.{Verdict, without, rewritten, dropped, refused, IsJudged}
-use Rattle.restamp_verdict.specs.Prepared.{IsReady, LooksUp}
 use Rattle.restamp_verdict.specs.Wrong.{IsLack, why_text, IsWrong, Wrong}
 use Rattle.restamp_verdict.specs.Reason.{Reason}
 use Rattle.restamp_verdict.specs.declared.job.Job.{Job}
 use Rattle.restamp_verdict.specs.declared.lack.Lack.{Lack}
 use Rattle.restamp_verdict.proofs.OneVerdict.{one_verdict}
-use Rattle.restamp_verdict.proofs.PreparedLemmas.{ready_stays, judged_stays, wrong_stays, lack_stays, looks_up_none, looks_up_on}
-use Rattle.time_zones.specs.Finding.{Giving}
 use Rattle.restamp_verdict.proofs.OneWrong.{one_lack, one_wrong}
 
 -- ---- A refused line as a terminal shows it
@@ -65,10 +62,9 @@ fate_of (rewritten start n text) = Rewritten start (start + n) (record { items =
 fate_of dropped = Dropped
 fate_of (refused column reason) = Refused
 
--- A line of that front has that fate, by zones that were looked up.
+-- A line of that front has that fate.
 abbrev pub IsFate : ℕ → Job → List ℕ → Fate → Type 0
-IsFate Y job front fate =
-    IsReady front job × ((verdict : Verdict) × IsJudged Y job front verdict × (fate ≡ fate_of verdict))
+IsFate Y job front fate = (verdict : Verdict) × IsJudged Y job front verdict × (fate ≡ fate_of verdict)
 
 -- how it is told that a front goes wrong there for a reason, about the clocks of a zone that is called so, or for what
 -- its time lacks: with what was expected, and the line below it where it is to be shown
@@ -83,17 +79,16 @@ TellsWrong Y job zone shows_lines front begin reason column text =
     (w : Wrong) × (lack : Option Lack) × IsWrong Y job front begin reason w × IsLack Y job front reason lack
     × (column ≡ w.column) × (text ≡ told_wrong shows_lines front zone reason lack w)
 
--- A front is refused by such zones, goes wrong at that column, and that text tells the reason.
+-- A front is refused, goes wrong at that column, and that text tells the reason.
 abbrev pub IsReason : ℕ → Job → List ℕ → Bool → List ℕ → ℕ → List ℕ → Type 0
 IsReason Y job zone shows_lines front column text =
-    IsReady front job
-    × ((begin : ℕ) × (reason : Reason) × IsJudged Y job front (refused begin reason)
-    × TellsWrong Y job zone shows_lines front begin reason column text)
+    (begin : ℕ) × (reason : Reason) × IsJudged Y job front (refused begin reason)
+    × TellsWrong Y job zone shows_lines front begin reason column text
 
 -- A front has one fate.
 pub one_fate : (job : Job) (front : List ℕ) (a b : Fate)
     → IsFate greatest_year job front a → IsFate greatest_year job front b → a ≡ b
-one_fate job front a b (ready, p) (other, q) = p.2 ∙ ap fate_of (one_verdict job front p.0 q.0 p.1 q.1) ∙ sym q.2
+one_fate job front a b p q = p.2 ∙ ap fate_of (one_verdict job front p.0 q.0 p.1 q.1) ∙ sym q.2
 
 -- A front of that verdict goes wrong there, and that text tells it.
 Tells : Job → List ℕ → Bool → List ℕ → ℕ → List ℕ → Verdict → Type 0
@@ -111,7 +106,7 @@ pub one_reason : (job : Job) (zone : List ℕ) (shows_lines : Bool) (front : Lis
     → (column ≡ other) × (reason ≡ why)
 unfolding Tells
 one_reason job zone shows_lines front column other reason why
-    (ready, (begin, e, judged, told)) (other_ready, (start, f, same_judged, same_told)) =
+    (begin, e, judged, told) (start, f, same_judged, same_told) =
     let verdict = one_verdict job front (refused begin e) (refused start f) judged same_judged in
     let there : TellsWrong greatest_year job zone shows_lines front start f column reason =
     subst (λ (v : Verdict). Tells job zone shows_lines front column reason v) verdict told in
@@ -121,51 +116,3 @@ one_reason job zone shows_lines front column other reason why
       there.5 ∙ ap (λ (l : Option Lack). told_wrong shows_lines front zone f l there.0) lack
           ∙ ap (told_wrong shows_lines front zone f same_told.1) one ∙ sym same_told.5,
     )
-
--- ---- What was looked up, and what is said by it
-
--- The one job comes of the other by looking up zones in files.
-abbrev pub Grows : Giving → Job → Job → Type 0
-Grows Gives job later = LooksUp Gives (λ name. Unit {0}) job later
-
--- A front keeps its fate.
-pub fate_stays : (Gives : Giving) (job later : Job) (front : List ℕ) (fate : Fate) → Grows Gives job later
-    → IsFate greatest_year job front fate → IsFate greatest_year later front fate
-fate_stays Gives job later front fate grows (ready, p) = (
-  ready_stays Gives (λ name. Unit {0}) front job later grows ready,
-  (p.0, judged_stays Gives (λ name. Unit {0}) front job later p.0 grows ready p.1, p.2),
-)
-
--- It is refused at the same column and for the same reason.
-pub reason_stays : (Gives : Giving) (job later : Job) (zone other : List ℕ) (shows_lines shows : Bool) (front : List ℕ)
-    (column : ℕ) (text : List ℕ) → Grows Gives job later → other ≡ zone → shows ≡ shows_lines
-    → IsReason greatest_year job zone shows_lines front column text
-    → IsReason greatest_year later other shows front column text
-reason_stays Gives job later zone other shows_lines shows front column text grows same_zone same_shows
-    (ready, (begin, e, judged, told)) =
-    let here : IsReason greatest_year later zone shows_lines front column text = (
-      ready_stays Gives (λ name. Unit {0}) front job later grows ready,
-      (
-        begin,
-        e,
-        judged_stays Gives (λ name. Unit {0}) front job later (refused begin e) grows ready judged,
-        (
-          told.0,
-          told.1,
-          wrong_stays Gives (λ name. Unit {0}) front job later grows begin e told.0 told.2,
-          lack_stays Gives (λ name. Unit {0}) front job later grows e told.1 told.3,
-          told.4,
-          told.5,
-        ),
-      ),
-    ) in
-    subst (λ (z : List ℕ). IsReason greatest_year later z shows front column text) (sym same_zone)
-    (subst (λ (b : Bool). IsReason greatest_year later zone b front column text) (sym same_shows) here)
-
--- More is looked up in the same files.
-pub grows_on : {X : Type 0} (gives : X → Giving) (x y : X) (a b c : Job)
-    → Grows (gives x) a b → Grows (gives y) b c → y ≡ x → Grows (gives x) a c
-grows_on gives x y a b c p q same = looks_up_on (gives x) a b c p (subst (λ v. Grows (gives v) b c) same q)
-
-pub grows_none : (Gives : Giving) (job : Job) → Grows Gives job job
-grows_none Gives job = looks_up_none Gives (λ name. Unit {0}) job

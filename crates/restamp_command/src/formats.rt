@@ -1,12 +1,12 @@
 //! The formats that the options ask for.
 ghost use Rattle.std.specs.Prelude.{◌≡◌, [], ◌∷◌, IfErr, MatchResult, OnOk, map};
 ghost use Rattle.time_values.specs.Calendar.{greatest_year};
-ghost use Rattle.restamp_options.specs.Options as options_;
+ghost use Rattle.restamp_command.specs.Options as options_;
 ghost use Rattle.restamp_command.specs.Fault.{told};
 ghost use Rattle.restamp_command.specs.Request as spec;
 
 use crate::fault::Fault;
-use restamp_options::Options;
+use crate::options::Options;
 use restamp_verdict::{Reading, find_reading};
 use std::rt::{Env, Files};
 use time_zones::find_zones;

@@ -1,18 +1,23 @@
-//! What the options of `restamp` ask for, and the answer to files.
+//! The options of `restamp`, what they ask for, and the answer to files.
 #![tactic(auto)]
 
 mod bounds;
+mod command;
 mod fault;
 mod formats;
+mod options;
 mod pointing;
 mod request;
 mod rewriting;
 mod style;
+mod table;
 mod uses;
 mod values;
 mod zone;
 
+pub use command::make_command;
 pub use fault::{Fault, NoMoment};
+pub use options::Options;
 pub use request::Request;
 pub use rewriting::{Restamping, replace, serve};
 pub use style::Style;

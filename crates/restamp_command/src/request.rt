@@ -1,20 +1,20 @@
 //! What the options ask for.
 ghost use Rattle.std.specs.Prelude.{◌≡◌, MatchResult, Some};
 ghost use Rattle.time_values.specs.Calendar.{greatest_year};
-ghost use Rattle.restamp_options.specs.Options.{text_behind};
+ghost use Rattle.restamp_command.specs.Options.{text_behind};
 ghost use Rattle.restamp_command.specs.Fault.{told};
 ghost use Rattle.restamp_command.specs.Request as spec;
 
 use crate::bounds::find_moment;
 use crate::fault::{Fault, NoMoment};
 use crate::formats::{add_formats, find_first, gives_year, other_names};
+use crate::options::Options;
 use crate::style::{Style, find_style};
 use crate::uses::find_unused;
 use crate::values::{
     find_delimiter, find_fold, find_number, find_offset, find_positive, find_shows, find_year,
 };
 use crate::zone::{Given, Local};
-use restamp_options::Options;
 use restamp_place::{Fields, Place};
 use restamp_stream::{Output, Reports, Settings};
 use restamp_verdict::{Defaults, Fold, Form, Job, Reading};
@@ -325,7 +325,7 @@ fn find_bounds<'a>(
 
 impl<'a> Request<'a> {
     /// What the options ask for. Where `--color` is `auto`, colours are shown if reports go to a terminal. A zone that they
-    /// name is read from its file, and for the format `rfc9557` the folder of zones is opened. The clock shows `now`, or
+    /// name is read from its file, and for the format `rfc9557` all zones of the system are. The clock shows `now`, or
     /// `None` out of its range, which counts only where a bound is a word.
     ///
     /// # Errors
@@ -392,14 +392,14 @@ impl<'a> Request<'a> {
         }
     }
 
-    /// What is done with each line, where these are the formats.
-    pub fn job(&self, first: Reading, others: Vec<Reading>) -> Job<'_>
-        ensures { spec.IsJobOf (spec.with_formats self.now first others) result }
+    /// What is done with each line.
+    pub fn job(&self) -> Job<'_>
+        ensures { spec.IsJobOf self.now result }
     {
         Job {
             place: self.place,
-            first,
-            others,
+            first: &self.first,
+            others: self.others.as_slice(),
             defaults: self.given.defaults(),
             form: Form {
                 writing: &self.style.writing,

@@ -4,13 +4,13 @@ ghost use Rattle.std.specs.Prelude.{◌≡◌, ◌≢◌, IfErr, IfSome, OnOk, m
 ghost use Rattle.time_values.specs.Calendar.{greatest_year};
 ghost use Rattle.programs_streams.specs.Faults.{HasCause};
 ghost use Rattle.restamp_in_place.specs.Replacing.{Makes, Replaces};
-ghost use Rattle.restamp_stream.specs.Streams.{job_of, DidFiles, StoppedIn, state_of, IsAtLine};
+ghost use Rattle.restamp_stream.specs.Streams.{job_of, DidFiles, StoppedIn, state_of};
 ghost use Rattle.restamp_stream.specs.Causes.{faults_of, HasWriteCause};
 ghost use Rattle.restamp_stream.specs.Reports.{WritesReason};
 ghost use Rattle.restamp_stream.specs.declared.settings.Settings.{Settings as Settings_};
 ghost use Rattle.restamp_verdict.specs.Reason.{seen};
 ghost use Rattle.restamp_verdict.specs.declared.job.Job.{Job as Job_};
-ghost use Rattle.restamp_command.specs.Request.{AreSettingsOf, IsJobOf, LooksUp};
+ghost use Rattle.restamp_command.specs.Request.{AreSettingsOf, IsJobOf};
 ghost use Rattle.restamp_command.specs.Rewriting.{IsFate, IsReason, TellsWrong};
 ghost use Rattle.restamp_command.specs.Zones.{zone_name};
 
@@ -19,30 +19,23 @@ use crate::request::Request;
 use programs_streams::{Sink, Unwritten};
 use restamp_in_place::{Folder, Made, Target, Unreplaced, replace_file};
 use restamp_stream::{Block, Fate, Opening, Rewriting, Stop, Stream, Tally};
-use restamp_verdict::{Job, Outcome, Reading, Reason, Verdict, Why, Wrong};
-use std::alloc::{AllocError, Global};
-use std::mem;
+use restamp_verdict::{Job, Outcome, Reason, Verdict, Why, Wrong};
+use std::alloc::Global;
 use time_values::text::Text;
-use time_zones::ZoneFiles;
 
 /// A job, which says which fate a line has, and how a refused line is told.
-#[derive(Drop)]
-pub struct Restamping<'a, F: Drop> {
+#[derive(Clone, Copy)]
+pub struct Restamping<'a> {
     /// What is done with each line.
     pub job: Job<'a>,
-    /// What reads the files of zones.
-    pub files: F,
     /// What the zone is called whose clocks stand for offsets that times leave out.
     pub zone: &'a str,
     /// Shows a refused line below its reason, with a caret under the column that is told, in colours.
     pub shows_lines: bool,
 }
 
-impl<F: ZoneFiles + Drop> Rewriting for Restamping<'_, F> {
-    ghost use Rattle.std.specs.Prelude.{◌≡◌};
-    ghost use Rattle.std.proofs.Common.{ap, refl, ◌∙◌};
+impl Rewriting for Restamping<'_> {
     ghost use Rattle.time_values.specs.Calendar.{greatest_year};
-    ghost use Rattle.restamp_verdict.specs.Prepared.{IsReady};
     ghost use Rattle.restamp_command.specs.Rewriting as spec;
 
     ghost is_fate = { λ restamping front fate. spec.IsFate greatest_year restamping.job front fate };
@@ -50,35 +43,10 @@ impl<F: ZoneFiles + Drop> Rewriting for Restamping<'_, F> {
     ghost is_reason = { λ restamping front column reason.
         spec.IsReason greatest_year restamping.job restamping.zone.now restamping.shows_lines front column reason };
 
-    ghost is_ready = { λ restamping front. IsReady front restamping.job };
-
-    ghost grows = { λ x y. spec.Grows (F.gives x.files) x.job y.job × (y.files ≡ x.files) × (y.zone ≡ x.zone)
-        × (y.shows_lines ≡ x.shows_lines) };
-
-    ghost stays = { λ x y grows. record {
-      fate = λ front fate is. spec.fate_stays (F.gives x.files) x.job y.job front fate grows.0 is;
-      reason = λ front column text is. spec.reason_stays (F.gives x.files) x.job y.job x.zone.now y.zone.now x.shows_lines
-          y.shows_lines front column text grows.0 (ap (λ zone. zone.now) grows.2) grows.3 is;
-    } };
-
-    ghost grows_none = { λ x. (spec.grows_none (F.gives x.files) x.job, refl, refl, refl) };
-
-    ghost grows_on = { λ x y z p q. (
-      spec.grows_on F.gives x.files y.files x.job y.job z.job p.0 q.0 p.1,
-      q.1 ∙ p.1,
-      q.2 ∙ p.2,
-      q.3 ∙ p.3,
-    ) };
-
     ghost one_fate = { λ restamping front a b p q. spec.one_fate restamping.job front a b p q };
 
     ghost one_reason = { λ restamping front column other reason why p q.
         spec.one_reason restamping.job restamping.zone.now restamping.shows_lines front column other reason why p q };
-
-    #[inline(always)]
-    fn prepare(&mut self, front: &[u8]) -> Result<(), AllocError> {
-        self.job.prepare(&self.files, front)
-    }
 
     #[inline(always)]
     fn fate(&self, front: &[u8]) -> Fate {
@@ -105,16 +73,7 @@ impl<F: ZoneFiles + Drop> Rewriting for Restamping<'_, F> {
     }
 }
 
-impl<F: Drop> Restamping<'_, F> {
-    // The formats of its job.
-    fn into_formats(self) -> (Reading, Vec<Reading>)
-        ensures first { result.0 ≡ self.entry.job.first }
-        ensures others { result.1 ≡ self.entry.job.others }
-    {
-        let Job { first, others, .. } = self.job;
-        (first, others)
-    }
-
+impl Restamping<'_> {
     // Writes the column where a front goes wrong that is refused at a column for a reason, the reason or what the time
     // lacks, and what was expected there. It isn't inlined, so that reports take no place beside lines that are rewritten.
     #[inline(never)]
@@ -147,88 +106,73 @@ impl<F: Drop> Restamping<'_, F> {
     }
 }
 
-/// Answers all lines of the files as it is asked for, one after the other. A zone that a line is the first to name is looked
-/// up in its file, and stays known.
+/// Answers all lines of the files as it is asked for, one after the other.
 ///
 /// A file that can't be opened or read to its end is told to the log, and the others are answered, so that the answer is
-/// never [`Stop::Unread`]. The work stops at a failed write, at a line for whose zones memory runs out, and under
-/// `--strict` at the first refused line, unless it is to go on: the files and lines before that one are answered. After a
-/// failed write nothing is known of how much was written.
-pub fn serve<F: ZoneFiles + Drop, W: Sink, L: Sink, O: Opening>(
-    alloc: Global,
-    files: F,
-    request: &mut Request<'_>,
+/// never [`Stop::Unread`]. The work stops at a failed write, and under `--strict` at the first refused line, unless it is
+/// to go on: the files and lines before that one are answered. After a failed write nothing is known of how much was
+/// written.
+pub fn serve<W: Sink, L: Sink, O: Opening>(
+    request: &Request<'_>,
     names: &[&[u8]],
     opening: &mut O,
     stream: &mut Stream<W, L>,
     block: &mut Block,
 ) -> Result<(), Stop>
-    ensures ok { (job : Job_) × (settings : Settings_) × IsJobOf request.new job × AreSettingsOf request.new settings
-        × OnOk result (DidFiles (IsFate greatest_year job) (IsReason greatest_year job (zone_name request.new.given.local) request.new.shows_lines)
+    ensures ok { (job : Job_) × (settings : Settings_) × IsJobOf request.now job × AreSettingsOf request.now settings
+        × OnOk result (DidFiles (IsFate greatest_year job) (IsReason greatest_year job (zone_name request.now.given.local) request.now.shows_lines)
         settings
         (O.bytes_of opening.old) (O.faults opening.old) (O.faults opening.new)
         (state_of W.contents L.contents stream.old) (state_of W.contents L.contents stream.new)
         (map (λ name. name.now) names.now)) }
     ensures unread { IfErr result (λ stop. stop ≢ Stop.Unread) }
-    ensures stopped { (job : Job_) × (settings : Settings_) × IsJobOf request.new job × AreSettingsOf request.new settings
-        × IfErr result (λ stop. IsAtLine stop →
-        StoppedIn stop (IsFate greatest_year job) (IsReason greatest_year job (zone_name request.new.given.local) request.new.shows_lines) settings
+    ensures refused { (job : Job_) × (settings : Settings_) × IsJobOf request.now job × AreSettingsOf request.now settings
+        × IfErr result (λ stop. stop ≡ Stop.Refused →
+        StoppedIn (IsFate greatest_year job) (IsReason greatest_year job (zone_name request.now.given.local) request.now.shows_lines) settings
         (O.bytes_of opening.old) (O.faults opening.old) (O.faults opening.new)
         (state_of W.contents L.contents stream.old) (state_of W.contents L.contents stream.new)
         (map (λ name. name.now) names.now)) }
     ensures cause { HasWriteCause result (faults_of W.faults L.faults stream.old) (faults_of W.faults L.faults stream.new) }
-    ensures looks_up { LooksUp (F.gives files) request.old request.new }
 {
-    let first = mem::replace(&mut request.first, Reading::Rfc3339);
-    let others = mem::replace(&mut request.others, Vec::new(alloc));
-    let mut rewriting = Restamping {
-        job: request.job(first, others),
-        files,
+    let rewriting = Restamping {
+        job: request.job(),
         zone: request.given.local.zone_name(),
         shows_lines: request.shows_lines,
     };
-    let served = stream.serve_files(&mut rewriting, request.settings(), names, opening, block);
-    let (first, others) = rewriting.into_formats();
-    request.first = first;
-    request.others = others;
-    served
+    stream.serve_files(&rewriting, request.settings(), names, opening, block)
 }
 
 /// Replaces a file by what its lines become as it is asked for, unless no time of it is rewritten. The log is given back,
-/// and how many of the file's lines had which fate. A zone that a line is the first to name is looked up in its file.
+/// and how many of the file's lines had which fate.
 ///
 /// At each moment a crash leaves under the file's name what it might have left before, or the new file, whole.
-pub fn replace<Z: ZoneFiles + Drop, F: Folder, L: Sink + Drop>(
-    files: Z,
-    request: &mut Request<'_>,
+pub fn replace<F: Folder, L: Sink + Drop>(
+    request: &Request<'_>,
     target: Target<'_>,
     folder: &mut F,
     alloc: Global,
     log: L,
     block: &mut Block,
 ) -> (L, Tally, Result<Made, Unreplaced<Stop>>)
-    ensures replaces { (job : Job_) × (settings : Settings_) × IsJobOf request.new job × AreSettingsOf request.new settings
+    ensures { (job : Job_) × (settings : Settings_) × IsJobOf request.now job × AreSettingsOf request.now settings
         × IfSome (F.events folder.old) (λ before. Replaces
-        (Makes (job_of (IsFate greatest_year job) (IsReason greatest_year job (zone_name request.new.given.local) request.new.shows_lines)
+        (Makes (job_of (IsFate greatest_year job) (IsReason greatest_year job (zone_name request.now.given.local) request.now.shows_lines)
         target.entry.shown.now settings) (L.contents log) (L.contents result.0) result.1)
         before (F.events folder.new) target.entry.name.now (option_map (λ second. second.now) target.entry.backup) result.2) }
-    ensures looks_up { LooksUp (Z.gives files) request.old request.new }
 {
     let shows_lines = request.shows_lines;
-    let first = mem::replace(&mut request.first, Reading::Rfc3339);
-    let others = mem::replace(&mut request.others, Vec::new(alloc));
     let rewriting = Restamping {
-        job: request.job(first, others),
-        files,
+        job: request.job(),
         zone: request.given.local.zone_name(),
         shows_lines,
     };
-    let settings = request.settings();
-    let (rewriting, log, tally, ended) = replace_file(
-        rewriting, settings, target, folder, alloc, log, block,
-    );
-    let (first, others) = rewriting.into_formats();
-    request.first = first;
-    request.others = others;
-    (log, tally, ended)
+    replace_file(
+        &rewriting,
+        request.settings(),
+        target,
+        folder,
+        alloc,
+        log,
+        block,
+    )
 }

@@ -7,9 +7,9 @@ ghost use Rattle.restamp_command.specs.Request as spec;
 
 use crate::fault::Fault;
 use crate::formats::is_zoned;
+use crate::options::Options;
 use crate::values::find_digits;
 use crate::zone::{Zone, find_shown};
-use restamp_options::Options;
 use restamp_verdict::{FormatFault, Named, Writing, find_writing};
 use std::alloc::Global;
 use std::rt::{Env, Files};

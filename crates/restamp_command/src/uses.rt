@@ -8,7 +8,7 @@ ghost use Rattle.restamp_command.specs.Fault.{told};
 ghost use Rattle.restamp_command.specs.Request as spec;
 
 use crate::fault::Fault;
-use restamp_options::Options;
+use crate::options::Options;
 use restamp_verdict::{Part, Reading};
 
 // Whether some text of one of the formats may not say that part.

@@ -42,9 +42,3 @@ stored-past number other bytes done apart = let differ : nat_eq number other ≡
 -- names that lead elsewhere differ
 pub names_differ : (done : List Event) (name other : List ℕ) (number : ℕ) → leads done name ≡ Some number → leads done other ≡ None → ¬ (name ≡ other)
 names_differ done name other number there none same = absurd (cc (there, none, ap (leads done) same))
-
--- where a name leads once the new file's own name is taken away
-pub leads-either : (temporary name : List ℕ) (done : List Event) (led : Option ℕ)
-    → leads done temporary ≡ led → (¬ (name ≡ temporary) → leads done name ≡ led) → (b : Bool) → Decides b (name ≡ temporary) → leads done name ≡ led
-leads-either temporary name done led there past true d = ap (leads done) (d.0 refl) ∙ there
-leads-either temporary name done led there past false d = past (λ is. absurd (cc (d.1 is)))

@@ -1,16 +1,9 @@
 -- What each call does to the replacement of a file.
-use Rattle.std.specs.Prelude.{IfSome, IfOk, MatchBool}
 use Rattle.std.proofs.Common.{◌≡◌, ◌⊎◌, ⊎_elim, ℕ, List, [], ◌∷◌, ◌++◌, refl, sym, ◌∙◌, ap, subst, Option, None, Some, Bool, true, false, Result, Ok, Err}
-use Rattle.restamp_stream.specs.declared.fate.Fate.{Fate}
-use Rattle.restamp_stream.specs.declared.settings.Settings.{Settings}
-use Rattle.restamp_stream.specs.declared.tally.Tally.{Tally}
-use Rattle.restamp_stream.specs.Reports.{count_fate, is_named}
-use Rattle.restamp_stream.specs.Streams.{Line, Job, job_of, front_of, IsNaming, AreAnswered, State, Did, DidAll, StaysSo}
-use Rattle.restamp_in_place.specs.Replacing.{Event, leads, Does, Stores, Links, Renames, Removes, Syncs, Makes, Replaces, bytes_at}
+use Rattle.std.specs.Prelude.{IfSome}
+use Rattle.restamp_in_place.specs.Replacing.{Event, leads, Does, Stores, Links, Renames, Removes, Syncs}
 use Rattle.restamp_in_place.specs.Replacing.Event.{Leads, Stored}
 use Rattle.restamp_in_place.specs.Phases.{Aim, IsWritten, Reached, Kept, Ready, Linked, Backed, Loose, LooseBacked, Put, Done, Runs, Goes}
-use Rattle.restamp_in_place.specs.declared.lines.Made.{Made}
-use Rattle.restamp_in_place.specs.declared.lines.Made.TheVariants.{Same}
 use Rattle.restamp_in_place.proofs.PhaseLemmas.{ready, linked, backed, put, loose-renamed, loose-linked, same-loose, done-synced, removed}
 
 -- a call that was done
@@ -152,88 +145,3 @@ module _ (aim : Aim) where
       → IfSome events (λ done. is ≡ true → leads done name ≡ Some number) → IfSome events (λ done. leads done aim.name ≡ Some aim.original)
   known-there None name number is seen same file there = tt
   known-there (Some done) name number is seen same file there = ap (leads done) (sym same) ∙ there seen ∙ ap Some file
-
--- ---- What was made of a file by what is said of fronts is made so by all that say the same
-
-module _ {S : Type 0} (is_fate : S → List ℕ → Fate → Type 0) (is_reason : S → List ℕ → ℕ → List ℕ → Type 0) (now later : S)
-    (stays : StaysSo is_fate is_reason now later) (name : List ℕ) (settings : Settings) where
-  abbrev before_job : Job
-  before_job = job_of (is_fate now) (is_reason now) name settings
-
-  abbrev later_job : Job
-  later_job = job_of (is_fate later) (is_reason later) name settings
-
-  named_so : (t : Tally) (front report : List ℕ) (named : Bool) → MatchBool named (IsNaming before_job t front report) (report ≡ [])
-      → MatchBool named (IsNaming later_job t front report) (report ≡ [])
-  named_so t front report true p = (p.0, p.1, stays.reason front p.0 p.1 p.2, p.3)
-  named_so t front report false p = p
-
-  answered_so : (t : Tally) (lines : List Line) (fates : List Fate) (text reports : List ℕ)
-      → AreAnswered before_job t lines fates text reports → AreAnswered later_job t lines fates text reports
-  answered_so t [] fates text reports p = p
-  answered_so t (line ∷ lines) fates text reports p =
-      let front = front_of before_job line in (
-        p.0,
-        p.1,
-        p.2,
-        p.3,
-        p.4,
-        p.5,
-        (
-          stays.fate front p.0 p.6.0,
-          p.6.1,
-          p.6.2,
-          named_so (count_fate t p.0) front p.4 (is_named settings.reports (count_fate t p.0) p.0) p.6.3,
-        ),
-        answered_so (count_fate t p.0) lines p.1 p.3 p.5 p.7,
-        p.8,
-        p.9,
-        p.10,
-      )
-
-  did_so : (a b : State) (lines : List Line) (fates : List Fate) → Did before_job a b lines fates → Did later_job a b lines fates
-  did_so a b lines fates p = record {
-    text = p.text;
-    reports = p.reports;
-    become = answered_so a.tally lines fates p.text p.reports p.become;
-    written = p.written;
-    reported = p.reported;
-    tallied = p.tallied;
-  }
-
-  did_all_so : (a b : State) (bytes : List ℕ) → DidAll before_job a b bytes → DidAll later_job a b bytes
-  did_all_so a b bytes p = record { fates = p.fates; between = p.between; did = did_so _ _ _ _ p.did; closed = p.closed }
-
-  pub makes_so : (log log' : Option (List ℕ)) (tally : Tally) (old : List ℕ) (made : Option (List ℕ))
-      → Makes before_job log log' tally old made → Makes later_job log log' tally old made
-  makes_so log log' tally old made p = (p.0, did_all_so _ _ _ p.1, p.2)
-
--- ---- The replacement by bytes that are made so
-
-module _ (makes same : List ℕ → Option (List ℕ) → Type 0) (so : (old : List ℕ) (made : Option (List ℕ)) → makes old made → same old made) where
-  made_so : (new bytes : Option (List ℕ)) → IfSome new (λ made. IfSome bytes (λ old. makes old (Some made)))
-      → IfSome new (λ made. IfSome bytes (λ old. same old (Some made)))
-  made_so None bytes p = tt
-  made_so (Some made) None p = tt
-  made_so (Some made) (Some old) p = so old (Some made) p
-
-  none_so : (bytes : Option (List ℕ)) → IfSome bytes (λ old. makes old None) → IfSome bytes (λ old. same old None)
-  none_so None p = tt
-  none_so (Some old) p = so old None p
-
-  same_so : {E : Type 0} (result : Result Made E) (bytes : Option (List ℕ)) → IfOk result (λ how. how ≡ Same → IfSome bytes (λ old. makes old None))
-      → IfOk result (λ how. how ≡ Same → IfSome bytes (λ old. same old None))
-  same_so (Ok how) bytes p = λ is. none_so bytes (p is)
-  same_so (Err e) bytes p = tt
-
-  pub replaces_so : {E : Type 0} (events after : Option (List Event)) (name : List ℕ) (backup : Option (List ℕ)) (result : Result Made E)
-      → IfSome events (λ before. Replaces makes before after name backup result)
-      → IfSome events (λ before. Replaces same before after name backup result)
-  replaces_so None after name backup result p = tt
-  replaces_so (Some before) after name backup result p = record {
-    new = p.new;
-    made = made_so p.new (bytes_at before name) p.made;
-    safe = p.safe;
-    ends = p.ends;
-    same = same_so result (bytes_at before name) p.same;
-  }

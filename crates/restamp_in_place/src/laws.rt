@@ -2,7 +2,6 @@
 ghost use Rattle.restamp_in_place.specs.Replacing.{NowMayBe, SafeIsOldOrNew};
 
 /// What a name leads to is among what a crash may leave: to be safe at a crash is to be safe at a mere stop, too.
-#[tactic(auto, using(crate::proofs::FolderLemmas::may_now))]
 pub fn law_now()
     ensures { NowMayBe }
 {}

@@ -27,21 +27,17 @@ pub trait Making: Drop {
     // From the one to the other it made the new bytes from the old, or none.
     ghost makes: { Self → Self → List ℕ → Option (List ℕ) → Type 0 };
 
-    // From the one to the other all stays that is to stay whatever is made.
-    ghost keeps: { Self → Self → Type 0 };
-
     /// Reads the old bytes to their end, and writes the new ones, or something where there are none. The writer is given
     /// back.
     fn make<R: Source, W: Sink>(self, input: &mut R, out: W) -> (Self, W, Result<Made, Self::Stop>)
-        ensures made { IfOk result.2 (λ made. IfSome (R.remaining input.old) (λ old.
-            (text : List ℕ) × Appends (W.contents out) (W.contents result.1) text × makes self result.0 old (bytes_made made text))) }
-        ensures kept { keeps self result.0 };
+        ensures { IfOk result.2 (λ made. IfSome (R.remaining input.old) (λ old.
+            (text : List ℕ) × Appends (W.contents out) (W.contents result.1) text × makes self result.0 old (bytes_made made text))) };
 }
 
 /// The lines of a file, which make its new bytes by what becomes of them.
 #[derive(Drop)]
-pub(crate) struct Lines<'a, T: Drop, L: Drop> {
-    pub(crate) rewriting: T,
+pub(crate) struct Lines<'a, T, L: Drop> {
+    pub(crate) rewriting: &'a T,
     pub(crate) settings: Settings<'a>,
     /// The file's name, for reports.
     pub(crate) name: &'a [u8],
@@ -63,17 +59,16 @@ fn made_of(tally: &Tally) -> Made
     }
 }
 
-impl<T: Rewriting + Drop, L: Sink + Drop> Lines<'_, T, L> {
+impl<T: Rewriting, L: Sink + Drop> Lines<'_, T, L> {
     // Answers all lines of the old bytes, and writes what they become.
     fn answer<R: Source, W: Sink>(self, input: &mut R, out: W) -> (Self, W, Result<(), Stop>)
-        ensures all { OnOk result.2 (IfSome (R.remaining input.old)
-            (DidAll (job_of (T.is_fate result.0.rewriting) (T.is_reason result.0.rewriting) self.entry.name.now self.entry.settings)
+        ensures { OnOk result.2 (IfSome (R.remaining input.old)
+            (DidAll (job_of (T.is_fate self.entry.rewriting.now) (T.is_reason self.entry.rewriting.now) self.entry.name.now self.entry.settings)
             (state (W.contents out) (L.contents self.entry.log) nothing_counted)
             (state (W.contents result.1) (L.contents result.0.log) result.0.tally))) }
-        ensures grows { T.grows self.entry.rewriting result.0.rewriting }
     {
         let Lines {
-            mut rewriting,
+            rewriting,
             settings,
             name,
             block,
@@ -81,7 +76,7 @@ impl<T: Rewriting + Drop, L: Sink + Drop> Lines<'_, T, L> {
             tally: _,
         } = self;
         let mut stream = Stream::new(out, log);
-        let answered = stream.serve(&mut rewriting, settings, name, input, block);
+        let answered = stream.serve(rewriting, settings, name, input, block);
         let (out, log, tally) = stream.into_parts();
         let lines = Lines {
             rewriting,
@@ -95,17 +90,15 @@ impl<T: Rewriting + Drop, L: Sink + Drop> Lines<'_, T, L> {
     }
 }
 
-impl<T: Rewriting + Drop, L: Sink + Drop> Making for Lines<'_, T, L> {
+impl<T: Rewriting, L: Sink + Drop> Making for Lines<'_, T, L> {
     ghost use Rattle.restamp_in_place.specs.Replacing.{Makes};
     ghost use Rattle.restamp_stream.specs.Streams.{job_of};
 
     type Stop = Stop;
 
     ghost makes = { λ before after old made. Makes
-        (job_of (T.is_fate after.rewriting) (T.is_reason after.rewriting) before.name.now before.settings)
+        (job_of (T.is_fate before.rewriting.now) (T.is_reason before.rewriting.now) before.name.now before.settings)
         (L.contents before.log) (L.contents after.log) after.tally old made };
-
-    ghost keeps = { λ before after. T.grows before.rewriting after.rewriting };
 
     fn make<R: Source, W: Sink>(self, input: &mut R, out: W) -> (Self, W, Result<Made, Stop>) {
         let (lines, out, answered) = self.answer(input, out);

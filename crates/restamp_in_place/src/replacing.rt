@@ -249,9 +249,8 @@ pub fn replace<F: Folder, M: Making>(
     backup: Option<&str>,
     maker: M,
 ) -> (M, Result<Made, Unreplaced<M::Stop>>)
-    ensures replaces { IfSome (F.events folder.old) (λ before. Replaces (M.makes maker result.0) before (F.events folder.new)
+    ensures { IfSome (F.events folder.old) (λ before. Replaces (M.makes maker result.0) before (F.events folder.new)
         name.now (option_map (λ second. second.now) backup.entry) result.1) }
-    ensures kept { (result.0 ≡ maker) ⊎ M.keeps maker result.0 }
 {
     let (mut input, original) = match folder.open(name) {
         Ok(opened) => opened,

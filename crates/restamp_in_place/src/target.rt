@@ -2,7 +2,7 @@
 ghost use Rattle.std.specs.Option.{option_map};
 ghost use Rattle.std.specs.Prelude.{IfSome};
 ghost use Rattle.restamp_in_place.specs.Replacing.{Makes, Replaces};
-ghost use Rattle.restamp_stream.specs.Streams.{job_of, Later};
+ghost use Rattle.restamp_stream.specs.Streams.{job_of};
 
 use crate::folder::Folder;
 use crate::lines::{Lines, Made};
@@ -23,24 +23,24 @@ pub struct Target<'a> {
     pub shown: &'a [u8],
 }
 
-/// Replaces a file by what its lines become, unless no time of it is rewritten. What says so and the log are given back,
-/// and how many of the file's lines had which fate.
+/// Replaces a file by what its lines become, unless no time of it is rewritten. The log is given back, and how many of
+/// the file's lines had which fate.
 ///
 /// The file stays as it is where a line is refused and the work stops at the first, and where anything fails but to put
 /// the folder on the disk afterwards.
-pub fn replace_file<T: Rewriting + Drop, F: Folder, L: Sink + Drop>(
-    rewriting: T,
+pub fn replace_file<T: Rewriting, F: Folder, L: Sink + Drop>(
+    rewriting: &T,
     settings: Settings<'_>,
     target: Target<'_>,
     folder: &mut F,
     alloc: Global,
     log: L,
     block: &mut Block,
-) -> (T, L, Tally, Result<Made, Unreplaced<Stop>>)
-    ensures replaces { Later T.grows T.is_fate T.is_reason result.0 (λ fates reasons. IfSome (F.events folder.old) (λ before. Replaces
-        (Makes (job_of fates reasons target.entry.shown.now settings.entry) (L.contents log) (L.contents result.1) result.2)
-        before (F.events folder.new) target.entry.name.now (option_map (λ second. second.now) target.entry.backup) result.3)) }
-    ensures grows { T.grows rewriting result.0 }
+) -> (L, Tally, Result<Made, Unreplaced<Stop>>)
+    ensures { IfSome (F.events folder.old) (λ before. Replaces
+        (Makes (job_of (T.is_fate rewriting.now) (T.is_reason rewriting.now) target.entry.shown.now settings.entry)
+        (L.contents log) (L.contents result.0) result.1)
+        before (F.events folder.new) target.entry.name.now (option_map (λ second. second.now) target.entry.backup) result.2) }
 {
     let lines = Lines {
         rewriting,
@@ -51,11 +51,6 @@ pub fn replace_file<T: Rewriting + Drop, F: Folder, L: Sink + Drop>(
         tally: Tally::new(),
     };
     let (lines, ended) = replace(folder, alloc, target.name, target.backup, lines);
-    let Lines {
-        rewriting,
-        log,
-        tally,
-        ..
-    } = lines;
-    (rewriting, log, tally, ended)
+    let Lines { log, tally, .. } = lines;
+    (log, tally, ended)
 }

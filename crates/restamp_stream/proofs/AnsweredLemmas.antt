@@ -1,8 +1,8 @@
 -- What was answered of some bytes.
-use Rattle.std.proofs.Common.{◌≡◌, ℕ, ◌<◌, ◌≤◌, List, [], ◌∷◌, ◌++◌, length, take, ◌+◌, refl, sym, ap, ◌∙◌, subst, arith, append_assoc, append-nil, Option, None, Some}
+use Rattle.std.proofs.Common.{◌≡◌, ℕ, ◌<◌, ◌≤◌, List, [], ◌∷◌, ◌++◌, length, take, ◌+◌, refl, sym, ap, ◌∙◌, subst, arith, append_assoc, append-nil, Option, None, Some, Result, Ok, Err, OnOk}
 use Rattle.std.proofs.KnownBytes.{Keeps-refl}
 use Rattle.std.proofs.lemmas.List.{length-append, take_at}
-use Rattle.std.specs.Io.KnownBytes.{Appends, Keeps, append_known}
+use Rattle.std.specs.Io.KnownBytes.{Appends, append_known}
 use Rattle.restamp_stream.specs.declared.fate.Fate.{Fate}
 use Rattle.restamp_stream.specs.declared.fate.Fate.TheVariants.{Without, Rewritten, Dropped, Refused}
 use Rattle.restamp_stream.specs.declared.fate.Rest.{Rest}
@@ -11,8 +11,8 @@ use Rattle.restamp_stream.specs.declared.settings.Output.{Output}
 use Rattle.restamp_stream.specs.declared.settings.Output.TheVariants.{AllLines, RewrittenLines, Times}
 use Rattle.restamp_stream.specs.declared.tally.Tally.{Tally}
 use Rattle.restamp_stream.specs.Reports.{rest_of, passed, HasFront}
-use Rattle.restamp_stream.specs.Streams.{Line, ended, unended, joined, HasNoLf, lines_of, Job, State, state, Did, IsLong, IsBegun, Answered, Settles}
-use Rattle.restamp_stream.specs.Held.{Continues, GoesOn, Ends}
+use Rattle.restamp_stream.specs.Streams.{Line, ended, unended, joined, HasNoLf, lines_of, Job, State, state, Did, IsLong, IsBegun, Answered}
+use Rattle.restamp_stream.specs.Held.{Continues, GoesOn, Ends, Settles}
 use Rattle.restamp_stream.proofs.DidLemmas.{Did-none, Did-then, Did-settled, Did-ended, Did-more, passed-append, same_state}
 use Rattle.restamp_stream.proofs.LinesLemmas.{joined-append, AreEnded-append, HasNoLf-append, lines_of-joined, lines_of-last}
 
@@ -174,12 +174,6 @@ pub held-none : (out log : Option (List ℕ)) (t : Tally) (waiting : List ℕ) �
 held-none None log t waiting e = refl
 held-none (Some s) log t waiting e = ap (λ (l : List ℕ). state (Some (s ++ l)) log t) e ∙ ap (λ (l : List ℕ). state (Some l) log t) (append-nil s)
 
-pub Settles-held : (out new log log1 : Option (List ℕ)) (t t1 : Tally) (waiting : List ℕ) → Appends out new waiting → Keeps log log1 → t1 ≡ t
-    → Settles (state (append_known out waiting) log t) (state new log1 t1)
-Settles-held None new log log1 t t1 waiting p k e = record { out = tt; log = k; tally = e }
-Settles-held (Some s) None log log1 t t1 waiting p k e = absurd p
-Settles-held (Some s) (Some x) log log1 t t1 waiting p k e = record { out = p; log = k; tally = e }
-
 IsLong-settled : (job : Job) (a b c : State) (text : List ℕ) (rest : Rest) → Settles b c → IsLong job a b text rest → IsLong job a c text rest
 IsLong-settled job a b c text rest s p =
     record {
@@ -213,9 +207,10 @@ Answered-settled job a b c bytes held Passing s p =
 Answered-settled job a b c bytes held Dropping s p =
     same_text job a b c bytes held Dropping p (IsLong-settled job p.between b c p.text Dropping s p.begun)
 
-pub Continues-settled : (job : Job) (a0 a b c : State) (held held1 : List ℕ) (rest rest1 : Rest) → a0 ≡ a
-    → Continues job a0 b rest held rest1 held1 → Settles b c → Continues job a c rest held rest1 held1
-Continues-settled job a0 a b c held held1 rest rest1 same p s before bytes q =
+pub Continues-settled : {E : Type 0} (r : Result (Unit {0}) E) (job : Job) (a0 a b c : State) (held held1 : List ℕ) (rest rest1 : Rest) → a0 ≡ a
+    → OnOk r (Continues job a0 b rest held rest1 held1) → Settles b c → OnOk r (Continues job a c rest held rest1 held1)
+Continues-settled (Err e) job a0 a b c held held1 rest rest1 same p s = tt
+Continues-settled (Ok u) job a0 a b c held held1 rest rest1 same p s = λ before bytes q.
     Answered-settled job before b c bytes held1 rest1 s (p before bytes (subst (λ (x : State). Answered job before x bytes rest held) (sym same) q))
 
 -- ---- the rest of a line whose front was answered

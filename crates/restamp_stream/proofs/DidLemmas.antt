@@ -1,6 +1,6 @@
 -- What was done to lines, and then to more.
 use Rattle.std.specs.Io.KnownBytes.{Appends}
-use Rattle.std.specs.Prelude.{Result, IfErr, IfSome}
+use Rattle.std.specs.Prelude.{Result, IfErr, IfSome, OnOk}
 use Rattle.std.proofs.Common.{◌≡◌, ℕ, ◌+◌, ◌-◌, ◌≤◌, List, ◌++◌, length, take, drop, ap, sym, subst, arith, ◌∙◌, [], ◌∷◌, refl, append_assoc, append-nil, Option, zero, suc, ◌<◌, map, get_or, None, Some, Ok, Err, inl, inr, ◌⊎◌}
 use Rattle.std.proofs.lemmas.List.{take_at, drop-take, length-take-le, length-drop, take-append-le, take_all, drop_all, drop-append-le, map_more}
 use Rattle.std.proofs.Math.Seq.{take-append-add}
@@ -10,10 +10,11 @@ use Rattle.restamp_stream.specs.declared.fate.Fate.{Fate}
 use Rattle.restamp_stream.specs.declared.fate.Rest.{Rest}
 use Rattle.restamp_stream.specs.declared.fate.Rest.TheVariants.{Absent, Passing, Dropping}
 use Rattle.restamp_stream.specs.declared.tally.Tally.{Tally}
-use Rattle.restamp_stream.specs.Streams.{Line, ended, unended, Job, text_of, IsReport, IsAnswered, AreAnswered, State, state, Did, job_of, AreDone, DidCutOff, DidFile, DidFiles, StoppedIn, DidBefore, DidSome, Settles, IsAtLine}
+use Rattle.restamp_stream.specs.Streams.{Line, ended, unended, Job, text_of, IsReport, IsAnswered, AreAnswered, State, state, Did, job_of, AreDone, DidCutOff, DidFile, DidFiles, StoppedIn, DidBefore, DidSome}
 use Rattle.restamp_stream.specs.Reports.{count_fate, counted, front_text, rest_of, passed, IsAllowed}
+use Rattle.restamp_stream.specs.Held.{Settles}
 use Rattle.restamp_stream.specs.declared.ending.Stop.{Stop}
-use Rattle.restamp_stream.specs.declared.ending.Stop.TheVariants.{Unread, Unwritten, Refused, Unprepared}
+use Rattle.restamp_stream.specs.declared.ending.Stop.TheVariants.{Unread, Unwritten, Refused}
 use Rattle.restamp_stream.specs.declared.settings.Settings.{Settings}
 use Rattle.restamp_stream.specs.Causes.{HasWriteCause}
 
@@ -222,6 +223,13 @@ same_state out log log1 t t1 e f = ap (λ (o : Option (List ℕ)). state out o t
 
 -- ---- What was done to files, and then to one more, or where the work stopped in that one
 
+-- what follows where a line is refused
+pub if_refused : (result : Result (Unit {0}) Stop) (stop : Stop) (P Q : Type 0) → result ≡ Err stop → (stop ≡ Refused → P) → (P → Q)
+    → IfErr result (λ s. s ≡ Refused → Q)
+if_refused (Ok done) stop P Q e refused follows = tt
+if_refused (Err s) stop P Q e refused follows =
+    let same : s ≡ stop = cc in λ is. follows (refused (sym same ∙ is))
+
 -- What a source gave is of the bytes that a file has, where they are known.
 of_known : (job : Job) (bytes remaining left : Option (List ℕ)) (a b : State) → IfSome bytes (λ bs. remaining ≡ Some bs)
     → DidSome job remaining left a b → DidSome job bytes left a b
@@ -237,18 +245,16 @@ of_known job None remaining left a b known did = record {
 of_known job (Some bs) remaining left a b known did = subst (λ (r : Option (List ℕ)). DidSome job r left a b) known did
 
 -- a file that was opened was cut off
-pub cut_off : (job : Job) (bytes remaining left : Option (List ℕ)) (a b : State) (f0 f1 given n0 n1 n2 : ℕ)
-    → IfSome bytes (λ bs. remaining ≡ Some bs) → f0 ≡ 0 → n1 ≡ n0 → DidSome job remaining left a b → IsCutOff f0 f1 given
-    → (IsCutOff 0 f1 given → Rises n1 n2) → DidCutOff job bytes n0 n2 a b
-cut_off job bytes remaining left a b f0 f1 given n0 n1 n2 known none kept did is closed = (
-  subst (λ (n : ℕ). Rises n n2) kept (closed (subst (λ (f : ℕ). IsCutOff f f1 given) none is)),
-  inl (left, of_known job bytes remaining left a b known did),
+pub cut_off : (result : Result (Unit {0}) Stop) (job : Job) (bytes remaining left : Option (List ℕ)) (a b : State) (f0 f1 given n0 n1 n2 : ℕ)
+    → IfSome bytes (λ bs. remaining ≡ Some bs) → f0 ≡ 0 → n1 ≡ n0
+    → IfErr result (λ stop. stop ≡ Unread → DidSome job remaining left a b)
+    → IfErr result (λ stop. stop ≡ Unread → IsCutOff f0 f1 given) → (IsCutOff 0 f1 given → Rises n1 n2)
+    → IfErr result (λ stop. stop ≡ Unread → DidCutOff job bytes n0 n2 a b)
+cut_off (Ok done) job bytes remaining left a b f0 f1 given n0 n1 n2 known none kept did is closed = tt
+cut_off (Err stop) job bytes remaining left a b f0 f1 given n0 n1 n2 known none kept did is closed = λ e. (
+  subst (λ (n : ℕ). Rises n n2) kept (closed (subst (λ (f : ℕ). IsCutOff f f1 given) none (is e))),
+  inl (left, of_known job bytes remaining left a b known (did e)),
 )
-
--- what holds of what a source gives does so of the bytes that a file has, where they are known
-pub if_known : (bytes remaining : Option (List ℕ)) (P : List ℕ → Type 0) → IfSome bytes (λ bs. remaining ≡ Some bs) → IfSome remaining P → IfSome bytes P
-if_known None remaining P known p = tt
-if_known (Some bs) remaining P known p = subst (λ (r : Option (List ℕ)). IfSome r P) known p
 
 DidFile-same : (job : Job) (bytes : Option (List ℕ)) (a b c : State) (n k m : ℕ) → a ≡ b → n ≡ k → DidFile job bytes k m b c → DidFile job bytes n m a c
 DidFile-same job bytes a b c n k m p q d =
@@ -275,18 +281,18 @@ module _ (is_fate : List ℕ → Fate → Type 0) (is_reason : List ℕ → ℕ 
       subst (files_Did n m a c) (sym (map_more f xs i x below)) (DidFiles-push n k m a b c (map f (take i xs)) (f (get_or xs i x)) p q h)
 
   -- the work stopped in the file at the index
-  pub StoppedIn-at : (why : Stop) {X : Type 0} (f : X → List ℕ) (n k m : ℕ) (a b c : State) (xs : List X) (i : ℕ) (x : X)
+  pub StoppedIn-at : {X : Type 0} (f : X → List ℕ) (n k m : ℕ) (a b c : State) (xs : List X) (i : ℕ) (x : X)
       → files_Did n k a b (map f (take i xs)) → i < length xs
-      → IfSome (bytes_of (f (get_or xs i x))) (DidBefore why (job_of is_fate is_reason (f (get_or xs i x)) settings) b c) → k ≤ m
-      → StoppedIn why is_fate is_reason settings bytes_of n m a c (map f xs)
-  StoppedIn-at why {X} f n k m a b c [] i x p below q h = absurd (omega (arith, below))
-  StoppedIn-at why {X} f n k m a b c (y ∷ ys) zero x p below q h =
+      → IfSome (bytes_of (f (get_or xs i x))) (DidBefore (job_of is_fate is_reason (f (get_or xs i x)) settings) b c) → k ≤ m
+      → StoppedIn is_fate is_reason settings bytes_of n m a c (map f xs)
+  StoppedIn-at {X} f n k m a b c [] i x p below q h = absurd (omega (arith, below))
+  StoppedIn-at {X} f n k m a b c (y ∷ ys) zero x p below q h =
       inl (
-        subst (λ (s : State). IfSome (bytes_of (f y)) (DidBefore why (job_of is_fate is_reason (f y) settings) s c)) (sym p.0) q,
+        subst (λ (s : State). IfSome (bytes_of (f y)) (DidBefore (job_of is_fate is_reason (f y) settings) s c)) (sym p.0) q,
         below_same n k m p.1 h,
       )
-  StoppedIn-at why {X} f n k m a b c (y ∷ ys) (suc i) x p below q h =
-      inr (p.0, p.1, p.2, p.3, StoppedIn-at why f p.1 k m p.0 b c ys i x p.4 (omega (arith, below)) q h)
+  StoppedIn-at {X} f n k m a b c (y ∷ ys) (suc i) x p below q h =
+      inr (p.0, p.1, p.2, p.3, StoppedIn-at f p.1 k m p.0 b c ys i x p.4 (omega (arith, below)) q h)
 
   later : (n m : ℕ) (a b : State) (names : List (List ℕ)) → files_Did n m a b names → n ≤ m
   later n m a b [] p = subst (λ (x : ℕ). n ≤ x) p.1 (omega arith)
@@ -303,11 +309,15 @@ module _ (is_fate : List ℕ → Fate → Type 0) (is_reason : List ℕ → ℕ 
       let after = later mid m between b names rest in
       absurd (quiet (omega (arith, cut.0.0, after), omega (arith, cut.0.1, after)))
 
+-- the same of a result
+pub done : (result : Result (Unit {0}) Stop) (n m : ℕ) (P Q : Type 0) → OnOk result P → (P → (Rises n m → ⊥) → Q) → OnOk result ((Rises n m → ⊥) → Q)
+done (Ok u) n m P Q did follows = follows did
+done (Err stop) n m P Q did follows = tt
+
 -- a stop that was no read's
 pub why_stopped : (result : Result (Unit {0}) Stop) (n m : ℕ) → IfErr result (λ stop. ¬ (stop ≡ Unread)) → HasWriteCause result n m
-    → IfErr result (λ stop. IsAtLine stop ⊎ Rises n m)
+    → IfErr result (λ stop. (stop ≡ Refused) ⊎ Rises n m)
 why_stopped (Ok done) n m unread cause = tt
 why_stopped (Err Unread) n m unread cause = absurd (unread refl)
 why_stopped (Err Unwritten) n m unread cause = inr cause
-why_stopped (Err Refused) n m unread cause = inl tt
-why_stopped (Err Unprepared) n m unread cause = inl tt
+why_stopped (Err Refused) n m unread cause = inl refl

@@ -3,7 +3,7 @@ use Rattle.std.specs.Bool.{MatchBool}
 use Rattle.std.specs.Io.KnownBytes.{Appends}
 use Rattle.std.specs.Prelude.{if◌then◌else◌}
 use Rattle.std.specs.Fmt.{decimal}
-use Rattle.std.proofs.Common.{◌≡◌, ℕ, ◌-◌, ◌≤◌, suc, List, [], ◌∷◌, ◌++◌, length, drop, refl, ap, sym, arith, ◌∙◌, append_assoc, inl, inr, zero, take, subst, take-append-drop, Option, None, Some, Bool, true, false, ◌<◌, get_or, codes, Result, Ok, Err, OnOk, IfErr, IfSome}
+use Rattle.std.proofs.Common.{◌≡◌, ℕ, ◌-◌, ◌≤◌, suc, List, [], ◌∷◌, ◌++◌, length, drop, refl, ap, sym, arith, ◌∙◌, append_assoc, inl, inr, zero, take, subst, take-append-drop, Option, None, Some, Bool, true, false, ◌<◌, get_or, codes, Result, Ok, Err, OnOk}
 use Rattle.std.proofs.lemmas.Bool.Decides.{nat_tests}
 use Rattle.std.proofs.lemmas.Bool.{cases_eq}
 use Rattle.std.proofs.lemmas.List.{drop_at, length-append, take_all, length-drop}
@@ -246,19 +246,6 @@ Appends-report a b c d e name line column reason p q r s =
     (Appends-trans a b e (shown_name name) (middle ++ (why ++ 10 ∷ [])) p
     (Appends-trans b c e middle (why ++ 10 ∷ []) q
     (Appends-trans c d e why (10 ∷ []) r s)))
-
-pub IfSome-map : {X : Type 0} (o : Option X) (P Q : X → Type 0) → IfSome o P → ((x : X) → P x → Q x) → IfSome o Q
-IfSome-map None P Q p f = tt
-IfSome-map (Some x) P Q p f = f x p
-
-pub IfErr-map : {V E : Type 0} (r : Result V E) (P Q : E → Type 0) → IfErr r P → ((e : E) → P e → Q e) → IfErr r Q
-IfErr-map (Ok v) P Q p f = tt
-IfErr-map (Err e) P Q p f = f e p
-
--- the same of two facts
-pub IfErr-both : {V E : Type 0} (r : Result V E) (P Q S : E → Type 0) → IfErr r P → IfErr r Q → ((e : E) → P e → Q e → S e) → IfErr r S
-IfErr-both (Ok v) P Q S p q f = tt
-IfErr-both (Err e) P Q S p q f = f e p q
 
 pub OnOk-map : {V E : Type 0} (r : Result V E) (P Q : Type 0) → OnOk r P → (P → Q) → OnOk r Q
 OnOk-map (Ok v) P Q p f = f p

@@ -1,17 +1,17 @@
--- Where the work stops at a line.
-use Rattle.std.specs.Io.KnownBytes.{Keeps, Consumes, IsAtEnd}
-use Rattle.std.proofs.Common.{◌≡◌, ℕ, ◌<◌, ◌≤◌, List, [], ◌∷◌, ◌++◌, length, take, refl, sym, ap, ◌∙◌, subst, arith, append_assoc, suc, append-nil, Option, None, Some, IfSome}
-use Rattle.std.proofs.KnownBytes.{Keeps-trans, Appends-kept, Consumes-nil, Consumes-trans, Consumes-whole, Consumes-kept}
+-- Where the work stops at a refused line.
+use Rattle.std.specs.Io.KnownBytes.{Consumes, IsAtEnd}
+use Rattle.std.proofs.Common.{◌≡◌, ℕ, ◌<◌, ◌≤◌, List, [], ◌∷◌, ◌++◌, length, take, refl, sym, ap, ◌∙◌, subst, arith, append_assoc, Result, Ok, Err, IfErr, suc, append-nil, Option, None, Some, OnOk, IfSome}
+use Rattle.std.proofs.KnownBytes.{Keeps-trans, Appends-kept, Consumes-nil, Consumes-trans, Consumes-whole}
 use Rattle.std.proofs.lemmas.List.{take_all, take_at}
 use Rattle.restamp_stream.specs.declared.fate.Fate.{Fate}
 use Rattle.restamp_stream.specs.declared.fate.Fate.TheVariants.{Refused as refused}
 use Rattle.restamp_stream.specs.declared.fate.Rest.{Rest}
 use Rattle.restamp_stream.specs.declared.fate.Rest.TheVariants.{Absent, Passing, Dropping}
 use Rattle.restamp_stream.specs.declared.ending.Stop.{Stop}
-use Rattle.restamp_stream.specs.declared.ending.Stop.TheVariants.{Unread, Unwritten, Refused, Unprepared}
+use Rattle.restamp_stream.specs.declared.ending.Stop.TheVariants.{Unread, Unwritten, Refused}
 use Rattle.restamp_stream.specs.declared.tally.Tally.{Tally}
-use Rattle.restamp_stream.specs.Streams.{Line, ended, unended, onto_first, lines_of, joined, HasNoLf, Job, IsReport, State, Did, Answered, StopsAt, Stopped, IsAtLine, Settles, IsHeld, Served}
-use Rattle.restamp_stream.specs.Held.{Continues, Stops, StoppedBy}
+use Rattle.restamp_stream.specs.Streams.{Line, ended, unended, onto_first, lines_of, joined, HasNoLf, Job, IsReport, State, Did, Answered, RefusedAt, Stopped, IsHeld, Served}
+use Rattle.restamp_stream.specs.Held.{Continues, Stops, StoppedBy, Settles}
 use Rattle.restamp_stream.specs.Reports.{HasFront}
 use Rattle.restamp_stream.proofs.DidLemmas.{Did-none, Did-then, Did-settled}
 use Rattle.restamp_stream.proofs.AnsweredLemmas.{Did-apart, whole-apart, Answered-none, Answered-read, Answered-new, IsDone, Answered-done, lines_of-text}
@@ -24,9 +24,8 @@ record BeginsWith (job : Job) (front : List ℕ) (lines : List Line) : Type 0 wh
   pub whole : lines ≡ line ∷ others
   pub same : take job.limit line.text ≡ front
 
-Stopped-first : (why : Stop) (job : Job) (a b : State) (front : List ℕ) (all : List Line) → BeginsWith job front all → StopsAt why job a b front
-    → Stopped why job a b all
-Stopped-first why job a b front all p q =
+Stopped-first : (job : Job) (a b : State) (front : List ℕ) (all : List Line) → BeginsWith job front all → RefusedAt job a b front → Stopped job a b all
+Stopped-first job a b front all p q =
     record {
       lines = [];
       line = p.line;
@@ -35,12 +34,12 @@ Stopped-first why job a b front all p q =
       fates = [];
       between = a;
       did = Did-none job a;
-      stopped = subst (StopsAt why job a b) (sym p.same) q;
+      stopped = subst (RefusedAt job a b) (sym p.same) q;
     }
 
-pub Stopped-then : (why : Stop) (job : Job) (a b c : State) (lines all : List Line) (fates : List Fate)
-    → Did job a b lines fates → Stopped why job b c all → Stopped why job a c (lines ++ all)
-Stopped-then why job a b c lines all fates did p =
+pub Stopped-then : (job : Job) (a b c : State) (lines all : List Line) (fates : List Fate)
+    → Did job a b lines fates → Stopped job b c all → Stopped job a c (lines ++ all)
+Stopped-then job a b c lines all fates did p =
     record {
       lines = lines ++ p.lines;
       line = p.line;
@@ -52,22 +51,22 @@ Stopped-then why job a b c lines all fates did p =
       stopped = p.stopped;
     }
 
-Stops-first : (why : Stop) (job : Job) (b c : State) (held front : List ℕ) → ((more : List ℕ) → BeginsWith job front (lines_of (held ++ more)))
-    → StopsAt why job b c front → Stops why job b c Absent held
-Stops-first why job b c held front first q a read more p =
+Stops-first : (job : Job) (b c : State) (held front : List ℕ) → ((more : List ℕ) → BeginsWith job front (lines_of (held ++ more)))
+    → RefusedAt job b c front → Stops job b c Absent held
+Stops-first job b c held front first q a read more p =
     let cut : lines_of (read ++ more) ≡ p.lines ++ lines_of (held ++ more) =
     ap (λ (l : List ℕ). lines_of (l ++ more)) (whole-apart job a b read held p)
     ∙ ap lines_of (append_assoc (joined p.lines) held more)
     ∙ lines_of-joined p.lines (held ++ more) p.apart in
-    subst (Stopped why job a c) (sym cut)
-    (Stopped-then why job a b c p.lines (lines_of (held ++ more)) p.fates (Did-apart job a b read held p)
-    (Stopped-first why job b c front (lines_of (held ++ more)) (first more) q))
+    subst (Stopped job a c) (sym cut)
+    (Stopped-then job a b c p.lines (lines_of (held ++ more)) p.fates (Did-apart job a b read held p)
+    (Stopped-first job b c front (lines_of (held ++ more)) (first more) q))
 
 -- at a line that ends
-pub Stops-line : (why : Stop) (job : Job) (b c : State) (held line left : List ℕ) → held ≡ line ++ 10 ∷ left → HasNoLf line → length line ≤ job.limit
-    → StopsAt why job b c line → Stops why job b c Absent held
-Stops-line why job b c held line left e h short q =
-    Stops-first why job b c held line
+pub Stops-line : (job : Job) (b c : State) (held line left : List ℕ) → held ≡ line ++ 10 ∷ left → HasNoLf line → length line ≤ job.limit
+    → RefusedAt job b c line → Stops job b c Absent held
+Stops-line job b c held line left e h short q =
+    Stops-first job b c held line
     (λ more. record {
       line = ended line;
       others = lines_of (left ++ more);
@@ -117,50 +116,32 @@ first_long job (x ∷ front) more some h l =
     }
 
 -- at a line as long as the limit or longer
-pub Stops-long : (why : Stop) (job : Job) (b c : State) (held : List ℕ)
-    → 0 < job.limit → HasNoLf held → length held ≡ job.limit → StopsAt why job b c held → Stops why job b c Absent held
-Stops-long why job b c held some h l q = Stops-first why job b c held held (λ more. first_long job held more some h l) q
+pub Stops-long : (job : Job) (b c : State) (held : List ℕ)
+    → 0 < job.limit → HasNoLf held → length held ≡ job.limit → RefusedAt job b c held → Stops job b c Absent held
+Stops-long job b c held some h l q = Stops-first job b c held held (λ more. first_long job held more some h l) q
 
-pub Stops-then : (why : Stop) (job : Job) (a b c : State) (r s : Rest) (x y : List ℕ) → Continues job a b r x s y → Stops why job b c s y
-    → Stops why job a c r x
-Stops-then why job a b c r s x y p q before read more h = q before read more (p before read h)
+pub Stops-then : (job : Job) (a b c : State) (r s : Rest) (x y : List ℕ) → Continues job a b r x s y → Stops job b c s y → Stops job a c r x
+Stops-then job a b c r s x y p q before read more h = q before read more (p before read h)
 
-pub Stops-same : (why : Stop) (job : Job) (b c : State) (rest : Rest) (held held1 : List ℕ) → held ≡ held1 → Stops why job b c rest held
-    → Stops why job b c rest held1
-Stops-same why job b c rest held held1 e p = subst (λ (l : List ℕ). Stops why job b c rest l) e p
+pub Stops-same : (job : Job) (b c : State) (rest : Rest) (held held1 : List ℕ) → held ≡ held1 → Stops job b c rest held → Stops job b c rest held1
+Stops-same job b c rest held held1 e p = subst (λ (l : List ℕ). Stops job b c rest l) e p
 
 pub StoppedBy-map : (stop : Stop) (P Q : Type 0) → (P → Q) → StoppedBy stop P → StoppedBy stop Q
 StoppedBy-map Unread P Q f p = p
 StoppedBy-map Unwritten P Q f p = p
 StoppedBy-map Refused P Q f p = f p
-StoppedBy-map Unprepared P Q f p = f p
 
 -- at the last line
-pub Stopped-last : (why : Stop) (job : Job) (b c : State) (line rest : List ℕ) → lines_of rest ≡ unended rest ∷ [] → line ≡ rest → length line ≤ job.limit
-    → StopsAt why job b c line → Stopped why job b c (lines_of rest)
-Stopped-last why job b c line rest is same short q =
-    Stopped-first why job b c line (lines_of rest)
+pub Stopped-last : (job : Job) (b c : State) (line rest : List ℕ) → lines_of rest ≡ unended rest ∷ [] → line ≡ rest → length line ≤ job.limit
+    → RefusedAt job b c line → Stopped job b c (lines_of rest)
+Stopped-last job b c line rest is same short q =
+    Stopped-first job b c line (lines_of rest)
     (record { line = unended rest; others = []; whole = is; same = ap (take job.limit) (sym same) ∙ take_all job.limit line short }) q
 
 -- what waits is written
-StopsAt-settled : (why : Stop) (job : Job) (a b c : State) (front : List ℕ) → Settles b c → StopsAt why job a b front → StopsAt why job a c front
-StopsAt-settled Unread job a b c front s at = at
-StopsAt-settled Unwritten job a b c front s at = at
-StopsAt-settled Refused job a b c front s at =
-    record {
-      report = at.report;
-      strict = at.strict;
-      refused = at.refused;
-      reports = subst (λ (t : Tally). IsReport job t front refused at.report) (sym s.tally) at.reports;
-      kept = Keeps-trans a.out b.out c.out at.kept s.out;
-      reported = Appends-kept a.log b.log c.log at.report at.reported s.log;
-      tallied = s.tally ∙ at.tallied;
-    }
-StopsAt-settled Unprepared job a b c front s at =
-    record { out = Keeps-trans a.out b.out c.out at.out s.out; log = Keeps-trans a.log b.log c.log at.log s.log; tally = s.tally ∙ at.tally }
-
-pub Stopped-settled : (why : Stop) (job : Job) (a b c : State) (all : List Line) → Settles b c → Stopped why job a b all → Stopped why job a c all
-Stopped-settled why job a b c all s p =
+pub Stopped-settled : (job : Job) (a b c : State) (all : List Line) → Settles b c → Stopped job a b all → Stopped job a c all
+Stopped-settled job a b c all s p =
+    let at : RefusedAt job p.between b (take job.limit p.line.text) = p.stopped in
     record {
       lines = p.lines;
       line = p.line;
@@ -169,28 +150,35 @@ Stopped-settled why job a b c all s p =
       fates = p.fates;
       between = p.between;
       did = p.did;
-      stopped = StopsAt-settled why job p.between b c (take job.limit p.line.text) s p.stopped;
+      stopped =
+          record {
+            report = at.report;
+            strict = at.strict;
+            refused = at.refused;
+            reports = subst (λ (t : Tally). IsReport job t (take job.limit p.line.text) refused at.report) (sym s.tally) at.reports;
+            kept = Keeps-trans p.between.out b.out c.out at.kept s.out;
+            reported = Appends-kept p.between.log b.log c.log at.report at.reported s.log;
+            tallied = s.tally ∙ at.tallied;
+          };
     }
 
-pub Stops-settled : (why : Stop) (job : Job) (a0 a b c : State) (rest : Rest) (held : List ℕ) → a0 ≡ a
-    → Stops why job a0 b rest held → Settles b c → Stops why job a c rest held
-Stops-settled why job a0 a b c rest held same p s before read more h =
-    Stopped-settled why job before b c (lines_of (read ++ more)) s
-    (p before read more (subst (λ (x : State). Answered job before x read rest held) (sym same) h))
+pub Stops-settled : {V : Type 0} (r : Result V Stop) (job : Job) (a0 a b c : State) (rest : Rest) (held : List ℕ) → a0 ≡ a
+    → IfErr r (λ stop. StoppedBy stop (Stops job a0 b rest held)) → Settles b c → IfErr r (λ stop. StoppedBy stop (Stops job a c rest held))
+Stops-settled (Ok v) job a0 a b c rest held same p s = tt
+Stops-settled (Err stop) job a0 a b c rest held same p s =
+    StoppedBy-map stop _ _
+    (λ q before read more h. Stopped-settled job before b c (lines_of (read ++ more)) s
+    (q before read more (subst (λ (x : State). Answered job before x read rest held) (sym same) h)))
+    p
 
-pub Stopped-last_settled : (why : Stop) (job : Job) (a0 a b c : State) (line rest : List ℕ) → a0 ≡ a
-    → lines_of rest ≡ unended rest ∷ [] → line ≡ rest → length line ≤ job.limit → StopsAt why job a0 b line → Settles b c
-    → Stopped why job a c (lines_of rest)
-Stopped-last_settled why job a0 a b c line rest same is e short p s =
-    Stopped-settled why job a b c (lines_of rest) s
-    (subst (λ (x : State). Stopped why job x b (lines_of rest)) same (Stopped-last why job a0 b line rest is e short p))
-
--- what holds where the work stopped at a line
-pub at_line : (stop : Stop) (P : Type 0) → IsAtLine stop → StoppedBy stop P → P
-at_line Unread P at p = absurd at
-at_line Unwritten P at p = absurd at
-at_line Refused P at p = p
-at_line Unprepared P at p = p
+pub Stopped-last_settled : (stop : Stop) (job : Job) (a0 a b c : State) (line rest : List ℕ) → a0 ≡ a
+    → lines_of rest ≡ unended rest ∷ [] → line ≡ rest → length line ≤ job.limit → StoppedBy stop (RefusedAt job a0 b line) → Settles b c
+    → StoppedBy stop (Stopped job a c (lines_of rest))
+Stopped-last_settled stop job a0 a b c line rest same is e short p s =
+    StoppedBy-map stop _ _
+    (λ q. Stopped-settled job a b c (lines_of rest) s
+    (subst (λ (x : State). Stopped job x b (lines_of rest)) same (Stopped-last job a0 b line rest is e short q)))
+    p
 
 -- ---- What was read and answered, to the end
 
@@ -272,10 +260,12 @@ Served-done job r0 r1 a b held more new rest some p e none =
     Answered-done job a b (p.read ++ more) new rest some (λ front. sym (same_held held new more e none) ∙ none_held job rest held p.kept front)
     (Answered-new job a b p.read held more new rest e p.answered)
 
-pub Served-all : (job : Job) (r0 r1 r2 : Option (List ℕ)) (a b c : State) (held more new : List ℕ) (rest : Rest)
+pub Served-all : {E : Type 0} (result : Result (Unit {0}) E) (job : Job) (r0 r1 r2 : Option (List ℕ)) (a b c : State) (held more new : List ℕ) (rest : Rest)
     → 0 < job.limit → Served job r0 r1 a b rest held → new ≡ held ++ more → more ≡ [] → Consumes r1 r2 more → IsAtEnd r2
-    → (fates : List Fate) × Did job b c (lines_of new) fates → IfSome r0 (λ bytes. (fates : List Fate) × Did job a c (lines_of bytes) fates)
-Served-all job r0 r1 r2 a b c held more new rest some p e none q end last =
+    → OnOk result ((fates : List Fate) × Did job b c (lines_of new) fates)
+    → OnOk result (IfSome r0 (λ bytes. (fates : List Fate) × Did job a c (lines_of bytes) fates))
+Served-all (Err f) job r0 r1 r2 a b c held more new rest some p e none q end last = tt
+Served-all (Ok u) job r0 r1 r2 a b c held more new rest some p e none q end last =
     let done : IsDone job a b (p.read ++ more) new = Served-done job r0 r1 a b held more new rest some p e none in
     Consumes-whole r0 r2 (p.read ++ more) (λ bytes. (fates : List Fate) × Did job a c (lines_of bytes) fates)
     (Consumes-trans r0 r1 r2 p.read more p.consumed q)
@@ -288,14 +278,17 @@ Served-all job r0 r1 r2 a b c held more new rest some p e none q end last =
 -- ---- the work stops
 
 -- the work stopped at the last line
-pub Served-stopped_at_end : (why : Stop) (job : Job) (r0 r1 r2 : Option (List ℕ)) (a b c : State) (held more new : List ℕ) (rest : Rest)
+pub Served-stopped_at_end : (result : Result (Unit {0}) Stop) (job : Job) (r0 r1 r2 : Option (List ℕ)) (a b c : State) (held more new : List ℕ) (rest : Rest)
     → 0 < job.limit → Served job r0 r1 a b rest held → new ≡ held ++ more → more ≡ [] → Consumes r1 r2 more → IsAtEnd r2
-    → Stopped why job b c (lines_of new) → IfSome r0 (λ bytes. Stopped why job a c (lines_of bytes))
-Served-stopped_at_end why job r0 r1 r2 a b c held more new rest some p e none q end stopped =
+    → IfErr result (λ stop. StoppedBy stop (Stopped job b c (lines_of new)))
+    → IfErr result (λ stop. stop ≡ Refused → IfSome r0 (λ bytes. Stopped job a c (lines_of bytes)))
+Served-stopped_at_end (Ok u) job r0 r1 r2 a b c held more new rest some p e none q end last = tt
+Served-stopped_at_end (Err stop) job r0 r1 r2 a b c held more new rest some p e none q end last = λ is.
     let done : IsDone job a b (p.read ++ more) new = Served-done job r0 r1 a b held more new rest some p e none in
-    Consumes-whole r0 r2 (p.read ++ more) (λ bytes. Stopped why job a c (lines_of bytes))
+    let stopped : Stopped job b c (lines_of new) = subst (λ (s : Stop). StoppedBy s (Stopped job b c (lines_of new))) is last in
+    Consumes-whole r0 r2 (p.read ++ more) (λ bytes. Stopped job a c (lines_of bytes))
     (Consumes-trans r0 r1 r2 p.read more p.consumed q)
-    end (subst (Stopped why job a c) (sym done.cut) (Stopped-then why job a b c done.lines (lines_of new) done.fates done.did stopped))
+    end (subst (Stopped job a c) (sym done.cut) (Stopped-then job a b c done.lines (lines_of new) done.fates done.did stopped))
 
 Consumes-front : (a b : Option (List ℕ)) (bs : List ℕ) (P : List ℕ → Type 0) → Consumes a b bs → ((more : List ℕ) → P (bs ++ more)) → IfSome a P
 Consumes-front None b bs P p h = tt
@@ -303,19 +296,11 @@ Consumes-front (Some x) None bs P p h = absurd p
 Consumes-front (Some x) (Some y) bs P p h = subst P (sym p) (h y)
 
 -- the work stopped at a line before the last
-pub Served-stopped : (why : Stop) (job : Job) (r0 r1 r2 : Option (List ℕ)) (a b c : State) (held more new : List ℕ) (rest : Rest)
-    → Served job r0 r1 a b rest held → new ≡ held ++ more → Consumes r1 r2 more → Stops why job b c rest new
-    → IfSome r0 (λ bytes. Stopped why job a c (lines_of bytes))
-Served-stopped why job r0 r1 r2 a b c held more new rest p e q stops =
-    Consumes-front r0 r2 (p.read ++ more) (λ bytes. Stopped why job a c (lines_of bytes))
+pub Served-stopped : (stop : Stop) (job : Job) (r0 r1 r2 : Option (List ℕ)) (a b c : State) (held more new : List ℕ) (rest : Rest)
+    → Served job r0 r1 a b rest held → new ≡ held ++ more → Consumes r1 r2 more → StoppedBy stop (Stops job b c rest new)
+    → stop ≡ Refused → IfSome r0 (λ bytes. Stopped job a c (lines_of bytes))
+Served-stopped stop job r0 r1 r2 a b c held more new rest p e q stops is =
+    Consumes-front r0 r2 (p.read ++ more) (λ bytes. Stopped job a c (lines_of bytes))
     (Consumes-trans r0 r1 r2 p.read more p.consumed q)
-    (λ behind. stops a (p.read ++ more) behind (Answered-new job a b p.read held more new rest e p.answered))
-
--- a read failed
-pub Served-kept : (job : Job) (r0 r1 r2 : Option (List ℕ)) (a b : State) (held : List ℕ) (rest : Rest)
-    → Served job r0 r1 a b rest held → Keeps r1 r2 → Served job r0 r2 a b rest held
-Served-kept job r0 r1 r2 a b held rest p k =
-    record { read = p.read; consumed = Consumes-kept r0 r1 r2 p.read p.consumed k; kept = p.kept; answered = p.answered }
-
-pub not_unread : (stop : Stop) (P : Type 0) → StoppedBy stop P → stop ≡ Unread → ⊥
-not_unread stop P p is = subst (λ (s : Stop). StoppedBy s P) is p
+    (λ behind. subst (λ (s : Stop). StoppedBy s (Stops job b c rest new)) is stops a (p.read ++ more) behind
+    (Answered-new job a b p.read held more new rest e p.answered))

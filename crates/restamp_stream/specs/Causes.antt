@@ -2,7 +2,7 @@
 use Rattle.std.specs.Prelude.{◌≡◌, ◌⊎◌, ℕ, ◌+◌, ◌≤◌, Result, MatchResult, ◌<◌, Bool, IsTrue, IsSome, Option}
 use Rattle.programs_streams.specs.Faults.{Rises, count_more}
 use Rattle.restamp_stream.specs.declared.ending.Stop.{Stop}
-use Rattle.restamp_stream.specs.declared.ending.Stop.TheVariants.{Unread, Unwritten, Refused, Unprepared}
+use Rattle.restamp_stream.specs.declared.ending.Stop.TheVariants.{Unread, Unwritten, Refused}
 use Rattle.restamp_stream.specs.declared.stream.Stream.{Stream}
 use Rattle.restamp_stream.specs.declared.tally.Tally.{Tally}
 
@@ -15,7 +15,6 @@ abbrev pub IsCounted : Stop → ℕ → ℕ → Type 0
 IsCounted Unread before now = now ≡ before
 IsCounted Unwritten before now = Rises before now
 IsCounted Refused before now = now ≡ before
-IsCounted Unprepared before now = now ≡ before
 
 -- The same, and it is as it was where the work came to its end.
 abbrev pub HasWriteCause : {V : Type 0} → Result V Stop → ℕ → ℕ → Type 0

@@ -9,7 +9,7 @@ use Rattle.restamp_stream.specs.declared.fate.Rest.{Rest}
 use Rattle.restamp_stream.specs.declared.fate.Rest.TheVariants.{Absent, Passing, Dropping}
 use Rattle.restamp_stream.specs.declared.settings.File.{File}
 use Rattle.restamp_stream.specs.declared.ending.Stop.{Stop}
-use Rattle.restamp_stream.specs.declared.ending.Stop.TheVariants.{Unread, Unwritten, Refused, Unprepared}
+use Rattle.restamp_stream.specs.declared.ending.Stop.TheVariants.{Unread, Unwritten, Refused}
 use Rattle.restamp_stream.specs.declared.stream.Stream.{Stream}
 use Rattle.restamp_stream.specs.Reports.{passed}
 use Rattle.restamp_stream.specs.Streams.{HasNoLf, lines_of, Job, job_of, State, state, Answered, Stopped}
@@ -35,24 +35,22 @@ Continues job mid after rest held rest' held' =
 
 -- Whatever was answered up to the one state, where those bytes were held, the work stopped after it, whatever comes
 -- after them.
-abbrev pub Stops : Stop → Job → State → State → Rest → List ℕ → Type 0
-Stops why job mid after rest held =
+abbrev pub Stops : Job → State → State → Rest → List ℕ → Type 0
+Stops job mid after rest held =
     (before : State) (read more : List ℕ) → Answered job before mid read rest held
-    → Stopped why job before after (lines_of (read ++ more))
+    → Stopped job before after (lines_of (read ++ more))
 
--- The work stopped, and not by a read; where it was at a line, the fact holds.
+-- The work stopped, and not by a read; where it was by a refused line, the fact holds.
 abbrev pub StoppedBy : Stop → Type 0 → Type 0
 StoppedBy Unread fact = ⊥
 StoppedBy Unwritten fact = Unit {0}
 StoppedBy Refused fact = fact
-StoppedBy Unprepared fact = fact
 
 -- The work stopped by a read, and the fact holds, or by a write.
 abbrev pub FailedBy : Stop → Type 0 → Type 0
 FailedBy Unread fact = fact
 FailedBy Unwritten fact = Unit {0}
 FailedBy Refused fact = ⊥
-FailedBy Unprepared fact = ⊥
 
 -- Bytes came of a line whose front was answered, which doesn't end in them.
 abbrev pub GoesOn : Option (List ℕ) → Option (List ℕ) → Rest → List ℕ → Type 0
@@ -65,6 +63,12 @@ Ends out out' Passing bytes after =
     (line : List ℕ) × (bytes ≡ line ++ 10 ∷ after) × HasNoLf line × Appends out out' (line ++ 10 ∷ [])
 Ends out out' Dropping bytes after =
     (line : List ℕ) × (bytes ≡ line ++ 10 ∷ after) × HasNoLf line × Appends out out' []
+
+-- From the one state to the other what waited was written.
+pub record Settles (before after : State) : Type 0 where
+  pub out : Keeps before.out after.out
+  pub log : Keeps before.log after.log
+  pub tally : after.tally ≡ before.tally
 
 -- So many reads gave a byte each at least, or one of them failed.
 abbrev pub HaveCome : ℕ → ℕ → ℕ → ℕ → Type 0

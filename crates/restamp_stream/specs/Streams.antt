@@ -12,8 +12,6 @@ use Rattle.restamp_stream.specs.declared.fate.Fate.TheVariants.{Refused, Without
 use Rattle.restamp_stream.specs.declared.fate.Rest.{Rest}
 use Rattle.restamp_stream.specs.declared.fate.Rest.TheVariants.{Absent, Passing, Dropping}
 use Rattle.restamp_stream.specs.declared.stream.Stream.{Stream}
-use Rattle.restamp_stream.specs.declared.ending.Stop.{Stop}
-use Rattle.restamp_stream.specs.declared.ending.Stop.TheVariants as stop
 use Rattle.restamp_stream.specs.declared.settings.Output.TheVariants.{AllLines}
 
 -- ---- The lines of an input
@@ -69,18 +67,6 @@ pub record Job : Type 1 where
   pub limit : ℕ
   pub name : List ℕ
   pub settings : Settings
-
--- What the one says of fronts the other says, too: which fate they have, and why they are refused.
-pub record StaysSo {S : Type 0} (is_fate : S → List ℕ → Fate → Type 0) (is_reason : S → List ℕ → ℕ → List ℕ → Type 0)
-    (now later : S) : Type 0 where
-  pub fate : (front : List ℕ) (fate : Fate) → is_fate now front fate → is_fate later front fate
-  pub reason : (front : List ℕ) (column : ℕ) (reason : List ℕ)
-      → is_reason now front column reason → is_reason later front column reason
-
--- The fact holds by each that this one may grow to, itself among them.
-abbrev pub Later : {S : Type 0} → (S → S → Type 0) → (S → List ℕ → Fate → Type 0) → (S → List ℕ → ℕ → List ℕ → Type 0)
-    → S → ((List ℕ → Fate → Type 0) → (List ℕ → ℕ → List ℕ → Type 0) → Type 0) → Type 0
-Later {S} Grows is_fate is_reason now fact = (later : S) → Grows now later → fact (is_fate later) (is_reason later)
 
 -- the job of those relations at a file of that name
 abbrev pub job_of : (List ℕ → Fate → Type 0) → (List ℕ → ℕ → List ℕ → Type 0) → List ℕ → Settings → Job
@@ -213,28 +199,8 @@ pub record RefusedAt (job : Job) (before after : State) (front : List ℕ) : Typ
   pub reported : Appends before.log after.log report
   pub tallied : after.tally ≡ count_fate before.tally Refused
 
--- From the one state to the other no line was answered.
-pub record Settles (before after : State) : Type 0 where
-  pub out : Keeps before.out after.out
-  pub log : Keeps before.log after.log
-  pub tally : after.tally ≡ before.tally
-
--- The work stops at a line.
-abbrev pub IsAtLine : Stop → Type 0
-IsAtLine stop.Unread = ⊥
-IsAtLine stop.Unwritten = ⊥
-IsAtLine stop.Refused = ⊤
-IsAtLine stop.Unprepared = ⊤
-
--- It does so at one of that front, which was refused, or of which nothing was done.
-abbrev pub StopsAt : Stop → Job → State → State → List ℕ → Type 0
-StopsAt stop.Unread job before after front = ⊥
-StopsAt stop.Unwritten job before after front = ⊥
-StopsAt stop.Refused job before after front = RefusedAt job before after front
-StopsAt stop.Unprepared job before after front = Settles before after
-
--- From the one state to the other the lines before one were answered, and the work stopped at that one.
-pub record Stopped (why : Stop) (job : Job) (before after : State) (all : List Line) : Type 0 where
+-- From the one state to the other the lines before a refused one were answered, and then that one was refused.
+pub record Stopped (job : Job) (before after : State) (all : List Line) : Type 0 where
   pub lines : List Line
   pub line : Line
   pub others : List Line
@@ -242,7 +208,7 @@ pub record Stopped (why : Stop) (job : Job) (before after : State) (all : List L
   pub fates : List Fate
   pub between : State
   pub did : Did job before between lines fates
-  pub stopped : StopsAt why job between after (front_of job line)
+  pub stopped : RefusedAt job between after (front_of job line)
 
 -- From the one state to the other the log got that the file was not read to its end, and why.
 pub record Fails (name : List ℕ) (before after : State) : Type 0 where
@@ -261,10 +227,10 @@ pub record DidSome (job : Job) (old new : Option (List ℕ)) (before after : Sta
   pub fails : Fails job.name answered failed
   pub closed : Closes job.name job.settings.reports failed after
 
--- The work stopped at a line of the input: all lines before it were answered, and what was refused was told.
-pub record DidBefore (why : Stop) (job : Job) (before after : State) (bytes : List ℕ) : Type 0 where
+-- A line of the input was refused: all lines before it were answered, and what was refused was told.
+pub record DidBefore (job : Job) (before after : State) (bytes : List ℕ) : Type 0 where
   pub between : State
-  pub stopped : Stopped why job (before_lines before) between (lines_of bytes)
+  pub stopped : Stopped job (before_lines before) between (lines_of bytes)
   pub closed : Closes job.name job.settings.reports between after
 
 -- ---- What was done to several files, one after the other
@@ -291,17 +257,17 @@ DidFiles is_fate is_reason settings bytes_of faults faults' before after (name �
     × (faults ≤ mid)
     × DidFiles is_fate is_reason settings bytes_of mid faults' between after names
 
--- The work stopped at a line of one of the files of those names, whose bytes are those where they are known: the files
--- before it were answered, and of it all lines before that one.
-abbrev pub StoppedIn : Stop → (List ℕ → Fate → Type 0) → (List ℕ → ℕ → List ℕ → Type 0) → Settings
-    → (List ℕ → Option (List ℕ)) → ℕ → ℕ → State → State → List (List ℕ) → Type 0
-StoppedIn why is_fate is_reason settings bytes_of faults faults' before after [] = ⊥
-StoppedIn why is_fate is_reason settings bytes_of faults faults' before after (name ∷ names) =
-    (IfSome (bytes_of name) (DidBefore why (job_of is_fate is_reason name settings) before after) × (faults ≤ faults'))
+-- The work stopped at the first refused line of one of the files of those names, whose bytes are those where they are
+-- known: the files before it were answered, and of it all lines before that one.
+abbrev pub StoppedIn : (List ℕ → Fate → Type 0) → (List ℕ → ℕ → List ℕ → Type 0) → Settings → (List ℕ → Option (List ℕ))
+    → ℕ → ℕ → State → State → List (List ℕ) → Type 0
+StoppedIn is_fate is_reason settings bytes_of faults faults' before after [] = ⊥
+StoppedIn is_fate is_reason settings bytes_of faults faults' before after (name ∷ names) =
+    (IfSome (bytes_of name) (DidBefore (job_of is_fate is_reason name settings) before after) × (faults ≤ faults'))
     ⊎ ((between : State) × (mid : ℕ)
     × DidFile (job_of is_fate is_reason name settings) (bytes_of name) faults mid before between
     × (faults ≤ mid)
-    × StoppedIn why is_fate is_reason settings bytes_of mid faults' between after names)
+    × StoppedIn is_fate is_reason settings bytes_of mid faults' between after names)
 
 -- From the one state to the other all lines of each of the files of those names were answered.
 abbrev pub AreDone : (List ℕ → Fate → Type 0) → (List ℕ → ℕ → List ℕ → Type 0) → Settings → (List ℕ → Option (List ℕ))

@@ -26,6 +26,4 @@ pub enum Stop {
     Unwritten,
     /// A line was refused, where the work stops at the first.
     Refused,
-    /// Memory ran out for what a line asks for.
-    Unprepared,
 }

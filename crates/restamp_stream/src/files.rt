@@ -1,7 +1,7 @@
 //! Answers several files, one after the other.
 ghost use Rattle.std.specs.Prelude.{◌≡◌, ◌≢◌, ◌≤◌, ℕ, List, IfErr, IfOk, IfSome, OnOk, map, Option, Some};
 ghost use Rattle.programs_streams.specs.Faults.{HasCause, IsCutOff, Rises};
-ghost use Rattle.restamp_stream.specs.Streams.{DidAll, job_of, DidCutOff, DidFile, DidFiles, StoppedIn, state_of, DidBefore, IsAtLine, Later};
+ghost use Rattle.restamp_stream.specs.Streams.{DidAll, job_of, DidCutOff, DidFile, DidFiles, StoppedIn, state_of, DidBefore};
 ghost use Rattle.restamp_stream.specs.Causes.{faults_of, HasWriteCause};
 
 use crate::block::Block;
@@ -42,23 +42,22 @@ impl<W: Sink, L: Sink> Stream<W, L> {
     // Opens a file, answers all its lines, and closes it.
     fn serve_opened<T: Rewriting, O: Opening>(
         &mut self,
-        rewriting: &mut T,
+        rewriting: &T,
         settings: Settings<'_>,
         name: &[u8],
         opening: &mut O,
         block: &mut Block,
     ) -> Result<(), Stop>
-        ensures all { OnOk result (Later T.grows T.is_fate T.is_reason rewriting.new (λ fates reasons.
-            IfSome (O.bytes_of opening.old name.now) (DidAll (job_of fates reasons name.now settings.entry)
-            (state_of W.contents L.contents self.old) (state_of W.contents L.contents self.new)))) }
-        ensures unread { IfErr result (λ stop. stop ≡ Stop.Unread → Later T.grows T.is_fate T.is_reason rewriting.new (λ fates reasons.
-            DidCutOff (job_of fates reasons name.now settings.entry)
-            (O.bytes_of opening.old name.now) (O.faults opening.old) (O.faults opening.new)
+        ensures all { OnOk result (IfSome (O.bytes_of opening.old name.now)
+            (DidAll (job_of (T.is_fate rewriting.now) (T.is_reason rewriting.now) name.now settings.entry)
             (state_of W.contents L.contents self.old) (state_of W.contents L.contents self.new))) }
-        ensures stopped { IfErr result (λ stop. IsAtLine stop → Later T.grows T.is_fate T.is_reason rewriting.new (λ fates reasons.
-            IfSome (O.bytes_of opening.old name.now) (DidBefore stop (job_of fates reasons name.now settings.entry)
-            (state_of W.contents L.contents self.old) (state_of W.contents L.contents self.new)))) }
-        ensures grows { T.grows rewriting.old rewriting.new }
+        ensures unread { IfErr result (λ stop. stop ≡ Stop.Unread →
+            DidCutOff (job_of (T.is_fate rewriting.now) (T.is_reason rewriting.now) name.now settings.entry)
+            (O.bytes_of opening.old name.now) (O.faults opening.old) (O.faults opening.new)
+            (state_of W.contents L.contents self.old) (state_of W.contents L.contents self.new)) }
+        ensures refused { IfErr result (λ stop. stop ≡ Stop.Refused → IfSome (O.bytes_of opening.old name.now)
+            (DidBefore (job_of (T.is_fate rewriting.now) (T.is_reason rewriting.now) name.now settings.entry)
+            (state_of W.contents L.contents self.old) (state_of W.contents L.contents self.new))) }
         ensures cause { HasWriteCause result (faults_of W.faults L.faults self.old) (faults_of W.faults L.faults self.new) }
         ensures later { O.faults opening.old ≤ O.faults opening.new }
         ensures same { O.bytes_of opening.new ≡ O.bytes_of opening.old }
@@ -75,21 +74,20 @@ impl<W: Sink, L: Sink> Stream<W, L> {
     // The same, but a file that was not read to its end stops nothing.
     fn serve_next<T: Rewriting, O: Opening>(
         &mut self,
-        rewriting: &mut T,
+        rewriting: &T,
         settings: Settings<'_>,
         name: &[u8],
         opening: &mut O,
         block: &mut Block,
     ) -> Result<(), Stop>
-        ensures ok { OnOk result (Later T.grows T.is_fate T.is_reason rewriting.new (λ fates reasons.
-            DidFile (job_of fates reasons name.now settings.entry) (O.bytes_of opening.old name.now)
+        ensures ok { OnOk result
+            (DidFile (job_of (T.is_fate rewriting.now) (T.is_reason rewriting.now) name.now settings.entry) (O.bytes_of opening.old name.now)
             (O.faults opening.old) (O.faults opening.new)
-            (state_of W.contents L.contents self.old) (state_of W.contents L.contents self.new))) }
+            (state_of W.contents L.contents self.old) (state_of W.contents L.contents self.new)) }
         ensures unread { IfErr result (λ stop. stop ≢ Stop.Unread) }
-        ensures stopped { IfErr result (λ stop. IsAtLine stop → Later T.grows T.is_fate T.is_reason rewriting.new (λ fates reasons.
-            IfSome (O.bytes_of opening.old name.now) (DidBefore stop (job_of fates reasons name.now settings.entry)
-            (state_of W.contents L.contents self.old) (state_of W.contents L.contents self.new)))) }
-        ensures grows { T.grows rewriting.old rewriting.new }
+        ensures refused { IfErr result (λ stop. stop ≡ Stop.Refused → IfSome (O.bytes_of opening.old name.now)
+            (DidBefore (job_of (T.is_fate rewriting.now) (T.is_reason rewriting.now) name.now settings.entry)
+            (state_of W.contents L.contents self.old) (state_of W.contents L.contents self.new))) }
         ensures cause { HasWriteCause result (faults_of W.faults L.faults self.old) (faults_of W.faults L.faults self.new) }
         ensures later { O.faults opening.old ≤ O.faults opening.new }
         ensures same { O.bytes_of opening.new ≡ O.bytes_of opening.old }
@@ -103,25 +101,24 @@ impl<W: Sink, L: Sink> Stream<W, L> {
     /// Answers all lines of the files, one after the other, over one tally: in each they are counted from 1.
     ///
     /// A file that can't be opened or read to its end is told to the log, and the others are answered, so that the answer
-    /// is never [`Stop::Unread`]. The work stops at a failed write, at a line for which memory runs out, and where it is strict
-    /// at the first refused line: the files and lines before that one are answered. After a failed write nothing is known of
-    /// how much was written.
+    /// is never [`Stop::Unread`]. The work stops at a failed write, and where it is strict at the first refused line: the
+    /// files and lines before that one are answered. After a failed write nothing is known of how much was written.
     pub fn serve_files<T: Rewriting, O: Opening>(
         &mut self,
-        rewriting: &mut T,
+        rewriting: &T,
         settings: Settings<'_>,
         names: &[&[u8]],
         opening: &mut O,
         block: &mut Block,
     ) -> Result<(), Stop>
-        ensures ok { OnOk result (Later T.grows T.is_fate T.is_reason rewriting.new (λ fates reasons.
-            DidFiles fates reasons settings.entry (O.bytes_of opening.old) (O.faults opening.old) (O.faults opening.new)
-            (state_of W.contents L.contents self.old) (state_of W.contents L.contents self.new) (map (λ name. name.now) names.now))) }
+        ensures ok { OnOk result (DidFiles (T.is_fate rewriting.now) (T.is_reason rewriting.now) settings.entry (O.bytes_of opening.old)
+            (O.faults opening.old) (O.faults opening.new)
+            (state_of W.contents L.contents self.old) (state_of W.contents L.contents self.new) (map (λ name. name.now) names.now)) }
         ensures unread { IfErr result (λ stop. stop ≢ Stop.Unread) }
-        ensures stopped { IfErr result (λ stop. IsAtLine stop → Later T.grows T.is_fate T.is_reason rewriting.new (λ fates reasons.
-            StoppedIn stop fates reasons settings.entry (O.bytes_of opening.old) (O.faults opening.old) (O.faults opening.new)
-            (state_of W.contents L.contents self.old) (state_of W.contents L.contents self.new) (map (λ name. name.now) names.now))) }
-        ensures grows { T.grows rewriting.old rewriting.new }
+        ensures refused { IfErr result (λ stop. stop ≡ Stop.Refused →
+            StoppedIn (T.is_fate rewriting.now) (T.is_reason rewriting.now) settings.entry (O.bytes_of opening.old)
+            (O.faults opening.old) (O.faults opening.new)
+            (state_of W.contents L.contents self.old) (state_of W.contents L.contents self.new) (map (λ name. name.now) names.now)) }
         ensures cause { HasWriteCause result (faults_of W.faults L.faults self.old) (faults_of W.faults L.faults self.new) }
     {
         for name in names {

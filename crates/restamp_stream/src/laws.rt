@@ -1,7 +1,7 @@
 //! Laws of what is done to an input: the contract of a function is the law.
 ghost use Rattle.std.specs.Prelude.{◌≡◌, ◌⊎◌, ℕ, List, IfErr, OnOk, map};
 ghost use Rattle.programs_streams.specs.Faults.{Rises};
-ghost use Rattle.restamp_stream.specs.Streams.{job_of, AreDone, state_of, OneAnswer, OneResult, SameBytes, KeptBytes, IsAtLine, Later};
+ghost use Rattle.restamp_stream.specs.Streams.{job_of, AreDone, state_of, OneAnswer, OneResult, SameBytes, KeptBytes};
 ghost use Rattle.restamp_stream.specs.Causes.{faults_of};
 
 use crate::block::Block;
@@ -24,21 +24,20 @@ pub fn law_kept<T: Rewriting>(rewriting: &T, name: &[u8], settings: Settings<'_>
     ensures input { KeptBytes (job_of (T.is_fate rewriting.now) (T.is_reason rewriting.now) name.now settings.entry) }
 {}
 
-/// The work stops before its end only after a read or a write that gave an error, or at a line that was refused or for
-/// which memory ran out. So over files, a writer and a log of which no call fails, all lines of each file are answered and
-/// written.
+/// The work stops before its end only after a read or a write that gave an error, or at a refused line. So over files, a
+/// writer and a log of which no call fails, all lines of each file are answered and written.
 pub fn law_done<T: Rewriting, O: Opening, W: Sink, L: Sink>(
     stream: &mut Stream<W, L>,
-    rewriting: &mut T,
+    rewriting: &T,
     settings: Settings<'_>,
     names: &[&[u8]],
     opening: &mut O,
     block: &mut Block,
 ) -> Result<(), Stop>
     ensures done { OnOk result (¬ Rises (O.faults opening.old) (O.faults opening.new)
-        → Later T.grows T.is_fate T.is_reason rewriting.new (λ fates reasons. AreDone fates reasons settings.entry (O.bytes_of opening.old)
-        (state_of W.contents L.contents stream.old) (state_of W.contents L.contents stream.new) (map (λ name. name.now) names.now))) }
-    ensures stopped { IfErr result (λ stop. IsAtLine stop
+        → AreDone (T.is_fate rewriting.now) (T.is_reason rewriting.now) settings.entry (O.bytes_of opening.old)
+        (state_of W.contents L.contents stream.old) (state_of W.contents L.contents stream.new) (map (λ name. name.now) names.now)) }
+    ensures stopped { IfErr result (λ stop. (stop ≡ Stop.Refused)
         ⊎ Rises (faults_of W.faults L.faults stream.old) (faults_of W.faults L.faults stream.new)) }
 {
     stream.serve_files(rewriting, settings, names, opening, block)

@@ -1,7 +1,7 @@
 //! Answers the lines of a stream.
 ghost use Rattle.std.specs.Prelude.{◌≡◌, ◌≤◌, IfOk, IfErr, IfSome, MatchOption, [], OnOk, length, ℕ, List};
 ghost use Rattle.programs_streams.specs.Faults.{HasCause, IsCutOff};
-ghost use Rattle.restamp_stream.specs.Streams.{Did, DidAll, State, job_of, HasNoLf, EndsWith, lines_of, state_of, IsHeld, Served, Stopped, Fails, DidSome, DidBefore, IsAtLine, Later};
+ghost use Rattle.restamp_stream.specs.Streams.{Did, DidAll, State, job_of, HasNoLf, EndsWith, lines_of, state_of, IsHeld, Served, Stopped, Fails, DidSome, DidBefore};
 ghost use Rattle.restamp_stream.specs.Causes.{faults_of, HasWriteCause};
 ghost use Rattle.restamp_stream.specs.Reports.{HasFront};
 ghost use Rattle.restamp_stream.specs.Held.{held_out, held_state, job_at, Continues, Stops, StoppedBy, GoesOn, Ends};
@@ -49,20 +49,19 @@ impl<W: Sink, L: Sink> Stream<W, L> {
     // Answers all lines that end in the bytes. What comes after them is returned.
     fn answer_lines<'a, T: Rewriting>(
         &mut self,
-        rewriting: &mut T,
+        rewriting: &T,
         file: &File<'_>,
         bytes: &'a [u8],
     ) -> Result<&'a [u8], Stop>
         requires { length bytes.now ≤ LIMIT }
         ensures ok { IfOk result (λ left. HasNoLf left.now × EndsWith bytes.now left.now
-            × Later T.grows T.is_fate T.is_reason rewriting.new (λ fates reasons. Continues (job_at fates reasons file.now)
+            × Continues (job_at (T.is_fate rewriting.now) (T.is_reason rewriting.now) file.now)
             (held_state W.contents L.contents self.old) (held_state W.contents L.contents self.new)
-            Rest.Absent bytes.now Rest.Absent left.now)) }
-        ensures err { IfErr result (λ stop. StoppedBy stop (Later T.grows T.is_fate T.is_reason rewriting.new (λ fates reasons.
-            Stops stop (job_at fates reasons file.now)
-            (held_state W.contents L.contents self.old) (held_state W.contents L.contents self.new) Rest.Absent bytes.now))) }
+            Rest.Absent bytes.now Rest.Absent left.now) }
+        ensures err { IfErr result (λ stop. StoppedBy stop
+            (Stops (job_at (T.is_fate rewriting.now) (T.is_reason rewriting.now) file.now)
+            (held_state W.contents L.contents self.old) (held_state W.contents L.contents self.new) Rest.Absent bytes.now)) }
         ensures cause { HasWriteCause result (faults_of W.faults L.faults self.old) (faults_of W.faults L.faults self.new) }
-        ensures grows { T.grows rewriting.old rewriting.new }
     {
         let mut left = bytes;
         while let Some((line, after)) = whole_line(left) {
@@ -78,22 +77,21 @@ impl<W: Sink, L: Sink> Stream<W, L> {
     // Answers all that can be answered of the block, and moves what is left to its front.
     fn answer_block<T: Rewriting>(
         &mut self,
-        rewriting: &mut T,
+        rewriting: &T,
         file: &File<'_>,
         block: &mut Block,
         rest: &mut Rest,
     ) -> Result<(), Stop>
-        ensures held { OnOk result (Later T.grows T.is_fate T.is_reason rewriting.new (λ fates reasons.
-            IsHeld (job_at fates reasons file.now) rest.new block.new.items)) }
-        ensures ok { OnOk result (Later T.grows T.is_fate T.is_reason rewriting.new (λ fates reasons.
-            Continues (job_at fates reasons file.now)
+        ensures held { OnOk result
+            (IsHeld (job_at (T.is_fate rewriting.now) (T.is_reason rewriting.now) file.now) rest.new block.new.items) }
+        ensures ok { OnOk result
+            (Continues (job_at (T.is_fate rewriting.now) (T.is_reason rewriting.now) file.now)
             (held_state W.contents L.contents self.old) (held_state W.contents L.contents self.new)
-            rest.old block.old.items rest.new block.new.items)) }
-        ensures err { IfErr result (λ stop. StoppedBy stop (Later T.grows T.is_fate T.is_reason rewriting.new (λ fates reasons.
-            Stops stop (job_at fates reasons file.now)
-            (held_state W.contents L.contents self.old) (held_state W.contents L.contents self.new) rest.old block.old.items))) }
+            rest.old block.old.items rest.new block.new.items) }
+        ensures err { IfErr result (λ stop. StoppedBy stop
+            (Stops (job_at (T.is_fate rewriting.now) (T.is_reason rewriting.now) file.now)
+            (held_state W.contents L.contents self.old) (held_state W.contents L.contents self.new) rest.old block.old.items)) }
         ensures cause { HasWriteCause result (faults_of W.faults L.faults self.old) (faults_of W.faults L.faults self.new) }
-        ensures grows { T.grows rewriting.old rewriting.new }
     {
         let Ok(ended) = self.end_line(block.as_slice(), rest) else {
             return Err(Stop::Unwritten);
@@ -116,24 +114,23 @@ impl<W: Sink, L: Sink> Stream<W, L> {
     // The same, and writes it, also what stands before a line where the work stops.
     fn feed<T: Rewriting>(
         &mut self,
-        rewriting: &mut T,
+        rewriting: &T,
         file: &File<'_>,
         block: &mut Block,
         rest: &mut Rest,
     ) -> Result<(), Stop>
         requires { self.old.waiting.items ≡ [] }
         ensures none { OnOk result (self.new.waiting.items ≡ []) }
-        ensures held { OnOk result (Later T.grows T.is_fate T.is_reason rewriting.new (λ fates reasons.
-            IsHeld (job_at fates reasons file.now) rest.new block.new.items)) }
-        ensures ok { OnOk result (Later T.grows T.is_fate T.is_reason rewriting.new (λ fates reasons.
-            Continues (job_at fates reasons file.now)
+        ensures held { OnOk result
+            (IsHeld (job_at (T.is_fate rewriting.now) (T.is_reason rewriting.now) file.now) rest.new block.new.items) }
+        ensures ok { OnOk result
+            (Continues (job_at (T.is_fate rewriting.now) (T.is_reason rewriting.now) file.now)
             (state_of W.contents L.contents self.old) (state_of W.contents L.contents self.new)
-            rest.old block.old.items rest.new block.new.items)) }
-        ensures err { IfErr result (λ stop. StoppedBy stop (Later T.grows T.is_fate T.is_reason rewriting.new (λ fates reasons.
-            Stops stop (job_at fates reasons file.now)
-            (state_of W.contents L.contents self.old) (state_of W.contents L.contents self.new) rest.old block.old.items))) }
+            rest.old block.old.items rest.new block.new.items) }
+        ensures err { IfErr result (λ stop. StoppedBy stop
+            (Stops (job_at (T.is_fate rewriting.now) (T.is_reason rewriting.now) file.now)
+            (state_of W.contents L.contents self.old) (state_of W.contents L.contents self.new) rest.old block.old.items)) }
         ensures cause { HasWriteCause result (faults_of W.faults L.faults self.old) (faults_of W.faults L.faults self.new) }
-        ensures grows { T.grows rewriting.old rewriting.new }
     {
         let answered = self.answer_block(rewriting, file, block, rest);
         let Ok(()) = self.settle() else {
@@ -145,20 +142,19 @@ impl<W: Sink, L: Sink> Stream<W, L> {
     // Answers and writes what is left at the end, a line unless it is empty.
     fn finish<T: Rewriting>(
         &mut self,
-        rewriting: &mut T,
+        rewriting: &T,
         file: &File<'_>,
         block: &Block,
     ) -> Result<(), Stop>
         requires none { self.old.waiting.items ≡ [] }
         requires begun { HasNoLf block.now.items }
-        ensures ok { OnOk result (Later T.grows T.is_fate T.is_reason rewriting.new (λ fates reasons. (all : List Fate)
-            × Did (job_at fates reasons file.now)
-            (state_of W.contents L.contents self.old) (state_of W.contents L.contents self.new) (lines_of block.now.items) all)) }
-        ensures err { IfErr result (λ stop. StoppedBy stop (Later T.grows T.is_fate T.is_reason rewriting.new (λ fates reasons.
-            Stopped stop (job_at fates reasons file.now)
-            (state_of W.contents L.contents self.old) (state_of W.contents L.contents self.new) (lines_of block.now.items)))) }
+        ensures ok { OnOk result ((fates : List Fate)
+            × Did (job_at (T.is_fate rewriting.now) (T.is_reason rewriting.now) file.now)
+            (state_of W.contents L.contents self.old) (state_of W.contents L.contents self.new) (lines_of block.now.items) fates) }
+        ensures err { IfErr result (λ stop. StoppedBy stop
+            (Stopped (job_at (T.is_fate rewriting.now) (T.is_reason rewriting.now) file.now)
+            (state_of W.contents L.contents self.old) (state_of W.contents L.contents self.new) (lines_of block.now.items))) }
         ensures cause { HasWriteCause result (faults_of W.faults L.faults self.old) (faults_of W.faults L.faults self.new) }
-        ensures grows { T.grows rewriting.old rewriting.new }
     {
         if block.is_empty() {
             return Ok(());
@@ -176,25 +172,23 @@ impl<W: Sink, L: Sink> Stream<W, L> {
     // Answers all lines of a file. All that can be answered is written before the next read.
     fn serve_lines<T: Rewriting, R: Source>(
         &mut self,
-        rewriting: &mut T,
+        rewriting: &T,
         file: &File<'_>,
         input: &mut R,
         block: &mut Block,
     ) -> Result<(), Stop>
         requires waiting { self.old.waiting.items ≡ [] }
         requires block { block.old.items ≡ [] }
-        ensures ok { OnOk result (Later T.grows T.is_fate T.is_reason rewriting.new (λ fates reasons.
-            IfSome (R.remaining input.old) (λ bytes. (all : List Fate) × Did (job_at fates reasons file.now)
-            (state_of W.contents L.contents self.old) (state_of W.contents L.contents self.new) (lines_of bytes) all))) }
-        ensures unread { IfErr result (λ stop. stop ≡ Stop.Unread → Later T.grows T.is_fate T.is_reason rewriting.new (λ fates reasons.
-            (answered : State) × (rest : Rest) × (held : List ℕ)
-            × Served (job_at fates reasons file.now) (R.remaining input.old) (R.remaining input.new)
+        ensures ok { OnOk result (IfSome (R.remaining input.old) (λ bytes. (fates : List Fate)
+            × Did (job_at (T.is_fate rewriting.now) (T.is_reason rewriting.now) file.now)
+            (state_of W.contents L.contents self.old) (state_of W.contents L.contents self.new) (lines_of bytes) fates)) }
+        ensures unread { IfErr result (λ stop. stop ≡ Stop.Unread → (answered : State) × (rest : Rest) × (held : List ℕ)
+            × Served (job_at (T.is_fate rewriting.now) (T.is_reason rewriting.now) file.now) (R.remaining input.old) (R.remaining input.new)
             (state_of W.contents L.contents self.old) answered rest held
-            × Fails file.now.name.now answered (state_of W.contents L.contents self.new))) }
-        ensures stopped { IfErr result (λ stop. IsAtLine stop → Later T.grows T.is_fate T.is_reason rewriting.new (λ fates reasons.
-            IfSome (R.remaining input.old) (λ bytes. Stopped stop (job_at fates reasons file.now)
-            (state_of W.contents L.contents self.old) (state_of W.contents L.contents self.new) (lines_of bytes)))) }
-        ensures grows { T.grows rewriting.old rewriting.new }
+            × Fails file.now.name.now answered (state_of W.contents L.contents self.new)) }
+        ensures refused { IfErr result (λ stop. stop ≡ Stop.Refused → IfSome (R.remaining input.old) (λ bytes.
+            Stopped (job_at (T.is_fate rewriting.now) (T.is_reason rewriting.now) file.now)
+            (state_of W.contents L.contents self.old) (state_of W.contents L.contents self.new) (lines_of bytes))) }
         ensures cause { HasWriteCause result (faults_of W.faults L.faults self.old) (faults_of W.faults L.faults self.new) }
         ensures cut_off { IfErr result (λ stop. stop ≡ Stop.Unread →
             IsCutOff (R.faults input.old) (R.faults input.new) (R.given input.new)) }
@@ -216,26 +210,25 @@ impl<W: Sink, L: Sink> Stream<W, L> {
     /// A line of any length is answered by its first [`LIMIT`] bytes. An interrupted read is tried again.
     ///
     /// After [`Stop::Unread`] all that was read and could be answered is answered and written. After [`Stop::Refused`] all
-    /// lines before the first refused one are, and after [`Stop::Unprepared`] all before the one that asks for too much. After
-    /// [`Stop::Unwritten`] nothing is known of how much was written.
+    /// lines before the first refused one are. After [`Stop::Unwritten`] nothing is known of how much was written.
     pub fn serve<T: Rewriting, R: Source>(
         &mut self,
-        rewriting: &mut T,
+        rewriting: &T,
         settings: Settings<'_>,
         name: &[u8],
         input: &mut R,
         block: &mut Block,
     ) -> Result<(), Stop>
-        ensures all { OnOk result (Later T.grows T.is_fate T.is_reason rewriting.new (λ fates reasons.
-            IfSome (R.remaining input.old) (DidAll (job_of fates reasons name.now settings.entry)
-            (state_of W.contents L.contents self.old) (state_of W.contents L.contents self.new)))) }
-        ensures unread { IfErr result (λ stop. stop ≡ Stop.Unread → Later T.grows T.is_fate T.is_reason rewriting.new (λ fates reasons.
-            DidSome (job_of fates reasons name.now settings.entry) (R.remaining input.old) (R.remaining input.new)
+        ensures all { OnOk result (IfSome (R.remaining input.old)
+            (DidAll (job_of (T.is_fate rewriting.now) (T.is_reason rewriting.now) name.now settings.entry)
             (state_of W.contents L.contents self.old) (state_of W.contents L.contents self.new))) }
-        ensures stopped { IfErr result (λ stop. IsAtLine stop → Later T.grows T.is_fate T.is_reason rewriting.new (λ fates reasons.
-            IfSome (R.remaining input.old) (DidBefore stop (job_of fates reasons name.now settings.entry)
-            (state_of W.contents L.contents self.old) (state_of W.contents L.contents self.new)))) }
-        ensures grows { T.grows rewriting.old rewriting.new }
+        ensures unread { IfErr result (λ stop. stop ≡ Stop.Unread →
+            DidSome (job_of (T.is_fate rewriting.now) (T.is_reason rewriting.now) name.now settings.entry)
+            (R.remaining input.old) (R.remaining input.new)
+            (state_of W.contents L.contents self.old) (state_of W.contents L.contents self.new)) }
+        ensures refused { IfErr result (λ stop. stop ≡ Stop.Refused → IfSome (R.remaining input.old)
+            (DidBefore (job_of (T.is_fate rewriting.now) (T.is_reason rewriting.now) name.now settings.entry)
+            (state_of W.contents L.contents self.old) (state_of W.contents L.contents self.new))) }
         ensures cause { HasWriteCause result (faults_of W.faults L.faults self.old) (faults_of W.faults L.faults self.new) }
         ensures cut_off { IfErr result (λ stop. stop ≡ Stop.Unread →
             IsCutOff (R.faults input.old) (R.faults input.new) (R.given input.new)) }

@@ -2,10 +2,10 @@
 ghost use Rattle.std.specs.Io.KnownBytes.{Appends};
 ghost use Rattle.std.specs.Prelude.{◌≡◌, ◌≤◌, ◌++◌, ℕ, List, IfOk, IfErr, [], ◌∷◌, OnOk, length, take, drop, IsTrue, false};
 ghost use Rattle.programs_streams.specs.Faults.{HasCause};
-ghost use Rattle.restamp_stream.specs.Streams.{Did, IsNaming, IsReport, Closes, unended, StopsAt, Settles, Fails, state_of, Later};
+ghost use Rattle.restamp_stream.specs.Streams.{Did, IsNaming, IsReport, Closes, unended, RefusedAt, Fails, state_of};
 ghost use Rattle.restamp_stream.specs.Causes.{faults_of, HasWriteCause, IsCounted};
 ghost use Rattle.restamp_stream.specs.Reports.{IsWithin, front_text, passed, rest_of, nothing_counted, more_text, unread_text};
-ghost use Rattle.restamp_stream.specs.Held.{held_out, held_state, job_at, StoppedBy, FailedBy};
+ghost use Rattle.restamp_stream.specs.Held.{held_out, held_state, job_at, Settles, StoppedBy, FailedBy};
 ghost use Rattle.restamp_stream.specs.declared.block.TheConstants.{LIMIT};
 
 use crate::ending::Stop;
@@ -325,25 +325,20 @@ impl<W: Sink, L: Sink> Stream<W, L> {
     #[inline(always)]
     pub(crate) fn begin<T: Rewriting>(
         &mut self,
-        rewriting: &mut T,
+        rewriting: &T,
         file: &File<'_>,
         front: &[u8],
     ) -> Result<Rest, Stop>
         requires { length front.now ≤ LIMIT }
-        ensures ok { IfOk result (λ rest. Later T.grows T.is_fate T.is_reason rewriting.new (λ fates reasons.
-            (fate : Fate) × (rest_of file.now.settings.output fate ≡ rest)
-            × Did (job_at fates reasons file.now)
+        ensures ok { IfOk result (λ rest. (fate : Fate) × (rest_of file.now.settings.output fate ≡ rest)
+            × Did (job_at (T.is_fate rewriting.now) (T.is_reason rewriting.now) file.now)
             (held_state W.contents L.contents self.old) (held_state W.contents L.contents self.new)
-            (unended front.now ∷ []) (fate ∷ []))) }
-        ensures err { IfErr result (λ stop. StoppedBy stop (Later T.grows T.is_fate T.is_reason rewriting.new (λ fates reasons.
-            StopsAt stop (job_at fates reasons file.now)
-            (held_state W.contents L.contents self.old) (held_state W.contents L.contents self.new) front.now))) }
+            (unended front.now ∷ []) (fate ∷ [])) }
+        ensures err { IfErr result (λ stop. StoppedBy stop
+            (RefusedAt (job_at (T.is_fate rewriting.now) (T.is_reason rewriting.now) file.now)
+            (held_state W.contents L.contents self.old) (held_state W.contents L.contents self.new) front.now)) }
         ensures cause { HasWriteCause result (faults_of W.faults L.faults self.old) (faults_of W.faults L.faults self.new) }
-        ensures grows { T.grows rewriting.old rewriting.new }
     {
-        let Ok(()) = rewriting.prepare(front) else {
-            return Err(Stop::Unprepared);
-        };
         let fate = rewriting.fate(front);
         self.tally.count(&fate);
         let Ok(()) = self.report(rewriting, file, front, &fate) else {

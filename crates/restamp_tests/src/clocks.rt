@@ -126,8 +126,7 @@ fn with_no_year(rt: HostRuntime) {
 
 // The bounds that words name by the clock.
 mod bounds {
-    use restamp_command::{Fault, NoMoment, Request};
-    use restamp_options::{Options, make_command};
+    use restamp_command::{Fault, NoMoment, Options, Request, make_command};
     use std::test::Fail;
     use time_values::UtcDateTime;
 

@@ -71,8 +71,8 @@ fn defaults_of(year: Option<i32>, latest: Option<OffsetDateTime>) -> Defaults<'s
 // UTC.
 fn job_of<'a>(
     place: Place<'a>,
-    first: Reading,
-    others: Vec<Reading>,
+    first: &'a Reading,
+    others: &'a [Reading],
     writing: &'a Writing,
     defaults: Defaults<'a>,
 ) -> Job<'a> {
@@ -137,10 +137,9 @@ fn changed(rt: HostRuntime) -> Result<(), Fail> {
         ) else {
             return Err("no format".into());
         };
-        let mut others = Vec::new(rt.alloc());
-        others.push(second)?;
+        let others = [second];
         let defaults = defaults_of(Some(2021), None);
-        let job = job_of(*place, first, others, &writing, defaults);
+        let job = job_of(*place, &first, &others, &writing, defaults);
         assert_eq!(rt; find_difference(&job, sample), None);
     }
     Ok(())
@@ -152,18 +151,17 @@ static LATEST: [i64; 4] = [1609556644, 1609556645, 1609459200, 1640995199];
 // The same of lines whose times say no year.
 #[test]
 fn undated(rt: HostRuntime) -> Result<(), Fail> {
+    let (Ok(first), Ok(second), Ok(writing)) = (
+        find_reading(b"syslog"),
+        find_reading(b"rfc3339"),
+        find_writing(b"rfc3339"),
+    ) else {
+        return Err("no format".into());
+    };
+    let others = [second];
     for seconds in &LATEST {
-        let (Ok(first), Ok(second), Ok(writing)) = (
-            find_reading(b"syslog"),
-            find_reading(b"rfc3339"),
-            find_writing(b"rfc3339"),
-        ) else {
-            return Err("no format".into());
-        };
-        let mut others = Vec::new(rt.alloc());
-        others.push(second)?;
         let defaults = defaults_of(None, OffsetDateTime::from_unix_timestamp(*seconds).ok());
-        let job = job_of(Place::Front, first, others, &writing, defaults);
+        let job = job_of(Place::Front, &first, &others, &writing, defaults);
         assert_eq!(rt; find_difference(&job, b"Jan  2 03:04:05 host x"), None);
         assert_eq!(rt; find_difference(&job, b"Feb 29 03:04:05 host x"), None);
     }

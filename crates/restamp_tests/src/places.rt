@@ -249,7 +249,6 @@ mod anywhere {
         Clock, Defaults, Form, Job, REACH, Reading, Verdict, Writing, find_reading, find_writing,
         read_dated,
     };
-    use std::alloc::Global;
     use std::test::Fail;
     use time_writing::{FractionDigits, Text};
 
@@ -258,12 +257,17 @@ mod anywhere {
 
     const ANYWHERE: Option<Place<'static>> = None;
 
-    // What is done with a line whose time may stand anywhere.
-    fn job_of(alloc: Global, first: Reading, writing: &Writing) -> Job<'_> {
-        Job {
+    // The verdict on a line whose time may stand anywhere, with its text.
+    fn verdict_on<'a>(
+        line: &[u8],
+        first: &'a Reading,
+        writing: &'a Writing,
+        text: &mut Text,
+    ) -> Verdict {
+        let job = Job {
             place: ANYWHERE,
             first,
-            others: Vec::new(alloc),
+            others: &[],
             defaults: Defaults {
                 year: None,
                 offset: None,
@@ -278,13 +282,13 @@ mod anywhere {
             since: None,
             until: None,
             asks_for_times: false,
-        }
+        };
+        job.judge(line, text)
     }
 
     // Whether the first time of a line, by a format, is so many bytes from a place on, and is written so as seconds
     // since 1970.
-    fn is_found(alloc: Global, row: &Row) -> bool {
-        let (format, line, begin, many, seconds) = *row;
+    fn is_found(format: &[u8], line: &[u8], begin: usize, many: usize, seconds: &[u8]) -> bool {
         let Ok(first) = find_reading(format) else {
             return false;
         };
@@ -292,7 +296,7 @@ mod anywhere {
             return false;
         };
         let mut text = Text::new();
-        match job_of(alloc, first, &writing).judge(line, &mut text) {
+        match verdict_on(line, &first, &writing, &mut text) {
             Verdict::Rewritten { start, length } => {
                 start == begin && length == many && text.as_bytes() == seconds
             }
@@ -334,8 +338,8 @@ mod anywhere {
 
     #[test]
     fn found(rt: HostRuntime) {
-        for row in &ROWS {
-            assert!(rt; is_found(rt.alloc(), row), "{:?}", row.1);
+        for (format, line, begin, many, seconds) in &ROWS {
+            assert!(rt; is_found(format, line, *begin, *many, seconds), "{line:?}");
         }
     }
 
@@ -386,12 +390,12 @@ mod anywhere {
     }
 
     // Whether the verdict takes the time that is found so.
-    fn is_plain(line: &[u8], job: &Job<'_>) -> bool {
-        match job.judge(line, &mut Text::new()) {
+    fn is_plain(line: &[u8], format: &Reading, writing: &Writing) -> bool {
+        match verdict_on(line, format, writing, &mut Text::new()) {
             Verdict::Rewritten { start, length } => {
-                plain_first(line, &job.first) == Some((start, length))
+                plain_first(line, format) == Some((start, length))
             }
-            Verdict::Without => plain_first(line, &job.first).is_none(),
+            Verdict::Without => plain_first(line, format).is_none(),
             Verdict::Dropped | Verdict::Refused { .. } => false,
         }
     }
@@ -406,14 +410,16 @@ mod anywhere {
             let Ok(format) = find_reading(name) else {
                 return Err("no format".into());
             };
-            let job = job_of(rt.alloc(), format, &writing);
             for at in 0..sample.len().min(32) {
                 for byte in 0..=255 {
                     let mut line = [0; 32];
                     let many = sample.len().min(32);
                     line[..many].copy_from_slice(&sample[..many]);
                     line[at] = byte;
-                    assert!(rt; is_plain(&line[..many], &job), "{name:?} {at} {byte}");
+                    assert!(rt;
+                        is_plain(&line[..many], &format, &writing),
+                        "{name:?} {at} {byte}"
+                    );
                 }
             }
         }

@@ -69,7 +69,7 @@ pub fn replace_by(
     };
     let log = Counted::new(Vec::new(alloc));
     let mut block = Block::new();
-    let (_, _, _, ended) = replace_file(Marks, settings, target, folder, alloc, log, &mut block);
+    let (_, _, ended) = replace_file(&Marks, settings, target, folder, alloc, log, &mut block);
     ended
 }
 

@@ -2,7 +2,7 @@
 use crate::stream::{ALL, Answer, NEVER, Page, make_source};
 use programs_streams::{Counted, Sink, Unwritten};
 use restamp_stream::{Block, Fate, Rewriting, Stream};
-use std::alloc::{AllocError, Global};
+use std::alloc::Global;
 use time_values::text::Text;
 
 static LINE: &[u8] = b"abcdefghijklmnopqrstuvwxyz0123456789ABCDEFGHIJ";
@@ -18,8 +18,7 @@ struct At {
 
 impl Rewriting for At {
     ghost use Rattle.std.specs.Prelude.{◌≡◌, ◌+◌, codes, length, nat_lt, if◌then◌else◌};
-    ghost use Rattle.std.proofs.Common.{sym, ap, refl, ◌∙◌};
-    ghost use Rattle.restamp_tests.specs.declared.spliced.At.{At};
+    ghost use Rattle.std.proofs.Common.{sym, ◌∙◌};
     ghost use Rattle.restamp_stream.specs.declared.fate.Fate.TheVariants.{Without, Rewritten, Refused};
 
     ghost is_fate = { λ at front fate. fate ≡ (
@@ -29,27 +28,9 @@ impl Rewriting for At {
 
     ghost is_reason = { λ at front column reason. (column ≡ 1) × (reason ≡ codes "bad") };
 
-    ghost is_ready = { λ at front. Unit {0} };
-
-    ghost grows = { λ x y. x ≡ y };
-
-    ghost stays = { λ x y same. record {
-      fate = λ front fate is. is ∙ ap (λ (at : At). let n = length at.text.now in if nat_lt at.place (length front) then
-          if nat_lt n 36 then Rewritten at.place (at.place + 1) (record { items = at.text.now }) else Refused else Without) same;
-      reason = λ front column reason is. is;
-    } };
-
-    ghost grows_none = { λ x. refl };
-
-    ghost grows_on = { λ x y z p q. p ∙ q };
-
     ghost one_fate = { λ x front a b p q. p ∙ sym q };
 
     ghost one_reason = { λ x front column other reason why p q. (p.0 ∙ sym q.0, p.1 ∙ sym q.1) };
-
-    fn prepare(&mut self, _front: &[u8]) -> Result<(), AllocError> {
-        Ok(())
-    }
 
     fn fate(&self, front: &[u8]) -> Fate {
         if front.len() <= self.place {
@@ -73,7 +54,7 @@ impl Rewriting for At {
     }
 }
 
-fn answer(alloc: Global, at: &mut At) -> Answer {
+fn answer(alloc: Global, at: &At) -> Answer {
     let out = Counted::new(Page::new(alloc, NEVER));
     let log = Counted::new(Page::new(alloc, NEVER));
     let mut stream = Stream::new(out, log);
@@ -100,11 +81,11 @@ fn is_spliced(out: &[u8], at: &At) -> bool {
 fn each_length(rt: HostRuntime) {
     for place in 0..LINE.len() {
         for length in 0..TEXT.len() + 1 {
-            let mut at = At {
+            let at = At {
                 place,
                 text: &TEXT[..length],
             };
-            let got = answer(rt.alloc(), &mut at);
+            let got = answer(rt.alloc(), &at);
             assert!(rt; is_spliced(got.out.as_slice(), &at), "{length} at {place}");
         }
     }

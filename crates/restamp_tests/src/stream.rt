@@ -1,13 +1,12 @@
 //! Streams rewritten line by line. What is expected of a line is seen from its first byte, by the rule of [`Marks`].
 use programs_streams::{Counted, Sink, Unwritten};
 use restamp_stream::{Block, Fate, Output, Reports, Rewriting, Settings, Stop, Stream, Tally};
-use std::alloc::{AllocError, Global};
+use std::alloc::Global;
 use std::io;
 use std::io::{ErrorKind, Read, Write};
 use time_values::text::Text;
 
 /// By the first byte of a line: `@` gives way to `now`, `#` drops it, `!` is refused, and `=` puts `now` after the front.
-#[derive(Drop)]
 pub struct Marks;
 
 impl Rewriting for Marks {
@@ -24,23 +23,9 @@ impl Rewriting for Marks {
 
     ghost is_reason = { λ marks front column reason. (column ≡ 1) × (reason ≡ codes "bad") };
 
-    ghost is_ready = { λ marks front. Unit {0} };
-
-    ghost grows = { λ x y. Unit {0} };
-
-    ghost stays = { λ x y grows. record { fate = λ front fate is. is; reason = λ front column reason is. is } };
-
-    ghost grows_none = { λ x. tt };
-
-    ghost grows_on = { λ x y z p q. tt };
-
     ghost one_fate = { λ x front a b p q. p ∙ sym q };
 
     ghost one_reason = { λ x front column other reason why p q. (p.0 ∙ sym q.0, p.1 ∙ sym q.1) };
-
-    fn prepare(&mut self, _front: &[u8]) -> Result<(), AllocError> {
-        Ok(())
-    }
 
     fn fate(&self, front: &[u8]) -> Fate {
         if front.is_empty() {
@@ -195,7 +180,7 @@ impl Answer {
 pub fn answer_on(out: Page, log: Page, settings: Settings<'_>, source: Source<'_>) -> Answer {
     let mut stream = Stream::new(Counted::new(out), Counted::new(log));
     let mut source = Counted::new(source);
-    let ended = stream.serve(&mut Marks, settings, b"f", &mut source, &mut Block::new());
+    let ended = stream.serve(&Marks, settings, b"f", &mut source, &mut Block::new());
     Answer::new(stream, ended)
 }
 
@@ -569,7 +554,7 @@ mod files {
         let log = Counted::new(Page::new(rt.alloc(), NEVER));
         let mut stream = Stream::new(out, log);
         let mut shelf = Shelf { faults: 0 };
-        let ended = stream.serve_files(&mut Marks, ALL, &NAMES, &mut shelf, &mut Block::new());
+        let ended = stream.serve_files(&Marks, ALL, &NAMES, &mut shelf, &mut Block::new());
         let got = Answer::new(stream, ended);
         let out = b"now1\n!2\nnow5\n3\n!4";
         let log = b"a:2:1: bad\nno\\x1bne: entity not found\nhalf: no read\nb:2:1: bad\n";
@@ -658,7 +643,7 @@ mod names {
             let mut stream = Stream::new(out, reported);
             let mut source = Counted::new(make_source(b"!\n!\n", NEVER));
             let ended = stream.serve(
-                &mut Marks,
+                &Marks,
                 settings,
                 b"a\x1b\n\xff",
                 &mut source,

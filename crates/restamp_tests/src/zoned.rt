@@ -20,7 +20,7 @@ const NOTHING_GIVEN: Defaults = Defaults {
 
 // The format, with the zone Europe/Berlin.
 fn zoned(alloc: Global) -> Option<Reading> {
-    let mut zones = Zones::new(alloc, String::new(alloc));
+    let mut zones = Zones::new(alloc);
     zones.insert("Europe/Berlin", berlin(alloc)?).ok()?;
     Some(Reading::Zoned(zones))
 }
@@ -152,12 +152,12 @@ fn suffixes(rt: HostRuntime) {
     }
 }
 
-// What is done with a line whose whole is the time.
-fn job_of(alloc: Global, reading: Reading, writing: &Writing) -> Job<'_> {
-    Job {
+// The column where a line goes wrong whose whole is the time; 0 where it doesn't.
+fn wrong_in<'a>(reading: &'a Reading, writing: &'a Writing, line: &[u8]) -> usize {
+    let job = Job {
         place: Some(Place::Whole),
         first: reading,
-        others: Vec::new(alloc),
+        others: &[],
         defaults: NOTHING_GIVEN,
         form: Form {
             writing,
@@ -167,11 +167,7 @@ fn job_of(alloc: Global, reading: Reading, writing: &Writing) -> Job<'_> {
         since: None,
         until: None,
         asks_for_times: false,
-    }
-}
-
-// The column where such a line goes wrong; 0 where it doesn't.
-fn wrong_in(job: &Job<'_>, line: &[u8]) -> usize {
+    };
     match job.judge(line, &mut Text::new()) {
         Verdict::Refused { column, reason } => job.find_wrong(line, column, reason).column,
         Verdict::Without | Verdict::Rewritten { .. } | Verdict::Dropped => 0,
@@ -193,9 +189,8 @@ fn columns(rt: HostRuntime) -> Result<(), Fail> {
     let (Some(reading), Ok(writing)) = (zoned(rt.alloc()), find_writing(b"unix")) else {
         return Err("no format".into());
     };
-    let job = job_of(rt.alloc(), reading, &writing);
     for (line, column) in &COLUMNS {
-        assert!(rt; wrong_in(&job, line) == *column, "{line:?}");
+        assert!(rt; wrong_in(&reading, &writing, line) == *column, "{line:?}");
     }
     Ok(())
 }

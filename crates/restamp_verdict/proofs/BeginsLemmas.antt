@@ -285,21 +285,21 @@ abbrev nothing : Option Said
 nothing = None
 
 from-nothing : (Y : ℕ) (job : Job) (line : List ℕ) (k : ℕ) (inside within : Bool)
-    → (not inside && within) ≡ false → (within ≡ false → IsInNone (first (drop k line)) (job.first ∷ job.others.items))
-    → MatchBool inside (nothing ≡ nothing) (AreTriedAlone Y job line k (job.first ∷ job.others.items) None)
+    → (not inside && within) ≡ false → (within ≡ false → IsInNone (first (drop k line)) (job.first.now ∷ job.others.now))
+    → MatchBool inside (nothing ≡ nothing) (AreTriedAlone Y job line k (job.first.now ∷ job.others.now) None)
 from-nothing Y job line k true within none h = refl
-from-nothing Y job line k false within none h = tried-nothing Y job line k (job.first ∷ job.others.items) (h none)
+from-nothing Y job line k false within none h = tried-nothing Y job line k (job.first.now ∷ job.others.now) (h none)
 
 -- And from one that is inside a word or a number, or with which no text of any format begins, it says nothing at all.
 pub says-none : (Y : ℕ) (job : Job) (line : List ℕ) (f : Firsts)
-    → ((x : ℕ) → is_in f x ≡ false → IsInNone x (job.first ∷ job.others.items)) → (k : ℕ)
+    → ((x : ℕ) → is_in f x ≡ false → IsInNone x (job.first.now ∷ job.others.now)) → (k : ℕ)
     → (not (is_inside line k) && is_in f (get_or line k 0)) ≡ false → SaysFrom Y job line k None
 says-none Y job line f all k none =
     let here = get_or-drop k line 0 0 in
     let from : k + 0 ≡ k = omega arith in
     let same : get_or line k 0 ≡ first (drop k line) = sym (here ∙ ap (λ (j : ℕ). get_or line j 0) from) in
     from-nothing Y job line k (is_inside line k) (is_in f (get_or line k 0)) none
-    (λ within. subst (λ (x : ℕ). IsInNone x (job.first ∷ job.others.items)) same (all (get_or line k 0) within))
+    (λ within. subst (λ (x : ℕ). IsInNone x (job.first.now ∷ job.others.now)) same (all (get_or line k 0) within))
 
 joined_and : (p q s : Bool) → ((p || q) && s) ≡ false → ((p && s) ≡ false) × ((q && s) ≡ false)
 joined_and true q s h = (h, and_right q s h)

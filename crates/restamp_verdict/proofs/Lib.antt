@@ -15,4 +15,3 @@ pub mod LackMoments
 pub mod LackUses
 pub mod SayingLemmas
 pub mod NamedZonesLemmas
-pub mod PreparedLemmas

@@ -332,10 +332,10 @@ module _ (Y : ℕ) (job other : Job) (line : List ℕ) (same : DiffersInZones li
       → IsJudgedPart Y job is_open start text verdict → IsJudgedPart Y other is_open start text verdict
   judged_part is_open start text verdict stands p = (
     p.0,
-    subst (λ (d : Defaults). IsReadInTurn Y other.first other.others.items is_open text d p.0) same.defaults
-        (in_turn_alike Y is_open text job.first other.first job.others.items other.others.items job.defaults p.0
-        (part_alike text line job.first other.first stands same.first)
-        (parts_alike text line job.others.items other.others.items stands same.others) p.1),
+    subst (λ (d : Defaults). IsReadInTurn Y other.first.now other.others.now is_open text d p.0) same.defaults
+        (in_turn_alike Y is_open text job.first.now other.first.now job.others.now other.others.now job.defaults p.0
+        (part_alike text line job.first.now other.first.now stands same.first)
+        (parts_alike text line job.others.now other.others.now stands same.others) p.1),
     after_read start p.0 verdict p.2,
   )
 
@@ -377,11 +377,11 @@ module _ (Y : ℕ) (job other : Job) (line : List ℕ) (same : DiffersInZones li
   )
 
   outside_alike : (inside : Bool) (body : List ℕ) (k : ℕ) (a : Option Said) → StandsIn body line
-      → MatchBool inside (a ≡ None) (AreTriedAlone Y job body k (job.first ∷ job.others.items) a)
-      → MatchBool inside (a ≡ None) (AreTriedAlone Y other body k (other.first ∷ other.others.items) a)
+      → MatchBool inside (a ≡ None) (AreTriedAlone Y job body k (job.first.now ∷ job.others.now) a)
+      → MatchBool inside (a ≡ None) (AreTriedAlone Y other body k (other.first.now ∷ other.others.now) a)
   outside_alike true body k a stands p = p
   outside_alike false body k a stands p =
-      tried_alone body k (job.first ∷ job.others.items) (other.first ∷ other.others.items) a stands (same.first, same.others) p
+      tried_alone body k (job.first.now ∷ job.others.now) (other.first.now ∷ other.others.now) a stands (same.first, same.others) p
 
   says_from : (body : List ℕ) (k : ℕ) (a : Option Said) → StandsIn body line → SaysFrom Y job body k a → SaysFrom Y other body k a
   says_from body k a stands p = outside_alike (is_inside body k) body k a stands p

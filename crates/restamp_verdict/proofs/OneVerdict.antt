@@ -292,17 +292,17 @@ one_put job start said a b p q = one_put_by (nat_lt LIMIT (start + said.start + 
 one_found : (job : Job) (place : Place) (line : List ℕ) (span : Option Span) (a b : Verdict)
     → MatchOption span (a ≡ missed job)
     (λ s. (read : Result Said Reason)
-    × IsReadInTurn greatest_year job.first job.others.items (is_open place) (slice_range line s.start s.stop) job.defaults read
+    × IsReadInTurn greatest_year job.first.now job.others.now (is_open place) (slice_range line s.start s.stop) job.defaults read
     × MatchResult read (λ said. IsPut greatest_year job s.start said a) (λ e. a ≡ refused (s.start + 1) e))
     → MatchOption span (b ≡ missed job)
     (λ s. (read : Result Said Reason)
-    × IsReadInTurn greatest_year job.first job.others.items (is_open place) (slice_range line s.start s.stop) job.defaults read
+    × IsReadInTurn greatest_year job.first.now job.others.now (is_open place) (slice_range line s.start s.stop) job.defaults read
     × MatchResult read (λ said. IsPut greatest_year job s.start said b) (λ e. b ≡ refused (s.start + 1) e))
     → a ≡ b
 one_found job place line None a b p q = p ∙ sym q
 one_found job place line (Some s) a b p q =
     one_after p.0 q.0 (λ said x. IsPut greatest_year job s.start said x) (λ e x. x ≡ refused (s.start + 1) e) a b
-    (one_in_turn job.first job.others.items (is_open place) (slice_range line s.start s.stop) job.defaults p.0 q.0 p.1 q.1)
+    (one_in_turn job.first.now job.others.now (is_open place) (slice_range line s.start s.stop) job.defaults p.0 q.0 p.1 q.1)
     (λ said u v. one_put job s.start said a b u v) (λ e u v. u ∙ sym v) p.2 q.2
 
 -- what follows from what one format says is one
@@ -327,10 +327,10 @@ one_tried_alone job line k (format ∷ formats) a b p q =
     (one_alone job line k format p.0 q.0 p.1 q.1) p.2) q.2
 
 one_outside : (inside : Bool) (job : Job) (line : List ℕ) (k : ℕ) (a b : Option Said)
-    → MatchBool inside (a ≡ None) (AreTriedAlone greatest_year job line k (job.first ∷ job.others.items) a)
-    → MatchBool inside (b ≡ None) (AreTriedAlone greatest_year job line k (job.first ∷ job.others.items) b) → a ≡ b
+    → MatchBool inside (a ≡ None) (AreTriedAlone greatest_year job line k (job.first.now ∷ job.others.now) a)
+    → MatchBool inside (b ≡ None) (AreTriedAlone greatest_year job line k (job.first.now ∷ job.others.now) b) → a ≡ b
 one_outside true job line k a b p q = p ∙ sym q
-one_outside false job line k a b p q = one_tried_alone job line k (job.first ∷ job.others.items) a b p q
+one_outside false job line k a b p q = one_tried_alone job line k (job.first.now ∷ job.others.now) a b p q
 
 one_near : (job : Job) (line : List ℕ) (k : ℕ) (a b : Option Said)
     → SaysFrom greatest_year job line k a → SaysFrom greatest_year job line k b → a ≡ b

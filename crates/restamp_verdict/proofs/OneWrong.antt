@@ -102,13 +102,13 @@ pub one_lack : OneLack greatest_year
 one_lack job line reason x y =
     one_where-one (is_insufficient reason)
     (λ z. MatchOption job.place (z ≡ None) (λ place. MatchOption (span_of place line) (z ≡ None)
-    (λ span. IsLackPart greatest_year job.first (dated job.defaults) (slice_range line span.start span.stop) z))) x y
+    (λ span. IsLackPart greatest_year job.first.now (dated job.defaults) (slice_range line span.start span.stop) z))) x y
     (choice-one job.place
     (λ place z. MatchOption (span_of place line) (z ≡ None)
-    (λ span. IsLackPart greatest_year job.first (dated job.defaults) (slice_range line span.start span.stop) z)) x y
+    (λ span. IsLackPart greatest_year job.first.now (dated job.defaults) (slice_range line span.start span.stop) z)) x y
     (λ place. choice-one (span_of place line)
-    (λ span z. IsLackPart greatest_year job.first (dated job.defaults) (slice_range line span.start span.stop) z) x y
-    (λ span. one_part-one job.first (dated job.defaults) (slice_range line span.start span.stop) x y)))
+    (λ span z. IsLackPart greatest_year job.first.now (dated job.defaults) (slice_range line span.start span.stop) z) x y
+    (λ span. one_part-one job.first.now (dated job.defaults) (slice_range line span.start span.stop) x y)))
 
 -- a format that reads all, over which an index is that of a value alone
 abbrev reads_all : Outcome.Reading
@@ -210,10 +210,10 @@ unread-one : (job : Job) (line : List ℕ) (e : Refusal) (otherwise w v : Wrong)
 unread-one job line e otherwise w v =
     one_choice job.place otherwise
     (λ place u. MatchOption (span_of place line) (u ≡ otherwise)
-    (λ span. IsWrongPart greatest_year job.first (is_open place) span.start (slice_range line span.start span.stop) e u)) w v
+    (λ span. IsWrongPart greatest_year job.first.now (is_open place) span.start (slice_range line span.start span.stop) e u)) w v
     (λ place. one_choice (span_of place line) otherwise
-    (λ span u. IsWrongPart greatest_year job.first (is_open place) span.start (slice_range line span.start span.stop) e u) w v
-    (λ span. part-one job.first (is_open place) span.start (slice_range line span.start span.stop) e w v))
+    (λ span u. IsWrongPart greatest_year job.first.now (is_open place) span.start (slice_range line span.start span.stop) e u) w v
+    (λ span. part-one job.first.now (is_open place) span.start (slice_range line span.start span.stop) e w v))
 
 -- so is where the suffix begins that refuses a time
 suffix-one : (job : Job) (line : List ℕ) (otherwise w v : Wrong) → IsRefusedBySuffix greatest_year job line otherwise w

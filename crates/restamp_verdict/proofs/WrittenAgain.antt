@@ -215,8 +215,8 @@ put_back job false kept start w bytes text again same e f =
     (put.0, from_front job start (said w (length bytes)) put.0 refl (rw f put.1), put.2)
 
 -- the first format reads it
-in_turn : (job : Job) (bytes : List ℕ) (s : Said) → Says greatest_year job.first false bytes job.defaults (Ok s)
-    → IsReadInTurn greatest_year job.first job.others.items false bytes job.defaults (Ok s)
+in_turn : (job : Job) (bytes : List ℕ) (s : Said) → Says greatest_year job.first.now false bytes job.defaults (Ok s)
+    → IsReadInTurn greatest_year job.first.now job.others.now false bytes job.defaults (Ok s)
 in_turn job bytes s says = (Ok s, (Ok s, (Ok s, says, refl), refl), refl)
 
 -- a line whose place has the text is judged so
@@ -234,7 +234,7 @@ judged job place line span bytes verdict at closed found part is =
 
 pub changes_nothing : ChangesNothing greatest_year
 changes_nothing job place line span v bytes verdict at closed found part is judged_so =
-    let it = back job.first job.defaults job.form v bytes is in
+    let it = back job.first.now job.defaults job.form v bytes is in
     let s = said it.0 (length bytes) in
     let far = nat_lt LIMIT (span.start + length bytes) in
     let put = put_back job far (is_kept greatest_year job v) span.start it.0 bytes it.1.text it.1.again it.1.same

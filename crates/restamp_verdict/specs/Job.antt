@@ -72,7 +72,7 @@ missed job = if job.asks_for_times then refused 1 missing else without
 abbrev pub IsJudgedPart : ℕ → Job → Bool → ℕ → List ℕ → Verdict → Type 0
 IsJudgedPart Y job is_open start text verdict =
     (read : Result Said Reason)
-    × IsReadInTurn Y job.first job.others.items is_open text job.defaults read
+    × IsReadInTurn Y job.first.now job.others.now is_open text job.defaults read
     × MatchResult read (λ said. IsPut Y job start said verdict) (λ e. verdict ≡ refused (start + 1) e)
 
 -- The verdict on a line whose time stands at that place.
@@ -108,7 +108,7 @@ AreTriedAlone Y job line k (format ∷ formats) result =
 abbrev pub SaysFrom : ℕ → Job → List ℕ → ℕ → Option Said → Type 0
 SaysFrom Y job line k result =
     MatchBool (is_inside line k) (result ≡ None)
-    (AreTriedAlone Y job line k (job.first ∷ job.others.items) result)
+    (AreTriedAlone Y job line k (job.first.now ∷ job.others.now) result)
 
 -- From none of its first n bytes on the line says a moment.
 abbrev pub SaysNoneBefore : ℕ → Job → List ℕ → ℕ → Type 0

@@ -142,7 +142,7 @@ ChangesNothing Y =
     (job : Job) (place : Place) (line : List ℕ) (span : Span) (v : OffsetDateTime) (bytes : List ℕ) (verdict : Verdict)
     → job.place ≡ Some place → is_open place ≡ false → span_of place line ≡ Some span
     → slice_range line span.start span.stop ≡ bytes
-    → IsReadable Y job.first job.defaults job.form v bytes → IsJudged Y job line verdict
+    → IsReadable Y job.first.now job.defaults job.form v bytes → IsJudged Y job line verdict
     → MatchBool (nat_lt LIMIT (span.start + length bytes)) (verdict ≡ refused (span.start + 1) too_far)
     (MatchBool (is_kept Y job v) (verdict ≡ rewritten span.start (length bytes) bytes) (verdict ≡ dropped))
 
@@ -201,8 +201,8 @@ AllAlike bytes (format ∷ formats) (other ∷ others) = AreAlike bytes format o
 
 -- the jobs are one, but for tables of zones that have the same zones for each name in the line
 pub record DiffersInZones (line : List ℕ) (job other : Job) : Type 0 where
-  pub first : AreAlike line job.first other.first
-  pub others : AllAlike line job.others.items other.others.items
+  pub first : AreAlike line job.first.now other.first.now
+  pub others : AllAlike line job.others.now other.others.now
   pub place : job.place ≡ other.place
   pub defaults : job.defaults ≡ other.defaults
   pub form : job.form ≡ other.form

@@ -10,4 +10,3 @@ pub mod Begins
 pub mod Told
 pub mod Laws
 pub mod Wrong
-pub mod Prepared

@@ -129,7 +129,7 @@ abbrev pub IsUnreadAt : ℕ → Job → List ℕ → Refusal → Wrong → Wrong
 IsUnreadAt Y job line e otherwise w =
     MatchOption job.place (w ≡ otherwise)
     (λ place. MatchOption (span_of place line) (w ≡ otherwise)
-    (λ span. IsWrongPart Y job.first (is_open place) span.start (slice_range line span.start span.stop) e w))
+    (λ span. IsWrongPart Y job.first.now (is_open place) span.start (slice_range line span.start span.stop) e w))
 
 -- a time is refused by its suffix
 abbrev pub is_of_suffix : Reason → Bool
@@ -249,7 +249,7 @@ IsLack Y job line reason result =
     MatchBool (is_insufficient reason)
     (MatchOption job.place (result ≡ None)
     (λ place. MatchOption (span_of place line) (result ≡ None)
-    (λ span. IsLackPart Y job.first (dated job.defaults) (slice_range line span.start span.stop) result)))
+    (λ span. IsLackPart Y job.first.now (dated job.defaults) (slice_range line span.start span.stop) result)))
     (result ≡ None)
 
 -- what is printed of why a time isn't rewritten, with what its zone is called: the reason, or in its place what the

@@ -57,10 +57,10 @@ impl Job<'_> {
     // The same by the first of the others by which it says something.
     fn read_others(&self, line: &[u8], start: usize) -> Option<Said>
         requires { start ≤ length line.now }
-        ensures said { spec.AreTriedAlone greatest_year self.now line.now start self.now.others.items result }
+        ensures said { spec.AreTriedAlone greatest_year self.now line.now start self.now.others.now result }
         ensures within { IfSome result (λ said. start + said.start + said.length ≤ length line.now) }
     {
-        for reading in &self.others {
+        for reading in self.others {
             if let Some(said) = self.ask_alone(line, start, reading) {
                 return Some(said);
             }
@@ -77,7 +77,7 @@ impl Job<'_> {
         if is_inside(line, start) {
             return None;
         }
-        match self.ask_alone(line, start, &self.first) {
+        match self.ask_alone(line, start, self.first) {
             Some(said) => Some(said),
             None => self.read_others(line, start),
         }
@@ -87,7 +87,7 @@ impl Job<'_> {
     fn next_start(&self, firsts: Option<Firsts>, line: &[u8], from: usize) -> usize
         requires from { from ≤ length line.now }
         requires firsts { IfSome firsts (λ firsts. (x : ℕ) → begins.is_in firsts x ≡ false
-            → begins.IsInNone x (self.now.first ∷ self.now.others.items)) }
+            → begins.IsInNone x (self.now.first.now ∷ self.now.others.now)) }
         ensures low { from ≤ result }
         ensures high { result ≤ length line.now }
         ensures passed { (k : ℕ) → from ≤ k → k < result → spec.SaysFrom greatest_year self.now line.now k None }
@@ -106,7 +106,7 @@ impl Job<'_> {
         ensures first { spec.IsFirst greatest_year self.now line.now result }
         ensures within { IfSome result (λ found. found.0 + found.1.start + found.1.length ≤ length line.now) }
     {
-        let firsts = fast::all_firsts(&self.first, self.others.as_slice());
+        let firsts = fast::all_firsts(self.first, self.others);
         let mut start = self.next_start(firsts, line, 0);
         while start < line.len() {
             if let Some(said) = self.read_from(line, start) {

@@ -20,14 +20,14 @@ pub const REACH: usize = 256;
 pub const LIMIT: usize = 262_144;
 
 /// What is done with each line.
-#[derive(Drop)]
+#[derive(Clone, Copy)]
 pub struct Job<'a> {
     /// Where its time stands; `None` is the first place from which on a format reads one.
     pub place: Option<Place<'a>>,
     /// The format that reads it.
-    pub first: Reading,
+    pub first: &'a Reading,
     /// The formats that are tried in turn where that one doesn't.
-    pub others: Vec<Reading>,
+    pub others: &'a [Reading],
     /// Defaults for what a time omits.
     pub defaults: Defaults<'a>,
     /// How it is written.
@@ -136,8 +136,7 @@ impl Job<'_> {
         ensures verdict { spec.IsJudgedPart greatest_year self.now is_open start part.now (spec.seen_verdict result text.new) }
         ensures within { spec.IsWithin (start + length part.now) (spec.seen_verdict result text.new) }
     {
-        let others = self.others.as_slice();
-        match read_in_turn(&self.first, others, is_open, part, &self.defaults) {
+        match read_in_turn(self.first, self.others, is_open, part, &self.defaults) {
             Ok(said) => self.put(start, said, text),
             Err(reason) => Verdict::Refused {
                 column: start + 1,

@@ -13,7 +13,6 @@ mod local;
 mod missing;
 mod naming;
 mod outcome;
-mod preparing;
 mod reading;
 mod reason;
 mod saying;

@@ -81,8 +81,7 @@ impl Job<'_> {
         ensures part { job.IsDecided (job.IsJudgedPart greatest_year self.now is_open start part.now) result text.new }
         ensures within { job.EndsWithin (start + length part.now) result }
     {
-        let others = self.others.as_slice();
-        match read_on_clocks(&self.first, others, is_open, part, &self.defaults) {
+        match read_on_clocks(self.first, self.others, is_open, part, &self.defaults) {
             Ok(said) => self.decide_said(start, said, text),
             Err(_) => Outcome::Refused,
         }
@@ -98,8 +97,7 @@ impl Job<'_> {
         if self.defaults.clocks.is_some() {
             return self.decide_on_clocks(start, is_open, part, text);
         }
-        let others = self.others.as_slice();
-        match say_in_turn(&self.first, others, is_open, part, &self.defaults) {
+        match say_in_turn(self.first, self.others, is_open, part, &self.defaults) {
             Some(said) => self.decide_said(start, said, text),
             None => Outcome::Refused,
         }
@@ -131,7 +129,7 @@ impl Job<'_> {
         if self.defaults.tries_more() {
             return self.decide_part(span.start, is_open, part, text);
         }
-        let Some(said) = say(&self.first, is_open, part, &self.defaults) else {
+        let Some(said) = say(self.first, is_open, part, &self.defaults) else {
             if self.others.is_empty() {
                 return Outcome::Refused;
             }

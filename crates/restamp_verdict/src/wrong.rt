@@ -147,14 +147,14 @@ impl Reading {
     }
 }
 
-impl Job<'_> {
+impl<'a> Job<'a> {
     /// Where the time of a line goes wrong that is refused at this column for this reason. A time that no format reads goes
     /// wrong at the byte that the first of them doesn't get past, or where the component begins that has no such value. One
     /// that its suffix refuses goes wrong where that begins. For any other reason it is the column where the time begins.
     ///
     /// Defaults don't count: they only stand for what a time leaves out.
     #[inline(never)]
-    pub fn find_wrong(&self, line: &[u8], column: usize, reason: Reason) -> Wrong<'_>
+    pub fn find_wrong(&self, line: &[u8], column: usize, reason: Reason) -> Wrong<'a>
         ensures { spec.IsWrong greatest_year self.now line.now column (seen reason) (spec.seen_wrong result) }
     {
         let otherwise = Wrong {
@@ -169,7 +169,7 @@ impl Job<'_> {
     }
 
     // Where it goes wrong that no format reads it; or that, where the line has no place for a time.
-    fn find_unread<'s>(&'s self, line: &[u8], error: Parse, otherwise: Wrong<'s>) -> Wrong<'s>
+    fn find_unread(&self, line: &[u8], error: Parse, otherwise: Wrong<'a>) -> Wrong<'a>
         ensures { spec.IsUnreadAt greatest_year self.now line.now (refusal_of error) (spec.seen_wrong otherwise.entry)
             (spec.seen_wrong result) }
     {
@@ -185,7 +185,7 @@ impl Job<'_> {
     }
 
     // Where the suffix begins that refuses it; or that, where there is none.
-    fn find_suffix<'s>(&'s self, line: &[u8], otherwise: Wrong<'s>) -> Wrong<'s>
+    fn find_suffix(&self, line: &[u8], otherwise: Wrong<'a>) -> Wrong<'a>
         ensures { spec.IsRefusedBySuffix greatest_year self.now line.now (spec.seen_wrong otherwise.entry) (spec.seen_wrong result) }
     {
         let Some(place) = self.place else {

@@ -1,13 +1,13 @@
-//! The readers of the components, and what descriptions print for debugging.
+//! The readers of components, and the debug output of descriptions.
 use std::num::NonZero;
 use time_readers::component::*;
 use time_readers::{Padding, ParsedItem, Period, SubsecondDigits, TrailingInput, modifier};
 use time_values::{Month, Weekday};
 
-// The value in front of a text and the rest behind it, or nothing.
+// The value at the start of a text and the bytes after it, or nothing.
 pub type Answer<T> = Option<(T, &'static [u8])>;
 
-// The answer is that value with that rest, or none.
+// Whether the reader's result is the value and rest, or nothing.
 pub fn answers<T: PartialEq + Copy>(
     answer: Option<ParsedItem<'_, T>>,
     wanted: Option<(T, &[u8])>,
@@ -19,13 +19,13 @@ pub fn answers<T: PartialEq + Copy>(
     }
 }
 
-// The answer with its number as a plain one.
+// The result with a plain number.
 pub fn small(answer: Option<ParsedItem<'_, NonZero<u8>>>) -> Option<ParsedItem<'_, u8>> {
     let found = answer?;
     Some(ParsedItem(found.0, found.1.get()))
 }
 
-// The same of a number of two bytes.
+// The result with a plain number, for a number of two bytes.
 pub fn large(answer: Option<ParsedItem<'_, NonZero<u16>>>) -> Option<ParsedItem<'_, u16>> {
     let found = answer?;
     Some(ParsedItem(found.0, found.1.get()))
@@ -85,7 +85,7 @@ fn components(rt: HostRuntime) {
     assert!(rt; answers(minute, Some((30, b""))));
 }
 
-// The answer of the reader of an offset's hour.
+// The result of the reader of an offset's hour.
 fn offset_hour(
     input: &[u8],
     padding: Padding,
@@ -100,7 +100,7 @@ fn offset_hour(
     )
 }
 
-// The answers of the readers of a number in two places.
+// The results of the readers of a number of two digits.
 fn two_places(input: &[u8], padding: Padding) -> [Option<ParsedItem<'_, u8>>; 9] {
     [
         parse_calendar_year_last_two(input, modifier::CalendarYearLastTwo { padding }),
@@ -182,7 +182,7 @@ fn components_from_one(rt: HostRuntime) {
     }
 }
 
-// Texts, how they are padded, whether a sign has to stand, and the year.
+// Texts, their padding, whether a sign is mandatory, and the year.
 static YEARS: [(&[u8], Padding, bool, Answer<i32>); 7] = [
     (b"-9999", ZERO, true, Some((-9999, b""))),
     (b"9999", ZERO, false, Some((9999, b""))),
@@ -193,7 +193,7 @@ static YEARS: [(&[u8], Padding, bool, Answer<i32>); 7] = [
     (b"005x", ZERO, false, None),
 ];
 
-// The answers of the readers of a year.
+// The results of the readers of a year.
 fn years(
     input: &[u8],
     padding: Padding,
@@ -255,7 +255,7 @@ static CENTURIES: [(&[u8], Padding, bool, Answer<(i16, bool)>); 9] = [
     (b"-5x", ZERO, false, None),
 ];
 
-// The answers of the readers of a century.
+// The results of the readers of a century.
 fn centuries(
     input: &[u8],
     padding: Padding,
@@ -338,7 +338,7 @@ fn components_of_offsets(rt: HostRuntime) {
 
 const FIRST: i128 = -377_705_116_800_000_000_000;
 
-// Texts, whether a sign has to stand, and the nanoseconds.
+// Texts, whether a sign is mandatory, and the nanoseconds.
 static SECONDS: [(&[u8], bool, Answer<i128>); 6] = [
     (b"-377705116800", true, Some((FIRST, b""))),
     (
@@ -426,7 +426,7 @@ fn components_of_timestamps_in_nanoseconds(rt: HostRuntime) {
     }
 }
 
-// Texts, whether the case counts, and the month by its short name and by its long one.
+// Texts, whether they are case sensitive, and the month by its short name and by its long one.
 static MONTH_NAMES: [(&[u8], bool, Answer<Month>, Answer<Month>); 10] = [
     (
         b"January",
@@ -465,7 +465,7 @@ static MONTH_NAMES: [(&[u8], bool, Answer<Month>, Answer<Month>); 10] = [
     (b"jux", false, None, None),
 ];
 
-// The same of weekdays.
+// Texts, whether they are case sensitive, and the weekday by its short name and by its long one.
 static WEEKDAY_NAMES: [(&[u8], bool, Answer<Weekday>, Answer<Weekday>); 5] = [
     (
         b"Monday",
@@ -507,7 +507,7 @@ fn components_of_names(rt: HostRuntime) {
     }
 }
 
-// Texts, whether the letters are large, whether the case counts, and the half of the day.
+// Texts, whether the letters are upper case, whether they are case sensitive, and the half of the day.
 static PERIODS: [(&[u8], bool, bool, Answer<Period>); 10] = [
     (b"AM", true, true, Some((Period::Am, b""))),
     (b"PMx", true, true, Some((Period::Pm, b"x"))),
@@ -521,7 +521,7 @@ static PERIODS: [(&[u8], bool, bool, Answer<Period>); 10] = [
     (b"xm", false, false, None),
 ];
 
-// Texts, whether the numbers begin with 1, and the day of a week from Sunday and of one from Monday.
+// Texts, whether the numbers start at 1, and the day of a week that starts on Sunday and of one that starts on Monday.
 static WEEKDAY_NUMBERS: [(&[u8], bool, Answer<Weekday>, Answer<Weekday>); 8] = [
     (
         b"0",
@@ -617,7 +617,7 @@ fn components_of_subseconds(rt: HostRuntime) {
     }
 }
 
-// Texts, how many bytes are skipped, and what is left.
+// Texts, how many bytes are skipped, and the rest.
 static SKIPPED: [(&[u8], u16, Answer<()>); 4] = [
     (b"ab", 1, Some(((), b"b"))),
     (b"ab", 2, Some(((), b""))),
@@ -650,7 +650,7 @@ fn components_of_ends(rt: HostRuntime) {
     }
 }
 
-// What a description prints for debugging.
+// The debug output of descriptions.
 mod debug_texts {
     use std::alloc::Global;
     use std::fmt::Debug;
@@ -663,7 +663,7 @@ mod debug_texts {
         padding: Padding::Zero,
     });
 
-    // The value prints that.
+    // Whether this is the value's debug output.
     fn prints<T: Debug>(alloc: Global, value: &T, wanted: &str) -> bool {
         match format!(in alloc; "{value:?}") {
             Ok(text) => text.as_str() == wanted,
@@ -685,7 +685,7 @@ mod debug_texts {
         assert!(rt; prints(rt.alloc(), &item, wanted));
     }
 
-    // A text, and behind it the day that may be missing.
+    // A text, followed by an optional day.
     fn version_three(alloc: Global) -> Option<FormatDescriptionV3<'static>> {
         let item = Box::new(alloc, FormatDescriptionV3Inner::Component(DAY)).ok()?;
         let items = vec![in alloc;

@@ -1,8 +1,8 @@
-//! Each day of 400 years here and there, against a count from day to day.
+//! Each day of 400 years, from four starting days, against a count from day to day.
 use std::num::NonZero;
 use time_values::{Date, Month, Time, UtcDateTime};
 
-// A day and what a count from day to day says of it.
+// The numbers of a day, counted from day to day.
 #[derive(Clone, Copy)]
 struct Counted {
     year: i32,
@@ -75,7 +75,7 @@ impl Counted {
         }
     }
 
-    // The next day.
+    // Counts one day further.
     fn step(&mut self) {
         self.weekday = self.weekday.wrapping_add(1) % 7;
         self.nanos = self.nanos.wrapping_add(NANOS_PER_DAY);
@@ -106,7 +106,8 @@ impl Counted {
         }
         if self.weekday == 0 {
             self.monday_week = self.monday_week.wrapping_add(1);
-            // The Thursday of a week that begins on one of the last three days is in the next year.
+            // A Thursday in the last week of December can be in the next year's week 1 if its week starts on one of the
+            // last three days.
             let next = self.month == 12 && self.day >= 29;
             let year = if next {
                 self.year.wrapping_add(1)
@@ -123,7 +124,7 @@ impl Counted {
     }
 }
 
-// The getters agree with the count.
+// Whether the getters agree with the count.
 fn has_its_numbers(date: Date, counted: &Counted) -> bool {
     date.ordinal() == counted.ordinal
         && date.weekday().number_days_from_monday() == counted.weekday
@@ -132,7 +133,7 @@ fn has_its_numbers(date: Date, counted: &Counted) -> bool {
         && date.iso_week() == counted.iso_week
 }
 
-// The constructors make the date of its numbers.
+// Whether the constructors build the date from its numbers.
 fn is_made_of_its_numbers(date: Date, counted: &Counted) -> bool {
     let weekday = date.weekday();
     date.to_iso_week_date() == (counted.iso_year, counted.iso_week, weekday)
@@ -140,7 +141,7 @@ fn is_made_of_its_numbers(date: Date, counted: &Counted) -> bool {
         && Date::from_iso_week_date(counted.iso_year, counted.iso_week, weekday) == Ok(date)
 }
 
-// The midnight before the date is so many nanoseconds after 1970-01-01.
+// Whether midnight at the date's start is this many nanoseconds after 1970-01-01.
 fn begins_at(date: Date, nanos: i128) -> bool {
     match Time::from_hms_nano(0, 0, 0, 0) {
         Ok(midnight) => {
@@ -158,7 +159,7 @@ fn date_of(counted: &Counted) -> Option<Date> {
     Date::from_calendar_date(counted.year, month, counted.day).ok()
 }
 
-// The count's date agrees with it.
+// Whether the count's date agrees with it.
 fn agrees(counted: &Counted) -> bool {
     match date_of(counted) {
         Some(date) => {
@@ -170,7 +171,7 @@ fn agrees(counted: &Counted) -> bool {
     }
 }
 
-// The day behind so many days, or the first one whose date does not agree with the count.
+// The day after this many days, or the first one whose date disagrees with the count.
 fn count(start: Counted, days: u32) -> Counted {
     let mut counted = start;
     for _ in 0..days {
@@ -182,7 +183,7 @@ fn count(start: Counted, days: u32) -> Counted {
     counted
 }
 
-// Where the count begins, for how many days it goes on, and the year that begins behind them, on what weekday.
+// The first day of a count, its number of days, and the year and the weekday that follow the last of them.
 static COUNTS: [(Counted, u32, i32, u8); 4] = [
     (Counted::IN_1900, 146_097, 2300, 0),
     (Counted::FIRST, 146_097, -999_599, 0),

@@ -8,7 +8,7 @@ use time_readers::combinator::{
 };
 use time_readers::{Integer, Padding, ParsedItem, Sign};
 
-// The value with that rest is what was read.
+// Whether the result is the value with that rest.
 fn reads<T: PartialEq + Copy>(answer: Option<ParsedItem<'_, T>>, value: T, rest: &[u8]) -> bool {
     match answer {
         Some(found) => found.1 == value && found.0 == rest,
@@ -16,14 +16,14 @@ fn reads<T: PartialEq + Copy>(answer: Option<ParsedItem<'_, T>>, value: T, rest:
     }
 }
 
-// One to three digits of a number that fits into a byte.
+// Checks one to three digits of a number that fits one byte.
 fn reads_as_many_as_fit() -> bool {
     reads(n_to_m_digits::<1, 3, u8>(b"255x"), 255, b"x")
         && n_to_m_digits::<1, 3, u8>(b"256").is_none()
         && reads(n_to_m_digits::<1, 3, u8>(b"0256"), 25, b"6")
 }
 
-// Four to six digits, of which spaces may stand for the first.
+// Checks four to six digits, whose first may be spaces.
 fn reads_behind_spaces() -> bool {
     let space = Padding::Space;
     reads(
@@ -33,7 +33,7 @@ fn reads_behind_spaces() -> bool {
     ) && n_to_m_digits_padded::<4, 6, u32>(b"    1", space).is_none()
 }
 
-// Texts, how they are padded, and their number of two digits.
+// Texts, their padding, and their number of two digits.
 static PADDED: [(&[u8], Padding, Answer<u8>); 3] = [
     (b" 7", Padding::Space, Some((7, b""))),
     (b"7x", Padding::None, Some((7, b"x"))),
@@ -51,7 +51,7 @@ fn digits_and_record(rt: HostRuntime) {
     assert!(rt; exactly_n_digits::<9>(b"/234567891").is_none());
 }
 
-// A sign is read, with that rest.
+// Whether a sign is parsed, with that rest.
 fn reads_sign(input: &[u8], negative: bool, rest: &[u8]) -> bool {
     match sign(input) {
         Some(found) => matches!(found.1, Sign::Negative) == negative && found.0 == rest,
@@ -65,7 +65,7 @@ fn signs(rt: HostRuntime) {
     assert!(rt; sign(b"1").is_none());
 }
 
-// A letter is read as it is given, or in either case.
+// Checks a letter in its own case, and in either case.
 fn reads_letters() -> bool {
     reads(ascii_char::<b'T'>(b"T:"), (), b":")
         && ascii_char::<b'T'>(b"t:").is_none()
@@ -90,14 +90,14 @@ fn one_digit_or_two(rt: HostRuntime) {
     assert!(rt; one_or_two_digits(b"").is_none());
 }
 
-// The number with a digit pushed onto it, where it fits.
+// The number with one more digit, if it fits.
 fn pushed<T: Integer>(number: T, digit: u8) -> Option<T>
     requires { digit ≤ 9 }
 {
     number.checked_push_digit(digit)
 }
 
-// Of the greatest number's first digits the last one is pushed, and none above it.
+// Whether the greatest number's first digits accept its last digit, and none above it.
 fn takes_the_last_digit<T: Integer + PartialEq + Copy>(first: T, greatest: T) -> bool {
     pushed(first, 5) == Some(greatest) && pushed(first, 6).is_none()
 }
@@ -112,12 +112,12 @@ fn greatest_numbers(rt: HostRuntime) {
     assert!(rt; n_to_m_digits::<5, 5, u16>(b"65536").is_none());
 }
 
-// Runs of exactly so many digits, with each byte at each place.
+// Runs of an exact number of digits, with each byte at each place.
 mod word_digits {
     use crate::components::answers;
     use time_readers::combinator::exactly_n_digits;
 
-    // The number that the digits say, where each byte is one.
+    // The number of the digits, or nothing if a byte is not a digit.
     fn number(digits: &[u8]) -> Option<u32> {
         let mut number = 0_u32;
         for digit in digits {
@@ -131,13 +131,13 @@ mod word_digits {
         Some(number)
     }
 
-    // The number of so many digits in front, and the rest behind them.
+    // The number of the first `len` digits, and the rest after them.
     fn number_in_front(input: &[u8], len: u8) -> Option<(u32, &[u8])> {
         let (first, rest) = input.split_at_checked(usize::from(len))?;
         Some((number(first)?, rest))
     }
 
-    // `N` digits are read with their number and the rest, and nothing is where they don't stand.
+    // Whether `N` digits are parsed as their number, and other bytes are rejected.
     fn is_right<const N: u8>(input: &[u8]) -> bool
         requires least { 1 ≤ N }
         requires most { N ≤ 9 }
@@ -145,7 +145,7 @@ mod word_digits {
         answers(exactly_n_digits::<N>(input), number_in_front(input, N))
     }
 
-    // Eleven digits, of which another byte stands in one's place.
+    // Eleven digits, with one replaced by another byte.
     fn changed(place: u8, byte: u8) -> [u8; 11] {
         let mut bytes = *b"98765432109";
         if let Some(it) = bytes.get_mut(usize::from(place)) {
@@ -154,7 +154,7 @@ mod word_digits {
         bytes
     }
 
-    // The same with each byte at each place, where more bytes stand and where none do, and of each shorter input.
+    // Checks each byte at each place, with more bytes after the digits and without, and each shorter input.
     fn is_right_everywhere<const N: u8>() -> bool
         requires least { 1 ≤ N }
         requires most { N ≤ 9 }

@@ -64,7 +64,7 @@ fn iso_pieces_that_are_positive(rt: HostRuntime) {
 
 static HOURS: [(&[u8], Answer<u8>); 2] = [(b"990", Some((99, b"0"))), (b"9", None)];
 
-// Texts, the whole part of the number that each begins with and its digits behind a point.
+// Texts, and the number at the start of each: its whole part and the digits after its point.
 static NUMBERS: [(&[u8], Answer<(u8, Option<&[u8]>)>); 6] = [
     (b"03:", Some(((3, None), b":"))),
     (b"03,25Z", Some(((3, Some(b"25")), b"Z"))),
@@ -85,7 +85,7 @@ fn iso_pieces_of_times(rt: HostRuntime) {
     }
 }
 
-// The text begins with that day of a month, and this is the rest behind its extended form.
+// Whether the text starts with that day of a month in extended form, before this rest.
 fn begins_with_day(text: &[u8], wanted: (i32, Month, u8), rest: &[u8]) -> bool {
     match date(text) {
         Ok(found) => match found.value {
@@ -100,7 +100,7 @@ fn begins_with_day(text: &[u8], wanted: (i32, Month, u8), rest: &[u8]) -> bool {
     }
 }
 
-// The text begins with that day of a year in basic form.
+// Whether the text starts with that day of a year in basic form.
 fn begins_with_ordinal(text: &[u8], wanted: (i32, u16)) -> bool {
     match date(text) {
         Ok(found) => match found.value {
@@ -124,7 +124,7 @@ fn iso_date_reader(rt: HostRuntime) {
     assert!(rt; refused);
 }
 
-// Either kind may be given to an unknown one, which then is no other.
+// Whether an unknown kind may become either one, and then no other.
 fn is_coerced_once() -> bool {
     let (mut basic, mut extended) = (ExtendedKind::Unknown, ExtendedKind::Unknown);
     [
@@ -148,7 +148,7 @@ fn iso_kinds(rt: HostRuntime) {
     assert!(rt; is_coerced_once());
 }
 
-// Texts of ISO 8601 with each byte at each place: their date and time read at once, and one after the other.
+// Texts of ISO 8601 with each byte at each place: the date and time parsed together, and one after the other.
 mod iso_dates_and_times {
     use time_readers::iso8601::{DateNumbers, Part, TimeNumbers, date, date_and_time, time};
 
@@ -189,7 +189,7 @@ mod iso_dates_and_times {
         }
     }
 
-    // Both readings have the same date and time, or the same fault.
+    // Whether both ways parse an equal date and time, or report an equal error.
     fn is_right(text: &[u8]) -> bool {
         match (date_and_time(text), date(text)) {
             (Ok(both), Ok(alone)) => {
@@ -201,7 +201,7 @@ mod iso_dates_and_times {
         }
     }
 
-    // The same of the text with each byte at the place.
+    // Whether they do with each byte at the place.
     fn is_right_at(text: &[u8], place: usize) -> bool {
         let mut bytes = [0; 40];
         let Some(changed) = bytes.get_mut(..text.len()) else {
@@ -237,10 +237,10 @@ mod iso_time_kinds {
     // Hour, minute, second and nanosecond, the unread rest, and the kind after.
     type Found = (u8, u8, u8, u32, &'static [u8], ExtendedKind);
 
-    // What a text says under a kind, or nothing where it is refused.
+    // A text, the kind before it, and what it parses as, or nothing where it is rejected.
     type Row = (&'static [u8], ExtendedKind, Option<Found>);
 
-    // What is read of the text under the kind is that.
+    // Whether the text parses as that under the kind.
     fn reads(text: &[u8], kind: ExtendedKind, wanted: Option<Found>) -> bool {
         match (time(text, kind, false), wanted) {
             (Some(found), Some((hour, minute, second, subsecond, rest, after))) => {
@@ -315,7 +315,7 @@ mod iso_time_kinds {
             UNKNOWN,
             Some((3, 4, 5, 250_000_000, b"", EXTENDED)),
         ),
-        // What may follow a whole hour, and a whole minute.
+        // The bytes after a whole hour, and after a whole minute.
         (b"03:", BASIC, None),
         (b"03x", BASIC, Some((3, 0, 0, 0, b"x", BASIC))),
         (b"03.5:", BASIC, Some((3, 30, 0, 0, b":", BASIC))),
@@ -332,7 +332,7 @@ mod iso_time_kinds {
         (b"0304:", UNKNOWN, Some((3, 4, 0, 0, b":", BASIC))),
         (b"03:04:", UNKNOWN, None),
         (b"03:0405", UNKNOWN, Some((3, 4, 0, 0, b"05", EXTENDED))),
-        // A number out of its range refuses, and so does a fraction of a second that rounds to 1.
+        // A number out of its range is an error, and so is a fraction of a second that rounds to 1.
         (b"24", UNKNOWN, None),
         (b"24.5", UNKNOWN, None),
         (b"0360", UNKNOWN, None),
@@ -347,7 +347,7 @@ mod iso_time_kinds {
             UNKNOWN,
             Some((3, 4, 5, 999_999_999, b"", BASIC)),
         ),
-        // A small letter stands before no time, and the letter alone is none.
+        // A time doesn't start with a small letter, and the letter alone isn't a time.
         (b"t03", UNKNOWN, None),
         (b"T", UNKNOWN, None),
     ];
@@ -359,7 +359,7 @@ mod iso_time_kinds {
         }
     }
 
-    // The hour behind the letter that has to stand.
+    // The hour after the mandatory letter.
     fn hour_behind_letter(text: &[u8]) -> Option<u8> {
         let found = time(text, UNKNOWN, true)?;
         Some(found.value.hour)
@@ -392,7 +392,7 @@ mod places {
         offset_minute: 0,
     };
 
-    // Texts, what their places say, and the unread rest. The first is an example of RFC 3339, section 5.8.
+    // Texts, the numbers that they parse as, and the rest. The first is an example of RFC 3339, section 5.8.
     static READ: [(&[u8], Numbers, &[u8]); 3] = [
         (
             b"1985-04-12T23:20:50.52Z",
@@ -436,7 +436,7 @@ mod places {
             && (a.offset_hour, a.offset_minute) == (b.offset_hour, b.offset_minute)
     }
 
-    // The places of the text say these numbers, before that rest.
+    // Whether the text parses as these numbers, before that rest.
     fn says(text: &[u8], numbers: &Numbers, rest: &[u8]) -> bool {
         match read::<true>(text) {
             Ok(found) => found.0 == rest && are_equal(&found.1, numbers),
@@ -451,7 +451,7 @@ mod places {
         }
     }
 
-    // Texts, the place where each fails first, and the one where it does with no range checked.
+    // Texts, the first place at which each fails, and the first at which it fails without a check of ranges.
     static FAILED: [(&[u8], Place, Option<Place>); 8] = [
         (b"", Place::Year, Some(Place::Year)),
         (b"2021-00-02T03:04:05Z", Place::Month, Some(Place::Month)),

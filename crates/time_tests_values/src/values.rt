@@ -6,7 +6,7 @@ use time_values::{Date, Month, OffsetDateTime, Time, Timestamp, UtcDateTime, Utc
 // A year, a month and a day of it.
 type Day = (i32, Month, u8);
 
-// The hour, minute, second and nanosecond of a time.
+// The hour, minute, second and nanosecond of a time of day.
 type Clock = (u8, u8, u8, u32);
 
 // The date and the time of these numbers.
@@ -19,7 +19,7 @@ fn date_and_time(
     Some((date, time))
 }
 
-// The moment of these numbers on a clock with that offset.
+// The moment of these numbers in local time at that offset.
 fn moment(
     day: Day,
     clock: Clock,
@@ -30,7 +30,7 @@ fn moment(
     Some(OffsetDateTime::new_in_offset(date, time, offset))
 }
 
-// The refusal of a component whose range does not depend on others.
+// The error of a component whose range is independent of others.
 macro_rules! out {
     ($name:literal) => {
         ComponentRange {
@@ -40,7 +40,7 @@ macro_rules! out {
     };
 }
 
-// The refusal of a component whose range depends on others.
+// The error of a component whose range depends on others.
 macro_rules! out_for_others {
     ($name:literal) => {
         ComponentRange {
@@ -50,7 +50,7 @@ macro_rules! out_for_others {
     };
 }
 
-// The numbers of months, years, and how long the months are in them, or why there is no month of that number.
+// The numbers of months, years, and the lengths of the months in them, or the error of a month's number.
 static MONTHS: [(u8, i32, Result<(Month, u8), ComponentRange>); 20] = [
     (1, 2023, Ok((Month::January, 31))),
     (2, 2023, Ok((Month::February, 28))),
@@ -74,7 +74,7 @@ static MONTHS: [(u8, i32, Result<(Month, u8), ComponentRange>); 20] = [
     (255, 2023, Err(out!("month"))),
 ];
 
-// The month of that number, which it gives back, and its length in that year.
+// The month with that number, which has the number again, and its length in that year.
 fn month_of(number: u8, year: i32) -> Option<Result<(Month, u8), ComponentRange>> {
     match Month::from_number(NonZero::<u8>::new(number)?) {
         Ok(month) if (month.number(), u8::from(month)) == (number, number) => {
@@ -102,7 +102,7 @@ static WEEKDAYS: [(Weekday, u8, u8); 3] = [
     (Weekday::Sunday, 6, 0),
 ];
 
-// The weekday has these numbers.
+// Whether the weekday has these numbers.
 fn has_numbers(weekday: Weekday, from_monday: u8, from_sunday: u8) -> bool {
     weekday.number_days_from_monday() == from_monday
         && weekday.number_days_from_sunday() == from_sunday
@@ -115,7 +115,7 @@ fn weekdays(rt: HostRuntime) {
     }
 }
 
-// Whether the date of these parts has them.
+// Whether the date of these parts has them again.
 fn keeps_its_parts((year, month, day): Day) -> Result<bool, ComponentRange> {
     let date = Date::from_calendar_date(year, month, day)?;
     Ok((date.year(), date.month(), date.day()) == (year, month, day))
@@ -175,7 +175,7 @@ fn ordinal_dates(rt: HostRuntime) {
 // An ISO 8601 year, a week of it and a weekday.
 type WeekDate = (i32, u8, Weekday);
 
-// The week has the date of these parts as its weekday.
+// Whether the week has the date of these parts as its weekday.
 fn is_in_week((year, month, day): Day, week_date: WeekDate) -> bool {
     match Date::from_calendar_date(year, month, day) {
         Ok(date) => {
@@ -224,7 +224,7 @@ fn iso_week_dates_refused(rt: HostRuntime) {
     }
 }
 
-// The parts of the time that is made of them.
+// The parts of the time that is built from them.
 fn time_of((hour, minute, second, nanosecond): Clock) -> Result<Clock, ComponentRange> {
     let time = Time::from_hms_nano(hour, minute, second, nanosecond)?;
     Ok((time.hour(), time.minute(), time.second(), time.nanosecond()))
@@ -249,7 +249,7 @@ fn times(rt: HostRuntime) {
 // The hours, minutes and seconds of an offset.
 type Offset = (i8, i8, i8);
 
-// The parts of the offset that is made of these numbers.
+// The parts of the offset that is built from these numbers.
 fn offset_of((hours, minutes, seconds): Offset) -> Result<Offset, ComponentRange> {
     Ok(UtcOffset::from_hms(hours, minutes, seconds)?.as_hms())
 }
@@ -277,7 +277,8 @@ fn offsets(rt: HostRuntime) {
     }
 }
 
-// The first date, the last one and the offset of UTC are made of their parts, and the dates have their weekdays.
+// Whether the first date, the last one and the offset of UTC are built from their parts, and the dates have their
+// weekdays.
 fn constants_are_made() -> bool {
     Date::from_calendar_date(-999_999, Month::January, 1) == Ok(Date::MIN)
         && Date::from_calendar_date(999_999, Month::December, 31) == Ok(Date::MAX)
@@ -294,7 +295,7 @@ const FIRST: i128 = -31_619_087_596_800_000_000_000;
 
 const LAST: i128 = 31_494_784_780_799_999_999_999;
 
-// The moment in UTC after these nanoseconds has that date and time, and gives the nanoseconds back.
+// Whether the moment in UTC after these nanoseconds has that date and time, and returns the nanoseconds.
 fn is_utc_after(nanos: i128, date: Date, time: Time) -> bool {
     match UtcDateTime::from_unix_timestamp_nanos(nanos) {
         Ok(utc) => {
@@ -307,20 +308,20 @@ fn is_utc_after(nanos: i128, date: Date, time: Time) -> bool {
     }
 }
 
-// So does the timestamp of that moment.
+// Whether the timestamp of that moment does.
 fn is_timestamp_after(nanos: i128, utc: UtcDateTime) -> bool {
     let stamp = Timestamp::from(utc);
     stamp.nanoseconds() == nanos && Timestamp::from_nanoseconds(nanos) == Ok(stamp)
 }
 
-// So does the moment with an offset, which is in UTC.
+// Whether the moment with the offset of UTC does.
 fn is_moment_after(nanos: i128, moment: OffsetDateTime, utc: UtcDateTime) -> bool {
     OffsetDateTime::from_unix_timestamp_nanos(nanos) == Ok(moment)
         && moment.unix_timestamp_nanos() == nanos
         && moment.checked_to_utc() == Some(utc)
 }
 
-// All three types agree on the moment after these nanoseconds.
+// Whether all three types agree on the moment after these nanoseconds.
 fn is_after(nanos: i128, day: Day, clock: Clock) -> bool {
     match date_and_time(day, clock) {
         Some((date, time)) => {
@@ -354,7 +355,7 @@ fn moments(rt: HostRuntime) {
 
 const OUT_OF_MOMENTS: ComponentRange = out!("timestamp");
 
-// None of the three types has a moment after these nanoseconds.
+// Whether each of the three types rejects these nanoseconds.
 fn is_after_none(nanos: i128) -> bool {
     UtcDateTime::from_unix_timestamp_nanos(nanos) == Err(OUT_OF_MOMENTS)
         && OffsetDateTime::from_unix_timestamp_nanos(nanos) == Err(OUT_OF_MOMENTS)
@@ -407,7 +408,7 @@ static OFFSET_MOMENTS: [OffsetMoment; 4] = [
     ),
 ];
 
-// What the moment keeps of its date, time and offset, and the nanoseconds to it.
+// The date, time and offset of the moment, and the nanoseconds from 1970-01-01 in UTC to it.
 fn kept(moment: OffsetDateTime) -> (Day, Clock, Offset, i128) {
     (
         moment.date().to_calendar_date(),
@@ -417,13 +418,13 @@ fn kept(moment: OffsetDateTime) -> (Day, Clock, Offset, i128) {
     )
 }
 
-// Its date and time in UTC.
+// The date and time of the moment in UTC.
 fn in_utc(moment: OffsetDateTime) -> Option<(Day, Clock)> {
     let utc = moment.checked_to_utc()?;
     Some((utc.date().to_calendar_date(), utc.time().as_hms_nano()))
 }
 
-// The moment keeps its numbers, is after so many nanoseconds, and has that date and time in UTC.
+// Whether the moment has its numbers, and that date and time in UTC.
 fn is_offset_moment((day, clock, offset, nanos, utc): OffsetMoment) -> bool {
     match moment(day, clock, offset) {
         Some(value) => kept(value) == (day, clock, offset, nanos) && in_utc(value) == utc,
@@ -438,7 +439,7 @@ fn offset_moments(rt: HostRuntime) {
     }
 }
 
-// Whether the moment stands for a leap second, as its moment in UTC does where it has one.
+// Whether the moment may be a leap second, by itself and in UTC.
 fn is_stand_in(day: Day, clock: Clock, offset: Offset) -> Option<bool> {
     let moment = moment(day, clock, offset)?;
     let valid = moment.is_valid_leap_second_stand_in();
@@ -448,7 +449,7 @@ fn is_stand_in(day: Day, clock: Clock, offset: Offset) -> Option<bool> {
     }
 }
 
-// Only the last nanosecond of a month in UTC stands for a leap second, as at the ends of 2016 and of 1990 (RFC 3339,
+// Only the last nanosecond of a month in UTC may be a leap second, as at the ends of 2016 and of 1990 (RFC 3339,
 // section 5.8).
 static LEAP_SECONDS: [(Day, Clock, Offset, bool); 7] = [
     (
@@ -502,7 +503,7 @@ fn leap_seconds(rt: HostRuntime) {
     }
 }
 
-// The last date at 1:02:03 and that nanosecond, an hour ahead of UTC.
+// The last date at 1:02:03 and that nanosecond, at +01:00.
 fn with_nanosecond(nanosecond: u32) -> Option<OffsetDateTime> {
     moment(
         (999_999, Month::December, 31),
@@ -511,7 +512,7 @@ fn with_nanosecond(nanosecond: u32) -> Option<OffsetDateTime> {
     )
 }
 
-// The nanosecond replaces another one, in UTC too.
+// Whether the nanosecond replaces another one, in UTC too.
 fn replaces(nanosecond: u32) -> Option<bool> {
     let (before, after) = (with_nanosecond(4)?, with_nanosecond(nanosecond)?);
     let utc = UtcDateTime::new(before.date(), before.time());
@@ -522,7 +523,7 @@ fn replaces(nanosecond: u32) -> Option<bool> {
     )
 }
 
-// A nanosecond that no second has replaces none.
+// Whether a nanosecond out of range is rejected.
 fn is_refused() -> Option<bool> {
     let refusal = out!("nanosecond");
     let moment = with_nanosecond(4)?;
@@ -552,13 +553,13 @@ mod system_clock {
     // 2000-02-29 is 10957 + 59 days after 1970-01-01: 30 years with 7 leap days, and 31 + 28 days.
     const SECONDS: u64 = (10_957 + 59) * 86_400 + 12 * 3600 + 34 * 60 + 56;
 
-    // The refusal of a moment that the other side does not have.
+    // The error of a moment that the other type can't represent.
     const OUT: ComponentRange = ComponentRange {
         name: "timestamp",
         conditional: false,
     };
 
-    // The moment is that time of the clock, with its offset and in UTC.
+    // Whether the moment is that time of the system's clock, with its offset and in UTC.
     fn is_on_the_clock(value: OffsetDateTime, time: SystemTime) -> bool {
         match value.checked_to_utc() {
             Some(utc) => {
@@ -583,7 +584,7 @@ mod system_clock {
         ),
     ];
 
-    // The moment of these numbers is so many seconds after 1970-01-01 on the clock.
+    // Whether the moment of these numbers is this many seconds after 1970-01-01 on the system's clock.
     fn is_after(day: Day, clock: Clock, hours: i8, seconds: u64) -> Option<bool> {
         let time = UNIX_EPOCH
             .checked_add(Duration::from_secs(seconds))?
@@ -598,7 +599,7 @@ mod system_clock {
         }
     }
 
-    // The clock does not have the nanosecond before 1970-01-01.
+    // Whether the nanosecond before 1970-01-01 is out of the clock's range.
     fn starts_at_the_epoch() -> bool {
         match UtcDateTime::from_unix_timestamp_nanos(-1) {
             Ok(before) => {
@@ -609,7 +610,7 @@ mod system_clock {
         }
     }
 
-    // No moment is the clock's second after 999999-12-31T23:59:59.
+    // Whether the clock's second after 999999-12-31T23:59:59 is out of the range of moments.
     fn goes_past_the_last_moment() -> bool {
         match UNIX_EPOCH.checked_add(Duration::new(31_494_784_780_800, 0)) {
             Some(past) => {
@@ -627,7 +628,7 @@ mod system_clock {
     }
 }
 
-// What errors print, and the conversions between them.
+// The texts of errors, and the conversions between them.
 mod errors {
     use std::alloc::Global;
     use std::convert::TryFrom;
@@ -675,7 +676,7 @@ mod errors {
         (TRAILING, TRAILING_TEXT),
     ];
 
-    // The error prints that text.
+    // Whether this is the error's text.
     fn prints<E: Display>(alloc: Global, e: &E, text: &str) -> bool {
         match e.to_string(alloc) {
             Ok(printed) => printed.as_str() == text,
@@ -683,7 +684,7 @@ mod errors {
         }
     }
 
-    // The error prints that text, and so does the joint error that is made of it.
+    // Whether this is the error's text, and that of the joint error that is built from it.
     fn prints_joined<E: Display + Copy>(alloc: Global, e: E, text: &str) -> bool
     where
         Error: From<E>,
@@ -691,7 +692,7 @@ mod errors {
         prints(alloc, &e, text) && prints(alloc, &Error::from(e), text)
     }
 
-    // So does the error of a parse that is made of it.
+    // Whether this is also the text of the parse error that is built from it.
     fn prints_parsed<E: Display + Copy>(alloc: Global, e: E, text: &str) -> bool
     where
         Error: From<E>,
@@ -718,8 +719,8 @@ mod errors {
         }
     }
 
-    // The error of a parse has that refusal of the text, or that of what was read; and so has the joint error made of
-    // it.
+    // Whether the parse error has that error of its text, or of the record, and so has the joint error that is built
+    // from it.
     fn splits_into(
         e: Parse,
         read: Result<ParseFromDescription, DifferentVariant>,
@@ -732,7 +733,7 @@ mod errors {
             && Parse::try_from(Error::from(e)) == Ok(e)
     }
 
-    // Of the joint error that is made of a part of a parse's error the parse's error can be made.
+    // Whether the parse error can be built again from the joint error of its part.
     fn joins_parts() -> bool {
         TryFromParsed::try_from(Error::from(MONTH)) == Err(DifferentVariant)
             && Parse::try_from(Error::from(MONTH)) == Ok(Parse::from(MONTH))
@@ -740,7 +741,7 @@ mod errors {
             && Parse::try_from(Error::from(MISSING)) == Ok(Parse::from(MISSING))
     }
 
-    // The joint error that is made of a range is none of a parse.
+    // Whether the joint error of a range is no error of a parse.
     fn joins_a_range() -> bool {
         TryFromParsed::try_from(Error::from(DAY)) == Err(DifferentVariant)
             && ParseFromDescription::try_from(Error::from(DAY)) == Err(DifferentVariant)

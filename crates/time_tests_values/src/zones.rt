@@ -1,4 +1,4 @@
-//! Time zones: their names, what their clocks show, and the example of their page.
+//! Time zones: their names, local times, and the example of their page.
 ghost use Rattle.std.specs.Prelude.{IfSome};
 ghost use Rattle.time_zones.specs.Zones.{IsShownIn};
 
@@ -14,12 +14,12 @@ use time_zones::{
 // A year, a month, a day, an hour and a minute.
 type Minute = (i32, Month, u8, u8, u8);
 
-// The rules of zones in 2021, as the files of the database end.
+// The rules of zones in 2021, as in the last line of the database's files.
 const BERLIN: &str = "CET-1CEST,M3.5.0,M10.5.0/3";
 
 const NEW_YORK: &str = "EST5EDT,M3.2.0,M11.1.0";
 
-// In winter the clocks of Dublin are an hour behind its standard time.
+// In winter Dublin is an hour behind its standard time.
 const DUBLIN: &str = "IST-1GMT0,M10.5.0,M3.5.0/1";
 
 const LORD_HOWE: &str = "<+1030>-10:30<+11>-11,M10.1.0,M4.1.0";
@@ -31,12 +31,12 @@ fn clock((year, month, day, hour, minute): Minute) -> Option<PlainDateTime> {
     Some(PlainDateTime::new(date, time))
 }
 
-// That moment of UTC.
+// The moment of these numbers in UTC.
 fn utc(minute: Minute) -> Option<OffsetDateTime> {
     Some(clock(minute)?.assume_utc())
 }
 
-// What is answered of a clock: offsets in seconds.
+// The result for a local time: offsets in seconds.
 #[derive(Clone, Copy, Debug, PartialEq, Eq)]
 enum Answer {
     At(i32),
@@ -57,14 +57,14 @@ fn answer_of(zone: &TimeZone<'_>, minute: Minute) -> Option<Answer> {
     })
 }
 
-// A folder with one zone, a folder, a file that can't be read, one that is none of a zone and one for which memory is short.
+// A folder with one zone, a folder, an unreadable file, a file that isn't a zone, and one that runs out of memory.
 #[derive(Drop)]
 struct Shelf {
     alloc: Global,
 }
 
-// The clocks of Pyongyang went from 9:00 to 8:30 ahead of UTC on 2015-08-15, at 2015-08-14T15:00:00Z: 1439564400,
-// which is 0x55ce0270. 9:00 are 32400 seconds, 0x7e90, and 8:30 are 30600, 0x7788.
+// Pyongyang changed from +09:00 to +08:30 at 2015-08-14T15:00:00Z: 1439564400, which is 0x55ce0270. 9:00 are 32400
+// seconds, 0x7e90, and 8:30 are 30600, 0x7788.
 static PYONGYANG: [&[u8]; 6] = [
     b"TZif2\0\0\0\0\0\0\0\0\0\0\0\0\0\0\0",
     b"\0\0\0\0\0\0\0\0\0\0\0\0\0\0\0\0\0\0\0\x01\0\0\0\x01\0\0\0\0\0\0\0",
@@ -74,7 +74,7 @@ static PYONGYANG: [&[u8]; 6] = [
     b"\nKST-8:30\n",
 ];
 
-// The parts, one after the other.
+// The parts, one after another.
 fn joined(alloc: Global, parts: &[&[u8]]) -> Result<Vec<u8>, ReadFault> {
     let mut bytes = Vec::new(alloc);
     for part in parts {
@@ -100,12 +100,12 @@ impl ZoneFiles for Shelf {
     }
 }
 
-// What `TZ` asks for by this value.
+// The zone that this value of `TZ` selects.
 fn by_setting(alloc: Global, setting: &str) -> Option<NamedZone> {
     find_zone_in(alloc, &Shelf { alloc }, "/zones", Some(setting), "local").ok()
 }
 
-/// The first moment at which clocks of the zone show the date and time.
+/// The first moment with the local time in the zone.
 fn first_moment(clock: PlainDateTime, zone: &TimeZone<'_>) -> Option<OffsetDateTime>
     ensures { IfSome result (IsShownIn zone.now clock) }
 {
@@ -126,7 +126,7 @@ fn first_moments(rt: HostRuntime) -> Result<(), Fail> {
     Ok(())
 }
 
-// The moments at which clocks show a date and time.
+// The moments with a local time.
 mod clocks {
     use super::{Answer, BERLIN, DUBLIN, LORD_HOWE, Minute, NEW_YORK, answer_of, by_setting};
     use time_values::Month::{April, August, December, July, March, November, October};
@@ -137,12 +137,12 @@ mod clocks {
         // 12:00 - 1:00 = 11:00Z, and 12:00 - 2:00 = 10:00Z.
         (BERLIN, (2021, December, 1, 12, 0), Answer::At(HOUR)),
         (BERLIN, (2021, July, 1, 12, 0), Answer::At(2 * HOUR)),
-        // At 01:00Z on 28 March clocks go from 02:00 to 03:00.
+        // At 01:00Z on 28 March local time moves from 02:00 to 03:00.
         (BERLIN, (2021, March, 28, 1, 59), Answer::At(HOUR)),
         (BERLIN, (2021, March, 28, 2, 0), Answer::Gap),
         (BERLIN, (2021, March, 28, 2, 30), Answer::Gap),
         (BERLIN, (2021, March, 28, 3, 0), Answer::At(2 * HOUR)),
-        // At 01:00Z on 31 October they go from 03:00 to 02:00: 02:30 is 00:30Z and 01:30Z.
+        // At 01:00Z on 31 October it moves from 03:00 to 02:00: 02:30 is 00:30Z and 01:30Z.
         (BERLIN, (2021, October, 31, 1, 59), Answer::At(2 * HOUR)),
         (
             BERLIN,
@@ -150,7 +150,7 @@ mod clocks {
             Answer::Fold(2 * HOUR, HOUR),
         ),
         (BERLIN, (2021, October, 31, 3, 0), Answer::At(HOUR)),
-        // 02:30 would be 07:30Z or 06:30Z, and the clocks change at 07:00Z.
+        // 02:30 would be 07:30Z or 06:30Z, and the change is at 07:00Z.
         (NEW_YORK, (2021, March, 14, 2, 30), Answer::Gap),
         // 01:30 + 4:00 = 05:30Z, and 01:30 + 5:00 = 06:30Z.
         (
@@ -167,7 +167,7 @@ mod clocks {
             Answer::Fold(11 * HOUR, 21 * HOUR / 2),
         ),
         (LORD_HOWE, (2021, October, 3, 2, 15), Answer::Gap),
-        // A table whose clocks went half an hour back: 23:45 - 9:00 = 14:45Z, and 23:45 - 8:30 = 15:15Z.
+        // A table with a change back by half an hour: 23:45 - 9:00 = 14:45Z, and 23:45 - 8:30 = 15:15Z.
         (
             "Asia/Pyongyang",
             (2015, August, 14, 23, 45),
@@ -183,8 +183,8 @@ mod clocks {
             (2021, July, 1, 12, 0),
             Answer::At(17 * HOUR / 2),
         ),
-        // This rule's daylight saving time ends an hour before it begins, at 01:00Z and 02:00Z of 1 March: clocks go
-        // back from 02:00 to 01:00, and on from 02:00 to 03:00.
+        // This rule's daylight saving time ends an hour before it starts, at 01:00Z and 02:00Z of 1 March: local time
+        // moves back from 02:00 to 01:00, and forward from 02:00 to 03:00.
         ("XXX0YYY,J60,J60", (2021, July, 1, 12, 0), Answer::At(HOUR)),
         (
             "XXX0YYY,J60,J60",
@@ -206,7 +206,7 @@ mod clocks {
         }
     }
 
-    // No zone tells of the years past 9999, nor of their last day but one from 22:00Z on.
+    // No zone covers 9999-12-30 from 22:00Z on, nor any later time.
     static ENDS: [(Minute, Answer); 5] = [
         ((9999, December, 30, 12, 0), Answer::At(HOUR)),
         ((9999, December, 30, 23, 0), Answer::At(HOUR)),
@@ -228,7 +228,7 @@ mod clocks {
     }
 }
 
-// What clocks show at moments.
+// The local times of moments.
 mod moments {
     use super::{BERLIN, Minute, NEW_YORK, by_setting, clock, utc};
     use time_values::Month::{January, July, March, October};
@@ -263,7 +263,7 @@ mod moments {
         }
     }
 
-    // Moments in UTC, and what clocks show then: 12:00 + 2:00 = 14:00, and 02:00 - 5:00 = 21:00 of the day before.
+    // Moments in UTC, and their local times: 12:00 + 2:00 = 14:00, and 02:00 - 5:00 = 21:00 of the day before.
     static SHOWN: [(&str, Minute, Minute); 2] = [
         (BERLIN, (2021, July, 1, 12, 0), (2021, July, 1, 14, 0)),
         (
@@ -273,7 +273,7 @@ mod moments {
         ),
     ];
 
-    // Clocks of the zone show that then.
+    // Whether that is the local time in the zone.
     fn is_shown(zone: &TimeZone<'_>, minute: Minute, shown: Minute) -> Option<bool> {
         let moment = checked_to_zone(utc(minute)?, zone)?;
         let shown = clock(shown)?;
@@ -297,9 +297,9 @@ mod finding {
     use super::{BERLIN, Shelf};
     use std::alloc::{AllocError, Global};
     use std::test::Fail;
-    use time_zones::{Zones, find_zone, find_zone_in};
+    use time_zones::{ZoneFault, find_zone, find_zone_in, find_zones_in};
 
-    // Values of `TZ`, names, and what is found: the name of a zone, or what the refusal says.
+    // Values of `TZ`, names, and the result: the name of a zone, or the text of the error.
     static FOUND: [(Option<&str>, &str, &str); 14] = [
         (None, "UTC", "UTC"),
         (None, "Asia/Pyongyang", "Asia/Pyongyang"),
@@ -325,7 +325,7 @@ mod finding {
         (None, "tab", "invalid TZif data: the header is not valid"),
     ];
 
-    // What is found, as a text.
+    // The result as a text.
     fn found(alloc: Global, setting: Option<&str>, name: &str) -> Result<String, AllocError> {
         match find_zone_in(alloc, &Shelf { alloc }, "/zones", setting, name) {
             Ok(zone) => String::from_str(alloc, zone.time_zone().iana_name().unwrap_or("no name")),
@@ -366,8 +366,8 @@ mod finding {
         Ok(())
     }
 
-    // Names of one zone and of none.
-    static NAMES: [&str; 9] = [
+    // Entries of a folder: names of zones and others.
+    static LISTED: [&str; 8] = [
         "tab",
         "Asia/Pyongyang",
         "Asia",
@@ -375,85 +375,45 @@ mod finding {
         "Asia/Seoul",
         "",
         "../zone",
-        "posix/Asia/Pyongyang",
         "Asia/Pyongyang",
     ];
-
-    // No zone is known yet, of a folder of files that are made up.
-    fn unknown(alloc: Global) -> Result<Zones, AllocError> {
-        Ok(Zones::new(alloc, String::from_str(alloc, "/zones")?))
-    }
 
     #[test]
     fn zones_of_names(rt: HostRuntime) -> Result<(), Fail> {
         let alloc = rt.alloc();
-        let mut zones = unknown(alloc)?;
-        for name in &NAMES {
-            zones.look_up(&Shelf { alloc }, name)?;
+        let zones = find_zones_in(alloc, &Shelf { alloc }, "/zones", &LISTED)?;
+        for name in &LISTED {
             let found = match zones.get(name.as_bytes()) {
                 Some(zone) => zone.iana_name() == Some(*name),
                 None => *name != "Asia/Pyongyang",
             };
             assert!(rt; found, "{name}");
         }
-        assert!(rt; zones.get(b"UTC").is_none());
-        zones.look_up(&Shelf { alloc }, "UTC")?;
         assert!(rt; zones.get(b"UTC").is_some());
         assert!(rt; zones.get(b"pyongyang").is_none());
         Ok(())
     }
 
-    // Texts, and whether the zone is known once what they name was looked up: behind a digit, `Z` or `z`, with which a time
-    // ends, and nowhere else.
-    static TEXTS: [(&[u8], bool); 20] = [
-        (b"", false),
-        (b"0Asia/Pyongyang", false),
-        (b"0[Asia/Pyongyang", false),
-        (b"0[Asia/Pyongyang]", true),
-        (b"9[!Asia/Pyongyang]", true),
-        (b"Z[Asia/Pyongyang]", true),
-        (b"z[Asia/Pyongyang]", true),
-        (b"[Asia/Pyongyang]", false),
-        (b"/[Asia/Pyongyang]", false),
-        (b":[Asia/Pyongyang]", false),
-        (b"Y[Asia/Pyongyang]", false),
-        (b"y[Asia/Pyongyang]", false),
-        (b"0 [Asia/Pyongyang]", false),
-        (b"0[[Asia/Pyongyang]", false),
-        (b"0[UTC][Asia/Pyongyang]", false),
-        (b"0[!!Asia/Pyongyang]", false),
-        (b"0[ Asia/Pyongyang]", false),
-        (b"0[Asia]1[+01:00]2[Asia/Pyongyang]", true),
-        (b"[UTC] 0[b=c] Z[Asia/Pyongyang] ]", true),
-        (b"0[Z[Asia/Pyongyang]", true),
-    ];
-
+    // UTC exists whatever is listed.
     #[test]
-    fn zones_that_texts_name(rt: HostRuntime) -> Result<(), Fail> {
+    fn zones_of_few_names(rt: HostRuntime) -> Result<(), Fail> {
         let alloc = rt.alloc();
-        for (text, wanted) in &TEXTS {
-            let mut zones = unknown(alloc)?;
-            zones.look_up_names(&Shelf { alloc }, text)?;
-            assert!(rt;
-                zones.get(b"Asia/Pyongyang").is_some() == *wanted,
-                "{text:?}"
-            );
+        let names: [&[&str]; 2] = [&[], &["UTC"]];
+        for names in &names {
+            let zones = find_zones_in(alloc, &Shelf { alloc }, "/zones", names)?;
+            assert!(rt; zones.get(b"UTC").is_some());
+            assert!(rt; zones.get(b"Asia/Pyongyang").is_none());
         }
         Ok(())
     }
 
-    // A zone isn't taken for none for want of memory.
+    // A zone isn't skipped when memory runs out.
     #[test]
-    fn zones_for_which_memory_is_short(rt: HostRuntime) -> Result<(), AllocError> {
+    fn zones_for_which_memory_is_short(rt: HostRuntime) {
         let alloc = rt.alloc();
-        let mut zones = unknown(alloc)?;
-        assert!(rt; zones.look_up(&Shelf { alloc }, "Vast").is_err());
-        assert!(rt;
-            zones
-                .look_up_names(&Shelf { alloc }, b"0[tab]1[Vast]")
-                .is_err()
-        );
-        Ok(())
+        let names = ["Asia/Pyongyang", "Vast", "tab"];
+        let found = find_zones_in(alloc, &Shelf { alloc }, "/zones", &names);
+        assert!(rt; found.err() == Some(ZoneFault::OutOfMemory));
     }
 
     #[test]
@@ -471,11 +431,11 @@ mod checking {
     use std::alloc::Global;
     use time_values::Month::{January, July, November};
     use time_zones::SuffixFault::{CriticalKey, OtherOffset, UnknownZone, Untold};
-    use time_zones::{Disk, NamedZone, SuffixFault, Zones, check_suffix, find_zones, read_suffix};
+    use time_zones::{NamedZone, SuffixFault, Zones, check_suffix, find_zones, read_suffix};
 
     // Berlin and New York, by their rules, and UTC.
     fn three(alloc: Global) -> Option<Zones> {
-        let mut zones = Zones::new(alloc, String::new(alloc));
+        let mut zones = Zones::new(alloc);
         zones
             .insert("Europe/Berlin", by_setting(alloc, BERLIN)?)
             .ok()?;
@@ -490,11 +450,11 @@ mod checking {
 
     const SUMMER: Minute = (2026, July, 27, 15, 0);
 
-    // A minute on a clock so many hours ahead of UTC, a suffix, and what it refuses.
+    // A minute in local time at this offset in hours, a suffix, and the error of the suffix.
     type Row = (Minute, i8, &'static [u8], Option<SuffixFault>);
 
-    // Berlin is an hour ahead of UTC in winter and two in summer, New York four hours behind in summer. Sections 3.3 and 3.4 of
-    // RFC 9557 refuse another offset than the zone's, and a critical key that isn't known.
+    // Berlin is at +01:00 in winter and +02:00 in summer, New York at -04:00 in summer. RFC 9557, sections 3.3 and 3.4,
+    // rejects an offset that isn't the zone's, and an unknown critical key.
     static TOLD: [Row; 24] = [
         (WINTER, 1, b"", None),
         (WINTER, 1, b"[Europe/Berlin]", None),
@@ -537,7 +497,7 @@ mod checking {
         ((10000, January, 1, 12, 0), 1, b"[+01:00]", None),
     ];
 
-    // The same behind `Z` and `-00:00`, which say nothing of a zone's offset.
+    // Suffixes after `Z` and `-00:00`, which don't state the local offset.
     static UNTOLD: [Row; 6] = [
         (WINTER, 0, b"[Europe/Berlin]", None),
         (WINTER, 0, b"[!Europe/Berlin]", None),
@@ -547,14 +507,14 @@ mod checking {
         ((10000, January, 1, 12, 0), 0, b"[Europe/Berlin]", None),
     ];
 
-    // What a suffix refuses: nothing, or for a reason; or the row has no moment.
+    // The error of a suffix, if it has one; or `None` where the row has no moment.
     fn refused(row: &Row, tells_offset: bool, zones: &Zones) -> Option<Option<SuffixFault>> {
         let (minute, hours, text, _) = *row;
         let moment = moment(minute, hours)?;
         Some(check_suffix(&read_suffix(text), moment, tells_offset, zones).err())
     }
 
-    // Whether each row of the table holds.
+    // Whether each row of the table is right.
     fn all_hold(rows: &[Row], tells_offset: bool, zones: &Zones) -> bool {
         for row in rows {
             if refused(row, tells_offset, zones) != Some(row.3) {
@@ -591,10 +551,8 @@ mod checking {
     #[test]
     fn zones_of_the_system(rt: HostRuntime) {
         match find_zones(&rt) {
-            Ok(mut zones) => {
+            Ok(zones) => {
                 assert!(rt; zones.get(b"UTC").is_some());
-                let line = b"0[posix/UTC] 0[../zoneinfo/UTC]";
-                assert!(rt; zones.look_up_names(&Disk { rt: &rt }, line).is_ok());
                 assert!(rt; zones.get(b"posix/UTC").is_none());
                 assert!(rt; zones.get(b"../zoneinfo/UTC").is_none());
             }

@@ -4,4 +4,3 @@ pub mod NameLemmas
 pub mod SuffixTextLemmas
 pub mod LongestLemmas
 pub mod FolderLemmas
-pub mod LookLemmas

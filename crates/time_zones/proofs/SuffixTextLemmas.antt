@@ -143,7 +143,7 @@ initial_step x parts true h = absurd (h 0 [] (omega arith)).0
 initial_step x [] false h = (h 0 [] (omega arith)).0.0
 initial_step x (part ∷ parts) false h = (h 0 [] (omega arith)).0.0
 
-pub name_initial : (x : ℕ) (xs : List ℕ) → IsTimeZoneName (x ∷ xs) → is_zone_initial x ≡ true
+name_initial : (x : ℕ) (xs : List ℕ) → IsTimeZoneName (x ∷ xs) → is_zone_initial x ≡ true
 name_initial x xs h = initial_step x (slice_split (λ b. b == 47) xs) (x == 47) h
 
 name_no_offset : (text : List ℕ) (o : UtcOffset) → IsTimeZoneName text → IsNumOffset text o → ⊥

@@ -1,6 +1,6 @@
 -- What is found of a zone in files, over what reading a file gives.
-use Rattle.std.specs.Prelude.{◌≡◌, ◌≢◌, ◌⊎◌, ℕ, ◌==◌, nat_eq, ◌||◌, Bool, true, false, IsSome, List, [], ◌∷◌, All, Option, Some, None, codes, MatchBool, ◌++◌, Result, Ok, Err, string_bytes, ℤ, pos}
-use Rattle.std.specs.List.{slice_split, starts_with}
+use Rattle.std.specs.Prelude.{◌≡◌, ◌≢◌, ◌⊎◌, ℕ, ◌==◌, Bool, false, List, [], ◌∷◌, All, Option, Some, None, codes, MatchBool, ◌++◌, Result, Ok, Err, string_bytes, ℤ, pos, Contains}
+use Rattle.std.specs.List.{slice_split}
 use Rattle.std.specs.BTreeMap.{get_by_text}
 use Rattle.jiff_tz.specs.PosixReader.{read_whole}
 use Rattle.jiff_tz.specs.PosixText.{TzText, tz_view}
@@ -148,39 +148,18 @@ IsVariableFault fault = (fault ≡ Fault.NotText) ⊎ (fault ≡ Fault.OutOfMemo
 
 -- ---- Zones by their names
 
--- what is known of a name: nothing before it is looked up, and then its zone, or that it has none
-abbrev pub known_of : Zones → List ℕ → Option (Option NamedZone)
-known_of zones name = get_by_text zones.zones name
-
-abbrev pub IsKnown : Zones → List ℕ → Type 0
-IsKnown zones name = IsSome (known_of zones name)
-
--- the zone by what is known of a name
-abbrev pub zone_known : Option (Option NamedZone) → Option NamedZone
-zone_known None = None
-zone_known (Some found) = found
-
--- the zone of that name, if one is known
+-- the zone of that name, if there is one
 abbrev pub zone_named : Zones → List ℕ → Option NamedZone
-zone_named zones name = zone_known (known_of zones name)
-
--- the folder in which names are looked up
-abbrev pub folder_of : Zones → List ℕ
-folder_of zones = string_bytes zones.folder
+zone_named zones name = get_by_text zones.zones name
 
 -- the same name has a zone in both
 abbrev pub SameNamed : Zones → Zones → List ℕ → Type 0
 SameNamed old new name = zone_named new name ≡ zone_named old name
 
--- that is known of the name now, and of each other name what was known
-pub record IsInserted (old new : Zones) (name : List ℕ) (found : Option NamedZone) : Type 0 where
-  pub found_now : known_of new name ≡ Some found
-  pub others : (other : List ℕ) → other ≢ name → known_of new other ≡ known_of old other
-  pub folder : folder_of new ≡ folder_of old
-
--- all is as it was
-abbrev pub IsSame : Zones → Zones → Type 0
-IsSame old new = ((name : List ℕ) → known_of new name ≡ known_of old name) × (folder_of new ≡ folder_of old)
+-- the name has that zone now, and each other name has what it had
+pub record IsInserted (old new : Zones) (name : List ℕ) (zone : NamedZone) : Type 0 where
+  pub found : zone_named new name ≡ Some zone
+  pub others : (other : List ℕ) → other ≢ name → SameNamed old new other
 
 -- what comes of a name in the folder
 abbrev pub IsFoundIn : Giving → List ℕ → List ℕ → Result NamedZone ZoneFault → Type 0
@@ -190,22 +169,18 @@ IsFoundIn Gives folder name r = (place : Option Place) × AsksFor name place × 
 abbrev pub IsOfNone : Giving → List ℕ → List ℕ → Type 0
 IsOfNone Gives folder name = (fault : ZoneFault) × (fault ≢ Fault.OutOfMemory) × IsFoundIn Gives folder name (Err fault)
 
--- a name below one of the folders that have all zones again, with leap seconds and without
-abbrev pub is_again : List ℕ → Bool
-is_again name = starts_with nat_eq name (codes "posix/") || starts_with nat_eq name (codes "right/")
+-- the name has the zone that is found, or none is and each name has what it had
+abbrev pub AddsFound : Giving → List ℕ → List ℕ → Zones → Zones → Type 0
+AddsFound Gives folder name old new =
+    ((zone : NamedZone) × IsFoundIn Gives folder name (Ok zone) × IsInserted old new name zone)
+    ⊎ (IsOfNone Gives folder name × ((other : List ℕ) → SameNamed old new other))
 
--- what comes of looking a name up: the zone that is found, or none
-abbrev pub IsLookedUp : Giving → List ℕ → List ℕ → Option NamedZone → Type 0
-IsLookedUp Gives folder name (Some zone) = (is_again name ≡ false) × IsFoundIn Gives folder name (Ok zone)
-IsLookedUp Gives folder name None = (is_again name ≡ true) ⊎ IsOfNone Gives folder name
-
--- What was known stays so, and all else that is known came of looking up names that were asked for.
-pub record LooksUp (Gives : Giving) (IsAskedFor : List ℕ → Type 0) (old new : Zones) : Type 0 where
-  pub kept : (name : List ℕ) (found : Option NamedZone) → known_of old name ≡ Some found
-      → known_of new name ≡ Some found
-  pub added : (name : List ℕ) (found : Option NamedZone) → known_of new name ≡ Some found
-      → (known_of old name ≡ Some found) ⊎ (IsAskedFor name × IsLookedUp Gives (folder_of old) name found)
-  pub folder : folder_of new ≡ folder_of old
+-- UTC and the zones of these names: each was found by its name, and a name without one is of no zone
+pub record AreZonesOf (Gives : Giving) (folder : List ℕ) (names : List (List ℕ)) (zones : Zones) : Type 0 where
+  pub utc : zone_named zones (codes "UTC") ≡ Some Utc
+  pub found : (name : List ℕ) (zone : NamedZone) → zone_named zones name ≡ Some zone
+      → Contains (codes "UTC" ∷ names) name × IsFoundIn Gives folder name (Ok zone)
+  pub left_out : All (λ name. zone_named zones name ≡ None → IsOfNone Gives folder name) names
 
 -- why no zones are found: the folder's name, the folder, or memory
 abbrev pub IsFolderFault : ZoneFault → Type 0

@@ -1,8 +1,8 @@
 -- No public contract rests on this file.
 -- What stands in front of a text: brackets, a zone, a tag.
-use Rattle.std.specs.Prelude.{◌≡◌, ◌<◌, length, slice_index, ◌||◌, ◌==◌, ℕ, Bool, IsTrue, List, [], ◌∷◌, ◌++◌, All, Option, Some}
+use Rattle.std.specs.Prelude.{◌≡◌, ◌||◌, ◌==◌, ℕ, Bool, List, ◌∷◌, ◌++◌, All, Option, Some}
 use Rattle.std.specs.List.{AllPass}
-use Rattle.time_zones.specs.Suffix.{is_zone_char, is_time_end, IsTimeZoneName, IsSuffixKey, AreSuffixValues, bracketed, ZoneTag, Tag, IsZoneTagIfAny, tag_text, IsSuffixTag, tags_text}
+use Rattle.time_zones.specs.Suffix.{is_zone_char, IsSuffixKey, AreSuffixValues, bracketed, ZoneTag, Tag, IsZoneTagIfAny, tag_text, IsSuffixTag, tags_text}
 
 -- the bytes of what stands in brackets
 abbrev pub is_held : ℕ → Bool
@@ -41,19 +41,3 @@ pub record BeginsWithTags (text : List ℕ) (tags : List Tag) (rest : List ℕ) 
   pub whole : text ≡ tags_text tags ++ rest
   pub are_tags : All IsSuffixTag tags
   pub last : HasNoTag rest
-
--- the name of a zone in brackets, of whichever kind
-abbrev pub BeginsWithName : List ℕ → List ℕ → Type 0
-BeginsWithName text name =
-    IsTimeZoneName name × ((is_critical : Bool) × (rest : List ℕ) × (text ≡ bracketed is_critical name ++ rest))
-
--- no byte is that one
-abbrev pub HasNone : ℕ → List ℕ → Type 0
-HasNone byte text = (k : ℕ) → k < length text → ¬ (slice_index text k ≡ byte)
-
--- a time may end where the text does
-pub record EndsTime (text : List ℕ) : Type 0 where
-  pub before : List ℕ
-  pub end : ℕ
-  pub whole : text ≡ before ++ end ∷ []
-  pub is_end : IsTrue (is_time_end end)

@@ -35,9 +35,8 @@ pub trait ZoneFiles {
 
 /// The files of the system.
 #[derive(Drop)]
-pub struct Disk<'a, R> {
-    /// What gives them.
-    pub rt: &'a R,
+pub(crate) struct Disk<'a, R> {
+    pub(crate) rt: &'a R,
 }
 
 // An error of the system as one of a file.

@@ -14,7 +14,7 @@ mod zones;
 
 pub use checking::{SuffixFault, check_suffix};
 pub use clocks::{NotOne, assume_zone, checked_to_zone, has_zone_offset, offset_at};
-pub use files::{Disk, ReadFault, ZoneFiles};
+pub use files::{ReadFault, ZoneFiles};
 pub use finding::{NamedZone, find_zone, find_zone_in};
 pub use jiff_tz::TimeZone;
 pub use laws::{
@@ -23,4 +23,4 @@ pub use laws::{
 };
 pub use suffix::{Suffixed, ZoneTag, ZoneText, read_suffix, write_suffix};
 pub use zone_fault::ZoneFault;
-pub use zones::{Zones, find_zones};
+pub use zones::{Zones, find_zones, find_zones_in};

@@ -1,16 +1,15 @@
 //! The suffix that RFC 9557, section 4.1, puts behind a time of RFC 3339.
-ghost use Rattle.std.specs.Prelude.{◌≡◌, ◌≢◌, ◌<◌, ◌≤◌, ℕ, Bool, false, List, [], ◌∷◌, Some, length, take, option_map, IfSome, IfNone, IsTrue};
+ghost use Rattle.std.specs.Prelude.{◌≡◌, ◌≢◌, ◌<◌, ◌≤◌, ℕ, Bool, false, List, [], ◌∷◌, Some, length, take, option_map, IfSome, IfNone};
 ghost use Rattle.std.specs.List.{prefix_len};
 ghost use Rattle.time_zones.specs.Suffix as suffix;
 ghost use Rattle.time_zones.specs.Suffix.{Zone, IsZoneText, Tag, critical_key, IsLongest, Says, zone_of, zone_tag_of};
 ghost use Rattle.time_zones.specs.SuffixFronts as fronts;
-ghost use Rattle.time_zones.specs.SuffixFronts.{BeginsBracketed, BeginsWithName, BeginsWithZone, HasNoZone, BeginsWithTag, HasNoTag, BeginsWithTags};
+ghost use Rattle.time_zones.specs.SuffixFronts.{BeginsBracketed, BeginsWithZone, HasNoZone, BeginsWithTag, HasNoTag, BeginsWithTags};
 
 mod texts;
 
-use std::str;
 pub use texts::write_suffix;
-use texts::{after, is_zone_char, is_zone_initial, is_zone_name, key_of, offset_of};
+use texts::{after, is_zone_char, is_zone_name, key_of, offset_of};
 use time_values::UtcOffset;
 
 /// How a suffix tells the zone.
@@ -107,29 +106,6 @@ fn zone_in_front(text: &[u8]) -> Option<(ZoneTag<'_>, &[u8])>
     let zone = zone_of(found.inside)?;
     let is_critical = found.is_critical;
     Some((ZoneTag { is_critical, zone }, rest))
-}
-
-/// Whether the text begins as the name of a zone does.
-pub(crate) fn begins_name(text: &[u8]) -> bool
-    ensures some { IsTrue result → (rest : List ℕ) → text.now ≢ 33 ∷ rest }
-    ensures none { result ≡ false → (b : ℕ) (rest : List ℕ) → text.now ≡ b ∷ rest → suffix.is_zone_initial b ≡ false }
-{
-    match text {
-        [first, ..] => is_zone_initial(*first),
-        [] => false,
-    }
-}
-
-/// The name of the zone in front of the text.
-pub(crate) fn name_in_front(text: &[u8]) -> Option<&str>
-    ensures some { IfSome result (λ name. BeginsWithName text.now name.now) }
-    ensures only { (name : List ℕ) → BeginsWithName text.now name → option_map (λ found. found.now) result ≡ Some name }
-{
-    let (tag, _) = zone_in_front(text)?;
-    match tag.zone {
-        ZoneText::Name(name) => str::from_utf8(name).ok(),
-        ZoneText::Offset(_) => None,
-    }
 }
 
 // The zone in front of the text, if there is one, and what is left after it.

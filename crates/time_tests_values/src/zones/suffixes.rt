@@ -1,11 +1,11 @@
-//! Suffixes of times, and whether an offset is that of a zone.
+//! Suffixes of RFC 9557, and whether an offset is that of a zone.
 use super::{BERLIN, Minute, by_setting, clock};
 use slow::read_slowly;
 use time_values::Month::{July, November};
 use time_values::{OffsetDateTime, UtcOffset};
 use time_zones::{ZoneTag, ZoneText, has_zone_offset, read_suffix};
 
-// A text, the name of its zone, whether that is critical, and the first critical key. The whole text is the suffix.
+// A text, the name of its zone, whether it is critical, and the first critical key. The whole text is the suffix.
 type Named = (&'static [u8], &'static [u8], bool, Option<&'static [u8]>);
 
 static NAMED: [Named; 14] = [
@@ -69,7 +69,7 @@ fn zones_by_name(rt: HostRuntime) {
     }
 }
 
-// Offsets of zones in minutes, and whether they are critical.
+// Offsets as zones, in minutes, and whether they are critical.
 static OFFSETS: [(&[u8], i32, bool); 8] = [
     (b"[+08:45]", 525, false),
     (b"[-08:00]", -480, false),
@@ -100,7 +100,7 @@ fn zones_by_offset(rt: HostRuntime) {
     }
 }
 
-// Texts, how many of their bytes are a suffix with no zone, and the first critical key.
+// Texts, the length of their suffix without a zone, and the first critical key.
 static TAGGED: [(&[u8], usize, Option<&[u8]>); 40] = [
     (b"[_foo=bar][_baz=bat]", 20, None),
     (b"[knort=blargel]", 15, None),
@@ -153,7 +153,7 @@ fn tags_alone(rt: HostRuntime) {
     }
 }
 
-// Each of the texts above is read as slowly.
+// The slow reader parses each of the texts above equally.
 #[test]
 fn all_as_slowly(rt: HostRuntime) {
     for (text, ..) in &NAMED {
@@ -167,7 +167,7 @@ fn all_as_slowly(rt: HostRuntime) {
     }
 }
 
-// Whether the text is read as slowly with each byte at the place, which stays changed.
+// Whether the slow reader parses the text equally with each byte at the place. The text stays changed.
 fn is_right_at(text: &mut [u8], place: usize) -> bool {
     for byte in 0..=u8::MAX {
         match text.get_mut(place) {
@@ -190,7 +190,7 @@ fn changed_bytes(rt: HostRuntime) {
     }
 }
 
-/// That minute on a clock so many hours ahead of UTC.
+/// The moment of that minute in local time at this offset in hours.
 pub(super) fn moment(minute: Minute, hours: i8) -> Option<OffsetDateTime> {
     let offset = UtcOffset::from_hms(hours, 0, 0).ok()?;
     Some(clock(minute)?.assume_offset(offset))
@@ -218,7 +218,7 @@ fn offsets_of_berlin(rt: HostRuntime) {
     }
 }
 
-// A slow reader of suffixes, which tries the rules of RFC 9557, section 4.1, on each front of a text.
+// A slow reader of suffixes, which tries the rules of RFC 9557, section 4.1, on each prefix of a text.
 mod slow {
     use time_values::UtcOffset;
     use time_zones::{Suffixed, ZoneTag, ZoneText};
@@ -243,7 +243,7 @@ mod slow {
         is_key_initial(byte) || matches!(byte, b'0'..=b'9' | b'-')
     }
 
-    // What one text between separators is.
+    // The kind of a piece between separators.
     #[derive(Clone, Copy)]
     enum Piece {
         Part,
@@ -252,7 +252,7 @@ mod slow {
     }
 
     impl Piece {
-        // Whether the byte may stand at the place.
+        // Whether the byte may be at the place.
         fn takes(self, place: usize, byte: u8) -> bool {
             match self {
                 Piece::Part if place == 0 => is_zone_initial(byte),
@@ -263,7 +263,7 @@ mod slow {
             }
         }
 
-        // Whether the text is such a piece.
+        // Whether the text is one such piece.
         fn is(self, text: &[u8]) -> bool {
             for (place, byte) in text.iter().enumerate() {
                 if !self.takes(place, *byte) {
@@ -288,7 +288,7 @@ mod slow {
         }
     }
 
-    // Two digits, of a number below the end.
+    // The number of two digits, if it is below the end.
     fn two_digits(tens: u8, ones: u8, end: i32) -> Option<i32> {
         if !tens.is_ascii_digit() || !ones.is_ascii_digit() {
             return None;
@@ -312,7 +312,7 @@ mod slow {
         }
     }
 
-    // critical-flag, and what stands after it in brackets
+    // critical-flag, and the bytes after it in brackets
     fn bracketed(text: &[u8]) -> Option<(bool, &[u8])> {
         match text {
             [b'[', b'!', inside @ .., b']'] => Some((true, inside)),
@@ -343,7 +343,7 @@ mod slow {
         (Piece::Key.is(key) && Piece::Value.are(b'-', values)).then_some((is_critical, key))
     }
 
-    // The zone in front of the text, with its length, which is 0 where there is none.
+    // The zone at the start of the text, and its length, or 0 without one.
     fn zone_in_front(text: &[u8]) -> (usize, Option<ZoneTag<'_>>) {
         for end in 0..=text.len() {
             if let Some(found) = text.get(..end).and_then(zone) {
@@ -353,7 +353,7 @@ mod slow {
         (0, None)
     }
 
-    /// The suffix in front of the text. No tag is the front of another, and no zone is.
+    /// The suffix at the start of the text. No tag is a prefix of another, and no zone is.
     pub(super) fn read_slowly(text: &[u8]) -> Suffixed<'_> {
         let (mut len, zone) = zone_in_front(text);
         let mut critical_key = None;

@@ -24,8 +24,8 @@ pub(super) fn after(text: &[u8], byte: u8) -> Option<&[u8]>
     }
 }
 
-/// Whether a part of a zone's name may begin with the byte.
-pub(super) fn is_zone_initial(byte: u8) -> bool
+// Whether a part of a zone's name may begin with the byte.
+fn is_zone_initial(byte: u8) -> bool
     ensures { result ≡ suffix.is_zone_initial byte }
 {
     byte.is_ascii_alphabetic() || matches!(byte, b'.' | b'_')

@@ -1,13 +1,11 @@
-use Rattle.restamp_stream.proofs.DidLemmas.{DidFiles-done, why_stopped}
-use Rattle.restamp_stream.proofs.LinesLemmas.{OnOk-map}
+use Rattle.restamp_stream.proofs.DidLemmas.{DidFiles-done, done, why_stopped}
 use Rattle.restamp_stream.proofs.laws.law_done.Goals as goal
 
 pub returns-clause-done : goal.returns-clause-done
 returns-clause-done g c =
-    OnOk-map c.serve_files.result _ _ c.serve_files.ensures.ok
-    (λ did quiet later grows.
-    DidFiles-done (g.T.Rewriting.is_fate later) (g.T.Rewriting.is_reason later) c.args.settings (g.O.Opening.bytes_of c.args.opening.now) _ _ _ _ _
-    (did later grows) quiet)
+    done c.serve_files.result _ _ _ _ c.serve_files.ensures.ok
+    (DidFiles-done (g.T.Rewriting.is_fate c.args.rewriting.now) (g.T.Rewriting.is_reason c.args.rewriting.now) c.args.settings
+    (g.O.Opening.bytes_of c.args.opening.now) _ _ _ _ _)
 
 pub returns-clause-stopped : goal.returns-clause-stopped
 returns-clause-stopped g c = why_stopped c.serve_files.result _ _ c.serve_files.ensures.unread c.serve_files.ensures.cause

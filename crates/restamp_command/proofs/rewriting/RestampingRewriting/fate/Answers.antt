@@ -3,9 +3,9 @@ use Rattle.restamp_command.specs.Rewriting.{fate_of}
 use Rattle.restamp_command.proofs.rewriting.RestampingRewriting.fate.Goals as goal
 
 pub returns-in-Dropped-clause-fate : goal.returns-in-Dropped-clause-fate
-returns-in-Dropped-clause-fate g c = λ ready.
-    let decided = c.in-Dropped.ensures.decided in (ready, (decided.0, decided.1, sym (ap fate_of decided.2)))
+returns-in-Dropped-clause-fate c =
+    let decided = c.in-Dropped.ensures.decided in (decided.0, decided.1, sym (ap fate_of decided.2))
 
 pub returns-in-Refused-clause-fate : goal.returns-in-Refused-clause-fate
-returns-in-Refused-clause-fate g c = λ ready.
-    let decided = c.in-Refused.ensures.decided in (ready, (decided.0, decided.1, sym (ap fate_of decided.2.2)))
+returns-in-Refused-clause-fate c =
+    let decided = c.in-Refused.ensures.decided in (decided.0, decided.1, sym (ap fate_of decided.2.2))

@@ -15,7 +15,7 @@ use Rattle.restamp_command.proofs.rewriting.RestampingRewriting.write_reason.Goa
 -- a front's fate is that of each of its verdicts
 fate_of-verdict : (job : Job) (front : List ℕ) (fate : Fate) (verdict : Verdict)
     → IsFate greatest_year job front fate → IsJudged greatest_year job front verdict → fate ≡ fate_of verdict
-fate_of-verdict job front fate verdict (ready, p) q = p.2 ∙ ap fate_of (one_verdict job front p.0 verdict p.1 q)
+fate_of-verdict job front fate verdict p q = p.2 ∙ ap fate_of (one_verdict job front p.0 verdict p.1 q)
 
 pub returns-in-Without : goal.returns-in-Without
 returns-in-Without g c =
@@ -36,4 +36,4 @@ pub returns-in-Refused-clause-told : goal.returns-in-Refused-clause-told
 returns-in-Refused-clause-told g c =
     let judged = rw c.in-Refused.is at c.judge.ensures.verdict in
     OnOk-map c.write_wrong.result _ _ c.write_wrong.ensures.told
-    (λ told. (told.0, told.1, (c.requires.0, (c.in-Refused.column, seen c.in-Refused.reason, judged, told.2)), told.3))
+    (λ told. (told.0, told.1, (c.in-Refused.column, seen c.in-Refused.reason, judged, told.2), told.3))

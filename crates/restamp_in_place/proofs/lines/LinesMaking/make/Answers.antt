@@ -44,6 +44,6 @@ of_ok : {V E : Type 0} (r : Result V E) (v : V) (P : Type 0) → r ≡ LineOk v 
 of_ok (LineOk w) v P is p = p
 of_ok (Err e) v P is p = absurd (cc is)
 
-pub returns-in-Ok-clause-made : goal.returns-in-Ok-clause-made
-returns-in-Ok-clause-made g c =
-    makes _ _ _ _ _ _ _ _ c.made_of-made.ensures (of_ok _ _ _ c.in-Ok.is c.answer-lines.ensures.all)
+pub returns-in-Ok : goal.returns-in-Ok
+returns-in-Ok g c =
+    makes _ _ _ _ _ _ _ _ c.made_of-made.ensures (of_ok _ _ _ c.in-Ok.is c.answer-lines.ensures)

@@ -1,4 +1,4 @@
-use Rattle.std.proofs.Common.{◌≡◌, [], refl, ◌+◌, Err, rules, sym, ap, ap₂, ◌∙◌, subst}
+use Rattle.std.proofs.Common.{◌≡◌, ◌+◌, Err, rules, sym, ap, ap₂, ◌∙◌, subst}
 use Rattle.restamp_stream.specs.declared.fate.Rest.TheVariants.{Absent}
 use Rattle.restamp_stream.specs.Streams.{State, Answered}
 use Rattle.restamp_stream.specs.Held.{job_at}
@@ -8,39 +8,29 @@ use Rattle.restamp_stream.proofs.LinesLemmas.{EndsWith-line, line_fits}
 use Rattle.restamp_stream.proofs.StoppedLemmas.{StoppedBy-map, Stops-then, Stops-line}
 use Rattle.restamp_stream.proofs.stream.Stream.answer_lines.Goals as goal
 
-pub loop-line-init : goal.loop-line-init
-loop-line-init g c = (([], refl), λ later grows before read p. p, refl, g.met.T.Rewriting.grows_none _)
-
 pub loop-line-preserved : goal.loop-line-preserved
 loop-line-preserved g c =
     let line = c.in-Some.line.now in
-    let kept = c.in_ok-rest.ensures.grows in (
+    let begun = c.in_ok-rest.ensures.ok in
+    let job = job_at (g.T.Rewriting.is_fate c.args.rewriting.now) (g.T.Rewriting.is_reason c.args.rewriting.now) c.args.file.now in (
       EndsWith-line c.args.bytes.now c.loop-line.left.now line c.in-Some.after.now c.loop-line.invariant.0 c.in-Some.ensures.0,
-      λ later grows before read p.
-          let job = job_at (g.T.Rewriting.is_fate later) (g.T.Rewriting.is_reason later) c.args.file.now in
-          let begun = c.in_ok-rest.ensures.ok later grows in
+      λ before read p.
           subst (λ (s : State). Answered job before s read Absent c.in-Some.after.now)
           (sym (same_state _ _ _ _ _ (ap g.L.Sink.contents c.in-Ok.ensures.log) c.in-Ok.ensures.tally))
           (Answered-line job _ _ _ _ line _ begun.0 _ c.in-Some.ensures.0 c.in-Some.ensures.1 begun.1 begun.2 c.in-Ok.ensures.passed before read
-          (c.loop-line.invariant.1 later (g.met.T.Rewriting.grows_on _ _ _ kept grows) before read p)),
+          (c.loop-line.invariant.1 before read p)),
       ap₂ ◌+◌ c.in-Ok.ensures.cause (ap g.L.Sink.faults c.in-Ok.ensures.log) ∙ c.in_ok-rest.ensures.cause ∙ c.loop-line.invariant.2,
-      g.met.T.Rewriting.grows_on _ _ _ c.loop-line.invariant.3 kept,
     )
 
 pub returns-in_err-rest-clause-err : goal.returns-in_err-rest-clause-err
 returns-in_err-rest-clause-err g c =
+    let job = job_at (g.T.Rewriting.is_fate c.args.rewriting.now) (g.T.Rewriting.is_reason c.args.rewriting.now) c.args.file.now in
     let line = c.in-Some.line.now in
     let left = c.loop-line.left.now in
     let handed : c.from_residual.result ≡ Err c.in_err-rest.field-0.0 = search rules in
     rw handed
     (StoppedBy-map c.in_err-rest.field-0.0 _ _
-    (λ q later grows.
-    let job = job_at (g.T.Rewriting.is_fate later) (g.T.Rewriting.is_reason later) c.args.file.now in
-    Stops-then c.in_err-rest.field-0.0 job _ _ _ Absent Absent c.args.bytes.now left
-    (c.loop-line.invariant.1 later (g.met.T.Rewriting.grows_on _ _ _ c.in_err-rest.ensures.grows grows))
-    (Stops-line c.in_err-rest.field-0.0 job _ _ left line c.in-Some.after.now c.in-Some.ensures.0 c.in-Some.ensures.1
-    (line_fits c.args.bytes.now left line c.in-Some.after.now _ c.loop-line.invariant.0 c.in-Some.ensures.0 c.requires) (q later grows)))
+    (λ q. Stops-then job _ _ _ Absent Absent c.args.bytes.now left c.loop-line.invariant.1
+    (Stops-line job _ _ left line c.in-Some.after.now c.in-Some.ensures.0 c.in-Some.ensures.1
+    (line_fits c.args.bytes.now left line c.in-Some.after.now _ c.loop-line.invariant.0 c.in-Some.ensures.0 c.requires) q))
     c.in_err-rest.ensures.err)
-
-pub returns-in_err-rest-clause-grows : goal.returns-in_err-rest-clause-grows
-returns-in_err-rest-clause-grows g c = g.met.T.Rewriting.grows_on _ _ _ c.loop-line.invariant.3 c.in_err-rest.ensures.grows

@@ -2,18 +2,17 @@
 use Rattle.std.proofs.Common.{◌≡◌, length}
 use Rattle.restamp_stream.specs.Causes.{faults_of}
 use Rattle.restamp_stream.specs.Held.{Continues, held_state, job_at}
-use Rattle.restamp_stream.specs.Streams.{EndsWith, Later}
+use Rattle.restamp_stream.specs.Streams.{EndsWith}
 use Rattle.restamp_stream.specs.declared.fate.Rest.TheVariants.{Absent}
 use Rattle.restamp_stream.proofs.stream.Stream.answer_lines.Given as goal
 
 abbrev pub invariant-loop-line : goal.invariant-loop-line
 invariant-loop-line g l =
     EndsWith l.bytes l.left
-    × Later g.T.Rewriting.grows g.T.Rewriting.is_fate g.T.Rewriting.is_reason l.rewriting (λ fates reasons. Continues (job_at fates reasons l.file)
+    × Continues (job_at (g.T.Rewriting.is_fate l.rewriting) (g.T.Rewriting.is_reason l.rewriting) l.file)
     (held_state g.W.Sink.contents g.L.Sink.contents l.initial.self) (held_state g.W.Sink.contents g.L.Sink.contents l.self)
-    Absent l.bytes Absent l.left)
+    Absent l.bytes Absent l.left
     × (faults_of g.W.Sink.faults g.L.Sink.faults l.self ≡ faults_of g.W.Sink.faults g.L.Sink.faults l.initial.self)
-    × g.T.Rewriting.grows l.initial.rewriting l.rewriting
 
 abbrev pub decreases-loop-line : goal.decreases-loop-line
 decreases-loop-line g l = length l.left

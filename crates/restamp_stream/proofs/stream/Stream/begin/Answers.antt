@@ -4,12 +4,10 @@ use Rattle.restamp_stream.specs.Held.{held_state, job_at}
 use Rattle.restamp_stream.proofs.stream.Stream.begin.Goals as goal
 
 pub returns-clause-ok : goal.returns-clause-ok
-returns-clause-ok g c = λ later grows. let stays = g.met.T.Rewriting.stays c.prepare.new.self later grows in (
+returns-clause-ok g c = (
   c.fate-fate.result,
   sym c.of.ensures,
-  Did-begun (job_at (g.T.Rewriting.is_fate later) (g.T.Rewriting.is_reason later) c.args.file.now)
-      (held_state g.W.Sink.contents g.L.Sink.contents c.args.self.now)
-      (held_state g.W.Sink.contents g.L.Sink.contents c.put_front.new.self) c.args.front.now _ c.in-Ok-report.ensures.reported.0 c.requires
-      (stays.fate _ _ (c.fate-fate.ensures.fate c.in-Ok.ensures.ready)) (c.if-stops_at.ensures.goes_on refl) (search rules) (search rules)
-      (search rules) (search rules),
+  Did-begun (job_at _ _ c.args.file.now) (held_state g.W.Sink.contents g.L.Sink.contents c.args.self.now)
+      (held_state g.W.Sink.contents g.L.Sink.contents c.put_front.new.self) c.args.front.now _ c.in-Ok.ensures.reported.0 c.requires
+      c.fate-fate.ensures.fate (c.if-stops_at.ensures.goes_on refl) (search rules) (search rules) (search rules) (search rules),
 )

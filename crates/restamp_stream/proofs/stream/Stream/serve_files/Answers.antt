@@ -1,39 +1,28 @@
 use Rattle.std.proofs.Common.{rules, refl, Err, ◌≡◌, ◌∙◌, subst}
 use Rattle.restamp_stream.specs.Causes.{faults_of, IsCounted}
-use Rattle.restamp_stream.proofs.DidLemmas.{DidFiles-more, StoppedIn-at}
+use Rattle.restamp_stream.proofs.DidLemmas.{DidFiles-more, StoppedIn-at, if_refused}
 use Rattle.restamp_stream.proofs.stream.Stream.serve_files.Goals as goal
 
 pub loop-name-init : goal.loop-name-init
-loop-name-init g c = (λ later grows. (refl, refl), refl, refl, g.met.T.Rewriting.grows_none _)
+loop-name-init g c = ((refl, refl), refl, refl)
 
 pub loop-name-preserved : goal.loop-name-preserved
 loop-name-preserved g c =
-    let so_far = c.loop-name.invariant in
-    let next = c.in_ok-serve_next.ensures in (
-      λ later grows.
-          DidFiles-more (g.T.Rewriting.is_fate later) (g.T.Rewriting.is_reason later) c.args.settings (g.O.Opening.bytes_of c.args.opening.now)
-          (λ name. name.now) _ _ _ _ _ _ c.args.names.now c.loop-name.name-index _ (so_far.0 later (g.met.T.Rewriting.grows_on _ _ _ next.grows grows))
-          (search rules) ((rw so_far.1 at next.ok) later grows) next.later,
-      next.same ∙ so_far.1,
-      next.cause ∙ so_far.2,
-      g.met.T.Rewriting.grows_on _ _ _ so_far.3 next.grows,
+    let so_far = c.loop-name.invariant in (
+      DidFiles-more (g.T.Rewriting.is_fate c.args.rewriting.now) (g.T.Rewriting.is_reason c.args.rewriting.now) c.args.settings
+          (g.O.Opening.bytes_of c.args.opening.now) (λ name. name.now) _ _ _ _ _ _ c.args.names.now c.loop-name.name-index _ so_far.0
+          (search rules) (rw so_far.1 at c.in_ok-serve_next.ensures.ok) c.in_ok-serve_next.ensures.later,
+      c.in_ok-serve_next.ensures.same ∙ so_far.1,
+      c.in_ok-serve_next.ensures.cause ∙ so_far.2,
     )
 
-pub returns-in_err-serve_next-clause-stopped : goal.returns-in_err-serve_next-clause-stopped
-returns-in_err-serve_next-clause-stopped g c =
+pub returns-in_err-serve_next-clause-refused : goal.returns-in_err-serve_next-clause-refused
+returns-in_err-serve_next-clause-refused g c =
     let so_far = c.loop-name.invariant in
-    let why = c.in_err-serve_next.field-0.0 in
-    let handed : c.from_residual.result ≡ Err why = search rules in
-    let here = rw so_far.1 at c.in_err-serve_next.ensures.stopped in
-    rw handed
-    (λ at later grows.
-    StoppedIn-at (g.T.Rewriting.is_fate later) (g.T.Rewriting.is_reason later) c.args.settings (g.O.Opening.bytes_of c.args.opening.now)
-    why (λ name. name.now) _ _ _ _ _ _ c.args.names.now c.loop-name.name-index _
-    (so_far.0 later (g.met.T.Rewriting.grows_on _ _ _ c.in_err-serve_next.ensures.grows grows))
-    (search rules) (here at later grows) c.in_err-serve_next.ensures.later)
-
-pub returns-in_err-serve_next-clause-grows : goal.returns-in_err-serve_next-clause-grows
-returns-in_err-serve_next-clause-grows g c = g.met.T.Rewriting.grows_on _ _ _ c.loop-name.invariant.3 c.in_err-serve_next.ensures.grows
+    if_refused c.from_residual.result c.in_err-serve_next.field-0.0 _ _ (search rules) (rw so_far.1 at c.in_err-serve_next.ensures.refused)
+    (λ here. StoppedIn-at (g.T.Rewriting.is_fate c.args.rewriting.now) (g.T.Rewriting.is_reason c.args.rewriting.now) c.args.settings
+    (g.O.Opening.bytes_of c.args.opening.now) (λ name. name.now) _ _ _ _ _ _ c.args.names.now c.loop-name.name-index _ so_far.0
+    (search rules) here c.in_err-serve_next.ensures.later)
 
 pub returns-in_err-serve_next-clause-cause : goal.returns-in_err-serve_next-clause-cause
 returns-in_err-serve_next-clause-cause g c =

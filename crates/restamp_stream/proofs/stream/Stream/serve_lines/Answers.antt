@@ -2,8 +2,7 @@ use Rattle.std.proofs.Common.{ℕ, ◌+◌, ◌-◌, ◌^◌, ◌≤◌, inl, in
 use Rattle.programs_streams.specs.Faults.{Rises, IsCutOff}
 use Rattle.restamp_stream.specs.Causes.{HasCome, faults_of, HasWriteCause, IsCounted}
 use Rattle.restamp_stream.specs.Held.{HaveCome, job_at}
-use Rattle.restamp_stream.proofs.LinesLemmas.{OnOk-map, IfErr-map}
-use Rattle.restamp_stream.proofs.StoppedLemmas.{Served-none, Served-more, Served-all, Served-stopped, Served-stopped_at_end, IsHeld-short, HasNoLf-same, at_line}
+use Rattle.restamp_stream.proofs.StoppedLemmas.{Served-none, Served-more, Served-all, Served-stopped, Served-stopped_at_end, IsHeld-short, HasNoLf-same}
 use Rattle.restamp_stream.proofs.stream.Stream.serve_lines.Goals as goal
 
 -- ---- Why the work stopped
@@ -32,76 +31,51 @@ HaveCome-end turns f0 f1 given all (inl p) = inr (omega (arith, all, p.1))
 HaveCome-end turns f0 f1 given all (inr p) = inl p
 
 pub loop-turn-init : goal.loop-turn-init
-loop-turn-init g c = (
-  λ later grows. Served-none (job_at (g.T.Rewriting.is_fate later) (g.T.Rewriting.is_reason later) c.args.file.now) _ _ _ (lit< tt) c.requires.block,
-  c.requires.waiting,
-  refl,
-  HaveCome-none _ _,
-  g.met.T.Rewriting.grows_none _,
-)
+loop-turn-init g c = (Served-none (job_at _ _ c.args.file.now) _ _ _ (lit< tt) c.requires.block, c.requires.waiting, refl, HaveCome-none _ _)
 
 pub fill-requires : goal.fill-requires
 fill-requires g c =
-    let now = c.loop-turn.rewriting in
-    IsHeld-short (job_at (g.T.Rewriting.is_fate now) (g.T.Rewriting.is_reason now) c.args.file.now)
-    c.loop-turn.rest c.loop-turn.block.items (lit< tt) (c.loop-turn.invariant.0 now (g.met.T.Rewriting.grows_none _)).kept
+    IsHeld-short
+    (job_at (g.T.Rewriting.is_fate c.args.rewriting.now) (g.T.Rewriting.is_reason c.args.rewriting.now) c.args.file.now)
+    c.loop-turn.rest c.loop-turn.block.items (lit< tt) c.loop-turn.invariant.0.kept
 
 pub finish-requires-clause-begun : goal.finish-requires-clause-begun
 finish-requires-clause-begun g c =
     let read = c.in-Ok-false.ensures.read in
-    let now = c.loop-turn.rewriting in
-    HasNoLf-same (job_at (g.T.Rewriting.is_fate now) (g.T.Rewriting.is_reason now) c.args.file.now) c.loop-turn.rest _ _ read.0
-    (c.loop-turn.invariant.0 now (g.met.T.Rewriting.grows_none _)).kept read.1 (read.3 c.in-Ok-false.field-0-test).0
+    let job = job_at (g.T.Rewriting.is_fate c.args.rewriting.now) (g.T.Rewriting.is_reason c.args.rewriting.now) c.args.file.now in
+    HasNoLf-same job c.loop-turn.rest _ _ read.0 c.loop-turn.invariant.0.kept read.1 (read.3 c.in-Ok-false.field-0-test).0
 
 pub loop-turn-preserved : goal.loop-turn-preserved
 loop-turn-preserved g c =
     let read = c.in-Ok-true.ensures.read in
-    let kept = c.in_ok-feed.ensures.grows in (
-      λ later grows.
-          Served-more (job_at (g.T.Rewriting.is_fate later) (g.T.Rewriting.is_reason later) c.args.file.now) _ _ _ _ _ _ _ read.0 _ _ _ _
-          (c.loop-turn.invariant.0 later (g.met.T.Rewriting.grows_on _ _ _ kept grows)) read.1 read.2
-          (c.in_ok-feed.ensures.ok later grows) (c.in_ok-feed.ensures.held later grows),
+    let job = job_at (g.T.Rewriting.is_fate c.args.rewriting.now) (g.T.Rewriting.is_reason c.args.rewriting.now) c.args.file.now in (
+      Served-more job _ _ _ _ _ _ _ read.0 _ _ _ _ c.loop-turn.invariant.0 read.1 read.2 c.in_ok-feed.ensures.ok c.in_ok-feed.ensures.held,
       c.in_ok-feed.ensures.none,
       c.in_ok-feed.ensures.cause ∙ c.loop-turn.invariant.2,
       HaveCome-more c.loop-turn.turn _ _ _ _ _ c.loop-turn.invariant.3 (c.in-Ok-true.ensures.cause (search rules)),
-      g.met.T.Rewriting.grows_on _ _ _ c.loop-turn.invariant.4 kept,
     )
 
 pub returns-in-Ok-false-clause-ok : goal.returns-in-Ok-false-clause-ok
 returns-in-Ok-false-clause-ok g c =
     let read = c.in-Ok-false.ensures.read in
     let end = read.3 c.in-Ok-false.field-0-test in
-    OnOk-map c.finish.result _ _ c.finish.ensures.ok
-    (λ did later grows.
-    Served-all (job_at (g.T.Rewriting.is_fate later) (g.T.Rewriting.is_reason later) c.args.file.now) _ _ _ _ _ _ _ read.0 _ _ (lit< tt)
-    (c.loop-turn.invariant.0 later (g.met.T.Rewriting.grows_on _ _ _ c.finish.ensures.grows grows)) read.1 end.0 read.2 end.1 (did later grows))
+    let job = job_at (g.T.Rewriting.is_fate c.args.rewriting.now) (g.T.Rewriting.is_reason c.args.rewriting.now) c.args.file.now in
+    Served-all c.finish.result job _ _ _ _ _ _ _ read.0 _ _ (lit< tt) c.loop-turn.invariant.0 read.1 end.0 read.2 end.1 c.finish.ensures.ok
 
-pub returns-in-Ok-false-clause-stopped : goal.returns-in-Ok-false-clause-stopped
-returns-in-Ok-false-clause-stopped g c =
+pub returns-in-Ok-false-clause-refused : goal.returns-in-Ok-false-clause-refused
+returns-in-Ok-false-clause-refused g c =
     let read = c.in-Ok-false.ensures.read in
     let end = read.3 c.in-Ok-false.field-0-test in
-    IfErr-map c.finish.result _ _ c.finish.ensures.err
-    (λ why stopped at later grows.
-    Served-stopped_at_end why (job_at (g.T.Rewriting.is_fate later) (g.T.Rewriting.is_reason later) c.args.file.now) _ _ _ _ _ _ _ read.0 _ _
-    (lit< tt) (c.loop-turn.invariant.0 later (g.met.T.Rewriting.grows_on _ _ _ c.finish.ensures.grows grows)) read.1 end.0 read.2 end.1
-    (at_line why _ at stopped later grows))
+    let job = job_at (g.T.Rewriting.is_fate c.args.rewriting.now) (g.T.Rewriting.is_reason c.args.rewriting.now) c.args.file.now in
+    Served-stopped_at_end c.finish.result job _ _ _ _ _ _ _ read.0 _ _ (lit< tt) c.loop-turn.invariant.0 read.1 end.0 read.2 end.1 c.finish.ensures.err
 
-pub returns-in_err-feed-clause-stopped : goal.returns-in_err-feed-clause-stopped
-returns-in_err-feed-clause-stopped g c =
+pub returns-in_err-feed-clause-refused : goal.returns-in_err-feed-clause-refused
+returns-in_err-feed-clause-refused g c =
     let read = c.in-Ok-true.ensures.read in
-    let why = c.in_err-feed.field-0.0 in
-    let handed : c.from_residual.result ≡ Err why = search rules in
+    let job = job_at (g.T.Rewriting.is_fate c.args.rewriting.now) (g.T.Rewriting.is_reason c.args.rewriting.now) c.args.file.now in
+    let handed : c.from_residual.result ≡ Err c.in_err-feed.field-0.0 = search rules in
     rw handed
-    (λ at later grows.
-    Served-stopped why (job_at (g.T.Rewriting.is_fate later) (g.T.Rewriting.is_reason later) c.args.file.now) _ _ _ _ _ _ _ read.0 _ _
-    (c.loop-turn.invariant.0 later (g.met.T.Rewriting.grows_on _ _ _ c.in_err-feed.ensures.grows grows)) read.1 read.2
-    (at_line why _ at c.in_err-feed.ensures.err later grows))
-
-pub returns-in-Ok-false-clause-grows : goal.returns-in-Ok-false-clause-grows
-returns-in-Ok-false-clause-grows g c = g.met.T.Rewriting.grows_on _ _ _ c.loop-turn.invariant.4 c.finish.ensures.grows
-
-pub returns-in_err-feed-clause-grows : goal.returns-in_err-feed-clause-grows
-returns-in_err-feed-clause-grows g c = g.met.T.Rewriting.grows_on _ _ _ c.loop-turn.invariant.4 c.in_err-feed.ensures.grows
+    (Served-stopped c.in_err-feed.field-0.0 job _ _ _ _ _ _ _ read.0 _ _ c.loop-turn.invariant.0 read.1 read.2 c.in_err-feed.ensures.err)
 
 pub returns-in-Ok-false-clause-cause : goal.returns-in-Ok-false-clause-cause
 returns-in-Ok-false-clause-cause g c =

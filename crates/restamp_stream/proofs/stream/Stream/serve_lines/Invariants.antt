@@ -2,15 +2,14 @@
 use Rattle.std.proofs.Common.{◌≡◌, []}
 use Rattle.restamp_stream.specs.Causes.{faults_of}
 use Rattle.restamp_stream.specs.Held.{job_at, HaveCome}
-use Rattle.restamp_stream.specs.Streams.{Later, Served, state_of}
+use Rattle.restamp_stream.specs.Streams.{Served, state_of}
 use Rattle.restamp_stream.proofs.stream.Stream.serve_lines.Given as goal
 
 abbrev pub invariant-loop-turn : goal.invariant-loop-turn
 invariant-loop-turn g l =
-    Later g.T.Rewriting.grows g.T.Rewriting.is_fate g.T.Rewriting.is_reason l.rewriting (λ fates reasons. Served (job_at fates reasons l.file)
+    Served (job_at (g.T.Rewriting.is_fate l.rewriting) (g.T.Rewriting.is_reason l.rewriting) l.file)
     (g.R.Source.remaining l.initial.input) (g.R.Source.remaining l.input)
-    (state_of g.W.Sink.contents g.L.Sink.contents l.initial.self) (state_of g.W.Sink.contents g.L.Sink.contents l.self) l.rest l.block.items)
+    (state_of g.W.Sink.contents g.L.Sink.contents l.initial.self) (state_of g.W.Sink.contents g.L.Sink.contents l.self) l.rest l.block.items
     × (l.self.waiting.items ≡ [])
     × (faults_of g.W.Sink.faults g.L.Sink.faults l.self ≡ faults_of g.W.Sink.faults g.L.Sink.faults l.initial.self)
     × HaveCome l.turn (g.R.Source.faults l.initial.input) (g.R.Source.faults l.input) (g.R.Source.given l.input)
-    × g.T.Rewriting.grows l.initial.rewriting l.rewriting

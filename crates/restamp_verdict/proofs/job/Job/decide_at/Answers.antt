@@ -1,4 +1,4 @@
-use Rattle.std.proofs.Common.{◌+◌, ◌≡◌, ◌==◌, ℕ, Bool, true, refl, sym, subst, ◌∙◌, Ok, Err}
+use Rattle.std.proofs.Common.{◌+◌, Bool, refl, sym, subst, ◌∙◌, Ok, Err}
 use Rattle.std.specs.Prelude.{slice_range}
 use Rattle.restamp_place.specs.Cuts.{span_of}
 use Rattle.time_values.specs.Calendar.{greatest_year}
@@ -24,12 +24,12 @@ returns-then-is_empty-clause-at c =
     let unsaid = c.in_default-say.ensures.said in
     let plain = c.tries_more.ensures c.if-tries_more.false in
     let column = c.in-Some.span.start + 1 in
-    let says = subst (λ (b : Bool). Says greatest_year job.first b text job.defaults (Err unsaid.0)) c.is_open-is_open.ensures unsaid.1 in (
+    let says = subst (λ (b : Bool). Says greatest_year job.first.now b text job.defaults (Err unsaid.0)) c.is_open-is_open.ensures unsaid.1 in (
       refused column unsaid.0,
       on_some (span_of c.args.place c.args.line.now) c.in-Some.span _ _ (sym c.find_span.ensures.value ∙ c.in-Some.is) (
         Err unsaid.0,
-        in_turn-alone greatest_year job.first _ text job.defaults job.others.items unsaid.0 plain.0 plain.1
-            (subst (λ (n : ℕ). (n == 0) ≡ true) job.others.ok.0 (sym c.is_empty.ensures ∙ c.if-is_empty.true)) says,
+        in_turn-alone greatest_year job.first.now _ text job.defaults job.others.now unsaid.0 plain.0 plain.1
+            (sym c.is_empty.ensures ∙ c.if-is_empty.true) says,
         refl,
       ),
       (column, unsaid.0, refl),
@@ -50,11 +50,11 @@ pub returns-clause-at : goal.returns-clause-at
 returns-clause-at c =
     let job = c.args.self.now in
     let text = slice_range c.args.line.now c.in-Some.span.start c.in-Some.span.stop in
-    let says = subst (λ (b : Bool). Says greatest_year job.first b text job.defaults (Ok c.in-Some-say.said)) c.is_open-is_open.ensures
+    let says = subst (λ (b : Bool). Says greatest_year job.first.now b text job.defaults (Ok c.in-Some-say.said)) c.is_open-is_open.ensures
     c.in-Some-say.ensures.said in
     let put = c.decide_said.ensures.put in (
       put.0,
       on_some (span_of c.args.place c.args.line.now) c.in-Some.span _ _ (sym c.find_span.ensures.value ∙ c.in-Some.is)
-          (Ok c.in-Some-say.said, in_turn-first greatest_year job.first job.others.items _ text job.defaults c.in-Some-say.said says, put.1),
+          (Ok c.in-Some-say.said, in_turn-first greatest_year job.first.now job.others.now _ text job.defaults c.in-Some-say.said says, put.1),
       put.2,
     )

@@ -6,4 +6,4 @@ use Rattle.restamp_verdict.proofs.job.Job.decide_on_clocks.Goals as goal
 pub returns-in-Err-clause-part : goal.returns-in-Err-clause-part
 returns-in-Err-clause-part c =
     let column = c.args.start + 1 in
-    let why = seen c.in-Err.field-0 in (refused column why, (Err why, (rw c.as_slice-others.ensures.value at c.in-Err.ensures.said), refl), (column, why, refl))
+    let why = seen c.in-Err.field-0 in (refused column why, (Err why, c.in-Err.ensures.said, refl), (column, why, refl))

@@ -9,5 +9,5 @@ use Rattle.restamp_verdict.proofs.job.Job.read_others.Given as goal
 abbrev pub invariant-loop-reading : goal.invariant-loop-reading
 invariant-loop-reading l =
     (result : Option Said)
-    → AreTriedAlone greatest_year l.self l.line l.start (drop l.reading-index l.self.others.items) result
-    → AreTriedAlone greatest_year l.self l.line l.start l.self.others.items result
+    → AreTriedAlone greatest_year l.self l.line l.start (drop l.reading-index l.self.others.now) result
+    → AreTriedAlone greatest_year l.self l.line l.start l.self.others.now result

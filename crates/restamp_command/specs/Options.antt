@@ -4,7 +4,7 @@ use Rattle.std.specs.Borrow.{Bor}
 use Rattle.std.specs.Option.{option_map}
 use Rattle.clap.specs.Matches.{first_value, matched_of, one_text, raw_values}
 use Rattle.clap.specs.declared.parser.matches.Found.{Found}
-use Rattle.restamp_options.specs.declared.options.Options.{Options}
+use Rattle.restamp_command.specs.declared.options.Options.{Options}
 
 -- A flag is true where it was given, and false where it was not.
 abbrev pub IsFlag : Found → List ℕ → Bool → Type 0

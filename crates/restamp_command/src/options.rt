@@ -2,7 +2,7 @@
 ghost use Rattle.std.specs.Prelude.{◌≡◌, unwrap_or, [], codes};
 ghost use Rattle.std.specs.Option.{option_map};
 ghost use Rattle.clap.specs.Matches.{found_of, first_value};
-ghost use Rattle.restamp_options.specs.Options as spec;
+ghost use Rattle.restamp_command.specs.Options as spec;
 
 use clap::ArgMatches;
 

@@ -1,0 +1,17 @@
+pub use Rattle.time_components.proofs.OneSpelling
+pub use Rattle.time_descriptions.proofs.Written
+pub use Rattle.time_descriptions.proofs.WrittenLeaves
+pub use Rattle.time_descriptions.proofs.WrittenLists
+pub use Rattle.time_parsing.proofs.IsoBack
+pub use Rattle.time_parsing.proofs.MailForm
+pub use Rattle.time_parsing.proofs.OneOutcome
+pub use Rattle.time_parsing.proofs.TreeLemmas
+pub use Rattle.time_parsing.proofs.WrittenBack
+pub use Rattle.time_record.proofs.HeldRecords
+pub use Rattle.time_record.proofs.ResolutionLemmas
+pub use Rattle.time_record.proofs.Unique
+pub use Rattle.time_writing.proofs.KeptDigits
+pub use Rattle.time_writing.proofs.SameTexts
+pub use Rattle.time_zones.proofs.FolderLemmas
+pub use Rattle.time_zones.proofs.LongestLemmas
+pub use Rattle.time_zones.proofs.ZoneLemmas

@@ -1,0 +1,15 @@
+pub mod Types
+pub mod Words
+pub mod components
+pub mod describing
+pub mod descriptions
+pub mod digits
+pub mod formatting
+pub mod locating
+pub mod parsing
+pub mod preparing
+pub mod readers
+pub mod records
+pub mod values
+pub mod writing
+pub mod zones

@@ -1,0 +1,9 @@
+pub use Rattle.time_descriptions.specs.Components
+pub use Rattle.time_descriptions.specs.Description
+pub use Rattle.time_descriptions.specs.Grammar
+pub use Rattle.time_descriptions.specs.Items
+pub use Rattle.time_descriptions.specs.Modifiers
+pub use Rattle.time_descriptions.specs.Refusal
+pub use Rattle.time_descriptions.specs.Strftime
+pub use Rattle.time_descriptions.specs.Values
+pub use Rattle.time_descriptions.specs.Writing

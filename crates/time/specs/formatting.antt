@@ -1,0 +1,3 @@
+pub use Rattle.time_formatting.specs.Components
+pub use Rattle.time_formatting.specs.Numbers
+pub use Rattle.time_formatting.specs.Texts

@@ -1,0 +1,9 @@
+pub use Rattle.time_locating.specs.Iso8601
+pub use Rattle.time_locating.specs.IsoMarks
+pub use Rattle.time_locating.specs.Laws
+pub use Rattle.time_locating.specs.Located
+pub use Rattle.time_locating.specs.Marks
+pub use Rattle.time_locating.specs.Misses
+pub use Rattle.time_locating.specs.Rfc2822
+pub use Rattle.time_locating.specs.Rfc3339
+pub use Rattle.time_locating.specs.exact

@@ -1,0 +1,10 @@
+pub use Rattle.time_readers.specs.Direct
+pub use Rattle.time_readers.specs.IsoDates
+pub use Rattle.time_readers.specs.IsoOffsets
+pub use Rattle.time_readers.specs.IsoPieces
+pub use Rattle.time_readers.specs.IsoTimes
+pub use Rattle.time_readers.specs.Laws
+pub use Rattle.time_readers.specs.MailBlanks
+pub use Rattle.time_readers.specs.Readers
+pub use Rattle.time_readers.specs.Rfc2822
+pub use Rattle.time_readers.specs.Rfc3339

@@ -1,0 +1,10 @@
+pub use Rattle.time_values.specs.Calendar
+pub use Rattle.time_values.specs.Dates
+pub use Rattle.time_values.specs.Instants
+pub use Rattle.time_values.specs.Moments
+pub use Rattle.time_values.specs.Names
+pub use Rattle.time_values.specs.Offsets
+pub use Rattle.time_values.specs.Refusal
+pub use Rattle.time_values.specs.Shown
+pub use Rattle.time_values.specs.Sign
+pub use Rattle.time_values.specs.Times

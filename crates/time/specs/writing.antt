@@ -1,0 +1,1 @@
+pub use Rattle.time_writing.specs.Texts

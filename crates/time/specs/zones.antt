@@ -1,0 +1,3 @@
+pub use Rattle.time_zones.specs.Finding
+pub use Rattle.time_zones.specs.Suffix
+pub use Rattle.time_zones.specs.Zones

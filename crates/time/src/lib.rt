@@ -1,0 +1,172 @@
+//! Parses, formats and computes with dates and times, by the paths of the Rust crate `time`.
+//!
+//! Each item is defined in a crate below, whose name stands in its `use` line, and keeps its contract.
+#![tactic(auto)]
+
+pub use time_values::{
+    Date, Duration, MAX_YEAR, Month, OffsetDateTime, PlainDateTime, Time, Timestamp, UtcDateTime,
+    UtcOffset, Weekday,
+};
+
+/// An item of a description: `item!("-")`, a component with the modifiers that a description need not name as
+/// `item!(Day)`, or one with others as `item!(Hour24 { padding: Padding::None })`.
+///
+/// It is the macro of `time_components`, which a crate that names only this one can't call.
+#[macro_export]
+macro_rules! item {
+    ($text:literal) => {
+        $crate::format_description::BorrowedFormatItem::StringLiteral($text)
+    };
+    ($name:ident) => {
+        $crate::format_description::BorrowedFormatItem::Component(
+            $crate::format_description::Component::$name(
+                $crate::format_description::modifier::$name::default(),
+            ),
+        )
+    };
+    ($name:ident { $($field:ident: $value:expr),+ }) => {
+        $crate::format_description::BorrowedFormatItem::Component(
+            $crate::format_description::Component::$name(
+                $crate::format_description::modifier::$name {
+                    $($field: $value,)+
+                    ..$crate::format_description::modifier::$name::default()
+                },
+            ),
+        )
+    };
+}
+
+/// The traits that give values and formats their calls.
+pub mod prelude {
+    pub use time_components::Inspect;
+    pub use time_locating::Locate;
+    pub use time_parsing::{Parsable, Target};
+    pub use time_record::AnyFormatItem;
+}
+
+/// The errors.
+pub mod error {
+    pub use time_descriptions::{InvalidFormatDescription, OwnedError};
+    pub use time_formatting::Unformattable;
+    pub use time_preparing::Unprepared;
+    pub use time_values::error::{
+        ComponentRange, DifferentVariant, Error, Parse, ParseFromDescription, TryFromParsed,
+    };
+    pub use time_writing::Unwritable;
+}
+
+/// Descriptions of how a date, a time or an offset is written, and the well-known formats.
+pub mod format_description {
+    pub use time_components::{
+        BorrowedFormatItem, Component, FormatDescriptionV3, FormatDescriptionV3Inner, Group,
+        Inspect, Node, OwnedFormatItem, Period, Step,
+    };
+    pub use time_descriptions::{Description, parse_borrowed, parse_owned, parse_strftime};
+
+    /// The modifiers of components.
+    pub mod modifier {
+        pub use time_components::modifier::{
+            CalendarYearCenturyExtendedRange, CalendarYearCenturyStandardRange,
+            CalendarYearFullExtendedRange, CalendarYearFullStandardRange, CalendarYearLastTwo, Day,
+            End, Hour12, Hour24, Ignore, IsoYearCenturyExtendedRange, IsoYearCenturyStandardRange,
+            IsoYearFullExtendedRange, IsoYearFullStandardRange, IsoYearLastTwo, Minute, MonthLong,
+            MonthNumerical, MonthShort, OffsetHour, OffsetMinute, OffsetSecond, Ordinal, Period,
+            Second, Subsecond, SubsecondDigits, TrailingInput, UnixTimestampMicrosecond,
+            UnixTimestampMillisecond, UnixTimestampNanosecond, UnixTimestampSecond, WeekNumberIso,
+            WeekNumberMonday, WeekNumberSunday, WeekdayLong, WeekdayMonday, WeekdayShort,
+            WeekdaySunday,
+        };
+        pub use time_digits::Padding;
+    }
+
+    /// The formats of standards.
+    pub mod well_known {
+        pub use time_parsing::{Iso8601, Rfc2822, Rfc3339, iso8601};
+    }
+}
+
+/// Texts of descriptions.
+pub mod describing {
+    pub use time_describing::{DescriptionText, NoText, description_of, is_described, text_of};
+}
+
+/// Texts of moments. None takes memory: a text is an array and a length.
+pub mod formatting {
+    pub use time_formatting::format;
+    pub use time_values::text::Text;
+    pub use time_writing::{FractionDigits, text_2822, text_3339, text_8601, text_8601_basic};
+}
+
+/// What texts are parsed by, and the record of what was parsed.
+pub mod parsing {
+    pub use time_components::component;
+    pub use time_digits::{Integer, Padding, ParsedItem, Sign};
+    pub use time_parsing::{Items, Parsable, Target, begin, value_before};
+    pub use time_record::{AnyFormatItem, Parsed, Tries};
+
+    /// Parsers of digits, signs and single bytes.
+    pub mod combinator {
+        pub use time_digits::combinator::{
+            any_digit, ascii_char, ascii_char_ignore_case, exactly_n_digits,
+            exactly_n_digits_padded, fraction, leading_digits, n_to_m_digits, n_to_m_digits_padded,
+            nine_digits, one_or_two_digits, sign, two_digits,
+        };
+
+        /// Parsers of the parts of well-known formats.
+        pub mod rfc {
+            pub use time_readers::{block, direct, iso8601, rfc2822, rfc3339};
+        }
+    }
+}
+
+/// Descriptions that are prepared once for many texts.
+pub mod preparing {
+    pub use time_preparing::{Prepared, Unprepared, whole};
+}
+
+/// Where a rejected text fails, and what was expected there.
+pub mod locating {
+    pub use time_locating::{Expected, Locate, Located, locate_error};
+}
+
+/// Moments in named time zones, and the suffixes of times that name one.
+pub mod zones {
+    pub use time_zones::{
+        NamedZone, NotOne, ReadFault, SuffixFault, Suffixed, TimeZone, ZoneFault, ZoneFiles,
+        ZoneTag, ZoneText, Zones, assume_zone, check_suffix, checked_to_zone, find_zone,
+        find_zone_in, find_zones, find_zones_in, has_zone_offset, offset_at, read_suffix,
+        write_suffix,
+    };
+}
+
+/// Digits, names and signs of values.
+pub mod util {
+    pub use time_values::{digits, names, sign, text};
+}
+
+/// Functions whose contracts are laws, by the crate that proves them.
+pub mod laws {
+    pub use time_components::laws as components;
+    pub use time_describing::laws as describing;
+    pub use time_descriptions::laws as descriptions;
+    pub use time_digits::laws as digits;
+    pub use time_formatting::laws as formatting;
+    pub use time_locating::laws as locating;
+    pub use time_parsing::laws as parsing;
+    pub use time_preparing::laws as preparing;
+    pub use time_readers::laws as readers;
+    pub use time_record::laws as records;
+    pub use time_values::laws as values;
+    pub use time_writing::laws as writing;
+
+    /// The laws of `time_zones`.
+    pub mod zones {
+        pub use time_zones::{
+            law_left_as_it_is, law_names_in_folder, law_one_answer, law_one_check, law_one_suffix,
+            law_read_back, law_written_suffix,
+        };
+    }
+}
+
+#[cfg(test)]
+mod surface;

@@ -1,14 +1,14 @@
 /* Parses date-time texts: RFC 3339, mail dates of RFC 2822, ISO 8601, and descriptions of your own.
  *
- * Plain functions of C99, which C++ may call too. No call takes memory, keeps state, changes errno or reads the locale:
- * so calls may run side by side, in threads and in signal handlers. Every call returns, whatever the bytes.
+ * Plain functions of C99, callable from C++ too. No call allocates, keeps state, changes errno or reads the locale, so
+ * calls may run concurrently in threads and in signal handlers. Every call returns, whatever the bytes.
  *
- * A text is `length` bytes, and needs no 0 at its end. It is read as a whole: bytes that are left over are refused. A
- * call that parses answers PELZAUNE_OK (0) and writes *out, or it answers why there is no value and leaves *out
- * unchanged. Where a length or a capacity is 0, its pointer may be NULL.
+ * A text is `length` bytes, and needs no 0 at its end. It is parsed as a whole: trailing bytes are an error. A call that
+ * parses writes *out and returns PELZAUNE_OK (0), or it returns the status of the error and leaves *out unchanged. Where
+ * a length or a capacity is 0, its pointer may be NULL.
  *
- * Your part, which nothing checks: a pointer leads to as much as is said, of one object of at most PTRDIFF_MAX bytes;
- * nobody changes a text or *out during the call; and *out doesn't overlap the text. */
+ * The caller ensures what no call checks: a pointer points to as many bytes as its length gives, within one object of at
+ * most PTRDIFF_MAX bytes; nothing else changes a text or *out during the call; and *out doesn't overlap the text. */
 #ifndef PELZAUNE_H
 #define PELZAUNE_H
 
@@ -19,16 +19,16 @@
 extern "C" {
 #endif
 
-/* 256 * major + minor. A program can't go on where pelzaune_version() has another major number than it was compiled for. */
+/* 256 * major + minor. A program is incompatible with a library whose pelzaune_version() has another major number. */
 #define PELZAUNE_VERSION 0x0100u
 uint32_t pelzaune_version(void);
 
-/* Formats. Any other number is answered by PELZAUNE_UNKNOWN_FORMAT. */
+/* Formats. A call with any other number returns PELZAUNE_UNKNOWN_FORMAT. */
 #define PELZAUNE_RFC3339 1u /* 1985-04-12T23:20:50.52Z */
 #define PELZAUNE_RFC2822 2u /* Sat, 02 Jan 2021 03:04:05 +0000, with comments, zone names and years of two digits */
 #define PELZAUNE_ISO8601 3u /* 2021-01-02T03:04:05,25-00:30, 20210102T0304Z, 2020-W53-6, 2020-366 or a time alone */
 
-/* Values. What a call leaves in the padding of a struct isn't said: compare members, not bytes. */
+/* Values. The padding of a struct is unspecified after a call: compare members, not bytes. */
 typedef struct pelzaune_date {
     int32_t year;  /* -999999 to 999999 */
     uint8_t month; /* 1 to 12 */
@@ -42,14 +42,14 @@ typedef struct pelzaune_time {
     uint8_t second;      /* 0 to 59 */
 } pelzaune_time;
 
-/* A date and a time, as a clock shows them. */
+/* A date and a time without an offset. */
 typedef struct pelzaune_local {
     int32_t year;
     uint32_t nanosecond;
     uint8_t month, day, hour, minute, second;
 } pelzaune_local;
 
-/* The same, and how many seconds that clock is ahead of UTC: -93599 to 93599. */
+/* A date and a time with an offset, in seconds ahead of UTC: -93599 to 93599. */
 typedef struct pelzaune_moment {
     int32_t year;
     uint32_t nanosecond;
@@ -57,7 +57,7 @@ typedef struct pelzaune_moment {
     uint8_t month, day, hour, minute, second;
 } pelzaune_moment;
 
-/* An instant, as a struct timespec has it. */
+/* An instant, like a struct timespec. */
 typedef struct pelzaune_instant {
     int64_t seconds;      /* since 1970-01-01T00:00:00Z, rounded down */
     uint32_t nanoseconds; /* after those, 0 to 999999999 */
@@ -67,36 +67,36 @@ typedef struct pelzaune_instant {
 typedef uint32_t pelzaune_status;
 enum {
     PELZAUNE_OK,
-    PELZAUNE_INVALID_LITERAL,   /* a byte that has to stand isn't there */
+    PELZAUNE_INVALID_LITERAL,   /* a required byte is missing */
     PELZAUNE_INVALID_COMPONENT, /* the component can't be parsed */
-    PELZAUNE_TRAILING,          /* bytes are left over */
-    PELZAUNE_INSUFFICIENT,      /* the text says too little for the value */
+    PELZAUNE_TRAILING,          /* bytes remain after the value */
+    PELZAUNE_INSUFFICIENT,      /* the text has too few components for the value */
     PELZAUNE_RANGE,             /* the component is out of its range */
-    PELZAUNE_RANGE_OF_OTHERS,   /* it is out of the range that other components leave, as 31 in April */
-    PELZAUNE_TOO_WIDE,          /* 64 bits don't count the instant: before 1677-09-21 or after 2262-04-11 */
+    PELZAUNE_RANGE_OF_OTHERS,   /* the component is out of the range that others leave, such as 31 in April */
+    PELZAUNE_TOO_WIDE,          /* the nanoseconds don't fit 64 bits: before 1677-09-21 or after 2262-04-11 */
     PELZAUNE_UNKNOWN_FORMAT,    /* no format has that number */
-    /* of a description: */
+    /* errors of a description: */
     PELZAUNE_UNCLOSED_BRACKET,  /* an opening bracket is never closed */
     PELZAUNE_COMPONENT_NAME,    /* no component has that name */
     PELZAUNE_MODIFIER,          /* the component has no such modifier, or the modifier no such value */
     PELZAUNE_MISSING_NAME,      /* brackets without the name of a component */
     PELZAUNE_MISSING_MODIFIER,  /* the component needs a modifier */
-    PELZAUNE_EXPECTED,          /* something else should stand there */
-    PELZAUNE_NOT_SUPPORTED,     /* what no description has, as %Z */
+    PELZAUNE_EXPECTED,          /* something else is expected */
+    PELZAUNE_NOT_SUPPORTED,     /* what no description supports, such as %Z */
     PELZAUNE_TOO_LONG,          /* it has more than 64 steps */
     PELZAUNE_UNKNOWN_SYNTAX,    /* no syntax of descriptions has that number */
-    /* of a moment that is written: */
-    PELZAUNE_NO_TEXT            /* the format has no text for the component */
+    /* error of a moment that is written: */
+    PELZAUNE_NO_TEXT            /* the format can't write the component */
 };
 #define PELZAUNE_KIND(status) ((status) & 0xffu)
 #define PELZAUNE_COMPONENT(status) ((status) >> 8)
 
 /* Each parses the text by a format.
  *
- * `moment` is a date, time and offset; `instant` and `nanoseconds` are that moment, since 1970-01-01T00:00:00Z. `local`
- * is a date and time, whatever the offset, and `utc` the date and time in UTC: a text without an offset has both, and
- * they are the same. `date`, `time` and `offset` are parts of a text. A leap second, as 23:59:60, is the last nanosecond
- * before it for all but `time` and `local`, which refuse it. */
+ * `moment` is a date, time and offset; `instant` and `nanoseconds` count that moment from 1970-01-01T00:00:00Z. `local`
+ * is the date and time, and drops an offset; `utc` is the date and time in UTC, and takes a text without an offset as
+ * UTC. `date`, `time` and `offset` are parts of the text. A leap second, such as 23:59:60, is parsed as the last
+ * nanosecond before it, but `time` and `local` reject it. */
 pelzaune_status pelzaune_parse_moment(uint32_t format, const uint8_t *text, size_t length, pelzaune_moment *out);
 pelzaune_status pelzaune_parse_local(uint32_t format, const uint8_t *text, size_t length, pelzaune_local *out);
 pelzaune_status pelzaune_parse_utc(uint32_t format, const uint8_t *text, size_t length, pelzaune_local *out);
@@ -106,8 +106,8 @@ pelzaune_status pelzaune_parse_offset(uint32_t format, const uint8_t *text, size
 pelzaune_status pelzaune_parse_instant(uint32_t format, const uint8_t *text, size_t length, pelzaune_instant *out);
 pelzaune_status pelzaune_parse_nanoseconds(uint32_t format, const uint8_t *text, size_t length, int64_t *out);
 
-/* What a text has of a date, a time and an offset. Each has a status of its own: PELZAUNE_OK, or why the text has none,
- * as PELZAUNE_INSUFFICIENT; then that part is unchanged. */
+/* The date, the time and the offset of a text. Each has a status of its own: PELZAUNE_OK, or the error with which it is
+ * rejected, such as PELZAUNE_INSUFFICIENT. A rejected part is unchanged. */
 typedef struct pelzaune_parts {
     pelzaune_date date;
     pelzaune_time time;
@@ -115,23 +115,23 @@ typedef struct pelzaune_parts {
     pelzaune_status date_status, time_status, offset_status;
 } pelzaune_parts;
 
-/* Parses the text once, into its parts. Where it isn't read as a whole, all of *out is unchanged. */
+/* Parses the text once, into its parts. Where it isn't parsed as a whole, all of *out is unchanged. */
 pelzaune_status pelzaune_parse_parts(uint32_t format, const uint8_t *text, size_t length, pelzaune_parts *out);
 
-/* Syntaxes of descriptions. Any other number is answered by PELZAUNE_UNKNOWN_SYNTAX. */
-#define PELZAUNE_BRACKETS_1 1u /* [year]-[month]-[day], version 1: [[ stands for a bracket */
-#define PELZAUNE_BRACKETS_2 2u /* the same, version 2: \[ stands for a bracket, and [optional [..]] and [first [..] [..]] for what may be missing */
+/* Syntaxes of descriptions. A call with any other number returns PELZAUNE_UNKNOWN_SYNTAX. */
+#define PELZAUNE_BRACKETS_1 1u /* [year]-[month]-[day], version 1: [[ is a literal bracket */
+#define PELZAUNE_BRACKETS_2 2u /* [year]-[month]-[day], version 2: \[ is a literal bracket; it also has [optional [..]] and [first [..] [..]] */
 #define PELZAUNE_STRFTIME 3u   /* %Y-%m-%d */
 
-/* Checks a description, once, where you write it: PELZAUNE_OK, or why the text describes nothing, and then *index is that
- * of its first fault, but for PELZAUNE_TOO_LONG and PELZAUNE_UNKNOWN_SYNTAX. A byte of a literal and a component are a
- * step each, and so are an optional item, a choice and each list of a choice: a description of up to 64 bytes in
- * brackets has room. */
+/* Checks a description, for instance when a user enters it. Returns PELZAUNE_OK, or the status of its first fault and
+ * stores that fault's index in *index, except for PELZAUNE_TOO_LONG and PELZAUNE_UNKNOWN_SYNTAX. Each byte of a literal
+ * and each component is a step, as is each optional item, each choice and each list of a choice. A description in
+ * brackets of up to 64 bytes always fits. */
 pelzaune_status pelzaune_check_description(uint32_t syntax, const uint8_t *description, size_t description_length, size_t *index);
 
-/* Each parses a text by a description, and else is the call of that name above. A text that describes nothing is answered
- * as pelzaune_check_description answers it. Nothing is kept between calls: each reads the description
- * anew. For many texts by one description see pelzaune_describe. */
+/* Each parses a text by a description, into the value of the function with that name above. A malformed description has
+ * the status of pelzaune_check_description. Each call parses the description again: for many texts by one description
+ * see pelzaune_describe. */
 pelzaune_status pelzaune_read_moment(uint32_t syntax, const uint8_t *description, size_t description_length,
     const uint8_t *text, size_t length, pelzaune_moment *out);
 pelzaune_status pelzaune_read_local(uint32_t syntax, const uint8_t *description, size_t description_length,
@@ -151,17 +151,16 @@ pelzaune_status pelzaune_read_nanoseconds(uint32_t syntax, const uint8_t *descri
 pelzaune_status pelzaune_read_parts(uint32_t syntax, const uint8_t *description, size_t description_length,
     const uint8_t *text, size_t length, pelzaune_parts *out);
 
-/* A description that was read, for many texts. It holds all of itself and nothing of yours: so you may copy it as you copy
- * a struct, and nothing is to be freed. What its numbers say is the library's own matter. Whatever numbers they are, they
- * describe something, and a call by them is safe. */
+/* A parsed description, for many texts. It has no pointers, so it may be copied as any struct, and nothing has to be
+ * freed. Its numbers are internal to the library. Any numbers are a valid description, so a call by them is safe. */
 typedef struct pelzaune_description {
     uint64_t numbers[129];
 } pelzaune_description;
 
-/* Reads a description: PELZAUNE_OK, or as pelzaune_check_description answers. Then *out is unchanged. */
+/* Parses a description. On an error it returns what pelzaune_check_description does, and *out is unchanged. */
 pelzaune_status pelzaune_describe(uint32_t syntax, const uint8_t *text, size_t length, pelzaune_description *out, size_t *index);
 
-/* Each parses a text by a description that was read, as the call pelzaune_read_.. does by its text. */
+/* Each parses a text by a parsed description, as pelzaune_read_.. does by the description's text. */
 pelzaune_status pelzaune_described_moment(const pelzaune_description *description, const uint8_t *text, size_t length, pelzaune_moment *out);
 pelzaune_status pelzaune_described_local(const pelzaune_description *description, const uint8_t *text, size_t length, pelzaune_local *out);
 pelzaune_status pelzaune_described_utc(const pelzaune_description *description, const uint8_t *text, size_t length, pelzaune_local *out);
@@ -172,57 +171,57 @@ pelzaune_status pelzaune_described_instant(const pelzaune_description *descripti
 pelzaune_status pelzaune_described_nanoseconds(const pelzaune_description *description, const uint8_t *text, size_t length, int64_t *out);
 pelzaune_status pelzaune_described_parts(const pelzaune_description *description, const uint8_t *text, size_t length, pelzaune_parts *out);
 
-/* Where a text goes wrong. */
+/* Where a text fails. */
 typedef struct pelzaune_place {
-    size_t index; /* at which what was expected should stand; the length where the text is too short */
-    uint8_t byte; /* the byte of a literal that was expected there, and 0 where it was none */
+    size_t index; /* of the part that was expected; the length where the text is too short */
+    uint8_t byte; /* the first byte of the literal that was expected there, or 0 where none was */
 } pelzaune_place;
 
-/* Tells where a text that can't be read goes wrong, for a message to who wrote it. PELZAUNE_OK says that the whole text is
- * read, also where the calendar has no such date, and then *out is unchanged. Any other status says what was expected at
- * the place, as that of a refusal: PELZAUNE_INVALID_LITERAL, PELZAUNE_INVALID_COMPONENT, or for the end of the text
- * PELZAUNE_TRAILING. */
+/* Locates the error of a rejected text, for a message to its author. Returns PELZAUNE_OK and leaves *out unchanged where
+ * the whole text is parsed, also where the calendar has no such date. Any other status is what was expected at the
+ * place: PELZAUNE_INVALID_LITERAL, PELZAUNE_INVALID_COMPONENT, or PELZAUNE_TRAILING for the end of the text. */
 pelzaune_status pelzaune_locate(uint32_t format, const uint8_t *text, size_t length, pelzaune_place *out);
 pelzaune_status pelzaune_read_locate(uint32_t syntax, const uint8_t *description, size_t description_length, const uint8_t *text,
     size_t length, pelzaune_place *out);
 
-/* What an entry of a column has where its line is refused: the least number, which numpy's datetime64 has for NaT. It is
- * also the count of one instant, the first that 64 bits count; so `*refused` says whether a line was refused. */
+/* The entry of a rejected line: the least number, which is NaT in numpy's datetime64. It is also the count of one instant,
+ * the earliest that fits 64 bits, so test *refused to find out whether a line was rejected. */
 #define PELZAUNE_NO_COUNT INT64_MIN
 
-/* Parses each line of a text as pelzaune_parse_nanoseconds does, into the entry of its place: as many lines as there are
- * entries. *refused is how many of these lines are refused, and an entry that has no line is unchanged.
+/* Parses each line of a text as pelzaune_parse_nanoseconds does, into the entry at the line's index, for as many lines as
+ * there are entries. Stores in *refused how many of these lines are rejected. An entry without a line is unchanged.
  *
- * The answer is how many lines the whole text has: so a call with no entries, which may be NULL then, counts the lines. A
- * line ends with LF, which the last may lack. CR is no part of a line end: a line that ends with it is refused. */
+ * Returns how many lines the whole text has, so a call without entries, which may be NULL then, counts the lines. A line
+ * ends with LF, which is optional after the last one. CR isn't part of a line end: a line that ends with it is
+ * rejected. */
 size_t pelzaune_column(uint32_t format, const uint8_t *text, size_t length, int64_t *entries, size_t capacity, size_t *refused);
 
-/* The same by a description that was read. */
+/* Does so by a parsed description. */
 size_t pelzaune_described_column(const pelzaune_description *description, const uint8_t *text, size_t length, int64_t *entries,
     size_t capacity, size_t *refused);
 
-/* The same by the text of a description, which is read once. By a text that describes nothing each line is refused. */
+/* Does so by the text of a description, which is parsed once. A malformed description rejects each line. */
 size_t pelzaune_read_column(uint32_t syntax, const uint8_t *description, size_t description_length, const uint8_t *text,
     size_t length, int64_t *entries, size_t capacity, size_t *refused);
 
 /* The longest text of a moment. */
 #define PELZAUNE_MOMENT_TEXT 35u
 
-/* Writes a moment by a format over the front of the buffer, as far as its `capacity` goes and with no 0 at its end, and
- * into *length how many bytes the whole text has. By RFC 3339 it has as many digits of a fraction as it needs, as
- * 1985-04-12T23:20:50.52Z, by RFC 2822 none, and by ISO 8601 nine.
+/* Writes a moment in a format over the start of the buffer, truncated to its `capacity` and without a 0 at its end. Stores
+ * the length of the whole text in *length. RFC 3339 has as many digits of a fraction as it needs, such as
+ * 1985-04-12T23:20:50.52Z, RFC 2822 none, and ISO 8601 nine.
  *
- * PELZAUNE_RANGE and PELZAUNE_RANGE_OF_OTHERS name a member that is out of its range (`seconds` is the offset), and
- * PELZAUNE_NO_TEXT a component for which the format has no text: by RFC 2822 a year before 1900, by the others one before
- * 0 and an offset of 24 hours, by all a year after 9999 and an offset with seconds. Then *length and the buffer are
- * unchanged. */
+ * On an error *length and the buffer are unchanged. PELZAUNE_RANGE and PELZAUNE_RANGE_OF_OTHERS name a member that is out
+ * of its range (`seconds` is the offset). PELZAUNE_NO_TEXT names a component that the format can't write: in RFC 2822 a
+ * year before 1900, in the others a year before 0 and an offset of 24 hours, in all a year after 9999 and an offset with
+ * seconds. */
 pelzaune_status pelzaune_format_moment(uint32_t format, const pelzaune_moment *moment, uint8_t *buffer, size_t capacity, size_t *length);
 
-/* Writes what a status says over the front of the buffer, as far as its `capacity` goes and with no 0 at its end, and
- * answers how many bytes the whole text has: 0 for PELZAUNE_OK and for a kind that there isn't. */
+/* Writes the text of a status over the start of the buffer, truncated to its `capacity` and without a 0 at its end.
+ * Returns the length of the whole text, which is 0 for PELZAUNE_OK and for an unknown kind. */
 size_t pelzaune_write_text(pelzaune_status status, uint8_t *buffer, size_t capacity);
 
-/* The same text, as C has texts; it lives as long as the program. */
+/* The text of a status as a C string, which lives as long as the program. */
 static inline const char *pelzaune_text(pelzaune_status status)
 {
 #define PELZAUNE_TEXTS(number, name) \

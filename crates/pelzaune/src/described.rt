@@ -1,4 +1,4 @@
-//! Descriptions that C holds by value, read once for many texts, columns, and where a text goes wrong.
+//! Descriptions that C stores by value and that parse many texts; columns; and the location of errors.
 ghost use Rattle.std.specs.Prelude.{◌≡◌, length};
 ghost use Rattle.time_values.specs.Calendar.{greatest_year};
 ghost use Rattle.time_record.specs.Resolution.{IsDated, IsTimed, IsOffset, IsPlain, IsUtcMoment};
@@ -19,8 +19,8 @@ use pelzaune_ffi::parts::{
 };
 use time_values::{Date, OffsetDateTime, PlainDateTime, Time, UtcDateTime, UtcOffset};
 
-/// Holds the description of a text in the syntax of that number: the status is 0, or says why the text describes nothing,
-/// and then `index` is that of its first fault, if the fault has a place.
+/// Parses a description in the syntax with this number and stores it in `out`. Returns 0, or the status of its first
+/// fault and stores that fault's index in `index`, if it has one.
 #[unsafe(no_mangle)]
 pub extern "C" fn pelzaune_describe(
     syntax: u32,
@@ -33,7 +33,7 @@ pub extern "C" fn pelzaune_describe(
     describe(syntax, text, out, index)
 }
 
-/// Parses a text by a held description into its date. On any other status than 0 `out` is unchanged.
+/// Parses the date of a text by a stored description. On an error `out` is unchanged.
 #[unsafe(no_mangle)]
 pub extern "C" fn pelzaune_described_date(
     description: &HeldDescription,
@@ -45,7 +45,7 @@ pub extern "C" fn pelzaune_described_date(
     hand::<Date, DateParts, HeldDescription>(description, text, out)
 }
 
-/// Parses a text by a held description into its time. On any other status than 0 `out` is unchanged.
+/// Parses the time of a text by a stored description. On an error `out` is unchanged.
 #[unsafe(no_mangle)]
 pub extern "C" fn pelzaune_described_time(
     description: &HeldDescription,
@@ -57,7 +57,7 @@ pub extern "C" fn pelzaune_described_time(
     hand::<Time, TimeParts, HeldDescription>(description, text, out)
 }
 
-/// Parses a text by a held description into its offset. On any other status than 0 `out` is unchanged.
+/// Parses the offset of a text by a stored description. On an error `out` is unchanged.
 #[unsafe(no_mangle)]
 pub extern "C" fn pelzaune_described_offset(
     description: &HeldDescription,
@@ -69,7 +69,7 @@ pub extern "C" fn pelzaune_described_offset(
     hand::<UtcOffset, OffsetParts, HeldDescription>(description, text, out)
 }
 
-/// Parses a text by a held description into its date and time. On any other status than 0 `out` is unchanged.
+/// Parses the date and time of a text by a stored description. On an error `out` is unchanged.
 #[unsafe(no_mangle)]
 pub extern "C" fn pelzaune_described_local(
     description: &HeldDescription,
@@ -81,7 +81,7 @@ pub extern "C" fn pelzaune_described_local(
     hand::<PlainDateTime, LocalParts, HeldDescription>(description, text, out)
 }
 
-/// Parses a text by a held description into its date and time in UTC. On any other status than 0 `out` is unchanged.
+/// Parses the date and time in UTC of a text by a stored description. On an error `out` is unchanged.
 #[unsafe(no_mangle)]
 pub extern "C" fn pelzaune_described_utc(
     description: &HeldDescription,
@@ -93,7 +93,7 @@ pub extern "C" fn pelzaune_described_utc(
     hand::<UtcDateTime, LocalParts, HeldDescription>(description, text, out)
 }
 
-/// Parses a text by a held description into its date, time and offset. On any other status than 0 `out` is unchanged.
+/// Parses the date, time and offset of a text by a stored description. On an error `out` is unchanged.
 #[unsafe(no_mangle)]
 pub extern "C" fn pelzaune_described_moment(
     description: &HeldDescription,
@@ -105,7 +105,7 @@ pub extern "C" fn pelzaune_described_moment(
     hand::<OffsetDateTime, MomentParts, HeldDescription>(description, text, out)
 }
 
-/// Parses a text by a held description into the instant of its date, time and offset. On any other status than 0 `out` is unchanged.
+/// Parses the instant of a text's date, time and offset by a stored description. On an error `out` is unchanged.
 #[unsafe(no_mangle)]
 pub extern "C" fn pelzaune_described_instant(
     description: &HeldDescription,
@@ -117,7 +117,8 @@ pub extern "C" fn pelzaune_described_instant(
     hand::<OffsetDateTime, Instant, HeldDescription>(description, text, out)
 }
 
-/// Parses a text by a held description into the nanoseconds of that instant. On any other status than 0 `out` is unchanged.
+/// Parses the nanoseconds from 1970-01-01T00:00:00Z to the instant of a text, by a stored description. On an error
+/// `out` is unchanged.
 #[unsafe(no_mangle)]
 pub extern "C" fn pelzaune_described_nanoseconds(
     description: &HeldDescription,
@@ -129,7 +130,8 @@ pub extern "C" fn pelzaune_described_nanoseconds(
     count(description, text, out)
 }
 
-/// Parses a text by a held description into its date, its time and its offset. On any other status than 0 `out` is unchanged.
+/// Parses a text once, by a stored description, into its date, its time and its offset. Each part has a status of its
+/// own. Where the text isn't parsed as a whole, all of `out` is unchanged.
 #[unsafe(no_mangle)]
 pub extern "C" fn pelzaune_described_parts(
     description: &HeldDescription,
@@ -141,7 +143,7 @@ pub extern "C" fn pelzaune_described_parts(
     parts(description, text, out)
 }
 
-/// Parses each line of a text by a held description, as `pelzaune_column` does by a format.
+/// Parses each line of a text by a stored description, as `pelzaune_column` does by a format.
 #[unsafe(no_mangle)]
 pub extern "C" fn pelzaune_described_column(
     description: &HeldDescription,
@@ -156,8 +158,8 @@ pub extern "C" fn pelzaune_described_column(
     column_held(description, text, entries, refused)
 }
 
-/// Writes to `out` where a text that the format of that number rejects goes wrong. The status says what was expected there,
-/// as that of a parse does. It is 0 where the format reads the whole text, and then `out` is unchanged.
+/// Writes to `out` where a text fails that the format with this number rejects. Returns the status of what was expected
+/// there, numbered as by a parse. Where the format parses the whole text, returns 0 and leaves `out` unchanged.
 #[unsafe(no_mangle)]
 pub extern "C" fn pelzaune_locate(format: u32, text: &[u8], out: &mut Place) -> u32
     ensures { HandsPlace (Formats.format_of format) text.now result out.old out.new }
@@ -165,8 +167,8 @@ pub extern "C" fn pelzaune_locate(format: u32, text: &[u8], out: &mut Place) -> 
     locate_by(format, text, out)
 }
 
-/// The same by a description in the syntax of that number. A malformed description has the status that
-/// `pelzaune_check_description` gives it, and `out` is unchanged.
+/// As `pelzaune_locate`, by a description in the syntax with this number. A malformed description has the status that
+/// `pelzaune_check_description` returns, and leaves `out` unchanged.
 #[unsafe(no_mangle)]
 pub extern "C" fn pelzaune_read_locate(
     syntax: u32,
@@ -179,11 +181,14 @@ pub extern "C" fn pelzaune_read_locate(
     locate_read(syntax, description, text, out)
 }
 
-/// Parses each line of a text by the format of that number, into the nanoseconds from 1970-01-01T00:00:00Z to its instant:
-/// as many lines as there are entries. The entry of a line that is refused is `i64::MIN`, and `refused` is how many of
-/// these lines are. An entry that has no line is unchanged. The answer is how many lines the text has.
+/// Parses each line of a text by the format with this number, and stores the nanoseconds from 1970-01-01T00:00:00Z to
+/// its instant in the entry at the line's index. Returns how many lines the text has, which may be more than there are
+/// entries.
 ///
-/// A line ends with LF, which the last one may lack, and is parsed as `pelzaune_parse_nanoseconds` does.
+/// The entry of a rejected line becomes `i64::MIN`, and `refused` the number of those entries. An entry without a line
+/// is unchanged.
+///
+/// A line ends with LF, which is optional after the last one, and is parsed as by `pelzaune_parse_nanoseconds`.
 #[unsafe(no_mangle)]
 pub extern "C" fn pelzaune_column(
     format: u32,
@@ -198,8 +203,8 @@ pub extern "C" fn pelzaune_column(
     column_by(format, text, entries, refused)
 }
 
-/// The same by a description in the syntax of that number, which is read once. A text that describes nothing has each
-/// line refused.
+/// As `pelzaune_column`, by a description in the syntax with this number, which is parsed once. A malformed description
+/// or an unknown syntax rejects each line.
 #[unsafe(no_mangle)]
 pub extern "C" fn pelzaune_read_column(
     syntax: u32,

@@ -1,7 +1,7 @@
 //! Parses date-time texts for callers in C: `include/pelzaune.h` declares these functions.
 //!
-//! A reference is a pointer to C, and a slice is a pointer and a length. Each call that parses takes the number of a
-//! format, and answers a status: 0 where it wrote the value, or else the number of why there is none.
+//! A reference is a pointer in C, and a slice is a pointer and a length. Each call that parses takes the number of a
+//! format. It returns the status 0 after writing the value, or else the status of the error.
 #![tactic(auto)]
 
 ghost use Rattle.std.specs.Prelude.{◌≡◌, length};
@@ -23,8 +23,7 @@ use pelzaune_ffi::text::{lay, pieces_of};
 use pelzaune_ffi::writing::format_moment;
 use time_values::{Date, OffsetDateTime, PlainDateTime, Time, UtcDateTime, UtcOffset};
 
-/// The version of this interface, which `PELZAUNE_VERSION` of the header names too: 256 times its major number, and its
-/// minor number.
+/// The version of this interface, 256 * major + minor, as `PELZAUNE_VERSION` in the header.
 #[unsafe(no_mangle)]
 pub extern "C" fn pelzaune_version() -> u32
     ensures { result ≡ 0x0100 }
@@ -32,8 +31,8 @@ pub extern "C" fn pelzaune_version() -> u32
     0x0100
 }
 
-/// Writes what a status says over the front of the buffer, as far as the buffer goes, and answers how many bytes the
-/// whole text has. A status that no call answers says nothing.
+/// Writes the text of a status over the start of the buffer, truncated to the buffer's length. Returns the length of
+/// the whole text, which is 0 for a status that no call returns.
 #[unsafe(no_mangle)]
 pub extern "C" fn pelzaune_write_text(status: u32, buffer: &mut [u8]) -> usize
     ensures length { result ≡ length (status_text status) }
@@ -44,7 +43,7 @@ pub extern "C" fn pelzaune_write_text(status: u32, buffer: &mut [u8]) -> usize
     pieces[0].len() + pieces[1].len() + pieces[2].len()
 }
 
-/// Parses a text by the format of that number into its date. On any other status than 0 `out` is unchanged.
+/// Parses the date of a text by the format with this number. On an error `out` is unchanged.
 #[unsafe(no_mangle)]
 pub extern "C" fn pelzaune_parse_date(format: u32, text: &[u8], out: &mut DateParts) -> u32
     ensures { Hands HasDate (over_empty (IsDated greatest_year)) (format_of format) text.now result out.old out.new }
@@ -52,7 +51,7 @@ pub extern "C" fn pelzaune_parse_date(format: u32, text: &[u8], out: &mut DatePa
     hand_by::<Date, DateParts>(format, text, out)
 }
 
-/// Parses a text by the format of that number into its time. On any other status than 0 `out` is unchanged.
+/// Parses the time of a text by the format with this number. On an error `out` is unchanged.
 #[unsafe(no_mangle)]
 pub extern "C" fn pelzaune_parse_time(format: u32, text: &[u8], out: &mut TimeParts) -> u32
     ensures { Hands HasTime (over_empty IsTimed) (format_of format) text.now result out.old out.new }
@@ -60,7 +59,7 @@ pub extern "C" fn pelzaune_parse_time(format: u32, text: &[u8], out: &mut TimePa
     hand_by::<Time, TimeParts>(format, text, out)
 }
 
-/// Parses a text by the format of that number into its offset. On any other status than 0 `out` is unchanged.
+/// Parses the offset of a text by the format with this number. On an error `out` is unchanged.
 #[unsafe(no_mangle)]
 pub extern "C" fn pelzaune_parse_offset(format: u32, text: &[u8], out: &mut OffsetParts) -> u32
     ensures { Hands HasOffset (over_empty IsOffset) (format_of format) text.now result out.old out.new }
@@ -68,8 +67,8 @@ pub extern "C" fn pelzaune_parse_offset(format: u32, text: &[u8], out: &mut Offs
     hand_by::<UtcOffset, OffsetParts>(format, text, out)
 }
 
-/// Parses a text by the format of that number into its date and time, whatever its offset. On any other status than 0
-/// `out` is unchanged.
+/// Parses the date and time of a text by the format with this number, and drops an offset. On an error `out` is
+/// unchanged.
 #[unsafe(no_mangle)]
 pub extern "C" fn pelzaune_parse_local(format: u32, text: &[u8], out: &mut LocalParts) -> u32
     ensures { Hands HasPlain (over_empty (IsPlain greatest_year)) (format_of format) text.now result out.old out.new }
@@ -77,8 +76,7 @@ pub extern "C" fn pelzaune_parse_local(format: u32, text: &[u8], out: &mut Local
     local_by(format, text, out)
 }
 
-/// Parses a text by the format of that number into its date and time in UTC. On any other status than 0 `out` is
-/// unchanged.
+/// Parses the date and time in UTC of a text by the format with this number. On an error `out` is unchanged.
 #[unsafe(no_mangle)]
 pub extern "C" fn pelzaune_parse_utc(format: u32, text: &[u8], out: &mut LocalParts) -> u32
     ensures { Hands HasUtc (over_empty (IsUtcMoment greatest_year)) (format_of format) text.now result out.old out.new }
@@ -86,8 +84,7 @@ pub extern "C" fn pelzaune_parse_utc(format: u32, text: &[u8], out: &mut LocalPa
     hand_by::<UtcDateTime, LocalParts>(format, text, out)
 }
 
-/// Parses a text by the format of that number into its date, time and offset. On any other status than 0 `out` is
-/// unchanged.
+/// Parses the date, time and offset of a text by the format with this number. On an error `out` is unchanged.
 #[unsafe(no_mangle)]
 pub extern "C" fn pelzaune_parse_moment(format: u32, text: &[u8], out: &mut MomentParts) -> u32
     ensures { Hands HasMoment of_moment (format_of format) text.now result out.old out.new }
@@ -95,8 +92,7 @@ pub extern "C" fn pelzaune_parse_moment(format: u32, text: &[u8], out: &mut Mome
     moment_by::<MomentParts>(format, text, out)
 }
 
-/// Parses a text by the format of that number into the instant of its date, time and offset. On any other status than 0
-/// `out` is unchanged.
+/// Parses the instant of a text's date, time and offset by the format with this number. On an error `out` is unchanged.
 #[unsafe(no_mangle)]
 pub extern "C" fn pelzaune_parse_instant(format: u32, text: &[u8], out: &mut Instant) -> u32
     ensures { Hands HasInstant of_moment (format_of format) text.now result out.old out.new }
@@ -104,9 +100,8 @@ pub extern "C" fn pelzaune_parse_instant(format: u32, text: &[u8], out: &mut Ins
     moment_by::<Instant>(format, text, out)
 }
 
-/// Parses a text by the format of that number into the nanoseconds from 1970-01-01T00:00:00Z to the instant of its date,
-/// time and offset. An instant that 64 bits don't count so has a status of its own. On any other status than 0 `out` is
-/// unchanged.
+/// Parses the nanoseconds from 1970-01-01T00:00:00Z to the instant of a text's date, time and offset, by the format
+/// with this number. An instant that doesn't fit 64 bits has a status of its own. On an error `out` is unchanged.
 #[unsafe(no_mangle)]
 pub extern "C" fn pelzaune_parse_nanoseconds(format: u32, text: &[u8], out: &mut Nanoseconds) -> u32
     ensures { HandsCount (format_of format) text.now result out.old out.new }
@@ -114,8 +109,8 @@ pub extern "C" fn pelzaune_parse_nanoseconds(format: u32, text: &[u8], out: &mut
     count_by(format, text, out)
 }
 
-/// Parses a text by the format of that number once, into its date, its time and its offset. Each has a status of its own:
-/// on any other than 0 that part is unchanged. Where the text isn't parsed as a whole, all of `out` is unchanged.
+/// Parses a text once, by the format with this number, into its date, its time and its offset. Each part has a status
+/// of its own, and is unchanged where that isn't 0. Where the text isn't parsed as a whole, all of `out` is unchanged.
 #[unsafe(no_mangle)]
 pub extern "C" fn pelzaune_parse_parts(format: u32, text: &[u8], out: &mut Parts) -> u32
     ensures { HandsParts (format_of format) text.now result out.old out.new }
@@ -123,9 +118,11 @@ pub extern "C" fn pelzaune_parse_parts(format: u32, text: &[u8], out: &mut Parts
     parts_by(format, text, out)
 }
 
-/// Writes the text of a moment by the format of that number over the front of the buffer, as far as the buffer goes;
-/// `count` is how many bytes the whole text has. On any other status than 0 both are unchanged: a part is out of its
-/// range, the moment has no text in that format, or no format has that number.
+/// Writes the text of a moment, in the format with this number, over the start of the buffer, truncated to the buffer's
+/// length. Stores the length of the whole text in `count`.
+///
+/// On an error both are unchanged: a part is out of range, the format can't write the moment, or no format has this
+/// number.
 #[unsafe(no_mangle)]
 pub extern "C" fn pelzaune_format_moment(
     format: u32,
@@ -138,8 +135,8 @@ pub extern "C" fn pelzaune_format_moment(
     format_moment(format, moment, buffer, count)
 }
 
-/// Checks a description in the syntax of that number: the status is 0, or says why the text describes nothing. Then
-/// `index` is that of its first fault, if the fault has a place.
+/// Checks a description in the syntax with this number. Returns 0, or the status of its first fault and stores that
+/// fault's index in `index`, if it has one.
 #[unsafe(no_mangle)]
 pub extern "C" fn pelzaune_check_description(
     syntax: u32,
@@ -151,8 +148,7 @@ pub extern "C" fn pelzaune_check_description(
     check(syntax, description, index)
 }
 
-/// Parses a text by a description in the syntax of that number into its date. On any other status
-/// than 0 `out` is unchanged.
+/// Parses the date of a text by a description in the syntax with this number. On an error `out` is unchanged.
 #[unsafe(no_mangle)]
 pub extern "C" fn pelzaune_read_date(
     syntax: u32,
@@ -166,8 +162,7 @@ pub extern "C" fn pelzaune_read_date(
     hand_read::<Date, DateParts>(syntax, description, text, out)
 }
 
-/// Parses a text by a description in the syntax of that number into its time. On any other status
-/// than 0 `out` is unchanged.
+/// Parses the time of a text by a description in the syntax with this number. On an error `out` is unchanged.
 #[unsafe(no_mangle)]
 pub extern "C" fn pelzaune_read_time(
     syntax: u32,
@@ -181,8 +176,7 @@ pub extern "C" fn pelzaune_read_time(
     hand_read::<Time, TimeParts>(syntax, description, text, out)
 }
 
-/// Parses a text by a description in the syntax of that number into its offset. On any other status
-/// than 0 `out` is unchanged.
+/// Parses the offset of a text by a description in the syntax with this number. On an error `out` is unchanged.
 #[unsafe(no_mangle)]
 pub extern "C" fn pelzaune_read_offset(
     syntax: u32,
@@ -196,8 +190,7 @@ pub extern "C" fn pelzaune_read_offset(
     hand_read::<UtcOffset, OffsetParts>(syntax, description, text, out)
 }
 
-/// Parses a text by a description in the syntax of that number into its date and time. On any other status
-/// than 0 `out` is unchanged.
+/// Parses the date and time of a text by a description in the syntax with this number. On an error `out` is unchanged.
 #[unsafe(no_mangle)]
 pub extern "C" fn pelzaune_read_local(
     syntax: u32,
@@ -211,8 +204,8 @@ pub extern "C" fn pelzaune_read_local(
     hand_read::<PlainDateTime, LocalParts>(syntax, description, text, out)
 }
 
-/// Parses a text by a description in the syntax of that number into its date and time in UTC. On any other status
-/// than 0 `out` is unchanged.
+/// Parses the date and time in UTC of a text by a description in the syntax with this number. On an error `out` is
+/// unchanged.
 #[unsafe(no_mangle)]
 pub extern "C" fn pelzaune_read_utc(
     syntax: u32,
@@ -226,8 +219,8 @@ pub extern "C" fn pelzaune_read_utc(
     hand_read::<UtcDateTime, LocalParts>(syntax, description, text, out)
 }
 
-/// Parses a text by a description in the syntax of that number into its date, time and offset. On any other status
-/// than 0 `out` is unchanged.
+/// Parses the date, time and offset of a text by a description in the syntax with this number. On an error `out` is
+/// unchanged.
 #[unsafe(no_mangle)]
 pub extern "C" fn pelzaune_read_moment(
     syntax: u32,
@@ -241,8 +234,8 @@ pub extern "C" fn pelzaune_read_moment(
     hand_read::<OffsetDateTime, MomentParts>(syntax, description, text, out)
 }
 
-/// Parses a text by a description in the syntax of that number into the instant of its date, time and offset. On any other status
-/// than 0 `out` is unchanged.
+/// Parses the instant of a text's date, time and offset by a description in the syntax with this number. On an error
+/// `out` is unchanged.
 #[unsafe(no_mangle)]
 pub extern "C" fn pelzaune_read_instant(
     syntax: u32,
@@ -256,8 +249,8 @@ pub extern "C" fn pelzaune_read_instant(
     hand_read::<OffsetDateTime, Instant>(syntax, description, text, out)
 }
 
-/// Parses a text by a description in the syntax of that number into the nanoseconds of that instant. On any other status
-/// than 0 `out` is unchanged.
+/// Parses the nanoseconds from 1970-01-01T00:00:00Z to the instant of a text, by a description in the syntax with this
+/// number. On an error `out` is unchanged.
 #[unsafe(no_mangle)]
 pub extern "C" fn pelzaune_read_nanoseconds(
     syntax: u32,
@@ -271,8 +264,8 @@ pub extern "C" fn pelzaune_read_nanoseconds(
     count_read(syntax, description, text, out)
 }
 
-/// Parses a text by a description in the syntax of that number into its date, its time and its offset. On any other status
-/// than 0 `out` is unchanged.
+/// Parses a text once, by a description in the syntax with this number, into its date, its time and its offset. Each
+/// part has a status of its own. Where the text isn't parsed as a whole, all of `out` is unchanged.
 #[unsafe(no_mangle)]
 pub extern "C" fn pelzaune_read_parts(
     syntax: u32,

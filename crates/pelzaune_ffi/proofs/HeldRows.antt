@@ -33,13 +33,13 @@ use Rattle.pelzaune_ffi.specs.declared.parts.Nanoseconds.{Nanoseconds}
 use Rattle.pelzaune_ffi.specs.Described.{step_of, kinds, kind_in, padding_of, padding_number, digits_of, digits_number, trailing_of, trailing_number, is_set, skipping}
 use Rattle.pelzaune_ffi.specs.declared.steps.HeldStep.{HeldStep}
 
--- how the entries and the refusals of the lines that are left make those of all lines
+-- the entries and the rejected lines so far make, with those of the remaining lines, those of all lines
 abbrev pub Ends : Counting → List (List ℕ) → List Nanoseconds → List (List ℕ) → List Nanoseconds → List Nanoseconds → ℕ → Type 0
 Ends hands all begun lines old before refused =
     (later : List Nanoseconds) (more : ℕ) → IsColumn hands lines old later more
     → IsColumn hands all begun (before ++ later) (refused + more)
 
--- a line more
+-- one more line is stored
 pub Ends-more : (hands : Counting) (all : List (List ℕ)) (begun entries : List Nanoseconds) (line : List ℕ) (others : List (List ℕ))
     (index status refused : ℕ) (entry : Nanoseconds) → index < length entries → hands line status no_count entry
     → Ends hands all begun (line ∷ others) (drop index entries) (take index entries) refused
@@ -53,12 +53,12 @@ Ends-more hands all begun entries line others index status refused entry within 
     rw (take_more_set entries index entry within, append_assoc (take index entries) (entry ∷ []) later, add_assoc refused (one_if_refused status) more)
     (so_far (entry ∷ later) (one_if_refused status + more) one)
 
--- no entries are left
+-- no entries remain
 none-left : (hands : Counting) (lines : List (List ℕ)) → IsColumn hands lines [] [] 0
 none-left hands [] = (refl, refl)
 none-left hands (line ∷ lines) = (refl, refl)
 
--- where no lines are left, or no entries, all is handed over
+-- without remaining lines or entries, the column is complete
 pub Ends-all : (hands : Counting) (all : List (List ℕ)) (begun entries : List Nanoseconds) (lines : List (List ℕ)) (index refused : ℕ)
     → (length entries ≤ index) ⊎ (lines ≡ []) → Ends hands all begun lines (drop index entries) (take index entries) refused
     → IsColumn hands all begun entries refused
@@ -71,12 +71,12 @@ Ends-all hands all begun entries lines index refused ended so_far =
       | inr none ↦ rw (take-append-drop index entries, add-zero) at (so_far (drop index entries) 0 (rw none (refl, refl)))
     ]
 
--- a text of no bytes has no lines
+-- an empty text has no lines
 pub no_lines : (xs : List ℕ) → (length xs == 0) ≡ true → lines_of xs ≡ []
 no_lines [] e = refl
 no_lines (x ∷ xs) e = absurd (grind (arith, nat_tests, e))
 
--- what hands over each line as another does hands over a column as it does
+-- columns are equal where each line is stored equally
 pub IsColumn-map : (P Q : Counting)
     → ((line : List ℕ) (status : ℕ) (old new : Nanoseconds) → P line status old new → Q line status old new)
     → (lines : List (List ℕ)) (old new : List Nanoseconds) (refused : ℕ)
@@ -86,13 +86,13 @@ IsColumn-map P Q f (line ∷ lines) [] new refused h = h
 IsColumn-map P Q f (line ∷ lines) (entry ∷ old) new refused h =
     (h.0, h.1, f line h.0 no_count h.1 h.2, h.3, h.4, IsColumn-map P Q f lines old h.3 h.4 h.5, h.6, h.7)
 
--- ---- Where the first LF stands, by the mask of the bytes in front
+-- ---- The index of the first LF, by the mask of the first bytes
 
 clear_step : (b : Bool) (n m k : ℕ) → n + 1 ≤ cond (not b) (1 + m) 0 → (n ≤ m → k ≡ 0) → cond b 1 0 + 2 * k ≡ 0
 clear_step true n m k all others = absurd (omega (arith, all))
 clear_step false n m k all others = rw (others (omega (arith, all))) refl
 
--- no bit of the mask is set where no lane passes
+-- the mask has no bit set where no lane passes
 all_clear : (p : ℕ → Bool) (xs : List ℕ) → length xs ≤ prefix_len (λ x. not (p x)) xs → mask_l (map p xs) ≡ 0
 all_clear p [] all = refl
 all_clear p (x ∷ xs) all =
@@ -101,7 +101,7 @@ all_clear p (x ∷ xs) all =
 abbrev lf : ℕ → Bool
 lf x = eqb x 10
 
--- a first bit that is set is below the length
+-- the first set bit is below the length
 pub below_all : (xs : List ℕ) (n r : ℕ) → length xs ≡ n → 0 < mask_l (map lf xs) → r ≡ prefix_len (λ x. not (lf x)) xs → r ≤ n → r < n
 below_all xs n r long some counted most =
     elim (cases_lt r n) [
@@ -112,7 +112,7 @@ below_all xs n r long some counted most =
 not_lf : (x : ℕ) → lf x ≡ false → x ≡ 10 → ⊥
 not_lf x other is = cc
 
--- the line that ends there
+-- the line that ends at that bit
 pub cut_at : (xs : List ℕ) (n r : ℕ) → n ≤ length xs → r < n → r ≡ prefix_len (λ x. not (lf x)) (chunk 0 n xs)
     → lines_of xs ≡ take r xs ∷ lines_of (drop (r + 1) xs)
 cut_at xs n r room below counted =
@@ -121,16 +121,16 @@ cut_at xs n r room below counted =
     lines_of-cut xs r (omega arith) (eqb-true _ _ here)
     (λ k less is. not_lf (get_or xs k 0) (run_in_chunk_fails lf xs 0 n r 0 fits counted k (omega arith) (omega (arith, less))) is)
 
--- what a search finds
+-- the result of a search
 pub searched : (xs : List ℕ) (found : Option ℕ) → 0 < length xs → IsFirstByte (is_byte 10) xs found
     → MatchOption found (lines_of xs ≡ xs ∷ []) (λ i. (i < length xs) × (lines_of xs ≡ take i xs ∷ lines_of (drop (i + 1) xs)))
 searched xs (Some i) some first = (first.0.high, lines_of-found xs i first.0 first.1)
 searched xs None some first = lines_of-none xs some first
 
--- ---- The steps that are held of forms, by their numbers
+-- ---- Stored steps of known forms, by their numbers
 
 module _ (h : HeldStep) where
-  -- The step of a kind is the row of the kind.
+  -- the step of a kind is the table's row
   of_kind : (kind : ℕ) → h.kind ≡ kind → step_of h ≡ kind_in (kinds h) 0 kind
   unfolding step_of
   of_kind kind is = ap (kind_in (kinds h) 0) is
@@ -138,7 +138,7 @@ module _ (h : HeldStep) where
   pub literal : h.kind ≡ 0 → step_of h ≡ step.Literal h.choice
   literal is = of_kind 0 is
 
-  -- whose choice and flag are known
+  -- its choice and flag are known
   pub padded : (kind : ℕ) → (h.kind ≡ kind) × (h.choice ≡ 0) → step_of h ≡ kind_in (kinds (record h { choice = 0 })) 0 kind
   padded kind is = rw (of_kind kind is.0, is.1) refl
 
@@ -146,7 +146,7 @@ module _ (h : HeldStep) where
       step_of h ≡ kind_in (kinds (record h { choice = 0; flag = flag })) 0 kind
   flagged kind flag is = rw (of_kind kind is.0, is.1, is.2) refl
 
--- so many steps of a row, from that place on
+-- this many steps of a row, from an index on
 abbrev pub row : List HeldStep → HeldStep → ℕ → ℕ → List Step
 row xs d zero i = []
 row xs d (suc n) i = step_of (get_or xs i d) ∷ row xs d n (suc i)
@@ -159,7 +159,7 @@ from xs d (suc n) i is =
 pub row_of : (xs : List HeldStep) (d : HeldStep) (n : ℕ) → n ≡ length xs → map step_of xs ≡ row xs d n 0
 row_of xs d n is = from xs d n 0 (omega arith)
 
--- ---- The trees of a row of held steps
+-- ---- The trees of a row of stored steps
 
 first_step : (s : Step) (steps : List Step) →
     steps_trees (s ∷ steps) ≡ tree_more (tree_at steps_trees s steps) (steps_trees (steps_after s steps))
@@ -167,7 +167,7 @@ first_step s steps =
     first_item (s ∷ steps) s (omega arith) refl
     ∙ ap (λ ys. tree_more (tree_at steps_trees s ys) (steps_trees (steps_after s ys))) (behind_is (s ∷ steps) (omega arith))
 
--- the item of the first step, and those after it, as a pattern has them
+-- the item of the first step, and the items after it, as a pattern binds them
 pub first_held : (left : List HeldStep) (d : HeldStep) → 1 ≤ length left →
     steps_trees (map step_of left)
     ≡ tree_more (tree_at steps_trees (step_of (get_or left 0 d)) (map step_of (take (length left - 1) (drop 1 left))))
@@ -178,19 +178,19 @@ first_held (h ∷ hs) d within =
     rw same (first_step (step_of h) (map step_of hs))
 
 module _ {Y : ℕ} {all : Trees} {b0 : List ℕ} {r0 : Record} {n : ℕ} {left : Trees} {b : List ℕ} {r : Record} (g : Goes Y all b0 r0 n left b r) where
-  -- what is left is read
+  -- the remaining steps parse the rest
   pub rest_reads : (rest : List ℕ) (q : Record) → Reads Y (sequence left) b r rest q → Reads Y (sequence all) b0 r0 rest q
   unfolding Reads
   rest_reads rest q h = g.reads rest q h
 
-  -- or refused
+  -- or reject it
   pub rest_refuses : (e : Refusal) → Refuses Y (sequence left) b r e → Refuses Y (sequence all) b0 r0 e
   unfolding Reads IsFault
   rest_refuses e h =
       let refused = g.refuses e (record { unread = h.unread; fault = h.fault }) in
       record { unread = refused.unread; fault = refused.fault }
 
--- ---- What is chosen of a step is held by its number
+-- ---- Choices survive storing as numbers
 
 pub padding_back : (p : Padding) → padding_of (padding_number p) ≡ p
 padding_back padding.Space = refl
@@ -217,6 +217,6 @@ pub flag_back : (flag : Bool) → is_set (if flag then 1 else 0) ≡ flag
 flag_back true = refl
 flag_back false = refl
 
--- what skips is told by its count
+-- the count of skipped bytes determines the step
 pub skips : (i : Ignore) → skipping (ignored i.count.value) ≡ step.Component (component.Ignore i)
 skips i = ap skipping (ignored_of i i.count.value refl)

@@ -1,4 +1,4 @@
--- Times of ISO 8601 that are read in place.
+-- Times of ISO 8601 that are parsed in place.
 use Rattle.std.proofs.Common.{◌≡◌, refl, Option, Some, None, Result, Ok, Err, ◌≤◌, ◌<◌, ◌==◌, ◌-◌, ◌∙◌, ℕ, false, IfSome, List, [], ◌∷◌, length, take, drop, pos, ap, arith, ◌≢◌, ◌+◌, get_or, true}
 use Rattle.std.proofs.lemmas.Bool.{ne_eqb, le-leb}
 use Rattle.std.proofs.lemmas.List.{length-take-le, drop_more}
@@ -35,23 +35,23 @@ use Rattle.time_parsing.specs.Rfc3339.{Reads, Refuses}
 use Rattle.time_parsing.specs.exact.RecordedRfc3339.{direct-value}
 use Rattle.pelzaune_ffi.specs.Handed.{first_refusal}
 
--- ---- Values that are made of parts, of which each may be refused
+-- ---- Values built from parts that may each be rejected
 
--- what is made isn't refused
+-- a value that is built isn't rejected
 pub Constructs-made : {A : Type 0} (r : Option Refusal) (P : A → Type 0) (v : A) → Constructs r P (Ok v) → r ≡ None
 Constructs-made None P v h = refl
 Constructs-made (Some e) P v h = absurd h
 
--- and is what it should be
+-- a value that is built has the property
 pub Constructs-such : {A : Type 0} (r : Option Refusal) (P : A → Type 0) (v : A) → Constructs r P (Ok v) → P v
 Constructs-such None P v h = h
 Constructs-such (Some e) P v h = absurd h
 
--- where nothing is refused, such a value is made
+-- without an error, a value with the property is built
 pub Constructs-ok : {A : Type 0} (r : Option Refusal) (P : A → Type 0) (v : A) → r ≡ None → P v → Constructs r P (Ok v)
 Constructs-ok r P v e h = rw e h
 
--- what is such is also another
+-- a property may be replaced by one that it implies
 pub Constructs-map : {A : Type 0} (r : Option Refusal) (P Q : A → Type 0) (result : Result A ComponentRange)
     → ((v : A) → P v → Q v) → Constructs r P result → Constructs r Q result
 Constructs-map None P Q (Ok v) f h = f v h
@@ -59,14 +59,14 @@ Constructs-map None P Q (Err e) f h = absurd h
 Constructs-map (Some r) P Q (Ok v) f h = absurd h
 Constructs-map (Some r) P Q (Err e) f h = h
 
--- where the first refuses nothing, what the later refuses is refused
+-- if the first check passes, the error is that of the later check
 pub Constructs-later : {A : Type 0} (r later : Option Refusal) (P : A → Type 0) (result : Result A ComponentRange)
     → r ≡ None → Constructs later P result → Constructs (first_refusal r later) P result
 Constructs-later r later P result e h = rw e h
 
--- ---- Moments of RFC 3339 that are read in place
+-- ---- Moments of RFC 3339 that are parsed in place
 
--- a date of a month that is accepted
+-- the date of numbers that are in range
 pub date_of : (s : Said) (m : Month) (d : Date) → month_refusal s.month ≡ None → month_number m ≡ s.month
     → Constructs (calendar_date_refusal greatest_year (pos s.year) (month_number m) s.day) (Dates.HasParts (pos s.year) m s.day)
     (Ok d)
@@ -79,7 +79,7 @@ date_of s m d none named made =
     Constructs-ok (date_refusal greatest_year s) (HasDate s) d (rw (none, later) refl)
     (record { year = parts.0; month = ap month_number parts.1 ∙ named; day = parts.2 })
 
--- accepted parts of which the second isn't 60 make a moment
+-- numbers that are in range, with a second below 60, build a moment
 pub made_of : (s : Said) (v : OffsetDateTime) → s.second < 60
     → Constructs (date_refusal greatest_year s) (HasDate s) (Ok (offset_date v))
     → Constructs (time_refusal s.hour s.minute s.second s.nanosecond) (HasClock s.hour s.minute s.second s.nanosecond)
@@ -93,7 +93,7 @@ made_of s v below date clock offset =
     let shown = of_parts greatest_year s _ _ _ v refl refl refl date (rw other clock) offset in
     (shown.0, shown.1, λ leap. absurd (omega arith))
 
--- the places of a text in front, one after another
+-- the places of a text's start, one after another
 pub whole_stands : (bytes mid left rest : List ℕ) (n k m : Numbers) → Stand (Asks false) to_second_places nothing_read bytes mid n
     → Cut (Asks false Subsecond n) mid left k → Stand (Asks false) offset_places k left rest m → HasForm false bytes rest m
 unfolding Stand
@@ -104,13 +104,13 @@ in_no_bytes : (xs : List ℕ) → length xs ≤ 0 → xs ≡ []
 in_no_bytes [] none = refl
 in_no_bytes (x ∷ xs) none = absurd (omega arith)
 
--- what follows all bytes
+-- nothing follows all bytes
 pub nothing_left : (xs : List ℕ) (n : ℕ) → length xs ≡ n → take (length xs - n) (drop n xs) ≡ []
 nothing_left xs n all =
     let none = length-take-le (length xs - n) (drop n xs) (omega arith) in
     in_no_bytes (take (length xs - n) (drop n xs)) (omega arith)
 
--- the moment of the numbers of a whole text is what a parse of the text answers
+-- parsing the whole text results in the moment of its numbers
 pub outcome_of : (bytes : List ℕ) (n : Numbers) (o : Option OffsetDateTime) → HasForm false bytes [] n → n.offset_minute ≤ 59
     → IfSome o (λ v. IsMade greatest_year (said_rfc3339 n) v)
     → IfSome o (λ v. IsMomentOutcome greatest_year (direct (RefusesRfc3339 greatest_year)) (Reads greatest_year)
@@ -118,13 +118,13 @@ pub outcome_of : (bytes : List ℕ) (n : Numbers) (o : Option OffsetDateTime) �
 outcome_of bytes n None form minute made = made
 outcome_of bytes n (Some v) form minute made = direct-value bytes v (n, form, minute_stands n minute, made)
 
--- neither mark of a fraction
+-- no fraction without a point or a comma
 pub no_point : (s : List ℕ) → get_or s 0 0 ≢ 46 → get_or s 0 0 ≢ 44 → point s ≡ None
 unfolding point byte
 no_point [] dot comma = refl
 no_point (c ∷ s) dot comma = rw (byte_missing 46 c s dot, byte_missing 44 c s comma) refl
 
--- nothing
+-- no fraction in an empty text
 pub no_bytes : (s : List ℕ) → length s ≡ 0 → point s ≡ None
 unfolding point byte
 no_bytes [] e = refl
@@ -178,7 +178,7 @@ basic_bytes t h0 h1 n0 n1 s0 s1 after mark p0 p1 small q0 five q1 r0 six r1 none
       le-leb (two_digits s0 s1) 60 (omega (arith, six, r1)),
     ) refl
 
--- one byte more of what follows
+-- one more byte of the rest
 next : (s : List ℕ) (k : ℕ) (t : List ℕ) → k < length s → drop (k + 1) s ≡ t → drop k s ≡ get_or s k 0 ∷ t
 next s k t h e = drop_more s k 0 h ∙ ap (λ r. get_or s k 0 ∷ r) e
 
@@ -215,7 +215,7 @@ extended_time s long mark p0 p1 small colon q0 five q1 colon2 r0 six r1 none =
     ap (time_text true Extended) (first_nine s long)
     ∙ extended_bytes _ _ _ _ _ _ _ _ _ (drop 9 s) mark p0 p1 small colon q0 five q1 colon2 r0 six r1 none
 
--- without them
+-- `T` and a time up to the second, without separators
 pub basic_time : (s : List ℕ) → 7 ≤ length s → get_or s 0 0 ≡ 84 → IsDigit (get_or s 1 0) → IsDigit (get_or s 2 0)
     → two_digits (get_or s 1 0) (get_or s 2 0) ≤ 23
     → IsDigit (get_or s 3 0) → get_or s 3 0 ≤ 53 → IsDigit (get_or s 4 0)

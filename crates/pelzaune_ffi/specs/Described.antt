@@ -1,4 +1,4 @@
--- The descriptions that C gives as text.
+-- Descriptions that C passes as text.
 use Rattle.std.specs.Prelude.{◌≡◌, ℕ, nat_eq, List, Option, Some, None, Result, Ok, Err, unwrap_or, if◌then◌else◌, ◌⊎◌, ◌<◌, length, ◌+◌, [], ◌∷◌, map, take, Bool, true, false}
 use Rattle.time_values.specs.Calendar.{greatest_year}
 use Rattle.time_digits.specs.declared.Padding.{Padding}
@@ -29,14 +29,14 @@ use Rattle.pelzaune_ffi.specs.declared.descriptions.Syntax.TheVariants as syntax
 use Rattle.pelzaune_ffi.specs.declared.held.HeldDescription.{HeldDescription}
 use Rattle.pelzaune_ffi.specs.declared.steps.HeldStep.{HeldStep}
 
--- the syntax of that number, if one has it
+-- The syntax with this number, if there is one.
 abbrev pub syntax_of : ℕ → Option Syntax
 syntax_of number =
     if nat_eq number 1 then Some syntax.One else
     if nat_eq number 2 then Some syntax.Two else
     if nat_eq number 3 then Some syntax.Strftime else None
 
--- the tree that a text describes in a syntax, or why it describes none
+-- The tree that a text describes in a syntax, or the error with which it is rejected.
 abbrev pub IsDescribed : Syntax → List ℕ → Result Tree Refusal → Type 0
 IsDescribed syntax.One text (Ok tree) = Describes version.One text tree
 IsDescribed syntax.One text (Err e) = IsRefused MOST_STEPS version.One text e
@@ -45,7 +45,7 @@ IsDescribed syntax.Two text (Err e) = IsRefused MOST_STEPS version.Two text e
 IsDescribed syntax.Strftime text (Ok tree) = DescribesStrftime text tree
 IsDescribed syntax.Strftime text (Err e) = IsRefusedStrftime MOST_STEPS text e
 
--- the status of why a text is no description
+-- The status of a malformed description.
 abbrev pub fault_status : Refusal → ℕ
 fault_status (unclosed index) = 9
 fault_status (component_name name index) = 10
@@ -56,18 +56,18 @@ fault_status (expected_here what index) = 14
 fault_status (not_supported what context index) = 15
 fault_status too_long = 16
 
--- status 0 of a description; or the status of why a text is none, and there the index of its first fault
+-- Status 0 for a description; else the status of its first fault, and that fault's index, if it has one.
 abbrev pub IsChecked : Result Tree Refusal → ℕ → ℕ → ℕ → Type 0
 IsChecked (Ok tree) status old new = (status ≡ 0) × (new ≡ old)
 IsChecked (Err e) status old new = (status ≡ fault_status e) × (new ≡ unwrap_or (index_of e) old)
 
--- The description is checked in the syntax; or there is no such syntax, which has a status of its own.
+-- The description is checked in its syntax. An unknown syntax has a status of its own.
 abbrev pub Checks : Option Syntax → List ℕ → ℕ → ℕ → ℕ → Type 0
 Checks (Some s) description status old new =
     (described : Result Tree Refusal) × IsDescribed s description described × IsChecked described status old new
 Checks None description status old new = (status ≡ unknown_syntax) × (new ≡ old)
 
--- The text's answer by what is described is handed over; or the status of why nothing is described.
+-- The text is parsed by the described tree, and its result stored. A malformed description has its fault's status.
 abbrev pub HandsByTree : {V S : Type 0} → Handing V S → Answering V → Result Tree Refusal → List ℕ → ℕ → S → S
     → Type 0
 HandsByTree handing answers (Ok tree) text status old new =
@@ -75,7 +75,7 @@ HandsByTree handing answers (Ok tree) text status old new =
     status old new
 HandsByTree handing answers (Err e) text status old new = (status ≡ fault_status e) × (new ≡ old)
 
--- The same by a description in the syntax; or there is no such syntax, which has a status of its own.
+-- The text is parsed by a description in the syntax, and its result stored. An unknown syntax has a status of its own.
 abbrev pub HandsRead : {V S : Type 0} → Handing V S → Answering V → Option Syntax → List ℕ → List ℕ → ℕ → S → S
     → Type 0
 HandsRead handing answers (Some s) description text status old new =
@@ -83,9 +83,9 @@ HandsRead handing answers (Some s) description text status old new =
     × HandsByTree handing answers described text status old new
 HandsRead handing answers None description text status old new = (status ≡ unknown_syntax) × (new ≡ old)
 
--- ---- Descriptions that C holds: rows of steps, each of which is a few numbers. Any numbers are a step.
+-- ---- Stored descriptions: rows of steps, each a few numbers. Any numbers are a valid step.
 
--- the padding of a number, which is 0 for zeros
+-- The padding with this number. An unknown number is 0, padding with zeros.
 abbrev pub padding_of : ℕ → Padding
 padding_of number = if nat_eq number 1 then padding.Space else if nat_eq number 2 then padding.None else padding.Zero
 
@@ -94,7 +94,7 @@ padding_number padding.Zero = 0
 padding_number padding.Space = 1
 padding_number padding.None = 2
 
--- the digits of a number, which is 0 for one or more
+-- The digits with this number. An unknown number is 0, one or more digits.
 abbrev pub digits_of : ℕ → SubsecondDigits
 digits_of number =
     if nat_eq number 1 then digits.One else
@@ -119,7 +119,7 @@ digits_number digits.Seven = 7
 digits_number digits.Eight = 8
 digits_number digits.Nine = 9
 
--- what becomes of bytes that are left
+-- The treatment of trailing bytes with this number. An unknown number is 0, which prohibits them.
 abbrev pub trailing_of : ℕ → TrailingInput
 trailing_of number = if nat_eq number 1 then trailing.Discard else trailing.Prohibit
 
@@ -127,20 +127,20 @@ abbrev pub trailing_number : TrailingInput → ℕ
 trailing_number trailing.Prohibit = 0
 trailing_number trailing.Discard = 1
 
--- any number but 0 says yes
+-- A flag is set by any number but 0.
 abbrev pub is_set : ℕ → Bool
 is_set number = if nat_eq number 0 then false else true
 
--- the literal of the byte 0, which stands for what nothing else is
+-- The literal of byte 0, which an unknown kind means.
 abbrev pub nothing : Step
 nothing = step.Literal 0
 
--- what skips, and nothing where nothing is skipped
+-- The component that skips bytes. Skipping none is the literal of byte 0.
 abbrev pub skipping : Option Ignore → Step
 skipping None = nothing
 skipping (Some i) = step.Component (component.Ignore i)
 
--- what the numbers of a held step are by each kind, from 0
+-- The step that a stored step means under each kind, from kind 0.
 abbrev pub kinds : HeldStep → List Step
 kinds h =
     step.Literal h.choice
@@ -196,47 +196,47 @@ kinds h =
     ∷ step.Component (component.End (record { trailing_input = trailing_of h.choice }))
     ∷ []
 
--- the step of a kind, in a table that begins with that kind
+-- The row of a kind in a table whose first row has kind `first`.
 abbrev pub kind_in : List Step → ℕ → ℕ → Step
 kind_in [] first kind = nothing
 kind_in (row ∷ rows) first kind = if nat_eq kind first then row else kind_in rows (first + 1) kind
 
--- the step that is held
+-- The step that a stored step means.
 unfoldable pub step_of : HeldStep → Step
 step_of h = kind_in (kinds h) 0 h.kind
 
--- a step of that kind, with what is chosen of it
+-- A stored step of this kind, with a choice and a flag.
 abbrev pub chosen : ℕ → ℕ → Bool → HeldStep
 chosen kind choice flag = record { len = 0; count = 0; kind = kind; choice = choice; flag = if flag then 1 else 0 }
 
--- the steps of a held description: as many as it says, and no more than there are
+-- The steps of a stored description: the first `count`, or all where there are fewer.
 abbrev pub steps_of : HeldDescription → List Step
 steps_of h = map step_of (take h.count h.steps)
 
--- its tree
+-- The tree of a stored description.
 abbrev pub held_tree : HeldDescription → Tree
 held_tree h = steps_shape (steps_of h)
 
--- what is held has the tree; or the description has more steps than are held
+-- The stored description has the tree; or the description has more steps than fit.
 abbrev pub HasTree : Tree → ℕ → HeldDescription → HeldDescription → Type 0
 HasTree tree status old new =
     ((status ≡ 0) × (held_tree new ≡ tree))
     ⊎ ((status ≡ fault_status too_long) × (new ≡ old)
     × (steps : List Step) × (steps_shape steps ≡ tree) × (MOST_STEPS < length steps))
 
--- Status 0, and what is held has the tree; or the status of why a text is no description, and there the index of its
--- first fault.
+-- Status 0, and the stored description has the tree; else the status of the first fault, and that fault's index, if it
+-- has one.
 abbrev pub IsHeld : Result Tree Refusal → ℕ → HeldDescription → HeldDescription → ℕ → ℕ → Type 0
 IsHeld (Ok tree) status old new index new_index = HasTree tree status old new × (new_index ≡ index)
 IsHeld (Err e) status old new index new_index =
     (status ≡ fault_status e) × (new ≡ old) × (new_index ≡ unwrap_or (index_of e) index)
 
--- The description is held in the syntax; or there is no such syntax, which has a status of its own.
+-- The description is parsed in its syntax and stored. An unknown syntax has a status of its own.
 abbrev pub Holds : Option Syntax → List ℕ → ℕ → HeldDescription → HeldDescription → ℕ → ℕ → Type 0
 Holds (Some s) text status old new index new_index =
     (described : Result Tree Refusal) × IsDescribed s text described × IsHeld described status old new index new_index
 Holds None text status old new index new_index = (status ≡ unknown_syntax) × (new ≡ old) × (new_index ≡ index)
 
--- The text's answer by a held description is handed over.
+-- The text is parsed by a stored description, and its result stored.
 abbrev pub HandsHeld : {V S : Type 0} → Handing V S → Answering V → HeldDescription → List ℕ → ℕ → S → S → Type 0
 HandsHeld handing answers h text status old new = HandsByTree handing answers (Ok (held_tree h)) text status old new

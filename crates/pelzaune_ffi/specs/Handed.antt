@@ -1,4 +1,4 @@
--- What a call hands to C.
+-- What a call stores and returns to C.
 use Rattle.std.specs.Prelude.{◌≡◌, ◌⊎◌, ℕ, ℤ, ◌<◌, List, Option, Some, None, Result, Ok, Err, pos, neg_ℤ, ◌+ℤ◌, ◌*ℤ◌, nat_eq, if◌then◌else◌, ◌+◌, ◌*◌, length, codes, false}
 use Rattle.time_values.specs.Calendar.{IsBetween, greatest_year}
 use Rattle.time_values.specs.Dates as Dates
@@ -41,24 +41,24 @@ use Rattle.pelzaune_ffi.specs.declared.parts.Instant.{Instant}
 use Rattle.pelzaune_ffi.specs.declared.parts.Nanoseconds.{Nanoseconds}
 use Rattle.pelzaune_ffi.specs.declared.parts.Parts.{Parts}
 
--- the struct has the parts of the date
+-- The struct has the parts of the date.
 pub record HasDate (d : Date) (s : DateParts) : Type 0 where
   pub year : s.year ≡ Dates.year d
   pub month : s.month ≡ month_number (Dates.month d)
   pub day : s.day ≡ Dates.day d
 
--- of the time
+-- The struct has the parts of the time.
 pub record HasTime (t : Time) (s : TimeParts) : Type 0 where
   pub hour : s.hour ≡ Times.hour t
   pub minute : s.minute ≡ Times.minute t
   pub second : s.second ≡ Times.second t
   pub nanosecond : s.nanosecond ≡ Times.nanosecond t
 
--- of the offset
+-- The struct has the seconds of the offset.
 abbrev pub HasOffset : UtcOffset → OffsetParts → Type 0
 HasOffset o s = s.seconds ≡ Offsets.offset_seconds o
 
--- of the date and the time
+-- The struct has the parts of the date and the time.
 pub record HasLocal (d : Date) (t : Time) (s : LocalParts) : Type 0 where
   pub year : s.year ≡ Dates.year d
   pub month : s.month ≡ month_number (Dates.month d)
@@ -74,7 +74,7 @@ HasPlain p s = HasLocal (Moments.plain_date p) (Moments.plain_time p) s
 abbrev pub HasUtc : UtcDateTime → LocalParts → Type 0
 HasUtc u s = HasLocal (Moments.utc_date u) (Moments.utc_time u) s
 
--- of the date, the time and the offset
+-- The struct has the parts of the date, the time and the offset.
 pub record HasMoment (v : OffsetDateTime) (s : MomentParts) : Type 0 where
   pub year : s.year ≡ Dates.year (Moments.offset_date v)
   pub month : s.month ≡ month_number (Dates.month (Moments.offset_date v))
@@ -85,68 +85,70 @@ pub record HasMoment (v : OffsetDateTime) (s : MomentParts) : Type 0 where
   pub nanosecond : s.nanosecond ≡ Times.nanosecond (Moments.offset_time v)
   pub offset : s.offset ≡ Offsets.offset_seconds (Moments.offset_of v)
 
--- the seconds since 1970 and the nanoseconds after them are the instant of the moment
+-- The seconds since 1970-01-01T00:00:00Z and the nanoseconds after them are the moment's instant.
 pub record HasInstant (v : OffsetDateTime) (s : Instant) : Type 0 where
   pub instant : Moments.offset_instant greatest_year v ≡ s.seconds *ℤ pos 1_000_000_000 +ℤ pos s.nanoseconds
   pub below : s.nanoseconds < 1_000_000_000
 
--- the nanoseconds since 1970 are the instant of the moment
+-- The nanoseconds since 1970-01-01T00:00:00Z are the moment's instant.
 abbrev pub HasCount : OffsetDateTime → Nanoseconds → Type 0
 HasCount v s = s.count ≡ Moments.offset_instant greatest_year v
 
--- 64 bits count so many nanoseconds
+-- The number fits 64 bits with a sign.
 abbrev pub IsCounted : ℤ → Type 0
 IsCounted n = IsBetween (neg_ℤ (pos 9_223_372_036_854_775_808)) (pos 9_223_372_036_854_775_807) n
 
--- How C is handed an answer: which status the call returns, and what lies there before and after it.
+-- How a result is stored: the status that the call returns, and the struct before and after it.
 abbrev pub Handing : Type 0 → Type 0 → Type 1
 Handing V S = Result V Refusal → ℕ → S → S → Type 0
 
--- status 0 and the value's parts; or the status of the refusal, and there what was there
+-- Status 0 and the value's parts; or the error's status, and the struct is unchanged.
 abbrev pub IsHanded : {V S : Type 0} → (V → S → Type 0) → Handing V S
 IsHanded Has (Ok v) status old new = (status ≡ 0) × Has v new
 IsHanded Has (Err e) status old new = (status ≡ status_of e) × (new ≡ old)
 
--- the same of a moment's nanoseconds; where 64 bits don't count them, a status of its own
+-- Status 0 and the moment's nanoseconds, or the status of an instant that doesn't fit 64 bits; or the error's status,
+-- and the struct is unchanged.
 abbrev pub IsCountHanded : Handing OffsetDateTime Nanoseconds
 IsCountHanded (Ok v) status old new =
     ((status ≡ 0) × HasCount v new)
     ⊎ ((status ≡ too_wide) × (new ≡ old) × ¬ (IsCounted (Moments.offset_instant greatest_year v)))
 IsCountHanded (Err e) status old new = (status ≡ status_of e) × (new ≡ old)
 
--- the answer that the text has is handed over
+-- The result of a parse is stored.
 abbrev pub IsHandedOver : {V S : Type 0} → Handing V S → (Result V Refusal → Type 0) → ℕ → S → S → Type 0
 IsHandedOver {V} handing IsAnswer status old new =
     (answer : Result V Refusal) × IsAnswer answer × handing answer status old new
 
--- the date, the time and the offset to which a record resolves, each with a status of its own
+-- The date, the time and the offset to which a record resolves, each with a status of its own.
 pub record HasParts (r : Record) (old new : Parts) : Type 0 where
   pub date : IsHandedOver (IsHanded HasDate) (IsDated greatest_year r) new.date_status old.date new.date
   pub time : IsHandedOver (IsHanded HasTime) (IsTimed r) new.time_status old.time new.time
   pub offset : IsHandedOver (IsHanded HasOffset) (IsOffset r) new.offset_status old.offset new.offset
 
--- status 0 and the parts of the record; or the status of the refusal, and there what was there
+-- Status 0 and the parts of the record; or the error's status, and the struct is unchanged.
 abbrev pub ArePartsHanded : Handing Record Parts
 ArePartsHanded (Ok r) status old new = (status ≡ 0) × HasParts r old new
 ArePartsHanded (Err e) status old new = (status ≡ status_of e) × (new ≡ old)
 
--- How a type of value answers a text by a format: the format's path of moments, what it reads and what it refuses.
+-- The results that a text may have for a type of value: by the format's path for moments, what it parses and what it
+-- rejects.
 abbrev pub Answering : Type 0 → Type 1
 Answering V = Path → Reading → Refusing → List ℕ → Result V Refusal → Type 0
 
--- by the outcome of the text, without defaults
+-- The outcome of the text, without defaults.
 abbrev pub over_empty : {V : Type 0} → Resolving V → Answering V
 over_empty resolves path reads refuses text answer = IsOutcome resolves reads refuses text empty answer
 
--- by the record of the text
+-- The record of the whole text.
 abbrev pub of_record : Answering Record
 of_record path reads refuses text answer = IsWhole reads refuses text empty answer
 
--- a moment by the format's own path
+-- The moment of the text, by the format's own path.
 abbrev pub of_moment : Answering OffsetDateTime
 of_moment path reads refuses text answer = IsMomentOutcome greatest_year path reads refuses text None answer
 
--- The text's answer by a format is handed over; or there is no such format, which has a status of its own.
+-- The text is parsed by the format, and its result stored. An unknown format has a status of its own.
 abbrev pub HandsBy : {V S : Type 0} → Handing V S → Answering V → Option Format → List ℕ → ℕ → S → S → Type 0
 HandsBy handing answers (Some Rfc3339) text status old new =
     IsHandedOver handing
@@ -162,78 +164,79 @@ HandsBy handing answers (Some Iso8601) text status old new =
     status old new
 HandsBy handing answers None text status old new = (status ≡ unknown_format) × (new ≡ old)
 
--- of a value's parts
+-- The parts of the text's value are stored.
 abbrev pub Hands : {V S : Type 0} → (V → S → Type 0) → Answering V → Option Format → List ℕ → ℕ → S → S → Type 0
 Hands Has answers format text status old new = HandsBy (IsHanded Has) answers format text status old new
 
--- of a moment's nanoseconds
+-- The nanoseconds of the text's moment are stored.
 abbrev pub HandsCount : Option Format → List ℕ → ℕ → Nanoseconds → Nanoseconds → Type 0
 HandsCount format text status old new = HandsBy IsCountHanded of_moment format text status old new
 
--- of the parts of a text
+-- The date, time and offset of the text are stored.
 abbrev pub HandsParts : Option Format → List ℕ → ℕ → Parts → Parts → Type 0
 HandsParts format text status old new = HandsBy ArePartsHanded of_record format text status old new
 
--- ---- The formats that C names by a number
+-- ---- The formats by their numbers
 
--- the format of that number, if one has it
+-- The format with this number, if there is one.
 abbrev pub format_of : ℕ → Option Format
 format_of number =
     if nat_eq number 1 then Some Rfc3339 else
     if nat_eq number 2 then Some Rfc2822 else
     if nat_eq number 3 then Some Iso8601 else None
 
--- ---- The texts of moments, as C is handed them
+-- ---- Moments as text
 
--- the refusal of a number that is no month's
+-- The error of a number that isn't a month's.
 abbrev pub month_refusal : ℕ → Option Refusal
 month_refusal n = if nat_eq n 0 then Some (range (codes "month") false) else Month.month_refusal n
 
--- the first of two refusals
+-- The first of two errors.
 abbrev pub first_refusal : Option Refusal → Option Refusal → Option Refusal
 first_refusal (Some e) later = Some e
 first_refusal None later = later
 
--- the first part of a date that is out of its range: the month, the year or the day
+-- The error of a date, if it has one: its month, its year or its day is out of range.
 abbrev pub date_refusal : MomentParts → Option Refusal
 date_refusal s = first_refusal (month_refusal s.month) (calendar_date_refusal greatest_year s.year s.month s.day)
 
--- the first part of a date and time: after those the hour, the minute, the second or the nanosecond
+-- The error of a date and time: after those of the date its hour, minute, second or nanosecond.
 abbrev pub local_refusal : MomentParts → Option Refusal
 local_refusal s = first_refusal (date_refusal s) (time_refusal s.hour s.minute s.second s.nanosecond)
 
--- the first part of a moment: after those the offset
+-- The error of a moment: after those of the date and time its offset.
 abbrev pub moment_refusal : MomentParts → Option Refusal
 moment_refusal s = first_refusal (local_refusal s) (whole_offset_refusal s.offset)
 
--- the date has the parts
+-- The date has these parts.
 abbrev pub IsDateOf : MomentParts → Date → Type 0
 IsDateOf s d = (s.year ≡ Dates.year d) × (s.month ≡ month_number (Dates.month d)) × (s.day ≡ Dates.day d)
 
--- the date and time have them
+-- The date and time have these parts.
 abbrev pub IsLocalOf : MomentParts → PlainDateTime → Type 0
 IsLocalOf s p = IsDateOf s (plain_date p) × Times.HasClock s.hour s.minute s.second s.nanosecond (plain_time p)
 
--- the reason why a moment has no text in a format
+-- Why a format can't write the moment, if it can't.
 abbrev pub reason_of : Format → OffsetDateTime → Option Unwritable
 reason_of Rfc3339 v = unwritable_3339 v
 reason_of Rfc2822 v = unwritable_2822 v
 reason_of Iso8601 v = unwritable_3339 v
 
--- its text there: by RFC 3339 the digits of a fraction up to the last that is not 0, by ISO 8601 all nine
+-- The text of a moment in a format. RFC 3339 has the digits of a fraction up to the last that isn't 0, ISO 8601 all
+-- nine.
 abbrev pub IsTextOf : Format → OffsetDateTime → List ℕ → Type 0
 IsTextOf Rfc3339 v bytes = bytes ≡ moment_text (significant 9 (nanosecond (offset_time v))) v
 IsTextOf Rfc2822 v bytes = IsMailText v bytes
 IsTextOf Iso8601 v bytes = bytes ≡ moment_text 9 v
 
--- the status of such a reason
+-- The status of a moment that a format can't write.
 abbrev pub unwritable_status : Unwritable → ℕ
 unwritable_status Year = 18 + 256 * component_number (codes "year")
 unwritable_status OffsetHour = 18 + 256 * component_number (codes "offset hour")
 unwritable_status OffsetSecond = 18 + 256 * component_number (codes "offset second")
 
--- Status 0, the text over the front of the buffer, and how long it is; or the status of why it has none, and then both
--- are unchanged.
+-- Status 0, the text over the start of the buffer, and its length; or the status of the part that the format can't
+-- write, and both are unchanged.
 abbrev pub HandsTextOf : Format → Option Unwritable → OffsetDateTime → ℕ → List ℕ → List ℕ → ℕ → ℕ → Type 0
 HandsTextOf format None v status buffer new_buffer count new_count =
     (bytes : List ℕ) × IsTextOf format v bytes × (status ≡ 0) × (new_buffer ≡ laid_over bytes buffer)
@@ -241,7 +244,7 @@ HandsTextOf format None v status buffer new_buffer count new_count =
 HandsTextOf format (Some why) v status buffer new_buffer count new_count =
     (status ≡ unwritable_status why) × (new_buffer ≡ buffer) × (new_count ≡ count)
 
--- The same of the moment that has these parts; or the status of the first that is out of its range.
+-- The text of the moment with these parts is stored; or the status of the first part that is out of range.
 abbrev pub HandsMomentText : Format → Option Refusal → MomentParts → ℕ → List ℕ → List ℕ → ℕ → ℕ → Type 0
 HandsMomentText format None s status buffer new_buffer count new_count =
     (v : OffsetDateTime) × HasMoment v s
@@ -249,7 +252,7 @@ HandsMomentText format None s status buffer new_buffer count new_count =
 HandsMomentText format (Some e) s status buffer new_buffer count new_count =
     (status ≡ status_of e) × (new_buffer ≡ buffer) × (new_count ≡ count)
 
--- The same by the format, or there is no such format, which has a status of its own.
+-- The text is written in the format. An unknown format has a status of its own.
 abbrev pub HandsText : Option Format → MomentParts → ℕ → List ℕ → List ℕ → ℕ → ℕ → Type 0
 HandsText (Some format) s status buffer new_buffer count new_count =
     HandsMomentText format (moment_refusal s) s status buffer new_buffer count new_count

@@ -1,12 +1,12 @@
 -- No public contract rests on this file.
 --
--- The front of a text of ISO 8601.
+-- The date and time at the start of a text of ISO 8601.
 use Rattle.std.specs.Prelude.{◌≡◌, ℕ, List, true, Some, Ok}
 use Rattle.time_readers.specs.IsoDates.{date_text, iso_date}
 use Rattle.time_readers.specs.IsoTimes.{time_text}
 use Rattle.pelzaune_ffi.specs.declared.moments.fast.iso8601.Front.{Front}
 
--- the text begins with that date, and after it that time, before the rest
+-- The text starts with that date, and after it that time, before the rest.
 abbrev pub IsFront : List ℕ → Front → Type 0
 IsFront text f =
     (between : List ℕ)

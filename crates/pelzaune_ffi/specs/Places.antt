@@ -1,4 +1,4 @@
--- Where a text goes wrong, as C is handed it.
+-- Where a rejected text fails.
 use Rattle.std.specs.Prelude.{◌≡◌, ℕ, List, [], ◌∷◌, Option, Some, None, Result, Ok, Err}
 use Rattle.time_values.specs.Calendar.{greatest_year}
 use Rattle.time_values.specs.Refusal as refusals
@@ -23,36 +23,36 @@ use Rattle.pelzaune_ffi.specs.declared.status.Format.{Format}
 use Rattle.pelzaune_ffi.specs.declared.status.Format.TheVariants.{Rfc3339, Rfc2822, Iso8601}
 use Rattle.pelzaune_ffi.specs.declared.locating.Place.{Place}
 
--- what was expected, as a refusal names it
+-- What was expected, as an error names it.
 abbrev pub wanted_refusal : Wanted → refusals.Refusal
 wanted_refusal (these_bytes text) = refusals.literal
 wanted_refusal (named name) = refusals.component name
 wanted_refusal the_end = refusals.trailing
 
--- the first byte, or 0
+-- The first byte, or 0.
 abbrev pub first_of : List ℕ → ℕ
 first_of [] = 0
 first_of (b ∷ text) = b
 
--- the byte of a literal that was expected: the first of what is told
+-- The first byte of the literal that was expected, or 0 where a component or the end was.
 abbrev pub wanted_byte : Wanted → ℕ
 wanted_byte (these_bytes text) = first_of text
 wanted_byte (named name) = 0
 wanted_byte the_end = 0
 
--- status 0 of a text that is read whole; or the status of what was expected, and where
+-- Status 0 for a text that is parsed whole; else the status of what was expected, and where.
 abbrev pub IsPlaceHanded : Option Located → ℕ → Place → Place → Type 0
 IsPlaceHanded None status old new = (status ≡ 0) × (new ≡ old)
 IsPlaceHanded (Some at) status old new =
     (status ≡ status_of (wanted_refusal (wants at.expected)))
     × (new ≡ record { index = at.index; byte = wanted_byte (wants at.expected) })
 
--- The place of the text, by what a format reads and locates, is handed over.
+-- The location of the text's error, by what a format parses and locates, is stored.
 abbrev pub LocatesBy : Reading → Locating → List ℕ → ℕ → Place → Place → Type 0
 LocatesBy reads locates text status old new =
     (answer : Option Located) × IsLocated reads locates text empty answer × IsPlaceHanded answer status old new
 
--- The same by the format. A number that no format has has none.
+-- The location by the format is stored. An unknown format has a status of its own.
 abbrev pub HandsPlace : Option Format → List ℕ → ℕ → Place → Place → Type 0
 HandsPlace (Some Rfc3339) text status old new =
     LocatesBy (rfc3339.Reads greatest_year) places_3339.Locates text status old new
@@ -62,13 +62,13 @@ HandsPlace (Some Iso8601) text status old new =
     LocatesBy (iso8601.Reads greatest_year) (places_8601.Locates greatest_year) text status old new
 HandsPlace None text status old new = (status ≡ unknown_format) × (new ≡ old)
 
--- The same by what is described; or the status of why nothing is.
+-- The location by the described tree is stored. A malformed description has its fault's status.
 abbrev pub HandsPlaceByTree : Result Tree Refusal → List ℕ → ℕ → Place → Place → Type 0
 HandsPlaceByTree (Ok tree) text status old new =
     LocatesBy (Reads greatest_year tree) (LocatesTree greatest_year first_byte tree) text status old new
 HandsPlaceByTree (Err e) text status old new = (status ≡ fault_status e) × (new ≡ old)
 
--- The same by a description in the syntax; or there is no such syntax, which has a status of its own.
+-- The location by a description in the syntax is stored. An unknown syntax has a status of its own.
 abbrev pub HandsReadPlace : Option Syntax → List ℕ → List ℕ → ℕ → Place → Place → Type 0
 HandsReadPlace (Some s) description text status old new =
     (described : Result Tree Refusal) × IsDescribed s description described

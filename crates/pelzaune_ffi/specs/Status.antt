@@ -1,11 +1,11 @@
--- The numbers by which C knows a refusal, and what each says.
+-- The numbers of statuses, and their texts.
 use Rattle.std.specs.Prelude.{ℕ, ◌+◌, ◌*◌, ◌/◌, ◌%◌, List, [], ◌∷◌, ◌++◌, length, take, drop, nat_eq, codes, true, false, if◌then◌else◌, ◌≡◌}
 use Rattle.std.specs.Borrow.{Bor}
 use Rattle.std.specs.List.{flat_map}
 use Rattle.std.specs.Str.{bytes_eq}
 use Rattle.time_values.specs.Refusal.{Refusal, literal, component, trailing, insufficient, range, refusal_text}
 
--- the components that a refusal names, by their numbers from 1
+-- The components that errors name, numbered from 1.
 abbrev pub component_names : List (List ℕ)
 component_names =
     codes "year"
@@ -33,12 +33,12 @@ component_names =
     ∷ codes "ignore"
     ∷ []
 
--- the number of a name in a table that begins with that number, and 0 where the name isn't there
+-- The number of a name in a table whose first row has that number, or 0 where the name isn't in it.
 abbrev pub number_in : List (List ℕ) → ℕ → List ℕ → ℕ
 number_in [] first name = 0
 number_in (row ∷ rows) first name = if bytes_eq name row then first else number_in rows (first + 1) name
 
--- and the name of a number, which is empty where the number isn't there
+-- The name of a number in such a table, or an empty text where the number isn't in it.
 abbrev pub name_in : List (List ℕ) → ℕ → ℕ → List ℕ
 name_in [] first number = []
 name_in (row ∷ rows) first number = if nat_eq number first then row else name_in rows (first + 1) number
@@ -49,7 +49,7 @@ component_number name = number_in component_names 1 name
 abbrev pub component_name : ℕ → List ℕ
 component_name number = name_in component_names 1 number
 
--- the status of each refusal: the number of its kind, and 256 times that of the component that it names
+-- The status of an error: the number of its kind, and 256 times the number of the component that it names.
 abbrev pub status_of : Refusal → ℕ
 status_of literal = 1
 status_of (component name) = 2 + 256 * component_number name
@@ -58,19 +58,19 @@ status_of insufficient = 4
 status_of (range name false) = 5 + 256 * component_number name
 status_of (range name true) = 6 + 256 * component_number name
 
--- 64 bits don't count the nanoseconds of the instant
+-- The status of an instant whose nanoseconds don't fit 64 bits.
 abbrev pub too_wide : ℕ
 too_wide = 7
 
--- no format has that number
+-- The status of an unknown format's number.
 abbrev pub unknown_format : ℕ
 unknown_format = 8
 
--- no syntax of descriptions has that number
+-- The status of an unknown syntax's number.
 abbrev pub unknown_syntax : ℕ
 unknown_syntax = 17
 
--- what a kind says of a component's name: of a refusal its text
+-- The text of a status of this kind that names that component. For a parse error it is the error's text.
 abbrev pub kind_text : ℕ → List ℕ → List ℕ
 kind_text kind name =
     if nat_eq kind 1 then refusal_text literal else
@@ -93,30 +93,30 @@ kind_text kind name =
     if nat_eq kind 18 then codes "the '" ++ name ++ codes "' component has no text in that format" else
     []
 
--- what a status says
+-- The text of a status.
 abbrev pub status_text : ℕ → List ℕ
 status_text status = kind_text (status % 256) (component_name (status / 256))
 
--- the text of pieces that stand one after another
+-- The concatenation of pieces.
 abbrev pub text_of : List (Bor (List ℕ)) → List ℕ
 text_of pieces = flat_map (λ piece. piece.now) pieces
 
--- a buffer after a text was laid over its front, as far as the buffer goes
+-- A buffer after a text was written over its start, truncated to the buffer's length.
 abbrev pub laid_over : List ℕ → List ℕ → List ℕ
 laid_over text buffer = take (length buffer) text ++ drop (length text) buffer
 
--- ---- What is said of statuses
+-- ---- The law of the statuses' texts
 
--- the status of a refusal says what the refusal does
+-- The text of the error's status is the error's text.
 abbrev pub Tells : Refusal → Type 0
 Tells e = status_text (status_of e) ≡ refusal_text e
 
--- so do those of the refusals that name one of the components
+-- So it is for each error that names one of the components.
 abbrev pub EachTells : List (List ℕ) → Type 0
 EachTells [] = Unit {0}
 EachTells (name ∷ names) =
     (Tells (component name) × Tells (range name false) × Tells (range name true)) × EachTells names
 
--- so it is with each refusal that names no component, or one of the table
+-- So it is for each error that names no component, or a component of the table.
 abbrev pub StatusesTell : Type 0
 StatusesTell = Tells literal × Tells trailing × Tells insufficient × EachTells component_names

@@ -18,16 +18,16 @@ use crate::parts::Nanoseconds;
 use crate::status::UNKNOWN_SYNTAX;
 use time_preparing::Prepared;
 
-// What hands over the nanoseconds of a line.
+// Stores the nanoseconds of a line's moment.
 trait Count {
-    // The status, and the entry before and after it.
+    // The status that the call returns, and the entry before and after it.
     ghost hands: { Self → Counting };
 
-    // Hands them over.
+    // Stores them in `entry` and returns the status.
     fn count_line(&self, line: &[u8], entry: &mut Nanoseconds) -> u32
         ensures { hands self.now line.now result entry.old entry.new };
 
-    // Hands those of the first line of a text over, and answers what comes after the line, too.
+    // Stores those of the first line of a text. Also returns the bytes after that line.
     #[inline(always)]
     fn count_first<'a>(&self, text: &'a [u8], entry: &mut Nanoseconds) -> (u32, &'a [u8])
         requires { 0 < length text.now }
@@ -38,7 +38,7 @@ trait Count {
     }
 }
 
-// By the format of that number.
+// By a format's number.
 #[derive(Clone, Copy)]
 struct ByNumber(u32);
 
@@ -56,7 +56,7 @@ impl Count for ByNumber {
     }
 }
 
-// By a description that is prepared.
+// By a prepared description.
 impl Count for Prepared<MOST_STEPS> {
     ghost hands = { λ s. by_tree (steps_shape s) };
 
@@ -66,7 +66,7 @@ impl Count for Prepared<MOST_STEPS> {
     }
 }
 
-// By nothing, for the reason of that status.
+// Rejects every line with this status.
 #[derive(Clone, Copy)]
 struct Refusing(u32);
 
@@ -79,7 +79,7 @@ impl Count for Refusing {
     }
 }
 
-// 1 for a refusal.
+// 1 for the status of an error, else 0.
 #[inline(always)]
 fn one_if_refused(status: u32) -> usize
     ensures one { result ≡ spec.one_if_refused status }
@@ -88,7 +88,7 @@ fn one_if_refused(status: u32) -> usize
     usize::from(status != 0)
 }
 
-// Hands over the lines of a text, as many as there are entries, and answers how many the text has.
+// Stores the nanoseconds of each line that has an entry, and returns how many lines the text has.
 #[inline(always)]
 fn column<C: Count>(
     counting: &C,
@@ -114,11 +114,14 @@ fn column<C: Count>(
     index + count_lines(rest)
 }
 
-/// Parses each line of a text by the format of that number, into the nanoseconds from 1970-01-01T00:00:00Z to its instant:
-/// as many lines as there are entries. The entry of a line that is refused is `i64::MIN`, and `refused` is how many of
-/// these lines are. An entry that has no line is unchanged. The answer is how many lines the text has.
+/// Parses each line of a text by the format with this number, and stores the nanoseconds from 1970-01-01T00:00:00Z to
+/// its instant in the entry at the line's index. Returns how many lines the text has, which may be more than there are
+/// entries.
 ///
-/// A line ends with LF, which the last one may lack, and is parsed as [`count_by`] does.
+/// The entry of a rejected line becomes `i64::MIN`, and `refused` the number of those entries. An entry without a line
+/// is unchanged.
+///
+/// A line ends with LF, which is optional after the last one, and is parsed as by [`count_by`].
 #[inline(always)]
 pub fn column_by(
     format: u32,
@@ -133,7 +136,7 @@ pub fn column_by(
     column(&ByNumber(format), text, entries, refused)
 }
 
-// The same by a description.
+// As [`column_by`], by a description that is parsed once.
 fn described_column(
     syntax: Syntax,
     description: &[u8],
@@ -151,8 +154,8 @@ fn described_column(
     }
 }
 
-/// The same by a description in the syntax of that number, which is read once. A text that describes nothing has each
-/// line refused.
+/// As [`column_by`], by a description in the syntax with this number, which is parsed once. A malformed description or
+/// an unknown syntax rejects each line.
 #[inline(always)]
 pub fn column_read(
     syntax: u32,
@@ -171,7 +174,7 @@ pub fn column_read(
     }
 }
 
-/// The same by a description that is held, which is prepared once.
+/// As [`column_by`], by a stored description, which is prepared once.
 #[inline(always)]
 pub fn column_held(
     description: &HeldDescription,

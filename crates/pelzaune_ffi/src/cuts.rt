@@ -1,4 +1,4 @@
-//! Cuts a text into lines.
+//! Splits a text into lines.
 mod fast;
 
 ghost use Rattle.std.specs.Prelude.{◌≡◌, ◌∷◌, ◌+◌, ◌<◌, ◌≤◌, [], length, take, drop, MatchOption};
@@ -7,7 +7,7 @@ ghost use Rattle.pelzaune_ffi.specs.Columns.{IsFirstLine};
 
 use memchr::memchr;
 
-// Where the first line of a text ends with LF. `None`: the line is all of the text.
+// The index of the LF that ends the first line of a text. `None`: the whole text is one line.
 #[inline(always)]
 fn line_end(text: &[u8]) -> Option<usize>
     requires { 0 < length text.now }
@@ -20,7 +20,7 @@ fn line_end(text: &[u8]) -> Option<usize>
     }
 }
 
-/// The first line of a text that isn't empty, and what comes after its LF.
+/// The first line of a non-empty text, and the bytes after its LF.
 #[inline]
 pub fn first_line(bytes: &[u8]) -> (&[u8], &[u8])
     requires { 0 < length bytes.now }

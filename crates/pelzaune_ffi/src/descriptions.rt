@@ -1,4 +1,4 @@
-//! Descriptions that C gives as text.
+//! Descriptions that C passes as text.
 ghost use Rattle.std.specs.Prelude.{◌≡◌, Ok, Err, IfOk, IfErr};
 ghost use Rattle.time_descriptions.specs.Description.{shape};
 ghost use Rattle.time_descriptions.specs.Refusal.{refusal_of};
@@ -8,21 +8,22 @@ ghost use Rattle.pelzaune_ffi.specs.Described.{Checks, IsDescribed};
 use crate::status::{TOO_LONG, UNKNOWN_SYNTAX};
 use time_descriptions::{Description, InvalidFormatDescription, parse_borrowed, parse_strftime};
 
-/// The most steps that a description may have. One in brackets of so many bytes has room.
+/// The most steps of a description that a call from C accepts. A description in brackets of at most this many bytes
+/// fits.
 pub const MOST_STEPS: usize = 64;
 
-/// How a description is written.
+/// The syntax of a description.
 #[derive(Clone, Copy)]
 pub enum Syntax {
-    /// In brackets, version 1, in which `[[` stands for a bracket.
+    /// In brackets, version 1, in which `[[` is a literal bracket.
     One,
-    /// In brackets, version 2, in which `\[` does.
+    /// In brackets, version 2, in which `\[` is a literal bracket.
     Two,
-    /// As strftime has it.
+    /// With a `%` before each conversion, as in strftime.
     Strftime,
 }
 
-/// The syntax of that number, if one has it.
+/// The syntax with this number, or `None`.
 pub fn syntax_of(number: u32) -> Option<Syntax>
     ensures { result ≡ Described.syntax_of number }
 {
@@ -34,7 +35,7 @@ pub fn syntax_of(number: u32) -> Option<Syntax>
     }
 }
 
-/// Reads a description in a syntax.
+/// Parses a description in a syntax.
 pub fn read_description(
     syntax: Syntax,
     text: &[u8],
@@ -49,7 +50,7 @@ pub fn read_description(
     }
 }
 
-/// The status of why a text is no description.
+/// The status of a malformed description.
 #[cold]
 pub fn fault_status(error: InvalidFormatDescription<'_>) -> u32
     ensures { result ≡ Described.fault_status (refusal_of error.entry) }
@@ -66,7 +67,8 @@ pub fn fault_status(error: InvalidFormatDescription<'_>) -> u32
     }
 }
 
-/// The status of a description in the syntax of that number: 0, or why it is none, and then the index of its first fault.
+/// Checks a description in the syntax with this number. Returns 0, or the status of its first fault and stores that
+/// fault's index, if it has one.
 pub fn check(syntax: u32, description: &[u8], index: &mut usize) -> u32
     ensures { Checks (Described.syntax_of syntax) description.now result index.old index.new }
 {

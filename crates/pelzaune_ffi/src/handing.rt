@@ -1,4 +1,4 @@
-//! The outcomes of parses, as C is handed them.
+//! The results of parses, as structs and statuses of C.
 ghost use Rattle.std.specs.Prelude.{Ok, Result};
 ghost use Rattle.time_values.specs.declared.error.TryFromParsed.{TryFromParsed as TryFromParsed_};
 ghost use Rattle.time_record.specs.Resolution.{parsed_seen};
@@ -17,7 +17,7 @@ use time_record::Parsed;
 use time_values::error::TryFromParsed;
 use time_values::{Date, OffsetDateTime, Time, UtcOffset};
 
-/// Hands over the value of a text.
+/// Parses a text and stores its value in `out`. Returns 0, or the error's status and leaves `out` unchanged.
 #[inline(always)]
 pub fn hand<V: Target, P: From<V> + Copy, F: Parsable>(format: &F, text: &[u8], out: &mut P) -> u32
     ensures { IsHandedOver (IsHanded P.from_gives)
@@ -32,7 +32,7 @@ pub fn hand<V: Target, P: From<V> + Copy, F: Parsable>(format: &F, text: &[u8], 
     }
 }
 
-/// Hands over the value of a text by the format of that number.
+/// As [`hand`], by the format with this number.
 #[inline(always)]
 pub fn hand_by<V: Target, P: From<V> + Copy>(format: u32, text: &[u8], out: &mut P) -> u32
     ensures { Hands P.from_gives V.outcome (Formats.format_of format) text.now result out.old out.new }
@@ -45,7 +45,7 @@ pub fn hand_by<V: Target, P: From<V> + Copy>(format: u32, text: &[u8], out: &mut
     }
 }
 
-/// Hands over the nanoseconds of a moment.
+/// Stores the nanoseconds of a moment. Returns 0, or [`TOO_WIDE`] where 64 bits can't hold them.
 #[inline(always)]
 pub fn hand_count(value: OffsetDateTime, out: &mut Nanoseconds) -> u32
     ensures { IsCountHanded (Ok value) result out.old out.new }
@@ -59,7 +59,7 @@ pub fn hand_count(value: OffsetDateTime, out: &mut Nanoseconds) -> u32
     }
 }
 
-/// Hands over the nanoseconds of a text's moment.
+/// Parses a text and stores the nanoseconds of its moment.
 #[inline(always)]
 pub fn count<F: Parsable>(format: &F, text: &[u8], out: &mut Nanoseconds) -> u32
     ensures { IsHandedOver IsCountHanded
@@ -71,7 +71,7 @@ pub fn count<F: Parsable>(format: &F, text: &[u8], out: &mut Nanoseconds) -> u32
     }
 }
 
-// Hands over the value of a record.
+// Resolves a record and stores the value.
 #[inline(always)]
 fn resolve<V: TryFrom<Parsed, Error = TryFromParsed> + Drop, P: From<V> + Copy>(
     parsed: &Parsed,
@@ -89,7 +89,7 @@ fn resolve<V: TryFrom<Parsed, Error = TryFromParsed> + Drop, P: From<V> + Copy>(
     }
 }
 
-/// Hands over the parts of a text.
+/// Parses a text and stores its date, time and offset, each with a status of its own.
 #[inline(always)]
 pub fn parts<F: Parsable>(format: &F, text: &[u8], out: &mut Parts) -> u32
     ensures { IsHandedOver ArePartsHanded
@@ -106,7 +106,7 @@ pub fn parts<F: Parsable>(format: &F, text: &[u8], out: &mut Parts) -> u32
     }
 }
 
-/// Hands over the parts of a text by the format of that number.
+/// As [`parts`], by the format with this number.
 #[inline(always)]
 pub fn parts_by(format: u32, text: &[u8], out: &mut Parts) -> u32
     ensures { HandsParts (Formats.format_of format) text.now result out.old out.new }
@@ -119,7 +119,7 @@ pub fn parts_by(format: u32, text: &[u8], out: &mut Parts) -> u32
     }
 }
 
-/// Hands over the value of a text by a description in the syntax of that number.
+/// As [`hand`], by a description in the syntax with this number.
 pub fn hand_read<V: Target, P: From<V> + Copy>(
     syntax: u32,
     description: &[u8],
@@ -134,7 +134,7 @@ pub fn hand_read<V: Target, P: From<V> + Copy>(
     })
 }
 
-/// Hands over the nanoseconds of the moment of a text by a description in the syntax of that number.
+/// As [`count`], by a description in the syntax with this number.
 pub fn count_read(syntax: u32, description: &[u8], text: &[u8], out: &mut Nanoseconds) -> u32
     ensures { HandsRead IsCountHanded of_moment (Described.syntax_of syntax) description.now text.now
         result out.old out.new }
@@ -142,7 +142,7 @@ pub fn count_read(syntax: u32, description: &[u8], text: &[u8], out: &mut Nanose
     by_description!(syntax, description, found => count(&found, text, out))
 }
 
-/// Hands over the parts of a text by a description in the syntax of that number.
+/// As [`parts`], by a description in the syntax with this number.
 pub fn parts_read(syntax: u32, description: &[u8], text: &[u8], out: &mut Parts) -> u32
     ensures { HandsRead ArePartsHanded of_record (Described.syntax_of syntax) description.now text.now
         result out.old out.new }

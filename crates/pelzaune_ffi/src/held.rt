@@ -1,4 +1,4 @@
-//! Descriptions that C holds by value: they are read once, and then parse many texts.
+//! Descriptions that C stores by value: they are parsed once, and then parse many texts.
 mod fast;
 
 ghost use Rattle.std.specs.Prelude.{◌≡◌, ◌⊎◌, ◌-◌, ◌<◌, ◌≤◌, [], Ok, Err, MatchResult, true, false, length, map};
@@ -26,17 +26,17 @@ use time_record::Parsed;
 use time_values::error::{Parse, ParseFromDescription, TryFromParsed};
 use time_values::{Date, OffsetDateTime, PlainDateTime, Time};
 
-/// A description, as C holds it.
+/// A description, in the layout of C.
 #[repr(C)]
 #[derive(Clone, Copy)]
 pub struct HeldDescription {
-    /// How many steps it has; a greater number than there are says that all are.
+    /// The number of its steps. A number above the array's length counts as that length.
     pub count: usize,
-    /// The steps, in the order of the text.
+    /// The steps, in the order of the description.
     pub steps: [HeldStep; MOST_STEPS],
 }
 
-// Steps, as the walk over a description takes them.
+// The stored steps, converted for the walk over a description.
 fn steps_of(held: &[HeldStep]) -> ArrayVec<Step, MOST_STEPS>
     requires { length held.now ≤ MOST_STEPS }
     ensures { result.items ≡ map Described.step_of held.now }
@@ -48,7 +48,7 @@ fn steps_of(held: &[HeldStep]) -> ArrayVec<Step, MOST_STEPS>
     steps
 }
 
-// Holds steps, if there is room for all of them.
+// Stores the steps. `false`: there are more than fit, and nothing is stored.
 fn hold(steps: &[Step], held: &mut HeldDescription) -> bool
     ensures yes { result ≡ true → Described.steps_of held.new ≡ steps.now }
     ensures no { result ≡ false → (held.new ≡ held.old) × (MOST_STEPS < length steps.now) }
@@ -63,7 +63,7 @@ fn hold(steps: &[Step], held: &mut HeldDescription) -> bool
     true
 }
 
-// Reads steps one after the other, and answers those from the first on that isn't read here, and the rest.
+// Parses steps one after another. Returns the steps from the first that has no fast path here, and the unread bytes.
 #[inline(always)]
 fn read_front<'s, 'a>(
     steps: &'s [HeldStep],
@@ -86,7 +86,7 @@ fn read_front<'s, 'a>(
     (left, rest)
 }
 
-// The steps that are held.
+// The steps in use.
 #[inline(always)]
 fn held_steps(held: &HeldDescription) -> &[HeldStep]
     ensures steps { map Described.step_of result.now ≡ Described.steps_of held.now }
@@ -95,7 +95,7 @@ fn held_steps(held: &HeldDescription) -> &[HeldStep]
     &held.steps[..held.count.min(MOST_STEPS)]
 }
 
-/// The description, prepared for many texts.
+/// The stored description, prepared for many texts.
 pub fn prepare(held: &HeldDescription) -> Prepared<MOST_STEPS>
     ensures { result ≡ Described.steps_of held.now }
 {
@@ -105,7 +105,8 @@ pub fn prepare(held: &HeldDescription) -> Prepared<MOST_STEPS>
     }
 }
 
-// Reads what is left by the walk over the steps of a description. The room for them is taken here alone.
+// Parses by the remaining steps with the walk over a description. Not inlined, so that only this call takes the stack
+// for the converted steps.
 #[inline(never)]
 fn read_left<'a>(
     left: &[HeldStep],
@@ -118,7 +119,7 @@ fn read_left<'a>(
     parsed.parse_steps(input, steps_of(left).as_slice())
 }
 
-// Reads a front of the input over the record, and answers the unread rest. After a refusal the record is as it was.
+// Parses a prefix of the input into the record, and returns the unread rest. An error restores the record.
 fn read_held<'a>(
     held: &HeldDescription,
     parsed: &mut Parsed,
@@ -140,7 +141,7 @@ fn read_held<'a>(
     }
 }
 
-// The value of the whole input, read over a record that begins with the defaults.
+// The value of the whole input, which is parsed into a record that starts with the defaults.
 #[inline(always)]
 fn over_record<V: TryFrom<Parsed, Error = TryFromParsed> + Drop>(
     held: &HeldDescription,
@@ -229,8 +230,9 @@ impl Parsable for HeldDescription {
     ghost exact_path = { λ _. tt };
 }
 
-/// Holds the description of a text in the syntax of that number: the status is 0, or says why the text describes nothing,
-/// and then `index` is that of its first fault, if the fault has a place.
+/// Parses a description in the syntax with this number and stores it in `out`. Returns 0, or the status of its first
+/// fault and stores that fault's index, if it has one. A description of more than [`MOST_STEPS`] steps has the status
+/// [`TOO_LONG`].
 #[inline(always)]
 pub fn describe(syntax: u32, text: &[u8], out: &mut HeldDescription, index: &mut usize) -> u32
     ensures { Holds (Described.syntax_of syntax) text.now result out.old out.new index.old index.new }

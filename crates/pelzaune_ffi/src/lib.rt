@@ -1,9 +1,10 @@
-//! Hands the outcomes of parses over in the form of C: plain structs, and numbers of statuses.
+//! Returns the results of parses to C: plain structs, and the numbers of statuses.
 //!
-//! The crate `pelzaune` exports these functions, and a caller in Rattle reads by them what C reads.
+//! The crate `pelzaune` exports these functions. A caller in Rattle gets from them what C gets.
 #![tactic(auto)]
 
-// What is made of the description of a text in the syntax of that number; or the status of why it describes nothing.
+// Evaluates the expression with the description that a text has in the syntax with this number, or returns the status
+// of its fault.
 macro_rules! by_description {
     ($syntax:ident, $text:ident, $description:ident => $made:expr) => {
         match syntax_of($syntax) {

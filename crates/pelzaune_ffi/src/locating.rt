@@ -1,4 +1,4 @@
-//! Where a text that is refused goes wrong.
+//! The byte at which a rejected text fails.
 ghost use Rattle.std.specs.Prelude.{◌≡◌};
 ghost use Rattle.pelzaune_ffi.specs.Described as Described;
 ghost use Rattle.pelzaune_ffi.specs.Handed as Formats;
@@ -10,17 +10,17 @@ use time_locating::{Expected, Locate, Located};
 use time_parsing::{Iso8601, Rfc2822, Rfc3339};
 use time_values::error::ParseFromDescription;
 
-/// Where a text goes wrong.
+/// Where a text fails, in the layout of C.
 #[repr(C)]
 #[derive(Clone, Copy)]
 pub struct Place {
-    /// The index in the text at which what was expected should stand. It is the length where the text is too short.
+    /// The index in the text of the part that was expected, or the text's length where the text is too short.
     pub index: usize,
-    /// The byte of a literal that was expected there, and 0 where it was none.
+    /// The first byte of the literal that was expected there, or 0 where none was.
     pub byte: u8,
 }
 
-// The first byte of these, or 0.
+// The first of these bytes, or 0.
 fn first_of(bytes: &[u8]) -> u8
     ensures { result ≡ first_of bytes.now }
 {
@@ -30,7 +30,7 @@ fn first_of(bytes: &[u8]) -> u8
     }
 }
 
-// Hands over a place.
+// Stores a location, and returns the status of what was expected there, or 0.
 fn hand_place(answer: Option<Located<'_>>, out: &mut Place) -> u32
     ensures { IsPlaceHanded answer.entry result out.old out.new }
 {
@@ -49,15 +49,15 @@ fn hand_place(answer: Option<Located<'_>>, out: &mut Place) -> u32
     status_of_description(refusal)
 }
 
-// Hands over the place at which a text that the format refuses goes wrong.
+// Locates the error of a text that the format rejects.
 fn locate<F: Locate>(format: &F, text: &[u8], out: &mut Place) -> u32
     ensures { LocatesBy (F.reads format.now) (F.locates format.now) text.now result out.old out.new }
 {
     hand_place(format.locate(text, None), out)
 }
 
-/// Writes to `out` where a text that the format of that number rejects goes wrong. The status says what was expected there,
-/// as that of a parse does. It is 0 where the format reads the whole text, and then `out` is unchanged.
+/// Writes to `out` where a text fails that the format with this number rejects. Returns the status of what was expected
+/// there, numbered as by a parse. Where the format parses the whole text, returns 0 and leaves `out` unchanged.
 #[inline(always)]
 pub fn locate_by(format: u32, text: &[u8], out: &mut Place) -> u32
     ensures { HandsPlace (Formats.format_of format) text.now result out.old out.new }
@@ -70,8 +70,8 @@ pub fn locate_by(format: u32, text: &[u8], out: &mut Place) -> u32
     }
 }
 
-/// The same by a description in the syntax of that number. A malformed description has the status that
-/// [`check`](crate::descriptions::check) gives it, and `out` is unchanged.
+/// As [`locate_by`], by a description in the syntax with this number. A malformed description has the status that
+/// [`check`](crate::descriptions::check) returns, and leaves `out` unchanged.
 #[inline(always)]
 pub fn locate_read(syntax: u32, description: &[u8], text: &[u8], out: &mut Place) -> u32
     ensures { HandsReadPlace (Described.syntax_of syntax) description.now text.now result out.old out.new }

@@ -1,7 +1,7 @@
-//! Moments, as C is handed them by a format.
+//! Moments, dates and times by a format's number.
 //!
-//! The commonest texts of RFC 3339 are read where they are handed over (`fast`). Any other is parsed by the library, in a
-//! function of its own, so that it leaves the short cut its registers.
+//! A fast path (`fast`) parses the commonest texts without a call. Any other text is parsed by the library in a
+//! function that isn't inlined, so that it leaves the fast path its registers.
 mod fast;
 
 ghost use Rattle.std.specs.Prelude.{◌<◌, Some, length};
@@ -19,7 +19,7 @@ use crate::status::{Format, UNKNOWN_FORMAT, format_of, status_of};
 use time_parsing::{Iso8601, Parsable, Rfc2822, Rfc3339};
 use time_values::{OffsetDateTime, PlainDateTime};
 
-// Hands over the parts of a moment of RFC 3339.
+// Stores the parts of a moment of RFC 3339.
 #[inline(never)]
 fn moment_3339<P: From<OffsetDateTime> + Copy>(text: &[u8], out: &mut P) -> u32
     ensures { Hands P.from_gives of_moment (Some rfc3339) text.now result out.old out.new }
@@ -33,7 +33,7 @@ fn moment_3339<P: From<OffsetDateTime> + Copy>(text: &[u8], out: &mut P) -> u32
     }
 }
 
-// Hands over the parts of a mail date's moment.
+// Stores the parts of a mail date's moment.
 #[inline(never)]
 fn moment_2822<P: From<OffsetDateTime> + Copy>(text: &[u8], out: &mut P) -> u32
     ensures { Hands P.from_gives of_moment (Some rfc2822) text.now result out.old out.new }
@@ -47,7 +47,7 @@ fn moment_2822<P: From<OffsetDateTime> + Copy>(text: &[u8], out: &mut P) -> u32
     }
 }
 
-// Hands over the parts of a moment of ISO 8601.
+// Stores the parts of a moment of ISO 8601.
 #[inline(never)]
 fn moment_8601<P: From<OffsetDateTime> + Copy>(text: &[u8], out: &mut P) -> u32
     ensures { Hands P.from_gives of_moment (Some iso8601) text.now result out.old out.new }
@@ -61,7 +61,7 @@ fn moment_8601<P: From<OffsetDateTime> + Copy>(text: &[u8], out: &mut P) -> u32
     }
 }
 
-// Hands over the parts of a text's moment.
+// Stores the parts of a text's moment.
 #[inline(never)]
 fn parsed_moment<P: From<OffsetDateTime> + Copy, F: Parsable>(
     format: &F,
@@ -80,7 +80,8 @@ fn parsed_moment<P: From<OffsetDateTime> + Copy, F: Parsable>(
     }
 }
 
-/// Hands over the parts of a text's moment by the format of that number.
+/// Parses a text by the format with this number and stores the parts of its moment. Returns 0, or the error's status
+/// and leaves `out` unchanged.
 #[inline(always)]
 pub fn moment_by<P: From<OffsetDateTime> + Copy>(format: u32, text: &[u8], out: &mut P) -> u32
     ensures { Hands P.from_gives of_moment (Formats.format_of format) text.now result out.old out.new }
@@ -93,7 +94,7 @@ pub fn moment_by<P: From<OffsetDateTime> + Copy>(format: u32, text: &[u8], out: 
     }
 }
 
-// Hands over the nanoseconds of a moment of RFC 3339.
+// Stores the nanoseconds of a moment of RFC 3339.
 #[inline(never)]
 fn count_3339(text: &[u8], out: &mut Nanoseconds) -> u32
     ensures { HandsCount (Some rfc3339) text.now result out.old out.new }
@@ -104,7 +105,7 @@ fn count_3339(text: &[u8], out: &mut Nanoseconds) -> u32
     }
 }
 
-// Hands over the nanoseconds of a mail date's moment.
+// Stores the nanoseconds of a mail date's moment.
 #[inline(never)]
 fn count_2822(text: &[u8], out: &mut Nanoseconds) -> u32
     ensures { HandsCount (Some rfc2822) text.now result out.old out.new }
@@ -115,7 +116,7 @@ fn count_2822(text: &[u8], out: &mut Nanoseconds) -> u32
     }
 }
 
-// Hands over the nanoseconds of a moment of ISO 8601.
+// Stores the nanoseconds of a moment of ISO 8601.
 #[inline(never)]
 fn count_8601(text: &[u8], out: &mut Nanoseconds) -> u32
     ensures { HandsCount (Some iso8601) text.now result out.old out.new }
@@ -126,7 +127,7 @@ fn count_8601(text: &[u8], out: &mut Nanoseconds) -> u32
     }
 }
 
-// Hands over the nanoseconds of a text's moment.
+// Stores the nanoseconds of a text's moment.
 #[inline(never)]
 fn parsed_count<F: Parsable>(format: &F, text: &[u8], out: &mut Nanoseconds) -> u32
     ensures { IsHandedOver IsCountHanded
@@ -135,7 +136,8 @@ fn parsed_count<F: Parsable>(format: &F, text: &[u8], out: &mut Nanoseconds) -> 
     count(format, text, out)
 }
 
-/// Hands over the nanoseconds of a text's moment by the format of that number.
+/// Parses a text by the format with this number and stores the nanoseconds of its moment. Returns 0, or the error's
+/// status and leaves `out` unchanged.
 #[inline(always)]
 pub fn count_by(format: u32, text: &[u8], out: &mut Nanoseconds) -> u32
     ensures { HandsCount (Formats.format_of format) text.now result out.old out.new }
@@ -148,7 +150,7 @@ pub fn count_by(format: u32, text: &[u8], out: &mut Nanoseconds) -> u32
     }
 }
 
-// Hands over the nanoseconds of the moment of RFC 3339 that a text's first line is, which is cut off first.
+// Splits off the first line of a text, and stores the nanoseconds of its moment of RFC 3339.
 #[inline(never)]
 fn count_cut_3339<'a>(text: &'a [u8], out: &mut Nanoseconds) -> (u32, &'a [u8])
     requires { 0 < length text.now }
@@ -158,7 +160,7 @@ fn count_cut_3339<'a>(text: &'a [u8], out: &mut Nanoseconds) -> (u32, &'a [u8])
     (parsed_count(&Rfc3339, line, out), after)
 }
 
-// The same, from the front of the text where it is read there.
+// As [`count_cut_3339`], without splitting where the fast path parses the start of the text.
 #[inline(always)]
 fn count_first_3339<'a>(text: &'a [u8], out: &mut Nanoseconds) -> (u32, &'a [u8])
     requires { 0 < length text.now }
@@ -170,8 +172,8 @@ fn count_first_3339<'a>(text: &'a [u8], out: &mut Nanoseconds) -> (u32, &'a [u8]
     }
 }
 
-/// Hands over the nanoseconds of the moment of a text's first line by the format of that number, and answers what comes
-/// after the line, too.
+/// Stores the nanoseconds of the moment of a text's first line, by the format with this number. Also returns the bytes
+/// after that line.
 #[inline(always)]
 pub(crate) fn count_first_by<'a>(
     format: u32,
@@ -190,7 +192,7 @@ pub(crate) fn count_first_by<'a>(
     }
 }
 
-// Hands over the parts of a date and time of ISO 8601.
+// Stores the parts of a date and time of ISO 8601.
 #[inline(never)]
 fn local_8601(text: &[u8], out: &mut LocalParts) -> u32
     ensures { Hands HasPlain (over_empty (IsPlain greatest_year)) (Some iso8601) text.now result out.old out.new }
@@ -204,7 +206,7 @@ fn local_8601(text: &[u8], out: &mut LocalParts) -> u32
     }
 }
 
-// Hands over the parts of a text's date and time.
+// Stores the parts of a text's date and time.
 #[inline(never)]
 fn parsed_local<F: Parsable>(format: &F, text: &[u8], out: &mut LocalParts) -> u32
     ensures { IsHandedOver (IsHanded HasPlain) (over_empty (IsPlain greatest_year) (F.path format.now)
@@ -213,7 +215,8 @@ fn parsed_local<F: Parsable>(format: &F, text: &[u8], out: &mut LocalParts) -> u
     hand::<PlainDateTime, LocalParts, F>(format, text, out)
 }
 
-/// Hands over the parts of a text's date and time, whatever its offset, by the format of that number.
+/// Parses a text by the format with this number and stores the parts of its date and time. An offset is parsed and
+/// dropped.
 #[inline(always)]
 pub fn local_by(format: u32, text: &[u8], out: &mut LocalParts) -> u32
     ensures { Hands HasPlain (over_empty (IsPlain greatest_year)) (Formats.format_of format) text.now

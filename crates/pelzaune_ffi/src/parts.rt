@@ -1,4 +1,4 @@
-//! What C is handed of a value.
+//! Plain structs with the parts of values, in the layout of C.
 ghost use Rattle.std.specs.Prelude.{MatchOption};
 ghost use Rattle.time_values.specs.Moments.{offset_instant};
 ghost use Rattle.time_values.specs.Calendar.{greatest_year};
@@ -32,11 +32,11 @@ pub struct TimeParts {
     pub second: u8,
 }
 
-/// An offset as one number.
+/// An offset from UTC as one number.
 #[repr(C)]
 #[derive(Clone, Copy)]
 pub struct OffsetParts {
-    /// How far a clock is ahead of UTC, -93599 to 93599.
+    /// Seconds ahead of UTC, -93599 to 93599.
     pub seconds: i32,
 }
 
@@ -68,7 +68,7 @@ pub struct MomentParts {
     pub year: i32,
     /// 0 to 999999999.
     pub nanosecond: u32,
-    /// How many seconds the clock is ahead of UTC, -93599 to 93599.
+    /// Seconds ahead of UTC, -93599 to 93599.
     pub offset: i32,
     /// 1 to 12.
     pub month: u8,
@@ -82,7 +82,7 @@ pub struct MomentParts {
     pub second: u8,
 }
 
-/// An instant, by the time since 1970-01-01T00:00:00Z.
+/// An instant, as the time since 1970-01-01T00:00:00Z.
 #[repr(C)]
 #[derive(Clone, Copy)]
 pub struct Instant {
@@ -92,7 +92,7 @@ pub struct Instant {
     pub nanoseconds: u32,
 }
 
-/// An instant, by the nanoseconds since 1970-01-01T00:00:00Z.
+/// An instant, as the nanoseconds since 1970-01-01T00:00:00Z.
 #[repr(C)]
 #[derive(Clone, Copy)]
 pub struct Nanoseconds {
@@ -100,7 +100,7 @@ pub struct Nanoseconds {
     pub count: i64,
 }
 
-/// The date, the time and the offset of a text, where it has them.
+/// The date, the time and the offset of a text. A part is set where its status is 0.
 #[repr(C)]
 #[derive(Clone, Copy)]
 pub struct Parts {
@@ -110,11 +110,11 @@ pub struct Parts {
     pub time: TimeParts,
     /// The offset.
     pub offset: OffsetParts,
-    /// 0, or the status of why the text has no date.
+    /// 0, or the status of the error with which the date is rejected.
     pub date_status: u32,
-    /// 0, or the status of why the text has no time.
+    /// 0, or the status of the error with which the time is rejected.
     pub time_status: u32,
-    /// 0, or the status of why the text has no offset.
+    /// 0, or the status of the error with which the offset is rejected.
     pub offset_status: u32,
 }
 
@@ -156,7 +156,7 @@ impl From<UtcOffset> for OffsetParts {
     }
 }
 
-// The parts of both.
+// The parts of a date and a time.
 #[inline]
 fn local_parts(date: Date, time: Time) -> LocalParts
     ensures { Handed.HasLocal date time result }
@@ -212,7 +212,7 @@ impl From<OffsetDateTime> for MomentParts {
 impl From<OffsetDateTime> for Instant {
     ghost from_gives = { Handed.HasInstant };
 
-    // The seconds are rounded down, and an offset is whole seconds: so what is left is what the clock shows.
+    // An offset has whole seconds, so the local time's nanosecond is the one after the rounded-down seconds.
     #[inline]
     fn from(value: OffsetDateTime) -> Instant {
         Instant {
@@ -222,7 +222,7 @@ impl From<OffsetDateTime> for Instant {
     }
 }
 
-/// The nanoseconds of a moment's instant, where 64 bits count them.
+/// The nanoseconds from 1970-01-01T00:00:00Z to a moment's instant. `None`: 64 bits can't hold them.
 #[inline]
 pub fn nanoseconds_of(value: OffsetDateTime) -> Option<Nanoseconds>
     ensures { MatchOption result (¬ (Handed.IsCounted (offset_instant greatest_year value)))

@@ -1,4 +1,4 @@
-//! The numbers of refusals and of formats.
+//! The numbers of statuses and of formats.
 ghost use Rattle.std.specs.Prelude.{◌≡◌};
 ghost use Rattle.time_values.specs.Refusal.{refusal_of, refusal_of_description, refusal_of_range};
 ghost use Rattle.pelzaune_ffi.specs.Status as Status;
@@ -7,19 +7,19 @@ ghost use Rattle.pelzaune_ffi.specs.Status.{StatusesTell};
 
 use time_values::error::{ComponentRange, Parse, ParseFromDescription, TryFromParsed};
 
-/// The status of an instant whose nanoseconds 64 bits don't count.
+/// The status of an instant whose nanoseconds don't fit 64 bits.
 pub const TOO_WIDE: u32 = 7;
 
-/// The status of a number that no format has.
+/// The status of an unknown format's number.
 pub const UNKNOWN_FORMAT: u32 = 8;
 
-/// The status of a description that has too many steps.
+/// The status of a description with too many steps.
 pub const TOO_LONG: u32 = 16;
 
-/// The status of a number that no syntax of descriptions has.
+/// The status of an unknown syntax's number.
 pub const UNKNOWN_SYNTAX: u32 = 17;
 
-// The number of a component's name, and 0 for any other.
+// The number of a component's name, or 0 for any other name.
 fn component_number(name: &str) -> u32
     ensures { result ≡ Status.component_number name.now }
 {
@@ -51,7 +51,7 @@ fn component_number(name: &str) -> u32
     }
 }
 
-/// The status of what a text can't be read for.
+/// The status of an error of a parse by a description.
 pub fn status_of_description(error: ParseFromDescription) -> u32
     ensures { result ≡ Status.status_of (refusal_of_description error) }
 {
@@ -62,7 +62,7 @@ pub fn status_of_description(error: ParseFromDescription) -> u32
     }
 }
 
-/// The status of a part that is out of its range.
+/// The status of a component that is out of its range.
 pub fn status_of_range(error: ComponentRange) -> u32
     ensures { result ≡ Status.status_of (refusal_of_range error) }
 {
@@ -74,7 +74,7 @@ pub fn status_of_range(error: ComponentRange) -> u32
     }
 }
 
-/// The status of a refusal.
+/// The status of any error of a parse.
 #[cold]
 #[inline(never)]
 pub fn status_of(error: Parse) -> u32
@@ -87,7 +87,7 @@ pub fn status_of(error: Parse) -> u32
     }
 }
 
-/// A format that has a number.
+/// A named format.
 #[derive(Clone, Copy)]
 pub enum Format {
     /// RFC 3339, section 5.6.
@@ -98,7 +98,7 @@ pub enum Format {
     Iso8601,
 }
 
-/// The format of that number, if one has it.
+/// The format with this number, or `None`.
 #[inline]
 pub fn format_of(number: u32) -> Option<Format>
     ensures { result ≡ Formats.format_of number }
@@ -111,7 +111,7 @@ pub fn format_of(number: u32) -> Option<Format>
     }
 }
 
-/// The status of a refusal says what the refusal does, whichever component of the table it names.
+/// The status's text is the error's text, for each component of the table.
 pub fn law_status_texts()
     ensures { StatusesTell }
 {}

@@ -1,4 +1,4 @@
-//! The steps of descriptions, as C holds them: a few numbers each, of which any are a step.
+//! The steps of stored descriptions, each as a few numbers. Any numbers are a valid step.
 ghost use Rattle.std.specs.Prelude.{◌≡◌};
 ghost use Rattle.time_components.specs.declared.inspect.Step.TheVariants as step;
 ghost use Rattle.time_descriptions.specs.Values.{ignored};
@@ -8,23 +8,24 @@ use std::num::NonZero;
 use time_components::modifier::{self, SubsecondDigits, TrailingInput};
 use time_components::{Component, Group, Padding, Step};
 
-/// A step of a description, as C holds it.
+/// A step of a description, in the layout of C.
 #[repr(C)]
 #[derive(Clone, Copy)]
 pub struct HeldStep {
-    /// Of a group, how many of the steps after it are in it.
+    /// For a group: how many of the following steps are in it.
     pub len: usize,
-    /// Of bytes that are skipped, how many they are.
+    /// For skipped bytes: how many.
     pub count: u16,
-    /// The number of what it is.
+    /// The number of the step's kind.
     pub kind: u8,
-    /// The byte of a literal, or the number of a component's padding, or of what else is chosen of it.
+    /// The byte of a literal, or the number of the component's padding, digits, half of the day or treatment of
+    /// trailing bytes.
     pub choice: u8,
-    /// 0, or what a component asks for by yes or no.
+    /// The component's modifier of yes or no: 0 is no.
     pub flag: u8,
 }
 
-// The padding of that number. A number that none has is that of zeros.
+// The padding with this number. An unknown number is padding with zeros.
 fn padding_of(number: u8) -> Padding
     ensures { result ≡ Held.padding_of number }
 {
@@ -46,7 +47,7 @@ fn padding_number(padding: Padding) -> u8
     }
 }
 
-// The digits of that number. A number that none have is that of one or more.
+// The digits with this number. An unknown number is one or more.
 fn digits_of(number: u8) -> SubsecondDigits
     ensures { result ≡ Held.digits_of number }
 {
@@ -64,7 +65,7 @@ fn digits_of(number: u8) -> SubsecondDigits
     }
 }
 
-// The number of the digits.
+// The number of these digits.
 fn digits_number(digits: SubsecondDigits) -> u8
     ensures { result ≡ Held.digits_number digits }
 {
@@ -82,7 +83,7 @@ fn digits_number(digits: SubsecondDigits) -> u8
     }
 }
 
-// What becomes of bytes that are left, by its number.
+// The treatment of trailing bytes with this number. An unknown number prohibits them.
 fn trailing_of(number: u8) -> TrailingInput
     ensures { result ≡ Held.trailing_of number }
 {
@@ -92,7 +93,7 @@ fn trailing_of(number: u8) -> TrailingInput
     }
 }
 
-// Its number.
+// The number of this treatment.
 fn trailing_number(trailing: TrailingInput) -> u8
     ensures { result ≡ Held.trailing_number trailing }
 {
@@ -102,7 +103,7 @@ fn trailing_number(trailing: TrailingInput) -> u8
     }
 }
 
-// What skips so many bytes. To skip none is a literal of the byte 0, as what no kind has is.
+// The step that skips this many bytes. Skipping none is the literal of byte 0, as is any unknown kind.
 fn skipping(count: u16) -> Step
     ensures { result ≡ Held.skipping (ignored count) }
 {
@@ -112,7 +113,7 @@ fn skipping(count: u16) -> Step
     }
 }
 
-// A component of that kind, with what is chosen of it.
+// The stored step of this kind, with a choice and a flag.
 fn chosen(kind: u8, choice: u8, flag: bool) -> HeldStep
     ensures { result ≡ Held.chosen kind choice flag }
 {
@@ -125,7 +126,7 @@ fn chosen(kind: u8, choice: u8, flag: bool) -> HeldStep
     }
 }
 
-// Each form of a component, as a step of what is held, and held by its number.
+// Each macro converts the components of one form: `step` from the stored step, and `held` to it.
 
 // A padding.
 macro_rules! padded {
@@ -156,7 +157,7 @@ macro_rules! signed {
     };
 }
 
-// What is asked for by yes or no alone: a sign, that letters have their case, or that days count from 1.
+// One modifier of yes or no: a mandatory sign, case sensitivity, or days that count from 1.
 macro_rules! flagged {
     (step $name:ident, $held:ident, $padding:ident, $flag:ident, $asked:ident) => {
         Step::Component(Component::$name(modifier::$name { $asked: $flag }))
@@ -195,7 +196,7 @@ macro_rules! fractional {
     };
 }
 
-// Bytes that are skipped.
+// How many bytes are skipped.
 macro_rules! skipped {
     (step $name:ident, $held:ident, $padding:ident, $flag:ident) => {
         skipping($held.count)
@@ -208,7 +209,7 @@ macro_rules! skipped {
     };
 }
 
-// What becomes of bytes that are left.
+// The treatment of trailing bytes.
 macro_rules! ended {
     (step $name:ident, $held:ident, $padding:ident, $flag:ident) => {
         Step::Component(Component::$name(modifier::$name {
@@ -265,7 +266,7 @@ macro_rules! components {
     };
 }
 
-// The step of what is held.
+// Converts a stored step by its kind.
 macro_rules! step_of_each {
     ($held:ident $padding:ident $flag:ident; $($kind:literal $name:ident $form:ident $(($asked:ident))?),+) => {
         match $held.kind {
@@ -280,7 +281,7 @@ macro_rules! step_of_each {
     };
 }
 
-// What is held of a component.
+// Converts a component by its variant.
 macro_rules! held_of_each {
     ($component:ident; $($kind:literal $name:ident $form:ident $(($asked:ident))?),+) => {
         match $component {
@@ -289,7 +290,7 @@ macro_rules! held_of_each {
     };
 }
 
-/// The step that is held.
+/// The step that these numbers encode.
 #[inline]
 #[tactic(auto, unfolding(crate::specs::Described::step_of))]
 pub fn step_of(held: HeldStep) -> Step
@@ -300,7 +301,7 @@ pub fn step_of(held: HeldStep) -> Step
     components!(step_of_each held padding flag)
 }
 
-// The component, held.
+// The stored step of a component.
 #[tactic(auto, using(crate::proofs::HeldRows::padding_back, crate::proofs::HeldRows::digits_back, crate::proofs::HeldRows::trailing_back, crate::proofs::HeldRows::flag_back, crate::proofs::HeldRows::skips), unfolding(crate::specs::Described::step_of))]
 fn held_component(component: Component) -> HeldStep
     ensures { Held.step_of result ≡ step.Component component }
@@ -308,7 +309,7 @@ fn held_component(component: Component) -> HeldStep
     components!(held_of_each component)
 }
 
-// The group of so many steps, held.
+// The stored step of a group with this many steps in it.
 #[tactic(auto, unfolding(crate::specs::Described::step_of))]
 fn held_group(group: Group, len: usize) -> HeldStep
     ensures { Held.step_of result ≡ step.Group group len }
@@ -324,7 +325,7 @@ fn held_group(group: Group, len: usize) -> HeldStep
     }
 }
 
-/// The step, held.
+/// The stored step that [`step_of`] converts back to this step.
 #[tactic(auto, unfolding(crate::specs::Described::step_of))]
 pub fn held_step(step: Step) -> HeldStep
     ensures { Held.step_of result ≡ step }

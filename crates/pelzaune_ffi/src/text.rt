@@ -2,7 +2,7 @@
 ghost use Rattle.std.specs.Prelude.{◌≡◌, ◌≤◌, length};
 ghost use Rattle.pelzaune_ffi.specs.Status as Status;
 
-// The name of the component of that number, and nothing for any other.
+// The name of the component with this number, or an empty text.
 fn component_name(number: u32) -> &'static str
     ensures name { result.now ≡ Status.component_name number }
     ensures bound { length result.now ≤ 16 }
@@ -35,7 +35,7 @@ fn component_name(number: u32) -> &'static str
     }
 }
 
-/// What a status says, in three pieces: the middle one is the name of its component.
+/// The text of a status, in three pieces. The middle one is the component's name.
 pub fn pieces_of(status: u32) -> [&'static str; 3]
     ensures text { Status.text_of result ≡ Status.status_text status }
     ensures bound { length (Status.status_text status) ≤ 128 }
@@ -76,7 +76,7 @@ pub fn pieces_of(status: u32) -> [&'static str; 3]
     }
 }
 
-/// Lays bytes over the front of the buffer, as far as it goes.
+/// Writes bytes over the start of the buffer, truncated to the buffer's length.
 pub fn lay_bytes(bytes: &[u8], buffer: &mut [u8])
     ensures { buffer.new ≡ Status.laid_over bytes.now buffer.old }
 {
@@ -84,7 +84,7 @@ pub fn lay_bytes(bytes: &[u8], buffer: &mut [u8])
     buffer[..count].copy_from_slice(&bytes[..count]);
 }
 
-/// Lays the pieces one after another over the front of the buffer, as far as it goes.
+/// Writes the pieces one after another over the start of the buffer, truncated to the buffer's length.
 pub fn lay(pieces: &[&str], buffer: &mut [u8])
     ensures { buffer.new ≡ Status.laid_over (Status.text_of pieces.now) buffer.old }
 {

@@ -1,4 +1,4 @@
-//! The texts of moments.
+//! Writes moments as text.
 ghost use Rattle.std.specs.Prelude.{◌≡◌, length};
 ghost use Rattle.time_values.specs.Names.{month_number};
 ghost use Rattle.time_values.specs.Refusal.{Constructs};
@@ -14,7 +14,7 @@ use time_values::error::ComponentRange;
 use time_values::{Date, Month, OffsetDateTime, PlainDateTime, Time, UtcOffset};
 use time_writing::{FractionDigits, Text, Unwritable, text_2822, text_3339, text_8601};
 
-// The month of that number.
+// The month with this number.
 fn month_of(number: u8) -> Result<Month, ComponentRange>
     ensures { Constructs (month_refusal number) (λ m. month_number m ≡ number) result }
 {
@@ -27,7 +27,7 @@ fn month_of(number: u8) -> Result<Month, ComponentRange>
     }
 }
 
-// The date of these parts, or the first that is out of its range.
+// The date with these parts, or the error of the first that is out of range.
 fn date_of(parts: &MomentParts) -> Result<Date, ComponentRange>
     ensures { Constructs (date_refusal parts.now) (λ d. IsDateOf parts.now d) result }
 {
@@ -35,7 +35,7 @@ fn date_of(parts: &MomentParts) -> Result<Date, ComponentRange>
     Date::from_calendar_date(parts.year, month, parts.day)
 }
 
-// The date and time of these parts, or the first that is out of its range.
+// The date and time with these parts, or the error of the first that is out of range.
 fn local_of(parts: &MomentParts) -> Result<PlainDateTime, ComponentRange>
     ensures { Constructs (local_refusal parts.now) (λ p. IsLocalOf parts.now p) result }
 {
@@ -44,7 +44,7 @@ fn local_of(parts: &MomentParts) -> Result<PlainDateTime, ComponentRange>
     Ok(PlainDateTime::new(date, time))
 }
 
-// The moment of these parts, or the first that is out of its range.
+// The moment with these parts, or the error of the first that is out of range.
 fn moment_of(parts: &MomentParts) -> Result<OffsetDateTime, ComponentRange>
     ensures { Constructs (moment_refusal parts.now) (λ v. HasMoment v parts.now) result }
 {
@@ -53,7 +53,7 @@ fn moment_of(parts: &MomentParts) -> Result<OffsetDateTime, ComponentRange>
     Ok(local.assume_offset(offset))
 }
 
-// The text of a moment by a format.
+// The text of a moment in a format.
 fn text_of(format: Format, value: OffsetDateTime) -> Result<Text, Unwritable>
     ensures { WritesSuch (reason_of format value) (IsTextOf format value) result }
 {
@@ -64,7 +64,7 @@ fn text_of(format: Format, value: OffsetDateTime) -> Result<Text, Unwritable>
     }
 }
 
-// The status of why a moment has no text.
+// The status of a moment that has no text in a format.
 fn unwritable_status(why: Unwritable) -> u32
     ensures { result ≡ Formats.unwritable_status why }
 {
@@ -75,7 +75,7 @@ fn unwritable_status(why: Unwritable) -> u32
     }
 }
 
-// Writes the text of a moment, or tells why it has none.
+// Writes the text of a moment, or returns the status of the part that its format can't write.
 fn write_value(format: Format, value: OffsetDateTime, buffer: &mut [u8], count: &mut usize) -> u32
     ensures { HandsTextOf format (reason_of format value) value result buffer.old buffer.new count.old count.new }
 {
@@ -89,7 +89,7 @@ fn write_value(format: Format, value: OffsetDateTime, buffer: &mut [u8], count: 
     }
 }
 
-// Writes the text of the moment of these parts, or tells which is out of its range.
+// Writes the text of the moment with these parts, or returns the status of the first that is out of range.
 fn write_moment(format: Format, parts: &MomentParts, buffer: &mut [u8], count: &mut usize) -> u32
     ensures { HandsMomentText format (moment_refusal parts.now) parts.now result
         buffer.old buffer.new count.old count.new }
@@ -100,9 +100,11 @@ fn write_moment(format: Format, parts: &MomentParts, buffer: &mut [u8], count: &
     }
 }
 
-/// Writes the text of a moment by the format of that number over the front of the buffer, as far as the buffer goes;
-/// `count` is how many bytes the whole text has. On any other status than 0 both are unchanged: a part is out of its
-/// range, the moment has no text in that format, or no format has that number.
+/// Writes the text of a moment, in the format with this number, over the start of the buffer, truncated to the buffer's
+/// length. Stores the length of the whole text in `count`.
+///
+/// Returns 0, or the status of the error and leaves both unchanged: a part is out of range, the format can't write the
+/// moment, or no format has this number.
 #[inline(always)]
 pub fn format_moment(format: u32, moment: &MomentParts, buffer: &mut [u8], count: &mut usize) -> u32
     ensures { HandsText (Formats.format_of format) moment.now result buffer.old buffer.new count.old count.new }

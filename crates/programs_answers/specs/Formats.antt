@@ -1,10 +1,11 @@
 -- The formats and targets that a line may name.
-use Rattle.std.specs.Prelude.{ℕ, List, [], ◌∷◌, ◌++◌, codes, true, false, Option, None, Some, if◌then◌else◌}
+use Rattle.std.specs.Prelude.{◌≡◌, ℕ, List, [], ◌∷◌, ◌++◌, codes, true, false, Option, None, Some, if◌then◌else◌}
 use Rattle.std.specs.Str.{bytes_eq}
-use Rattle.time_components.specs.Tree.{Tree, literal, component, sequence, optional, first_of, trees}
+use Rattle.time_components.specs.Tree.{Tree, literal, component, sequence, optional, first_of, trees, steps_shape}
 use Rattle.time_digits.specs.declared.Padding.TheVariants as padding
 use Rattle.time_components.specs.declared.format_description.Component.{Component}
 use Rattle.time_components.specs.declared.format_description.Component.TheVariants as kind
+use Rattle.time_components.specs.declared.inspect.Step.{Step}
 use Rattle.time_components.specs.declared.modifier.SubsecondDigits.TheVariants.{OneOrMore}
 use Rattle.programs_answers.specs.declared.formats.Format.{Format}
 use Rattle.programs_answers.specs.declared.formats.Format.TheVariants as format
@@ -118,3 +119,14 @@ unix = component true (kind.UnixTimestampSecond (record { sign_is_mandatory = fa
 -- a date, time and offset, or a year and its day
 abbrev pub local : Tree
 local = first_of (trees (sequence (trees date_time_parts) ∷ sequence (trees ordinal_parts) ∷ []))
+
+-- the steps of prepared descriptions
+pub record Descriptions : Type 0 where
+  pub ymd : List Step
+  pub clock : List Step
+  pub local : List Step
+
+-- They have the trees of the formats.
+abbrev pub AreOfFormats : Descriptions → Type 0
+AreOfFormats d =
+    (steps_shape d.ymd ≡ ymd) × (steps_shape d.clock ≡ clock) × (steps_shape d.local ≡ sequence (trees (local ∷ [])))

@@ -31,9 +31,9 @@ impl Model for Named {
     ghost use Rattle.time_components.specs.Tree.{steps_shape, sequence, trees};
     ghost use Rattle.programs_answers.specs.Formats as formats;
 
-    ghost Value = { Unit {0} };
+    ghost Value = { formats.Descriptions };
 
-    ghost view = { λ _. tt };
+    ghost view = { λ named. record { ymd = named.ymd; clock = named.clock; local = named.local } };
 
     ghost invariant = { λ named. (steps_shape named.ymd ≡ formats.ymd) × (steps_shape named.clock ≡ formats.clock)
         × (steps_shape named.local ≡ sequence (trees (formats.local ∷ []))) };
@@ -84,7 +84,9 @@ fn local() -> Prepared<21>
 
 impl Named {
     /// The formats, prepared. Nothing is allocated.
-    pub fn new() -> Named {
+    pub fn new() -> Named
+        ensures { formats.AreOfFormats result }
+    {
         Named {
             ymd: ymd(),
             clock: clock(),

@@ -1,4 +1,4 @@
-//! The types of answer that a text is parsed for, and what one adds to a sum.
+//! The types of value that a text is parsed for, and what one adds to a sum.
 
 use time_parsing::Parsable;
 use time_record::Parsed;

@@ -1,4 +1,4 @@
-//! Sums over many parses of one text by a description that was read, prepared or as its steps.
+//! Sums over many parses of one text by a description, prepared or as its steps.
 
 use crate::answers::Answer;
 use crate::sums::{Texts, sum_for};
@@ -10,7 +10,7 @@ use time_record::Parsed;
 use time_values::error::{Parse, TryFromParsed};
 use time_values::{Date, OffsetDateTime, PlainDateTime, Time};
 
-// The description of that text, if there is one.
+// Parses a description.
 fn description(text: &[u8]) -> Option<Description<64>> {
     if text.contains(&b'%') {
         return parse_strftime::<64>(text).ok();
@@ -18,7 +18,7 @@ fn description(text: &[u8]) -> Option<Description<64>> {
     parse_borrowed::<2, 64>(text).ok()
 }
 
-// A record of that year, or none for `-`.
+// A record with that year, or none for `-`.
 fn defaults(year: &str) -> Option<Option<Parsed>> {
     if year == "-" {
         return Some(None);
@@ -67,13 +67,13 @@ impl AnswerOver for OffsetDateTime {
     }
 }
 
-/// A description by which a text is parsed over a record.
+/// A description that parses a text over a record.
 trait Over: Parsable {
     /// The value of the text over the record.
     fn value_over<V: AnswerOver>(&self, text: &[u8], known: Parsed) -> Result<V, Parse>;
 }
 
-// By steps a text is parsed into the record, so that there is one call of each parse without one, which is then inlined.
+// Parses into the record, so that each parse without a record has a single call, which is then inlined.
 impl Over for Description<64> {
     fn value_over<V: AnswerOver>(&self, text: &[u8], known: Parsed) -> Result<V, Parse> {
         let mut record = known;
@@ -88,7 +88,7 @@ impl Over for Prepared<64> {
     }
 }
 
-// The sum over so many parses over the record.
+// The sum over this many parses over the record.
 fn sum_over<V: AnswerOver, F: Over>(
     format: &F,
     known: Parsed,
@@ -111,7 +111,8 @@ fn sum_over<V: AnswerOver, F: Over>(
     sum
 }
 
-// The sum over so many parses for the target of that name, if there is one, over the record if there is one.
+// The sum over this many parses for the target with that name, over the record if there is one. `None`: no target has
+// the name.
 fn sum_with<F: Over>(
     format: &F,
     known: Option<Parsed>,
@@ -144,7 +145,7 @@ pub struct Case<'a> {
     pub target: &'a str,
 }
 
-/// The sum over so many parses, if there is such a case.
+/// The sum over this many parses. `None`: the case is invalid.
 pub fn sum_of(case: Case<'_>, times: u64, texts: Texts<'_>) -> Option<i64> {
     let description = description(case.description.as_bytes())?;
     let known = defaults(case.year)?;

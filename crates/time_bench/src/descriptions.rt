@@ -1,11 +1,11 @@
-//! The descriptions among the formats, as the program of lines has them.
+//! The descriptions among the formats, equal to those of the program of lines.
 
 use time_readers::{
     BorrowedFormatItem, Component, FormatDescriptionV3, FormatDescriptionV3Inner, Padding,
     SubsecondDigits, modifier,
 };
 
-// A component that a description reads.
+// A component that a description parses.
 macro_rules! item {
     ($name:ident, $($field:ident: $value:expr),*) => {
         BorrowedFormatItem::Component(Component::$name(modifier::$name { $($field: $value),* }))
@@ -60,7 +60,7 @@ pub const FRACTION_ITEMS: [BorrowedFormatItem<'static>; 2] = [
     item!(Subsecond, digits: SubsecondDigits::OneOrMore),
 ];
 
-/// `:09`, and a fraction that may be missing.
+/// `:09`, with an optional fraction.
 pub fn second_items<'a>(fraction: &'a BorrowedFormatItem<'a>) -> [BorrowedFormatItem<'a>; 3] {
     [
         BorrowedFormatItem::StringLiteral(":"),
@@ -69,7 +69,7 @@ pub fn second_items<'a>(fraction: &'a BorrowedFormatItem<'a>) -> [BorrowedFormat
     ]
 }
 
-/// `1:05 PM`, and before the space a second that may be missing.
+/// `1:05 PM`, with an optional second before the space.
 pub fn clock_items<'a>(seconds: &'a BorrowedFormatItem<'a>) -> [BorrowedFormatItem<'a>; 6] {
     [
         item!(Hour12, padding: Padding::None),

@@ -1,11 +1,11 @@
 //! Parses a text, or writes moments, many times, so that the instructions of one parse or text can be counted.
 //!
-//! - `time_bench FORMAT TARGET TIMES TEXT` parses by a format that has a name, or is a description.
+//! - `time_bench FORMAT TARGET TIMES TEXT` parses by a named format, or by a description.
 //! - `time_bench describe WAY DESCRIPTION YEAR TARGET TIMES TEXT` parses by a description, `prepared` or as its `steps`. One
 //!   with a `%` is of strftime, and any other of version 2. YEAR is the default year, or `-`.
 //! - `time_bench write CASE TIMES DAY` writes moments of that day of a month.
 //!
-//! Each prints a sum that depends on each answer or text.
+//! Each prints a sum that depends on each value or text.
 #![tactic(auto)]
 
 mod answers;
@@ -24,7 +24,7 @@ const USAGE: &str = "usage: time_bench FORMAT TARGET TIMES TEXT
        time_bench describe WAY DESCRIPTION YEAR TARGET TIMES TEXT
        time_bench write CASE TIMES DAY";
 
-// The sum of writing that the words ask for, if they do.
+// The sum of the requested texts, if the words request any.
 fn written(words: &[String]) -> Option<i64> {
     let [case, times, day] = words else {
         return None;
@@ -32,7 +32,7 @@ fn written(words: &[String]) -> Option<i64> {
     writing::sum_of(case.as_str(), times.as_str(), day.as_str())
 }
 
-// The sum of parsing the text and its copy by a description that they ask for, if they do.
+// The sum of the requested parses by a description, of the text and its copy, if the words request any.
 fn parsed_by_description(words: &[String], copy: &[u8]) -> Option<i64> {
     let [way, description, year, target, times, text] = words else {
         return None;
@@ -50,7 +50,7 @@ fn parsed_by_description(words: &[String], copy: &[u8]) -> Option<i64> {
     described::sum_of(case, times.as_str().parse::<u64>().ok()?, texts)
 }
 
-// The same by a format that has a name, or is a description.
+// The sum of the requested parses by a named format or a description, if the words request any.
 fn parsed(words: &[String], copy: &[u8]) -> Option<i64> {
     let [format, target, times, text] = words else {
         return None;
@@ -63,7 +63,7 @@ fn parsed(words: &[String], copy: &[u8]) -> Option<i64> {
     sum_by_name(format.as_bytes(), target.as_bytes(), times, texts)
 }
 
-// The sum that the words ask for, if they do. The copy is of the last one.
+// The sum that the words request, if they do. The copy is that of the last word.
 fn sum_of_words(words: &[String], copy: &[u8]) -> Option<i64> {
     let [first, others @ ..] = words else {
         return None;

@@ -9,7 +9,8 @@ use time_parsing::{Iso8601, Parsable, Rfc2822, Rfc3339};
 use time_readers::BorrowedFormatItem;
 use time_values::{Date, OffsetDateTime, PlainDateTime, Time, Timestamp, UtcDateTime, UtcOffset};
 
-/// A text and a copy of it. They are parsed in turn, so that the compiler can do no part of a parse once for all.
+/// A text and a copy of it. They are parsed in turn, so that the compiler can't hoist a part of a parse out of the
+/// loop.
 #[derive(Clone, Copy)]
 pub struct Texts<'a> {
     /// The text.
@@ -18,7 +19,7 @@ pub struct Texts<'a> {
     pub copy: &'a [u8],
 }
 
-// The sum over so many parses.
+// The sum over this many parses.
 fn sum<V: Answer, F: Parsable>(format: &F, times: u64, texts: Texts<'_>) -> i64 {
     let mut sum = 0i64;
     for time in 0..times {
@@ -36,7 +37,7 @@ fn sum<V: Answer, F: Parsable>(format: &F, times: u64, texts: Texts<'_>) -> i64 
     sum
 }
 
-/// The sum over so many parses for the target of that name, if there is one.
+/// The sum over this many parses for the target with that name. `None`: no target has it.
 pub fn sum_for<F: Parsable>(
     format: &F,
     target: &[u8],
@@ -56,7 +57,7 @@ pub fn sum_for<F: Parsable>(
     }
 }
 
-// The same by the description of a time on a clock of 12 hours.
+// The sum by the description of a time on a clock of 12 hours.
 fn sum_of_clocks(target: &[u8], times: u64, texts: Texts<'_>) -> Option<i64> {
     let fraction = BorrowedFormatItem::Compound(&FRACTION_ITEMS);
     let seconds = second_items(&fraction);
@@ -65,7 +66,7 @@ fn sum_of_clocks(target: &[u8], times: u64, texts: Texts<'_>) -> Option<i64> {
     sum_for(&BorrowedFormatItem::Compound(&items), target, times, texts)
 }
 
-// The same by the description of a date, time and offset, or of a year and its day.
+// The sum by the description of a date, time and offset, or of a year and its day.
 fn sum_of_local(target: &[u8], times: u64, texts: Texts<'_>) -> Option<i64> {
     let lists = [
         BorrowedFormatItem::Compound(&DATE_TIME_ITEMS),
@@ -74,16 +75,16 @@ fn sum_of_local(target: &[u8], times: u64, texts: Texts<'_>) -> Option<i64> {
     sum_for(&BorrowedFormatItem::First(&lists), target, times, texts)
 }
 
-// The same by the description that the text has, in version 2, if it is one.
+// The sum by a description of version 2. `None`: it is malformed, or no target has that name.
 fn sum_of_text(description: &[u8], target: &[u8], times: u64, texts: Texts<'_>) -> Option<i64> {
     let description = parse_borrowed::<2, 64>(description).ok()?;
     sum_for(&description, target, times, texts)
 }
 
-/// The sum over so many parses of the text and its copy in turn, if there are a format and a target of those names. A
-/// format of no such name is a description.
+/// The sum over this many parses of the text and its copy in turn. A format that isn't a name is a description. `None`:
+/// it is malformed, or no target has that name.
 ///
-/// A value adds its parts, a timestamp what its nanoseconds leave of 1,000,000,007, and a refusal 1. The sum wraps.
+/// A value adds its parts, a timestamp its nanoseconds modulo 1,000,000,007, and an error 1. The sum wraps.
 pub fn sum_by_name(format: &[u8], target: &[u8], times: u64, texts: Texts<'_>) -> Option<i64> {
     match format {
         b"rfc3339" => sum_for(&Rfc3339, target, times, texts),

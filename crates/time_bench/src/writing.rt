@@ -1,11 +1,12 @@
-//! Sums over texts of four moments that are written in turn.
+//! Sums over the texts of four moments that are written in turn.
 //!
-//! The day comes from outside, and the moments from an array, so that the compiler can do no part of a text once for all.
+//! The day is an argument, and the moments are in an array, so that the compiler can't hoist a part of a text out of
+//! the loop.
 
 use time_values::{Date, Month, OffsetDateTime, Time, UtcOffset};
 use time_writing::{FractionDigits, Text, Unwritable, text_2822, text_3339};
 
-// The moment, if there is one.
+// The moment, or `None` where a number is out of range.
 fn moment(day: u8, nanosecond: u32, minutes: i8) -> Option<OffsetDateTime> {
     let Ok(date) = Date::from_calendar_date(2021, Month::March, day) else {
         return None;
@@ -19,7 +20,7 @@ fn moment(day: u8, nanosecond: u32, minutes: i8) -> Option<OffsetDateTime> {
     Some(OffsetDateTime::new_in_offset(date, time, offset))
 }
 
-// Four moments, if there are such.
+// Four moments, or `None` where a number is out of range.
 fn moments(day: u8, nanosecond: u32, minutes: i8) -> Option<[OffsetDateTime; 4]> {
     let second = if day < 20 { day + 1 } else { day };
     let third = if second < 20 { second + 1 } else { second };
@@ -32,7 +33,7 @@ fn moments(day: u8, nanosecond: u32, minutes: i8) -> Option<[OffsetDateTime; 4]>
     ])
 }
 
-// What a text adds to the sum. It is called, so that the whole text is written.
+// What a text adds to the sum. It isn't inlined, so that the whole text is written.
 #[inline(never)]
 fn weight(text: Result<Text, Unwritable>) -> i64 {
     match text {
@@ -41,7 +42,7 @@ fn weight(text: Result<Text, Unwritable>) -> i64 {
     }
 }
 
-// The sum over so many texts of RFC 3339.
+// The sum over this many texts of RFC 3339.
 #[inline(never)]
 fn sum(times: u64, values: &[OffsetDateTime; 4], digits: FractionDigits) -> i64 {
     let mut sum = 0i64;
@@ -52,7 +53,7 @@ fn sum(times: u64, values: &[OffsetDateTime; 4], digits: FractionDigits) -> i64 
     sum
 }
 
-// The sum over so many mail dates.
+// The sum over this many mail dates.
 #[inline(never)]
 fn mail_sum(times: u64, values: &[OffsetDateTime; 4]) -> i64 {
     let mut sum = 0i64;
@@ -74,7 +75,7 @@ fn second_sum(times: u64, values: &[OffsetDateTime; 4]) -> i64 {
     sum
 }
 
-// The sum of days alone: what loop and values cost.
+// The sum of days alone: the cost of the loop and of building the moments.
 #[inline(never)]
 fn day_sum(times: u64, values: &[OffsetDateTime; 4]) -> i64 {
     let mut sum = 0i64;
@@ -116,7 +117,7 @@ fn sum_by_name(name: &[u8], times: u64, day: u8) -> Option<i64> {
     }
 }
 
-/// The sum over so many texts of that case, of moments on that day of a month, if there is such a case.
+/// The sum over this many texts of that case, of moments on that day of a month. `None`: there is no such case.
 pub fn sum_of(case: &str, times: &str, day: &str) -> Option<i64> {
     let times = times.parse::<u64>().ok()?;
     let day = day.parse::<u8>().ok()?;

@@ -1,5 +1,5 @@
--- Worked values of fields and answers, so that a wrong rule in the specs does not check. They follow from the
--- definitions, and no code lies between. `Y` is the greatest year.
+-- Worked values of fields and answers, by the definitions alone. A wrong rule in the specs fails to check here. `Y` is
+-- the greatest year.
 use Rattle.std.proofs.Common.{get_or, ◌≡◌, ℕ, List, [], ◌∷◌, ◌++◌, length, Some, None, codes, refl, ap, arith, length-append}
 use Rattle.time_lines.specs.Output.{AreAnswers, IsAnswer, fields_of}
 
@@ -11,7 +11,7 @@ tab = 9 ∷ []
 pub three_fields : fields_of (codes "a" ++ tab ++ codes "b" ++ tab ++ codes "c") ≡ Some (record { format = codes "a"; target = codes "b"; text = codes "c" })
 three_fields = refl
 
--- the text may be empty, and may have tabs of its own
+-- the text may be empty, and may contain tabs
 pub tabs_of_the_text : fields_of (codes "a" ++ tab ++ codes "b" ++ tab ++ codes "c" ++ tab)
     ≡ Some (record { format = codes "a"; target = codes "b"; text = codes "c" ++ tab })
 tabs_of_the_text = refl
@@ -28,7 +28,7 @@ no_fields_without_a_text = refl
 pub no_fields_at_spaces : fields_of (codes "rfc3339 date x") ≡ None
 no_fields_at_spaces = refl
 
--- ---- Answers that name what is wrong with a line
+-- ---- Answers that report the error of a line
 
 module _ (Y : ℕ) where
   pub answer_to_an_empty_line : IsAnswer Y [] (codes "error: line")

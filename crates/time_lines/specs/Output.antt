@@ -1,4 +1,4 @@
--- What is written for an input. `Y` is the greatest year.
+-- The output for an input. `Y` is the greatest year.
 use Rattle.std.specs.Prelude.{ℕ, List, [], ◌∷◌, if◌then◌else◌, ◌==◌, Option, None, Some, ◌≡◌, codes, MatchOption}
 use Rattle.std.specs.Option.{option_and_then, option_map}
 use Rattle.programs_answers.specs.Formats.{format_named, target_named}
@@ -7,26 +7,26 @@ use Rattle.programs_answers.specs.Output as output
 
 -- ---- The fields of a line
 
--- what comes before the first TAB and what comes after it, if there is one
+-- The bytes before the first TAB and those after it, if there is one.
 abbrev pub cut_at_tab : List ℕ → Option (List ℕ × List ℕ)
 cut_at_tab [] = None
 cut_at_tab (b ∷ bytes) = if b == 9 then Some ([], bytes) else option_map (λ cut. (b ∷ cut.0, cut.1)) (cut_at_tab bytes)
 
--- the fields of a line
+-- The fields of a line.
 pub record Fields : Type 0 where
   pub format : List ℕ
   pub target : List ℕ
   pub text : List ℕ
 
--- the fields of a line, which is a format, TAB, a target, TAB and a text; the text may have TABs of its own
+-- The fields of a line: a format, TAB, a target, TAB and a text. The text may contain TABs.
 abbrev pub fields_of : List ℕ → Option Fields
 fields_of line =
     option_and_then
     (λ first. option_map (λ second. record { format = first.0; target = second.0; text = second.1 })
     (cut_at_tab first.1)) (cut_at_tab line)
 
--- The answer to a line: the outcome of its text, or what is wrong with the line. A missing field is reported before
--- any name is checked, and an unknown format is reported before its target is checked.
+-- The answer to a line: the outcome of its text, or the error of the line. A missing field is reported before any name
+-- is checked, and an unknown format is reported before its target is checked.
 unfoldable pub IsAnswer : ℕ → List ℕ → List ℕ → Type 0
 IsAnswer Y line answer =
     MatchOption (fields_of line) (answer ≡ codes "error: line")
@@ -34,11 +34,11 @@ IsAnswer Y line answer =
     (λ format. MatchOption (target_named fields.target) (answer ≡ codes "error: target")
     (λ target. IsParsed Y format target fields.text answer)))
 
--- the answers to the lines, each followed by LF
+-- The answers to the lines, each followed by LF.
 abbrev pub AreAnswers : ℕ → List (List ℕ) → List ℕ → Type 0
 AreAnswers Y = output.AreAnswers (IsAnswer Y)
 
--- A writer holds what it held, and then the answers to the lines of the input.
+-- The writer's contents are followed by the answers to the lines of the input.
 abbrev pub WritesAnswers : ℕ → Option (List ℕ) → Option (List ℕ) → List ℕ → Type 0
 WritesAnswers Y = output.WritesAnswers (IsAnswer Y)
 

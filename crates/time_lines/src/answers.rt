@@ -1,9 +1,11 @@
 //! The answer to a line.
 //!
-//! `fast` cuts the lines whose names it knows at once and is asked first: what it doesn't answer `cut_request` decides, so
-//! without it each line has the same answer, in more steps.
+//! `fast` splits lines with known names in one pass, and is tried first. `cut_request` handles every line, field by
+//! field. It has the same result for the lines that `fast` splits, so without `fast` each line has the same answer, in
+//! more steps.
 ghost use Rattle.std.specs.Prelude.{ℕ, List, OnOk, MatchResult};
 ghost use Rattle.time_values.specs.Calendar.{greatest_year};
+ghost use Rattle.programs_answers.specs.Formats.{AreOfFormats};
 ghost use Rattle.programs_answers.specs.Output.{IsParsed, Writes};
 ghost use Rattle.time_lines.specs.Output.{IsAnswer};
 
@@ -14,10 +16,10 @@ use programs_answers::formats::{Format, Target, find_format, find_target};
 use programs_answers::{Answering, Named};
 use programs_streams::{Sink, Unwritten};
 
-// What a line asks for: a format, a target and a text; or else what is wrong with it.
+// The request of a line: a format, a target and a text; or else the error of the line.
 type Request<'a> = Result<(Format, Target, &'a [u8]), &'static [u8]>;
 
-// What the line asks for, field by field.
+// The request of the line, field by field.
 #[cold]
 #[inline(never)]
 #[tactic(auto, unfolding(crate::specs::Output::IsAnswer))]
@@ -41,15 +43,17 @@ fn cut_request(line: &[u8]) -> Request<'_>
     Ok((format, target, text))
 }
 
-/// Answers lines, of which each is a format, TAB, a target, TAB and a text.
+/// Answers lines of a format, TAB, a target, TAB and a text.
 #[derive(Drop)]
 pub struct Fields {
     named: Named,
 }
 
 impl Fields {
-    /// What answers lines, with the descriptions that they may name prepared.
-    pub fn new() -> Fields {
+    /// Prepares the descriptions that lines may name.
+    pub fn new() -> Fields
+        ensures { AreOfFormats result.named }
+    {
         Fields {
             named: Named::new(),
         }

@@ -2,8 +2,8 @@
 ghost use Rattle.time_values.specs.Calendar.{greatest_year};
 ghost use Rattle.time_lines.specs.Output.{OneAnswer, OneOutput, OneWriting};
 
-/// A line has at most one answer, lines have at most one text of answers, and what a run leaves
-/// follows from its input.
+/// A line has at most one answer, lines have at most one text of answers, and the output of a run is determined by its
+/// input.
 pub fn law_one_answer()
     ensures line { OneAnswer greatest_year }
     ensures lines { OneOutput greatest_year }

@@ -1,4 +1,4 @@
-//! Cuts lines into fields, and answers whole inputs.
+//! Splits lines into fields, and answers all lines of an input.
 ghost use Rattle.std.specs.Prelude.{◌≡◌, Err, OnOk, IfSome};
 ghost use Rattle.time_values.specs.Calendar.{greatest_year};
 ghost use Rattle.programs_streams.specs.Faults.{HasCause};
@@ -26,8 +26,8 @@ fn run_to<W: Sink>(input: &[u8], out: &mut Waiting<W>) -> Result<(), Unwritten>
 
 /// Writes the answer to each line of the input, and allocates nothing.
 ///
-/// Each line ends with LF, which the last one may lack. After an `Err`, that of a write, nothing is
-/// known of how much was written.
+/// Each line ends with LF, which is optional after the last one. `Err` is the error of a write, after which it is
+/// unspecified how much was written.
 pub fn run<W: Write>(input: &[u8], out: &mut W) -> io::Result<()>
     ensures { OnOk result (WritesAnswers greatest_year (W.contents out.old) (W.contents out.new) input.now) }
 {
@@ -38,11 +38,10 @@ pub fn run<W: Write>(input: &[u8], out: &mut W) -> io::Result<()>
     }
 }
 
-/// Reads the input to its end, with 4294967296 reads at most, and writes the answer to each of its
-/// lines.
+/// Reads the input to its end, with at most 4294967296 reads, and writes the answer to each of its lines.
 ///
-/// A failed read is not tried again, not even an interrupted one. After [`Stop::Unread`] or
-/// [`Stop::Memory`] nothing was written.
+/// A failed read isn't retried, not even an interrupted one. After [`Stop::Unread`] or [`Stop::Memory`] nothing was
+/// written.
 pub fn serve<R: Read, W: Write>(alloc: Global, input: &mut R, out: &mut W) -> Result<(), Stop>
     ensures ok { OnOk result (IfSome (R.remaining input.old)
         (λ bytes. WritesAnswers greatest_year (W.contents out.old) (W.contents out.new) bytes)) }
@@ -52,7 +51,7 @@ pub fn serve<R: Read, W: Write>(alloc: Global, input: &mut R, out: &mut W) -> Re
     serve_in(alloc, input, out)
 }
 
-// The same with any allocator.
+// As [`serve`], with any allocator.
 pub(crate) fn serve_in<R: Read, W: Write, A: Allocator>(
     alloc: A,
     input: &mut R,
@@ -67,8 +66,8 @@ pub(crate) fn serve_in<R: Read, W: Write, A: Allocator>(
     serve_to(alloc, &mut Counted::new(input), &mut waiting)
 }
 
-/// The same from a source to a sink. It stops before its end only after a read of that source or a write of that sink that
-/// gave an error, or where memory is short, or where 4294967296 reads didn't come to the end.
+/// Answers the lines of a source to a sink. Returns early only after a read or a write that failed, when memory runs
+/// out, or when 4294967296 reads don't reach the end.
 #[inline(always)]
 pub(crate) fn serve_to<R: Source, W: Sink, A: Allocator>(
     alloc: A,
@@ -86,7 +85,7 @@ pub(crate) fn serve_to<R: Source, W: Sink, A: Allocator>(
     programs_answers::serve(&Fields::new(), alloc, input, out)
 }
 
-/// What stands before the first TAB, and what stands after it.
+/// The bytes before the first TAB, and those after it.
 pub fn cut_tab(bytes: &[u8]) -> Option<(&[u8], &[u8])>
     ensures { option_map (λ cut. (cut.0.now, cut.1.now)) result ≡ cut_at_tab bytes.now }
 {

@@ -1,4 +1,4 @@
-//! Lines and their answers, and what becomes of a read, a write or a growth that fails.
+//! Lines and their answers, and the handling of failed reads, writes and allocations.
 use crate::serving::{run, serve, serve_in};
 use linked_list_allocator::LocalHeap;
 use programs_answers::Stop;
@@ -15,13 +15,13 @@ mod whole_parses;
 /// An input and its output.
 type Row = (&'static str, &'static str);
 
-/// This is the output.
+/// Whether `run` writes the output for the input.
 fn is_answered(alloc: Global, input: &str, output: &str) -> bool {
     let mut text = Vec::new(alloc);
     run(input.as_bytes(), &mut text).is_ok() && text.as_slice() == output.as_bytes()
 }
 
-/// Each row has its output.
+/// Checks the output of each row.
 fn are_answered(rt: &(impl Abort + AllocGlobal), rows: &[Row]) {
     for (input, output) in rows {
         assert!(rt; is_answered(rt.alloc(), input, output), "{input:?}");
@@ -138,7 +138,7 @@ fn unknown_names(rt: HostRuntime) {
     are_answered(&rt, &UNKNOWN_NAMES);
 }
 
-/// Bytes that come a few at a time, with a read that fails.
+/// Yields a few bytes at a time, until a read fails.
 #[derive(Drop)]
 struct Source<'a> {
     bytes: &'a [u8],
@@ -158,10 +158,10 @@ impl Read for Source<'_> {
     }
 }
 
-/// The answer of a call, and how often it wrote.
+/// The result of a call, and the number of its writes.
 type Told = (Result<(), Stop>, usize);
 
-/// Takes the text that has to be written, with a write that fails, and refuses each other text.
+/// Accepts the expected text only, until a write fails.
 #[derive(Drop)]
 struct Page<'a> {
     rest: &'a [u8],
@@ -170,7 +170,7 @@ struct Page<'a> {
 }
 
 impl Page<'_> {
-    /// What was told, if a call that ended well wrote all of the text.
+    /// The result with the number of writes, unless a successful call hasn't written all of the text.
     fn told(&self, answer: Result<(), Stop>) -> Option<Told> {
         if answer.is_ok() && !self.rest.is_empty() {
             return None;
@@ -196,20 +196,20 @@ impl Write for Page<'_> {
     }
 }
 
-// An allocator that refuses one allocation.
+// An allocator with one failing allocation.
 mod refusing {
     use std::alloc::{AllocError, Allocator};
     use std::cell::Cell;
 
-    /// An allocator that passes each call on, but for one allocation, which it refuses.
+    /// Passes each call on to another allocator, except for one allocation, which fails.
     pub struct Refusing<B: Allocator> {
         inner: B,
-        // How many allocations come before the one that is refused, or 18446744073709551615 after it.
+        // The number of allocations before the one that fails, or 18446744073709551615 after it.
         left: Cell<u64>,
     }
 
     impl<B: Allocator> Refusing<B> {
-        /// An allocator that refuses one allocation, after a given number of others.
+        /// An allocator that fails one allocation, after a given number of others.
         pub fn new(inner: B, left: u64) -> Refusing<B> {
             Refusing {
                 inner,
@@ -217,7 +217,7 @@ mod refusing {
             }
         }
 
-        /// Whether it has refused an allocation.
+        /// Whether it has failed an allocation.
         pub fn has_refused(&self) -> bool {
             self.left.get() == u64::MAX
         }
@@ -229,7 +229,7 @@ mod refusing {
         }
     }
 
-    // Counts an allocation, and returns whether it is the one to refuse.
+    // Counts an allocation, and returns whether it is the one to fail.
     fn is_due(left: &Cell<u64>) -> bool {
         match left.get() {
             u64::MAX => false,
@@ -262,7 +262,7 @@ mod refusing {
 
 const NEVER: usize = 1000000;
 
-/// What `run` tells where this write fails.
+/// The result of `run` if the write at this index fails.
 fn ran(input: &[u8], output: &[u8], fails_at: usize) -> Option<Told> {
     let mut page = Page {
         rest: output,
@@ -275,7 +275,7 @@ fn ran(input: &[u8], output: &[u8], fails_at: usize) -> Option<Told> {
     }
 }
 
-/// What `serve` tells where this write fails.
+/// The result of `serve` if the write at this index fails.
 fn served(alloc: Global, mut source: Source<'_>, output: &[u8], fails_at: usize) -> Option<Told> {
     let mut page = Page {
         rest: output,
@@ -286,7 +286,7 @@ fn served(alloc: Global, mut source: Source<'_>, output: &[u8], fails_at: usize)
     page.told(answer)
 }
 
-/// What `serve_in` tells where it has so many bytes of memory.
+/// The result of `serve_in` with this many bytes of memory.
 fn served_within(
     alloc: Global,
     size: usize,
@@ -303,7 +303,7 @@ fn served_within(
     page.told(answer)
 }
 
-/// The result of `serve_in` if one allocation is refused after a given number of others, and whether it was reached.
+/// The result of `serve_in` if one allocation fails after a given number of others, and whether it was reached.
 fn served_but_for(
     alloc: Global,
     left: u64,
@@ -320,7 +320,7 @@ fn served_but_for(
     Some((page.told(answer)?, heap.has_refused()))
 }
 
-/// Each allocation is refused in turn, until none is left to refuse, and then the output is whole.
+/// Fails each allocation in turn, until a run without a failure completes the output.
 fn try_allocations(rt: &(impl Abort + AllocGlobal), input: &[u8], output: &[u8], most: usize) {
     for left in 0..64 {
         let source = Source {
@@ -341,7 +341,7 @@ fn try_allocations(rt: &(impl Abort + AllocGlobal), input: &[u8], output: &[u8],
     panic!(rt; "too many allocations");
 }
 
-/// The input takes so many reads of at most so many bytes, and each is told where it fails.
+/// Fails each of the reads in turn: there are this many, of at most `most` bytes, and the result reports each.
 fn try_reads(
     rt: &(impl Abort + AllocGlobal),
     input: &[u8],
@@ -367,7 +367,7 @@ fn try_reads(
     }
 }
 
-/// The output takes so many writes, and each is told where it fails.
+/// Fails each of the writes in turn: there are this many, and the result reports each.
 fn try_writes(
     rt: &(impl Abort + AllocGlobal),
     input: &[u8],
@@ -395,7 +395,7 @@ fn try_writes(
     }
 }
 
-/// Some of these sizes, in units of so many bytes, are refused as too small, and some serve.
+/// Tries heaps of these sizes, in the given unit. Some are too small, and some suffice.
 fn try_sizes(
     rt: &(impl Abort + AllocGlobal),
     input: &[u8],
@@ -437,7 +437,7 @@ fn statuses(rt: HostRuntime) {
     try_sizes(&rt, INPUT, OUTPUT, 1, (1, 64..400));
 }
 
-/// The output is written into bytes of the caller's, and nothing behind it.
+/// Whether `run` writes the output into a buffer, and nothing after it.
 fn fills(input: &[u8], output: &[u8]) -> bool {
     let mut text = [0_u8; 512];
     let mut out = io::Cursor::new(&mut text[..]);
@@ -450,7 +450,7 @@ fn takes_no_memory(rt: HostRuntime) {
     assert!(rt; fills(INPUT, OUTPUT));
 }
 
-/// Texts, and how often they stand there in turn.
+/// Texts, and how often they are repeated in turn.
 type Part<'a> = (&'a [&'a [u8]], usize);
 
 /// The text of the parts.
@@ -486,7 +486,7 @@ fn failed_writes(rt: HostRuntime) {
 /// How many bytes the program reads at once.
 const BUFFER: usize = 65536;
 
-// 5459 answers of 12 bytes and two of 14 fill the room for what waits.
+// 5459 answers of 12 bytes and two of 14 exactly fill the output buffer.
 const _: () = prove!(5459 * 12 + 2 * 14 == BUFFER);
 
 #[test]

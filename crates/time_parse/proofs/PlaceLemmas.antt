@@ -1,4 +1,4 @@
--- What is written of a place, part by part.
+-- The location of an error is written part by part.
 use Rattle.std.proofs.Common.{◌≡◌, ◌∙◌, ℕ, ◌+◌, ◌<◌, List, [], ◌∷◌, ◌++◌, length, map, take, get_or, add-one, Option, Some, None, Result, Ok, Err, OnOk, refl, sym, ap, subst, inl, inr}
 use Rattle.std.proofs.KnownBytes.{Appends-trans}
 use Rattle.std.specs.Io.KnownBytes.{Appends}
@@ -17,14 +17,14 @@ use Rattle.programs_answers.specs.declared.formats.Target.{Target}
 use Rattle.time_parse.specs.Place.{IsErrorPlace, IsPlace, IsRefusalFor, IsTreePlace, expected_text, index_text, place_text}
 use Rattle.time_parse.specs.Request.{shown}
 
--- a byte more is shown
+-- one more byte is printed
 pub shown_more : (a b c : Option (List ℕ)) (bytes : List ℕ) (i d : ℕ) → i < length bytes → Appends a b (map shown (take i bytes))
     → Appends b c (shown (get_or bytes i d) ∷ []) → Appends a c (map shown (take (i + 1) bytes))
 shown_more a b c bytes i d h before more =
     let all = ap (λ s. map shown s) (take-suc bytes i d h) ∙ map-append shown (take i bytes) (get_or bytes i d ∷ []) in
     rw add-one (subst (Appends a c) (sym all) (Appends-trans a b c (map shown (take i bytes)) (shown (get_or bytes i d) ∷ []) before more))
 
--- the place of a text by a tree is the one by an equal tree
+-- equal trees have equal locations
 pub Writes-tree : {E : Type 0} (r : Result (Unit {0}) E) (tree same : Tree) (target : Target) (bytes : List ℕ) (a b : Option (List ℕ))
     → tree ≡ same → OnOk r (Writes (IsTreePlace greatest_year all_bytes tree target bytes) a b)
     → OnOk r (Writes (IsTreePlace greatest_year all_bytes same target bytes) a b)
@@ -53,14 +53,14 @@ module _ {E : Type 0} (target : Target) (path : Path) (reads : Reading) (refuses
   unplaced_written (Ok u) a c refusal h k after = (after.0, inr (h, refusal, k, after.1), after.2)
   unplaced_written (Err e) a c refusal h k after = tt
 
--- the index of an error
+-- the index of an error's component
 pub error_written : {E : Type 0} (r : Result (Unit {0}) E) (reads : Reading) (locates : Locating) (marks : Marking) (text : List ℕ)
     (e : Refusal) (index : Option ℕ) (a c : Option (List ℕ)) → IsErrorAt reads locates marks text empty e index
     → OnOk r (Appends a c (index_text index)) → OnOk r (Writes (IsErrorPlace reads locates marks text (Some e)) a c)
 error_written (Ok u) reads locates marks text e index a c h after = (index_text index, (index, h, refl), after)
 error_written (Err f) reads locates marks text e index a c h after = tt
 
--- an answer and a place after it
+-- an answer, followed by a location
 pub both_written : {E : Type 0} (r : Result (Unit {0}) E) (P Q : List ℕ → Type 0) (a b c : Option (List ℕ)) → Writes P a b
     → OnOk r (Writes Q b c)
     → OnOk r (Writes (λ t. (o : List ℕ) × (p : List ℕ) × P o × Q p × (t ≡ o ++ p)) a c)

@@ -1,4 +1,4 @@
--- Where a text is refused, and how it is told. `Y` is the greatest year.
+-- Where a text is rejected, and how that is printed. `Y` is the greatest year.
 use Rattle.std.specs.Prelude.{◌≡◌, ℕ, ◌⊎◌, List, [], ◌++◌, codes, map, Bool, true, false, Option, Some, None, Result, Ok, Err}
 use Rattle.std.specs.Fmt.{decimal}
 use Rattle.time_values.specs.Refusal.{Refusal}
@@ -30,40 +30,40 @@ use Rattle.time_parse.specs.Request.{shown, IsAnswer, Meaning, Means}
 use Rattle.time_parse.specs.Request as request
 use Rattle.time_parse.specs.declared.request.Version.{Version}
 
--- what was expected, as it is told: bytes as those of an argument are shown, between quotes
+-- What was expected, as text. The bytes of a literal are quoted, with `?` for each that isn't printable ASCII.
 abbrev pub expected_text : Wanted → List ℕ
 expected_text (these_bytes bytes) = codes "'" ++ map shown bytes ++ codes "'"
 expected_text (named name) = name
 expected_text the_end = codes "the end"
 
--- how a place is told, which is an index and what was expected there
+-- The text of a location: its index, and what was expected there.
 abbrev pub place_text : Option Miss → List ℕ
 place_text None = []
 place_text (Some at) = codes " at " ++ decimal at.left ++ codes ": expected " ++ expected_text at.wanted
 
--- an index alone, or nothing
+-- The text of an index alone, or nothing.
 abbrev pub index_text : Option ℕ → List ℕ
 index_text None = []
 index_text (Some index) = codes " at " ++ decimal index
 
--- what an outcome refuses
+-- The error of an outcome, if it has one.
 abbrev pub refusal_in : {V : Type 0} → Result V Refusal → Option Refusal
 refusal_in (Ok v) = None
 refusal_in (Err e) = Some e
 
--- It is the refusal of the text, or none where the text has a value. The format of these three relations reads it over
--- an empty record.
+-- The error with which the text is rejected, or nothing where it has a value. In the next three definitions the format
+-- parses over an empty record.
 abbrev pub IsRefusal : {V : Type 0} → Resolving V → Reading → Refusing → List ℕ → Option Refusal → Type 0
 IsRefusal {V} resolves reads refuses text refusal =
     (outcome : Result V Refusal) × IsOutcome resolves reads refuses text empty outcome × (refusal ≡ refusal_in outcome)
 
--- the same of a moment, which a format may read on a direct path
+-- The error for a moment, which a format may parse on a direct path.
 abbrev pub IsMomentRefusal : ℕ → Path → Reading → Refusing → List ℕ → Option Refusal → Type 0
 IsMomentRefusal Y path reads refuses text refusal =
     (outcome : Result OffsetDateTime Refusal) × IsMomentOutcome Y path reads refuses text None outcome
     × (refusal ≡ refusal_in outcome)
 
--- the same for the target
+-- The error for the target.
 abbrev pub IsRefusalFor : ℕ → Target → Path → Reading → Refusing → List ℕ → Option Refusal → Type 0
 IsRefusalFor Y target.Date path = IsRefusal (IsDated Y)
 IsRefusalFor Y target.Time path = IsRefusal IsTimed
@@ -74,14 +74,14 @@ IsRefusalFor Y target.DateTime path = IsMomentRefusal Y path
 IsRefusalFor Y target.Staged path = IsRefusal (IsMoment Y)
 IsRefusalFor Y target.Timestamp path = IsRefusal (IsTimestamp Y)
 
--- what is told of a refusal: the index at which the text goes wrong, if there is one
+-- The printed location of an error that isn't one of form: the index of the component that it names, if it has one.
 abbrev pub IsErrorPlace : Reading → Locating → Marking → List ℕ → Option Refusal → List ℕ → Type 0
 IsErrorPlace reads locates marks text None told = told ≡ []
 IsErrorPlace reads locates marks text (Some e) told =
     (index : Option ℕ) × IsErrorAt reads locates marks text empty e index × (told ≡ index_text index)
 
--- It is told where the text goes wrong that is read over an empty record: its place and what was expected there. Of a
--- text that is read whole it is told where the component begins whose range is refused for the target, or nothing.
+-- The printed location of a text's error, parsed over an empty record: its index and what was expected there. For a
+-- text that is parsed whole, the index of the component whose range is rejected for the target, or nothing.
 abbrev pub IsPlace : ℕ → Target → Path → Reading → Refusing → Locating → Marking → List ℕ → List ℕ → Type 0
 IsPlace Y target path reads refuses locates marks text told =
     ((at : Located) × IsLocated reads locates text empty (Some at) × (told ≡ place_text (seen_place (Some at))))
@@ -94,7 +94,7 @@ IsTreePlace Y bytes_told tree target =
     IsPlace Y target over_record (Description.Reads Y tree) (Description.Refuses Y tree) (LocatesTree Y bytes_told tree)
     (MarksTree Y tree)
 
--- the same, where the format has a name
+-- The printed location by a named format.
 abbrev pub IsNamedPlace : ℕ → Format → Target → List ℕ → List ℕ → Type 0
 IsNamedPlace Y format.Rfc3339 target =
     IsPlace Y target (direct (RefusesRfc3339 Y)) (Rfc3339.Reads Y) (Rfc3339.Refuses Y) located_rfc3339.Locates
@@ -109,24 +109,24 @@ IsNamedPlace Y format.Clock target = IsTreePlace Y all_bytes clock target
 IsNamedPlace Y format.Unix target = IsTreePlace Y all_bytes unix target
 IsNamedPlace Y format.Local target = IsTreePlace Y all_bytes local target
 
--- the same, where it means that
+-- The printed location by a format's meaning.
 abbrev pub IsPlaceBy : ℕ → Meaning → Target → List ℕ → List ℕ → Type 0
 IsPlaceBy Y (request.named format) target = IsNamedPlace Y format target
 IsPlaceBy Y (request.described tree) target = IsTreePlace Y first_byte tree target
 
--- the answer to a text, and after it where the text goes wrong
+-- The answer to a text, followed by the location of its error.
 abbrev pub IsPlacedAnswer : ℕ → Meaning → Target → List ℕ → List ℕ → Type 0
 IsPlacedAnswer Y meaning target text answer =
     (outcome : List ℕ) × (place : List ℕ)
     × IsAnswer Y meaning target text outcome × IsPlaceBy Y meaning target text place × (answer ≡ outcome ++ place)
 
--- the answer to a text, with its place where that is asked for
+-- The answer to a text, with the error's location if requested.
 abbrev pub IsAnswerAsked : Bool → ℕ → Meaning → Target → List ℕ → List ℕ → Type 0
 IsAnswerAsked false = IsAnswer
 IsAnswerAsked true = IsPlacedAnswer
 
--- A writer holds what it held, and then the answers to the lines of the input, by what the format means and for the
--- target of that name.
+-- The writer's contents are followed by the answers to the lines of the input, by the format and for the target with
+-- that name.
 abbrev pub WritesAnswers : ℕ → Bool → Version → List ℕ → List ℕ → Option (List ℕ) → Option (List ℕ) → List ℕ → Type 0
 WritesAnswers Y tells_places version format target old new input =
     (meaning : Meaning) × (value : Target)

@@ -1,4 +1,4 @@
--- What the format and target of the arguments ask for. `Y` is the greatest year.
+-- The requests that the arguments make. `Y` is the greatest year.
 use Rattle.std.specs.Prelude.{◌≡◌, ℕ, List, [], ◌++◌, codes, map, replicate, Option, Some, IfSome, ◌&&◌, nat_le, if◌then◌else◌, ◌⊎◌, ◌==◌, None, Bool, ◌∷◌, true, false}
 use Rattle.std.specs.Option.{option_map}
 use Rattle.std.specs.List.{list_any}
@@ -25,48 +25,48 @@ use Rattle.time_parse.specs.declared.request.Writing.TheVariants as writing
 use Rattle.time_parse.specs.declared.arguments.Command.{Command}
 use Rattle.time_parse.specs.declared.arguments.Command.TheVariants as command
 
--- ---- What is wrong with the arguments, without where their bytes lie in memory, and how it is told
+-- ---- Faults of the arguments, with the bytes of the argument by value, and how they are reported
 
--- each with the argument that is faulty
+-- Each has the faulty argument.
 pub data Reason : Type 0 where
   unknown_format : List ℕ → Reason
   faulty : List ℕ → Refusal → Reason
   unknown_target : List ℕ → Reason
 
--- what a fault says
+-- The reason of a fault.
 abbrev pub reason_of : Fault → Reason
 reason_of (fault.UnknownFormat name) = unknown_format name.now
 reason_of (fault.Description format error) = faulty format.now (description.refusal_of error)
 reason_of (fault.UnknownTarget name) = unknown_target name.now
 
--- what is printed of it; of a word that a description has nothing is said
+-- The message of a reason. A message that quotes an unknown word of the description isn't specified.
 abbrev pub reason_text : Reason → Option (List ℕ)
 reason_text (unknown_format name) = Some (codes "no format has this name, and a description has a `[` or a `%`")
 reason_text (faulty format refusal) = description.refusal_text refusal
 reason_text (unknown_target name) = Some (codes "no target has this name")
 
--- the argument that is faulty, and the index of the fault in it
+-- The faulty argument, and the index of the fault in it.
 abbrev pub place_of : Reason → Option (List ℕ × ℕ)
 place_of (unknown_format name) = Some (name, 0)
 place_of (faulty format refusal) = option_map (λ index. (format, index)) (index_of refusal)
 place_of (unknown_target name) = Some (name, 0)
 
--- a printable character of ASCII, and `?` for any other byte
+-- A printable character of ASCII as itself, and `?` for any other byte.
 abbrev pub shown : ℕ → ℕ
 shown byte = if nat_le 32 byte && nat_le byte 126 then byte else 63
 
--- the bytes on a line, and on the next a caret below the one of that index; each byte takes a column
+-- The bytes on a line, and on the next a caret below the byte at that index. Each byte is one column wide.
 abbrev pub pointed : List ℕ → ℕ → List ℕ
 pointed bytes index = codes "  " ++ map shown bytes ++ codes "\n  " ++ replicate index 32 ++ codes "^\n"
 
--- Lines that tell a reason: why, in the words that are printed of it, and where, if it has a place.
+-- The lines of a report: the message, and then the argument with a caret, if the fault has an index.
 abbrev pub IsTold : Reason → List ℕ → Type 0
 IsTold reason lines =
     (why : List ℕ) × IfSome (reason_text reason) (λ text. why ≡ text)
     × (lines ≡ codes "error: " ++ why ++ codes "\n"
     ++ by_option [] (λ place. pointed place.0 place.1) (place_of reason))
 
--- what a format means: one that has a name, or the tree of a description
+-- The meaning of a format: a named format, or the tree of a description.
 pub data Meaning : Type 0 where
   named : Format → Meaning
   described : Tree → Meaning
@@ -75,41 +75,42 @@ abbrev pub meaning_of : Chosen → Meaning
 meaning_of (chosen.Named format all) = named format
 meaning_of (chosen.Described steps) = described (steps_shape steps)
 
--- the number of a version
+-- The number of a version.
 abbrev pub number_of : Version → ℕ
 number_of version.One = 1
 number_of version.Two = 2
 
--- that byte stands among the bytes
+-- The byte is one of the bytes.
 abbrev pub has : ℕ → List ℕ → Bool
 has byte bytes = list_any (λ b. b == byte) bytes
 
--- how a format is written: by its name, else in brackets where it has a `[`, else as one of strftime where it has a `%`
+-- How a format is written: by its name, else in brackets if it contains `[`, else in strftime's syntax if it contains
+-- `%`.
 abbrev pub writing_of : List ℕ → Writing
 writing_of format =
     by_option (if has 91 format then writing.Brackets else if has 37 format then writing.Strftime else writing.Unknown)
     writing.Name (format_named format)
 
--- It means a tree of which P holds.
+-- The meaning is a tree with the property P.
 abbrev pub MeansTree : (Tree → Type 0) → Meaning → Type 0
 MeansTree P meaning = (tree : Tree) × P tree × (meaning ≡ described tree)
 
--- what a format means that is written so
+-- The meaning of a format that is written in that way.
 abbrev pub MeansBy : Writing → Version → List ℕ → Meaning → Type 0
 MeansBy (writing.Name format) version text meaning = meaning ≡ named format
 MeansBy writing.Brackets version text meaning = MeansTree (Describes (version_of (number_of version)) text) meaning
 MeansBy writing.Strftime version text meaning = MeansTree (DescribesStrftime text) meaning
 MeansBy writing.Unknown version text meaning = ⊥
 
--- what a format means
+-- The meaning of a format.
 abbrev pub Means : Version → List ℕ → Meaning → Type 0
 Means version text = MeansBy (writing_of text) version text
 
--- The text is refused for a reason of which P holds.
+-- The text is rejected for a reason with the property P.
 abbrev pub IsFaulty : (Refusal → Type 0) → List ℕ → Reason → Type 0
 IsFaulty P text reason = (refusal : Refusal) × P refusal × (reason ≡ faulty text refusal)
 
--- why a format that is written so means nothing
+-- The fault of a format that is written in that way.
 abbrev pub IsFaultBy : Writing → Version → List ℕ → Reason → Type 0
 IsFaultBy (writing.Name format) version text reason = ⊥
 IsFaultBy writing.Brackets version text reason =
@@ -117,21 +118,22 @@ IsFaultBy writing.Brackets version text reason =
 IsFaultBy writing.Strftime version text reason = IsFaulty (IsRefusedStrftime MOST_STEPS text) text reason
 IsFaultBy writing.Unknown version text reason = reason ≡ unknown_format text
 
--- why a format and the name of a target ask for nothing: the fault of the format, or else that of the name
+-- The fault of a format and a target's name: that of the format, or else that of the name.
 abbrev pub IsFault : Version → List ℕ → List ℕ → Reason → Type 0
 IsFault version format target reason =
     IsFaultBy (writing_of format) version format reason
     ⊎ ((meaning : Meaning) × Means version format meaning × (target_named target ≡ None)
     × (reason ≡ unknown_target target))
 
--- the answer to a text: its outcome by what the format means, for the target
+-- The answer to a text: its outcome by the format's meaning, for the target.
 abbrev pub IsAnswer : ℕ → Meaning → Target → List ℕ → List ℕ → Type 0
 IsAnswer Y (named format) target = IsParsed Y format target
 IsAnswer Y (described tree) target = IsDescribed Y tree target
 
--- ---- What the words of the command line say
+-- ---- The words of the command line
 
--- what the words ask for: a page, or answers, which may tell places, by a format, for a target
+-- What the command line requests: a page, or answers by a format, for a target, optionally with the locations of
+-- errors.
 pub data Asked : Type 0 where
   help : Asked
   program_version : Asked
@@ -145,13 +147,13 @@ seen (command.Parse question) =
     answers question.tells_places question.version question.format.now question.target.now
 seen command.Unknown = unknown
 
--- what one word asks for
+-- The request of a single word.
 abbrev pub page : List ℕ → Asked
 page word =
     if bytes_eq word (codes "--help") then help else
     if bytes_eq word (codes "--version") then program_version else unknown
 
--- what the words after `--place` ask for, or all words without it
+-- The request of the words after `--place`, or of all words without it.
 abbrev pub question_of : Bool → List (List ℕ) → Asked
 question_of tells_places (format ∷ target ∷ []) =
     if bytes_eq format (codes "--v1") then unknown else answers tells_places version.Two format target
@@ -159,7 +161,7 @@ question_of tells_places (option ∷ format ∷ target ∷ []) =
     if bytes_eq option (codes "--v1") then answers tells_places version.One format target else unknown
 question_of tells_places words = unknown
 
--- what the words after the program's name ask for
+-- The request of the words after the program's name.
 abbrev pub command_of : List (List ℕ) → Asked
 command_of [] = unknown
 command_of (word ∷ []) = page word

@@ -1,4 +1,4 @@
-//! What the words of the command line say, and what is wrong with them.
+//! Parses the command line, and reports its faults.
 ghost use Rattle.std.specs.Prelude.{◌≡◌, map, string_bytes, IfOk};
 ghost use Rattle.time_parse.specs.Request as spec;
 ghost use Rattle.std.specs.Option.{option_map};
@@ -10,10 +10,10 @@ use std::alloc::{AllocError, Global};
 use std::fmt;
 use time_descriptions::InvalidFormatDescription;
 
-/// A format and a target, as they were given.
+/// A format and a target, as on the command line.
 #[derive(Clone, Copy)]
 pub struct Question<'a> {
-    /// Whether it is told where a text is refused.
+    /// Whether an error is printed with its location.
     pub tells_places: bool,
     /// The version of a description in brackets.
     pub version: Version,
@@ -23,20 +23,20 @@ pub struct Question<'a> {
     pub target: &'a str,
 }
 
-/// What the words ask for.
+/// What the command line requests.
 #[derive(Clone, Copy)]
 pub enum Command<'a> {
-    /// A page that tells how the program is called.
+    /// The page of help.
     Help,
     /// The program's name and version.
     Version,
-    /// Answers.
+    /// Answers to the lines of standard input.
     Parse(Question<'a>),
-    /// Nothing that there is.
+    /// No known request.
     Unknown,
 }
 
-// What one word asks for.
+// The request of a single word.
 fn page<'a>(word: &str) -> Command<'a>
     ensures { spec.seen result ≡ spec.page word.now }
 {
@@ -47,7 +47,7 @@ fn page<'a>(word: &str) -> Command<'a>
     }
 }
 
-// What the words after `--place` ask for, or all words without it.
+// The request of the words after `--place`, or of all words without it.
 fn question_of(tells_places: bool, words: &[String]) -> Command<'_>
     ensures { spec.seen result ≡ spec.question_of tells_places (map string_bytes words.now) }
 {
@@ -78,7 +78,7 @@ fn question_of(tells_places: bool, words: &[String]) -> Command<'_>
     }
 }
 
-/// What the words after the program's name ask for.
+/// The request of the words after the program's name.
 pub fn command_of(words: &[String]) -> Command<'_>
     ensures { spec.seen result ≡ spec.command_of (map string_bytes words.now) }
 {
@@ -95,22 +95,22 @@ pub fn command_of(words: &[String]) -> Command<'_>
     }
 }
 
-/// What is wrong with a format or a target.
+/// The fault of a format or a target.
 #[derive(Clone, Copy, Debug)]
 pub enum Fault<'a> {
-    /// The format has no name and is no description.
+    /// The format is neither a name nor a description.
     UnknownFormat {
         /// The format.
         name: &'a [u8],
     },
-    /// The description is faulty.
+    /// The description is malformed.
     Description {
         /// The description.
         format: &'a [u8],
         /// Its first fault.
         error: InvalidFormatDescription<'a>,
     },
-    /// No target has the name.
+    /// The target isn't a name.
     UnknownTarget {
         /// The name.
         name: &'a [u8],
@@ -135,7 +135,7 @@ impl fmt::Display for Fault<'_> {
 }
 
 impl<'a> Fault<'a> {
-    // The argument that is faulty, and the index of the fault in it.
+    // The faulty argument, and the index of the fault in it.
     fn place(&self) -> Option<(&'a [u8], usize)>
         ensures { option_map (λ place. (place.0.now, place.1)) result ≡ spec.place_of (reason_of self.now) }
     {
@@ -147,7 +147,7 @@ impl<'a> Fault<'a> {
     }
 }
 
-/// What is shown of a byte: itself where it is a printable character of ASCII, and else `?`.
+/// A byte as it is printed: itself if it is a printable character of ASCII, else `?`.
 pub fn shown(byte: u8) -> u8
     ensures { result ≡ spec.shown byte }
 {
@@ -158,7 +158,7 @@ pub fn shown(byte: u8) -> u8
     }
 }
 
-// The bytes on a line, and on the next a caret below the one of that index. Each byte takes a column.
+// The bytes on a line, and on the next a caret below the byte at that index. Each byte is one column wide.
 fn pointed(alloc: Global, bytes: &[u8], index: usize) -> Result<Vec<u8>, AllocError>
     ensures { IfOk result (λ lines. lines.items ≡ spec.pointed bytes.now index) }
 {
@@ -173,7 +173,8 @@ fn pointed(alloc: Global, bytes: &[u8], index: usize) -> Result<Vec<u8>, AllocEr
     Ok(lines)
 }
 
-/// How a fault is told: a line that says why, and where the fault has a place, two lines that show it.
+/// The report of a fault: a line with its message, and two lines that point at its index, if it has one. `Err`: out of
+/// memory.
 pub fn told(alloc: Global, fault: Fault<'_>) -> Result<Vec<u8>, AllocError>
     ensures { IfOk result (λ lines. IsTold (reason_of fault.entry) lines.items) }
 {

@@ -1,11 +1,11 @@
-//! What holds of answers, as a function's contract.
+//! Laws of answers: the function does nothing, and its contract is the law.
 ghost use Rattle.time_values.specs.Calendar.{greatest_year};
 ghost use Rattle.time_parse.specs.Place.{OneMeaning, OneAnswer, OneWriting};
 
 use time_descriptions::laws::{law_one_description, law_one_strftime_description};
 
-/// A format means one thing at most, a text has at most one answer by it, and what a run leaves follows from the words
-/// of the command line and its input.
+/// A format has at most one meaning, a text has at most one answer by it, and the output of a run is determined by the
+/// command line and the input.
 pub fn law_one_answer()
     ensures meaning { OneMeaning }
     ensures text { OneAnswer greatest_year }

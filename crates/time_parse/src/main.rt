@@ -1,6 +1,6 @@
-//! Reads texts of dates and times from standard input, and prints what they say.
+//! Parses date-time texts from standard input, and prints their values.
 //!
-//! `time_parse FORMAT TARGET` reads each line by the format, and answers it by a line.
+//! `time_parse FORMAT TARGET` parses each line by the format, and writes one line for it.
 #![tactic(auto)]
 
 mod arguments;
@@ -32,7 +32,7 @@ With --place an error says where a text goes wrong, as ` at 5: expected month`.
 The status is 0; or 1 after a failed write; or 2 after a fault of the arguments,
 or a failed read.";
 
-// Answers the lines of standard input, and gives the exit status.
+// Answers the lines of standard input, and returns the exit status.
 fn answer(rt: &HostRuntime, question: Question<'_>) -> io::Result<u8> {
     let mut input = Counted::new(rt.reader());
     let mut out = Waiting::new(Counted::new(io::writer(rt)));
@@ -49,13 +49,13 @@ fn answer(rt: &HostRuntime, question: Question<'_>) -> io::Result<u8> {
     }
 }
 
-// Tells how the program is called.
+// Prints the usage to standard error.
 fn tell_usage(rt: &HostRuntime) -> io::Result<u8> {
     eprintln!(rt; "{USAGE}")?;
     Ok(2)
 }
 
-// Does what the words of the command line ask for.
+// Runs what the command line requests.
 fn follow(rt: &HostRuntime, words: &[String]) -> io::Result<u8> {
     match command_of(words) {
         Command::Help => {

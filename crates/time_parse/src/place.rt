@@ -1,4 +1,4 @@
-//! Where a text is refused, after its answer.
+//! Writes where a text is rejected, after its answer.
 ghost use Rattle.std.specs.Prelude.{OnOk, codes, map, ◌++◌, ◌≡◌};
 ghost use Rattle.std.specs.Fmt.{decimal};
 ghost use Rattle.std.specs.Io.KnownBytes.{Appends};
@@ -28,14 +28,14 @@ use time_parsing::{Iso8601, Parsable, Rfc2822, Rfc3339};
 use time_record::Parsed;
 use time_values::error::Parse;
 
-/// What answers lines, and tells after the answer to a line where its text goes wrong.
+/// Answers lines, and appends the location of the error to the answer of a rejected one.
 #[derive(Drop)]
 pub struct Placing {
-    /// What is asked for.
+    /// The format and the target.
     pub request: Request,
 }
 
-// Writes the bytes as they are shown.
+// Writes the bytes, with `?` for each that isn't printable.
 fn write_shown<W: Sink>(bytes: &[u8], out: &mut W) -> Result<(), Unwritten>
     ensures bytes { OnOk result (Appends (W.contents out.old) (W.contents out.new) (map fault.shown bytes.now)) }
     ensures cause { HasCause result (W.faults out.old) (W.faults out.new) }
@@ -65,7 +65,7 @@ fn write_expected<W: Sink>(expected: Expected<'_>, out: &mut W) -> Result<(), Un
     out.write_all(told)
 }
 
-// The error of a parse.
+// The error of an outcome, if it has one.
 fn error_of<V: Drop>(outcome: Result<V, Parse>) -> Option<Parse>
     ensures { option_map refusal_of result ≡ refusal_in (seen outcome) }
 {
@@ -75,7 +75,7 @@ fn error_of<V: Drop>(outcome: Result<V, Parse>) -> Option<Parse>
     }
 }
 
-// Why the text has no value for the target by the format, or `None` where it has one.
+// The error of the text for the target by the format, or `None` where it has a value.
 fn refusal<F: Parsable>(format: &F, target: Target, text: &[u8]) -> Option<Parse>
     ensures { IsRefusalFor greatest_year target (F.path format.now) (F.reads format.now) (F.refuses format.now) text.now
         (option_map refusal_of result) }
@@ -102,7 +102,7 @@ fn write_number<W: Sink>(number: usize, out: &mut W) -> Result<(), Unwritten>
     out.write_all(buffer.format(number).as_bytes())
 }
 
-// Writes an index, or nothing.
+// Writes an index, or nothing for `None`.
 fn write_index<W: Sink>(index: Option<usize>, out: &mut W) -> Result<(), Unwritten>
     ensures bytes { OnOk result (Appends (W.contents out.old) (W.contents out.new) (index_text index)) }
     ensures cause { HasCause result (W.faults out.old) (W.faults out.new) }
@@ -115,7 +115,7 @@ fn write_index<W: Sink>(index: Option<usize>, out: &mut W) -> Result<(), Unwritt
     write_number(index, out)
 }
 
-// Writes an index at which something was expected.
+// Writes an index, before what was expected there.
 fn write_found<W: Sink>(index: usize, out: &mut W) -> Result<(), Unwritten>
     ensures bytes { OnOk result (Appends (W.contents out.old) (W.contents out.new) (codes " at " ++ decimal index ++ codes ": expected ")) }
     ensures cause { HasCause result (W.faults out.old) (W.faults out.new) }
@@ -125,7 +125,7 @@ fn write_found<W: Sink>(index: usize, out: &mut W) -> Result<(), Unwritten>
     out.write_all(b": expected ")
 }
 
-// Writes where the text goes wrong of which this is the error, or nothing.
+// Writes the index of the component that this error of the text is about, or nothing.
 fn write_error_place<F: Locate, W: Sink>(
     format: &F,
     error: Option<Parse>,
@@ -143,7 +143,7 @@ fn write_error_place<F: Locate, W: Sink>(
     }
 }
 
-// Writes where the text goes wrong by the format for the target, or nothing.
+// Writes the location of the text's error by the format for the target, or nothing.
 fn write_place<F: Locate, W: Sink>(
     format: &F,
     target: Target,
@@ -163,7 +163,7 @@ fn write_place<F: Locate, W: Sink>(
     write_expected(place.expected, out)
 }
 
-// Writes where the text goes wrong by a description of a date.
+// Writes the location by a description of a date.
 fn write_ymd_place<W: Sink>(target: Target, text: &[u8], out: &mut W) -> Result<(), Unwritten>
     ensures bytes { OnOk result (Writes (IsTreePlace greatest_year all_bytes formats.ymd target text.now)
         (W.contents out.old) (W.contents out.new)) }
@@ -174,7 +174,7 @@ fn write_ymd_place<W: Sink>(target: Target, text: &[u8], out: &mut W) -> Result<
     write_place(&compound(&items), target, text, out)
 }
 
-// The same by a description of a time on a clock of 12 hours.
+// Writes the location by a description of a time on a clock of 12 hours.
 fn write_clock_place<W: Sink>(target: Target, text: &[u8], out: &mut W) -> Result<(), Unwritten>
     ensures bytes { OnOk result (Writes (IsTreePlace greatest_year all_bytes formats.clock target text.now)
         (W.contents out.old) (W.contents out.new)) }
@@ -189,7 +189,7 @@ fn write_clock_place<W: Sink>(target: Target, text: &[u8], out: &mut W) -> Resul
     write_place(&compound(&items), target, text, out)
 }
 
-// The same by a description of a date, time and offset, or of a year and its day.
+// Writes the location by a description of a date, time and offset, or of a year and its day.
 fn write_local_place<W: Sink>(target: Target, text: &[u8], out: &mut W) -> Result<(), Unwritten>
     ensures bytes { OnOk result (Writes (IsTreePlace greatest_year all_bytes formats.local target text.now)
         (W.contents out.old) (W.contents out.new)) }
@@ -202,7 +202,7 @@ fn write_local_place<W: Sink>(target: Target, text: &[u8], out: &mut W) -> Resul
     write_place(&first(&lists), target, text, out)
 }
 
-// The same by a format that has a name.
+// Writes the location by a named format.
 fn write_named_place<W: Sink>(
     format: Format,
     target: Target,
@@ -224,7 +224,7 @@ fn write_named_place<W: Sink>(
     }
 }
 
-// The same by what is chosen.
+// Writes the location by the chosen format.
 fn write_chosen_place<W: Sink>(
     chosen: &Chosen,
     target: Target,

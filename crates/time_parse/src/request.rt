@@ -1,4 +1,4 @@
-//! What the arguments ask for: which format reads a text, and what is made of it.
+//! The format and the target that the arguments request.
 ghost use Rattle.std.specs.Prelude.{◌≡◌, Some, IfOk, IfErr, OnOk, MatchResult};
 ghost use Rattle.time_values.specs.Calendar.{greatest_year};
 ghost use Rattle.time_descriptions.specs.Description.{IsRefused, shape, version_of};
@@ -23,15 +23,15 @@ use time_preparing::Prepared;
 use time_record::Parsed;
 use time_values::{Date, OffsetDateTime, PlainDateTime, Time, Timestamp, UtcDateTime, UtcOffset};
 
-// The most steps that a description may have. One in brackets of so many bytes has room.
+// The most steps of a description. One in brackets of at most this many bytes fits.
 pub(crate) const MOST_STEPS: usize = 1024;
 
 /// The version of a description in brackets.
 #[derive(Clone, Copy, Debug, PartialEq, Eq)]
 pub enum Version {
-    /// The one in which `[[` stands for a bracket.
+    /// `[[` is a literal bracket.
     One,
-    /// The one in which `\[` does.
+    /// `\[` is a literal bracket.
     Two,
 }
 
@@ -44,16 +44,16 @@ pub enum Writing {
     Brackets,
     /// As a description of strftime.
     Strftime,
-    /// In none of these ways.
+    /// Neither a name nor a description.
     Unknown,
 }
 
-/// The format that reads a text.
+/// The format that parses the texts.
 #[derive(Drop)]
 pub enum Chosen {
-    /// One that has a name, and those that have one.
+    /// A named format, with the prepared formats of all names.
     Named(Format, Named),
-    /// One that is described, prepared for many lines.
+    /// A description, prepared for many lines.
     Described(Prepared<MOST_STEPS>),
 }
 
@@ -66,8 +66,8 @@ pub struct Request {
     pub target: Target,
 }
 
-// How the format is written: by a name, else as a description where it has a `[`, else as one of strftime where it has
-// a `%`.
+// How the format is written: by its name, else in brackets if it contains `[`, else in strftime's syntax if it contains
+// `%`.
 fn find_writing(format: &[u8]) -> Writing
     ensures { result ≡ writing_of format.now }
 {
@@ -82,7 +82,7 @@ fn find_writing(format: &[u8]) -> Writing
     }
 }
 
-// Reads a description in brackets of the version.
+// Parses a description in brackets of the version.
 fn read_brackets(
     version: Version,
     format: &[u8],
@@ -96,7 +96,7 @@ fn read_brackets(
     }
 }
 
-// The format that is described in brackets.
+// The format of a description in brackets.
 fn bracketed(version: Version, format: &[u8]) -> Result<Chosen, Fault<'_>>
     ensures { MatchResult result
         (λ chosen. MeansTree (Describes (version_of (number_of version)) format.now) (meaning_of chosen))
@@ -108,7 +108,7 @@ fn bracketed(version: Version, format: &[u8]) -> Result<Chosen, Fault<'_>>
     }
 }
 
-// The format that is described as strftime has it.
+// The format of a description in strftime's syntax.
 fn lettered(format: &[u8]) -> Result<Chosen, Fault<'_>>
     ensures { MatchResult result
         (λ chosen. MeansTree (DescribesStrftime format.now) (meaning_of chosen))
@@ -120,7 +120,7 @@ fn lettered(format: &[u8]) -> Result<Chosen, Fault<'_>>
     }
 }
 
-// What the format means, or its fault.
+// The chosen format, or its fault.
 fn choose(version: Version, format: &[u8]) -> Result<Chosen, Fault<'_>>
     ensures { MatchResult result
         (λ chosen. Means version format.now (meaning_of chosen))
@@ -135,7 +135,7 @@ fn choose(version: Version, format: &[u8]) -> Result<Chosen, Fault<'_>>
 }
 
 impl Request {
-    /// What the words ask for: a format that has a name, or is described, and the target of that name.
+    /// Looks up a format by its name or parses its description, and looks up the target by its name.
     ///
     /// # Errors
     ///
@@ -157,8 +157,8 @@ impl Request {
     }
 }
 
-// Writes the outcome of the text by a description for a target of that type: the value, or `error: ` and why there is none.
-// Each type has a function of its own, so that a line clears no place of another's value.
+// Writes the outcome of the text by a description: the value, or `error: ` and the error. Each target has a function of
+// its own, so that a line doesn't clear the stack slots of other targets' values.
 #[inline(never)]
 fn write_as<V: time_parsing::Target + Layout, W: Sink>(
     prepared: &Prepared<MOST_STEPS>,
@@ -173,7 +173,7 @@ fn write_as<V: time_parsing::Target + Layout, W: Sink>(
     write_outcome(V::parse(text, prepared), out)
 }
 
-// The same of a moment that is parsed over an empty record.
+// Writes the outcome of a moment that is parsed over an empty record.
 #[inline(never)]
 fn write_staged<W: Sink>(
     prepared: &Prepared<MOST_STEPS>,
@@ -191,7 +191,7 @@ fn write_staged<W: Sink>(
     )
 }
 
-// The same for any target.
+// Writes the outcome for any target.
 #[inline(never)]
 fn write_described<W: Sink>(
     prepared: &Prepared<MOST_STEPS>,

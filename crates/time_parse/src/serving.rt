@@ -1,4 +1,4 @@
-//! Answers whole inputs.
+//! Answers all lines of an input.
 ghost use Rattle.std.specs.Prelude.{◌≡◌, Err, OnOk, IfSome};
 ghost use Rattle.time_values.specs.Calendar.{greatest_year};
 ghost use Rattle.programs_answers.specs.Output.{HasReadCause, HasWriteCause, IsCounted, IsReadCounted};
@@ -17,16 +17,16 @@ use programs_answers::{Stop, Waiting};
 use programs_streams::{Sink, Source};
 use std::alloc::Global;
 
-/// Why the program stopped before its end.
+/// Why the program exits early.
 #[derive(Clone, Copy)]
 pub enum Failure<'a> {
-    /// The question has a fault.
+    /// The format or the target has a fault.
     Asked(Fault<'a>),
-    /// The input or the output failed.
+    /// Reading, writing or allocating failed.
     Stopped(Stop),
 }
 
-// Writes the answer to each line of the input, with its place where that is asked for.
+// Writes the answer to each line of the input, with the locations of errors where those are requested.
 fn serve_asked<R: Source, W: Sink>(
     request: Request,
     tells_places: bool,
@@ -49,12 +49,11 @@ fn serve_asked<R: Source, W: Sink>(
     }
 }
 
-/// Reads the input to its end, and writes the answer to each of its lines, by the format and for the target that are
-/// asked for. Where it is asked for, the answer says where the text goes wrong.
+/// Reads the input to its end, and writes the answer to each of its lines, by the requested format and for the
+/// requested target. If locations are requested, the answer to a rejected line has the location of its error.
 ///
-/// It stops before its end only after a read of the source or a write of the sink that gave an error, or where memory is
-/// short, or where 4294967296 reads didn't come to the end. Where the question has a fault, nothing was read and nothing was
-/// written.
+/// Returns early only after a read or a write that failed, when memory runs out, or when 4294967296 reads don't reach
+/// the end. If the format or the target has a fault, nothing is read or written.
 pub fn serve<'a, R: Source, W: Sink>(
     question: Question<'a>,
     alloc: Global,

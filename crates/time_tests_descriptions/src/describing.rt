@@ -1,4 +1,4 @@
-//! Tests of the texts that are written of descriptions, and the example of their page.
+//! Tests of the texts of descriptions, and the example of their page.
 ghost use Rattle.std.specs.Prelude.{◌≡◌, map, IfOk};
 ghost use Rattle.time_components.specs.Tree.{borrowed_shape, sequence, trees};
 ghost use Rattle.time_descriptions.specs.Description.{shape};
@@ -8,7 +8,7 @@ use time_components::{BorrowedFormatItem, item};
 use time_describing::{NoText, description_of, text_of};
 use time_descriptions::Description;
 
-/// The description of items in turn.
+/// The description of a sequence of items.
 pub fn description_of_items<const N: usize>(
     items: &[BorrowedFormatItem<'_>],
 ) -> Result<Description<N>, NoText>
@@ -25,15 +25,15 @@ fn text_of_a_clock(rt: HostRuntime) {
     assert!(rt; description_of_items::<32>(&items).is_ok());
 }
 
-// The text of what a text describes.
+// The text of a parsed description.
 mod texts {
     use std::alloc::Global;
     use time_components::{BorrowedFormatItem, item};
     use time_describing::{DescriptionText, NoText, description_of, text_of};
     use time_descriptions::parse_owned;
 
-    // Texts, and the one that is written of what they describe: without defaults, with one space before each modifier and
-    // each list, and in small letters.
+    // Texts of descriptions, and the canonical text of each: without default modifiers, with one space before each
+    // modifier and each list, and in small letters.
     static TEXTS: [(&[u8], &[u8]); 30] = [
         (b"", b""),
         (b"[ year\tpadding:zero ]", b"[year]"),
@@ -103,7 +103,7 @@ mod texts {
         ),
     ];
 
-    /// A text was written, and is that.
+    /// Whether the text was written, and is this one.
     pub fn is_text<const N: usize>(
         text: Result<DescriptionText<N>, NoText>,
         wanted: &[u8],
@@ -114,7 +114,7 @@ mod texts {
         }
     }
 
-    // That is written of what the text describes.
+    // Whether the canonical text of the parsed description is this one.
     fn is_written(alloc: Global, read: &[u8], written: &[u8]) -> bool {
         match parse_owned::<2>(alloc, read) {
             Ok(item) => is_text(text_of::<64, _>(&item), written),
@@ -133,7 +133,7 @@ mod texts {
         }
     }
 
-    // The item has a description of so many steps, and it has room.
+    // Whether the item's description has this many steps, and fits them.
     fn has_steps(item: &BorrowedFormatItem<'_>, wanted: usize) -> bool {
         match description_of::<28, _>(item) {
             Ok(description) => description.steps().len() == wanted,
@@ -141,7 +141,7 @@ mod texts {
         }
     }
 
-    // A text has room exactly where it has as many bytes.
+    // A text fits exactly in a buffer of at least its length.
     #[test]
     fn borrowed_items(rt: HostRuntime) {
         let second = [item!(":"), item!(Second)];
@@ -153,19 +153,19 @@ mod texts {
     }
 }
 
-// Items without a text.
+// Items that no text describes.
 mod refused {
     use std::alloc::{AllocError, Global};
     use time_components::{BorrowedFormatItem, OwnedFormatItem, item};
     use time_describing::{NoText, is_described, text_of};
 
-    // Whether no text describes the items in turn.
+    // Whether no text describes the sequence of items.
     fn is_refused(items: &[BorrowedFormatItem<'_>]) -> bool {
         let item = BorrowedFormatItem::Compound(items);
         !is_described(&item) && text_of::<256, _>(&item).err() == Some(NoText::Undescribed)
     }
 
-    // A text is of items in turn.
+    // The items of a text are a sequence.
     #[test]
     fn lone_items(rt: HostRuntime) {
         for item in [item!(Day), item!("-")] {
@@ -173,7 +173,7 @@ mod refused {
         }
     }
 
-    // A literal is read up to the next special byte, so two of them would be one.
+    // A literal extends to the next special byte, so two of them would be one.
     #[test]
     fn literals(rt: HostRuntime) {
         for items in [
@@ -206,7 +206,7 @@ mod refused {
         is_refused(&[BorrowedFormatItem::First(items)])
     }
 
-    // Inside a list a closing bracket ends the list.
+    // A closing bracket would end the list that it is in.
     #[test]
     fn lists(rt: HostRuntime) {
         let closing = [item!("a]")];
@@ -216,7 +216,7 @@ mod refused {
         assert!(rt; is_refused_as_choice(&lists));
     }
 
-    // A group has lists, and a choice one at least.
+    // A group has lists, and a choice at least one.
     #[test]
     fn groups(rt: HostRuntime) {
         let days = [item!(Day)];
@@ -232,7 +232,7 @@ mod refused {
         Ok(OwnedFormatItem::Compound(items))
     }
 
-    // That many optional lists inside one another.
+    // Nested optional lists.
     fn nested(alloc: Global, levels: usize) -> Result<OwnedFormatItem, AllocError> {
         let mut item = OwnedFormatItem::Compound(Vec::new(alloc));
         for _ in 0..levels {
@@ -241,7 +241,7 @@ mod refused {
         Ok(item)
     }
 
-    // So many optional lists inside one another have a text, or have none for that reason.
+    // Whether optional lists nested this deep have a text, or no text for that reason.
     fn has_outcome(alloc: Global, levels: usize, reason: Option<NoText>) -> bool {
         match nested(alloc, levels) {
             Ok(item) => text_of::<128, _>(&item).err() == reason,
@@ -249,7 +249,7 @@ mod refused {
         }
     }
 
-    // Eight lists may stand inside one another.
+    // Lists may be nested eight deep.
     #[test]
     fn deep_lists(rt: HostRuntime) {
         assert!(rt; has_outcome(rt.alloc(), 8, None));

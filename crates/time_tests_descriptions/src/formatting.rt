@@ -1,4 +1,4 @@
-//! Tests of the texts of moments by descriptions: what is written, what can't be, and the example of their page.
+//! Tests of the texts of moments by descriptions, of the errors, and the example of their page.
 ghost use Rattle.std.specs.Prelude.{◌≡◌, Ok, IfSome, IfNone, IsErr};
 ghost use Rattle.time_components.specs.Tree.{steps_shape};
 ghost use Rattle.time_formatting.specs.Texts.{text_of};
@@ -34,7 +34,7 @@ fn day_and_hour(rt: HostRuntime) -> Result<(), Fail> {
     Ok(())
 }
 
-// What is written of moments by descriptions, and what can't be.
+// Moments by descriptions, as text or as an error.
 mod moments {
     use time_components::Step;
     use time_descriptions::parse_borrowed;
@@ -42,7 +42,7 @@ mod moments {
     use time_values::error::ComponentRange;
     use time_values::{Date, OffsetDateTime, Time, UtcOffset};
 
-    /// The moment of a year and a place in it, the parts of a time, and the parts of an offset.
+    /// The moment of a day of a year, the parts of a time, and the parts of an offset.
     pub fn moment(
         day: (i32, u16),
         clock: (u8, u8, u8, u32),
@@ -54,7 +54,7 @@ mod moments {
         Ok(OffsetDateTime::new_in_offset(date, time, offset))
     }
 
-    /// Whether the text was written, or refused for that reason.
+    /// Whether the text was written, or rejected for that reason.
     pub fn is_answer(
         answer: Result<Text, Unformattable>,
         wanted: Result<&[u8], Unformattable>,
@@ -66,7 +66,7 @@ mod moments {
         }
     }
 
-    /// Whether the moment has that text by a description written as text.
+    /// Whether the moment has that text by a description as text.
     pub fn is_text(value: OffsetDateTime, description: &[u8], wanted: &[u8]) -> bool {
         match parse_borrowed::<2, 64>(description) {
             Ok(steps) => is_answer(format(value, steps.steps()), Ok(wanted)),
@@ -74,7 +74,7 @@ mod moments {
         }
     }
 
-    /// Whether the moment has no text by a description written as text, for that reason.
+    /// Whether the moment is rejected for that reason by a description as text.
     pub fn is_refused(value: OffsetDateTime, description: &[u8], why: Unformattable) -> bool {
         match parse_borrowed::<2, 64>(description) {
             Ok(steps) => is_answer(format(value, steps.steps()), Err(why)),
@@ -133,7 +133,7 @@ mod moments {
             Ok(())
         }
 
-        // 13:02:03.456789012, as the tests of the crate `time` have it.
+        // 13:02:03.456789012, as in the tests of the crate `time`.
         static TIME: [(&[u8], &[u8]); 19] = [
             (b"[hour]", b"13"),
             (b"[hour repr:12]", b"01"),
@@ -172,7 +172,7 @@ mod moments {
             Ok(())
         }
 
-        // The moment of the documentation of `OffsetDateTime::format`, and offsets that have no hours.
+        // The moment in the documentation of `OffsetDateTime::format`, and offsets of less than an hour.
         static OFFSET: [(&[u8], &[u8]); 4] = [
             (
                 b"[year]-[month]-[day] [hour]:[minute]:[second]",
@@ -278,7 +278,7 @@ mod moments {
             Ok(())
         }
 
-        // A second and a half before 1970, and the billionth second after it began.
+        // A second and a half before 1970, and the billionth second after it started.
         static BEFORE: [(&[u8], &[u8]); 4] = [
             (b"[unix_timestamp]", b"-2"),
             (b"[unix_timestamp precision:millisecond]", b"-1500"),
@@ -309,7 +309,7 @@ mod moments {
                     description.escape_ascii()
                 );
             }
-            // 2001-09-09T01:46:40Z on a clock that is an hour ahead.
+            // 2001-09-09T01:46:40Z at +01:00.
             let value = moment((2001, 252), (2, 46, 40, 0), (1, 0, 0))?;
             for (description, text) in &LATER {
                 assert!(rt;
@@ -355,7 +355,8 @@ mod moments {
         use std::test::Fail;
         use time_components::{Component, Group, Step, modifier};
 
-        // A group whose steps aren't all there has those that are, and a further byte without a first one is one itself.
+        // A group that is longer than the remaining steps has those that remain, and a byte of `More` after no literal
+        // is a literal.
         #[test]
         fn rows(rt: HostRuntime) -> Result<(), Fail> {
             let value = moment((2021, 100), (0, 0, 0, 0), (0, 0, 0))?;
@@ -395,7 +396,7 @@ mod moments {
         }
     }
 
-    // What has no text, and what the reasons print.
+    // What has no text, and the texts of the reasons.
     mod refused {
         use super::{is_refused, is_text, moment};
         use std::test::Fail;
@@ -442,7 +443,7 @@ mod moments {
             Ok(())
         }
 
-        // A text has 35 bytes at most.
+        // A text has at most 35 bytes.
         #[test]
         fn lengths(rt: HostRuntime) -> Result<(), Fail> {
             let value = moment((2021, 100), (0, 0, 0, 0), (0, 0, 0))?;

@@ -1,6 +1,6 @@
-//! Tests of descriptions written as text: worked ones have their steps or their fault; every short text, and every cut
-//! and changed one, has the fault that a slow reader gives; and of the room for their steps, of their trees as items that
-//! own their parts, of the texts of descriptions, and of the texts of moments by them.
+//! Tests of descriptions written as text: worked ones have their steps or their error; every short text, and every
+//! truncated and changed one, has the error of a slow parser; and tests of the room for their steps, of their trees as
+//! items that own their parts, of the texts of descriptions, and of the texts of moments by them.
 #![tactic(auto)]
 
 #[cfg(test)]

@@ -1,7 +1,8 @@
-//! A slow reader of descriptions, written from the grammar. It goes by indexes over the whole text, and keeps nothing.
+//! A slow parser of descriptions, written from the grammar. It works by indexes into the whole text, and stores
+//! nothing.
 use time_descriptions::InvalidFormatDescription;
 
-/// The text, and the version that it is read by.
+/// The text, and the version of its syntax.
 #[derive(Clone, Copy)]
 pub struct Slow<'a> {
     /// The text.
@@ -10,10 +11,10 @@ pub struct Slow<'a> {
     pub version: usize,
 }
 
-/// The index after what was read, or the first fault.
+/// The index after the parsed part, or the first error.
 type Read<'a> = Result<usize, InvalidFormatDescription<'a>>;
 
-/// The values of a key; of a count none is listed.
+/// A key and its values. A count has no listed values.
 type Key = (&'static str, &'static [&'static str]);
 
 const PADDING: Key = ("padding", &["zero", "space", "none"]);
@@ -84,17 +85,17 @@ pub static NAMES: [(&str, &[Key]); 17] = [
     ("end", &[("trailing_input", &["prohibit", "discard"])]),
 ];
 
-// The expectation at the index.
+// The error of that expectation at the index.
 fn expected(what: &'static str, index: usize) -> InvalidFormatDescription<'static> {
     InvalidFormatDescription::Expected { what, index }
 }
 
-// The word is no modifier here.
+// The error of a word that isn't a modifier here.
 fn invalid(value: &[u8], index: usize) -> InvalidFormatDescription<'_> {
     InvalidFormatDescription::InvalidModifier { value, index }
 }
 
-// What stands beside the name, in letters of either case.
+// The value of the name in the table, in letters of either case.
 fn beside<V: Copy>(rows: &[(&str, V)], name: &[u8]) -> Option<V> {
     for (own, value) in rows {
         if own.as_bytes().eq_ignore_ascii_case(name) {
@@ -104,12 +105,12 @@ fn beside<V: Copy>(rows: &[(&str, V)], name: &[u8]) -> Option<V> {
     None
 }
 
-// The keys of the component of that name.
+// The keys of the component with that name.
 fn keys_of(name: &[u8]) -> Option<&'static [Key]> {
     beside(&NAMES, name)
 }
 
-// Whether the bytes are digits that say 1 to 65535.
+// Whether the bytes are the digits of 1 to 65535.
 fn is_count(bytes: &[u8]) -> bool {
     let mut value = 0u64;
     for byte in bytes {
@@ -137,7 +138,7 @@ fn is_value(values: &[&str], bytes: &[u8]) -> bool {
 }
 
 impl<'a> Slow<'a> {
-    /// The first fault of the text.
+    /// The first error of the text.
     pub fn fault(self) -> Option<InvalidFormatDescription<'a>> {
         self.items(8, false, 0).err()
     }
@@ -210,7 +211,7 @@ impl<'a> Slow<'a> {
         }
     }
 
-    // The index of the first list of a group whose word ends there.
+    // The index of the first list of a group whose keyword ends there.
     fn first_list(self, word: usize, is_first: bool) -> Read<'a> {
         let list = self.after_space(word);
         if list == word {
@@ -228,7 +229,7 @@ impl<'a> Slow<'a> {
         }
     }
 
-    // The group that opens at the index, and whose word ends there.
+    // Parses the group that opens at the index, and whose keyword ends there.
     #[cycle(slow)]
     fn group(self, depth: usize, opening: usize, word: usize, is_first: bool) -> Read<'a> {
         if depth == 0 {
@@ -257,7 +258,7 @@ impl<'a> Slow<'a> {
         Err(unclosed)
     }
 
-    // The component that opens at the index, with its name.
+    // Parses the component that opens at the index, with its name.
     fn component(self, opening: usize, from: usize, to: usize) -> Read<'a> {
         let name = self.between(from, to);
         if name.is_empty() {

@@ -1,20 +1,20 @@
-//! Steps of descriptions of both versions and as strftime has them, each fault with its index, and texts as items that
+//! Steps of descriptions in both versions and in strftime's syntax, each error with its index, and texts as items that
 //! own their parts.
 use time_components::{Component, Padding, modifier};
 use time_descriptions::{Description, Group, InvalidFormatDescription, Step, parse_borrowed};
 
-/// A step that is wanted, in plain form.
+/// An expected step, in plain form.
 #[derive(Clone, Copy)]
 pub enum Wanted {
     /// A byte of a literal.
     Byte(u8),
-    /// A byte of the same literal as the one before it.
+    /// A further byte of the literal before it.
     More(u8),
-    /// An optional item of so many steps.
+    /// An optional item of this many steps.
     Optional(usize),
-    /// A choice of so many steps.
+    /// A choice of this many steps.
     First(usize),
-    /// A list of a choice, of so many steps.
+    /// A list of a choice, of this many steps.
     List(usize),
     /// `[day]` with that padding.
     Day(Padding),
@@ -59,7 +59,7 @@ fn are_steps(steps: &[Step], wanted: &[Wanted]) -> bool {
     steps.len() == wanted.len()
 }
 
-/// Whether a text was read, and has these steps.
+/// Whether a description was parsed, and has these steps.
 pub fn has_steps(
     answer: Result<Description<64>, InvalidFormatDescription<'_>>,
     wanted: &[Wanted],
@@ -102,7 +102,7 @@ static TEXTS: [(&[u8], &[Wanted]); 6] = [
     ),
 ];
 
-// The same of version 1.
+// Texts of version 1, each with its steps.
 static TEXTS_OF_VERSION_1: [(&[u8], &[Wanted]); 2] = [
     (
         b"[[[day]\\",
@@ -129,7 +129,7 @@ fn steps_of_texts(rt: HostRuntime) {
     }
 }
 
-// Texts of version 2, each with its first fault.
+// Texts of version 2, each with its first error.
 static FAULTS: [(&[u8], Option<InvalidFormatDescription<'static>>); 18] = [
     (
         b"ab[day",
@@ -228,7 +228,7 @@ static FAULTS: [(&[u8], Option<InvalidFormatDescription<'static>>); 18] = [
             index: 5,
         }),
     ),
-    // Eight lists may stand inside one another, and no nine.
+    // Lists may be nested eight deep, and not nine.
     (
         b"[optional [[optional [[optional [[optional [[optional [[optional [[optional [[optional [x]]]]]]]]]]]]]]]]",
         None,
@@ -254,7 +254,7 @@ fn each_fault(rt: HostRuntime) {
     }
 }
 
-// Descriptions as strftime has them, and each fault with its index.
+// Descriptions in strftime's syntax, and each error with its index.
 mod strftime {
     use super::{Wanted, has_steps};
     use time_components::Padding;
@@ -369,7 +369,7 @@ mod strftime {
         }
     }
 
-    // Texts, each with its first fault.
+    // Texts, each with its first error.
     static FAULTS: [(&[u8], InvalidFormatDescription<'static>); 10] = [
         (
             b"ab%",
@@ -469,7 +469,7 @@ mod owned {
     use std::alloc::{AllocError, Global};
     use time_descriptions::{InvalidFormatDescription, OwnedError, parse_owned};
 
-    // The text was written, and is that.
+    // Whether the text was written, and is this one.
     fn is_text(text: Result<String, AllocError>, wanted: &str) -> bool {
         match text {
             Ok(text) => text.as_str() == wanted,
@@ -477,7 +477,7 @@ mod owned {
         }
     }
 
-    // Texts, and what the items of each print for debugging.
+    // Texts, and the debug output of the items of each.
     static ITEMS: [(&[u8], &str); 5] = [
         (b"", "Compound([])"),
         (
@@ -495,7 +495,7 @@ mod owned {
         ),
     ];
 
-    // The items of the text print that.
+    // Whether this is the debug output of the items.
     fn has_items(alloc: Global, text: &[u8], wanted: &str) -> bool {
         match parse_owned::<2>(alloc, text) {
             Ok(item) => is_text(format!(in alloc; "{item:?}"), wanted),
@@ -510,7 +510,7 @@ mod owned {
         }
     }
 
-    // What stands behind a literal of more bytes than a `Description` is likely to have room for, and the error.
+    // The bytes after a literal that is longer than the room of a usual `Description`, and the error.
     static ENDS: [(&[u8], Option<OwnedError<'static>>); 2] = [
         (b"", None),
         (
@@ -522,14 +522,14 @@ mod owned {
         ),
     ];
 
-    // A literal of ten thousand bytes, and that behind it.
+    // A literal of ten thousand bytes, and those after it.
     fn long_text(alloc: Global, end: &[u8]) -> Result<Vec<u8>, AllocError> {
         let mut text = vec![in alloc; b'x'; 10_000]?;
         text.extend_from_slice(end)?;
         Ok(text)
     }
 
-    // The long text with that end has this error, or none.
+    // Whether the long text with that end has this error, or none.
     fn ends_in(alloc: Global, end: &[u8], error: Option<OwnedError<'_>>) -> bool {
         match long_text(alloc, end) {
             Ok(text) => parse_owned::<1>(alloc, &text).err() == error,
@@ -560,13 +560,13 @@ mod owned {
     }
 }
 
-// Texts with room for the steps that they begin, and for one step less.
+// Texts with room for the steps that they start, and for one step less.
 mod room {
     use time_descriptions::{InvalidFormatDescription, parse_borrowed};
 
-    // Texts, how many steps each begins up to its end or its first fault, and that fault.
+    // Texts, how many steps each starts up to its end or its first error, and that error.
     static TEXTS: [(&[u8], usize, Option<InvalidFormatDescription<'static>>); 9] = [
-        // A component is one step, each byte of a literal is one, and so is a group and each list of a choice.
+        // A component is one step, as is each byte of a literal, each group, and each list of a choice.
         (b"[ year  padding:space sign:mandatory ]", 1, None),
         (b"[day]abc[month]", 5, None),
         (b"abc", 3, None),
@@ -575,7 +575,7 @@ mod room {
         (b"[optional [ [second]]]", 3, None),
         // The group, and two lists of one component and of none.
         (b"[first [[day]] []]", 4, None),
-        // One component, and no step of what follows the first fault.
+        // One component, and no step after the first error.
         (
             b"[day][x][year]-[month]",
             1,
@@ -584,13 +584,13 @@ mod room {
                 index: 6,
             }),
         ),
-        // The open group, two lists of it, a component and a byte.
+        // The open group, two of its lists, a component and a byte.
         (
             b"[first [[day]] [a]",
             5,
             Some(InvalidFormatDescription::UnclosedOpeningBracket { index: 0 }),
         ),
-        // A group that doesn't open begins no step.
+        // A group that doesn't open has no step.
         (
             b"[day][optional day]",
             1,
@@ -601,7 +601,7 @@ mod room {
         ),
     ];
 
-    // The error of the text in room for so many steps, which are at most five.
+    // The error of the text in room for this many steps, which are at most five.
     fn error_in(text: &[u8], room: usize) -> Option<InvalidFormatDescription<'_>> {
         match room {
             0 => parse_borrowed::<2, 0>(text).err(),

@@ -1,12 +1,12 @@
-//! Texts that are short, cut or changed.
+//! Texts that are short, truncated or changed.
 ghost use Rattle.std.specs.Prelude.{◌≡◌, ◌⊎◌};
 
 use crate::slow::{NAMES, Slow};
 use std::alloc::Global;
 use time_descriptions::{OwnedError, parse_borrowed, parse_owned};
 
-// Whether the text of the version has the fault that the slow reader gives, in room for 128 steps, and as an item that
-// owns its parts.
+// Whether the text has the slow parser's error in that version, in room for 128 steps, and as an item that owns its
+// parts.
 fn is_told_in<const VERSION: usize>(alloc: Global, text: &[u8]) -> bool
     requires { (VERSION ≡ 1) ⊎ (VERSION ≡ 2) }
 {
@@ -16,15 +16,15 @@ fn is_told_in<const VERSION: usize>(alloc: Global, text: &[u8]) -> bool
         && parse_owned::<VERSION>(alloc, text).err() == fault.map(OwnedError::Invalid)
 }
 
-// The same in both versions.
+// Whether it has, in both versions.
 fn is_told(alloc: Global, text: &[u8]) -> bool {
     is_told_in::<1>(alloc, text) && is_told_in::<2>(alloc, text)
 }
 
-// The bytes of short texts.
+// The alphabet of the short texts.
 static ALPHABET: [u8; 7] = [b'[', b']', b'\\', b' ', b':', b'd', b'1'];
 
-// The text of that many bytes whose bytes are the digits of the number to the base 7.
+// The text whose letters are the digits of the number in base 7.
 fn short_text(number: u32, len: usize) -> [u8; 6] {
     let mut text = [0u8; 6];
     let mut left = number;
@@ -53,7 +53,7 @@ fn short_texts(rt: HostRuntime) {
     assert_eq!(rt; tried, 137257);
 }
 
-// Whether the text is told with each byte of short texts at the place.
+// Whether the text has the slow parser's error with each letter of the alphabet at the place.
 fn is_told_changed(alloc: Global, text: &[u8], place: usize) -> bool {
     let mut bytes = [0u8; 64];
     let Some(changed) = bytes.get_mut(..text.len()) else {
@@ -71,8 +71,8 @@ fn is_told_changed(alloc: Global, text: &[u8], place: usize) -> bool {
     true
 }
 
-// How many texts around this one were tried: each front, and each with one byte changed. `None`: one of them has
-// another fault than the slow reader gives.
+// How many texts around this one were tried: each prefix, and each with one byte changed. `None`: one of them has
+// another error than that of the slow parser.
 fn tried_around(alloc: Global, text: &[u8]) -> Option<usize> {
     let mut tried = 1usize;
     for cut in 0..text.len() {
@@ -126,13 +126,13 @@ fn groups(rt: HostRuntime) {
     assert_eq!(rt; tried, 659);
 }
 
-// Eleven optional items inside one another.
+// Eleven nested optional items.
 const NESTED: &[u8] = b"\
     [optional [[optional [[optional [[optional [[optional [[optional [\
     [optional [[optional [[optional [[optional [[optional [\
     ]]]]]]]]]]]]]]]]]]]]]]";
 
-// That many optional items inside one another.
+// Nested optional items.
 fn nested(levels: usize) -> &'static [u8] {
     let outer = 11usize.saturating_sub(levels);
     let from = outer.saturating_mul(11);

@@ -1,12 +1,12 @@
-//! What the tests share: the formats of their tables, the refusals, and the texts of RFC 3339 and RFC 2822 with their
-//! answers, which each path gives.
+//! Shared parts of the tests: the formats of their tables, the errors, and the texts of RFC 3339 and RFC 2822 with
+//! their results on each path.
 mod iso_texts;
 mod mail;
 mod parses;
 mod records;
 mod stamps;
 
-// The formats of the tables, and what a text says by each, in plain numbers.
+// The formats of the tables, and the results of their texts in plain numbers.
 mod formats {
     use super::refusals::DESCRIPTION;
     use time_descriptions::{Description, parse_borrowed};
@@ -21,17 +21,17 @@ mod formats {
     pub(super) enum Format {
         /// RFC 3339.
         Stamp,
-        /// RFC 3339 by a reference, which takes no direct path.
+        /// RFC 3339 by a reference to the format, which has no direct path.
         StampByReference,
         /// RFC 2822.
         Mail,
         /// ISO 8601.
         Iso,
-        /// The description of that text, of version 2.
+        /// A description of version 2.
         Described(&'static [u8]),
     }
 
-    /// What is asked of a text.
+    /// The value that a text is parsed for.
     #[derive(Clone, Copy)]
     pub(super) enum Part {
         Date,
@@ -45,13 +45,13 @@ mod formats {
     /// Year, month and day, then hour, minute, second and nanosecond, then the offset's hours, minutes and seconds.
     pub(super) type Numbers = ((i32, Month, u8), (u8, u8, u8, u32), (i8, i8, i8));
 
-    /// The date of a part that has none.
+    /// The date in the row of a part without one.
     pub(super) const NO_DATE: (i32, Month, u8) = (0, Month::January, 1);
 
-    /// The time of a part that has none.
+    /// The time in the row of a part without one.
     pub(super) const NO_TIME: (u8, u8, u8, u32) = (0, 0, 0, 0);
 
-    /// The offset of a part that has none.
+    /// The offset in the row of a part without one.
     pub(super) const NO_OFFSET: (i8, i8, i8) = (0, 0, 0);
 
     /// The numbers of a moment.
@@ -63,12 +63,12 @@ mod formats {
         )
     }
 
-    /// The description of the text, of version 2.
+    /// The parsed description, of version 2.
     pub(super) fn described(text: &[u8]) -> Option<Description<80>> {
         parse_borrowed::<2, 80>(text).ok()
     }
 
-    /// The numbers of a part of the text over the defaults, or the refusal.
+    /// The numbers of a part of the text over the defaults, or the error.
     pub(super) fn said_by<F: Parsable>(
         format: &F,
         part: Part,
@@ -100,7 +100,7 @@ mod formats {
         }
     }
 
-    // The same by the description of that text.
+    // Those numbers by a description.
     fn said_as_described(
         description: &[u8],
         part: Part,
@@ -113,7 +113,7 @@ mod formats {
         }
     }
 
-    /// The same by the format of that name.
+    /// Those numbers by a format.
     pub(super) fn said(
         format: Format,
         part: Part,
@@ -129,7 +129,7 @@ mod formats {
         }
     }
 
-    /// The items of a year of that component, a month and a day, with that literal before the day.
+    /// The items of a year by that component, a month and a day, with that literal before the day.
     pub(super) fn date_items(
         year: Component,
         hyphen: BorrowedFormatItem<'static>,
@@ -150,18 +150,18 @@ mod formats {
     }
 }
 
-// The refusals of the tables.
+// The errors of the tables.
 mod refusals {
     use time_values::error::{ComponentRange, Parse, ParseFromDescription, TryFromParsed};
 
-    // The refusal of a component that can't be read.
+    // The error of a component that can't be parsed.
     macro_rules! unread {
         ($name:literal) => {
             Parse::ParseFromDescription(ParseFromDescription::InvalidComponent($name))
         };
     }
 
-    // The refusal of a component out of its range, which others narrow or not.
+    // The error of a component out of its range, which other components narrow or not.
     macro_rules! out {
         ($name:literal, $conditional:literal) => {
             Parse::TryFromParsed(TryFromParsed::ComponentRange(ComponentRange {
@@ -171,20 +171,20 @@ mod refusals {
         };
     }
 
-    /// A literal doesn't stand where it should.
+    /// A literal is missing.
     pub(super) const LITERAL: Parse = Parse::ParseFromDescription(
         ParseFromDescription::InvalidLiteral,
     );
 
-    /// Bytes are left.
+    /// Bytes remain after the value.
     pub(super) const TRAILING: Parse = Parse::ParseFromDescription(
         ParseFromDescription::UnexpectedTrailingCharacters,
     );
 
-    /// What was read doesn't say the value.
+    /// The text has too few components for the value.
     pub(super) const MISSING: Parse = Parse::TryFromParsed(TryFromParsed::InsufficientInformation);
 
-    // What a place's text isn't.
+    // Components that can't be parsed.
     pub(super) const YEAR: Parse = unread!("year");
 
     pub(super) const MONTH: Parse = unread!("month");
@@ -209,7 +209,7 @@ mod refusals {
 
     pub(super) const DESCRIPTION: Parse = unread!("description");
 
-    // What there isn't of that number.
+    // Components that are out of range.
     pub(super) const NO_MONTH: Parse = out!("month", false);
 
     pub(super) const NO_DAY: Parse = out!("day", true);
@@ -233,7 +233,7 @@ mod refusals {
     pub(super) const NO_MINUTES: Parse = out!("minutes", false);
 }
 
-// Texts of RFC 3339 and RFC 2822, and what each says directly and over an empty record.
+// Texts of RFC 3339 and RFC 2822, and their results on the direct path and over an empty record.
 mod answers {
     use self::Answer::{Moment, Refused};
     use super::formats::Format::{self, Mail, Stamp};
@@ -247,16 +247,16 @@ mod answers {
     use time_values::Month::{self, April, December, January};
     use time_values::error::Parse;
 
-    /// What a text says.
+    /// The result of a text.
     #[derive(Clone, Copy)]
     pub(super) enum Answer {
-        /// One moment: its date, its time, and the hours and minutes of its offset.
+        /// A moment: its date, its time, and the hours and minutes of its offset.
         Moment((i32, Month, u8), (u8, u8, u8, u32), (i8, i8)),
-        /// None: the refusal without a record, and the one over an empty record.
+        /// The error without a record, and the error over an empty record.
         Refused(Parse, Parse),
     }
 
-    /// The answer without a record, and over an empty one.
+    /// The result without a record, and the result over an empty one.
     pub(super) fn both_ways(answer: Answer) -> (Result<Numbers, Parse>, Result<Numbers, Parse>) {
         match answer {
             Moment(date, time, (hours, minutes)) => {
@@ -267,17 +267,17 @@ mod answers {
         }
     }
 
-    // What the text says without a record.
+    // The result on the direct path, without a record.
     fn directly(format: Format, text: &[u8]) -> Result<Numbers, Parse> {
         match format {
             Stamp => Ok(numbers(direct::rfc3339(text)?)),
             Mail => Ok(numbers(direct::rfc2822(text)?)),
-            // No other format has a path without a record.
+            // Other formats have no direct path.
             _ => Err(LITERAL),
         }
     }
 
-    /// The text has this answer by the format without defaults, by the direct path, and over an empty record.
+    /// Whether the text has this result without defaults, on the direct path, and over an empty record.
     pub(super) fn is_answered(format: Format, text: &[u8], wanted: Answer) -> bool {
         let (wanted, wanted_over_a_record) = both_ways(wanted);
         let staged = said(format, Part::Moment, text, Some(Parsed::new()));
@@ -286,7 +286,7 @@ mod answers {
             && staged == wanted_over_a_record
     }
 
-    /// The first of the texts that doesn't have its answer by the format, if there is one.
+    /// The first text whose result differs, if there is one.
     pub(super) fn unanswered(format: Format, rows: &[Row]) -> Option<&'static [u8]> {
         for (text, wanted) in rows {
             if !is_answered(format, text, *wanted) {
@@ -296,7 +296,7 @@ mod answers {
         None
     }
 
-    /// The first mail date that doesn't have its answer, if there is one. A function for each table keeps its rows apart.
+    /// The first mail date whose result differs, if there is one. A function for each table keeps its rows apart.
     pub(super) fn unanswered_mail_date() -> Option<&'static [u8]> {
         for text in [
             unanswered_moment(),
@@ -327,7 +327,7 @@ mod answers {
         unanswered(Mail, &MAIL_RETURNS)
     }
 
-    /// A text and its answer.
+    /// A text and its result.
     pub(super) type Row = (&'static [u8], Answer);
 
     /// Texts of RFC 3339.
@@ -384,7 +384,7 @@ mod answers {
         ),
     ];
 
-    /// Texts of RFC 2822 that say a moment.
+    /// Texts of RFC 2822 that parse as a moment.
     static MAIL_DATES: [Row; 21] = [
         (
             b"Mon, 02 Jan 2021 03:04:05 +0607",
@@ -406,7 +406,7 @@ mod answers {
             b"02 (a(b\\)c)) Jan 2021 03:04 +0000",
             Moment((2021, January, 2), (3, 4, 0, 0), (0, 0)),
         ),
-        // A comment of 31 levels, the most that are read.
+        // A comment nested 31 deep, the most that is parsed.
         (
             b"02 ((((((((((((((((((((((((((((((())))))))))))))))))))))))))))))) Jan 2021 03:04 +0000",
             Moment((2021, January, 2), (3, 4, 0, 0), (0, 0)),
@@ -473,9 +473,9 @@ mod answers {
         ),
     ];
 
-    /// Texts of RFC 2822 with a part that is not read, or out of its range.
+    /// Texts of RFC 2822 with a part that can't be parsed, or is out of its range.
     static MAIL_REFUSED: [Row; 27] = [
-        // A comment of 32 levels.
+        // A comment nested 32 deep.
         (
             b"02 (((((((((((((((((((((((((((((((()))))))))))))))))))))))))))))))) Jan 2021 03:04 +0000",
             Refused(MONTH, MONTH),
@@ -523,7 +523,7 @@ mod answers {
         ),
     ];
 
-    /// Texts of RFC 2822 with a literal that does not stand, or with bytes behind them.
+    /// Texts of RFC 2822 with a missing literal, or with trailing bytes.
     static MAIL_NOT_IN_FORM: [Row; 17] = [
         (b"02 Jan 2021\r03:04 +0000", Refused(LITERAL, LITERAL)),
         (b"1 Jan 99 00:00 Zx", Refused(TRAILING, TRAILING)),
@@ -544,7 +544,7 @@ mod answers {
         (b"1 Jan 2021 03:04 +00000", Refused(TRAILING, TRAILING)),
     ];
 
-    /// A carriage return in place of each blank of a text of RFC 2822.
+    /// Texts of RFC 2822 with a carriage return in place of each blank.
     static MAIL_RETURNS: [Row; 14] = [
         (b"\rSat, 02 Jan 2021 03 : 04 : 05 +0000 ", Refused(DAY, DAY)),
         (b" Sat,\r02 Jan 2021 03 : 04 : 05 +0000 ", Refused(DAY, DAY)),
@@ -599,7 +599,7 @@ mod answers {
     ];
 }
 
-// The direct paths of RFC 3339 and RFC 2822, beside their parses over an empty record.
+// The direct paths of RFC 3339 and RFC 2822, compared with parses over an empty record.
 mod two_paths {
     use super::answers::{STAMPS, unanswered, unanswered_mail_date};
     use super::formats::Format::Stamp;

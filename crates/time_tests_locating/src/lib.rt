@@ -1,4 +1,4 @@
-//! Tests of prepared descriptions, and of where texts are refused.
+//! Tests of prepared descriptions, and of the location of errors.
 #![tactic(auto)]
 
 #[cfg(test)]

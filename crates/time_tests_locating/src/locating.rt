@@ -1,6 +1,7 @@
-//! Where texts are refused. A row is a text with the index and what is expected there, by the rule: of the literals and
-//! components that are begun and read nothing, and of the end where bytes remain, the one that leaves the fewest bytes;
-//! of those at one index the one that the refusal of the parse names, or else the first.
+//! The location of errors. A row is a text with the index at which it fails and what is expected there. By the rule,
+//! the candidates are the literals and components that were started and parsed nothing, and the end where bytes remain.
+//! The location is the candidate that leaves the fewest bytes; of those at one index it is the one that the parse's
+//! error names, or else the first.
 mod items;
 
 use std::process::Abort;
@@ -8,26 +9,26 @@ use time_descriptions::{Description, parse_borrowed};
 use time_locating::{Expected, Locate, Located};
 use time_record::Parsed;
 
-/// A text, the index at which it goes wrong, and what is expected there.
+/// A text, the index at which it fails, and what is expected there.
 pub type Row<'a> = (&'a [u8], usize, Expected<'a>);
 
-/// Whether that is the place that the row says.
+/// Whether the location is that of the row.
 pub fn is_place(found: Option<Located<'_>>, row: &Row<'_>) -> bool {
     let (_, index, expected) = *row;
     found == Some(Located { index, expected })
 }
 
-/// Whether the row's text, read over the defaults, goes wrong where the row says.
+/// Whether the row's text, parsed over the defaults, fails at the row's location.
 pub fn is_at<F: Locate>(format: &F, row: &Row<'_>, defaults: Option<Parsed>) -> bool {
     is_place(format.locate(row.0, defaults), row)
 }
 
-// Whether no record and no date is parsed of the text.
+// Whether the text parses neither into a record nor as a date.
 fn is_refused<F: Locate>(format: &F, text: &[u8]) -> bool {
     format.parse_internal(text, None).is_err() && format.parse_date(text, None).is_err()
 }
 
-// The text of each row is refused, and goes wrong where the row says.
+// Asserts that the text of each row is rejected, at the row's location.
 fn assert_places<F: Locate>(rt: &impl Abort, format: &F, rows: &[Row<'_>]) {
     for row in rows {
         let refused = is_at(format, row, None) && is_refused(format, row.0);
@@ -35,8 +36,8 @@ fn assert_places<F: Locate>(rt: &impl Abort, format: &F, rows: &[Row<'_>]) {
     }
 }
 
-/// The text of each row is refused where the row says, also by a reference to the format. The other texts are read
-/// whole, so none has a place.
+/// Asserts that the text of each row is rejected at its location, also by a reference to the format, and that the other
+/// texts are parsed whole and have no location.
 pub fn assert_located<F: Locate>(rt: &impl Abort, format: &F, rows: &[Row<'_>], whole: &[&[u8]]) {
     assert_places(rt, format, rows);
     assert_places(rt, &format, rows);
@@ -45,7 +46,7 @@ pub fn assert_located<F: Locate>(rt: &impl Abort, format: &F, rows: &[Row<'_>], 
     }
 }
 
-/// The description of that text, of version 2.
+/// Parses a description of version 2.
 pub fn description_of(rt: &impl Abort, text: &[u8]) -> Description<64> {
     match parse_borrowed::<2, 64>(text) {
         Ok(description) => description,
@@ -53,7 +54,7 @@ pub fn description_of(rt: &impl Abort, text: &[u8]) -> Description<64> {
     }
 }
 
-// Components of the descriptions of these tests, whose numbers are filled up with zeros.
+// Components of the descriptions of these tests. Their numbers are padded with zeros.
 mod parts {
     use std::num::NonZero;
     use time_components::{Component, Padding, TrailingInput, modifier};
@@ -96,15 +97,15 @@ mod parts {
         count: NonZero::<u16>::MIN,
     });
 
-    /// Wants the end of the text.
+    /// Requires the end of the text.
     pub const END: Component = Component::End(modifier::End {
         trailing_input: TrailingInput::Prohibit,
     });
 }
 
-// Texts that RFC 3339 refuses. The first place that doesn't have its form, or whose number is out of its range, is
-// told at the index where it begins: `2021-01-02T03:04:05` takes nineteen bytes, with the year at 0, the month at 5,
-// the day at 8, the hour at 11, the minute at 14 and the second at 17.
+// Texts that RFC 3339 rejects. The location is the start of the first place that doesn't have its form, or whose number
+// is out of its range. `2021-01-02T03:04:05` has nineteen bytes, with the year at 0, the month at 5, the day at 8, the
+// hour at 11, the minute at 14 and the second at 17.
 mod rfc3339 {
     use super::{Row, assert_located, is_at};
     use time_locating::Expected::{Component, End, Literal};
@@ -124,7 +125,7 @@ mod rfc3339 {
         (b"2021-01-32T03:04:05Z", 8, Component("day")),
         (b"2021-01-2T03:04:05Z", 8, Component("day")),
         (b"2021-01-02", 10, Component("separator")),
-        // Any one byte stands between the date and the time, so the second blank is where the hour should begin.
+        // The separator between the date and the time may be any byte, so the hour is expected at the second blank.
         (b"2021-01-02  03:04:05Z", 11, Component("hour")),
         (b"2021-01-02T24:04:05Z", 11, Component("hour")),
         (b"2021-01-02T3:04:05Z", 11, Component("hour")),
@@ -143,7 +144,7 @@ mod rfc3339 {
         (b"2021-01-02T03:04:05,5Z", 19, Component("offset hour")),
         (b"2021-01-02T03:04:05+24:00", 19, Component("offset hour")),
         (b"2021-01-02T03:04:05-1:00", 19, Component("offset hour")),
-        // A point and a digit, a point and ten digits: all digits belong to the fraction.
+        // A point and a digit, then a point and ten digits: all digits belong to the fraction.
         (b"2021-01-02T03:04:05.5", 21, Component("offset hour")),
         (
             b"2021-01-02T03:04:05.0123456789*",
@@ -164,7 +165,7 @@ mod rfc3339 {
         (b"2021-01-02T03:04:05.25-06:077", 28, End),
     ];
 
-    // `2021-01-02T03:04:05.25+06:07` cut off at each byte goes wrong where the place begins that the cut is in.
+    // `2021-01-02T03:04:05.25+06:07` truncated at each byte fails at the start of the truncated place.
     static CUTS: [Row<'static>; 28] = [
         (b"", 0, Component("year")),
         (b"2", 0, Component("year")),
@@ -204,7 +205,7 @@ mod rfc3339 {
         ),
     ];
 
-    // What is read whole has no place, also where the calendar has no such day.
+    // A text that is parsed whole has no location, also if the calendar has no such day.
     static WHOLE: [&[u8]; 3] = [
         b"2021-02-30T00:00:00Z",
         b"2021-01-02t03:04:60z",
@@ -222,11 +223,10 @@ mod rfc3339 {
     }
 }
 
-// Texts that RFC 2822 refuses. The first place that doesn't have its form, or whose number is out of its range, is
-// told at the index where that should stand which is expected: the comma after a weekday's name, the colon of the hour
-// after its blanks, and the digits of a second after its colon and blanks. Of `02 Jan 2021 03:04 +0100` the month
-// begins at 3, the year at 7, the hour at 12, the minute at 15, and the offset at 18; a colon of a second would stand at
-// 17 and its digits at 18.
+// Texts that RFC 2822 rejects. The location is that of the first place that doesn't have its form, or whose number is
+// out of its range: the index of the comma after a weekday's name, of the hour's colon after its blanks, or of the
+// second's digits after its colon and blanks. `02 Jan 2021 03:04 +0100` has the month at 3, the year at 7, the hour at
+// 12, the minute at 15, and the offset at 18. A colon of a second is expected at 17, and its digits at 18.
 mod rfc2822 {
     use super::{Row, assert_located};
     use time_locating::Expected::{Component, End, Literal};
@@ -235,12 +235,12 @@ mod rfc2822 {
     static PLACES: [Row<'static>; 62] = [
         (b"Sat 02 Jan 2021 03:04 +0100", 3, Literal(b",")),
         (b" Sat 02 Jan 2021 03:04 +0100", 4, Literal(b",")),
-        // The comma stands right after the name.
+        // The comma is expected right after the name.
         (b"Sat , 02 Jan 2021 03:04 +0100", 3, Literal(b",")),
         (b"Saturday, 02 Jan 2021 03:04 +0100", 3, Literal(b",")),
         (b" (a) sat;02 Jan 2021 03:04 +0100", 8, Literal(b",")),
         (b"Sat, Jan 2021 03:04 +0100", 5, Component("day")),
-        // No weekday begins with `Sut`, so a day should stand first.
+        // No weekday starts with `Sut`, so a day is expected first.
         (b"Sut, 02 Jan 2021 03:04 +0100", 0, Component("day")),
         (b"32 Jan 2021 03:04 +0100", 0, Component("day")),
         (b"00 Jan 2021 03:04 +0100", 0, Component("day")),
@@ -250,17 +250,17 @@ mod rfc2822 {
         (b"02 Jan2021 03:04 +0100", 6, Literal(b" ")),
         (b"02 Jan x 03:04 +0100", 7, Component("year")),
         (b"02 Jan 1899 03:04 +0100", 7, Component("year")),
-        // Four digits don't stand, so the year has two.
+        // Three digits aren't a year of four digits, so the year has the first two.
         (b"02 Jan 202 03:04 +0100", 9, Literal(b" ")),
         (b"02 Jan 202103:04 +0100", 11, Literal(b" ")),
-        // After a year of four digits no comment stands.
+        // A comment isn't allowed after a year of four digits.
         (b"02 Jan 2021(c)03:04 +0100", 11, Literal(b" ")),
         (b"02 Jan 2021 (c)03:04 +0100", 12, Component("hour")),
         (b"02 Jan 2021 24:04 +0100", 12, Component("hour")),
         (b"02 Jan 2021 3:04 +0100", 12, Component("hour")),
         (b"02 Jan 2021 03.04 +0100", 14, Literal(b":")),
         (b"02 Jan 2021 0304 +0100", 14, Literal(b":")),
-        // Blanks and comments may stand before the colon.
+        // Blanks and comments are allowed before the colon.
         (b"02 Jan 2021 03 04 +0100", 15, Literal(b":")),
         (b"02 Jan 2021 03 (a) 04 +0100", 19, Literal(b":")),
         (b"02 Jan 2021 03(a)\t.04 +0100", 18, Literal(b":")),
@@ -277,7 +277,7 @@ mod rfc2822 {
             Component("second"),
         ),
         (b"02 Jan 2021 03 : 04 :\t", 22, Component("second")),
-        // Without its colon no second begins, so blanks are expected, or the offset after them.
+        // Without a colon no second starts, so blanks are expected, or the offset after them.
         (b"02 Jan 2021 03:04.05 +0100", 17, Literal(b" ")),
         (b"02 Jan 2021 03:04 05 +0100", 18, Component("offset hour")),
         (b"02 Jan 2021 03:04+0100", 17, Literal(b" ")),
@@ -285,19 +285,19 @@ mod rfc2822 {
         (b"02 Jan 2021 03:04 0100", 18, Component("offset hour")),
         (b"02 Jan 2021 03:04 +2600", 18, Component("offset hour")),
         (b"02 Jan 2021 03:04 XYZ", 18, Component("offset hour")),
-        // No zone is named by `J`.
+        // `J` isn't a zone.
         (b"02 Jan 2021 03:04 J", 18, Component("offset hour")),
         (b"02 Jan 2021 03:04 +0160", 21, Component("offset minute")),
         (b"02 Jan 2021 03:04 +01:00", 21, Component("offset minute")),
         (b"02 Jan 2021 03:04 +0100x", 23, End),
         (b"02 Jan 2021 03:04 GMT+1", 21, End),
         (b"02 Jan 2021 03:04 +0100  x", 25, End),
-        // A fold without the blank that it needs belongs to no blanks.
+        // A fold isn't part of the blanks without the blank that it needs.
         (b"02 Jan 2021 03:04 +0100 \r\n", 23, End),
         (b"02 Jan 2021 03:04 +0100)", 23, End),
         (b"02 Jan 2021 03:04 +0100 (a))", 27, End),
-        // Comments that don't close. Where blanks had to stand and none do the place is theirs; where a blank stands before
-        // the comment it is the next place, at the bracket, or what trails.
+        // Unclosed comments. Where required blanks are missing, the location is theirs. Where a blank precedes the
+        // comment, it is that of the next place, or of the trailing bytes, at the bracket.
         (b"(Sat, 02 Jan 2021 03:04 +0100", 0, Component("day")),
         (b" (Sat, 02 Jan 2021 03:04 +0100", 1, Component("day")),
         (b"Sat, (02 Jan 2021 03:04 +0100", 5, Component("day")),
@@ -311,8 +311,8 @@ mod rfc2822 {
         (b"02 Jan 2021 03:04 +0100 (a (b)", 24, End),
     ];
 
-    // `Sat, 02 Jan 2021 03:04:05 +0607` cut off at each byte goes wrong where the part begins that the cut is in. A day 0
-    // is none, and a year of two digits is one.
+    // `Sat, 02 Jan 2021 03:04:05 +0607` truncated at each byte fails at the start of the truncated part. A day of 0 is
+    // invalid, and a year of two digits is valid.
     static CUTS: [Row<'static>; 31] = [
         (b"", 0, Component("day")),
         (b"S", 0, Component("day")),
@@ -359,7 +359,7 @@ mod rfc2822 {
         ),
     ];
 
-    // What is read whole has no place, also where the calendar has no such day.
+    // A text that is parsed whole has no location, also if the calendar has no such day.
     static WHOLE: [&[u8]; 4] = [
         b"30 Feb 2021 03:04 +0100",
         b"2 Jan 21(c)03:04 UT",
@@ -374,24 +374,24 @@ mod rfc2822 {
     }
 }
 
-// Texts that ISO 8601 refuses. Each row of a date, a time and an offset that may stand there is begun, and misses the
-// first of its pieces that doesn't stand. The place is what is missed furthest on; of those at one index it is the
-// end, where bytes remain after all that is read, or else what the refusal of the parse names, or the first.
+// Texts that ISO 8601 rejects. Each form of a date, a time and an offset that is allowed at an index is started, and
+// fails at its first missing piece. The location is the furthest of these. Of those at one index it is the end, where
+// bytes remain after the parsed part, or else what the parse's error names, or the first.
 mod iso8601 {
     use super::{Row, assert_located, is_at};
     use time_locating::Expected::{Component, End, Literal};
     use time_parsing::Iso8601;
     use time_record::Parsed;
 
-    // `2021-01-02` has the month at 5 and the day at 8, `20210102` the month at 4 and the day at 6. Where the date is
-    // refused the first four digits are an hour and a minute, after which `-01` is an offset: what remains then ends the
-    // text too late.
+    // `2021-01-02` has the month at 5 and the day at 8, `20210102` the month at 4 and the day at 6. If the date is
+    // rejected, the first four digits are an hour and a minute, and `-01` after them is an offset. The bytes after that
+    // are trailing.
     static DATES: [Row<'static>; 29] = [
         (b"", 0, Component("year")),
         (b"x", 0, Component("year")),
         // An hour, and one byte after it.
         (b"202", 2, End),
-        // A sign needs six digits in a year. Of these texts an offset is read, `+20:21` and `-02:02`.
+        // A year with a sign needs six digits. Of these texts an offset is parsed, `+20:21` and `-02:02`.
         (b"+2021-01-02", 5, End),
         (b"-02021-01-02", 5, End),
         (b"2021-", 5, Component("month")),
@@ -420,7 +420,8 @@ mod iso8601 {
         (b"2021W5341", 8, End),
     ];
 
-    // Times and offsets alone. Where the first digits are no hour the text is no date either, whose year comes first.
+    // Times and offsets alone. If the first digits aren't an hour, the text isn't a date either, which starts with a
+    // year.
     static TIMES: [Row<'static>; 27] = [
         (b"24:00", 0, Component("year")),
         (b"23,", 0, Component("year")),
@@ -446,7 +447,7 @@ mod iso8601 {
         (b"23:59+0660", 8, Component("offset minute")),
         (b"23:59+06x", 8, End),
         (b"23:59Zx", 6, End),
-        // A basic text has no colon.
+        // A basic text has no colons.
         (b"2359+06:07", 7, End),
         (b"+99", 1, Component("offset hour")),
         (b"+06:7", 4, Component("offset minute")),
@@ -460,7 +461,7 @@ mod iso8601 {
         (b"20210102T250405Z", 9, Component("hour")),
         (b"2021-01-02 03:04", 10, End),
         (b"2021-01-02t03:04", 10, End),
-        // After a date an offset needs a time before it.
+        // An offset needs a time before it, not a date alone.
         (b"2021-01-02+06", 10, End),
         (b"2021-01-02T03:04:05.", 17, Component("second")),
         (b"2021-01-02T0304:5", 16, Component("second")),
@@ -474,7 +475,7 @@ mod iso8601 {
         (b"2021-W53-4T03:04:5", 17, Component("second")),
     ];
 
-    // `2021-01-02T03:04:05+06:07` cut off at each byte where it isn't read whole.
+    // `2021-01-02T03:04:05+06:07` truncated at each byte where it isn't parsed whole.
     static CUTS: [Row<'static>; 17] = [
         (b"", 0, Component("year")),
         (b"2", 0, Component("year")),
@@ -495,8 +496,8 @@ mod iso8601 {
         (b"2021-01-02T03:04:05+06:0", 23, Component("offset minute")),
     ];
 
-    // What is read whole has no place, also where the calendar has no such day. The cuts `20`, `2021` and `2021-01` are
-    // read as a time.
+    // A text that is parsed whole has no location, also if the calendar has no such day. The truncated texts `20`,
+    // `2021` and `2021-01` are parsed as a time.
     static WHOLE: [&[u8]; 11] = [
         b"2021-02-30T00:00:00Z",
         b"2021-366",
@@ -524,7 +525,7 @@ mod iso8601 {
     }
 }
 
-// What is printed of what was expected.
+// The text of what was expected.
 mod shown {
     use std::test::Fail;
     use time_locating::Expected;

@@ -1,19 +1,19 @@
-//! What a prepared description answers: worked values, and the same as the walk over its steps or its items.
+//! Prepared descriptions: worked values, and results that are equal to those of the walk over their steps or items.
 mod items;
 
 use time_descriptions::{Description, parse_borrowed, parse_strftime};
 use time_preparing::Prepared;
 
-/// A description with its prepared one.
+/// A description, parsed and prepared.
 #[derive(Drop)]
 pub struct Both {
-    /// As it was read.
+    /// The parsed description.
     pub description: Description<64>,
-    /// The same, prepared.
+    /// The prepared description.
     pub prepared: Prepared<64>,
 }
 
-/// The description of that text, as it was read and prepared. With a `%` it is one of strftime.
+/// Parses and prepares a description, which is one of strftime if it contains a `%`.
 pub fn read(text: &[u8]) -> Option<Both> {
     let description = if text.contains(&b'%') {
         parse_strftime::<64>(text).ok()?
@@ -27,7 +27,7 @@ pub fn read(text: &[u8]) -> Option<Both> {
     })
 }
 
-// Components of the descriptions of these tests, as a text names them by itself.
+// Components of the descriptions of these tests, with the modifiers that a text's names have by default.
 mod parts {
     use time_components::{Component, Padding, SubsecondDigits, modifier};
 
@@ -70,7 +70,7 @@ mod parts {
     });
 }
 
-// Worked rows: what stands at each component of the text is the value.
+// Worked rows: the value has the components of the text.
 mod worked {
     use super::read;
     use time_parsing::{Parsable, Target};
@@ -89,7 +89,7 @@ mod worked {
     static DATES: [DateRow; 14] = [
         (DATE, "2021-03-04", Some((2021, Month::March, 4))),
         (DATE, "-2021-12-31", Some((-2021, Month::December, 31))),
-        // 2021 is no multiple of 4.
+        // 2021 isn't a multiple of 4.
         (DATE, "2021-02-29", None),
         (DATE, "2021-13-04", None),
         (DATE, "2021-00-04", None),
@@ -138,7 +138,7 @@ mod worked {
         (CLOCK, "23-59-58", None),
         (CLOCK, "23:59", None),
         (CLOCK, "23:59:58 ", None),
-        // After noon an hour of the clock counts 12 more.
+        // After noon the 24-hour clock counts 12 more.
         (HALVES, "1:05:09.25 PM", Some((13, 5, 9, 250_000_000))),
         (HALVES, "1:05:09 PM", Some((13, 5, 9, 0))),
         (HALVES, "12:05 AM", Some((0, 5, 0, 0))),
@@ -218,7 +218,7 @@ mod worked {
         Some(moment.date().to_calendar_date())
     }
 
-    // The year is that of the defaults, and without them there is none.
+    // The year is that of the defaults, and without them it is missing.
     #[test]
     fn defaults(rt: HostRuntime) {
         let Some(known) = Parsed::new().with_year(2020) else {
@@ -235,7 +235,7 @@ mod worked {
         }
     }
 
-    // The steps are those of the description, which are five: three components and two dashes.
+    // The prepared steps are the five of the description: three components and two dashes.
     #[test]
     fn room(rt: HostRuntime) {
         let Some(both) = read(DATE) else {
@@ -248,7 +248,7 @@ mod worked {
     }
 }
 
-// Each text of a joined step, with each of its bytes changed to each other byte, against the walk over the steps.
+// Each text of a fused step, with each of its bytes changed to each other byte, against the walk over the steps.
 mod alike {
     use super::{Both, read};
     use std::convert::TryFrom;
@@ -259,7 +259,7 @@ mod alike {
     use time_values::error::{Parse, TryFromParsed};
     use time_values::{Date, Month, OffsetDateTime, PlainDateTime, Time, Weekday};
 
-    // A description, and a text that it reads.
+    // A description, and a text that it parses.
     type Row = (&'static [u8], &'static [u8]);
 
     static DATES: [Row; 6] = [
@@ -410,8 +410,8 @@ mod alike {
         )
     }
 
-    // The end of 2016 with a second of 60, over the record: the minute of its offset, which shows the flag of a negative one,
-    // and the moment, which shows whether leap seconds are allowed.
+    // The record with the end of 2016 at a second of 60: the minute of its offset, which shows the flag of a negative
+    // offset, and the moment, which shows whether leap seconds are allowed.
     fn flags(record: &Parsed) -> Option<(Option<i8>, Result<OffsetDateTime, TryFromParsed>)> {
         let mut leap = *record;
         leap.set_year(2016)?;
@@ -427,7 +427,7 @@ mod alike {
         Some((minute, OffsetDateTime::try_from(leap)))
     }
 
-    /// Whether two records have the same parts and the same flags.
+    /// Whether two records have equal parts and equal flags.
     pub fn is_same(a: &Parsed, b: &Parsed) -> bool {
         date_parts(a) == date_parts(b)
             && time_parts(a) == time_parts(b)
@@ -437,7 +437,8 @@ mod alike {
             && flags(a) == flags(b)
     }
 
-    // Whether both read the text alike: the same rest and record, or the same refusal and the record as it was.
+    // Whether both parse the text equally: the rest and the record are equal, or the error is, and the record is
+    // unchanged.
     fn is_alike(both: &Both, text: &[u8], begun: Parsed) -> bool {
         let mut by_walk = begun;
         let mut at_once = begun;
@@ -446,7 +447,7 @@ mod alike {
         walked == read && is_same(&by_walk, &at_once)
     }
 
-    /// What a format makes of the whole text.
+    /// The results of a format for the whole text.
     pub type Values = (
         Result<Date, Parse>,
         Result<Time, Parse>,
@@ -454,7 +455,7 @@ mod alike {
         Result<OffsetDateTime, Parse>,
     );
 
-    /// Without defaults.
+    /// The results without defaults.
     pub fn values_of<F: Parsable>(format: &F, text: &[u8]) -> Values {
         (
             format.parse_date(text, None),
@@ -464,14 +465,14 @@ mod alike {
         )
     }
 
-    // Whether both make the same date and time of the whole text over the record.
+    // Whether both parse the whole text over the record into an equal date and time.
     fn is_alike_over(both: &Both, text: &[u8], known: Parsed) -> bool {
         let walked = both.description.parse_plain_date_time(text, Some(known));
         walked == both.prepared.parse_plain_date_time(text, Some(known))
     }
 
-    // Whether both read the text alike over the last of the records, and make the same of the whole text over each and
-    // without one.
+    // Whether both parse the text equally over the last of the records, and have equal results for the whole text over
+    // each and without one.
     fn is_alike_in_all(both: &Both, text: &[u8], records: &[Parsed; 4]) -> bool {
         for known in records {
             if !is_alike_over(both, text, *known) {
@@ -482,10 +483,10 @@ mod alike {
             && values_of(&both.description, text) == values_of(&both.prepared, text)
     }
 
-    // More bytes than any text of the rows has.
+    // More bytes than any text of the rows.
     const ROOM: usize = 32;
 
-    // Whether both read each text alike that differs from the first one in that byte alone.
+    // Whether both parse equally each text that differs from the first one in that byte alone.
     fn are_alike_at(both: &Both, text: &[u8], at: usize, records: &[Parsed; 4]) -> bool {
         let mut bytes = [0; ROOM];
         let Some(changed) = bytes.get_mut(..text.len()) else {
@@ -504,7 +505,7 @@ mod alike {
         true
     }
 
-    // Records that are known before: a year alone, with the fraction of a second, and with a day in it; and such a day alone.
+    // Records as defaults: a year alone, a year with a fraction of a second, a year with a day, and a day alone.
     fn known_records() -> Option<[Parsed; 4]> {
         let year = Parsed::new().with_year(2020)?;
         Some([
@@ -515,7 +516,7 @@ mod alike {
         ])
     }
 
-    // Whether both read each text alike that differs from the first one in one byte, and each front of it.
+    // Whether both parse equally each text that differs from the first one in one byte, and each of its prefixes.
     fn are_alike(both: &Both, text: &[u8]) -> bool {
         let Some(records) = known_records() else {
             return false;

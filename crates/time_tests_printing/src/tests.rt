@@ -24,7 +24,7 @@ const IN_1937: Numbers = (
     (0, 20, 0),
 );
 
-// The second one in UTC, by the RFC.
+// The second one in UTC, as the RFC gives it.
 const IN_1996_AT_ZERO: Numbers = ((1996, Month::December, 20), (0, 39, 57, 0), (0, 0, 0));
 
 // The first moment that has a date.
@@ -45,17 +45,17 @@ fn moment((date, time, offset): Numbers) -> Result<OffsetDateTime, ComponentRang
     Ok(OffsetDateTime::new_in_offset(date, time, offset))
 }
 
-// The moment's date and time without its offset.
+// The date and time of the moment, without its offset.
 fn plain(value: OffsetDateTime) -> PlainDateTime {
     PlainDateTime::new(value.date(), value.time())
 }
 
-// The same date and time in UTC.
+// That date and time, taken as UTC.
 fn in_utc(value: OffsetDateTime) -> UtcDateTime {
     UtcDateTime::new(value.date(), value.time())
 }
 
-// The text was written.
+// Whether the text was written.
 fn is_written(written: Result<Text, Unwritable>, text: &str) -> bool {
     match written {
         Ok(written) => written.as_bytes() == text.as_bytes(),
@@ -64,7 +64,7 @@ fn is_written(written: Result<Text, Unwritable>, text: &str) -> bool {
 }
 
 mod texts {
-    //! Texts of moments, what is read of them again, and values as they are printed.
+    //! Texts of moments, parses of these texts, and displayed values.
     use super::{FIRST, IN_1937, IN_1985, IN_1996, Numbers, is_written, moment};
     use Format::{BasicIso8601, Iso8601, Rfc2822, Rfc3339};
     use time_values::error::ComponentRange;
@@ -92,15 +92,15 @@ mod texts {
         }
     }
 
-    // The moment 2021-01-02T03:04:05Z and that nanosecond.
+    // The moment 2021-01-02T03:04:05Z with that nanosecond.
     macro_rules! in_2021 {
         ($nanosecond:literal) => {
             ((2021, Month::January, 2), (3, 4, 5, $nanosecond), (0, 0, 0))
         };
     }
 
-    // The texts of RFC 3339 are those of its section 5.8 and some with other digits of a fraction. The dates of mail are of
-    // RFC 2822, appendix A, which leaves the first digit of the second one's day out.
+    // The texts of RFC 3339 are those of its section 5.8 and some with other digits of a fraction. The mail dates are
+    // those of RFC 2822, appendix A, where the second one's day has a single digit.
     static TEXTS: [(Numbers, Format, &str); 18] = [
         (IN_1985, Rfc3339(Auto), "1985-04-12T23:20:50.52Z"),
         (IN_1996, Rfc3339(Auto), "1996-12-19T16:39:57-08:00"),
@@ -158,7 +158,7 @@ mod texts {
         (IN_1996, BasicIso8601, "19961219T163957-0800"),
     ];
 
-    // The format has that text of the moment.
+    // Whether the format writes the moment as that text.
     fn is_text(numbers: Numbers, format: Format, text: &str) -> Result<bool, ComponentRange> {
         Ok(is_written(write(moment(numbers)?, format), text))
     }
@@ -176,7 +176,7 @@ mod texts {
 
     const SECOND: Option<Unwritable> = Some(Unwritable::OffsetSecond);
 
-    // Why a moment has no text of RFC 3339, of RFC 2822, of ISO 8601, and of its basic form.
+    // Why a moment can't be written in RFC 3339, in RFC 2822, in ISO 8601, and in its basic form.
     type Reasons = (
         Option<Unwritable>,
         Option<Unwritable>,
@@ -204,7 +204,7 @@ mod texts {
         ),
     ];
 
-    // Why that moment has none.
+    // Why that moment can't be written.
     fn reasons(numbers: Numbers) -> Result<Reasons, ComponentRange> {
         let value = moment(numbers)?;
         Ok((
@@ -222,7 +222,7 @@ mod texts {
         }
     }
 
-    // Texts of moments that are read again.
+    // Texts of moments that are parsed again.
     mod read_back {
         use super::super::{Numbers, is_written, moment};
         use time_parsing::{Iso8601, Parsable, Rfc2822, Rfc3339};
@@ -231,7 +231,8 @@ mod texts {
         use time_values::{Month, OffsetDateTime};
         use time_writing::{FractionDigits, Text, Unwritable, text_2822, text_3339, text_8601};
 
-        // Whether that text is written, and is read as that moment by the format, without defaults and over an empty record.
+        // Whether that text is written, and parsed as that moment by the format, without defaults and over an empty
+        // record.
         fn reads<F: Parsable>(
             written: Result<Text, Unwritable>,
             text: &str,
@@ -244,7 +245,7 @@ mod texts {
                 && format.parse_offset_date_time(bytes, Some(Parsed::new())) == Ok(value)
         }
 
-        // The first and the last year, UTC, and an offset of minutes alone behind it.
+        // The first and the last year, UTC, and an offset of minutes alone after it.
         static ALL_DIGITS: [(Numbers, &str); 4] = [
             (
                 ((0, Month::January, 1), (0, 0, 0, 0), (-23, -59, 0)),
@@ -272,7 +273,7 @@ mod texts {
             ),
         ];
 
-        // The text has all digits, and both formats read the moment from it.
+        // Whether the text has all digits, and both formats parse it as the moment.
         fn keeps_all_digits(numbers: Numbers, text: &str) -> Result<bool, ComponentRange> {
             let value = moment(numbers)?;
             let nine = text_3339(value, FractionDigits::Exactly(9));
@@ -286,7 +287,7 @@ mod texts {
             }
         }
 
-        // The digits that are written of 120456789 nanoseconds, the text, and the nanoseconds that it says.
+        // How many digits of 120456789 nanoseconds are written, the text, and the nanoseconds that it parses as.
         static FEWER_DIGITS: [(FractionDigits, &str, u32); 4] = [
             (
                 FractionDigits::Auto,
@@ -306,7 +307,7 @@ mod texts {
             ),
         ];
 
-        // What is read has the digits that were written.
+        // Whether the parsed moment has the digits that were written.
         fn keeps_digits(
             digits: FractionDigits,
             text: &str,
@@ -347,7 +348,7 @@ mod texts {
             ),
         ];
 
-        // A date of mail has no fraction.
+        // Whether a mail date keeps the moment's seconds, since it has no fraction.
         fn keeps_seconds(numbers: Numbers, text: &str) -> Result<bool, ComponentRange> {
             let value = moment(numbers)?;
             let read = value.replace_nanosecond(0)?;
@@ -362,7 +363,7 @@ mod texts {
         }
     }
 
-    // Values as they are printed.
+    // The display of values.
     mod printed {
         use super::super::{FIRST, IN_1937, IN_1985, Numbers, in_utc, moment, plain};
         use std::alloc::Global;
@@ -370,7 +371,7 @@ mod texts {
         use time_values::error::ComponentRange;
         use time_values::{Date, Month, Time, Timestamp, UtcOffset, Weekday};
 
-        // The value is printed so.
+        // Whether the value displays as that text.
         fn prints(alloc: Global, value: impl Display + Drop, text: &str) -> bool {
             match format!(in alloc; "{value}") {
                 Ok(printed) => printed.as_str() == text,
@@ -389,7 +390,8 @@ mod texts {
             Weekday(Weekday),
         }
 
-        // Years whose 2 January is printed, then hours and nanoseconds at whose minute 5 and second 9 the times are.
+        // Dates by their year, 2 January in each, times by hour and nanosecond, at minute 5 and second 9, and other
+        // values.
         static VALUES: [(Value, &str); 17] = [
             (Value::Date(2021), "2021-01-02"),
             (Value::Date(0), "0000-01-02"),
@@ -410,7 +412,7 @@ mod texts {
             (Value::Weekday(Weekday::Wednesday), "Wednesday"),
         ];
 
-        // The value of these numbers is printed so.
+        // Whether the value of these numbers displays as that text.
         fn is_printed(alloc: Global, value: Value, text: &str) -> Result<bool, ComponentRange> {
             let is_printed = match value {
                 Value::Date(year) => prints(
@@ -440,7 +442,7 @@ mod texts {
             }
         }
 
-        // Moments, and how they are printed without an offset, in UTC and with their offset.
+        // Moments, and their display without an offset, in UTC and with their offset.
         static MOMENTS: [(Numbers, &str, &str, &str); 3] = [
             (
                 IN_1985,
@@ -462,7 +464,7 @@ mod texts {
             ),
         ];
 
-        // The moment is printed so in each of these ways.
+        // Whether the moment displays as these texts.
         fn is_moment_printed(
             alloc: Global,
             numbers: Numbers,

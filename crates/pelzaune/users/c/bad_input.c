@@ -1,8 +1,8 @@
-/* Every call of the interface, with every beginning of twenty texts and of three descriptions, each where a page ends that
- * nothing may touch, and with NULL where that is allowed. Prints 'N passed, M failed'. */
+/* Every call of the interface, with every prefix of twenty texts and of three descriptions, each before an inaccessible
+ * page, and with NULL where that is allowed. Prints 'N passed, M failed'. */
 #include "check.h"
 
-/* Room for what any call writes, with bytes on both sides that no call may write. */
+/* Room for the output of any call, with guard bytes on both sides. */
 typedef struct {
     uint8_t before[16];
     union {
@@ -23,7 +23,7 @@ typedef struct {
 
 enum { CALLS = 13, DESCRIBED = 9 };
 
-/* What a call by a format answers. */
+/* The result of a call by a format. */
 static uint64_t by_format(int call, uint32_t format, const uint8_t *text, size_t length, room *r)
 {
     size_t refused;
@@ -44,7 +44,7 @@ static uint64_t by_format(int call, uint32_t format, const uint8_t *text, size_t
     }
 }
 
-/* What a call by a description answers. */
+/* The result of a call by a description. */
 static uint64_t by_description(int call, uint32_t syntax, const uint8_t *description, size_t size, const uint8_t *text, size_t length, room *r)
 {
     size_t refused;
@@ -68,7 +68,7 @@ static int is_whole(const room *r)
     return whole;
 }
 
-/* A call answers the same wherever the text lies, writes the same, and nothing beside it. */
+/* Checks that a call returns and writes the same wherever the text is in memory, and writes nothing else. */
 static void test_formats(void)
 {
     for (int call = 0; call < CALLS; call++)
@@ -117,7 +117,7 @@ static void test_descriptions(void)
         }
 }
 
-/* Each capacity of a buffer for the text of a moment and of a status, at the end of a page. */
+/* Checks each capacity of a buffer for the text of a moment and of a status, at the end of a page. */
 static void test_capacities(void)
 {
     int right = 1;
@@ -137,7 +137,7 @@ static void test_capacities(void)
     EXPECT(right);
 }
 
-/* Moments of any bytes have a text that is parsed again, or are refused. */
+/* Checks that moments of any bytes are rejected, or have a text that is parsed back. */
 static void test_made_moments(void)
 {
     uint64_t seed = 8601;

@@ -1,4 +1,4 @@
-/* What the tests share. Each text ends where a page ends that nothing may touch. */
+/* Shared code of the tests. Each text ends before an inaccessible page. */
 #ifndef CHECK_H
 #define CHECK_H
 
@@ -18,7 +18,7 @@ static inline void expect(int is_right, const char *what, int line)
 #define EXPECT(is_right) expect((is_right), #is_right, __LINE__)
 
 enum { PAGE = 4096 };
-static uint8_t *page; /* with a page before it and one after it that may not be touched */
+static uint8_t *page; /* between two inaccessible pages */
 
 static inline uint8_t *guarded_page(void)
 {
@@ -27,7 +27,7 @@ static inline uint8_t *guarded_page(void)
     return pages + PAGE;
 }
 
-/* The bytes at the end of the page, and at its front. */
+/* The bytes, at the end of the page and at its start. */
 static inline const uint8_t *at_end(const char *text, size_t length)
 {
     return memcpy(page + PAGE - length, text, length);
@@ -38,7 +38,7 @@ static inline const uint8_t *at_front(const char *text, size_t length)
 }
 #define TEXT(text) at_end((text), sizeof(text) - 1), sizeof(text) - 1
 
-/* A description ends where a page ends too, one of its own. */
+/* A description, at the end of a page of its own. */
 static uint8_t *other_page;
 static inline const uint8_t *described(const char *text, size_t length)
 {
@@ -46,14 +46,14 @@ static inline const uint8_t *described(const char *text, size_t length)
 }
 #define DESCRIPTION(text) described((text), sizeof(text) - 1), sizeof(text) - 1
 
-/* Reads a description, or answers 0. */
+/* Parses a description, or returns 0. */
 static inline int describe(uint32_t syntax, const char *text, pelzaune_description *out)
 {
     size_t index;
     return pelzaune_describe(syntax, described(text, strlen(text)), strlen(text), out, &index) == PELZAUNE_OK;
 }
 
-/* Takes both pages. */
+/* Maps both pages. */
 static inline int has_pages(void)
 {
     page = guarded_page();
@@ -61,7 +61,7 @@ static inline int has_pages(void)
     return page && other_page;
 }
 
-/* Twenty texts of moments, and how many of the beginnings of each are a moment too, as `+05` of `+05:30`. The first five
+/* Twenty texts of moments, and how many of the prefixes of each are a moment too, as `+05` of `+05:30`. The first five
  * are the examples of RFC 3339, section 5.8; the next three of RFC 2822, appendix A. */
 typedef struct {
     uint32_t format;

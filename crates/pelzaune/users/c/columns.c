@@ -1,8 +1,8 @@
 /* Tests of columns and of the texts of moments. Prints 'N passed, M failed'. */
 #include "check.h"
 
-/* Four lines, of which the last lacks its LF: a day after 1970 began, a nanosecond after it, a month that there isn't, and
- * an hour before by its offset. */
+/* Four lines, the last without LF: a day after the start of 1970, a nanosecond after it, an invalid month, and an hour
+ * before it by its offset. */
 static const char four_lines[] =
     "1970-01-02T00:00:00Z\n1970-01-01T00:00:00.000000001Z\n1970-13-01T00:00:00Z\n1970-01-01T00:00:00+01:00";
 static const int64_t four_counts[] = { INT64_C(86400000000000), 1, PELZAUNE_NO_COUNT, INT64_C(-3600000000000) };
@@ -26,7 +26,7 @@ static void test_columns(void)
         && refused == 1 && entries[0] == four_counts[0]);
     EXPECT(pelzaune_column(PELZAUNE_ISO8601, TEXT("1970-002T00Z\n1970-002\n"), entries, 6, &refused) == 2 && refused == 1
         && entries[0] == four_counts[0]);
-    /* The instant whose count is the least number isn't refused. */
+    /* The instant whose count is the least number isn't rejected. */
     EXPECT(pelzaune_column(PELZAUNE_RFC3339, TEXT("1677-09-21T00:12:43.145224192Z"), entries, 6, &refused) == 1 && refused == 0
         && entries[0] == PELZAUNE_NO_COUNT);
     EXPECT(pelzaune_column(PELZAUNE_RFC3339, TEXT("1677-09-21T00:12:43.145224191Z"), entries, 6, &refused) == 1 && refused == 1);
@@ -46,7 +46,7 @@ static void test_described_columns(void)
     EXPECT(pelzaune_read_column(PELZAUNE_STRFTIME, NULL, 0, TEXT("\nx"), entries, 3, &refused) == 2 && refused == 2);
 }
 
-/* Whether a column is each of its lines parsed alone. */
+/* Whether a column equals its lines, parsed alone. */
 static int is_each_alone(const char *text, size_t length)
 {
     static int64_t entries[PAGE];
@@ -81,7 +81,7 @@ static void test_each_line(void)
     EXPECT(right);
 }
 
-/* Lines with each of their bytes changed to each other one, and each of their beginnings. */
+/* Checks lines with each of their bytes changed to each other one, and each of their prefixes. */
 static void test_changed_lines(void)
 {
     static const char *const texts[] = { "2021-01-02T03:04:05Z", "2021-01-02T03:04:05Z\n1970-01-01T00:00:01Z\n",
@@ -102,7 +102,7 @@ static void test_changed_lines(void)
     }
 }
 
-/* The text of a moment, written at the end of the page. */
+/* Whether the text is that of the moment, written at the end of the page. */
 static int writes(uint32_t format, const pelzaune_moment *m, const char *text)
 {
     size_t length = 77, wanted = strlen(text);
@@ -112,7 +112,7 @@ static int writes(uint32_t format, const pelzaune_moment *m, const char *text)
         && at[-1] == '#';
 }
 
-/* Why a moment has no text; the buffer and the length are unchanged then. */
+/* The status of a moment without a text. It leaves the buffer and the length unchanged. */
 static pelzaune_status refuses(uint32_t format, const pelzaune_moment *m)
 {
     uint8_t text[] = "unchanged";
@@ -134,7 +134,7 @@ static void test_texts_of_moments(void)
     EXPECT(pelzaune_format_moment(PELZAUNE_RFC3339, &m, few, 3, &length) == PELZAUNE_OK && length == 28 && memcmp(few, "198.", 4) == 0);
     EXPECT(pelzaune_format_moment(PELZAUNE_ISO8601, &m, NULL, 0, &length) == PELZAUNE_OK && length == PELZAUNE_MOMENT_TEXT);
     EXPECT(refuses(0, &m) == PELZAUNE_UNKNOWN_FORMAT);
-    /* what is in no range, the first that is told */
+    /* every member is out of range; the first one is reported */
     pelzaune_moment wrong = { 1000000, 1000000000, 93600, 13, 32, 24, 60, 60 };
     EXPECT(refuses(1, &wrong) == PELZAUNE_RANGE + 256 * 2);
     wrong.month = 0;
@@ -153,7 +153,7 @@ static void test_texts_of_moments(void)
     EXPECT(refuses(1, &wrong) == PELZAUNE_RANGE + 256 * 11);
     wrong.nanosecond = 999999999;
     EXPECT(refuses(1, &wrong) == PELZAUNE_RANGE + 256 * 19);
-    /* what has no text */
+    /* components that the format can't write */
     wrong.offset = 93599;
     EXPECT(refuses(1, &wrong) == PELZAUNE_NO_TEXT + 256 * 14 && refuses(3, &wrong) == PELZAUNE_NO_TEXT + 256 * 14);
     EXPECT(refuses(2, &wrong) == PELZAUNE_NO_TEXT + 256 * 16);
@@ -167,7 +167,7 @@ static void test_texts_of_moments(void)
     EXPECT(refuses(1, &wrong) == PELZAUNE_NO_TEXT + 256 * 1 && refuses(2, &wrong) == PELZAUNE_NO_TEXT + 256 * 1);
 }
 
-/* What is written of a moment is parsed as that moment; by RFC 2822 without its fraction. */
+/* Checks that the text of a moment is parsed as that moment, in RFC 2822 without its fraction. */
 static void test_read_back(void)
 {
     int right = 1;

@@ -1,4 +1,4 @@
-/* Tests of descriptions that C holds. Prints 'N passed, M failed'. */
+/* Tests of parsed descriptions. Prints 'N passed, M failed'. */
 #include "check.h"
 
 typedef struct {
@@ -6,7 +6,7 @@ typedef struct {
     const char *description, *text;
 } pair;
 
-/* Each kind of step, with what it may choose. */
+/* Each kind of step, with its choices. */
 static const pair pairs[] = {
     { PELZAUNE_BRACKETS_2, "[year]-[month]-[day]", "2021-03-04" },
     { PELZAUNE_BRACKETS_1, "[[[year]", "[2021" },
@@ -46,7 +46,7 @@ typedef union {
     uint8_t bytes[64];
 } value;
 
-/* What a call answers by a description that was read. */
+/* The result of a call by a parsed description. */
 static pelzaune_status by_description(int call, const pelzaune_description *d, const uint8_t *text, size_t length, value *out)
 {
     switch (call) {
@@ -62,7 +62,7 @@ static pelzaune_status by_description(int call, const pelzaune_description *d, c
     }
 }
 
-/* And by its text. */
+/* The result of a call by the text of the description. */
 static pelzaune_status by_text(int call, const pair *it, const uint8_t *text, size_t length, value *out)
 {
     const uint8_t *d = (const uint8_t *)it->description;
@@ -80,7 +80,7 @@ static pelzaune_status by_text(int call, const pair *it, const uint8_t *text, si
     }
 }
 
-/* Both answer alike for a text and write the same, wherever the text lies. */
+/* Whether both return and write the same for a text, wherever it is in memory. */
 static int alike(int call, const pair *it, const pelzaune_description *d, const char *text, size_t length)
 {
     value one, other;
@@ -90,7 +90,7 @@ static int alike(int call, const pair *it, const pelzaune_description *d, const 
     return by_text(call, it, at_front(text, length), length, &other) == status && memcmp(&one, &other, sizeof one) == 0;
 }
 
-/* Every beginning of the text, and the text with each of its bytes changed. */
+/* Checks every prefix of the text, and the text with each of its bytes changed. */
 static void test_same_as_by_text(void)
 {
     for (const pair *it = pairs; it < pairs + PAIRS; it++) {
@@ -111,7 +111,7 @@ static void test_same_as_by_text(void)
     }
 }
 
-/* Descriptions whose texts have one form, and others that are near to one. */
+/* Descriptions whose texts have one form, and others that are close to one. */
 static const pair forms[] = {
     { PELZAUNE_STRFTIME, "%Y-%m-%d", "2021-03-04" },
     { PELZAUNE_BRACKETS_2, "[year range:standard]/[month]/[day]", "2021/03/04" },
@@ -132,7 +132,7 @@ static const pair forms[] = {
 };
 enum { FORMS = sizeof forms / sizeof *forms };
 
-/* Lines that a text is between are handed over as each alone, by the description that was read and by its text. */
+/* Whether a line among others is stored as it is alone, by the parsed description and by its text. */
 static int is_column(const pair *it, const pelzaune_description *d, const char *text)
 {
     char lines[3 * 64];
@@ -145,7 +145,7 @@ static int is_column(const pair *it, const pelzaune_description *d, const char *
         && entries[2] == 7 && memcmp(entries, read, sizeof read) == 0;
 }
 
-/* The text of a form, and with each of its bytes changed to each other one, and one byte more. */
+/* Checks the text of a form, with each of its bytes changed to each other one, and with one more byte. */
 static void test_forms(void)
 {
     static const int calls[] = { 0, 1, 3, 4 };
@@ -177,7 +177,7 @@ static int same_time(pelzaune_time p, int hour, int minute, int second, uint32_t
     return p.hour == hour && p.minute == minute && p.second == second && p.nanosecond == nanosecond;
 }
 
-/* A date, a time, both and a moment are what the parts of the text say, which no form reads. */
+/* Whether the date, the time, both and the moment agree with the parts, which have no fast path by form. */
 static int as_parts(const pelzaune_description *d, const uint8_t *text, size_t length)
 {
     pelzaune_parts p;
@@ -198,7 +198,7 @@ static int as_parts(const pelzaune_description *d, const uint8_t *text, size_t l
             && same_time(p.time, m.hour, m.minute, m.second, m.nanosecond) && p.offset == m.offset));
 }
 
-/* A description of a form of which a byte is overwritten, and a copy of it that is put back: each call goes by what it finds. */
+/* A description whose bytes are overwritten and restored in turn: each call uses the current bytes. */
 static void test_overwritten(void)
 {
     for (const pair *it = forms; it < forms + FORMS; it++) {
@@ -208,7 +208,7 @@ static void test_overwritten(void)
         copy = d;
         for (size_t at = 0; at < 8 + 16 * (d.numbers[0] + 1); at++) {
             uint8_t *byte = (uint8_t *)&copy + at;
-            for (int other = 0; other < 256; other += other == 36 ? 5 : other < 48 ? 1 : 23) { /* a timestamp, 37 to 40, makes a moment of no parts */
+            for (int other = 0; other < 256; other += other == 36 ? 5 : other < 48 ? 1 : 23) { /* a timestamp, 37 to 40, makes a moment without parts */
                 *byte = (uint8_t)other;
                 right &= as_parts(&copy, at_end(it->text, length), length);
             }
@@ -219,7 +219,7 @@ static void test_overwritten(void)
     }
 }
 
-/* Each text has a part of its description. */
+/* Each text is parsed by a part of its description. */
 static void test_read(void)
 {
     for (const pair *it = pairs; it < pairs + PAIRS; it++) {
@@ -262,7 +262,7 @@ static void test_values(void)
     EXPECT(pelzaune_described_column(&d, NULL, 0, NULL, 0, &refused) == 0 && refused == 0);
 }
 
-/* Why there is no description, as the call that checks one says it. Then nothing is written. */
+/* The errors of descriptions, which write nothing. The call that only checks one agrees. */
 static void test_faults(void)
 {
     static const char *const texts[] = { "[yaer]", "[year", "[year]-[month repr:shrot]", "[]", "a\\b", "%Z", "%", "[ignore]", "[optional year]",
@@ -283,7 +283,7 @@ static void test_faults(void)
     EXPECT(pelzaune_describe(PELZAUNE_BRACKETS_2, TEXT("[year]-[yaer]"), &d, &index) == PELZAUNE_COMPONENT_NAME && index == 8);
 }
 
-/* Numbers that no description has are one all the same: each call returns, and reads no byte beside the text and them. */
+/* Numbers that no text describes are a description, too: each call returns, and reads no byte beside the text and them. */
 static void test_any_numbers(void)
 {
     static const char text[] = "2021-01-02T03:04:05.123456789+05:30";

@@ -1,5 +1,5 @@
-/* Texts of up to 3 GiB, which lie in the same few pages again and again and end where nothing may be read. Prints
- * 'N passed, M failed'. */
+/* Texts of up to 3 GiB, which map the same few pages repeatedly and end before an inaccessible page. Prints 'N passed,
+ * M failed'. */
 #define _GNU_SOURCE
 #include "pelzaune.h"
 #include <stdio.h>
@@ -19,7 +19,7 @@ static void expect(int is_right, const char *what, int line)
 enum { PIECE = 1 << 22, PAGE = 4096 };
 #define HUGE ((size_t)3 << 30)
 
-/* So many bytes of one kind before a page that nothing may touch. The first piece and the last can be written to. */
+/* Bytes of one kind before an inaccessible page. The first piece and the last are writable. */
 static uint8_t *filled(uint8_t byte)
 {
     static uint8_t *text;
@@ -38,7 +38,7 @@ static uint8_t *filled(uint8_t byte)
     return text;
 }
 
-/* Each call refuses a text of one byte again and again. */
+/* Whether each call rejects a text of one repeated byte. */
 static int refuses(const uint8_t *text, size_t length)
 {
     static const uint8_t form[] = "%Y-%m-%d";
@@ -64,7 +64,7 @@ static int refuses(const uint8_t *text, size_t length)
     return refused;
 }
 
-/* A text of one line, whose moment is parsed, and then that line in a column. */
+/* Whether a text of one line is parsed as a moment, and its line as a column. */
 static int has(uint32_t format, const uint8_t *text, size_t length, int64_t count)
 {
     int64_t entry = 7;
@@ -83,7 +83,7 @@ int main(void)
         if (!text) return 2;
         for (size_t k = 0; k < 4; k++) EXPECT(refuses(text + HUGE - lengths[k], lengths[k]));
     }
-    /* A description without an end in sight. */
+    /* A very long description. */
     pelzaune_description held;
     pelzaune_date d;
     size_t index = 77;
@@ -92,13 +92,13 @@ int main(void)
     EXPECT(pelzaune_check_description(PELZAUNE_BRACKETS_2, text, HUGE, &index) == PELZAUNE_TOO_LONG && index == 77);
     EXPECT(pelzaune_describe(PELZAUNE_STRFTIME, text, HUGE, &held, &index) == PELZAUNE_TOO_LONG && index == 77);
     EXPECT(pelzaune_read_date(PELZAUNE_BRACKETS_1, text, HUGE, text, 1, &d) == PELZAUNE_TOO_LONG);
-    /* Digits of a fraction without an end in sight, of which nine count, and the offset. */
+    /* Very many digits of a fraction, of which nine count, and the offset. */
     text = filled('1');
     if (!text) return 2;
     memcpy(text, "1970-01-01T00:00:00.", 20);
     text[HUGE - 1] = 'Z';
     EXPECT(has(PELZAUNE_RFC3339, text, HUGE, 111111111));
-    /* As many blanks. */
+    /* Very many blanks. */
     text = filled(' ');
     if (!text) return 2;
     memcpy(text, "Thu, 01 Jan 1970 00:00:01", 25);

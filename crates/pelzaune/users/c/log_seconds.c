@@ -2,8 +2,8 @@
  *
  *     log_seconds [rfc3339|rfc2822|iso8601] [SEPARATOR]
  *
- * A field ends at the separator, which is a space where none is given. A line whose field is refused is printed as it
- * is, and why is told on standard error. The exit status is 1 where a line was refused, 2 for wrong arguments. */
+ * A field ends at the separator, by default a space. A line with a rejected field is printed unchanged, and the error
+ * is printed to standard error. The exit status is 1 if a line was rejected, and 2 for wrong arguments. */
 #define _POSIX_C_SOURCE 200809L
 #include "pelzaune.h"
 #include <inttypes.h>
@@ -20,7 +20,7 @@ static uint32_t format_named(const char *name)
     return 0;
 }
 
-/* Prints a line, and answers why its field is refused. */
+/* Prints a line, and returns the status of its field. */
 static pelzaune_status print_line(uint32_t format, int separator, const char *line, size_t length)
 {
     const char *end = memchr(line, separator, length);

@@ -1,4 +1,4 @@
-/* Tests of moments of RFC 3339 at the borders of what is read at once. Prints 'N passed, M failed'. */
+/* Tests of moments of RFC 3339 at the limits of the fast path. Prints 'N passed, M failed'. */
 #include "check.h"
 
 enum { YEAR = 256 * 1, MONTH = 256 * 2, DAY = 256 * 3, HOUR = 256 * 8, MINUTE = 256 * 9, SECOND = 256 * 10, SUBSECOND = 256 * 12,
@@ -60,7 +60,7 @@ static const border borders[] = {
     { "2021-01-01T00:00:00.5Z ", PELZAUNE_TRAILING, { 0 } },
 };
 
-/* The calls that answer a moment tell the same of a text, which leave what was there where they refuse. */
+/* The calls for a moment agree on a text. On an error they leave the output unchanged. */
 static void test_border(const border *it)
 {
     size_t length = strlen(it->text);

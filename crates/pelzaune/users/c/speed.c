@@ -5,11 +5,12 @@
  *     speed column FORMAT TIMES TEXT
  *     speed described_column DESCRIPTION TIMES TEXT
  *
- * FORMAT is the number of a format, DESCRIPTION a description of strftime. `read` is an instant by the text of the
- * description, which each call reads anew; `described`, `clock`, `date` and `time` are an instant, a date and time, a date
- * and a time by one that was read before. `strptime` is the seconds by strptime and timegm, `fields` strptime alone. The text
- * and a copy of it are parsed in turn, and a sum is printed to which each answer adds: so no part of a parse is done once for
- * all. A column has a thousand lines of the text, and so many thousandths of TIMES are parsed. */
+ * FORMAT is the number of a format, DESCRIPTION a description of strftime. `read` parses an instant by the text of the
+ * description, which each call parses again. `described`, `clock`, `date` and `time` parse an instant, a date and time,
+ * a date and a time by a description that is parsed once. `strptime` gets the seconds by strptime and timegm, `fields`
+ * calls strptime alone. The text and a copy of it are parsed in turn, and a sum that depends on each result is printed,
+ * so that the compiler can't hoist a part of a parse out of the loop. A column has a thousand lines of the text, and
+ * TIMES / 1000 columns are parsed. */
 #define _GNU_SOURCE
 #include "pelzaune.h"
 #include <stdio.h>
@@ -17,14 +18,14 @@
 #include <string.h>
 #include <time.h>
 
-/* What is parsed by. */
+/* The format or description. */
 typedef struct {
     uint32_t format;
     const char *text;
     pelzaune_description held;
 } how;
 
-/* The fields of a text, by the C library, or nothing. */
+/* The fields of a text by the C library, or nothing. */
 static int by_strptime(const char *text, const char *description, struct tm *tm)
 {
     memset(tm, 0, sizeof *tm);
@@ -43,7 +44,7 @@ static const char *const calls[] = { "moment", "instant", "nanoseconds", "local"
     "described_column", "strptime", "fields" };
 enum { MOMENT, INSTANT, NANOSECONDS, LOCAL, COLUMN, READ, DESCRIBED, CLOCK, DATE, TIME, DESCRIBED_COLUMN, STRPTIME, FIELDS, CALLS };
 
-/* A number of what a call answers. */
+/* A number that depends on the result of a call. */
 static int64_t answer(int call, const how *it, const char *text, size_t length)
 {
     const uint8_t *bytes = (const uint8_t *)text;
@@ -72,7 +73,7 @@ static int64_t answer(int call, const how *it, const char *text, size_t length)
 
 enum { LINES = 1000 };
 
-/* A sum of what so many columns of that line answer. */
+/* The sum of the results of this many columns of that line. */
 static uint64_t sum_of_columns(int call, const how *it, const char *line, long times)
 {
     static int64_t entries[LINES];

@@ -1,5 +1,5 @@
 #!/bin/sh
-# Prints how many instructions a call takes from C, as callgrind counts them: the difference of 11000 calls and 1000,
+# Prints how many instructions a call from C takes, as callgrind counts them: the difference of 11000 calls and 1000,
 # divided by 10000. The argument is the program `speed`.
 count() {
     valgrind --tool=callgrind --callgrind-out-file=/dev/null "$@" 2>&1 >/dev/null | sed -n 's/.*Collected : //p'

@@ -1,5 +1,5 @@
-/* Measures the stack that calls take, with their frames: each runs on a painted stack of its own, of which the bytes are
- * counted from the deepest one that it changed. Prints a line for each, and fails where one takes more than 16 KiB. */
+/* Measures the stack that calls use, with their frames. Each call runs on a painted stack of its own, whose bytes are
+ * counted from the deepest changed one. Prints a line for each, and fails where one uses more than 16 KiB. */
 #define _GNU_SOURCE
 #include "pelzaune.h"
 #include <pthread.h>
@@ -78,7 +78,7 @@ static void *start(void *call)
     return NULL;
 }
 
-/* How many bytes of the stack a thread changes that makes the call, or -1 where there is no thread. */
+/* How many bytes of its stack a thread changes that makes the call, or -1 without a thread. */
 static long depth(void (*run)(void))
 {
     pthread_attr_t attributes;

@@ -19,7 +19,7 @@ static int64_t seconds_of(const pelzaune_moment *m)
     return (int64_t)timegm(&tm) - m->offset;
 }
 
-/* All values of a text agree with its moment. A leap second has no local time: then `is_leap`. */
+/* Checks that all values of a text agree with its moment. A leap second has no local time: then `is_leap`. */
 static int agree(const row *it, const uint8_t *text, size_t length, int is_leap)
 {
     const pelzaune_moment *m = &it->value;
@@ -49,7 +49,7 @@ static int agree(const row *it, const uint8_t *text, size_t length, int is_leap)
         && time.second == m->second && time.nanosecond == m->nanosecond && local.nanosecond == m->nanosecond;
 }
 
-/* Every beginning of a text, at the end of the page and at its front. A refusal leaves what was there. */
+/* Checks every prefix of a text, at the end of the page and at its start. An error leaves the output unchanged. */
 static int beginnings(const row *it)
 {
     pelzaune_moment kept = { 7, 7, 7, 7, 7, 7, 7, 7 };
@@ -77,7 +77,7 @@ static void test_rows(void)
     }
 }
 
-/* The parts of a text, and those that a text has not. */
+/* The parts of a text, and the statuses of those that it doesn't have. */
 static void test_parts(void)
 {
     pelzaune_parts p = { { 7, 7, 7 }, { 7, 7, 7, 7 }, 7, 7, 7, 7 };
@@ -160,7 +160,7 @@ static void test_descriptions(void)
     EXPECT(p.date_status == PELZAUNE_INSUFFICIENT && p.time_status == PELZAUNE_OK && p.offset_status == PELZAUNE_INSUFFICIENT);
 }
 
-/* What is no description, and where its first fault is. */
+/* Malformed descriptions, and the index of the first fault of each. */
 static void test_faults(void)
 {
     size_t index = 77;
@@ -184,7 +184,7 @@ static void test_faults(void)
             (void)pelzaune_check_description(syntax, described("[year]-[month]-%Y-%z", length), length, &index);
 }
 
-/* Where texts go wrong: of 2021-13-02 the month begins at the byte 5. */
+/* Where texts fail: in 2021-13-02 the month starts at byte 5. */
 static void test_places(void)
 {
     pelzaune_place p = { 77, 7 };
@@ -215,8 +215,8 @@ static void test_places(void)
     EXPECT(pelzaune_read_locate(0, YMD, TEXT("2021"), &p) == PELZAUNE_UNKNOWN_SYNTAX && p.index == 77 && p.byte == 7);
 }
 
-/* The ends of what 64 bits count, 2^63 nanoseconds before and after 1970, and the first and the last moment: year
- * -999999 begins 365961662 days before 1970, and 730484634 days after it the last year ends. */
+/* The limits of 64 bits, 2^63 nanoseconds before and after 1970, and the first and the last moment: year -999999 starts
+ * 365961662 days before 1970, and the last year ends 730484634 days after it. */
 static void test_limits(void)
 {
     int64_t n;
@@ -234,7 +234,7 @@ static void test_limits(void)
     EXPECT(pelzaune_parse_instant(PELZAUNE_RFC3339, TEXT("1969-12-31T23:59:59.9Z"), &i) == 0 && i.seconds == -1 && i.nanoseconds == 900000000);
 }
 
-/* A text of no bytes, also one at NULL, is refused by each call, which writes nothing. */
+/* Each call rejects an empty text, also one at NULL, and writes nothing. */
 static int refuses_no_bytes(uint32_t format, const uint8_t *text)
 {
     pelzaune_moment m = { 7, 7, 7, 7, 7, 7, 7, 7 };
@@ -259,7 +259,7 @@ static void test_no_bytes(void)
     }
 }
 
-/* Texts of letters that dates are made of: no call reads before or after them, and no refusal writes. */
+/* Texts of the letters of dates: no call reads before or after them, and no error writes. */
 static void test_made_texts(void)
 {
     static const char letters[] = "0123456789012345678901234567890123456789-:.,TZWz+() JanSat";
@@ -282,7 +282,7 @@ static void test_made_texts(void)
     EXPECT(right);
 }
 
-/* The texts of the header are those of the library, for each kind and component. */
+/* The texts of the header equal those of the library, for each kind and component. */
 static void test_texts(void)
 {
     int right = 1;
@@ -302,7 +302,7 @@ static void test_texts(void)
     EXPECT(pelzaune_write_text(PELZAUNE_TRAILING, page + PAGE - 61, 61) == 61 && memcmp(page + PAGE - 8, "expected", 8) == 0);
 }
 
-/* Seconds of a minute, over and over, beside three other threads that do the same. */
+/* Parses the seconds of a minute repeatedly, beside three other threads that do so too. */
 static void *parse_minutes(void *unused)
 {
     uintptr_t wrong = 0;

@@ -2,7 +2,7 @@
 
     count_days.py FILE..
 
-Each line begins with a text of RFC 3339 and a space. Prints each day, in UTC, with its count, and then how many lines have
+Each line starts with a text of RFC 3339 and a space. Prints each day, in UTC, with its count, and then how many lines have
 no time.
 """
 import datetime
@@ -18,7 +18,7 @@ EPOCH = datetime.date(1970, 1, 1).toordinal()
 
 
 def days(lines):
-    """The days of lines, as numbers since 1970, with None for a line that has no time."""
+    """The days of lines, as days since 1970-01-01, with None for a line without a time."""
     texts = "".join(line.split(" ", 1)[0].rstrip("\n") + "\n" for line in lines)
     return [None if count == pelzaune.NO_COUNT else count // DAY for count in pelzaune.column(texts)]
 
@@ -29,7 +29,7 @@ def count_days(bag):
 
 
 def cluster():
-    """Two processes, which hear nothing but this machine."""
+    """Two processes, which listen to this machine only."""
     return LocalCluster(n_workers=2, threads_per_worker=1, processes=True, host="127.0.0.1", dashboard_address=None)
 
 

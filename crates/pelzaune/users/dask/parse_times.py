@@ -2,7 +2,7 @@
 
     parse_times.py COLUMN FILE.csv..
 
-The times are those of RFC 3339, in UTC: a text that is refused has none (NaT).
+The times are those of RFC 3339, in UTC. A rejected text becomes NaT.
 """
 import sys
 
@@ -13,7 +13,7 @@ from pelzaune.pandas import to_datetime
 
 
 def parse(column):
-    """The times of a column of a table. A process parses a partition at a time."""
+    """The times of a column of a table. Each process parses a partition at a time."""
     return column.map_partitions(to_datetime, errors="none", meta=(column.name, "datetime64[ns, UTC]"))
 
 

@@ -1,4 +1,4 @@
-"""Two processes of a cluster on this machine answer as one process does."""
+"""Tests that two processes of a cluster on this machine have the results of one process."""
 import os
 import random
 import re
@@ -21,7 +21,7 @@ HERE = os.path.dirname(os.path.abspath(__file__))
 
 
 def made_lines(count):
-    """Lines of which one in five is damaged."""
+    """Lines, one in five of them damaged."""
     r = random.Random(3339)
     lines = []
     for _ in range(count):
@@ -57,7 +57,7 @@ class Cluster(unittest.TestCase):
             pandas.testing.assert_series_equal(got.compute(), alone)
 
     def test_program(self):
-        """It prints what is in two files, of which one has a text that is refused."""
+        """It prints the times of two files, one of them with a rejected text."""
         with tempfile.TemporaryDirectory() as folder:
             for name, text in (("1.csv", "1970-01-01T00:00:01Z"), ("2.csv", "?")):
                 with open(f"{folder}/{name}", "w") as file:
@@ -66,7 +66,7 @@ class Cluster(unittest.TestCase):
         self.assertEqual((done.stdout, done.returncode), ("1970-01-01 00:00:01+00:00 1970-01-01 00:00:01+00:00 1 have no time\n", 0), done.stderr)
 
     def test_page(self):
-        """The lines that the page quotes stand in the program."""
+        """The lines that the page quotes are in the program."""
         with open(f"{HERE}/../../README.md") as page, open(f"{HERE}/parse_times.py") as program:
             quoted = re.findall(r"(?ms)^```text users/dask/parse_times.py\n(.*?)^```$", page.read())
             self.assertEqual([it in program.read() for it in quoted], [True])

@@ -1,5 +1,5 @@
 #!/bin/sh
-# Runs the two commands of a page in this folder. The last line that they print has to be the one that the page says.
+# Runs the two commands of a page in this folder. The last line that they print has to be that of the page.
 #
 #     follow.sh PAGE
 set -eu

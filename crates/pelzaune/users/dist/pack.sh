@@ -1,9 +1,9 @@
 #!/bin/sh
-# Packs what users of the library take.
+# Packs the release for users of the library.
 #
 #     pack.sh VERSION TARGET
 #
-# It stands in the library's folder, whose libraries and module are built, and writes TARGET, an archive with one folder
+# It runs in the library's folder, whose libraries and module are built, and writes TARGET, an archive with one folder
 # pelzaune-VERSION, whose files have the time SOURCE_DATE_EPOCH. PYTHON names the Python of the wheel.
 set -e
 export LC_ALL=C
@@ -43,7 +43,7 @@ cp ../../LICENSE-MIT ../../LICENSE-Apache ../../NOTICE "$source"
 mkdir "$at/sdist"
 tar -C "$at/sdist" -xzf "$at/pelzaune-$version.tar.gz"
 
-# What is packed depends on the files alone: their names in order, and one time.
+# The archive depends on the files alone: their names are sorted, and have one time.
 packed() {
     tar -C "$1" --sort=name --mtime="@${SOURCE_DATE_EPOCH:-315532800}" --owner=0 --group=0 --numeric-owner --mode=u+rwX,go=rX \
         -cf - "pelzaune-$version" | gzip -9n > "$2"

@@ -1,5 +1,6 @@
 #!/bin/sh
-# Puts all that builds the extension of PostgreSQL into a new folder. It stands in the library's folder, whose archive is built.
+# Copies everything that builds the extension of PostgreSQL into a new folder. It runs in the library's folder, whose
+# archive is built.
 #
 #     postgres.sh TARGET
 set -e

@@ -1,6 +1,6 @@
 #!/bin/sh
-# Takes the archive as a user does, in an empty folder: unpacks it, and follows the page of each language. The extension of
-# PostgreSQL is tried on a server of its own, where what builds it is there.
+# Uses the archive as a user does, in an empty folder: unpacks it, and follows the page of each language. The extension of
+# PostgreSQL is tested on a server of its own, if the tools to build it are installed.
 #
 #     try.sh ARCHIVE [LANGUAGE..]
 set -e
@@ -23,7 +23,7 @@ if [ $# = 0 ]; then
     fi
 fi
 
-# Runs a command, for PostgreSQL with a server beside it.
+# Runs a command, for PostgreSQL with a running server.
 run() {
     if [ "$language" = postgres ]; then python3 "$serving" "$@"; else "$@"; fi
 }

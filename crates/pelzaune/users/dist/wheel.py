@@ -2,9 +2,9 @@
 
     wheel.py FOLDER VERSION TARGET PAGE LICENCE..
 
-FOLDER holds the package `pelzaune` with its extension module, and the wheel is written into TARGET, with the page as its
-description and with the licences. For Linux its name has the oldest glibc that has the symbols of the module, which is
-linked to nothing else (PEP 600).
+FOLDER has the package `pelzaune` with its extension module. The wheel is written into TARGET, with the page as its
+description and with the licences. For Linux its name has the oldest glibc with the symbols of the module, which is linked
+to nothing else (PEP 600).
 """
 import base64
 import hashlib

@@ -2,8 +2,9 @@
  *
  *     answers moments|nanoseconds
  *
- * `moments` prints what time_lines does. `nanoseconds` prints those since 1970, or the same error, and for an instant that
- * 64 bits don't count `too wide`; there it also sees that they are the moment's, and that a column has them. */
+ * `moments` prints what time_lines does. `nanoseconds` prints the nanoseconds from 1970-01-01T00:00:00Z, or an equal
+ * error, and `too wide` for an instant that doesn't fit 64 bits. It also checks that they agree with the moment and
+ * with a column. */
 #define _POSIX_C_SOURCE 200809L
 #include "pelzaune.h"
 #include <inttypes.h>
@@ -12,12 +13,12 @@
 #include <string.h>
 #include <sys/types.h>
 
-/* The days from 1970-01-01 to a date, counted by years of 400 years' cycles that begin in March. */
+/* The days from 1970-01-01 to a date, counted in cycles of 400 years that start in March. */
 static int64_t days_of(const pelzaune_moment *m)
 {
     int64_t year = m->year - (m->month <= 2) + 1000000, month = (m->month + 9) % 12;
     int64_t day = 365 * year + year / 4 - year / 100 + year / 400 + (153 * month + 2) / 5 + m->day - 1;
-    /* 1970-01-01 is the day 306 of the year that began on 1969-03-01 */
+    /* 1970-01-01 is day 306 of the year that starts on 1969-03-01 */
     int64_t first = 1001969;
     return day - (365 * first + first / 4 - first / 100 + first / 400 + 306);
 }
@@ -34,7 +35,7 @@ static void print_moment(const pelzaune_moment *m)
         m->month, m->day, m->hour, m->minute, m->second, m->nanosecond, m->offset < 0 ? '-' : '+', offset / 3600, offset / 60 % 60, offset % 60);
 }
 
-/* Prints the nanoseconds, and answers whether the moment and a column of the line agree. */
+/* Prints the nanoseconds, and returns whether the moment and a column of the line agree. */
 static int print_nanoseconds(uint32_t format, const uint8_t *text, size_t length, const pelzaune_moment *m, pelzaune_status why)
 {
     int64_t count = PELZAUNE_NO_COUNT, entry;

@@ -1,10 +1,10 @@
 #!/bin/sh
-# Sees that C, Python and time_lines answer made lines alike, byte for byte.
+# Checks that the answers of C, Python and time_lines to generated lines are equal, byte for byte.
 #
 #     compare.sh COUNT
 #
-# It stands in the library's folder, whose module and program `answers` are built. time_lines is built
-# here, by `rt run`, where a source is newer than the program: that proves what isn't proved yet.
+# It runs in the library's folder, whose module and program `answers` are built. time_lines is built here, by `rt run`, if
+# a source is newer than the program: that proves what isn't proved yet.
 set -e
 count=$1 at=$(mktemp -d) python=${PYTHON:-python3} home=$(pwd)
 trap 'rm -rf "$at"' EXIT

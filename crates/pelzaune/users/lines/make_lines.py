@@ -1,4 +1,4 @@
-"""Writes lines for time_lines, each a format, `datetime` and a text, with TAB between them. Every second text is damaged.
+"""Generates lines for time_lines, each a format, `datetime` and a text, separated by TABs. Every second text is damaged.
 
     make_lines.py COUNT
 """

@@ -1,14 +1,14 @@
-/* What the calls of the extension share: the arguments, the format that is kept from row to row, and errors. The server's own
- * headers stand before it. */
+/* Shared code of the extension's calls: the arguments, the format that is cached from row to row, and errors. The
+ * server's own headers are included before it. */
 #ifndef PELZAUNE_ASKING_H
 #define PELZAUNE_ASKING_H
 
 #include "formats.h"
 
-/* How a call ends. */
+/* The outcome of a call. */
 typedef enum { ANSWERED, NO_FORMAT, REFUSED, OUT_OF_RANGE } ending;
 
-/* What a call is asked, and why it has no answer: a status of the library, and for a format the index of its fault. */
+/* The arguments of a call, and why it fails: a status of the library, and for a format the index of its fault. */
 typedef struct {
     bytes format, text;
     const form *by;
@@ -16,7 +16,7 @@ typedef struct {
     size_t index;
 } question;
 
-/* A format that was read, and how it was written. A fixed one is the same for all calls by this expression. */
+/* A parsed format, and its text. A fixed one is constant for all calls by this expression. */
 typedef struct {
     form by;
     bool is_read, is_fixed;
@@ -30,7 +30,7 @@ static inline bytes bytes_of(const text *it)
     return found;
 }
 
-/* Reads a format into the place of the kept one. An error of the server leaves none. */
+/* Parses a format into the cache. An error of the server leaves the cache empty. */
 static pelzaune_status keep(kept_form *kept, MemoryContext context, question *it)
 {
     kept->is_read = false;
@@ -50,14 +50,14 @@ static pelzaune_status keep(kept_form *kept, MemoryContext context, question *it
     return PELZAUNE_OK;
 }
 
-/* Whether the second argument is a constant of the expression. A parameter isn't: one expression may get others. */
+/* Whether the second argument is a constant of the expression. A parameter isn't, since its value may change. */
 static bool has_constant(const FmgrInfo *called)
 {
     const FuncExpr *call = (const FuncExpr *)called->fn_expr;
     return call && IsA(call, FuncExpr) && list_length(call->args) > 1 && IsA(lsecond(call->args), Const);
 }
 
-/* Takes the second argument, which is the format, where it isn't known to be that of the row before. */
+/* Parses the second argument, which is the format, unless it is known to equal that of the row before. */
 static ending ask_other_format(FunctionCallInfo fcinfo, question *it)
 {
     FmgrInfo *called = fcinfo->flinfo;
@@ -81,18 +81,18 @@ static inline ending ask_format(FunctionCallInfo fcinfo, question *it)
     return ANSWERED;
 }
 
-/* The same, and the first argument, which is the text. */
+/* Gets both arguments: the format, and the first, which is the text. */
 static inline ending ask(FunctionCallInfo fcinfo, question *it)
 {
     it->text = bytes_of(PG_GETARG_TEXT_PP(0));
     return ask_format(fcinfo, it);
 }
 
-/* The most bytes of a text that a message shows. */
+/* The most bytes of a text in a message. */
 #define SHOWN_MOST 100
 
-/* A text as a message shows it: its front, control bytes as \x1b, and where the server's encoding tells no characters, as
- * SQL_ASCII, the bytes above ASCII so, too. */
+/* A text for a message: its start, with control bytes as \x1b, and if the server's encoding defines no characters, as
+ * SQL_ASCII, also the bytes above ASCII. */
 static const char *shown(bytes it)
 {
     int size = pg_mbcliplen((const char *)it.at, (int)it.length, SHOWN_MOST);
@@ -120,7 +120,7 @@ static int sqlstate_of(pelzaune_status status)
     }
 }
 
-/* Where a text goes wrong, as a sentence. */
+/* Where a text fails, as a sentence. */
 static const char *detail_of(pelzaune_status status, bytes format, bytes text)
 {
     refusal why = placed(status, format, text);
@@ -143,7 +143,7 @@ _Noreturn static void tell_fault(const question *it)
             : errdetail_internal("At index %zu of the format \"%s\".", it->index, shown(it->format))));
 }
 
-/* Tells why a call has no answer. A value that the server's type can't hold has the server's own error. */
+/* Raises the error of a call. A value that the server's type can't represent has the server's own error. */
 _Noreturn static void tell(ending how, const question *it, const char *type)
 {
     if (how == NO_FORMAT) tell_fault(it);

@@ -1,6 +1,7 @@
-/* Values of the library as PostgreSQL counts them: microseconds and days since 2000-01-01. Plain C, which needs no server.
+/* Values of the library as PostgreSQL counts them: microseconds and days since 2000-01-01. Plain C, which needs no
+ * server.
  *
- * Each count answers 0 where PostgreSQL's type is too narrow for the value. A nanosecond is rounded down. */
+ * Each count returns 0 where PostgreSQL's type is too narrow for the value. A nanosecond is rounded down. */
 #ifndef PELZAUNE_COUNTS_H
 #define PELZAUNE_COUNTS_H
 
@@ -11,7 +12,7 @@
 #define SECONDS_A_DAY INT64_C(86400)
 #define UNIX_2000 INT64_C(946684800)
 
-/* Days since 2000-01-01, where the year 0 is 1 BC: counted by years that begin in March, in cycles of 400. */
+/* Days since 2000-01-01, where the year 0 is 1 BC, counted in cycles of 400 years that start in March. */
 static inline int64_t days_of(pelzaune_date date)
 {
     int64_t year = date.month > 2 ? date.year : (int64_t)date.year - 1;
@@ -20,7 +21,7 @@ static inline int64_t days_of(pelzaune_date date)
     return 146097 * cycle + 365 * year_of + year_of / 4 - year_of / 100 + day_of - 730425;
 }
 
-/* The date of that day: days_of turned back. */
+/* The date of that day: the inverse of days_of. */
 static inline pelzaune_date date_of(int64_t days)
 {
     int64_t day = days + 730425, cycle = (day - (day < 0 ? 146096 : 0)) / 146097;

@@ -1,5 +1,5 @@
-/* An extension of PostgreSQL: texts with dates and times as values of the server's types, and back. What users call is in
- * pelzaune--1.0.sql; a function with `try_` in its name answers NULL where the other raises. */
+/* An extension of PostgreSQL: texts with dates and times as values of the server's types, and back. Its interface is
+ * pelzaune--1.0.sql. A function with `try_` in its name returns NULL where the other one raises. */
 #include "postgres.h"
 #include "catalog/pg_type.h"
 #include "common/int.h"
@@ -67,7 +67,7 @@ static Datum number_of(int64 value)
     return NumericGetDatum(int64_to_numeric(value));
 }
 
-/* The nanoseconds of an instant, of which 64 bits hold those from 1677 to 2262. */
+/* The nanoseconds of an instant. 64 bits hold those from 1677 to 2262. */
 static Datum nanoseconds_of(const pelzaune_instant *it)
 {
     int64 count;
@@ -86,7 +86,7 @@ static inline ending take_unix_ns(question *it, Datum *value)
     return ANSWERED;
 }
 
-/* Two functions of SQL: one that raises an error of that type, and one that answers NULL in its place. */
+/* Two functions of SQL: one that raises an error of that type, and one that returns NULL instead. */
 #define CALLS(name, type) \
     PG_FUNCTION_INFO_V1(call_##name); \
     Datum call_##name(PG_FUNCTION_ARGS) \
@@ -114,7 +114,8 @@ CALLS(date, "date")
 CALLS(time, "time")
 CALLS(unix_ns, "numeric")
 
-/* A row of index, expectation and reason. The first two are NULL where the text is read, and its date or time isn't one. */
+/* A row of index, expectation and reason. The first two are NULL where the text is parsed, and its date or time is
+ * invalid. */
 static Datum row_of(FunctionCallInfo fcinfo, const refusal *why)
 {
     TupleDesc row;
@@ -150,7 +151,7 @@ static int32_t offset_of(bytes it)
     return seconds;
 }
 
-/* Writes the moment by the format of the question. */
+/* Writes the moment in the format of the arguments. */
 static void write_moment(writing *it, const question *asked, int64_t count, int32_t offset)
 {
     if (!asked->by->number) {

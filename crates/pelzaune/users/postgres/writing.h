@@ -1,8 +1,8 @@
-/* Writes moments by descriptions: what stands in a description is written in turn, an optional part as if it were none, and
- * of a choice the first. Plain C, which needs no server.
+/* Writes moments by descriptions. The items of a description are written in turn, an optional part as if it were
+ * required, and of a choice the first list. Plain C, which needs no server.
  *
- * A component is held as it stands between its brackets, as in `year padding:none`, and one of strftime is put into such
- * words. The description has to be one that was read: so its form isn't asked again. */
+ * A component is stored as the words between its brackets, as in `year padding:none`, and one of strftime is converted
+ * to such words. The description must have been parsed, so its form isn't checked again. */
 #ifndef PELZAUNE_WRITING_H
 #define PELZAUNE_WRITING_H
 
@@ -12,8 +12,8 @@
 /* A description has at most 64 steps, and a component at most 24 bytes: a sign and a count of nanoseconds since 1970. */
 #define WRITTEN_MOST (64 * 24)
 
-/* A moment that is written: its count of microseconds and its parts, the days of its date since 2000-01-01, and its text,
- * or why it has none. */
+/* A moment to be written: its count of microseconds and its parts, the days of its date since 2000-01-01, and its text,
+ * or why it can't be written. */
 typedef struct {
     int64_t count, days;
     pelzaune_moment moment;
@@ -47,7 +47,7 @@ static int is_called(bytes it, const char *word)
     return 1;
 }
 
-/* Takes the next word off the front. It is empty where there is none. */
+/* Splits off the first word. It is empty if there is none. */
 static bytes next_word(bytes *rest)
 {
     while (rest->length && is_blank(*rest->at)) rest->at++, rest->length--;
@@ -58,7 +58,7 @@ static bytes next_word(bytes *rest)
     return word;
 }
 
-/* Whether the component's modifier of that name has that value. The last of a name counts. */
+/* Whether the component's modifier with that name has that value. The last one with a name counts. */
 static int has(bytes component, const char *key, const char *value)
 {
     int found = 0;
@@ -80,7 +80,7 @@ static void put(writing *it, const char *text, size_t length)
     it->length += length;
 }
 
-/* Puts a number of at least so many digits, where the component says what stands for the zeros in front of it. */
+/* Writes a number of at least this many digits. The component selects the padding. */
 static void put_number(writing *it, bytes component, int width, uint64_t number)
 {
     char digits[24];
@@ -170,7 +170,7 @@ static void put_period(writing *it, bytes component)
     else put(it, is_pm ? "PM" : "AM", 2);
 }
 
-/* So many digits of the fraction, or those up to the last that isn't 0. */
+/* This many digits of the fraction, or those up to the last that isn't 0. */
 static void put_subsecond(writing *it, bytes component)
 {
     char digits[16], wanted[2] = "1";
@@ -182,7 +182,7 @@ static void put_subsecond(writing *it, bytes component)
     put(it, digits, length);
 }
 
-/* Whole units since 1970, rounded down. 64 bits hold the size of a count of microseconds, and no nanoseconds. */
+/* Whole units since 1970, rounded down. 64 bits hold a count of microseconds, but not of nanoseconds. */
 static void put_timestamp(writing *it, bytes component)
 {
     int64_t second = second_of(it->count), rest = it->count - second * 1000000, since_1970 = second + UNIX_2000;
@@ -222,7 +222,7 @@ static void refuse_ignore(writing *it, bytes component)
     it->status = PELZAUNE_NO_TEXT + 256u * IGNORE_OF_STATUS;
 }
 
-/* Writes a component. An `end` has no text. */
+/* Writes a component. An `end` is empty. */
 static void put_component(writing *it, bytes component)
 {
     static const struct { const char *name; void (*put)(writing *, bytes); } known[] = {
@@ -236,7 +236,7 @@ static void put_component(writing *it, bytes component)
         if (is_called(name, known[k].name)) known[k].put(it, component);
 }
 
-/* What a letter of strftime stands for: a component, or other conversions. */
+/* The meaning of a letter of strftime: a component, or other conversions. */
 static const char *meaning_of(uint8_t letter)
 {
     static const char *const meanings[] = { "aweekday repr:short", "Aweekday", "bmonth repr:short", "hmonth repr:short",
@@ -259,7 +259,7 @@ static bytes bytes_of_words(const char *words)
 
 static void write_strftime(writing *it, bytes described);
 
-/* Writes what a conversion stands for. A flag (-, _ or 0) says how its number is filled up. */
+/* Writes a conversion. A flag (-, _ or 0) selects the padding of its number. */
 static void put_conversion(writing *it, uint8_t flag, uint8_t letter)
 {
     char words[64];
@@ -289,7 +289,7 @@ static void write_strftime(writing *it, bytes described)
     }
 }
 
-/* Brackets that are gone through, from `at` on. What is hidden isn't written. */
+/* Brackets that are processed, from `at` on. Hidden ones aren't written. */
 typedef struct {
     bytes described;
     size_t at;
@@ -308,7 +308,7 @@ static void skip_blanks(walk *to)
 
 static void write_items(writing *it, walk *to, int is_nested);
 
-/* Writes the first of the lists that stand there, up to the bracket after them. */
+/* Writes the first of the lists, up to the bracket after them. */
 static void write_lists(writing *it, walk *to)
 {
     int was_hidden = to->is_hidden;
@@ -321,7 +321,7 @@ static void write_lists(writing *it, walk *to)
     to->is_hidden = was_hidden;
 }
 
-/* Writes what stands in brackets: a component, or lists. */
+/* Writes the contents of brackets: a component, or lists. */
 static void write_brackets(writing *it, walk *to)
 {
     skip_blanks(to);
@@ -333,7 +333,7 @@ static void write_brackets(writing *it, walk *to)
     to->at++;
 }
 
-/* Writes items up to the end, or, within others, up to the bracket that closes them. */
+/* Writes items up to the end, or, inside others, up to the bracket that closes them. */
 static void write_items(writing *it, walk *to, int is_nested)
 {
     while (to->at < to->described.length && !(is_nested && stands(to, ']'))) {
@@ -348,7 +348,7 @@ static void write_items(writing *it, walk *to, int is_nested)
     }
 }
 
-/* Writes a moment of that many microseconds by a description that was read, at an offset of whole minutes. */
+/* Writes a moment of that many microseconds by a parsed description, at an offset of whole minutes. */
 static void write_described(writing *it, bytes described, int64_t count, int32_t offset)
 {
     walk to = { described, 0, 0 };

@@ -1,5 +1,5 @@
-"""Builds the extension module over include/pelzaune.h and libpelzaune.a: in lib/ of this folder, as a source archive has
-it, or in out/ of the folder PELZAUNE_HOME, or else of the folder of the library, two above this one."""
+"""Builds the extension module from include/pelzaune.h and libpelzaune.a: in lib/ of this folder, as in a source archive,
+or in out/ of the folder PELZAUNE_HOME, or else of the library's folder, two above this one."""
 import glob
 import os
 

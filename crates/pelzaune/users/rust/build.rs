@@ -1,4 +1,5 @@
-//! Links libpelzaune.a, which lies in the folder PELZAUNE_LIB, or else in lib, or where `make -C crates/pelzaune` leaves it.
+//! Links libpelzaune.a from the folder PELZAUNE_LIB, or else from lib, or from where `make -C crates/pelzaune` builds
+//! it.
 use std::path::{Path, PathBuf};
 
 fn main() {

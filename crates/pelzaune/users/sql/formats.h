@@ -1,6 +1,7 @@
-/* What the extensions of SQLite and PostgreSQL share: formats by their names, descriptions, and why a text has no value.
+/* Shared code of the extensions of SQLite and PostgreSQL: formats by their names, descriptions, and the errors of
+ * texts.
  *
- * A format is 'rfc3339', 'rfc2822', 'iso8601', or a description: one with a % as strftime has it, and any other in
+ * A format is 'rfc3339', 'rfc2822', 'iso8601', or a description: one with a % is of strftime, and any other is in
  * brackets. */
 #ifndef PELZAUNE_SQL_FORMATS_H
 #define PELZAUNE_SQL_FORMATS_H
@@ -9,13 +10,13 @@
 #include <stdio.h>
 #include <string.h>
 
-/* A format: the number of one, or 0 and a description that was read. */
+/* A format: a number, or 0 and a parsed description. */
 typedef struct {
     uint32_t number;
     pelzaune_description held;
 } form;
 
-/* Bytes that somebody else holds. */
+/* Borrowed bytes. */
 typedef struct {
     const uint8_t *at;
     size_t length;
@@ -26,7 +27,7 @@ static inline int is_word(bytes it, const char *word)
     return it.length == strlen(word) && memcmp(it.at, word, it.length) == 0;
 }
 
-/* The number of the format that has that name, or 0. */
+/* The number of the format with that name, or 0. */
 static inline uint32_t number_of_format(bytes name)
 {
     return is_word(name, "rfc3339") ? PELZAUNE_RFC3339 : is_word(name, "rfc2822") ? PELZAUNE_RFC2822
@@ -38,7 +39,7 @@ static inline uint32_t syntax_of(bytes description)
     return description.length && memchr(description.at, '%', description.length) ? PELZAUNE_STRFTIME : PELZAUNE_BRACKETS_2;
 }
 
-/* Reads a format. Where it is none, *out is unchanged, and *index is that of its fault. */
+/* Parses a format. If it is malformed, *out is unchanged, and *index is that of its fault. */
 static inline pelzaune_status read_form(bytes given, form *out, size_t *index)
 {
     uint32_t number = number_of_format(given);
@@ -50,7 +51,7 @@ static inline pelzaune_status read_form(bytes given, form *out, size_t *index)
     return PELZAUNE_OK;
 }
 
-/* Parses a text by a format into what the call's name says. */
+/* Parses a text by a format into the value of the call's name. */
 #define PARSED_BY_FORM(name, type) \
     static inline pelzaune_status name##_by(const form *by, bytes it, type *out) \
     { \
@@ -65,13 +66,13 @@ PARSED_BY_FORM(time, pelzaune_time)
 PARSED_BY_FORM(parts, pelzaune_parts)
 #undef PARSED_BY_FORM
 
-/* Why a text has no value: the reason, and, where `wanted` isn't 0, what was expected at a place of the text. */
+/* The error of a text: the reason, and, unless `wanted` is 0, what was expected at a place of the text. */
 typedef struct {
     pelzaune_status reason, wanted;
     pelzaune_place place;
 } refusal;
 
-/* Finds the place of a text that a format, given as it is written, refuses for that reason. */
+/* Locates the error of a text that the format, given as text, rejects for that reason. */
 static inline refusal placed(pelzaune_status reason, bytes given, bytes it)
 {
     refusal found = { reason, PELZAUNE_OK, { 0, 0 } };
@@ -86,7 +87,7 @@ static inline int is_refused(pelzaune_status status)
     return status && PELZAUNE_KIND(status) != PELZAUNE_INSUFFICIENT;
 }
 
-/* Why a text has neither a moment, a date, a time nor an offset, or not the one that it says. 0: it has. */
+/* The status of a text that has neither a moment, a date, a time nor an offset, or an invalid one. 0: it has one. */
 static inline pelzaune_status reason_of(const form *by, bytes it)
 {
     pelzaune_moment moment;
@@ -100,7 +101,7 @@ static inline pelzaune_status reason_of(const form *by, bytes it)
     return each[0] && each[1] && each[2] ? none : PELZAUNE_OK;
 }
 
-/* The room for what `write_expectation` writes. */
+/* The room for the output of `write_expectation`. */
 #define EXPECTATION_ROOM 24
 
 /* Writes what was expected at a place: the name of a component, 'T' for a byte (or '\x1b'), or the end. */

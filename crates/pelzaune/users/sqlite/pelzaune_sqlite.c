@@ -1,17 +1,16 @@
-/* An extension of SQLite with three functions, which answer NULL for NULL:
+/* An extension of SQLite with three functions, which return NULL for NULL:
  *
  *     pelzaune_unix(text [, format])    the seconds from 1970-01-01T00:00:00Z to the text's instant, rounded down
  *     pelzaune_rfc3339(text, format)    the text's moment, written by RFC 3339
- *     pelzaune_place(text [, format])   where a text goes wrong, as JSON: {"index":5,"expectation":"month","reason":".."}
+ *     pelzaune_place(text [, format])   where a text fails, as JSON: {"index":5,"expectation":"month","reason":".."}
  *
- * The first two answer NULL for a text that is refused, and the last for one that has a value. Its index and expectation
- * are null where the text is read, and the calendar has no such date.
+ * The first two return NULL for a rejected text, and the last for a text with a value. Its index and expectation are
+ * null where the text is parsed, and the calendar has no such date.
  *
- * A format is 'rfc3339', which is taken where there is none, 'rfc2822', 'iso8601', or a description: one with a % as
- * strftime has it, and any other in brackets. A text that describes nothing is an error.
+ * A format is 'rfc3339', the default, 'rfc2822', 'iso8601', or a description: one with a % is of strftime, and any
+ * other is in brackets. A malformed description is an error.
  *
- *     .load ./pelzaune_sqlite
- *     SELECT pelzaune_unix('1985-04-12T23:20:50.52Z'); */
+ *     .load ./pelzaune_sqlite */
 #include <sqlite3ext.h>
 SQLITE_EXTENSION_INIT1
 #include "formats.h"
@@ -29,7 +28,7 @@ static bytes bytes_of(sqlite3_value *value)
     return it;
 }
 
-/* Reads a format. The result is 0 where it is none, and then the error is told. */
+/* Parses a format. Returns 0 after reporting the error of a malformed one. */
 static int ask_format(sqlite3_context *context, sqlite3_value *value, form *format)
 {
     size_t index;
@@ -38,7 +37,7 @@ static int ask_format(sqlite3_context *context, sqlite3_value *value, form *form
     return !status;
 }
 
-/* The same, once for a format that is the same in each row: SQLite keeps it until the statement ends. */
+/* Does so once for a format that is constant in each row: SQLite caches it until the statement ends. */
 static int take_format(sqlite3_context *context, sqlite3_value *value, form *format)
 {
     const form *kept = sqlite3_get_auxdata(context, 1);
@@ -52,7 +51,7 @@ static int take_format(sqlite3_context *context, sqlite3_value *value, form *for
     return 1;
 }
 
-/* Reads the arguments. The result is 0 where there is nothing to parse. */
+/* Gets the arguments. Returns 0 if there is nothing to parse. */
 static int ask(sqlite3_context *context, int count, sqlite3_value **values, question *asked)
 {
     asked->format.number = PELZAUNE_RFC3339;
@@ -83,7 +82,7 @@ static void call_rfc3339(sqlite3_context *context, int count, sqlite3_value **va
     if (!status) sqlite3_result_text(context, (const char *)text, (int)length, SQLITE_TRANSIENT);
 }
 
-/* The bytes of JSON for a text of ASCII without control bytes, with room for it. */
+/* Writes the bytes of JSON for a text of ASCII without control bytes, which fit. */
 static void write_json(const char *text, char *out)
 {
     *out++ = '"';
@@ -95,7 +94,7 @@ static void write_json(const char *text, char *out)
     *out = 0;
 }
 
-/* The place of a refusal as JSON. Where there is none, the text is read, and its date or time isn't one. */
+/* The location of an error as JSON. Without one the text is parsed, and its date or time is invalid. */
 static void result_place(sqlite3_context *context, const refusal *why)
 {
     char wanted[EXPECTATION_ROOM], as_json[2 * EXPECTATION_ROOM + 2] = "null", index[24] = "null";

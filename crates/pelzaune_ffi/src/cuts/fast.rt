@@ -4,7 +4,7 @@ ghost use Rattle.programs_answers.specs.Output.{lines_of};
 
 use std::simd::prelude::*;
 
-/// Where the first LF of a text stands. `None`: not in its first 32 bytes, or it has fewer.
+/// The index of the first LF of a text. `None`: it has fewer than 32 bytes, or no LF in the first 32.
 #[inline(always)]
 pub(super) fn line_end(text: &[u8]) -> Option<usize>
     ensures within { IfSome result (λ i. i < length text.now) }

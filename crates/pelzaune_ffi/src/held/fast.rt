@@ -1,5 +1,5 @@
-//! Whole texts of one form, as values with no record, and the steps that are read where they lie, with no call for the
-//! commonest.
+//! Fast paths for stored descriptions: whole texts of one form, parsed without a record, and the commonest steps,
+//! parsed in place without a call.
 ghost use Rattle.std.specs.Prelude.{◌≡◌, [], ◌∷◌, IfSome, Ok, false, map};
 ghost use Rattle.time_values.specs.Calendar.{greatest_year};
 ghost use Rattle.time_components.specs.Tree.{further, steps_after, steps_shape, steps_trees, tree_at, literal};
@@ -22,7 +22,7 @@ use time_preparing::whole::fast::values;
 use time_record::Parsed;
 use time_values::{Date, OffsetDateTime, PlainDateTime, Time};
 
-/// The date of a whole text by these steps. `None`: not known by a form alone.
+/// The date of a whole text by these steps. `None`: the steps or the text have no known form.
 #[inline(always)]
 pub(super) fn date(steps: &[HeldStep], input: &[u8]) -> Option<Date>
     ensures { IfSome result (λ v. IsOutcome (IsDated greatest_year) (Reads greatest_year (steps_shape (map Held.step_of steps.now)))
@@ -32,7 +32,7 @@ pub(super) fn date(steps: &[HeldStep], input: &[u8]) -> Option<Date>
     values::date(&form, input)
 }
 
-/// The time of a whole text by these steps. `None`: not known by a form alone.
+/// The time of a whole text by these steps. `None`: the steps or the text have no known form.
 #[inline(always)]
 pub(super) fn time(steps: &[HeldStep], input: &[u8]) -> Option<Time>
     ensures { IfSome result (λ v. IsOutcome IsTimed (Reads greatest_year (steps_shape (map Held.step_of steps.now)))
@@ -42,7 +42,7 @@ pub(super) fn time(steps: &[HeldStep], input: &[u8]) -> Option<Time>
     values::time(&form, input)
 }
 
-/// The date and time of a whole text by these steps. `None`: not known by a form alone.
+/// The date and time of a whole text by these steps. `None`: the steps or the text have no known form.
 #[inline(always)]
 pub(super) fn date_time(steps: &[HeldStep], input: &[u8]) -> Option<PlainDateTime>
     ensures { IfSome result (λ v. IsOutcome (IsPlain greatest_year) (Reads greatest_year (steps_shape (map Held.step_of steps.now)))
@@ -52,7 +52,7 @@ pub(super) fn date_time(steps: &[HeldStep], input: &[u8]) -> Option<PlainDateTim
     values::date_time(&form, input)
 }
 
-/// The moment of a whole text by these steps. `None`: not known by a form alone.
+/// The moment of a whole text by these steps. `None`: the steps or the text have no known form.
 #[inline(always)]
 pub(super) fn moment(steps: &[HeldStep], input: &[u8]) -> Option<OffsetDateTime>
     ensures { IfSome result (λ v. IsOutcome (IsMoment greatest_year) (Reads greatest_year (steps_shape (map Held.step_of steps.now)))
@@ -62,7 +62,7 @@ pub(super) fn moment(steps: &[HeldStep], input: &[u8]) -> Option<OffsetDateTime>
     values::moment(&form, input)
 }
 
-// Whether a literal goes on in these steps.
+// Whether the first of these steps continues a literal.
 #[inline(always)]
 fn goes_on(steps: &[HeldStep]) -> bool
     ensures { result ≡ false → further (map Held.step_of steps.now) ≡ [] }
@@ -73,7 +73,7 @@ fn goes_on(steps: &[HeldStep]) -> bool
     }
 }
 
-// Reads a literal of one byte. `None`: not this form.
+// Parses a literal of one byte. `None`: not this form.
 #[inline(always)]
 fn only_byte<'a>(byte: u8, behind: &[HeldStep], input: &'a [u8]) -> Option<&'a [u8]>
     ensures read { (r : Record) → MayRead greatest_year (literal (byte ∷ further (map Held.step_of behind.now)))
@@ -89,7 +89,7 @@ fn only_byte<'a>(byte: u8, behind: &[HeldStep], input: &'a [u8]) -> Option<&'a [
     }
 }
 
-// Puts what is read into the record, and answers the rest. `None`: it is refused, and the record is unchanged.
+// Stores the parsed number in the record, and returns the rest. `None`: it is rejected, and the record is unchanged.
 macro_rules! put {
     ($found:expr, $parsed:ident.$set:ident) => {{
         let found = $found?;
@@ -98,8 +98,7 @@ macro_rules! put {
     }};
 }
 
-// Reads one of the commonest components, with no call. `None`: not this form, and the record is
-// unchanged.
+// Parses one of the commonest components, without a call. `None`: not this form, and the record is unchanged.
 #[inline(always)]
 fn read_common<'a>(component: Component, parsed: &mut Parsed, input: &'a [u8]) -> Option<&'a [u8]>
     ensures { MayRead greatest_year (tree.component false component) input.now parsed.old result parsed.new }
@@ -117,7 +116,7 @@ fn read_common<'a>(component: Component, parsed: &mut Parsed, input: &'a [u8]) -
     }
 }
 
-// Reads a component. `None`: it is refused, and the record is unchanged.
+// Parses a component. `None`: it is rejected, and the record is unchanged.
 #[inline(always)]
 fn read_component<'a>(
     component: Component,
@@ -135,8 +134,7 @@ fn read_component<'a>(
     }
 }
 
-// Reads a step that is a literal of one byte or a component. `None`: not this form, and the record is
-// unchanged.
+// Parses a step that is a literal of one byte or a component. `None`: not this form, and the record is unchanged.
 #[inline(always)]
 pub(super) fn read_step<'a>(
     held: &HeldStep,

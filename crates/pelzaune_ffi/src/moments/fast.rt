@@ -1,6 +1,6 @@
-//! The commonest moments of RFC 3339, many bytes at once.
+//! Fast paths for the commonest moments of RFC 3339, which read many bytes at once.
 //!
-//! Each reader answers what the library's reader does, or `None`: not this form.
+//! Each returns what the library's parser does, or `None`: not this form.
 pub(super) mod iso8601;
 pub(super) mod rfc2822;
 
@@ -26,7 +26,7 @@ use time_readers::rfc3339::Numbers;
 use time_readers::rfc3339::fast::to_second;
 use time_values::{Date, Month, OffsetDateTime, Time, UtcOffset};
 
-// The place of the fraction. `None`: not this form.
+// The nanosecond of the fraction. `None`: not this form.
 #[inline(always)]
 fn subsecond(numbers: Numbers, rest: &[u8]) -> Option<(Numbers, &[u8])>
     requires { numbers.subsecond ≡ None }
@@ -43,7 +43,7 @@ fn subsecond(numbers: Numbers, rest: &[u8]) -> Option<(Numbers, &[u8])>
     Some((numbers, found.0))
 }
 
-// The places of an offset with which the text ends. `None`: not this form.
+// The numbers of the offset that ends the text. `None`: not this form.
 #[inline(always)]
 fn offset(numbers: Numbers, rest: &[u8]) -> Option<Numbers>
     requires utc { numbers.is_utc ≡ false }
@@ -83,7 +83,7 @@ fn offset(numbers: Numbers, rest: &[u8]) -> Option<Numbers>
     })
 }
 
-// The offset that is said. That of UTC is a constant. `None`: there is none.
+// The offset with these numbers. That of UTC is a constant. `None`: a number is out of range.
 #[inline(always)]
 fn offset_of(said: Said) -> Option<UtcOffset>
     ensures { IfSome result (λ o. Constructs (offset_refusal said.offset_hour said.offset_minute (pos 0))
@@ -95,7 +95,7 @@ fn offset_of(said: Said) -> Option<UtcOffset>
     UtcOffset::from_hms(said.offset_hour, said.offset_minute, 0).ok()
 }
 
-// The date that is said. `None`: there is none.
+// The date with these numbers. `None`: a number is out of range.
 #[inline(always)]
 #[tactic(auto, using(crate::proofs::IsoInPlace::date_of))]
 fn date_of(said: Said) -> Option<Date>
@@ -111,7 +111,7 @@ fn date_of(said: Said) -> Option<Date>
     }
 }
 
-// The time that a clock shows. `None`: there is none.
+// The time with these numbers. `None`: a number is out of range.
 #[inline(always)]
 fn clock_of(said: Said) -> Option<Time>
     ensures { IfSome result (λ t. Constructs (time_refusal said.hour said.minute said.second said.nanosecond)
@@ -120,7 +120,7 @@ fn clock_of(said: Said) -> Option<Time>
     Time::from_hms_nano(said.hour, said.minute, said.second, said.nanosecond).ok()
 }
 
-// The moment that is said, which is no leap second. `None`: a number is out of its range.
+// The moment with these numbers, whose second isn't 60. `None`: a number is out of range.
 #[inline(always)]
 fn made(said: Said) -> Option<OffsetDateTime>
     requires { said.second < 60 }
@@ -132,13 +132,13 @@ fn made(said: Said) -> Option<OffsetDateTime>
     Some(OffsetDateTime::new_in_offset(date, time, offset))
 }
 
-// A whole moment. `None`: not this form.
+// The moment of a whole text. `None`: not this form.
 #[inline(always)]
 pub(super) fn moment(text: &[u8]) -> Option<OffsetDateTime>
     ensures { IfSome result (λ v. of_moment (direct (RefusesRfc3339 greatest_year)) (Reads greatest_year)
         (Refuses greatest_year) text.now (Ok v)) }
 {
-    // One test of the length for all of the text.
+    // Tests the length once for all the fixed-width parts.
     if text.len() < 20 {
         return None;
     }
@@ -148,7 +148,7 @@ pub(super) fn moment(text: &[u8]) -> Option<OffsetDateTime>
     made(said_rfc3339(offset(numbers, rest)?))
 }
 
-// What follows an LF, or nothing. `None`: another byte stands there.
+// The bytes after an LF, or none at the end of the text. `None`: another byte follows.
 #[inline(always)]
 fn after_line(rest: &[u8]) -> Option<&[u8]>
     ensures { IfSome result (λ after. EndsLine rest.now after.now) }
@@ -160,7 +160,7 @@ fn after_line(rest: &[u8]) -> Option<&[u8]>
     }
 }
 
-// The places of an offset with which a line ends, and the lines after it. `None`: not this form.
+// The numbers of an offset that ends a line, and the bytes after that line. `None`: not this form.
 #[inline(always)]
 fn front_offset(numbers: Numbers, rest: &[u8]) -> Option<(Numbers, &[u8])>
     requires utc { numbers.is_utc ≡ false }
@@ -206,7 +206,7 @@ fn front_offset(numbers: Numbers, rest: &[u8]) -> Option<(Numbers, &[u8])>
     Some((numbers, later))
 }
 
-// The places of a moment with which a line ends, and the lines after it. `None`: not this form.
+// The numbers of a moment that ends a line, and the bytes after that line. `None`: not this form.
 #[inline(always)]
 fn places(text: &[u8]) -> Option<(Numbers, &[u8])>
     ensures form { IfSome result (λ found. (end : List ℕ) × HasForm false text.now end found.0
@@ -226,7 +226,7 @@ fn places(text: &[u8]) -> Option<(Numbers, &[u8])>
     Some(found)
 }
 
-// Whether a line ends where a date is followed by what separates it from its time, which may be any byte.
+// Whether the byte between date and time, which may be any byte, is an LF, which ends the line.
 #[inline(always)]
 fn breaks_at_separator(text: &[u8]) -> bool
     requires { 20 ≤ length text.now }
@@ -235,7 +235,7 @@ fn breaks_at_separator(text: &[u8]) -> bool
     text[10] == b'\n'
 }
 
-// The moment that is the first line of a text, and the lines after it. `None`: not this form.
+// The moment of a text's first line, and the bytes after that line. `None`: not this form.
 #[inline(always)]
 pub(super) fn line(text: &[u8]) -> Option<(OffsetDateTime, &[u8])>
     ensures { IfSome result (λ found. (line : List ℕ) × IsFirstLine line text.now found.1.now

@@ -1,6 +1,6 @@
-//! The names of a line by patterns.
+//! Matches the names of a line by patterns.
 //!
-//! What `request` answers is what `cut_request` finds, field by field. `None`: not this form.
+//! `request` returns what `cut_request` does for the lines that it splits. `None`: not this form.
 ghost use Rattle.std.specs.Prelude.{◌≡◌, ℕ, List, ◌++◌, IfSome};
 ghost use Rattle.time_values.specs.Calendar.{greatest_year};
 ghost use Rattle.programs_answers.specs.Formats as formats;
@@ -10,7 +10,7 @@ ghost use Rattle.time_lines.specs.Output.{IsAnswer};
 
 use programs_answers::formats::{Format, Target};
 
-// What stands after a name and TAB that the bytes begin with. `None`: not this form.
+// The bytes after a name and its TAB. `None`: not this form.
 #[inline(always)]
 fn after<'a>(bytes: &'a [u8], name: &[u8]) -> Option<&'a [u8]>
     ensures { IfSome result (λ rest. bytes.now ≡ name.now ++ rest.now) }
@@ -18,7 +18,7 @@ fn after<'a>(bytes: &'a [u8], name: &[u8]) -> Option<&'a [u8]>
     bytes.strip_prefix(name)
 }
 
-// The format whose name and TAB the line begins with, and what stands after them. `None`: not this form.
+// The format whose name and TAB start the line, and the bytes after them. `None`: not this form.
 #[inline(always)]
 fn format(line: &[u8]) -> Option<(Format, &[u8])>
     ensures { IfSome result (λ read. BeginsNamed formats.format_named line.now read.0 read.1.now) }
@@ -37,7 +37,7 @@ fn format(line: &[u8]) -> Option<(Format, &[u8])>
     }
 }
 
-// The target whose name and TAB the bytes begin with, and what stands after them. `None`: not this form.
+// The target whose name and TAB start the bytes, and the bytes after them. `None`: not this form.
 #[inline(always)]
 fn target(bytes: &[u8]) -> Option<(Target, &[u8])>
     ensures { IfSome result (λ read. BeginsNamed formats.target_named bytes.now read.0 read.1.now) }
@@ -59,7 +59,7 @@ fn target(bytes: &[u8]) -> Option<(Target, &[u8])>
     }
 }
 
-// What the line asks for, where it begins with names that are known. `None`: not this form.
+// The request of a line with known names. `None`: not this form.
 #[inline(always)]
 pub(super) fn request(line: &[u8]) -> Option<(Format, Target, &[u8])>
     ensures { IfSome result

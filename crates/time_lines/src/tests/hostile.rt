@@ -1,7 +1,7 @@
-//! Lines at the ends of the range of years, and every refusal that the program may meet.
+//! Lines at the ends of the range of years, and every error that the program may meet.
 use super::{Row, are_answered, fills, joined, try_allocations, try_parts, try_reads, try_sizes};
 
-/// The first moment of the years of four digits, and the first that there is.
+/// The first moment of the years of four digits, and the first moment at all.
 pub(super) static RANGE_ENDS: [Row; 7] = [
     (
         "unix\tdatetime\t-377705116800",
@@ -74,7 +74,7 @@ pub(super) mod wide_years {
         ),
     ];
 
-    /// Lines of the formats that are described.
+    /// Lines of the formats that are descriptions.
     pub(in crate::tests) static DESCRIBED_YEARS: [Row; 8] = [
         (
             "unix\tdatetime\t253402300800",
@@ -111,7 +111,7 @@ pub(super) mod wide_years {
     }
 }
 
-// A line of each format, one that is refused, and one that is none.
+// A line of each format, a rejected one, and an empty one.
 const LINES: &[u8] = b"rfc3339\tdatetime\t1985-04-12T23:20:50.52Z
 rfc2822\tstaged\tMon, 02 Jan 2021 03:04:05 +0607
 iso8601\tdate\t2020-W53-6
@@ -134,8 +134,8 @@ error: the 'month' component could not be parsed
 error: line
 ";
 
-// The input takes some growths of the buffer. Each is refused in turn, and then by a heap of some of these sizes. `run` is
-// passed no allocator, and its output is written without one.
+// The input takes some growths of the buffer. Each fails in turn, and then within a heap of some of these sizes. `run`
+// has no allocator, and writes its output without one.
 #[test]
 fn hostile_program(rt: HostRuntime) {
     let input = joined(rt.alloc(), &[(&[LINES], 40)]).expect(&rt, "memory");
@@ -159,7 +159,7 @@ fn hostile_program_unread(rt: HostRuntime) {
     }
 }
 
-// 205000 bytes of answers fill the room for 65536 bytes three times, and go on.
+// 205000 bytes of answers fill the output buffer of 65536 bytes three times, and part of a fourth.
 #[test]
 fn hostile_program_unwritten(rt: HostRuntime) {
     try_parts(&rt, &[(&[LINES], 1000)], &[(&[ANSWERS], 1000)], 4);

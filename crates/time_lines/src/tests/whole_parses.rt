@@ -151,7 +151,7 @@ static ISO8601: [Row; 31] = [
     ("iso8601\ttime\t03.0001", "03:00:00.360000000\n"),
 ];
 
-/// Lines of the formats that are described.
+/// Lines of the formats that are descriptions.
 pub(super) static DESCRIBED: [Row; 30] = [
     ("ymd\tdate\t-0044-03-15", "-0044-03-15\n"),
     ("ymd\tdate\t+2021-03-04", "2021-03-04\n"),
@@ -401,7 +401,7 @@ mod two_paths {
         ),
     ];
 
-    /// Texts of these for other targets, which are parsed over a record.
+    /// Such texts for other targets, which are parsed over a record.
     static OTHER_TARGETS: [Line; 4] = [
         (
             "rfc3339\tutc\t9999-12-31T23:59:59.999999999-23:59",
@@ -441,7 +441,7 @@ mod two_paths {
     }
 }
 
-// Lines of the described formats, parsed by the trees of their items, and not by what the program prepares of these.
+// Lines of the described formats, parsed by the trees of their items instead of the prepared descriptions.
 mod walks {
     use super::DESCRIBED;
     use crate::serving::cut_tab;
@@ -472,7 +472,7 @@ mod walks {
         write_value(&first(&lists), target, text, out)
     }
 
-    /// Writes the answer to a line, or nothing where its format isn't described or its target is unknown.
+    /// Writes the answer to a line, or nothing where its format isn't a description or its target is unknown.
     fn write_walked<W: Sink>(line: &[u8], out: &mut W) -> Option<()> {
         let (format, rest) = cut_tab(line)?;
         let (target, text) = cut_tab(rest)?;
@@ -487,14 +487,14 @@ mod walks {
         written.ok()
     }
 
-    /// The tree of the line's format gives the output without its LF.
+    /// Whether the tree of the line's format produces the output without its LF.
     fn is_walked(alloc: Global, line: &str, output: &str) -> bool {
         let mut text = Vec::new(alloc);
         let written = write_walked(line.as_bytes(), &mut Lent::new(&mut text));
         written == Some(()) && output.as_bytes().strip_suffix(b"\n") == Some(text.as_slice())
     }
 
-    /// Each row has its output, by the tree and by the program.
+    /// Checks the output of each row, by the tree and by the program.
     fn are_walked(rt: &(impl Abort + AllocGlobal), rows: &[Row]) {
         for (line, output) in rows {
             assert!(rt; is_walked(rt.alloc(), line, output), "{line:?}");

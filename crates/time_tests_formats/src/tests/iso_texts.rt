@@ -26,10 +26,10 @@ macro_rules! offset {
     };
 }
 
-// A part, a text, and what the text says of the part.
+// A part, a text, and the result for the part.
 type Row = (Part, &'static [u8], Result<Numbers, Parse>);
 
-// The first of the texts that doesn't say so, if there is one.
+// The first text whose result differs, if there is one.
 fn unlike(rows: &[Row]) -> Option<&'static [u8]> {
     for (part, text, wanted) in rows {
         if said(Format::Iso, *part, text, None) != *wanted {
@@ -90,7 +90,7 @@ fn iso_dates(rt: HostRuntime) {
 }
 
 static DATES_REFUSED: [Row; 29] = [
-    // Neither the date nor a time nor an offset can be read, and the date's fault is that component, or its hyphen.
+    // Neither a date nor a time nor an offset parses. The error is that of the date's component, or of its hyphen.
     (Date, b"", Err(YEAR)),
     (Date, b"x", Err(YEAR)),
     (Date, b"999", Err(YEAR)),
@@ -111,8 +111,8 @@ static DATES_REFUSED: [Row; 29] = [
     (Date, b"9999-12x", Err(LITERAL)),
     (Date, b"9999-W50", Err(LITERAL)),
     (Date, b"9999-W501", Err(LITERAL)),
-    // A form stands, and its value is out of range: the date is refused, though a later form stands behind the year,
-    // too.
+    // The form matches, and its value is out of range. The date is rejected, though a later form also matches after the
+    // year.
     (Date, b"9999-12-32", Err(DAY)),
     (Date, b"99991232", Err(DAY)),
     (Date, b"9999-367", Err(ORDINAL)),
@@ -142,7 +142,7 @@ static OFFSETS: [Row; 14] = [
     (Offset, b"+05:", Err(YEAR)),
     (Offset, b"+05:3", Err(YEAR)),
     (Offset, b"+053", Err(TRAILING)),
-    // After a date alone no offset is read.
+    // No offset is parsed after a date alone.
     (Offset, b"2021-01-02+05", Err(TRAILING)),
     (Offset, b"2021-01-02Z", Err(TRAILING)),
     (Offset, b"2021-01-02T+05", Err(TRAILING)),
@@ -181,7 +181,7 @@ static DATES_WITH_TIMES: [Row; 12] = [
     (Plain, b"2021-01-0203:04", Err(TRAILING)),
     (Plain, b"2021-01-02+05", Err(TRAILING)),
     (Plain, b"20210102T03:04", Err(TRAILING)),
-    // A second of 60 stands for the end of a month.
+    // A second of 60 is parsed as the end of a month.
     (
         Utc,
         b"2016-12-31T23:59:60Z",
@@ -202,14 +202,15 @@ mod fractions {
     use time_readers::combinator::leading_digits;
     use time_readers::iso8601::{floor_fraction, round_fraction};
 
-    // How a fraction becomes a whole number.
+    // How a fraction is rounded to a whole number.
     #[derive(Clone, Copy)]
     enum Rounding {
         Floor,
         HalfUp,
     }
 
-    // How many whole parts of the unit the digits behind its point are, if they are digits and an hour has those parts.
+    // The whole number of these parts in the fraction of a unit, if the digits are digits and an hour has that many
+    // parts.
     fn whole(rounding: Rounding, digits: &[u8], unit: u64) -> Option<u64> {
         let count = leading_digits(digits, digits.len());
         if count < digits.len() || unit < 1 || 3_600_000_000_000 < unit {
@@ -222,7 +223,7 @@ mod fractions {
         })
     }
 
-    // Digits, the parts that a unit has, and how many of them are whole.
+    // Digits, how many parts a unit has, and how many of them the fraction makes.
     static FRACTIONS: [(Rounding, &[u8], u64, u64); 23] = [
         (Floor, b"0001", 3_600_000_000_000, 360_000_000),
         (
@@ -240,8 +241,8 @@ mod fractions {
         (HalfUp, b"5", 1, 1),
         (HalfUp, b"", 1, 0),
         (HalfUp, b"", 3_600_000_000_000, 0),
-        // Forty digits, of which the last says on which side of the next whole number the fraction is: a third of a
-        // unit of 3 is 1, and so is 1 of the 3600000000000 parts of an hour.
+        // In each pair of forty digits the last digit decides on which side of the next whole number the fraction is: a
+        // third of a unit of 3 parts is 1, and so is 1 of the 3600000000000 parts of an hour.
         (Floor, b"3333333333333333333333333333333333333333", 3, 0),
         (Floor, b"3333333333333333333333333333333333333334", 3, 1),
         (
@@ -268,7 +269,7 @@ mod fractions {
             60_000_000_000,
             30_000_000_000,
         ),
-        // The same for half of a whole number.
+        // Pairs for half of a whole number.
         (HalfUp, b"1666666666666666666666666666666666666666", 3, 0),
         (HalfUp, b"1666666666666666666666666666666666666667", 3, 1),
         (
@@ -308,14 +309,14 @@ mod fractions {
     }
 }
 
-// The reader of the offsets of ISO 8601 by what stands before them.
+// The reader of the offsets of ISO 8601, under each kind before them.
 mod offsets {
     use time_readers::iso8601::{ExtendedKind, OffsetNumbers, offset};
 
     // The hours and minutes of an offset, if it isn't `Z`, and the unread rest.
     type Found = (Option<(i8, i8)>, &'static [u8]);
 
-    // The offset in front of the text.
+    // The offset at the start of the text.
     fn found(text: &'static [u8], kind: ExtendedKind) -> Option<Found> {
         let found = offset(text, kind)?;
         match found.value {
@@ -324,12 +325,12 @@ mod offsets {
         }
     }
 
-    // The kind after the offset in front of the text.
+    // The kind after the offset at the start of the text.
     fn kind_after(text: &[u8], kind: ExtendedKind) -> Option<ExtendedKind> {
         Some(offset(text, kind)?.kind)
     }
 
-    // Texts, what is found behind a basic form, in which no colon is read, and what behind an extended or unknown one.
+    // Texts, the result after a basic form, which allows no colon, and the result after an extended or unknown one.
     static TEXTS: [(&[u8], Option<Found>, Option<Found>); 13] = [
         (
             b"-05",
@@ -374,7 +375,7 @@ mod offsets {
         }
     }
 
-    // Offsets, and what an unknown kind becomes.
+    // Offsets, and the kind that they turn an unknown kind into.
     static UNKNOWN: [(&[u8], ExtendedKind); 6] = [
         (b"Z", ExtendedKind::Unknown),
         (b"-05", ExtendedKind::Unknown),
@@ -399,17 +400,16 @@ mod offsets {
     }
 }
 
-// Each row of the table of times under each kind before it, read into a record behind a date of that kind, and offsets
-// behind times.
+// Each row of the table of times under each kind before it, parsed into a record after a date of that kind, and offsets
+// after times.
 mod time_records {
     use crate::tests::records::{NO_OFFSET, NO_TIME, OffsetCells, TimeCells, stored_by};
     use time_parsing::Iso8601;
     use time_record::Parsed;
 
-    // Texts, what is left of each, and the cells of the time and of the offset. Where there is no time all from its `T` on
-    // is left.
+    // Texts, the rest of each, and the cells of the time and of the offset. Without a time the rest starts at the `T`.
     static TIMES: [(&[u8], &[u8], TimeCells, OffsetCells); 35] = [
-        // Behind basic dates.
+        // After basic dates.
         (
             b"20210102T03,5x",
             b"x",
@@ -449,7 +449,7 @@ mod time_records {
             NO_OFFSET,
         ),
         (b"20210102T03:04:05", b"T03:04:05", NO_TIME, NO_OFFSET),
-        // Behind extended dates.
+        // After extended dates.
         (
             b"2021-01-02T03,5x",
             b"x",
@@ -555,7 +555,7 @@ mod time_records {
             NO_OFFSET,
         ),
         (b"T03", b"", (Some(3), Some(0), Some(0), Some(0)), NO_OFFSET),
-        // The kind behind a time is handed on to the offset.
+        // The kind of a time is passed on to the offset.
         (
             b"0304+05:06",
             b":06",
@@ -592,7 +592,7 @@ mod time_records {
             (Some(3), Some(0), Some(0), Some(0)),
             (Some(5), Some(0)),
         ),
-        // A date that can't be read leaves the kind unknown.
+        // A date that doesn't parse leaves the kind unknown.
         (
             b"1234-05:30",
             b":30",
@@ -614,7 +614,8 @@ mod time_records {
     }
 }
 
-// Texts of ISO 8601 with each byte at each place, beside the same with a year of six digits, which isn't read at once.
+// Texts of ISO 8601 with each byte at each place, compared with the same text with a year of six digits, which has no
+// fast path.
 mod iso_fronts {
     use crate::tests::formats::{Format, Numbers, Part, said};
     use time_record::Parsed;
@@ -625,12 +626,12 @@ mod iso_fronts {
         b"2021-12-31T23:59:60,123456789-05:30",
     ];
 
-    // The part of the text over the defaults, if it says one.
+    // The part of the text over the defaults, if it parses.
     fn value(part: Part, text: &[u8], defaults: Option<Parsed>) -> Option<Numbers> {
         said(Format::Iso, part, text, defaults).ok()
     }
 
-    // Both texts have the same value, or none.
+    // Whether both texts have equal values, or none.
     fn is_right(text: &[u8], with_sign: &[u8]) -> bool {
         let moment = value(Part::Moment, with_sign, None);
         value(Part::Moment, text, None) == moment
@@ -638,7 +639,7 @@ mod iso_fronts {
             && value(Part::Plain, text, None) == value(Part::Plain, with_sign, None)
     }
 
-    // Whether both are so with each byte at that place; or a byte with which they are not.
+    // Checks both with each byte at that place. `Err` is a byte with which they differ.
     fn with_each_byte(text: &[u8], place: usize) -> Result<(), u8> {
         let mut both = *b"+00                                   ";
         let both = both.get_mut(..text.len().saturating_add(3)).ok_or(0)?;

@@ -1,12 +1,12 @@
-//! Mail dates: their places, zone names, blanks and comments, and the short cuts of those.
+//! Mail dates: their places, zone names, blanks and comments, and the fast paths of these.
 
-// Whole mail dates, their places without the ranges of these, and zone names.
+// Whole mail dates, their places without a check of ranges, and zone names.
 mod mail_dates {
     use crate::tests::answers::unanswered_mail_date;
     use time_readers::rfc2822::{Place, place_fault, read, zone_literal};
     use time_values::error::ParseFromDescription;
 
-    // Day, hour, minute and second, then the offset's hours and minutes, and how many bytes are left.
+    // Day, hour, minute and second, then the offset's hours and minutes, and how many bytes remain.
     type Places = ((u8, u8, u8, Option<u8>), (i8, i8), usize);
 
     // The numbers at the places of the text.
@@ -36,7 +36,7 @@ mod mail_dates {
         assert!(rt; text == None, "{text:?}");
     }
 
-    // The hours that the zone name before the text says, and how many bytes are left behind it.
+    // The hours of the zone name at the start of the text, and how many bytes remain after it.
     fn zone(text: &[u8]) -> Option<(i8, usize)> {
         let found = zone_literal(text)?;
         Some((found.1, found.0.len()))
@@ -80,20 +80,20 @@ mod mail_blanks {
     use time_readers::ParsedItem;
     use time_readers::rfc2822::{cfws, fws, opt_cfws, opt_cfws_colon_opt_cfws};
 
-    /// What is read.
+    /// The reader of a part.
     #[derive(Clone, Copy)]
     pub(super) enum Reader {
         /// Blanks.
         Fws,
         /// Blanks and comments.
         Cfws,
-        /// The same, or nothing.
+        /// Blanks and comments, or nothing.
         OptionalCfws,
-        /// A colon, with both around it or not.
+        /// A colon, with optional blanks and comments around it.
         Colon,
     }
 
-    // What is left behind what is read.
+    // The rest after the part.
     fn rest(reader: Reader, text: &[u8]) -> Option<ParsedItem<'_, ()>> {
         match reader {
             Fws => fws(text),
@@ -103,7 +103,7 @@ mod mail_blanks {
         }
     }
 
-    /// How many bytes are left behind what is read.
+    /// How many bytes remain after the part.
     pub(super) fn left(reader: Reader, text: &[u8]) -> Option<usize> {
         match rest(reader, text) {
             Some(found) => Some(found.0.len()),
@@ -111,7 +111,7 @@ mod mail_blanks {
         }
     }
 
-    // Texts, and how many bytes are left behind what is read of each.
+    // Texts, and how many bytes remain after the part.
     static TEXTS: [(Reader, &[u8], Option<usize>); 43] = [
         (Fws, b" \t x", Some(1)),
         (Fws, b"\r\n x", Some(1)),
@@ -135,7 +135,7 @@ mod mail_blanks {
         (Cfws, b" \r\nx", None),
         (Cfws, b"x", None),
         (Cfws, b" (a", Some(2)),
-        // A comment of 31 levels, of 32, and of 1000 that none closes.
+        // Comments nested 31 and 32 deep, and 1000 deep without an end.
         (
             Cfws,
             b"((((((((((((((((((((((((((((((()))))))))))))))))))))))))))))))",
@@ -176,14 +176,14 @@ mod mail_blanks {
     }
 }
 
-// Mail dates with each byte at each place, of which most places are read at once.
+// Mail dates with each byte at each place. A fast path parses most of these places.
 mod mail_fronts {
     use time_parsing::{Parsable, Rfc2822};
     use time_record::Parsed;
     use time_values::OffsetDateTime;
     use time_values::error::Parse;
 
-    // A mail date; the same with a comment behind its day, and behind its second; and where its day ends.
+    // A mail date; that date with a comment after its day, and after its second; and the index at which its day ends.
     type Row = (&'static [u8], &'static [u8], &'static [u8], usize);
 
     static TEXTS: [Row; 4] = [
@@ -213,12 +213,12 @@ mod mail_fronts {
         ),
     ];
 
-    // How many bytes a comment has, and how many stand from behind the day to the end of the second.
+    // The length of a comment, and the distance from the end of the day to the end of the second.
     const COMMENT: usize = 3;
 
     const TO_SECOND: usize = 18;
 
-    // The moment of a text with that byte at a place, directly and over an empty record.
+    // The result of a text with that byte at a place, on the direct path and over an empty record.
     type Moments = (Result<OffsetDateTime, Parse>, Result<OffsetDateTime, Parse>);
 
     fn moments(text: &[u8], place: usize, byte: u8) -> Option<Moments> {
@@ -232,7 +232,8 @@ mod mail_fronts {
         ))
     }
 
-    // The text with a comment whose places are read one after another up to that place, and where it stands there.
+    // The text with a comment whose places are parsed without the fast path up to that place, and the place's index in
+    // it.
     fn commented(row: &Row, place: usize) -> (&'static [u8], usize) {
         let (_, behind_day, behind_second, day_end) = *row;
         if place < day_end {
@@ -244,7 +245,7 @@ mod mail_fronts {
         }
     }
 
-    // Both texts have the same moments with that byte at their places, or none, and none with a carriage return.
+    // Whether both texts have equal results with that byte at their places. A carriage return is always an error.
     fn is_right(row: &Row, place: usize, byte: u8) -> bool {
         let Some(answers) = moments(row.0, place, byte) else {
             return false;
@@ -266,7 +267,7 @@ mod mail_fronts {
     }
 }
 
-// Mail dates by the short cuts of their blanks, and the blanks before each byte.
+// Mail dates by the fast paths of their blanks, and blanks before each byte.
 mod short_cuts {
     use super::mail_blanks::Reader::{self, Cfws, Colon, Fws, OptionalCfws};
     use super::mail_blanks::left;
@@ -274,14 +275,14 @@ mod short_cuts {
 
     static READERS: [Reader; 4] = [Fws, Cfws, OptionalCfws, Colon];
 
-    // A blank, and the byte behind it if that is one too, is all that is read where the byte and an `x` follow.
+    // Whether the reader takes a blank, and the byte after it only if it is one too, where that byte and an `x` follow.
     fn takes_blanks(reader: Reader, blank: u8, byte: u8) -> bool {
         let text = [b':', blank, byte, b'x'];
         let rest = if byte == b' ' || byte == b'\t' { 1 } else { 2 };
         left(reader, behind_colon(reader, &text)) == Some(rest)
     }
 
-    // Only one reader reads the colon.
+    // Only the reader of a colon gets the colon.
     fn behind_colon(reader: Reader, text: &[u8; 4]) -> &[u8] {
         match reader {
             Colon => text,
@@ -289,7 +290,7 @@ mod short_cuts {
         }
     }
 
-    // A byte that is no blank, with one behind it, is not read as blanks.
+    // Whether the reader rejects a byte that isn't a blank, with a blank after it.
     fn takes_nothing(reader: Reader, byte: u8) -> bool {
         let text = [b':', byte, b' ', b'x'];
         let wanted = match reader {
@@ -299,7 +300,7 @@ mod short_cuts {
         left(reader, behind_colon(reader, &text)) == wanted
     }
 
-    // Texts with one blank or none in front, and how many bytes are left after it: by `Fws`, and by `Cfws`.
+    // Texts that start with one blank or none, and how many bytes remain after it: by `Fws`, and by `Cfws`.
     static ONE_BLANK: [(&[u8], Option<usize>, Option<usize>); 20] = [
         (b" !", Some(1), Some(1)),
         (b"\t!", Some(1), Some(1)),
@@ -319,7 +320,7 @@ mod short_cuts {
         (b"\t\x1f", Some(1), Some(1)),
         (b" \nx", Some(2), Some(2)),
         (b"\t\nx", Some(2), Some(2)),
-        // A carriage return is no blank, and behind one it isn't read.
+        // A carriage return isn't a blank, and isn't parsed after one.
         (b"\rx", None, None),
         (b"\r x", None, None),
         (b" \rx", Some(2), Some(2)),

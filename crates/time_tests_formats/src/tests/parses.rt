@@ -1,4 +1,4 @@
-//! Parses of whole texts, and of the front of one.
+//! Parses of whole texts, and of prefixes.
 
 // The parse of a whole text, by each type of format.
 mod whole_parses {
@@ -20,18 +20,18 @@ mod whole_parses {
     use time_values::Month::{January, March};
     use time_values::error::{Parse, ParseFromDescription};
 
-    // What the defaults have.
+    // The contents of the defaults.
     #[derive(Clone, Copy)]
     enum Defaults {
-        // A timestamp of 0, by a builder or by a setter.
+        // A timestamp of 0, set by a builder or by a setter.
         Stamped,
         Epoch,
         // The first day of a year.
         FirstDay,
-        // 15 seconds of an offset, with 7 of a time or without.
+        // 15 seconds of an offset, with a time's second of 7 or without it.
         Seconds,
         OffsetSecond,
-        // A negative offset of five hours, with the sign that was read.
+        // An offset of minus five hours, parsed with its sign.
         Signed,
     }
 
@@ -64,9 +64,9 @@ mod whole_parses {
 
     const HALF_SECOND: Numbers = ((1970, January, 1), (0, 0, 0, 500_000_000), NO_OFFSET);
 
-    // Texts, and what each says of a part.
+    // Texts, and the result for a part.
     static WHOLE: [(Format, Part, &[u8], Result<Numbers, Parse>); 9] = [
-        // A moment whose day in UTC is the first of the year 10000, a leap second, and a comment behind a zone name.
+        // A moment whose day in UTC is the first of the year 10000, a leap second, and a comment after a zone name.
         (
             Format::Stamp,
             Utc,
@@ -92,7 +92,7 @@ mod whole_parses {
             b"1 Jan 2021 03:04 -0030",
             Ok((NO_DATE, NO_TIME, (0, -30, 0))),
         ),
-        // A reference to a format takes no direct path.
+        // A reference to a format has no direct path.
         (
             Format::StampByReference,
             Moment,
@@ -117,13 +117,13 @@ mod whole_parses {
         }
     }
 
-    // The nanoseconds since 1970 that the text says.
+    // The nanoseconds from 1970-01-01T00:00:00Z to the moment of the text.
     fn timestamp<F: Parsable>(format: &F, text: &[u8]) -> Option<i128> {
         let timestamp = format.parse_timestamp(text, None).ok()?;
         Some(timestamp.nanoseconds())
     }
 
-    // 1985-04-12 is 15 years, 4 of them leap years, and 101 days after the start of 1970, which are 5580 days.
+    // 1985-04-12 is 15 years, of them 4 leap years, and 101 days after the start of 1970, which makes 5580 days.
     static TIMESTAMPS: [(&[u8], i128); 2] = [
         (b"1985-04-12T23:20:50.52Z", 482_196_050_520_000_000),
         (
@@ -132,7 +132,7 @@ mod whole_parses {
         ),
     ];
 
-    // A format and a reference to it give the same.
+    // A format and a reference to it have equal results.
     #[test]
     fn timestamps(rt: HostRuntime) {
         for (text, wanted) in &TIMESTAMPS {
@@ -141,9 +141,9 @@ mod whole_parses {
         }
     }
 
-    // Texts over defaults, and what each says of a part.
+    // Texts over defaults, and the result for a part.
     static OVER_DEFAULTS: [(Format, Part, &[u8], Defaults, Numbers); 13] = [
-        // A timestamp of the defaults counts.
+        // A timestamp in the defaults takes precedence.
         (
             Format::Stamp,
             Moment,
@@ -165,7 +165,7 @@ mod whole_parses {
             FirstDay,
             ((2021, January, 1), NO_TIME, NO_OFFSET),
         ),
-        // A number keeps the second of the defaults and none keeps their sign.
+        // The text's offset keeps the second of the defaults, and doesn't keep their sign.
         (
             Format::Mail,
             Time,
@@ -264,19 +264,19 @@ mod whole_parses {
         padding: Padding::Zero,
     });
 
-    // The format reads `2021-03-04`, and refuses bytes behind it.
+    // Whether the format parses `2021-03-04`, and rejects a trailing byte.
     fn reads_a_date<F: Parsable>(format: &F) -> bool {
         let date = said_by(format, Date, b"2021-03-04", None);
         date == Ok(((2021, March, 4), NO_TIME, NO_OFFSET))
             && said_by(format, Date, b"2021-03-04 ", None) == Err(TRAILING)
     }
 
-    // The items have too little for a date.
+    // Whether the items have too few components for a date.
     fn know_too_little(items: &[BorrowedFormatItem<'_>], text: &[u8]) -> bool {
         Items(items).parse_date(text, None) == Err(MISSING)
     }
 
-    // Each type of description, with the same items, gives the same date, and the same refusals.
+    // Each type of description, with equal items, has equal results.
     #[test]
     fn descriptions_alike(rt: HostRuntime) {
         let items = date_items(YEAR_COMPONENT, BorrowedFormatItem::StringLiteral("-"));
@@ -340,7 +340,7 @@ mod whole_parses {
     // Both bytes of a character.
     const CHARACTER: &[u8] = b"\xC3\xA9";
 
-    // What a component leaves that skips a byte, and how a description of it refuses the same text.
+    // The rest after a component that skips a byte, and the error of a description of it for that text.
     fn skipped(ignore: Component) -> (Option<&'static [u8]>, Option<Parse>) {
         let rest = Parsed::new().parse_component(CHARACTER, ignore).ok();
         let description = FormatDescriptionV3 {
@@ -361,7 +361,7 @@ mod whole_parses {
     }
 }
 
-// The parse of a whole text by a description that was read from a text.
+// Parses of whole texts by parsed descriptions.
 mod described {
     use crate::tests::formats::Part::{Date, Offset, Time};
     use crate::tests::formats::{
@@ -416,7 +416,7 @@ mod described {
 
     const CLOCK: &[u8] = b"[hour]:[minute][optional [:[second]]]";
 
-    // Descriptions, and what a text says of a part by each.
+    // Descriptions, texts, and the result for a part.
     static TEXTS: [(&[u8], Part, &[u8], Result<Numbers, Parse>); 10] = [
         (WORDED, Date, b"2021, Day 02 of 01", SECOND_OF_JANUARY),
         (WORDED, Date, b"2021, Day 02 of 13", Err(MONTH)),
@@ -459,7 +459,7 @@ mod described {
         }
     }
 
-    // How many items are tried until the text is read, where no byte of it is left.
+    // How many items are visited to parse the whole text.
     fn tries_of(description: &Description<80>, text: &[u8]) -> Option<u64> {
         let mut tries = Tries::new();
         let rest = Parsed::new()
@@ -472,7 +472,7 @@ mod described {
         }
     }
 
-    // The row, three leaves, the optional item, its list, and two leaves: 1 + 3 + 1 + 1 + 2.
+    // The sequence, three leaves, the optional item, its list, and two leaves: 1 + 3 + 1 + 1 + 2.
     #[test]
     fn optional_second(rt: HostRuntime) {
         let description = described(CLOCK).expect(&rt, "a description");
@@ -480,7 +480,7 @@ mod described {
     }
 }
 
-// Texts with a part that stands in them a hundred thousand times.
+// Texts that repeat a part a hundred thousand times.
 mod long_texts {
     use crate::tests::answers::Answer::{self, Moment, Refused};
     use crate::tests::answers::is_answered;
@@ -490,7 +490,7 @@ mod long_texts {
     use std::test::Fail;
     use time_values::Month::January;
 
-    // The part so many times between a front and an end.
+    // The repeated part between a start and an end.
     fn repeated(
         alloc: Global,
         front: &[u8],
@@ -508,7 +508,7 @@ mod long_texts {
 
     const MOMENT: Answer = Moment((2021, January, 1), (3, 4, 0, 0), (0, 0));
 
-    // Parts between the year and the hour of a mail date.
+    // Parts between the year and the hour of a mail date, and the result.
     static PARTS: [(&[u8], Answer); 3] = [
         (b"\r\n ", MOMENT),
         (b"(a)", MOMENT),
@@ -533,7 +533,7 @@ mod long_texts {
     }
 }
 
-// The moment at the front of a text, and what stands after it.
+// The moment at the start of a text, and the bytes after it.
 mod front_moments {
     use crate::tests::formats::{Format, Numbers, described, numbers};
     use crate::tests::refusals::{DESCRIPTION, HOUR, LITERAL, MISSING, MONTH, NO_DAY};
@@ -542,7 +542,7 @@ mod front_moments {
     use time_values::Month::{January, March};
     use time_values::error::Parse;
 
-    // The moment in front of the text over the defaults, and the unread rest.
+    // The moment at the start of the text over the defaults, and the unread rest.
     fn front_by<'a, F: Parsable>(
         format: &F,
         text: &'a [u8],
@@ -552,7 +552,7 @@ mod front_moments {
         Ok((numbers(moment), rest))
     }
 
-    // The same by the format of that name.
+    // That moment by a format.
     fn front(format: Format, text: &[u8]) -> Result<(Numbers, &[u8]), Parse> {
         match format {
             Format::Stamp => front_by(&Rfc3339, text, None),
@@ -627,7 +627,7 @@ mod front_moments {
         (Format::Stamp, b"2021-13-02T03:04:05Z start", Err(MONTH)),
         // February 2021 has 28 days.
         (Format::Stamp, b"2021-02-29T03:04:05Z start", Err(NO_DAY)),
-        // The start of an interval, whose end stands after a solidus.
+        // The start of an interval, whose end follows a solidus.
         (
             Format::Iso,
             b"2021-01-02T03:04:05Z/PT1H",
@@ -638,7 +638,7 @@ mod front_moments {
             b"20210102T030405Z/PT1H",
             Ok((MOMENT_IN_UTC, b"/PT1H")),
         ),
-        // A date alone, after which no time stands.
+        // A date alone, without a time.
         (Format::Iso, b"2021-01-02/PT1H", Err(MISSING)),
     ];
 
@@ -649,7 +649,7 @@ mod front_moments {
         }
     }
 
-    // By RFC 2822, section 3.3, blanks and comments after the zone belong to the date.
+    // By RFC 2822, section 3.3, blanks and comments after the zone are part of the date.
     static MAIL_DATES: [(&[u8], Result<(Numbers, &[u8]), Parse>); 3] = [
         (
             b"Sat, 02 (the second) Jan 2021 03:04:05 +0607 (morning) of a note",
@@ -666,7 +666,7 @@ mod front_moments {
         }
     }
 
-    // A reference to a format reads as the format does.
+    // A reference to a format parses as the format does.
     #[test]
     fn front_by_reference(rt: HostRuntime) {
         let format = described(LOGGED).expect(&rt, "a description");
@@ -681,7 +681,7 @@ mod front_moments {
         Some(record)
     }
 
-    // What the text omits is the default's, and what it has is its own.
+    // A component that the text omits is that of the defaults, and any other is the text's.
     #[test]
     fn front_over_defaults(rt: HostRuntime) {
         let format = described(MONTH_TO_MINUTE).expect(&rt, "a description");

@@ -1,4 +1,4 @@
-//! What texts put into records.
+//! The components that texts store in records.
 use super::formats::{Format, described};
 use super::refusals::{DAY, DESCRIPTION, LITERAL, OFFSET_MINUTE, YEAR};
 use std::alloc::{AllocError, Global};
@@ -9,10 +9,10 @@ use time_values::Month::{self, January, July, March};
 use time_values::Weekday;
 use time_values::error::Parse;
 
-/// The year, the month, the day, and the ordinal, where 0 stands for none.
+/// The year, the month, the day, and the ordinal, with 0 for none.
 type DateCells = (Option<i32>, Option<Month>, u8, u16);
 
-/// The ISO year, the week, where 0 stands for none, and the weekday.
+/// The ISO year, the week, with 0 for none, and the weekday.
 type WeekCells = (Option<i32>, u8, Option<Weekday>);
 
 /// The hour, the minute, the second and the nanosecond.
@@ -28,10 +28,10 @@ const NO_DATE: DateCells = (None, None, 0, 0);
 
 const NO_WEEK: WeekCells = (None, 0, None);
 
-/// No cell of a time is known.
+/// A time without components.
 pub(super) const NO_TIME: TimeCells = (None, None, None, None);
 
-/// No cell of an offset is known.
+/// An offset without components.
 pub(super) const NO_OFFSET: OffsetCells = (None, None);
 
 // The number, or 0.
@@ -67,7 +67,7 @@ fn time_cells(record: &Parsed) -> TimeCells {
     )
 }
 
-/// What is left of the text, or its refusal, and the cells of the record then.
+/// The rest of the text, or its error, and the cells of the record after the parse.
 pub(super) fn stored_by<'a, F: Parsable>(
     format: &F,
     text: &'a [u8],
@@ -84,7 +84,7 @@ pub(super) fn stored_by<'a, F: Parsable>(
     (left, cells)
 }
 
-// The same by the format of that name.
+// Those by a format.
 fn stored<'a>(
     format: Format,
     text: &'a [u8],
@@ -114,7 +114,7 @@ const CLOCK: Format = Format::Described(b"[hour]:[minute][optional [:[second]]]"
 
 const YEAR_OR_MONTH: Format = Format::Described(b"[first [[year]] [[month]]]");
 
-// What a mail date puts into a record.
+// The cells after a mail date.
 const MAILED: Cells = (
     SECOND_OF_JANUARY,
     MONDAY,
@@ -122,8 +122,8 @@ const MAILED: Cells = (
     (Some(0), Some(0)),
 );
 
-/// A format and the month that a record has, the text that is read over it before, if any, and the text, what is
-/// left of it, and what the record has then.
+/// A format and the month that a record starts with, the text that is parsed before, if any, and the text, its rest,
+/// and the cells after it.
 type Row = (
     Format,
     Option<Month>,
@@ -134,7 +134,7 @@ type Row = (
 );
 
 static RECORDS: [Row; 16] = [
-    // Of two forms the first counts that stands.
+    // Of two forms the first that matches counts.
     (
         Format::Iso,
         None,
@@ -172,7 +172,7 @@ static RECORDS: [Row; 16] = [
             NO_OFFSET,
         ),
     ),
-    // A text that is refused, and a part that can't be read, leave the record as it was.
+    // A rejected text, and a part that can't be parsed, leave the record unchanged.
     (
         Format::Iso,
         Some(March),
@@ -189,7 +189,7 @@ static RECORDS: [Row; 16] = [
         Ok(b"T03:04:61+26"),
         (SECOND_OF_JANUARY, NO_WEEK, NO_TIME, NO_OFFSET),
     ),
-    // After a date alone no offset is read.
+    // No offset is parsed after a date alone.
     (
         Format::Iso,
         None,
@@ -211,7 +211,7 @@ static RECORDS: [Row; 16] = [
             (Some(5), Some(0)),
         ),
     ),
-    // A date that can't be read puts nothing there.
+    // A date that doesn't parse stores nothing.
     (
         Format::Iso,
         None,
@@ -249,7 +249,7 @@ static RECORDS: [Row; 16] = [
         Err(LITERAL),
         (MARCH, NO_WEEK, NO_TIME, NO_OFFSET),
     ),
-    // A second that is out of range leaves the whole part unread, and the record without it.
+    // A second out of range leaves the whole part unread and not stored.
     (
         CLOCK,
         None,
@@ -274,7 +274,7 @@ static RECORDS: [Row; 16] = [
         Ok(b""),
         ((None, Some(July), 0, 0), NO_WEEK, NO_TIME, NO_OFFSET),
     ),
-    // The fault is the first list's.
+    // The error is that of the first list.
     (
         YEAR_OR_MONTH,
         None,
@@ -285,26 +285,26 @@ static RECORDS: [Row; 16] = [
     ),
 ];
 
-// Whether two records have one debug text, which has each option and each flag.
+// Whether two records have equal debug output, which has each option and each flag.
 fn same_record(alloc: Global, a: &Parsed, b: &Parsed) -> Result<bool, AllocError> {
     let a = format!(in alloc; "{a:?}")?;
     let b = format!(in alloc; "{b:?}")?;
     Ok(a.as_str() == b.as_str())
 }
 
-// The record before the text of the row is parsed over it.
+// The record before the row's text is parsed into it.
 fn begun(row: &Row) -> Option<Parsed> {
     let (format, month, before, _, _, _) = *row;
     let mut record = Parsed::new();
     if let Some(month) = month {
         record.set_month(month)?;
     }
-    // The empty text is rejected, and leaves the record as it is.
+    // The empty text is rejected, and leaves the record unchanged.
     let _ = stored(format, before, &mut record);
     Some(record)
 }
 
-// The text of the row stores that in the record, or nothing where it is rejected.
+// Whether the row's text stores these cells, or is rejected and stores nothing.
 fn is_stored(alloc: Global, row: &Row) -> Result<bool, AllocError> {
     let (format, _, _, text, left, cells) = *row;
     let Some(before) = begun(row) else {

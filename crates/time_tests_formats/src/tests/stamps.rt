@@ -1,6 +1,6 @@
 //! Texts of RFC 3339, and a slow reader of them.
 
-// Texts of RFC 3339 with each byte at each place, beside a slow reader.
+// Texts of RFC 3339 with each byte at each place, compared with a slow reader.
 mod fronts {
     use super::slow_stamps::{moment, tail};
     use crate::tests::answers::{STAMPS, both_ways};
@@ -9,7 +9,7 @@ mod fronts {
     use time_record::Parsed;
     use time_values::error::{Parse, ParseFromDescription};
 
-    // How the places of the text refuse it.
+    // The error of the first place of the text that fails.
     fn refusal<const RANGED: bool>(text: &[u8]) -> Option<ParseFromDescription> {
         match rfc3339::read::<RANGED>(text) {
             Ok(_) => None,
@@ -17,18 +17,18 @@ mod fronts {
         }
     }
 
-    // The places alone refuse the text as the slow reader does.
+    // Whether the places have the error of the slow reader, without a calendar.
     fn has_right_places(text: &[u8]) -> bool {
         refusal::<true>(text) == tail(text, true).err()
             && refusal::<false>(text) == tail(text, false).err()
     }
 
-    // The moment of the text, read with no record.
+    // The result of the text on the direct path.
     fn directly(text: &[u8]) -> Result<Numbers, Parse> {
         Ok(numbers(direct::rfc3339(text)?))
     }
 
-    // The text is read as the slow reader does: directly, over an empty record, and by its places alone.
+    // Whether the text has the slow reader's result: on the direct path, over an empty record, and by its places.
     fn is_right(text: &[u8]) -> bool {
         let wanted = moment(text, false);
         let staged = said(Format::Stamp, Part::Moment, text, Some(Parsed::new()));
@@ -38,7 +38,7 @@ mod fronts {
             && has_right_places(text)
     }
 
-    // Whether the text is read so with each byte at that place; or a byte with which it is not.
+    // Checks the text with each byte at that place. `Err` is a byte with which the results differ.
     fn with_each_byte(text: &[u8], place: usize) -> Result<(), u8> {
         let mut changed = [b' '; 35];
         let changed = changed.get_mut(..text.len()).ok_or(0)?;
@@ -52,7 +52,7 @@ mod fronts {
         Ok(())
     }
 
-    // The slow reader gives the answers of the table.
+    // The slow reader has the results of the table.
     #[test]
     fn slow_stamps(rt: HostRuntime) {
         for (text, wanted) in &STAMPS {
@@ -68,7 +68,7 @@ mod fronts {
         b"9999-12-31T23:59:59.999999999-23:59",
     ];
 
-    // Where the second ends.
+    // The index after the second.
     const SECOND_END: usize = 19;
 
     #[test]
@@ -81,7 +81,7 @@ mod fronts {
         }
     }
 
-    // Texts, and what stands behind their seconds: the nanosecond, and the hours and minutes of the offset.
+    // Texts, and the parts after their seconds: the nanosecond, and the hours and minutes of the offset.
     static TAILS: [(&[u8], Option<(u32, i8, i8)>); 24] = [
         (b"2021-01-02T03:04:05Z", Some((0, 0, 0))),
         (b"2021-01-02T03:04:05z", Some((0, 0, 0))),
@@ -133,7 +133,7 @@ mod fronts {
     }
 }
 
-// A slow reader of RFC 3339: byte by byte over the rows of a table, with a calendar of its own.
+// A slow reader of RFC 3339: byte by byte along the rows of a table, with a calendar of its own.
 mod slow_stamps {
     use crate::tests::formats::Numbers;
     use crate::tests::refusals::{
@@ -147,12 +147,12 @@ mod slow_stamps {
     /// A place of a date and time, up to the second.
     #[derive(Clone, Copy)]
     enum Place {
-        /// Where a byte stands, and which.
+        /// The index of a required byte, and the byte.
         Byte(usize, u8),
-        /// Where any byte stands, and the place's name.
+        /// The index of any byte, and the place's name.
         Any(usize, &'static str),
-        /// Where digits begin and end, the least number that has the form, the least and the greatest in its range,
-        /// and the place's name.
+        /// The indices at which digits start and end, the least number of that form, the least and the greatest in
+        /// range, and the place's name.
         Number(usize, usize, u32, u32, u32, &'static str),
     }
 
@@ -170,10 +170,10 @@ mod slow_stamps {
         Place::Number(17, 19, 0, 0, 60, "second"),
     ];
 
-    // Where the last of these places ends.
+    // The index at which the last of these places ends.
     const FRONT_END: usize = 19;
 
-    // The number that the bytes say, if each is a digit.
+    // The number of the bytes, if each is a digit.
     fn number(text: &[u8], begin: usize, end: usize) -> Option<u32> {
         let mut number = 0_u32;
         for byte in text.get(begin..end)? {
@@ -187,7 +187,7 @@ mod slow_stamps {
         Some(number)
     }
 
-    // How the place refuses the text, with its range or by its form alone.
+    // The error of the place in the text, with a check of its range or of its form alone.
     fn fault_at(text: &[u8], place: Place, ranged: bool) -> Option<ParseFromDescription> {
         let (stands, fault) = match place {
             Place::Byte(at, byte) => (text.get(at) == Some(&byte), LITERAL),
@@ -211,7 +211,7 @@ mod slow_stamps {
         if stands { None } else { Some(fault) }
     }
 
-    // How the first place up to the second that doesn't stand refuses the text.
+    // The error of the first place up to the second that fails.
     fn front_fault(text: &[u8], ranged: bool) -> Option<ParseFromDescription> {
         for place in &FRONT {
             let fault = fault_at(text, *place, ranged);
@@ -222,7 +222,7 @@ mod slow_stamps {
         None
     }
 
-    // The nanosecond of a fraction, of which nine digits count, and how many bytes it has. It may be missing.
+    // The nanosecond of a fraction, to which nine digits contribute, and its length. It is optional.
     fn fraction(text: &[u8]) -> Option<(u32, usize)> {
         let Some((b'.', digits)) = text.split_first() else {
             return Some((0, 0));
@@ -245,7 +245,7 @@ mod slow_stamps {
         Some((nanosecond, bytes))
     }
 
-    // The number with a minus or without.
+    // The number, negated after a minus.
     fn signed(number: u32, is_negative: bool) -> i8 {
         let number = i8::try_from(number).unwrap_or(0);
         if is_negative {
@@ -255,7 +255,7 @@ mod slow_stamps {
         }
     }
 
-    // The hours and minutes of an offset, and how many bytes it has.
+    // The hours and minutes of an offset, and its length.
     fn offset(text: &[u8], ranged: bool) -> Result<(i8, i8, usize), ParseFromDescription> {
         let is_negative = match text.first().copied() {
             Some(b'Z' | b'z') => return Ok((0, 0, 1)),
@@ -281,10 +281,11 @@ mod slow_stamps {
         }
     }
 
-    /// What stands behind the second: the nanosecond, the hours and minutes of the offset, and the unread bytes.
+    /// The parts after the second: the nanosecond, the hours and minutes of the offset, and how many bytes remain.
     pub(super) type Tail = (u32, (i8, i8), usize);
 
-    /// The places of the text, with their ranges or by their form alone, or the refusal of the first that doesn't stand.
+    /// The parts after the second, with a check of ranges or of the form alone, or the error of the first place that
+    /// fails.
     pub(super) fn tail(text: &[u8], ranged: bool) -> Result<Tail, ParseFromDescription> {
         if let Some(fault) = front_fault(text, ranged) {
             return Err(fault);
@@ -317,7 +318,7 @@ mod slow_stamps {
         (Month::December, 31),
     ];
 
-    // The month of the number, and how many days it has.
+    // The month with the number, and its length in days.
     fn month(year: u32, number: usize) -> Option<(Month, u8)> {
         let (month, days) = *MONTHS.get(number.checked_sub(1)?)?;
         let is_leap = year % 4 == 0 && (year % 100 != 0 || year % 400 == 0);
@@ -325,7 +326,7 @@ mod slow_stamps {
         Some((month, days))
     }
 
-    // Whether in UTC the minute is the last of a month.
+    // Whether the minute is the last of a month in UTC.
     fn ends_a_month(day: u8, days: u8, hour: u8, minute: u8, (hours, minutes): (i8, i8)) -> bool {
         let here = i32::from(hour)
             .wrapping_mul(60)
@@ -334,7 +335,7 @@ mod slow_stamps {
             .wrapping_mul(60)
             .wrapping_add(i32::from(minutes));
         match here.wrapping_sub(offset) {
-            // Of the day before, of this day, and of the next day.
+            // The last minute of the day before, of this day, and of the next day.
             -1 => day == 1,
             1439 => day == days,
             2879 => day.wrapping_add(1) == days,
@@ -342,7 +343,7 @@ mod slow_stamps {
         }
     }
 
-    // The two digits, or 0 where they don't stand.
+    // The number of two digits, or 0 where they aren't digits.
     fn pair(text: &[u8], begin: usize, end: usize) -> u8 {
         match number(text, begin, end) {
             Some(number) => u8::try_from(number).unwrap_or(0),
@@ -350,7 +351,7 @@ mod slow_stamps {
         }
     }
 
-    // The first number of a time of day that is out of its range.
+    // The error of the first number of a time of day that is out of its range.
     fn clock_fault(hour: u8, minute: u8, second: u8) -> Option<Parse> {
         if hour > 23 {
             Some(NO_HOUR)
@@ -363,7 +364,7 @@ mod slow_stamps {
         }
     }
 
-    // The numbers of a text whose places stand, or what the calendar refuses.
+    // The numbers of a text whose form matches, or the error of the calendar.
     fn dated(text: &[u8], nanosecond: u32, offset: (i8, i8)) -> Result<Numbers, Parse> {
         let year = number(text, 0, 4).unwrap_or(0);
         let (month, days) = month(year, usize::from(pair(text, 5, 7))).ok_or(NO_MONTH)?;
@@ -390,8 +391,8 @@ mod slow_stamps {
         Ok((date, (hour, minute, 59, 999_999_999), (hours, minutes, 0)))
     }
 
-    /// The numbers of the moment, or how the text is refused: over an empty record, where a number out of its range has
-    /// not the form, or directly.
+    /// The numbers of the moment, or the error: over an empty record, where a number out of its range has an error of
+    /// form, or on the direct path.
     pub(super) fn moment(text: &[u8], ranged: bool) -> Result<Numbers, Parse> {
         let (nanosecond, offset, unread) = tail(text, ranged)?;
         if offset.1.unsigned_abs() > 59 {

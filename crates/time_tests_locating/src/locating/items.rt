@@ -1,4 +1,4 @@
-//! Texts that items and descriptions refuse, and where components begin.
+//! Texts that items and descriptions reject, and where components start.
 use super::parts::{DAY, END, HOUR, MINUTE, MONTH, SECOND, YEAR};
 use super::{Row, assert_located, is_place};
 use std::process::Abort;
@@ -12,7 +12,7 @@ type Item = BorrowedFormatItem<'static>;
 
 const SECOND_ITEMS: [Item; 2] = [item!(":"), Part(SECOND)];
 
-// By an hour, `:` and a minute, and then perhaps `:` and a second.
+// By an hour, `:` and a minute, and optionally `:` and a second.
 static CLOCK_ROWS: [Row<'static>; 16] = [
     (b"23:59:61", 6, Component("second")),
     (b"23:59:6", 6, Component("second")),
@@ -36,15 +36,15 @@ const CLOCK: [Item; 3] = [Part(HOUR), item!(":"), Part(MINUTE)];
 
 const DAY_ITEMS: [Item; 2] = [Part(DAY), item!(".")];
 
-// By the first of `noon`, of an hour, `:` and a minute, and of a day and `.`.
+// By the first of `noon`; an hour, `:` and a minute; and a day and `.`.
 static CHOICE_ROWS: [Row<'static>; 15] = [
     (b"12:60", 3, Component("minute")),
     (b"12:5", 3, Component("minute")),
     (b"12:", 3, Component("minute")),
-    // At index 2 neither `:` nor `.` stands. The alternatives before come first.
+    // At index 2 neither `:` nor `.` follows. The first alternative has precedence.
     (b"12", 2, Literal(b":")),
     (b"12-30", 2, Literal(b":")),
-    // No hour is 31, so of the choices only the day reads.
+    // 31 isn't an hour, so of the alternatives only the day is parsed.
     (b"31", 2, Literal(b".")),
     (b"31:00", 2, Literal(b".")),
     (b"12.x", 3, End),
@@ -57,29 +57,29 @@ static CHOICE_ROWS: [Row<'static>; 15] = [
     (b"", 0, Literal(b"noon")),
 ];
 
-// By the first of an hour, `:` and a minute, and of an hour alone.
+// By the first of an hour, `:` and a minute; and an hour alone.
 static SHORTER_ROWS: [Row<'static>; 4] = [
-    // The hour alone reads, and `:61` remains; but the minute is missed further on.
+    // The hour alone is parsed, and `:61` remains; but the minute fails further on.
     (b"12:61", 3, Component("minute")),
     (b"12x", 2, End),
     (b"12:30:", 5, End),
     (b"24", 0, Component("hour")),
 ];
 
-/// By the first of `noon`, `nine` and `ni`: of those missed at one byte the first.
+/// By the first of `noon`, `nine` and `ni`. Of the failures at one byte the first has precedence.
 pub static WORD_ROWS: [Row<'static>; 6] = [
     (b"nose", 2, Literal(b"on")),
     (b"nin", 3, Literal(b"e")),
     (b"name", 1, Literal(b"oon")),
     (b"moon", 0, Literal(b"noon")),
     (b"noon!", 4, End),
-    // `ni` reads, and `!` remains where `nine` is missed too: the end comes first.
+    // `ni` is parsed, and `!` remains where `nine` fails too: the end has precedence.
     (b"ni!", 2, End),
 ];
 
 const IN_BRACKETS: [Item; 3] = [item!("("), Part(DAY), item!(")")];
 
-// By perhaps a `+`, then perhaps `(`, a day and `)`.
+// By an optional `+`, and an optional group of `(`, a day and `)`.
 static OPTIONS_ROWS: [Row<'static>; 7] = [
     (b"x", 0, End),
     (b"-", 0, End),
@@ -95,7 +95,7 @@ const ENDS: [Item; 2] = [Part(HOUR), Part(END)];
 
 static ENDS_ROWS: [Row<'static>; 1] = [(b"23x", 2, End)];
 
-// Bytes that are no text are told as they stand.
+// Bytes that aren't text are expected as they are.
 const BYTES: [Item; 2] = [BorrowedFormatItem::Literal(&[0xff, 0x00]), Part(DAY)];
 
 static BYTES_ROWS: [Row<'static>; 4] = [
@@ -118,7 +118,7 @@ const MOMENT: [Item; 9] = [
     Part(MINUTE),
 ];
 
-// A text that is cut off at each byte goes wrong where the item begins that the cut is in.
+// A text that is truncated at each byte fails at the start of the truncated item.
 static MOMENT_ROWS: [Row<'static>; 16] = [
     (b"", 0, Component("year")),
     (b"2", 0, Component("year")),
@@ -138,10 +138,10 @@ static MOMENT_ROWS: [Row<'static>; 16] = [
     (b"2021-01-02 03:0", 14, Component("minute")),
 ];
 
-// By items of which none reads a byte.
+// By items that parse no byte.
 static NO_ROWS: [Row<'static>; 1] = [(b"x", 0, End)];
 
-// Items as a format refuse the text of each row where the row says.
+// Asserts that the items as a format reject the text of each row at its location.
 fn assert_items(rt: &impl Abort, items: &[BorrowedFormatItem<'_>], rows: &[Row<'_>]) {
     for row in rows {
         assert!(rt;
@@ -152,14 +152,14 @@ fn assert_items(rt: &impl Abort, items: &[BorrowedFormatItem<'_>], rows: &[Row<'
     }
 }
 
-// Items as a format read each of the texts whole.
+// Asserts that the items as a format parse each of the texts whole.
 fn assert_whole(rt: &impl Abort, items: &[BorrowedFormatItem<'_>], texts: &[&[u8]]) {
     for text in texts {
         assert!(rt; Items(items).locate(text, None).is_none(), "{text:?}");
     }
 }
 
-// The same, also as one item that holds them.
+// Asserts both, also for one compound item of the items.
 fn assert_list(
     rt: &impl Abort,
     items: &[BorrowedFormatItem<'_>],
@@ -215,8 +215,8 @@ fn shorter_choices(rt: HostRuntime) {
     assert_located(&rt, &First(&items), &SHORTER_ROWS, &[]);
 }
 
-// Where components begin in texts that are read. The index is that of the component's first byte, of an offset's hour
-// that of its sign, and of a second of RFC 2822 that of its first digit, after its colon.
+// Where components start in parsed texts. The index is that of the component's first byte: of an offset's hour that of
+// its sign, and of a second of RFC 2822 that of its first digit, after its colon.
 mod components {
     use super::super::description_of;
     use crate::locating::parts::{DAY, HOUR, MINUTE, MONTH, YEAR};
@@ -228,14 +228,14 @@ mod components {
     use time_record::Parsed;
     use time_values::error::Parse;
 
-    /// A text, the name of a component, and the index at which the component begins.
+    /// A text, the name of a component, and the index at which the component starts.
     pub type Mark<'a> = (&'a [u8], &'a str, Option<usize>);
 
     static RFC3339: [Mark<'static>; 25] = [
-        // No February has a day 30, and no November a day 31.
+        // February has no day 30, and November no day 31.
         (b"2021-02-30T00:00:00Z", "day", Some(8)),
         (b"2021-11-31T00:00:00Z", "day", Some(8)),
-        // No month of UTC ends at noon.
+        // No month ends at noon UTC.
         (b"2021-01-02T12:00:60Z", "second", Some(17)),
         (b"2021-01-02T03:04:05.25+06:07", "year", Some(0)),
         (b"2021-01-02T03:04:05.25+06:07", "month", Some(5)),
@@ -249,7 +249,7 @@ mod components {
         (b"2021-01-02T03:04:05.25+06:07", "offset minute", Some(26)),
         (b"2021-01-02T03:04:05-06:07", "offset hour", Some(19)),
         (b"2021-01-02T03:04:05-06:07", "offset minute", Some(23)),
-        // `Z` is an hour without a minute, and no fraction stands.
+        // `Z` has an hour, but no minute, and the text has no fraction.
         (b"2021-01-02T03:04:05z", "offset hour", Some(19)),
         (b"2021-01-02T03:04:05Z", "offset minute", None),
         (b"2021-01-02T03:04:05Z", "subsecond", None),
@@ -257,9 +257,9 @@ mod components {
         (b"2021-01-02T03:04:05Z", "ordinal", None),
         (b"2021-01-02T03:04:05Z", "", None),
         (b"2021-01-02T03:04:05Z", "Day", None),
-        // A front is read, and bytes remain.
+        // A prefix is parsed, and bytes remain.
         (b"2021-02-30T00:00:00Z and more", "day", Some(8)),
-        // Nothing is read.
+        // Nothing is parsed.
         (b"2021-13-02T03:04:05Z", "year", None),
         (b"", "year", None),
     ];
@@ -280,13 +280,13 @@ mod components {
             "offset minute",
             Some(29),
         ),
-        // The blanks before a component aren't its own, and a second's colon isn't either.
+        // A component's index is after its blanks, and a second's after its colon.
         (b"2  Jan 21 03 : 04 : 05  EST", "month", Some(3)),
         (b"2  Jan 21 03 : 04 : 05  EST", "year", Some(7)),
         (b"2  Jan 21 03 : 04 : 05  EST", "minute", Some(15)),
         (b"2  Jan 21 03 : 04 : 05  EST", "second", Some(20)),
         (b"2  Jan 21 03 : 04 : 05  EST", "offset hour", Some(24)),
-        // A zone name has no minute, no second stands, and no refusal names the weekday.
+        // A zone name has no minute, the text has no second, and no error names the weekday.
         (b"2 Jan 21 03:04 EST", "offset minute", None),
         (b"2 Jan 21 03:04 EST", "second", None),
         (b"Sat, 2 Jan 21 03:04 EST", "weekday", None),
@@ -296,7 +296,7 @@ mod components {
     static ISO8601: [Mark<'static>; 44] = [
         (b"2021-02-30", "day", Some(8)),
         (b"20210230", "day", Some(6)),
-        // 2021 has 365 days and 52 weeks, of which 2020 has 53.
+        // 2021 has 365 days and 52 weeks, and 2020 has 53 weeks.
         (b"2021-366", "ordinal", Some(5)),
         (b"2021366", "ordinal", Some(4)),
         (b"2021-W53-1", "week", Some(6)),
@@ -337,7 +337,7 @@ mod components {
         (b"-06:07", "offset hour", Some(0)),
         (b"-06:07", "offset minute", Some(4)),
         (b"Z", "offset hour", Some(0)),
-        // No record holds a day 32, so these are a time and its offset, with bytes after them.
+        // 32 is not a day, so these are a time and its offset, with trailing bytes.
         (b"2021-02-32", "minute", Some(2)),
         (b"2021-02-32", "day", None),
         (b"x", "year", None),
@@ -352,7 +352,7 @@ mod components {
         Part(MINUTE),
     ];
 
-    // By that description, as text and as items.
+    // By the description of a date and an optional time, as text and as items.
     static DATE: [Mark<'static>; 10] = [
         (b"2021-02-30", "day", Some(8)),
         (b"2021-02-30 24:00", "day", Some(8)),
@@ -360,7 +360,7 @@ mod components {
         (b"2021-02-30 03:04", "month", Some(5)),
         (b"2021-02-30 03:04", "hour", Some(11)),
         (b"2021-02-30 03:04", "minute", Some(14)),
-        // What is optional reads nothing where its minute doesn't.
+        // The optional part parses nothing if its minute fails.
         (b"2021-02-30 03:60", "hour", None),
         (b"2021-02-30", "hour", None),
         (b"2021-02-30", "week", None),
@@ -381,7 +381,8 @@ mod components {
         (b"53.2021-1", "ordinal", None),
     ];
 
-    // By a month, `-`, a day, `/` and a day. What the defaults give isn't in the text, and of two days the last one counts.
+    // By a month, `-`, a day, `/` and a day. A component of the defaults isn't in the text, and of two days the last
+    // counts.
     static TWO_DAYS: [Mark<'static>; 3] = [
         (b"02-01/30", "year", None),
         (b"02-01/30", "day", Some(6)),
@@ -396,13 +397,13 @@ mod components {
         Part(DAY),
     ];
 
-    // Whether the component of that name begins where the row says in its text, read over the defaults.
+    // Whether the component with that name starts at the row's index in its text, parsed over the defaults.
     fn is_marked<F: Locate>(format: &F, row: &Mark<'_>, defaults: Option<Parsed>) -> bool {
         let (text, name, index) = *row;
         format.locate_component(text, defaults, name) == index
     }
 
-    /// In each row's text the component of that name begins where the row says.
+    /// Asserts that in each row's text the component with that name starts at the row's index.
     pub fn assert_marks<F: Locate>(rt: &impl Abort, format: &F, rows: &[Mark<'_>]) {
         for row in rows {
             assert!(rt; is_marked(format, row, None), "{} {:?}", row.1, row.0);
@@ -441,8 +442,8 @@ mod components {
         }
     }
 
-    // A text with the index at which it goes wrong where no date is made of it: that of its place, or else of the component
-    // that the calendar refuses.
+    // A text, and the index at which it fails if it doesn't make a date: the location of its error, or the start of the
+    // component that the calendar rejects.
     type Fault<'a> = (&'a [u8], Result<(), Option<usize>>);
 
     static RFC3339_DATES: [Fault<'static>; 2] = [
@@ -456,13 +457,13 @@ mod components {
         (b"2021-366", Err(Some(5))),
         (b"2021-W53-1", Err(Some(6))),
         (b"2021-W54-1", Err(Some(6))),
-        // A time has no date, and no component is at fault.
+        // A time has no date, and no component is to blame.
         (b"03:04", Err(None)),
     ];
 
     const WEEK_TEXT: &[u8] = b"[year]-[week_number repr:sunday]-[weekday repr:short]";
 
-    // 1 January 2022 is a Saturday, so from Sundays week 0 of 2022 has that day alone, and no Friday.
+    // 1 January 2022 is a Saturday. With weeks from Sunday, week 0 of 2022 has that day alone, and no Friday.
     static WEEK_DATES: [Fault<'static>; 2] = [
         (b"2022-00-Fri", Err(Some(5))),
         (b"2022-00-Sat", Ok(())),
@@ -486,12 +487,12 @@ mod components {
         assert_dates(&rt, &description_of(&rt, WEEK_TEXT), &WEEK_DATES);
     }
 
-    // The index at which a text goes wrong that was refused.
+    // The index at which a rejected text fails.
     fn index_of<F: Locate>(format: &F, text: &[u8], refusal: Option<Parse>) -> Option<usize> {
         locate_error(format, text, None, refusal?)
     }
 
-    // A leap second at noon, a day that February hasn't, and in UTC the year after the last one.
+    // A leap second at noon, a day that February doesn't have, and the year after the last one in UTC.
     #[test]
     fn errors_of_moments(rt: HostRuntime) {
         for (text, index) in [(b"2021-01-02T12:00:60Z", 17), (b"2021-02-30T00:00:00Z", 8)] {
@@ -504,7 +505,7 @@ mod components {
     }
 }
 
-// Texts that descriptions refuse which were read from a text. Of a literal the first byte is told that isn't there.
+// Texts that parsed descriptions reject. Of a literal the first missing byte is expected.
 mod described {
     use super::super::{Row, assert_located, description_of};
     use time_descriptions::parse_strftime;
@@ -532,13 +533,13 @@ mod described {
     const TIME: &[Row<'static>] = &[
         (b"on 12 o'clock", 0, Literal(b"a")),
         (b"at 24 o'clock", 3, Component("hour")),
-        // The literal ` o'clock` begins at 5, and `k` stands for its `c` at 11.
+        // The literal ` o'clock` starts at 5, and `k` is in place of its `c` at 11.
         (b"at 12 o'clok", 11, Literal(b"c")),
         (b"at 12 o'clo", 11, Literal(b"c")),
         (b"at 12!", 5, Literal(b" ")),
         (b"at 12 o'clock and 60", 18, Component("minute")),
         (b"at 12 o'clock and ", 18, Component("minute")),
-        // The end is expected at 13, and inside the optional ` and ` an `a` at 14.
+        // The end is expected at 13, and an `a` at 14, inside the optional ` and `.
         (b"at 12 o'clock or 30", 14, Literal(b"a")),
         (b"at 12 o'clock an", 16, Literal(b"d")),
         (b"at 12 o'clock!", 13, End),
@@ -568,7 +569,7 @@ mod described {
         (b"2021-W54", 6, Component("week number")),
     ];
 
-    // By the first of `noon` and `nine`: of those missed at one byte the first.
+    // By the first of `noon` and `nine`. Of the failures at one byte the first has precedence.
     const WORDS: &[Row<'static>] = &[
         (b"night", 2, Literal(b"n")),
         (b"no", 2, Literal(b"o")),
@@ -576,7 +577,7 @@ mod described {
         (b"x", 0, Literal(b"n")),
     ];
 
-    // A description, rows of texts that it refuses, and texts that it reads whole.
+    // A description, rows of texts that it rejects, and texts that it parses whole.
     type Case = (
         &'static [u8],
         &'static [Row<'static>],
@@ -584,7 +585,7 @@ mod described {
     );
 
     static DESCRIPTIONS: [Case; 5] = [
-        // All of it is read, though no date is made of it.
+        // The whole text is parsed, though it makes no date.
         (b"[year]-[month]-[day]", DATE, &[b"2021-02-30"]),
         (
             b"at [hour] o'clock[optional [ and [minute]]]",
@@ -640,7 +641,7 @@ mod owned {
         (b"-W32", 2, Component("day")),
     ];
 
-    // In a description of version 3 a skipped byte ends between characters: `\xc3\xa9` is the one of U+00E9.
+    // In a description of version 3 skipped bytes end between characters: `\xc3\xa9` is the single character U+00E9.
     static SKIPPED_TEXT: [Row<'static>; 2] = [
         (b"\xc3\xa9", 0, Component("ignore")),
         (b"ab", 1, End),
@@ -675,7 +676,7 @@ mod owned {
         Ok(OwnedFormatItem::First(items))
     }
 
-    // An hour and then perhaps `h`.
+    // An hour and an optional `h`.
     fn hour_and_letter(alloc: Global) -> Result<OwnedFormatItem, AllocError> {
         let letter = OwnedFormatItem::Literal(b"h".to_vec(alloc)?);
         let letter = Box::new(alloc, letter)?;

@@ -1,4 +1,4 @@
-//! Items that were put together by hand: their steps, and the same answers as by the items themselves.
+//! Items that were built by hand: their steps, and results that are equal to those of the items themselves.
 use super::alike::{is_same, values_of};
 use super::parts::{DAY, HOUR, MINUTE, MONTH, SECOND, SUBSECOND, YEAR};
 use super::read;
@@ -32,7 +32,7 @@ const PLUS: [Item; 1] = [item!("+")];
 
 const FRACTION: [Item; 2] = [item!("."), Component(SUBSECOND)];
 
-// Whether both parse the text alike: the same of all of it, and of its front the same rest and record, or refusal.
+// Whether both parse the text equally: the values of the whole text, and the rest and record of a prefix, or the error.
 fn is_alike<'a>(items: &'a [BorrowedFormatItem<'a>], prepared: &Prepared<64>, text: &[u8]) -> bool {
     let format = Compound(items);
     let mut by_items = Parsed::new();
@@ -44,7 +44,7 @@ fn is_alike<'a>(items: &'a [BorrowedFormatItem<'a>], prepared: &Prepared<64>, te
         && values_of(&format, text) == values_of(prepared, text)
 }
 
-// Whether the items are prepared as these steps, and parse each text alike.
+// Whether the items are prepared as these steps, and parse each text equally.
 fn are_prepared<'a>(items: &'a [BorrowedFormatItem<'a>], steps: &[Step], texts: &[&[u8]]) -> bool {
     let Ok(prepared) = Prepared::<64>::from_items(items) else {
         return false;
@@ -52,7 +52,7 @@ fn are_prepared<'a>(items: &'a [BorrowedFormatItem<'a>], steps: &[Step], texts: 
     prepared.steps() == steps && texts.iter().all(|text| is_alike(items, &prepared, text))
 }
 
-// The items have the steps of the text that describes them, and parse each of the others alike.
+// Asserts that the items have the steps of the description, and parse each of the texts equally.
 fn assert_described<'a>(
     rt: &impl Abort,
     items: &'a [BorrowedFormatItem<'a>],
@@ -66,7 +66,7 @@ fn assert_described<'a>(
     assert!(rt; are_prepared(items, steps, texts), "{text:?}");
 }
 
-// The items, which no text describes, have these steps, and parse each text alike.
+// Asserts that the items, for which there is no description as text, have these steps, and parse each text equally.
 fn assert_steps<'a>(
     rt: &impl Abort,
     items: &'a [BorrowedFormatItem<'a>],
@@ -87,12 +87,12 @@ fn dates(rt: HostRuntime) {
     );
 }
 
-// `:09`, and a fraction that may be missing.
+// `:09`, with an optional fraction.
 fn second_items<'a>(fraction: &'a BorrowedFormatItem<'a>) -> [BorrowedFormatItem<'a>; 3] {
     [item!(":"), Component(SECOND), Optional(fraction)]
 }
 
-// `05:06`, and a second that may be missing.
+// `05:06`, with an optional second.
 fn clock_items<'a>(seconds: &'a BorrowedFormatItem<'a>) -> [BorrowedFormatItem<'a>; 4] {
     [
         Component(HOUR),
@@ -131,7 +131,7 @@ fn before_comma<'a>(items: &'a [BorrowedFormatItem<'a>]) -> [BorrowedFormatItem<
     [First(items), Literal(b", ")]
 }
 
-// What may be missing, and an hour.
+// An optional item, and an hour.
 fn before_hour<'a>(perhaps: &'a BorrowedFormatItem<'a>) -> [BorrowedFormatItem<'a>; 2] {
     [Optional(perhaps), Component(HOUR)]
 }
@@ -165,7 +165,7 @@ fn optional_choices(rt: HostRuntime) {
     );
 }
 
-// Two literals stay two, and the bytes of one are one literal.
+// Two literals stay two, and the bytes of one stay one literal.
 #[test]
 fn literals(rt: HostRuntime) {
     assert_steps(
@@ -208,7 +208,7 @@ fn lists(rt: HostRuntime) {
     );
 }
 
-// The items of a choice need be no lists.
+// The items of a choice needn't be lists.
 #[test]
 fn choices_of_no_lists(rt: HostRuntime) {
     let times = [item!("noon"), Component(HOUR)];
@@ -227,7 +227,7 @@ fn choices_of_no_lists(rt: HostRuntime) {
     );
 }
 
-// A sign, of which a plus may be missing.
+// A sign: an optional plus, or a minus.
 fn sign_items<'a>(plus: &'a BorrowedFormatItem<'a>) -> [BorrowedFormatItem<'a>; 2] {
     [Optional(plus), item!("-")]
 }
@@ -237,7 +237,7 @@ fn choice_before_hour<'a>(items: &'a [BorrowedFormatItem<'a>]) -> [BorrowedForma
     [First(items), Component(HOUR)]
 }
 
-// A choice whose first item may be missing reads nothing else.
+// A choice whose first item is optional parses no other.
 #[test]
 fn optional_in_a_choice(rt: HostRuntime) {
     let plus = Compound(&PLUS);
@@ -256,7 +256,7 @@ fn optional_in_a_choice(rt: HostRuntime) {
     );
 }
 
-// Why the items aren't prepared for four steps, if they aren't.
+// Asserts the error of preparing the items for four steps, if there is one.
 fn assert_reason(rt: &impl Abort, items: &[BorrowedFormatItem<'_>], reason: Option<Unprepared>) {
     assert!(rt;
         Prepared::<4>::from_items(items).err() == reason,
@@ -269,7 +269,7 @@ fn empty_literals(rt: HostRuntime) {
     let reason = Some(Unprepared::EmptyLiteral);
     assert_reason(&rt, &[item!("")], reason);
     assert_reason(&rt, &[Literal(&[])], reason);
-    // The fourth step has room, and then comes the literal.
+    // The fourth step fits, and then the literal is rejected.
     assert_reason(&rt, &[item!("abcd"), item!(""), Component(DAY)], reason);
     let list = [item!("a"), item!(""), item!("bcd")];
     let inner = Compound(&list);
@@ -277,12 +277,12 @@ fn empty_literals(rt: HostRuntime) {
     assert_reason(&rt, &[First(&list)], reason);
 }
 
-// What may be missing, and nothing else.
+// An optional item, and nothing else.
 fn optional_item<'a>(item: &'a BorrowedFormatItem<'a>) -> [BorrowedFormatItem<'a>; 1] {
     [Optional(item)]
 }
 
-// What may be missing, and an empty literal.
+// An optional item, and an empty literal.
 fn before_nothing<'a>(perhaps: &'a BorrowedFormatItem<'a>) -> [BorrowedFormatItem<'a>; 2] {
     [Optional(perhaps), item!("")]
 }
@@ -294,7 +294,7 @@ fn optional_items(rt: HostRuntime) {
     assert_reason(&rt, &[Optional(&nothing)], None);
     assert_reason(&rt, &optional_item(&First(&[])), reason);
     assert_reason(&rt, &optional_item(&Component(DAY)), reason);
-    // The optional item begins before the literal in it.
+    // The optional item starts before the literal in it.
     assert_reason(&rt, &optional_item(&item!("")), reason);
     let day = Component(DAY);
     let inner = optional_item(&day);

@@ -1,11 +1,11 @@
-//! Every public call of the layers of parsing by its name, with its type, so that none of them goes missing.
+//! Every public call of the layers of parsing by its name and type, so that removing one fails to compile.
 mod readers;
 mod records;
 
 use std::fmt::Debug;
 use time_readers::ParsedItem;
 
-// What is copied, compared and printed for a programmer.
+// A type that is copied, compared and printed for debugging.
 trait Plain: Copy + Debug + Eq {}
 
 impl<T: Copy + Debug + Eq> Plain for T {}
@@ -13,7 +13,7 @@ impl<T: Copy + Debug + Eq> Plain for T {}
 // Types that are plain.
 fn are_plain<A: Plain, B: Plain, C: Plain, D: Plain, E: Plain, F: Plain, G: Plain, H: Plain>() {}
 
-// What is copied and printed for a programmer.
+// A type that is copied and printed for debugging.
 trait Copied: Copy + Debug {}
 
 impl<T: Copy + Debug> Copied for T {}
@@ -21,10 +21,10 @@ impl<T: Copy + Debug> Copied for T {}
 // Types that are copied.
 fn are_copied<A: Copied, B: Copied, C: Copied, D: Copied>() {}
 
-// Types that are printed for a programmer.
+// Types that are printed for debugging.
 fn are_printed<A: Debug, B: Debug, C: Debug>() {}
 
-// The value is read, and nothing is left.
+// Whether the value is parsed, and no bytes remain.
 fn is_whole<T: PartialEq + Copy>(found: Option<ParsedItem<'_, T>>, value: T) -> bool {
     match found {
         Some(ParsedItem(rest, found)) => rest.is_empty() && found == value,
@@ -32,7 +32,7 @@ fn is_whole<T: PartialEq + Copy>(found: Option<ParsedItem<'_, T>>, value: T) -> 
     }
 }
 
-// The value is read by each, and nothing is left.
+// Whether each parses the value, and no bytes remain.
 fn are_whole<T: PartialEq + Copy>(all: &[Option<ParsedItem<'_, T>>], value: T) -> bool {
     for found in all {
         let is_whole = match found {
@@ -108,7 +108,7 @@ mod values {
         (year, month, day, ordinal, weekday)
     }
 
-    // The weeks of the three ways to count them.
+    // The weeks by the three ways to number them.
     fn weeks(date: Date) -> (u8, (i32, u8, Weekday), u8, u8) {
         let iso_week: u8 = date.iso_week();
         let week_date: (i32, u8, Weekday) = date.to_iso_week_date();
@@ -187,7 +187,7 @@ mod moments {
     // The nanoseconds of a day.
     const DAY: i128 = 86_400_000_000_000;
 
-    // The date and the time, taken from a date-time.
+    // The date and the time of a date-time that is built from them.
     fn plain(date: Date, time: Time) -> (Date, Time) {
         let plain: PlainDateTime = PlainDateTime::new(date, time);
         let date: Date = plain.date();
@@ -195,7 +195,7 @@ mod moments {
         (date, time)
     }
 
-    // The date and the time, taken from a moment in UTC.
+    // The date and the time of a moment in UTC that is built from them.
     fn utc(date: Date, time: Time) -> (Date, Time) {
         let utc: UtcDateTime = UtcDateTime::new(date, time);
         let date: Date = utc.date();
@@ -203,7 +203,7 @@ mod moments {
         (date, time)
     }
 
-    // The date, the time and the offset, taken from a moment.
+    // The date, the time and the offset of a moment that is built from them.
     fn moment(date: Date, time: Time, offset: UtcOffset) -> (Date, Time, UtcOffset) {
         let moment: OffsetDateTime = OffsetDateTime::new_in_offset(date, time, offset);
         let date: Date = moment.date();
@@ -220,7 +220,7 @@ mod moments {
         assert!(rt; moment(Date::MIN, time, UtcOffset::UTC) == (Date::MIN, time, UtcOffset::UTC));
     }
 
-    // The nanoseconds of a moment in UTC, of its timestamp too, and whether it may stand for a leap second.
+    // The nanoseconds of a moment in UTC, those of its timestamp, and whether it may be a leap second.
     fn utc_nanos(utc: UtcDateTime) -> (i128, i128, bool) {
         let nanos: i128 = utc.unix_timestamp_nanos();
         let timestamp: Timestamp = Timestamp::from(utc);
@@ -240,7 +240,7 @@ mod moments {
         assert!(rt; timestamp == Ok(Timestamp::from(utc)));
     }
 
-    // The nanoseconds of a moment, the moment in UTC, and whether it may stand for a leap second.
+    // The nanoseconds of a moment, the moment in UTC, and whether it may be a leap second.
     fn offset_nanos(moment: OffsetDateTime) -> (i128, Option<UtcDateTime>, bool) {
         let nanos: i128 = moment.unix_timestamp_nanos();
         let utc: Option<UtcDateTime> = moment.checked_to_utc();
@@ -259,12 +259,12 @@ mod moments {
         assert!(rt; later.is_ok());
     }
 
-    // What a record may be converted to.
+    // A type that a record converts to.
     trait Value: TryFrom<Parsed, Error = TryFromParsed> {}
 
     impl<T: TryFrom<Parsed, Error = TryFromParsed>> Value for T {}
 
-    // Types that a record may be converted to.
+    // Types that a record converts to.
     fn are_values<A: Value, B: Value, C: Value, D: Value, E: Value, F: Value, G: Value>() {}
 
     #[test]
@@ -283,7 +283,7 @@ mod moments {
     }
 }
 
-// Errors, what they print, and how one is made of another.
+// Errors, their texts, and the conversions between them.
 mod errors {
     use super::{are_plain, are_printed};
     use std::alloc::Global;
@@ -326,7 +326,7 @@ mod errors {
         assert!(rt; LITERAL != TRAILING);
     }
 
-    // What an error of any type prints.
+    // Whether this is the error's text.
     fn prints<E: std::error::Error>(alloc: Global, e: &E, wanted: &str) -> bool {
         match e.to_string(alloc) {
             Ok(text) => text.as_str() == wanted,
@@ -427,7 +427,7 @@ mod formats {
         Date, Month, OffsetDateTime, PlainDateTime, Time, Timestamp, UtcDateTime, UtcOffset,
     };
 
-    // The text has all parts of a moment.
+    // Whether the format parses each part of a moment from the text.
     fn has_parts<F: Parsable>(format: &F, text: &[u8]) -> [bool; 4] {
         let date: Result<Date, Parse> = format.parse_date(text, None);
         let time: Result<Time, Parse> = format.parse_time(text, None);
@@ -436,7 +436,7 @@ mod formats {
         [date.is_ok(), time.is_ok(), offset.is_ok(), plain.is_ok()]
     }
 
-    // The text is a moment.
+    // Whether the format parses each type of moment from the text.
     fn is_moment<F: Parsable>(format: &F, text: &[u8]) -> [bool; 3] {
         let utc: Result<UtcDateTime, Parse> = format.parse_utc_date_time(text, None);
         let moment: Result<OffsetDateTime, Parse> = format.parse_offset_date_time(text, None);
@@ -444,7 +444,7 @@ mod formats {
         [utc.is_ok(), moment.is_ok(), timestamp.is_ok()]
     }
 
-    // The text is read into a record.
+    // Whether the text is parsed into a record.
     fn is_read<F: Parsable>(format: &F, text: &[u8], parsed: &mut Parsed) -> [bool; 2] {
         let rest: Result<&[u8], Parse> = format.parse_into(text, parsed);
         let record: Result<Parsed, Parse> = format.parse_internal(text, None);
@@ -516,7 +516,7 @@ mod formats {
         ]
     }
 
-    // The item reads the empty text.
+    // Whether the item parses the empty text.
     fn reads_nothing<I: AnyFormatItem>(item: &I) -> bool {
         Parsed::new().parse_item(b"", item).is_ok()
     }
@@ -545,7 +545,7 @@ mod formats {
         ]
     }
 
-    // Those that own them.
+    // The variants of version 3 that own their parts.
     fn v3_owned<'a>(
         text: String,
         items: Vec<FormatDescriptionV3Inner<'a>>,

@@ -1,4 +1,4 @@
-//! What values tell of themselves: their parts, their orders, and what lies before and after them.
+//! Methods of values: their parts, their orders, and the values before and after them.
 
 // Parts of values.
 mod parts {
@@ -17,7 +17,7 @@ mod parts {
     // Its time.
     const TIME: (u8, u8, u8, u32) = (23, 20, 50, 520_000_000);
 
-    // The value has that date and time.
+    // Whether the value has that date and time.
     macro_rules! has_parts {
         ($value:ident) => {
             ($value.to_calendar_date(), $value.to_ordinal_date()) == (DATE, (1985, 102))
@@ -39,13 +39,13 @@ mod parts {
         has_parts!(value) && (value.as_hms_nano(), value.as_hms()) == (TIME, (23, 20, 50))
     }
 
-    // The moment in 1985 has its parts, without its offset and in UTC too.
+    // Whether the moment in 1985 has its parts, without its offset and in UTC too.
     fn moments_have_parts() -> Result<bool, ComponentRange> {
         let value = moment(IN_1985)?;
         Ok(has_parts(value) && has_parts_plain(plain(value)) && has_parts_in_utc(in_utc(value)))
     }
 
-    // A time has them down to each unit.
+    // Whether a time has its parts down to each unit.
     fn time_has_parts() -> Result<bool, ComponentRange> {
         let time = Time::from_hms_nano(1, 2, 3, 123_456_789)?;
         Ok(
@@ -80,7 +80,7 @@ mod parts {
         ),
     ];
 
-    // The seconds since 1970 of the moment, and by its date and time in UTC.
+    // The seconds since 1970 of the moment, and of its date and time taken as UTC.
     fn seconds_of(numbers: Numbers) -> Option<(i64, i64)> {
         let value = moment(numbers).ok()?;
         Some((
@@ -179,7 +179,7 @@ mod parts {
         (ParseFromDescription::UnexpectedTrailingCharacters, None),
     ];
 
-    // The getters of the refusal of an hour tell its component.
+    // Whether the error of an hour names its component.
     fn hour_is_named() -> bool {
         match Time::from_hms_nano(24, 0, 0, 0) {
             Ok(_) => false,
@@ -203,7 +203,7 @@ mod orders {
     use time_values::error::ComponentRange;
     use time_values::{Date, Month, PlainDateTime, Time, Timestamp, UtcDateTime, UtcOffset};
 
-    // The days around the begin of the year 0, times, and moments of these.
+    // Whether the days around the start of the year 0, times, and moments of these are in order.
     fn dates_and_times_rise() -> Result<bool, ComponentRange> {
         let early = Date::from_calendar_date(-1, Month::December, 31)?;
         let late = Date::from_calendar_date(0, Month::January, 1)?;
@@ -248,7 +248,7 @@ mod orders {
         (LAST, FIRST, Ordering::Greater),
     ];
 
-    // The moments differ, and are the same instant only where the order of instants says so.
+    // Whether the moments differ, and are equal instants only if their order is `Equal`.
     fn differ(numbers: Numbers, others: Numbers, order: Ordering) -> Result<bool, ComponentRange> {
         let (value, other) = (moment(numbers)?, moment(others)?);
         Ok(
@@ -266,13 +266,13 @@ mod orders {
     }
 }
 
-// Days and moments before and after others.
+// Earlier and later days and moments.
 mod arithmetic {
     use super::super::{FIRST, IN_1985, IN_1996, LAST, Numbers, in_utc, moment, plain};
     use time_values::error::ComponentRange;
     use time_values::{Date, Duration, Month, OffsetDateTime, PlainDateTime, UtcDateTime};
 
-    // The one day of 2020 is the day before the other one.
+    // Whether the first day of 2020 is the day before the second one.
     fn follow(day: (Month, u8), next: (Month, u8)) -> Result<bool, ComponentRange> {
         let day = Date::from_calendar_date(2020, day.0, day.1)?;
         let next = Date::from_calendar_date(2020, next.0, next.1)?;
@@ -292,7 +292,7 @@ mod arithmetic {
         assert!(rt; [Date::MAX.next_day(), Date::MIN.previous_day()] == [None; 2]);
     }
 
-    // That duration lies between the two moments.
+    // Whether the duration is the distance between the two moments.
     macro_rules! lies_between {
         ($duration:ident, $earlier:ident, $later:ident) => {
             $earlier.checked_add($duration) == Some($later)
@@ -307,7 +307,7 @@ mod arithmetic {
         lies_between!(duration, earlier, later)
     }
 
-    // The same of moments without an offset.
+    // Whether it is the distance between moments without an offset.
     fn lies_between_plain(
         duration: Duration,
         earlier: PlainDateTime,
@@ -316,12 +316,12 @@ mod arithmetic {
         lies_between!(duration, earlier, later)
     }
 
-    // The same of moments in UTC.
+    // Whether it is the distance between moments in UTC.
     fn lies_between_in_utc(duration: Duration, earlier: UtcDateTime, later: UtcDateTime) -> bool {
         lies_between!(duration, earlier, later)
     }
 
-    // The duration lies between the moments of these numbers, without an offset and in UTC too.
+    // Whether it is the distance between the moments of these numbers, without an offset and in UTC too.
     fn are_apart(
         duration: Duration,
         earlier: Numbers,
@@ -337,8 +337,8 @@ mod arithmetic {
 
     const MIDNIGHT: Numbers = ((1985, Month::April, 13), (0, 0, 0, 0), (0, 0, 0));
 
-    // Moments, and the seconds and nanoseconds from the one to the other: from 1985-04-12T23:20:50.52Z to midnight they are
-    // 39 minutes and 9.48 seconds, and to the next second 0.48 seconds.
+    // Moments, and the seconds and nanoseconds between them: from 1985-04-12T23:20:50.52Z to midnight they are 39
+    // minutes and 9.48 seconds, and to the next second 0.48 seconds.
     static DISTANCES: [(Numbers, Numbers, i64, i32); 2] = [
         (IN_1985, MIDNIGHT, 39 * 60 + 9, 480_000_000),
         (
@@ -358,7 +358,7 @@ mod arithmetic {
         assert!(rt; Duration::nanoseconds(480_000_000) == Duration::new(0, 480_000_000));
     }
 
-    // The whole nanoseconds and seconds of the one moment less the other, and whether these are negative.
+    // The whole nanoseconds and seconds from the second moment to the first, and whether they are negative.
     fn difference(value: Numbers, other: Numbers) -> Result<(i128, i64, bool), ComponentRange> {
         let duration = moment(value)? - moment(other)?;
         Ok((
@@ -389,7 +389,7 @@ mod arithmetic {
         }
     }
 
-    // Nothing is past the first moment and the last one.
+    // Whether additions stop at the first moment and at the last one.
     fn ends_are_kept() -> Result<bool, ComponentRange> {
         let (first, last) = (moment(FIRST)?, moment(LAST)?);
         let short = Duration::nanoseconds(1);
@@ -419,14 +419,14 @@ mod conversions {
     use time_values::error::ComponentRange;
     use time_values::{Month, OffsetDateTime, Timestamp, UtcDateTime, UtcOffset};
 
-    // A minute before the first moment there is no date, and none behind the last one.
+    // Whether there is no date a minute before the first moment, and none after the last one.
     fn has_no_date_past_the_ends() -> Result<bool, ComponentRange> {
         let west = moment(FIRST)?.checked_to_offset(UtcOffset::from_hms(0, -1, 0)?);
         let east = moment(LAST)?.checked_to_offset(UtcOffset::from_hms(0, 1, 0)?);
         Ok(west == None && east == None)
     }
 
-    // RFC 3339, section 5.8: 1996-12-19T16:39:57-08:00 is 1996-12-20T00:39:57Z.
+    // Whether 1996-12-19T16:39:57-08:00 is 1996-12-20T00:39:57Z (RFC 3339, section 5.8).
     fn is_the_same_in_utc() -> Result<bool, ComponentRange> {
         let (value, at_zero) = (moment(IN_1996)?, moment(IN_1996_AT_ZERO)?);
         let utc = in_utc(at_zero);
@@ -439,7 +439,7 @@ mod conversions {
         )
     }
 
-    // The date and time with the offset is the moment.
+    // Whether the moment is built from its date and time and its offset.
     fn is_made_with_its_offset() -> Result<bool, ComponentRange> {
         let (value, (date, time, _)) = (moment(IN_1996)?, IN_1996);
         Ok(
@@ -456,7 +456,7 @@ mod conversions {
         assert!(rt; is_made_with_its_offset() == Ok(true));
     }
 
-    // Seconds since 1970, and the moment of these.
+    // Seconds since 1970, and the moment after them.
     static SECONDS: [(i64, Numbers); 3] = [
         (
             482_196_050,
@@ -469,14 +469,14 @@ mod conversions {
         (-31_619_087_596_800, FIRST),
     ];
 
-    // The moment is after so many seconds, by way of UTC too.
+    // Whether the moment is after this many seconds, by way of UTC too.
     fn is_after(seconds: i64, numbers: Numbers) -> Result<bool, ComponentRange> {
         let value = OffsetDateTime::from_unix_timestamp(seconds)?;
         let utc = UtcDateTime::from_unix_timestamp(seconds)?;
         Ok([value, OffsetDateTime::from(utc)] == [moment(numbers)?; 2])
     }
 
-    // There is no moment after so many seconds.
+    // Whether there is no moment after this many seconds.
     fn is_after_none(seconds: i64) -> bool {
         let refusal = ComponentRange {
             name: "timestamp",
@@ -495,13 +495,13 @@ mod conversions {
         assert!(rt; is_after_none(-31_619_087_596_801));
     }
 
-    // The moment in 1985 is that of its nanoseconds.
+    // Whether the moment in 1985 is that of its nanoseconds.
     fn is_of_a_timestamp() -> Result<bool, ComponentRange> {
         let timestamp = Timestamp::from_nanoseconds(482_196_050_520_000_000)?;
         Ok(OffsetDateTime::from(UtcDateTime::from(timestamp)) == moment(IN_1985)?)
     }
 
-    // It is that of its time on the system's clock, which goes on behind the last moment.
+    // Whether it is that of its time on the system's clock, whose range extends past the last moment.
     fn is_of_the_systems_clock() -> Result<bool, ComponentRange> {
         let time = UNIX_EPOCH + Duration::new(482_196_050, 520_000_000);
         let late = UNIX_EPOCH + Duration::from_secs(31_494_784_780_800);

@@ -1,6 +1,6 @@
 """Calls of the extension's functions, each with its answer, and errors, each with its state, message and detail.
 
-The answers are from the standards and by arithmetic that is shown, and none is the extension's own.
+The answers come from the standards and from the arithmetic in comments, and none from the extension itself.
 """
 TRAILING = "unexpected trailing characters; the end of input was expected"
 LITERAL = "a character literal was not valid"
@@ -11,7 +11,7 @@ NO_YEAR = "the 'year' component has no text in that format"
 LOG = "%d/%b/%Y:%H:%M:%S %z"
 
 ANSWERS = [
-    # RFC 3339's own examples, and each way to say a format
+    # RFC 3339's own examples, and each way to name a format
     ("timestamptz('1985-04-12T23:20:50.52Z')", "1985-04-12 23:20:50.52+00"),
     ("timestamptz('1996-12-19T16:39:57-08:00', 'rfc3339')", "1996-12-20 00:39:57+00"),
     ("timestamptz('Fri, 21 Nov 1997 09:55:06 -0600', 'rfc2822')", "1997-11-21 15:55:06+00"),
@@ -28,14 +28,14 @@ ANSWERS = [
     ("time('03:04:05,25', 'iso8601')", "03:04:05.25"),
     ("time('1:05 PM', '[hour repr:12 padding:none]:[minute] [period]')", "13:05:00"),
     ("time('1985-04-12T23:20:50.52Z')", "23:20:50.52"),
-    # a microsecond is rounded down, also before 2000 and before 1970, and a leap second is the one before it
+    # a microsecond is rounded down, also before 2000 and before 1970, and a leap second is parsed as the one before it
     ("timestamptz('1999-12-31T23:59:59.9999999Z')", "1999-12-31 23:59:59.999999+00"),
     ("timestamptz('2000-01-01T00:00:00.000000999Z')", "2000-01-01 00:00:00+00"),
     ("timestamptz('1969-12-31T23:59:59.999999999Z')", "1969-12-31 23:59:59.999999+00"),
     ("timestamptz('2016-12-31T23:59:60Z')", "2016-12-31 23:59:59.999999+00"),
     ("timestamp('1999-12-31T23:59:59.9999999Z')", "1999-12-31 23:59:59.999999"),
     ("time('23:59:59.9999999', '[hour]:[minute]:[second].[subsecond]')", "23:59:59.999999"),
-    # the year 0 is 1 BC; a timestamp goes from 4714-11-24 BC to 294276, and a date's years on to the library's last
+    # the year 0 is 1 BC; timestamps range from 4714-11-24 BC to 294276, and dates to the library's last year
     ("timestamptz('0000-02-29T00:00:00Z')", "0001-02-29 00:00:00+00 BC"),
     ("timestamptz('-004713-11-24T00:00:00Z', 'iso8601')", "4714-11-24 00:00:00+00 BC"),
     ("timestamptz('-004713-11-23T23:59:00-00:01', 'iso8601')", "4714-11-24 00:00:00+00 BC"),
@@ -104,11 +104,11 @@ ERRORS = [
     ("date(repeat('y', 101))", "22007", YEAR, f'Expected year at index 0 of "{"y" * 100}...".'),
     ("date('2021', '[yaer]')", "22007", "no component has that name", 'At index 1 of the format "[yaer]".'),
     ("date('2021', 'RFC3339')", "22007", LITERAL, "Expected 'R' at index 0 of \"2021\"."),
-    # of a description with a %, brackets are bytes as others
+    # in a description with a %, brackets are literal bytes
     ("time('23:59:59.5', '%H:%M:%S.[subsecond]')", "22007", LITERAL, "Expected '[' at index 9 of \"23:59:59.5\"."),
     ("date('', repeat('x', 65))", "22007", "the description is too long", f'The format is "{"x" * 65}".'),
     ("date('2021', '%Q')", "22007", "no component has that name", 'At index 1 of the format "%Q".'),
-    # 24 is no hour
+    # an hour of 24 is invalid
     ("timestamptz('2021-01-02T24:00:00Z')", "22008", "hour is out of range", 'Expected hour at index 11 of "2021-01-02T24:00:00Z".'),
     ("timestamp('2021-01-02T24:00:00', 'iso8601')", "22007", TRAILING, 'Expected hour at index 11 of "2021-01-02T24:00:00".'),
     ("time('24:00', '[hour]:[minute]')", "22007", "the 'hour' component could not be parsed", 'Expected hour at index 0 of "24:00".'),
@@ -126,7 +126,7 @@ ERRORS = [
     ("unix_ns('x', '[')", "22007", "brackets have no component name", 'At index 0 of the format "[".'),
 ]
 
-# These have no call that answers NULL in their place.
+# These have no counterpart that returns NULL instead.
 ERRORS_ALONE = [
     ("place('x', '[yaer]')", "22007", "no component has that name", 'At index 1 of the format "[yaer]".'),
     ("text('infinity')", "22008", "timestamp out of range", ""),

@@ -1,10 +1,10 @@
-/* The extension's plain C without a server, for the sanitizers: counts at the ends of their ranges, and each function over
- * texts and descriptions that end where their memory does. */
+/* The extension's plain C without a server, for the sanitizers: counts at the ends of their ranges, and each function
+ * over texts and descriptions that end at the end of their memory. */
 #include "writing.h"
 #include <assert.h>
 #include <stdlib.h>
 
-/* A copy in memory of its own, of which the sanitizers see each byte that is read past its end. */
+/* A copy in memory of its own, so that the sanitizers detect each read past its end. */
 static bytes alone(const char *text)
 {
     bytes it = { NULL, strlen(text) };
@@ -45,7 +45,7 @@ static void test_ranges(void)
     assert(!count_of_date(&earliest, &day) && day == 7 && count_of_date(&latest, &day) && day == 2495 * 146097 - 1);
 }
 
-/* Reads and writes by a format, and finds the place of a text that is refused. */
+/* Parses and writes by a format, and locates the error of a rejected text. */
 static void take(const char *format, const char *text)
 {
     static const int64_t counts[] = { FIRST_SECOND * 1000000, END_SECOND * 1000000 - 1, -1, 0, 1 };

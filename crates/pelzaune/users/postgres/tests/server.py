@@ -1,18 +1,18 @@
 """A server of PostgreSQL with the extension, for tests.
 
-It lives in a new folder, with its socket there and no network port, and ends with the `with` that began it, or with the
-process. Its programs are a copy beside which the extension is installed: so the system's own folders stay as they are.
+It runs in a new folder, with its socket there and no network port, and ends with the `with` statement or with the
+process. The extension is installed into a copy of its programs, so the system's own folders are unchanged.
 
     with Server(BUILT) as server:
         server.ask("SELECT 1")
 
-BUILT is the folder in which `make` has built the extension; without one there is none. As a program it runs a command whose
-`make install` and `psql` find the server:
+BUILT is the folder in which `make` has built the extension; without it there is no extension. As a program it runs a
+command whose `make install` and `psql` find the server:
 
     server.py COMMAND..
 
-Needed are initdb, postgres and psql of the PostgreSQL whose
-pg_config is named by PG_CONFIG. Root can't run a server, so it hands it to `postgres` or `nobody`.
+It needs initdb, postgres and psql of the PostgreSQL whose pg_config is named by PG_CONFIG. Root can't run a server, so it
+runs it as `postgres` or `nobody`.
 """
 import atexit
 import ctypes
@@ -27,7 +27,7 @@ import time
 
 PG_CONFIG = os.environ.get("PG_CONFIG", "pg_config")
 DEATH_SIGNAL = 1
-LIMIT = 60  # seconds until a server that is started answers
+LIMIT = 60  # seconds until a started server must respond
 SETTINGS = {
     "listen_addresses": "", "fsync": "off", "synchronous_commit": "off", "autovacuum": "off", "max_wal_size": "4GB",
     "shared_buffers": "256MB", "jit": "off", "timezone": "UTC", "datestyle": "ISO", "max_parallel_workers": "4",
@@ -35,7 +35,7 @@ SETTINGS = {
 
 
 class QueryError(Exception):
-    """What psql tells of a query that failed."""
+    """The error message of psql for a failed query."""
 
 
 def folder_of(name):
@@ -43,7 +43,7 @@ def folder_of(name):
 
 
 def user_of_server():
-    """Whom root hands the server to, or None."""
+    """The user that runs the server for root, or None."""
     if os.geteuid():
         return None
     for name in ("postgres", "nobody"):
@@ -55,7 +55,7 @@ def user_of_server():
 
 
 def end_with_parent():
-    """At once: a fast end would wait for a call that reads a long text."""
+    """Stops it immediately: a fast shutdown would wait for a call that parses a long text."""
     ctypes.CDLL(None).prctl(DEATH_SIGNAL, signal.SIGQUIT)
 
 
@@ -95,7 +95,7 @@ class Server:
         self.end()
 
     def copy(self):
-        """Copies the programs, which look for other files beside themselves."""
+        """Copies the programs, which search for other files relative to themselves."""
         os.makedirs(self.programs)
         for name in ("initdb", "postgres"):
             shutil.copy2(f"{self.bin}/{name}", self.programs)
@@ -167,7 +167,7 @@ class Server:
         return done.stdout.decode().splitlines()
 
     def beside(self, text, database="postgres"):
-        """A psql that runs beside this process."""
+        """A psql that runs in the background."""
         return subprocess.Popen([*self.words("psql", database), "-X", "-q", "-A", "-t", "-c", text], stdout=subprocess.PIPE,
                                 stderr=subprocess.PIPE, text=True)
 

@@ -1,6 +1,6 @@
-"""Prints a table of the milliseconds of a processor that queries over a million rows take by the server's own functions and by
-the extension, the least of some rounds in one process, and how many times as long the former take: as a whole, and without
-what the scan of the texts takes.
+"""Prints a table of the processor milliseconds of queries over a million rows, by the server's own functions and by the
+extension, the least of some rounds in one process, and the ratio of the two: as a whole, and without the scan of the
+texts.
 
     speed.py BUILT
 
@@ -13,7 +13,7 @@ from server import Server
 
 ROWS = 1_000_000
 ROUNDS = 5
-# Of each table, the texts that it has, as to_char writes a time, and two queries of each: by the server and by the extension.
+# Each table's texts, as to_char writes a time, and its pairs of queries: by the server and by the extension.
 TABLES = {
     'YYYY-MM-DD"T"HH24:MI:SS"Z"': [
         ("`a::timestamptz`", "a::timestamptz", "pelzaune_timestamptz(a)"),

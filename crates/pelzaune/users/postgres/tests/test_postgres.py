@@ -17,7 +17,7 @@ from server import QueryError, Server
 BUILT = sys.argv.pop(1)
 PAGE = os.path.join(os.path.dirname(os.path.abspath(__file__)), "../../../README.md")
 ROWS = 1_000_000
-MOST_SECONDS = 10  # until a statement that is cancelled has ended
+MOST_SECONDS = 10  # until a cancelled statement must have ended
 TOLD = """
 CREATE FUNCTION told(query text) RETURNS text LANGUAGE plpgsql AS $$
 DECLARE
@@ -60,12 +60,12 @@ class Postgres(unittest.TestCase):
         cls.server.ask(TOLD + MADE)
 
     def told(self, calls):
-        """What each call answers, or its error."""
+        """The result of each call, or its error."""
         text = "".join(f"SELECT told({quoted(f'pelzaune_{it}')});\n" for it in calls)
         return self.server.ask(text)
 
     def test_page(self):
-        """The questions of the page have their answers beside them."""
+        """The queries of the page have the results beside them."""
         with open(PAGE, encoding="utf-8") as file:
             block = re.search(r"^## PostgreSQL$.*?^```sql\n(.*?)^```$", file.read(), re.MULTILINE | re.DOTALL)[1]
         self.server.ask("CREATE DATABASE page")
@@ -117,7 +117,7 @@ class Postgres(unittest.TestCase):
             SELECT looped()"""), ["2021-01-02 2021-02-01 2021-01-02 "])
 
     def test_memory(self):
-        """A format that is replaced leaves nothing behind."""
+        """A replaced format leaks nothing."""
         used = "SELECT sum(total_bytes) FROM pg_backend_memory_contexts"
         before, _, after = self.server.ask(f"""{used};
             SELECT count(pelzaune_try_date('x', repeat(' ', k % 2) || '[year]' || repeat('x', k % 50))) FROM generate_series(1, 200000) k;
@@ -156,7 +156,7 @@ class Postgres(unittest.TestCase):
         for name in ("LATIN1", "SQL_ASCII"):
             self.server.ask(f"CREATE DATABASE {name} ENCODING '{name}' TEMPLATE template0")
             self.server.ask("CREATE EXTENSION pelzaune", name.lower())
-        # The e with an acute accent is one byte, 0xe9, which the description has, too.
+        # The e with an acute accent is one byte, 0xe9, in the description, too.
         text = "SELECT pelzaune_date('2\xe9' || '1.2021', '[day padding:none]\xe9[month padding:none].[year]')".encode("latin-1")
         for name in ("LATIN1", "SQL_ASCII"):
             done = self.server.psql(text, name.lower(), encoding=name)
@@ -169,7 +169,7 @@ class Postgres(unittest.TestCase):
             done = self.server.psql("SELECT count(*) FROM (SELECT pelzaune_try_time(chr(k), chr(k)) FROM generate_series(1, 255) k) x",
                                     name.lower(), encoding=name)
             self.assertEqual((done.stdout, done.stderr), (b"255\n", b""))
-        # A text that the client can't show is no trouble for the message.
+        # The message of a text that the client can't display is still sent.
         done = self.server.psql(b"SELECT pelzaune_date(convert_from('\\xe9ff', 'SQL_ASCII'))", "sql_ascii", flags=())
         self.assertIn(rb'at index 0 of "\xe9\xff".', done.stderr)
 
@@ -188,7 +188,7 @@ class Postgres(unittest.TestCase):
             self.server.ask(f"SELECT pelzaune_date(repeat('x', {size}))")
 
     def test_compressed(self):
-        """Texts that the server keeps compressed, or beside their table, as text and as format."""
+        """Texts that the server stores compressed, or out of line, as text and as format."""
         self.assertEqual(self.server.ask("""
             CREATE TABLE kept(a text, f text);
             ALTER TABLE kept ALTER f SET STORAGE EXTERNAL;
@@ -199,7 +199,7 @@ class Postgres(unittest.TestCase):
              '2021-01-02 03:04:00+00|(11,ignore,"the \'ignore\' component could not be parsed")'])
 
     def test_cancelled(self):
-        """A statement is cancelled amid a column, and the server goes on."""
+        """A statement is cancelled in the middle of a column, and the server continues."""
         query = "SELECT count(pelzaune_timestamptz(a)) FROM many, generate_series(1, 1000)"
         running = self.server.beside(f"{BY_ONE} {query}")
         asked = "SELECT pid FROM pg_stat_activity WHERE state = 'active' AND query LIKE '%generate_series(1, 1000)'"
@@ -215,7 +215,7 @@ class Postgres(unittest.TestCase):
         self.assertEqual(self.server.ask("SELECT pelzaune_date('2021-01-02T03:04:05Z')"), ["2021-01-02"])
 
     def test_definitions(self):
-        """Each function is immutable, strict and safe beside others, with a cost that isn't the least."""
+        """Each function is immutable, strict and parallel safe, with a cost above the default."""
         self.assertEqual(self.server.ask("""
             SELECT count(*), bool_and(provolatile = 'i' AND proisstrict AND proparallel = 's' AND procost > 1)
             FROM pg_proc WHERE proname LIKE 'pelzaune%'"""), ["12|t"])

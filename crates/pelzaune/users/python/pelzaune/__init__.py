@@ -13,14 +13,14 @@ datetime.date(2021, 1, 2)
 ...     print(error, "|", error.component)
 day is out of range for the other components | day
 
-A format may be a description too, as strftime has it where it has a `%`, and else in brackets:
+A format may be a description too, of strftime if it contains a `%`, and else in brackets:
 
 >>> pelzaune.parse("02/Jan/2021:03:04:05 +0000", "%d/%b/%Y:%H:%M:%S %z")
 datetime.datetime(2021, 1, 2, 3, 4, 5, tzinfo=datetime.timezone.utc)
 >>> pelzaune.parse_time("1:05 PM", "[hour repr:12 padding:none]:[minute] [period]")
 datetime.time(13, 5)
 
-A `Description` is read once, for many texts:
+A `Description` is parsed once, for many texts:
 
 >>> day = pelzaune.Description("[day].[month].[year]")
 >>> [pelzaune.parse_date(text, day).isoformat() for text in ("02.01.2021", "31.12.1999")]
@@ -31,13 +31,13 @@ A `Description` is read once, for many texts:
 ...     print(error, "|", error.index)
 no component has that name | 7
 
-The lines of a file are a column of numbers, of which a line that is refused has `NO_COUNT`:
+The lines of a file become a column of numbers, with `NO_COUNT` for a rejected line:
 
 >>> pelzaune.column(b"1970-01-02T00:00:00Z\\n1970-01-01T00:00:00.000000001Z\\n?\\n")
 array('q', [86400000000000, 1, -9223372036854775808])
 
-So are the texts of a list, of any other iterable, of an array of numpy or of a Series of pandas (for one that pandas gives
-back see `pelzaune.pandas`). One that is refused raises, or, where you say so, is told by a second array:
+So do the texts of a list, of any other iterable, of an array of numpy or of a Series of pandas (for a Series as the result
+see `pelzaune.pandas`). A rejected text raises an error, or, with errors="none", has its index in a second array:
 
 >>> pelzaune.parse_many(["1970-01-02T00:00:00Z", "1970-13-01T00:00:00Z"])
 Traceback (most recent call last):
@@ -51,7 +51,7 @@ A datetime is written too:
 >>> pelzaune.format_datetime(pelzaune.parse("1985-04-12T23:20:50.52-08:30"), pelzaune.RFC2822)
 'Fri, 12 Apr 1985 23:20:50 -0830'
 
-A text is a `str` or `bytes`, and is read as a whole. A call never returns a value for a text that its format refuses.
+A text is a `str` or `bytes`, and is parsed as a whole. A call never returns a value for a text that its format rejects.
 """
 from pelzaune._pelzaune import (
     ISO8601,

@@ -2,7 +2,8 @@
 
     python -m pelzaune [--format FORMAT] [TEXT..]
 
-The format is rfc3339, rfc2822, iso8601 or a description. Without a text it reads lines of standard input. The exit status is 1 where a text was refused.
+The format is rfc3339, rfc2822, iso8601 or a description. Without a text it reads lines of standard input. The exit status
+is 1 if a text was rejected.
 """
 import argparse
 import sys

@@ -4,7 +4,7 @@
 #include "describing.h"
 #include "many.h"
 
-/* Python has the years 1 to 9999, and raises where there is none. */
+/* Python has the years 1 to 9999, and raises an error for any other. */
 static inline int has_year(int32_t year)
 {
     if (year >= 1 && year <= 9999) return 1;
@@ -12,7 +12,7 @@ static inline int has_year(int32_t year)
     return 0;
 }
 
-/* Python's zone of an offset, of less than a day. The last zone of each place of a table is kept. */
+/* Python's zone of an offset of less than a day. A table caches the last zone of each slot. */
 static PyObject *zone_of(int32_t offset)
 {
     static struct { PyObject *zone; int32_t offset; } kept[128];
@@ -43,14 +43,14 @@ static PyObject *datetime_of(const pelzaune_moment *m, PyObject *zone)
     return value;
 }
 
-/* A date and time without an offset has a datetime without a zone. */
+/* A date and time without an offset becomes a datetime without a zone. */
 static PyObject *naive_of(const pelzaune_local *l)
 {
     pelzaune_moment shown = { l->year, l->nanosecond, 0, l->month, l->day, l->hour, l->minute, l->second };
     return datetime_of(&shown, Py_NewRef(Py_None));
 }
 
-/* Whether a text of ISO 8601 has a T, and after it nothing that an offset begins with. */
+/* Whether a text of ISO 8601 has a T, and after it no byte that starts an offset. */
 static inline int has_no_offset(const question *asked)
 {
     if (asked->held || asked->number != PELZAUNE_ISO8601) return 0;
@@ -118,7 +118,7 @@ static PyObject *parse_parts(GIVEN)
     for (int k = 0; k < 3; k++)
         if (each[k] != PELZAUNE_OK && each[k] != PELZAUNE_INSUFFICIENT) return refuse(each[k], &asked);
     PyObject *date = p.date_status ? Py_NewRef(Py_None) : date_of(&p.date);
-    /* After an error that is raised nothing more is asked of Python. */
+    /* After a raised error no more Python code is called. */
     PyObject *time = !date ? NULL : p.time_status ? Py_NewRef(Py_None) : time_of(&p.time);
     PyObject *zone = !time ? NULL : p.offset_status ? Py_NewRef(Py_None) : zone_of(p.offset);
     PyObject *parts = zone ? PyTuple_Pack(3, date, time, zone) : NULL;
@@ -149,7 +149,7 @@ static PyObject *unix_ns(GIVEN)
     return sum;
 }
 
-/* How many seconds a datetime's clock is ahead of UTC. */
+/* The offset of a datetime in seconds ahead of UTC. */
 static int offset_of(PyObject *value, int32_t *offset)
 {
     PyObject *delta = PyObject_CallMethod(value, "utcoffset", NULL);
@@ -222,7 +222,7 @@ static PyMethodDef methods[] = {
 
 static struct PyModuleDef module = { PyModuleDef_HEAD_INIT, "pelzaune._pelzaune", NULL, -1, methods, NULL, NULL, NULL, NULL };
 
-/* Adds an exception that has those attributes, or, where they are NULL, those of its base. */
+/* Adds an exception with these attributes, or, if they are NULL, with those of its base. */
 static PyObject *add_error(PyObject *made, const char *name, PyObject *base, const char *doc, PyObject *attributes)
 {
     char whole[64];

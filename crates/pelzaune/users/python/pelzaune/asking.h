@@ -1,4 +1,4 @@
-/* What a call of the module is asked, and how it raises. */
+/* The arguments of a call of the module, and its errors. */
 #ifndef ASKING_H
 #define ASKING_H
 
@@ -9,7 +9,7 @@
 
 static PyObject *parse_error, *description_error, *format_error; /* the exceptions of the module */
 
-/* Sets an attribute of an error to what it takes over, where both are there. */
+/* Sets an attribute of an error. Takes over both references, where they aren't NULL. */
 static int tell(PyObject *error, const char *name, PyObject *value)
 {
     int failed = !error || !value || PyObject_SetAttrString(error, name, value);
@@ -25,8 +25,7 @@ static PyObject *name_of(uint32_t component)
     return PyUnicode_FromStringAndSize(name, (Py_ssize_t)(strlen(name) - strlen(" is out of range")));
 }
 
-/* Raises an error of that type, with the text, the name of a component and an index or None, both of which the call
- * takes over. */
+/* Raises an error of that type, with the text, the name of a component and an index or None. Takes over both references. */
 static PyObject *raise_at(PyObject *type, const char *text, PyObject *component, PyObject *index)
 {
     PyObject *error = component && index ? PyObject_CallFunction(type, "s", text) : NULL;
@@ -38,32 +37,32 @@ static PyObject *raise_at(PyObject *type, const char *text, PyObject *component,
     return NULL;
 }
 
-/* A description that was read: an object of the class Description. */
+/* A parsed description: an object of the class Description. */
 typedef struct {
     PyObject_HEAD
-    PyObject *text; /* as it was given */
+    PyObject *text; /* as it was passed */
     pelzaune_description held;
 } description;
 
 static PyTypeObject *description_type;
 
-/* The text of a call, and its format: the number of one, or a description. */
+/* The text of a call, and its format: a number, or a description. */
 typedef struct {
     const uint8_t *bytes;
     size_t length;
-    uint32_t number;                  /* of the format, where there is no description */
-    const pelzaune_description *held; /* that of an object, or the next one, or NULL */
+    uint32_t number;                  /* of the format, if there is no description */
+    const pelzaune_description *held; /* that of an object, or `read`, or NULL */
     PyObject *form;                   /* its text */
-    pelzaune_description read;        /* of a text */
+    pelzaune_description read;        /* parsed from a text */
 } question;
 
-/* The same without an index. */
+/* Raises such an error without an index. */
 static PyObject *raise(PyObject *type, const char *text, PyObject *component)
 {
     return raise_at(type, text, component, Py_NewRef(Py_None));
 }
 
-/* The bytes of a `str` or of `bytes`. A `str` is read as UTF-8, which every format refuses where it isn't ASCII. */
+/* The bytes of a `str` or of `bytes`. A `str` is read as UTF-8, which every format rejects unless it is ASCII. */
 static inline const uint8_t *bytes_of(PyObject *text, const char *name, size_t *length)
 {
     Py_ssize_t count = 0;
@@ -80,13 +79,13 @@ static inline const uint8_t *bytes_of(PyObject *text, const char *name, size_t *
     return (const uint8_t *)bytes;
 }
 
-/* The syntax of a description: one with a `%` is of strftime, and any other one is in brackets. */
+/* The syntax of a description: strftime's if it contains a `%`, else brackets. */
 static inline uint32_t syntax_of(const uint8_t *bytes, size_t length)
 {
     return memchr(bytes, '%', length) ? PELZAUNE_STRFTIME : PELZAUNE_BRACKETS_2;
 }
 
-/* The index at which a text goes wrong, or None where there is none. */
+/* The index at which a text fails, or None if it doesn't. */
 static PyObject *index_of(const question *asked)
 {
     pelzaune_place place;
@@ -100,14 +99,14 @@ static PyObject *index_of(const question *asked)
     return PyLong_FromSize_t(place.index);
 }
 
-/* Raises why a text is refused. */
+/* Raises the error of a rejected text. */
 static PyObject *refuse(pelzaune_status status, const question *asked)
 {
     return raise_at(parse_error, pelzaune_text(status), name_of(PELZAUNE_COMPONENT(status)), index_of(asked));
 }
 
-/* Lays arguments by the names of a call's parameters into `values`, where NULL is one that isn't given. The first
- * `required` have to be. */
+/* Stores arguments by the names of a call's parameters in `values`, with NULL for an omitted one. The first `required`
+ * are mandatory. */
 static int arguments(const char *call, const char *const *names, Py_ssize_t required, Py_ssize_t all, PyObject *const *given,
     Py_ssize_t count, PyObject *named, PyObject **values)
 {
@@ -134,7 +133,7 @@ static int arguments(const char *call, const char *const *names, Py_ssize_t requ
     return 1;
 }
 
-/* Reads a description, or raises why a text is none, with the index of its first fault. */
+/* Parses a description, or raises its error, with the index of its first fault. */
 static inline int describe(PyObject *text, pelzaune_description *out)
 {
     size_t length, index = SIZE_MAX;
@@ -146,7 +145,7 @@ static inline int describe(PyObject *text, pelzaune_description *out)
     return 0;
 }
 
-/* Reads a format: a number, an object of the class Description, or the text of a description. */
+/* Gets a format: a number, an object of the class Description, or the text of a description. */
 static inline int format_of(PyObject *format, question *asked)
 {
     asked->held = NULL;
@@ -167,7 +166,7 @@ static inline int format_of(PyObject *format, question *asked)
     return describe(format, &asked->read);
 }
 
-/* Reads the text and the format of a call. */
+/* Gets the text and the format of a call. */
 static inline int ask(const char *call, PyObject *const *given, Py_ssize_t count, PyObject *named, question *asked)
 {
     static const char *const names[] = { "text", "format" };
@@ -180,7 +179,7 @@ static inline int ask(const char *call, PyObject *const *given, Py_ssize_t count
     return asked->bytes && format_of(values[1], asked);
 }
 
-/* What a call of the library answers, by a format or by a description. */
+/* The result of a call of the library, by a format or by a description. */
 #define ASK(target, asked, out) ((asked).held \
     ? pelzaune_described_##target((asked).held, (asked).bytes, (asked).length, out) \
     : pelzaune_parse_##target((asked).number, (asked).bytes, (asked).length, out))

@@ -4,34 +4,35 @@
 
 #include "asking.h"
 
-/* Texts of a batch: so many that a wait for the interpreter after each one is little, and that they stay in the caches. */
+/* The most texts of a batch: enough that waiting for the interpreter after each batch is cheap, and few enough for the
+ * caches. */
 enum { MOST_TEXTS = 8192 };
 
-/* A batch ends with the text by which it has so many bytes. */
+/* A batch ends with the text that makes it this long. */
 enum { MOST_BYTES = 1 << 18 };
 
-/* A batch of fewer bytes is parsed sooner than the interpreter comes back. */
+/* A shorter batch is parsed before the interpreter could be reacquired. */
 enum { FEW_BYTES = 4096 };
 
-/* Some texts that were gathered: copies, with LF after each one but those that are missing. A str that has no UTF-8 has no
- * bytes, which say no instant by any format. */
+/* Gathered texts: copies, with LF after each one but those that are missing. A str without UTF-8 has no bytes, and an
+ * empty text is rejected by any format. */
 typedef struct {
     uint8_t *column;
     size_t length, room;
-    size_t count, missing;         /* of the texts, and of those that are missing */
-    size_t places[MOST_TEXTS + 1]; /* where each text begins, and what comes after it: the same where it is missing */
+    size_t count, missing;         /* the number of texts, and of missing ones */
+    size_t places[MOST_TEXTS + 1]; /* where each text starts, and the end: equal to the next where the text is missing */
 } batch;
 
-/* What was found where a text was to be taken. */
+/* The result of taking a text. */
 enum { ERROR = -1, NO_TEXT, TEXT, LAST_TEXT /* of its batch */ };
 
-/* Whether there is room for one more text in a batch. */
+/* Whether one more text fits a batch. */
 static int has_room(const batch *these)
 {
     return these->count < MOST_TEXTS && these->length < MOST_BYTES;
 }
 
-/* Makes room for a text of that length, and answers where it begins; or NULL with an error. */
+/* Makes room for a text of that length, and returns its start, or NULL with an error. */
 static uint8_t *make_place(batch *into, size_t length)
 {
     if (length >= into->room - into->length) {
@@ -47,7 +48,7 @@ static uint8_t *make_place(batch *into, size_t length)
     return into->column + into->length;
 }
 
-/* Ends a text that has so many bytes at its place. */
+/* Ends a text of this length at its start. */
 static int end_text(batch *into, size_t length)
 {
     into->length += length;
@@ -56,7 +57,7 @@ static int end_text(batch *into, size_t length)
     return TEXT;
 }
 
-/* Puts a text after the others of a batch. */
+/* Appends a text to a batch. */
 static int add_text(batch *into, const uint8_t *bytes, size_t length)
 {
     uint8_t *place = make_place(into, length);
@@ -65,7 +66,7 @@ static int add_text(batch *into, const uint8_t *bytes, size_t length)
     return end_text(into, length);
 }
 
-/* The same with one that is missing. */
+/* Appends a missing text. */
 static int add_missing(batch *into)
 {
     into->places[++into->count] = into->length;

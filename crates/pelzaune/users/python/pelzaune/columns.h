@@ -6,22 +6,22 @@
 
 static PyObject *array_of_q; /* array('q', [0]) */
 
-/* The lines of a column: a buffer that is held, or bytes that a call may read while the interpreter runs on. */
+/* The lines of a column: a buffer that is exported to us, or bytes that a call may read without the interpreter's lock. */
 typedef struct {
     Py_buffer held;
     int is_held;
-    uint8_t *copy; /* of a buffer that others may change meanwhile */
+    uint8_t *copy; /* of a buffer that other threads may change meanwhile */
     question asked;
 } lines;
 
-/* Lets the lines go. */
+/* Releases the lines. */
 static void release(lines *these)
 {
     if (these->is_held) PyBuffer_Release(&these->held);
     PyMem_RawFree(these->copy);
 }
 
-/* Takes the lines of a `str` or of a contiguous buffer, and the format. */
+/* Gets the lines of a `str` or of a contiguous buffer, and the format. */
 static int take_lines(PyObject *text, PyObject *format, lines *these)
 {
     these->is_held = 0;
@@ -47,7 +47,7 @@ static int take_lines(PyObject *text, PyObject *format, lines *these)
     return 1;
 }
 
-/* Parses the lines, as many as there are entries, and answers how many there are. The interpreter runs on meanwhile. */
+/* Parses as many lines as there are entries, and returns how many lines there are, without the interpreter's lock. */
 static size_t read_lines(const question *asked, int64_t *entries, size_t capacity, size_t *refused)
 {
     size_t all;
@@ -59,7 +59,7 @@ static size_t read_lines(const question *asked, int64_t *entries, size_t capacit
     return all;
 }
 
-/* A format that there isn't is raised before any line is parsed. */
+/* An unknown format is raised before any line is parsed. */
 static int is_format(const question *asked)
 {
     if (asked->held || (asked->number >= PELZAUNE_RFC3339 && asked->number <= PELZAUNE_ISO8601)) return 1;
@@ -67,7 +67,7 @@ static int is_format(const question *asked)
     return 0;
 }
 
-/* An array('q') of so many numbers, whose buffer is held. */
+/* An array('q') of this many numbers, whose buffer is exported. */
 static PyObject *make_array(size_t count, Py_buffer *entries)
 {
     PyObject *made = PySequence_Repeat(array_of_q, (Py_ssize_t)count);
@@ -93,7 +93,7 @@ static PyObject *column(GIVEN)
     return made;
 }
 
-/* Whether a buffer has signed numbers of 64 bits, as this processor has them. */
+/* Whether a buffer has signed numbers of 64 bits in this processor's byte order. */
 static int is_of_numbers(const Py_buffer *entries)
 {
     const char *format = entries->format ? entries->format : "B";

@@ -1,4 +1,4 @@
-/* The class Description: a description that is read once, for many texts. */
+/* The class Description: a description that is parsed once, for many texts. */
 #ifndef DESCRIBING_H
 #define DESCRIBING_H
 
@@ -31,7 +31,7 @@ static PyObject *description_repr(PyObject *self)
     return PyUnicode_FromFormat("pelzaune.Description(%R)", ((description *)self)->text);
 }
 
-/* Two are equal where they were read of the same text. */
+/* Two are equal if they were parsed from equal texts. */
 static PyObject *description_compare(PyObject *self, PyObject *other, int which)
 {
     if ((which != Py_EQ && which != Py_NE) || !Py_IS_TYPE(other, description_type)) Py_RETURN_NOTIMPLEMENTED;

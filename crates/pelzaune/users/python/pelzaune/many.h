@@ -5,9 +5,9 @@
 #include "columns.h"
 #include "texts.h"
 
-/* Numbers in an array('q'), whose buffer is held so that nobody makes it longer or shorter. */
+/* Numbers in an array('q'), whose buffer is exported, so that it can't be resized. */
 typedef struct {
-    PyObject *array; /* NULL before there is room */
+    PyObject *array; /* NULL before the first allocation */
     Py_buffer held;
     size_t count;
 } numbers;
@@ -17,13 +17,13 @@ static size_t room_of(const numbers *these)
     return these->array ? (size_t)these->held.len / sizeof(int64_t) : 0;
 }
 
-/* Where the next numbers go. */
+/* Where the next numbers are stored. */
 static int64_t *end_of(const numbers *these)
 {
     return (int64_t *)these->held.buf + these->count;
 }
 
-/* Lets the numbers go. */
+/* Releases the numbers. */
 static void drop(numbers *these)
 {
     if (these->array) PyBuffer_Release(&these->held);
@@ -42,7 +42,7 @@ static int make_room(numbers *these, size_t more)
     return 1;
 }
 
-/* The array of the numbers, without what there is room for after them. */
+/* The array of the numbers, without the unused room after them. */
 static PyObject *array_of(numbers *these)
 {
     size_t room = room_of(these);
@@ -59,7 +59,7 @@ static int is_none(const batch *these, size_t index)
     return these->places[index] == these->places[index + 1];
 }
 
-/* Asks a text of a batch. */
+/* The call for a text of a batch. */
 static pelzaune_status ask_text(const batch *these, size_t index, question *asked, int64_t *entry)
 {
     asked->bytes = these->column + these->places[index];
@@ -67,7 +67,7 @@ static pelzaune_status ask_text(const batch *these, size_t index, question *aske
     return ASK(nanoseconds, *asked, entry);
 }
 
-/* Parses the texts of a batch one by one, and answers how many are refused. */
+/* Parses the texts of a batch one by one, and returns how many are rejected. */
 static size_t parse_each(const batch *these, question *asked, int64_t *entries)
 {
     size_t refused = 0;
@@ -80,7 +80,7 @@ static size_t parse_each(const batch *these, question *asked, int64_t *entries)
     return refused;
 }
 
-/* Moves the numbers of the texts that are there behind those that are missing before them. */
+/* Spreads the numbers of the present texts over the entries, past those of the missing texts before them. */
 static void spread(const batch *these, int64_t *entries)
 {
     size_t to = these->count, from = to - these->missing;
@@ -90,8 +90,8 @@ static void spread(const batch *these, int64_t *entries)
     }
 }
 
-/* Parses the texts of a batch by a format, as the lines of a column, and answers how many are refused. There are more lines
- * than texts where one of these has LF within: then each is parsed by itself. */
+/* Parses the texts of a batch by a format, as the lines of a column, and returns how many are rejected. There are more
+ * lines than texts if a text contains LF: then each is parsed by itself. */
 static size_t parse_column(const batch *these, question *asked, int64_t *entries)
 {
     size_t refused, there = these->count - these->missing;
@@ -101,7 +101,7 @@ static size_t parse_column(const batch *these, question *asked, int64_t *entries
     return refused;
 }
 
-/* Parses the texts of a batch, and answers how many are refused. The interpreter runs on meanwhile. */
+/* Parses the texts of a batch without the interpreter's lock, and returns how many are rejected. */
 static size_t parse_batch(const batch *these, question *asked, int64_t *entries)
 {
     PyThreadState *others = these->length < FEW_BYTES ? NULL : PyEval_SaveThread();
@@ -110,7 +110,7 @@ static size_t parse_batch(const batch *these, question *asked, int64_t *entries)
     return refused;
 }
 
-/* How many entries have the number of a text that is refused, which is that of one instant too. */
+/* How many entries have the number of a rejected text, which is also that of one instant. */
 static size_t without_count(const int64_t *entries, size_t count)
 {
     size_t found = 0;
@@ -118,7 +118,7 @@ static size_t without_count(const int64_t *entries, size_t count)
     return found;
 }
 
-/* Raises why a text is refused, with its index. */
+/* Raises the error of a rejected text, with its index. */
 static void refuse_text(pelzaune_status status, question *asked, size_t index)
 {
     char said[128];
@@ -127,8 +127,8 @@ static void refuse_text(pelzaune_status status, question *asked, size_t index)
     tell_text(index);
 }
 
-/* Puts the indices of a batch's refused texts after those of the others, or raises why the first is refused. These are
- * among the texts that have their number, and may be all of them. */
+/* Appends the indices of a batch's rejected texts to the others, or raises the error of the first. They are among the
+ * texts with the number of a rejected one, and may be all of them. */
 static int tell_refused(const source *from, const batch *these, question *asked, int are_all, const numbers *entries,
     numbers *refused)
 {
@@ -148,7 +148,7 @@ static int tell_refused(const source *from, const batch *these, question *asked,
     return 1;
 }
 
-/* Puts the numbers of a batch after the entries. Where texts may be missing, one with their number is refused. */
+/* Appends the numbers of a batch to the entries. If texts may be missing, one that parses as their number is rejected. */
 static int read_batch(const source *from, const batch *these, question *asked, numbers *entries, numbers *refused)
 {
     if (!make_room(entries, these->count)) return 0;
@@ -161,7 +161,7 @@ static int read_batch(const source *from, const batch *these, question *asked, n
     return 1;
 }
 
-/* Reads all texts. An error is that of the first text that has one. */
+/* Parses all texts. An error is that of the first text with one. */
 static int read_texts(source *from, question *asked, batch *these, numbers *entries, numbers *refused)
 {
     PyObject *type, *error, *trace;
@@ -181,7 +181,7 @@ static int read_texts(source *from, question *asked, batch *these, numbers *entr
     return found == NO_TEXT;
 }
 
-/* The numbers of all texts, and where a text may be refused the indices of those that are. */
+/* The numbers of all texts, and, if texts may be rejected, the indices of the rejected ones. */
 static PyObject *numbers_of(source *from, question *asked)
 {
     numbers entries = { .count = 0 }, refused = { .count = 0 };
@@ -203,7 +203,7 @@ static PyObject *numbers_of(source *from, question *asked)
     return answer;
 }
 
-/* Reads whether a text may be refused. */
+/* Gets whether a text may be rejected. */
 static int errors_of(PyObject *errors, int *refuses)
 {
     *refuses = errors && PyUnicode_Check(errors) && PyUnicode_CompareWithASCIIString(errors, "none") == 0;
@@ -212,7 +212,7 @@ static int errors_of(PyObject *errors, int *refuses)
     return 0;
 }
 
-/* What a call with those texts, format, errors and missing texts answers. */
+/* The result of a call with those texts, format, errors and missing texts. */
 static PyObject *answer_many(PyObject *const *values)
 {
     source from = { .missing = values[3] };
@@ -232,8 +232,8 @@ static PyObject *parse_many(GIVEN)
     return arguments("parse_many", names, 1, 3, given, count, named, values) ? answer_many(values) : NULL;
 }
 
-/* For pelzaune.pandas: the same with a tuple of the objects that stand for a missing text, which has NO_COUNT, as NaN has.
- * So no text has that number. */
+/* For pelzaune.pandas: as parse_many, with a tuple of the objects that represent a missing text, as NaN does. Its entry
+ * is NO_COUNT, so that no other text may have that number. */
 static PyObject *_parse_present(GIVEN)
 {
     static const char *const names[] = { "texts", "format", "errors", "missing" };

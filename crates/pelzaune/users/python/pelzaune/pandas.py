@@ -28,12 +28,12 @@ IN_UTC = pandas.DatetimeTZDtype("ns", "UTC")
 def to_datetime(series, format=RFC3339, errors="raise"):
     """The times of the texts of a Series, as a Series of datetime64[ns, UTC] with the same index and name.
 
-    The texts are str or bytes, in any dtype that holds these: object, string or category. The format is RFC3339, RFC2822,
-    ISO8601, a Description or the text of one, and a text needs an offset, or what else says an instant.
+    The texts are str or bytes, in any dtype of these: object, string or category. The format is RFC3339, RFC2822,
+    ISO8601, a Description or the text of one. A text needs an offset, or another component that determines the instant.
 
-    A missing value (None, NaN, NaT or pandas.NA) has NaT. A text that is refused raises ParseError, whose `text_index` is
-    its place in the Series, counted from 0; with errors="none" it has NaT. So is one whose instant datetime64[ns] can't
-    hold. Anything else in the Series raises TypeError.
+    A missing value (None, NaN, NaT or pandas.NA) becomes NaT. A rejected text raises ParseError, whose `text_index` is
+    its index in the Series, from 0; with errors="none" it becomes NaT. A text whose instant datetime64[ns] can't
+    represent is rejected, too. Anything else in the Series raises TypeError.
     """
     if not isinstance(series, pandas.Series):
         raise TypeError(f"series must be a pandas Series, not {type(series).__name__}")

@@ -1,31 +1,31 @@
-/* Gathers texts of Python a batch at a time, so that they can be read while other threads run. */
+/* Gathers texts of Python a batch at a time, so that they can be parsed without the interpreter's lock. */
 #ifndef TEXTS_H
 #define TEXTS_H
 
 #include <math.h>
 #include "batches.h"
 
-/* So many texts ahead one is fetched into the caches while another is copied. */
+/* A text is prefetched this many texts before it is copied. */
 enum { AHEAD = 32 };
 
-/* Where texts come from: an iterator, or a list, a tuple or an array of numpy, whose elements are of fixed length or
+/* The source of texts: an iterator, or a list, a tuple or an array of numpy, whose elements have a fixed length or are
  * objects. */
 typedef struct {
     PyObject *iterator;
     PyObject *elements; /* the list, tuple or array; or NULL */
-    Py_buffer held;     /* of the elements, while a batch is gathered */
-    Py_ssize_t extent;  /* of a list or a tuple */
+    Py_buffer held;     /* the elements' buffer, while a batch is gathered */
+    Py_ssize_t extent;  /* the length of a list or a tuple */
     int kind;           /* of an element: 'S' for bytes, 'U' for characters, 'O' for an object */
-    int is_swapped;     /* whether a character has its bytes in the other order than this processor */
+    int is_swapped;     /* whether a character's bytes are in the opposite of this processor's order */
     uint32_t *wide;     /* the characters of an element */
     size_t width;       /* of an element, in characters, for which there is room */
     size_t index;       /* of the next text */
-    size_t expected;    /* how many elements there were at first */
-    PyObject *missing;  /* a tuple of the objects that stand for a missing text, as NaN does then; or NULL */
-    int refuses;        /* whether a text is refused by an entry, and not by an error */
+    size_t expected;    /* the number of elements at the start */
+    PyObject *missing;  /* a tuple of the objects that represent a missing text, as NaN does then; or NULL */
+    int refuses;        /* whether a rejected text has an entry instead of raising an error */
 } source;
 
-/* Gives the error that is raised the index of a text. */
+/* Adds the index of a text to the raised error. */
 static void tell_text(size_t index)
 {
     PyObject *type, *error, *trace;
@@ -46,7 +46,7 @@ static int widen(source *from, size_t width)
     return from->wide != NULL;
 }
 
-/* Reads the format of an array's elements, as 20w, >20w, 20s or O, and answers whether they may be texts. */
+/* Parses the format of an array's elements, such as 20w, >20w, 20s or O, and returns whether they may be texts. */
 static int is_of_texts(source *from)
 {
     const char *format = from->held.format ? from->held.format : "";
@@ -57,13 +57,13 @@ static int is_of_texts(source *from)
     return *format && strchr("wsO", *format) && !format[1] && from->held.ndim == 1;
 }
 
-/* Whether an object is a list or a tuple, and none of a class that may give its elements another way. */
+/* Whether an object is a list or a tuple, and not of a subclass that may return its elements in another way. */
 static int is_list(PyObject *given)
 {
     return PyList_CheckExact(given) || PyTuple_CheckExact(given);
 }
 
-/* Holds a list or a tuple, as an array of objects is held. */
+/* Holds a list or a tuple, like an array of objects. */
 static int hold_list(source *from)
 {
     static Py_ssize_t step = sizeof(PyObject *);
@@ -73,8 +73,8 @@ static int hold_list(source *from)
     return 1;
 }
 
-/* Holds elements while a batch is gathered, in which nothing of Python runs: so they can be changed only between batches.
- * Answers -1 with an error, and 0 where the elements of an array are no texts. */
+/* Holds elements while a batch is gathered. No Python code runs meanwhile, so they can only be changed between batches.
+ * Returns -1 with an error, and 0 where the elements of an array aren't texts. */
 static int hold(source *from)
 {
     if (is_list(from->elements)) return hold_list(from);
@@ -89,7 +89,7 @@ static int hold(source *from)
     return found;
 }
 
-/* Whether an object is an array of numpy, and none of a class that gives its elements another meaning. */
+/* Whether an object is an array of numpy, and not of a subclass that changes the meaning of its elements. */
 static int is_array(PyObject *given)
 {
     PyObject *name = PyUnicode_FromString("numpy");
@@ -103,7 +103,7 @@ static int is_array(PyObject *given)
     return found;
 }
 
-/* Begins at what was given, of which a Series of pandas and its like tell the array that they have. */
+/* Starts at the argument. A Series of pandas and similar objects are replaced by their array. */
 static int open_source(PyObject *given, source *from)
 {
     if (PyUnicode_Check(given) || PyBytes_Check(given)) {
@@ -130,7 +130,7 @@ static int open_source(PyObject *given, source *from)
     return from->iterator != NULL;
 }
 
-/* Lets go what a source has. */
+/* Releases a source. */
 static void close_source(source *from)
 {
     Py_XDECREF(from->iterator);
@@ -138,7 +138,7 @@ static void close_source(source *from)
     PyMem_Free(from->wide);
 }
 
-/* Whether an object stands for a missing text. */
+/* Whether an object represents a missing text. */
 static int is_missing(const source *from, PyObject *owner)
 {
     if (!from->missing) return 0;
@@ -148,8 +148,8 @@ static int is_missing(const source *from, PyObject *owner)
     return 0;
 }
 
-/* A text without bytes is refused where it is a str that has no UTF-8, as with half of a surrogate pair, and ends its
- * batch, since objects may have been collected while its error was made. Else the error stays, with its index. */
+/* A text without bytes is rejected if it is a str without UTF-8, as with half of a surrogate pair. It ends its batch,
+ * since objects may have been collected while its error was made. Any other error stays raised, with its index. */
 static int without_bytes(const source *from, batch *into)
 {
     if (!from->refuses || !PyErr_ExceptionMatches(PyExc_UnicodeError)) {
@@ -160,7 +160,7 @@ static int without_bytes(const source *from, batch *into)
     return add_text(into, (const uint8_t *)"", 0) == TEXT ? LAST_TEXT : ERROR;
 }
 
-/* Takes an object, which is let go, as a text. */
+/* Takes an object as a text, and releases it. */
 static int take_object(const source *from, PyObject *owner, batch *into)
 {
     int found = ERROR;
@@ -177,7 +177,7 @@ static int take_object(const source *from, PyObject *owner, batch *into)
     return found;
 }
 
-/* Copies bytes without the NULs at their end, which numpy puts there. */
+/* Copies bytes without the NULs at their end, which numpy appends. */
 static int take_bytes(const source *from, const uint8_t *element, batch *into)
 {
     size_t length = (size_t)from->held.itemsize;
@@ -188,7 +188,7 @@ static int take_bytes(const source *from, const uint8_t *element, batch *into)
     return end_text(into, length);
 }
 
-/* Copies the characters of an element, in this processor's order of bytes, and answers all of their bits. */
+/* Copies the characters of an element, in this processor's byte order, and returns the union of their bits. */
 static uint32_t copy_wide(const source *from, const uint8_t *element, size_t count)
 {
     uint32_t bits = 0;
@@ -201,7 +201,7 @@ static uint32_t copy_wide(const source *from, const uint8_t *element, size_t cou
     return bits;
 }
 
-/* Makes a str of characters of which one isn't ASCII. */
+/* Makes a str of characters that aren't all ASCII. */
 static int take_wide(const source *from, size_t count, batch *into)
 {
     for (size_t k = 0; k < count; k++)
@@ -225,7 +225,7 @@ static int take_characters(const source *from, const uint8_t *element, batch *in
     return place ? end_text(into, count) : ERROR;
 }
 
-/* The object that an element is. */
+/* The object of an element. */
 static PyObject *object_at(const uint8_t *element)
 {
     PyObject *owner;
@@ -233,7 +233,7 @@ static PyObject *object_at(const uint8_t *element)
     return owner ? owner : Py_None;
 }
 
-/* Takes the next element of those that are held. */
+/* Takes the next held element. */
 static int next_element(const source *from, batch *into)
 {
     if (from->index >= (size_t)from->held.shape[0]) return NO_TEXT;
@@ -243,14 +243,14 @@ static int next_element(const source *from, batch *into)
     return take_object(from, Py_NewRef(object_at(element)), into);
 }
 
-/* Has a text that is taken soon fetched, of which most are no longer than two lines of a cache. */
+/* Prefetches a text that is taken soon. Most are no longer than two cache lines. */
 static void fetch(const PyObject *owner)
 {
     __builtin_prefetch(owner);
     __builtin_prefetch((const char *)owner + 64);
 }
 
-/* Takes those of the next objects which are str of ASCII, as most are: nothing else is asked of these. */
+/* Takes the next objects as long as they are str of ASCII, as most are, without further checks. */
 static int next_ascii(source *from, batch *into)
 {
     const uint8_t *elements = from->held.buf;
@@ -268,7 +268,7 @@ static int next_ascii(source *from, batch *into)
     return found;
 }
 
-/* Takes what the iterator gives next, as that does. */
+/* Takes the iterator's next text. */
 static int next_object(const source *from, batch *into)
 {
     PyObject *owner = PyIter_Next(from->iterator);
@@ -276,8 +276,8 @@ static int next_object(const source *from, batch *into)
     return PyErr_Occurred() ? ERROR : NO_TEXT;
 }
 
-/* Fills a batch with the next texts: TEXT, or NO_TEXT where there are no more after them, or ERROR with that of the text
- * after them. */
+/* Fills a batch with the next texts. Returns TEXT, or NO_TEXT if no more follow, or ERROR with that of the text after
+ * them. */
 static int gather(source *from, batch *into)
 {
     int found = from->elements ? hold(from) : 1;

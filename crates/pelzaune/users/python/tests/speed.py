@@ -1,5 +1,5 @@
-"""Prints tables of the nanoseconds that calls take, the least of many rounds, beside those of the standard library and, where
-they are there, of ciso8601, udatetime, numpy and pandas (Debian: python3-ciso8601, python3-udatetime, python3-numpy,
+"""Prints tables of the nanoseconds of calls, the least of many rounds, beside those of the standard library and, if
+installed, of ciso8601, udatetime, numpy and pandas (Debian: python3-ciso8601, python3-udatetime, python3-numpy,
 python3-pandas)."""
 import datetime
 import email.utils
@@ -20,7 +20,7 @@ ISO8601 = ("20210102T030405Z", "2020-W53-6T03:04:05Z", "2021-01-02T03:04:05", "2
 RFC2822 = ("Sat, 02 Jan 2021 03:04:05 +0607", "Sat, 02 Jan 2021 03:04:05 GMT")
 DESCRIBED = (("2021-01-02 03:04:05", "%Y-%m-%d %H:%M:%S"), ("02/Jan/2021:03:04:05 -0030", "%d/%b/%Y:%H:%M:%S %z"))
 LINES = 100000
-# Texts as strftime writes them, with hours of their offsets, and the format by which they are read.
+# Texts as strftime writes them, with hours of their offsets, and the format by which they are parsed.
 LOG = "%d/%b/%Y:%H:%M:%S %z"
 LISTS = (("`2021-01-02T03:04:05Z`", "%Y-%m-%dT%H:%M:%SZ", (0,), pelzaune.RFC3339),
          ("`2021-01-02T03:04:05.123456Z`", "%Y-%m-%dT%H:%M:%S.%fZ", (0,), pelzaune.RFC3339),
@@ -29,7 +29,7 @@ LISTS = (("`2021-01-02T03:04:05Z`", "%Y-%m-%dT%H:%M:%SZ", (0,), pelzaune.RFC3339
 
 
 def least(call, *given):
-    """Nanoseconds a call, the loop with them; None where the call refuses."""
+    """Nanoseconds per call, including the loop; None if the call rejects a text."""
     try:
         call(*given)
     except ValueError:
@@ -38,12 +38,12 @@ def least(call, *given):
 
 
 def a_line(call, repeat=12, lines=LINES):
-    """Nanoseconds of processor time a line, of a call that takes all lines."""
+    """Nanoseconds of processor time per line, of a call for all lines."""
     return min(timeit.repeat(call, number=1, repeat=repeat, timer=time.process_time)) / lines * 1e9
 
 
 def in_turn(*calls):
-    """The same of calls that are made in turn, so that each is tried where the machine does little else."""
+    """Those of calls that are made in turn, so that each has a chance to run on an idle machine."""
     return [min(its) / LINES * 1e9 for its in zip(*([timeit.timeit(call, number=1, timer=time.process_time) for call in calls] for _ in range(60)))]
 
 
@@ -96,15 +96,15 @@ def columns():
 
 
 def made(form, hours):
-    """Texts of moments, of which few are the same."""
+    """Texts of moments, few of them equal."""
     r, zones = random.Random(3339), [datetime.timezone(datetime.timedelta(hours=it)) for it in hours]
     return [(datetime.datetime(1970, 1, 1, tzinfo=r.choice(zones)) + datetime.timedelta(microseconds=r.randrange(2**52))).strftime(form)
             for _ in range(LINES)]
 
 
 def of_texts(many, written, form):
-    """A text of a list joined, of `column`, of the list and of a Series; and of a Series by pandas, for the RFC that it knows and
-    by a format; each None where pandas isn't there."""
+    """Per text, of a list joined, of `column`, of the list and of a Series; and of a Series by pandas, for the RFC that it
+    parses and by a format; each None without pandas."""
     lines = "\n".join(many)
     calls = [lambda: "\n".join(many), lambda: pelzaune.column(lines, form), lambda: pelzaune.parse_many(many, form)]
     if not found("pandas", "Series"):

@@ -44,7 +44,7 @@ class Kinds(unittest.TestCase):
                 self.assertEqual(lenient(it[:length]), (COUNTS[:length], [at for at in REFUSED if at < length]))
 
     def test_views(self):
-        """What is answered is seen by numpy without a copy."""
+        """numpy views the result without a copy."""
         counts = pelzaune.parse_many(numpy.array(TEXTS[:1] * 3))
         seen = numpy.frombuffer(counts, "datetime64[ns]")
         self.assertEqual(seen.tolist(), [10**9] * 3)
@@ -111,7 +111,7 @@ class Odd(unittest.TestCase):
         self.assertEqual(lenient(numpy.array([numpy.str_(TEXTS[0]), numpy.bytes_(TEXTS[0].encode())], object))[0], [10**9] * 2)
 
     def test_nuls(self):
-        """Those at the end are no part of an element, as numpy has it."""
+        """Those at the end aren't part of an element, as in numpy."""
         self.assertEqual(lenient(numpy.array([TEXTS[0] + "\0", "\0" + TEXTS[0]]))[0], [10**9, pelzaune.NO_COUNT])
         self.assertEqual(lenient(numpy.array([TEXTS[0].encode() + b"\0\0", TEXTS[0][:-1].encode() + b"\0Z"]))[0], [10**9, pelzaune.NO_COUNT])
         self.assertEqual(lenient(numpy.array([TEXTS[0] + "\0"], object))[0], [pelzaune.NO_COUNT])
@@ -157,7 +157,7 @@ class Changed(unittest.TestCase):
             thread.join()
 
     def test_between_batches(self):
-        """Where a handler of a signal changes the array, the memory that it had is read no more."""
+        """If a signal handler changes the array, its former memory isn't read any more."""
         few = numpy.array(TEXTS[:1] * 3, object)
         changes = (lambda it: it.resize(3, refcheck=False), lambda it: it.__setstate__(few.__reduce__()[2]),
                    lambda it: it.__setstate__((1, (3,), numpy.dtype("U20"), False, "".join(TEXTS[:1] * 3).encode("utf-32-le"))),
@@ -177,7 +177,7 @@ class Changed(unittest.TestCase):
             signal.signal(signal.SIGALRM, before)
 
     def test_by_finalizers(self):
-        """Where the error of a text that is refused is made, objects that are gone may be collected, and change the array."""
+        """Building the error of a rejected text may collect garbage, whose finalizers change the array."""
         class Changing:
             def __del__(self):
                 texts.resize(3, refcheck=False)
@@ -210,7 +210,7 @@ class Held(unittest.TestCase):
             self.assertEqual(memoryview(it[:0].tobytes()).nbytes, 0)
 
     def test_memory(self):
-        """A hundred calls leave nothing, in one of some rounds, as numpy's own caches grow now and then."""
+        """A hundred calls leak nothing, in one of some rounds, since numpy's own caches grow occasionally."""
         tracemalloc.start()
         try:
             for dtype in ("U40", ">U40", object):

@@ -1,4 +1,4 @@
-"""Wrong arguments, odd buffers and odd texts: each is refused by a named error, or answered, and nothing crashes."""
+"""Wrong arguments, odd buffers and odd texts: each raises a named error, or has a result, and nothing crashes."""
 import array
 import ctypes
 import datetime
@@ -127,7 +127,7 @@ class Texts(unittest.TestCase):
 
 
     def test_huge(self):
-        """A text of more than 2**31 bytes, of which the system gives the memory only as it is read."""
+        """A text of more than 2**31 bytes, whose memory the system allocates only as it is read."""
         try:
             text = bytes(2**31 + 1)
         except MemoryError:

@@ -1,4 +1,4 @@
-"""Tests of parse_many over what changes while it is read or tells lies, in threads, and of what is held after it."""
+"""Tests of parse_many over objects that change while they are read or lie about themselves, in threads, and of leaks."""
 import gc
 import itertools
 import random
@@ -13,7 +13,7 @@ from test_many import LOG, MANY, TEXT, alone, made_texts, many
 
 
 class Lying(list):
-    """A list whose methods tell nothing of what it has."""
+    """A list whose methods return nothing about its elements."""
     def __init__(self, texts, answer):
         super().__init__(texts)
         self.answer = answer
@@ -192,7 +192,7 @@ class Held(unittest.TestCase):
             self.assertEqual([sys.getrefcount(it) for it in values], before)
 
     def grown(self, call):
-        """The bytes that are held more after a hundred calls: the least of some rounds, as Python's own caches grow now and then."""
+        """The bytes that a hundred calls leak: the least of some rounds, since Python's own caches grow occasionally."""
         found = []
         for _ in range(4):
             gc.collect()

@@ -1,4 +1,4 @@
-"""Tests of parse_many: every kind of iterable and of text, and refusals."""
+"""Tests of parse_many: every kind of iterable and of text, and errors."""
 import array
 import collections
 import random
@@ -8,24 +8,24 @@ import pelzaune
 
 TEXT = "1970-01-01T00:00:01Z"
 LOG = "%d/%b/%Y:%H:%M:%S %z"
-MANY = 30000  # of which a batch is a part
+MANY = 30000  # more than a batch
 
 
 def many(*given, **named):
-    """The numbers that are answered, and, where it says so, the indices."""
+    """The returned numbers, and, if requested, the indices."""
     answer = pelzaune.parse_many(*given, **named)
     return tuple(it.tolist() for it in answer) if isinstance(answer, tuple) else answer.tolist()
 
 
 def made_texts(count):
-    """Texts of which some are damaged."""
+    """Texts, some of them damaged."""
     r = random.Random(count)
     return [f"20{r.randrange(100):02}-{r.randint(1, 13):02}-{r.randint(1, 31):02}T03:04:05{r.choice(['Z', '.5+05:30', '-08:00'])}"
             for _ in range(count)]
 
 
 def alone(texts, form=pelzaune.RFC3339):
-    """What parse_many answers with errors="none", text by text."""
+    """The result of parse_many with errors="none", text by text."""
     counts, refused = [], []
     for index, text in enumerate(texts):
         try:
@@ -103,7 +103,7 @@ class Refusals(unittest.TestCase):
         self.assertIsNone(caught.exception.text_index)
 
     def test_first_error(self):
-        """The error is that of the first text that has one, and nothing is answered."""
+        """The error is that of the first text with one, and nothing is returned."""
         self.assertEqual(self.refused(["?", 5])[2], 0)
         self.assertEqual(self.refused([TEXT, "?", "\ud800"])[2], 1)
         self.assertRaises(TypeError, pelzaune.parse_many, [5, "?"])
@@ -159,7 +159,7 @@ class Texts(unittest.TestCase):
                          ([10**9, pelzaune.NO_COUNT, 10**9], [1]))
 
     def test_line_ends(self):
-        """A text with LF within is read as a whole, wherever it stands among others."""
+        """A text that contains LF is parsed as a whole, wherever it is among others."""
         for form in (pelzaune.RFC3339, "[unix_timestamp]\n", "[unix_timestamp][optional [\n]]", "[optional [\n]][unix_timestamp][optional [\n2]]"):
             form = form if isinstance(form, int) else pelzaune.Description(form)
             for count in (1, 3, 40, 8192, MANY):

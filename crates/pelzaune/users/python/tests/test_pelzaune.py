@@ -95,7 +95,7 @@ class Values(unittest.TestCase):
         self.assertEqual(pelzaune.parse_parts("23:59 -0030", "%H:%M %z"), (None, datetime.time(23, 59), zone(-30)))
         self.assertEqual(pelzaune.parse_parts("2021-01-02T03:04:05.5Z"), (datetime.date(2021, 1, 2), datetime.time(3, 4, 5, 500000), UTC))
         self.assertRaises(pelzaune.ParseError, pelzaune.parse_parts, "2021-02-30T03:04:05Z")
-        # Neither datetime's date nor its timezone has these.
+        # Neither datetime's date nor its timezone can represent these.
         self.assertRaisesRegex(pelzaune.ParseError, "year", pelzaune.parse_parts, "0000-05-13 +2559", "%Y-%m-%d %z")
 
     def test_zones_are_kept_apart(self):

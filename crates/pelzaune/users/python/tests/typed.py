@@ -1,4 +1,4 @@
-"""Each call with what it takes and gives, for a checker of types."""
+"""Each call with the types of its arguments and its result, for a type checker."""
 import array
 import datetime
 from typing import Optional, Tuple

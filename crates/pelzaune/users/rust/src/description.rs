@@ -3,8 +3,8 @@ use crate::error::{text_of, Kind};
 use crate::ffi;
 use std::fmt;
 
-/// A description of how a text is written, which is read once, for many texts. It has at most 64 steps: a component and
-/// each byte between components is one.
+/// A description of how a text is written. It is parsed once, and then parses many texts. It has at most 64 steps: each
+/// component and each byte between components is one.
 #[derive(Clone, Copy)]
 pub struct Description<'a> {
     pub(crate) held: ffi::Description,
@@ -13,17 +13,17 @@ pub struct Description<'a> {
 }
 
 impl<'a> Description<'a> {
-    /// A description in brackets, version 2, as `[year]-[month]-[day]`.
+    /// Parses a description in brackets, version 2, such as `[year]-[month]-[day]`.
     pub fn brackets<T: AsRef<[u8]> + ?Sized>(text: &'a T) -> Result<Description<'a>, InvalidDescription> {
         Description::read(2, text.as_ref())
     }
 
-    /// A description in brackets, version 1, in which `[[` stands for a bracket.
+    /// Parses a description in brackets, version 1, in which `[[` is a literal bracket.
     pub fn brackets_1<T: AsRef<[u8]> + ?Sized>(text: &'a T) -> Result<Description<'a>, InvalidDescription> {
         Description::read(1, text.as_ref())
     }
 
-    /// A description as strftime has it, as `%Y-%m-%d`.
+    /// Parses a description of strftime, such as `%Y-%m-%d`.
     pub fn strftime<T: AsRef<[u8]> + ?Sized>(text: &'a T) -> Result<Description<'a>, InvalidDescription> {
         Description::read(3, text.as_ref())
     }
@@ -31,7 +31,8 @@ impl<'a> Description<'a> {
     fn read(syntax: u32, text: &'a [u8]) -> Result<Description<'a>, InvalidDescription> {
         let mut index = usize::MAX;
         let mut held = ffi::Description { numbers: [0; 129] };
-        // SAFETY: the pointer and the length are those of a slice, and the description and the index are borrowed alone.
+        // SAFETY: the pointer and the length are those of a slice, and the description and the index are borrowed
+        // exclusively.
         let status = unsafe { ffi::pelzaune_describe(syntax, text.as_ptr(), text.len(), &mut held, &mut index) };
         if status == 0 {
             return Ok(Description { held, syntax, text });
@@ -47,16 +48,16 @@ impl fmt::Debug for Description<'_> {
     }
 }
 
-/// Why a text is no description.
+/// The error of a malformed description.
 #[derive(Clone, Copy, Debug, PartialEq, Eq, Hash)]
 pub struct InvalidDescription {
     status: u32,
-    /// The index of the first fault. A description that is too long has none.
+    /// The index of the first fault, or `None` where the description is too long.
     pub index: Option<usize>,
 }
 
 impl InvalidDescription {
-    /// What is wrong.
+    /// The kind of the fault.
     pub fn kind(self) -> Kind {
         Kind::of(self.status)
     }

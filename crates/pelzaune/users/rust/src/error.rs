@@ -1,25 +1,25 @@
-//! Why a text has no value.
+//! Errors of parses.
 use crate::ffi;
 use std::fmt;
 use std::num::NonZeroU32;
 
-/// What is wrong.
+/// The kind of an error.
 #[derive(Clone, Copy, Debug, PartialEq, Eq, Hash)]
 #[non_exhaustive]
 pub enum Kind {
-    /// A byte that has to stand isn't there.
+    /// A required byte is missing.
     InvalidLiteral,
     /// The component can't be parsed.
     InvalidComponent,
-    /// Bytes are left over.
+    /// Bytes remain after the value.
     Trailing,
-    /// The text says too little for the value.
+    /// The text has too few components for the value.
     Insufficient,
     /// The component is out of its range.
     Range,
-    /// It is out of the range that other components leave.
+    /// The component is out of the range that other components leave.
     RangeOfOthers,
-    /// 64 bits don't count the nanoseconds of the instant.
+    /// The nanoseconds of the instant don't fit 64 bits.
     TooWide,
     /// Of a description: an opening bracket is never closed.
     UnclosedBracket,
@@ -31,13 +31,13 @@ pub enum Kind {
     MissingName,
     /// The component needs a modifier.
     MissingModifier,
-    /// Something else should stand there.
+    /// Something else is expected.
     Expected,
-    /// What no description has.
+    /// A conversion or component that no description supports.
     NotSupported,
     /// The description has too many steps.
     TooLong,
-    /// Of a moment that is written: the format has no text for the component.
+    /// Of a moment that is written: the format can't write the component.
     NoText,
     /// A kind that this crate doesn't know.
     Unknown,
@@ -68,11 +68,11 @@ impl Kind {
     }
 }
 
-/// Why a text has no value. It prints as the library says it.
+/// The error of a parse. It displays as the library's text of its status.
 #[derive(Clone, Copy, PartialEq, Eq, Hash)]
 pub struct Error(NonZeroU32);
 
-// More than the longest text of a status.
+// Longer than any text of a status.
 const ROOM: usize = 128;
 
 impl Error {
@@ -80,18 +80,18 @@ impl Error {
         Error(status)
     }
 
-    /// What is wrong.
+    /// The kind of the error.
     pub fn kind(self) -> Kind {
         Kind::of(self.0.get())
     }
 
-    /// The name of the component that is wrong, if it is one.
+    /// The name of the component that the error is about, if it names one.
     pub fn component(self) -> Option<String> {
         component_of(self.0.get())
     }
 }
 
-// The name of the component of a status, if it has one.
+// The name of a status's component, if it has one.
 pub(crate) fn component_of(status: u32) -> Option<String> {
     let number = status >> 8;
     if number == 0 {
@@ -101,10 +101,10 @@ pub(crate) fn component_of(status: u32) -> Option<String> {
     Some(text.strip_suffix(" is out of range")?.to_string())
 }
 
-// What a status says.
+// The library's text of a status.
 pub(crate) fn text_of(status: u32) -> String {
     let mut text = [0; ROOM];
-    // SAFETY: the pointer and the length are those of the array, which is borrowed alone.
+    // SAFETY: the pointer and the length are those of the array, which is borrowed exclusively.
     let length = unsafe { ffi::pelzaune_write_text(status, text.as_mut_ptr(), text.len()) };
     String::from_utf8_lossy(&text[..length.min(ROOM)]).into_owned()
 }

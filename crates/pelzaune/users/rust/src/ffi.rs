@@ -1,7 +1,7 @@
 //! The functions of `include/pelzaune.h`.
 use crate::{Date, Instant, Local, Moment, Time};
 
-/// What is found of a date, a time and an offset, each with a status of its own.
+/// A date, a time and an offset, each with a status of its own.
 #[repr(C)]
 #[derive(Clone, Copy)]
 pub struct Parts {
@@ -13,7 +13,7 @@ pub struct Parts {
     pub offset_status: u32,
 }
 
-/// Where a text goes wrong.
+/// Where a text fails.
 #[repr(C)]
 #[derive(Clone, Copy)]
 pub struct Place {
@@ -21,7 +21,7 @@ pub struct Place {
     pub byte: u8,
 }
 
-/// A description, in numbers that are the library's own matter.
+/// A parsed description. Its numbers are internal to the library.
 #[repr(C)]
 #[derive(Clone, Copy)]
 pub struct Description {

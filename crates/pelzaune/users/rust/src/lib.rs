@@ -1,7 +1,7 @@
 //! Parses date-time texts by RFC 3339, mail dates of RFC 2822, ISO 8601, and descriptions of your own.
 //!
-//! This crate is a safe layer over the proved static library `libpelzaune.a`. A call reads a whole text, given as
-//! text or as bytes, takes no memory and keeps no state.
+//! This crate is a safe layer over the proved static library `libpelzaune.a`. A call parses a whole text, given as text
+//! or as bytes, allocates nothing and keeps no state.
 //!
 //! ```
 //! use pelzaune::{Format, Moment};
@@ -15,7 +15,7 @@
 //! # Ok::<(), pelzaune::Error>(())
 //! ```
 //!
-//! A description is a format too. It is read when it is made, once for many texts:
+//! A description is a format too. It is parsed once, and then parses many texts:
 //!
 //! ```
 //! use pelzaune::{Date, Description, Format};
@@ -99,7 +99,7 @@ pub struct Time {
     pub second: u8,
 }
 
-/// A date and a time, as a clock shows them.
+/// A date and a time without an offset.
 #[repr(C)]
 #[derive(Clone, Copy, Debug, PartialEq, Eq, Hash)]
 pub struct Local {
@@ -119,7 +119,7 @@ pub struct Local {
     pub second: u8,
 }
 
-/// A date and a time, as a clock shows them, and how far it is ahead of UTC.
+/// A date and a time with an offset from UTC.
 #[repr(C)]
 #[derive(Clone, Copy, Debug, PartialEq, Eq, Hash)]
 pub struct Moment {
@@ -127,7 +127,7 @@ pub struct Moment {
     pub year: i32,
     /// 0 to 999999999.
     pub nanosecond: u32,
-    /// The seconds that the clock is ahead of UTC, -93599 to 93599.
+    /// Seconds ahead of UTC, -93599 to 93599.
     pub offset: i32,
     /// 1 to 12.
     pub month: u8,
@@ -141,7 +141,7 @@ pub struct Moment {
     pub second: u8,
 }
 
-/// An instant, by the time since 1970-01-01T00:00:00Z.
+/// An instant, as the time since 1970-01-01T00:00:00Z.
 #[repr(C)]
 #[derive(Clone, Copy, Debug, PartialEq, Eq, PartialOrd, Ord, Hash)]
 pub struct Instant {
@@ -151,17 +151,17 @@ pub struct Instant {
     pub nanoseconds: u32,
 }
 
-// The value that a call wrote, where its status is 0.
+// The value that a call wrote if it returned status 0.
 pub(crate) fn answer<T>(call: impl FnOnce(*mut T) -> u32) -> Result<T, Error> {
     let mut value = MaybeUninit::uninit();
     match NonZeroU32::new(call(value.as_mut_ptr())) {
-        // SAFETY: a call with the status 0 has written each member of the value.
+        // SAFETY: a call that returns status 0 has written each member of the value.
         None => Ok(unsafe { value.assume_init() }),
         Some(status) => Err(Error::new(status)),
     }
 }
 
-// The call of the library on a text, given as text or as bytes: the first by a format that has a number, the second by a
+// Calls the library on a text, given as text or as bytes: the first function by a format's number, the second by a
 // description.
 macro_rules! parse {
     ($parse:ident, $described:ident, $text:expr, $format:expr) => {{
@@ -171,11 +171,11 @@ macro_rules! parse {
             Format::Rfc2822 => 2,
             Format::Iso8601 => 3,
             Format::Described(Description { held, .. }) => {
-                // SAFETY: the pointer and the length are those of a slice, and nothing else sees the value.
+                // SAFETY: the pointer and the length are those of a slice, and nothing else accesses the value.
                 return answer(|out| unsafe { ffi::$described(held, text.as_ptr(), text.len(), out) });
             }
         };
-        // SAFETY: the pointer and the length are those of a slice, and nothing else sees the value.
+        // SAFETY: the pointer and the length are those of a slice, and nothing else accesses the value.
         answer(|out| unsafe { ffi::$parse(number, text.as_ptr(), text.len(), out) })
     }};
 }
@@ -197,12 +197,12 @@ impl Time {
 }
 
 impl Local {
-    /// The date and time of a whole text, whatever its offset.
+    /// The date and time of a whole text. An offset is parsed and dropped.
     pub fn parse(text: impl AsRef<[u8]>, format: Format<'_>) -> Result<Local, Error> {
         parse!(pelzaune_parse_local, pelzaune_described_local, text, format)
     }
 
-    /// The date and time in UTC of a whole text. One without an offset is taken as in UTC.
+    /// The date and time in UTC of a whole text. A text without an offset is taken as UTC.
     pub fn parse_utc(text: impl AsRef<[u8]>, format: Format<'_>) -> Result<Local, Error> {
         parse!(pelzaune_parse_utc, pelzaune_described_utc, text, format)
     }
@@ -221,7 +221,7 @@ impl Instant {
         parse!(pelzaune_parse_instant, pelzaune_described_instant, text, format)
     }
 
-    /// The same instant of the system's clock, or `None` where that clock has no such instant.
+    /// This instant as a `SystemTime`, or `None` where the system's clock can't represent it.
     pub fn to_system_time(self) -> Option<SystemTime> {
         let whole = Duration::from_secs(self.seconds.unsigned_abs());
         let second = if self.seconds < 0 {
@@ -238,14 +238,14 @@ pub fn parse_offset(text: impl AsRef<[u8]>, format: Format<'_>) -> Result<i32, E
     parse!(pelzaune_parse_offset, pelzaune_described_offset, text, format)
 }
 
-/// The nanoseconds from 1970-01-01T00:00:00Z to the instant of a whole text. [`Kind::TooWide`] says that 64 bits don't
-/// count them.
+/// The nanoseconds from 1970-01-01T00:00:00Z to the instant of a whole text. The error is [`Kind::TooWide`] where they
+/// don't fit 64 bits.
 pub fn parse_nanoseconds(text: impl AsRef<[u8]>, format: Format<'_>) -> Result<i64, Error> {
     parse!(pelzaune_parse_nanoseconds, pelzaune_described_nanoseconds, text, format)
 }
 
 /// The version of the library's interface: 256 times its major number, and its minor number.
 pub fn version() -> u32 {
-    // SAFETY: the call asks nothing.
+    // SAFETY: the call has no precondition.
     unsafe { ffi::pelzaune_version() }
 }

@@ -1,8 +1,8 @@
-//! What a text has of a date, a time and an offset.
+//! The date, the time and the offset of a text.
 use crate::{answer, ffi, parse, Date, Description, Error, Format, Time};
 use std::num::NonZeroU32;
 
-/// What a text has of a date, a time and an offset: each is there, or the error says why it isn't.
+/// The date, the time and the offset of a text, each as a value or as the error with which it is rejected.
 #[derive(Clone, Copy, Debug, PartialEq, Eq)]
 pub struct Parts {
     /// The date.
@@ -13,13 +13,13 @@ pub struct Parts {
     pub offset: Result<i32, Error>,
 }
 
-// A part, where its status is 0.
+// The part, or the error of its status.
 fn part<T>(value: T, status: u32) -> Result<T, Error> {
     NonZeroU32::new(status).map_or(Ok(value), |status| Err(Error::new(status)))
 }
 
 impl Parts {
-    /// The parts of a whole text, which is parsed once. An error says that it isn't parsed as a whole.
+    /// Parses a whole text once into its parts. The error is that of a text that isn't parsed as a whole.
     pub fn parse(text: impl AsRef<[u8]>, format: Format<'_>) -> Result<Parts, Error> {
         let found = Parts::found(text.as_ref(), format)?;
         Ok(Parts {

@@ -1,4 +1,4 @@
-//! The texts of moments.
+//! Moments as text.
 use crate::{ffi, Error, Format, Moment};
 use std::fmt;
 use std::num::NonZeroU32;
@@ -6,7 +6,7 @@ use std::num::NonZeroU32;
 // The longest text of a moment.
 const ROOM: usize = 35;
 
-/// The text of a moment, which takes no memory.
+/// The text of a moment, stored without an allocation.
 #[derive(Clone, Copy, PartialEq, Eq, Hash)]
 pub struct MomentText {
     bytes: [u8; ROOM],
@@ -33,9 +33,11 @@ impl fmt::Debug for MomentText {
 }
 
 impl Moment {
-    /// The text of the moment by a format: by RFC 3339 with as many digits of a fraction as it needs, by RFC 2822 with none,
-    /// and by ISO 8601 with nine. Refused where a member is out of its range, or where the format has no such text
-    /// (`NoText`), as each description is by `Unknown`.
+    /// The text of the moment in a format. RFC 3339 has as many digits of a fraction as it needs, RFC 2822 none, and
+    /// ISO 8601 nine.
+    ///
+    /// The error is that of a member that is out of its range, [`Kind::NoText`](crate::Kind::NoText) where the format
+    /// can't write the moment, or `Unknown` for a description.
     pub fn text(&self, format: Format<'_>) -> Result<MomentText, Error> {
         let number = match format {
             Format::Rfc3339 => 1,
@@ -44,7 +46,7 @@ impl Moment {
             Format::Described(_) => 0,
         };
         let mut text = MomentText { bytes: [0; ROOM], length: 0 };
-        // SAFETY: the pointer and the length are those of the array, which is borrowed alone, as the length is.
+        // SAFETY: the pointer and the length are those of the array, which is borrowed exclusively, as the length is.
         let status = unsafe {
             ffi::pelzaune_format_moment(number, self, text.bytes.as_mut_ptr(), ROOM, &mut text.length)
         };

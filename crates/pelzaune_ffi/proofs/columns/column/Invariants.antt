@@ -1,4 +1,4 @@
--- What was handed over so far is, with what is handed over of the lines that are left, all.
+-- The entries stored so far, with those of the remaining lines, make the whole column.
 use Rattle.std.proofs.Common.{length, ◌-◌, ◌≡◌, ◌+◌, ◌≤◌, take, drop}
 use Rattle.programs_answers.specs.Output.{lines_of}
 use Rattle.pelzaune_ffi.proofs.HeldRows.{Ends}

@@ -1,4 +1,4 @@
--- The lines that were counted and those that are left are all, and no line that was counted had no byte.
+-- The counted and the remaining lines are all lines, and each counted line took at least one byte.
 use Rattle.std.proofs.Common.{◌≡◌, ◌≤◌, length, ◌+◌}
 use Rattle.programs_answers.specs.Output.{lines_of}
 use Rattle.pelzaune_ffi.proofs.cuts.count_lines.Given as goal

@@ -4,9 +4,9 @@ use Rattle.std.proofs.lemmas.List.{take_rest}
 use Rattle.pelzaune_ffi.specs.Status.{laid_over, text_of}
 use Rattle.pelzaune_ffi.proofs.text.+lay.Goals as goal
 
--- ---- Texts that are laid over the front of a buffer
+-- ---- Texts written over the start of a buffer
 
--- a text goes on after its front
+-- writing a text that starts with a piece writes that piece first
 laid_over-append : (text rest buffer : List ℕ) → length text < length buffer
     → text ++ laid_over rest (drop (length text) buffer) ≡ laid_over (text ++ rest) buffer
 laid_over-append [] rest buffer short = refl
@@ -14,7 +14,7 @@ laid_over-append (x ∷ text) rest [] short = grind (arith, short)
 laid_over-append (x ∷ text) rest (y ∷ buffer) short =
     ap (λ xs. x ∷ xs) (laid_over-append text rest buffer (grind (arith, short)))
 
--- pieces go on after the first of them
+-- writing pieces writes the first of them, and then the others
 laid_over-pieces : (pieces : List (Bor (List ℕ))) (none : Bor (List ℕ)) (buffer : List ℕ) → 1 ≤ length pieces
     → length (get_or pieces 0 none).now < length buffer
     → (get_or pieces 0 none).now

@@ -1,4 +1,4 @@
-//! Which held descriptions have texts of one form, by the numbers of their steps.
+//! Recognizes stored descriptions whose texts have one form, by the numbers of their steps.
 ghost use Rattle.std.specs.Prelude.{◌≡◌, ◌≤◌, ◌-◌, [], ◌∷◌, ◌++◌, None, IsTrue, IfSome, length, map};
 ghost use Rattle.time_components.specs.declared.inspect.Step.TheVariants as step_;
 ghost use Rattle.time_preparing.specs.Forms.{byte_parts, dated_parts, offset_parts, time_parts};
@@ -31,7 +31,7 @@ const OFFSET_HOUR: u8 = 33;
 
 const OFFSET_MINUTE: u8 = 34;
 
-/// The form of a description that has so many steps as a date.
+/// The form of a description of this many steps that is a date.
 #[inline(always)]
 pub(super) fn date(steps: &[HeldStep]) -> Option<Whole>
     ensures { IfSome result (λ whole. map Held.step_of steps.now ≡ whole_parts whole) }
@@ -40,7 +40,7 @@ pub(super) fn date(steps: &[HeldStep]) -> Option<Whole>
     Some(Whole::Date(form))
 }
 
-/// The form of a description that has so many steps as a time.
+/// The form of a description of this many steps that is a time.
 #[inline(always)]
 pub(super) fn time(steps: &[HeldStep]) -> Option<Whole>
     ensures { IfSome result (λ whole. map Held.step_of steps.now ≡ whole_parts whole) }
@@ -49,7 +49,7 @@ pub(super) fn time(steps: &[HeldStep]) -> Option<Whole>
     Some(Whole::Time(between))
 }
 
-/// The form of a description that has so many steps as a date, a byte and a time.
+/// The form of a description of this many steps that is a date, a byte and a time.
 #[inline(always)]
 pub(super) fn date_time(steps: &[HeldStep]) -> Option<Whole>
     ensures { IfSome result (λ whole. map Held.step_of steps.now ≡ whole_parts whole) }
@@ -62,7 +62,7 @@ pub(super) fn date_time(steps: &[HeldStep]) -> Option<Whole>
     Some(Whole::Plain(date, between, in_time))
 }
 
-/// The form of a description that has so many steps as a date, a byte, a time and an offset.
+/// The form of a description of this many steps that is a date, a byte, a time and an offset.
 #[inline(always)]
 pub(super) fn moment(steps: &[HeldStep]) -> Option<Whole>
     ensures { IfSome result (λ whole. map Held.step_of steps.now ≡ whole_parts whole) }
@@ -83,7 +83,7 @@ pub(super) fn moment(steps: &[HeldStep]) -> Option<Whole>
     }))
 }
 
-// The form of a date and the byte after it, and the steps behind them.
+// The form of a date and the byte after it, and the steps after them.
 #[inline(always)]
 fn front(steps: &[HeldStep]) -> Option<(Dated, u8, &[HeldStep])>
     requires { 6 ≤ length steps.now }
@@ -142,7 +142,7 @@ fn timed(steps: &[HeldStep]) -> Option<u8>
     Some(between)
 }
 
-// The bytes before an offset and in it.
+// The byte before an offset, and the byte in it.
 #[inline(always)]
 fn offset(steps: &[HeldStep]) -> Option<(Option<u8>, Option<u8>)>
     ensures { IfSome result (λ form. map Held.step_of steps.now ≡ byte_parts form.0 ++ offset_parts form.1) }
@@ -173,7 +173,7 @@ fn signed(steps: &[HeldStep]) -> Option<Option<u8>>
     }
 }
 
-// Whether the steps are the hour of an offset with a sign, and its minute.
+// Whether the steps are the hour of an offset with a mandatory sign, and its minute.
 #[inline(always)]
 fn is_offset(hour: &HeldStep, minute: &HeldStep) -> bool
     ensures { IsTrue result → Held.step_of hour.now ∷ Held.step_of minute.now ∷ [] ≡ offset_parts None }
@@ -181,7 +181,7 @@ fn is_offset(hour: &HeldStep, minute: &HeldStep) -> bool
     is_flagged(hour, OFFSET_HOUR, 1) && is_padded(minute, OFFSET_MINUTE)
 }
 
-// The byte of two steps that are one literal.
+// The byte that both steps have as a literal.
 #[inline(always)]
 fn one_byte(first: &HeldStep, second: &HeldStep) -> Option<u8>
     ensures first { IfSome result (λ byte. Held.step_of first.now ≡ step_.Literal byte) }
@@ -195,7 +195,7 @@ fn one_byte(first: &HeldStep, second: &HeldStep) -> Option<u8>
     Some(byte)
 }
 
-// The byte of a step that is a literal.
+// The byte of a literal step.
 #[inline(always)]
 fn byte_of(step: &HeldStep) -> Option<u8>
     ensures { IfSome result (λ byte. Held.step_of step.now ≡ step_.Literal byte) }
@@ -206,7 +206,7 @@ fn byte_of(step: &HeldStep) -> Option<u8>
     Some(step.choice)
 }
 
-// Whether a step is of this kind, with the number of a padding with zeros, and this flag.
+// Whether a step has this kind, padding with zeros, and this flag.
 #[inline(always)]
 fn is_flagged(step: &HeldStep, kind: u8, flag: u8) -> bool
     ensures { IsTrue result → (step.now.kind ≡ kind) × (step.now.choice ≡ 0) × (step.now.flag ≡ flag) }
@@ -214,7 +214,7 @@ fn is_flagged(step: &HeldStep, kind: u8, flag: u8) -> bool
     is_padded(step, kind) && step.flag == flag
 }
 
-// Whether a step is of this kind, with the number of a padding with zeros. Both are loaded at once.
+// Whether a step has this kind and padding with zeros. One load reads both numbers.
 #[inline(always)]
 fn is_padded(step: &HeldStep, kind: u8) -> bool
     ensures { IsTrue result → (step.now.kind ≡ kind) × (step.now.choice ≡ 0) }

@@ -1,6 +1,6 @@
-//! The commonest texts of ISO 8601: a date of the calendar, a time up to the second, and an offset or none.
+//! Fast paths for the commonest texts of ISO 8601: a calendar date, a time without a fraction, and an optional offset.
 //!
-//! Each reader answers what the library's reader does, or `None`: not this form.
+//! Each returns what the library's parser does, or `None`: not this form.
 ghost use Rattle.std.specs.Prelude.{◌≡◌, List, ℕ, IfSome, IsTrue, Ok, Some, None, true};
 ghost use Rattle.time_values.specs.Calendar.{greatest_year};
 ghost use Rattle.time_readers.specs.IsoPieces.{point};
@@ -19,7 +19,7 @@ use time_readers::iso8601::fast::{basic_date, date_of, extended_date};
 use time_readers::iso8601::{DateNumbers, ExtendedKind, TimeNumbers};
 use time_values::{OffsetDateTime, PlainDateTime};
 
-// The date and the time with which a text begins, what follows them, and whether they have separators.
+// The date and the time at the start of a text, the bytes after them, and whether they have separators.
 #[derive(Clone, Copy)]
 struct Front<'a> {
     date: DateNumbers,
@@ -28,7 +28,7 @@ struct Front<'a> {
     kind: ExtendedKind,
 }
 
-// Whether nothing stands there, or what an offset begins with, and so no fraction.
+// Whether the text ends here or an offset starts here, so that no fraction follows.
 #[inline(always)]
 fn has_no_fraction(bytes: &[u8]) -> bool
     ensures { IsTrue result → point bytes.now ≡ None }
@@ -106,7 +106,7 @@ fn basic_time(text: &[u8]) -> Option<(TimeNumbers, &[u8])>
     Some((time, rest))
 }
 
-// A date and a time with separators. `None`: not this form, as where a fraction follows, which is seen first.
+// A date and a time with separators. `None`: not this form. A fraction is ruled out before any parsing.
 #[inline(always)]
 fn extended(text: &[u8]) -> Option<Front<'_>>
     ensures { IfSome result (IsFront text.now) }
@@ -125,7 +125,7 @@ fn extended(text: &[u8]) -> Option<Front<'_>>
     })
 }
 
-// A date and a time without separators. `None`: not this form, as where a fraction follows, which is seen first.
+// A date and a time without separators. `None`: not this form. A fraction is ruled out before any parsing.
 #[inline(always)]
 fn basic(text: &[u8]) -> Option<Front<'_>>
     ensures { IfSome result (IsFront text.now) }
@@ -144,7 +144,7 @@ fn basic(text: &[u8]) -> Option<Front<'_>>
     })
 }
 
-// The moment of a text with that front, after which its offset stands. `None`: not this form.
+// The moment of a text that starts so, and continues with an offset only. `None`: not this form.
 #[inline(always)]
 fn moment_of(front: Front<'_>) -> Option<OffsetDateTime>
     ensures { (text : List ℕ) → IsFront text front.entry → IfSome result (λ v. of_moment over_record (Reads greatest_year)
@@ -155,7 +155,7 @@ fn moment_of(front: Front<'_>) -> Option<OffsetDateTime>
     Some(OffsetDateTime::new_in_offset(plain.date(), plain.time(), offset))
 }
 
-// The date and time of a text with that front, after which nothing stands. `None`: not this form.
+// The date and time of a text that starts so, and ends there. `None`: not this form.
 #[inline(always)]
 fn local_of(front: Front<'_>) -> Option<PlainDateTime>
     ensures { (text : List ℕ) → IsFront text front.entry → IfSome result (λ p. IsOutcome (IsPlain greatest_year)
@@ -174,7 +174,7 @@ fn has_separators(text: &[u8]) -> bool {
     matches!(text, [_, _, _, _, b'-', ..])
 }
 
-// A date and a time of either kind. `None`: not this form.
+// A date and a time, with or without separators. `None`: not this form.
 #[inline(always)]
 fn front_of(text: &[u8]) -> Option<Front<'_>>
     ensures { IfSome result (IsFront text.now) }
@@ -186,7 +186,7 @@ fn front_of(text: &[u8]) -> Option<Front<'_>>
     }
 }
 
-// A whole moment. `None`: not this form.
+// The moment of a whole text. `None`: not this form.
 #[inline(always)]
 pub(in crate::moments) fn moment(text: &[u8]) -> Option<OffsetDateTime>
     ensures { IfSome result (λ v. of_moment over_record (Reads greatest_year) (Refuses greatest_year) text.now (Ok v)) }
@@ -194,7 +194,7 @@ pub(in crate::moments) fn moment(text: &[u8]) -> Option<OffsetDateTime>
     moment_of(front_of(text)?)
 }
 
-// A whole date and time, with no offset. `None`: not this form.
+// The date and time of a whole text without an offset. `None`: not this form.
 #[inline(always)]
 pub(in crate::moments) fn local(text: &[u8]) -> Option<PlainDateTime>
     ensures { IfSome result (λ p. IsOutcome (IsPlain greatest_year) (Reads greatest_year) (Refuses greatest_year)

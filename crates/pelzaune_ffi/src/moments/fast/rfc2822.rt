@@ -1,6 +1,6 @@
-//! The commonest mail dates, many bytes at once.
+//! Fast path for the commonest mail dates, which reads many bytes at once.
 //!
-//! Each reader answers what the library's reader does, or `None`: not this form.
+//! Each function returns what the library's parser does, or `None`: not this form.
 ghost use Rattle.std.specs.Prelude.{IfSome, Ok, false};
 ghost use Rattle.time_values.specs.Calendar.{greatest_year};
 ghost use Rattle.time_readers.specs.Direct.{RefusesRfc2822};
@@ -17,7 +17,7 @@ use time_readers::rfc2822::Numbers;
 use time_readers::rfc2822::fast::{offset, to_offset, weekday_name};
 use time_values::OffsetDateTime;
 
-// The weekday's name, with a capital and two small letters, and the day. `None`: not this form.
+// The weekday's name, a capital and two small letters, and the day. `None`: not this form.
 #[inline(always)]
 fn to_day<'a>(text: &'a [u8], numbers: &mut Numbers) -> Option<&'a [u8]>
     ensures { IfSome result (λ rest. Stand (Asks false) day_places numbers.old text.now rest.now numbers.new) }
@@ -28,13 +28,13 @@ fn to_day<'a>(text: &'a [u8], numbers: &mut Numbers) -> Option<&'a [u8]>
     Some(day.0)
 }
 
-// A whole moment. `None`: not this form.
+// The moment of a whole text. `None`: not this form.
 #[inline(always)]
 pub(in crate::moments) fn moment(text: &[u8]) -> Option<OffsetDateTime>
     ensures { IfSome result (λ v. of_moment (direct (RefusesRfc2822 greatest_year)) (Reads greatest_year)
         (Refuses greatest_year) text.now (Ok v)) }
 {
-    // One test of the length for all of the text.
+    // Tests the length once for all the fixed-width parts.
     if text.len() < 30 {
         return None;
     }

@@ -5,7 +5,7 @@ use Rattle.programs_answers.proofs.OutputLemmas.{drop_more, tail_range}
 use Rattle.time_lines.specs.Output.{cut_at_tab}
 use Rattle.time_lines.proofs.serving.cut_tab.Goals as goal
 
--- ---- A line, cut at its first TAB
+-- ---- A line, split at its first TAB
 
 at_tab : (x : ℕ) (xs : List ℕ) → x ≡ 9 → cut_at_tab (x ∷ xs) ≡ Some ([], xs)
 at_tab x xs e = rw e

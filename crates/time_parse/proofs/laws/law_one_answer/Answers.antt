@@ -32,7 +32,7 @@ use Rattle.time_parse.specs.declared.request.Writing.{Writing}
 use Rattle.time_parse.specs.declared.request.Writing.TheVariants as writing
 use Rattle.time_parse.proofs.laws.law_one_answer.Goals as goal
 
--- ---- A format means one thing, and a text has one answer
+-- ---- A format has one meaning, and a text has one answer
 
 MeansTree-one : (P : Tree → Type 0) → ((a b : Tree) → P a → P b → a ≡ b)
     → (m n : Meaning) → MeansTree P m → MeansTree P n → m ≡ n
@@ -42,7 +42,7 @@ IsAnswer-one : (meaning : Meaning) (target : Target) (text : List ℕ) → OneTe
 IsAnswer-one (named format) target text = IsParsed-one format target text
 IsAnswer-one (described tree) target text = IsDescribed-one tree target text
 
--- what is told of a place
+-- the printed location of an error
 module _ (path : Path) (reads : Reading) (refuses : Refusing) (locates : Locating) (marks : Marking) (exact : IsExact reads refuses)
     (alone : IsExactPath greatest_year path reads refuses) (places : IsExactPlace reads locates) (one : IsExactMark marks)
     (text : List ℕ) where
@@ -103,7 +103,7 @@ IsPlaceBy-one : (meaning : Meaning) (t : Target) (text : List ℕ) → OneText (
 IsPlaceBy-one (named f) t text = IsNamedPlace-one f t text
 IsPlaceBy-one (described tree) t text = IsTreePlace-one first_byte tree t text
 
--- an answer with its place, or without
+-- an answer with the error's location, or without
 IsPlacedAnswer-one : (meaning : Meaning) (target : Target) (text : List ℕ) → OneText (IsPlacedAnswer greatest_year meaning target text)
 IsPlacedAnswer-one meaning target text x y h k =
     let outcome = IsAnswer-one meaning target text h.0 k.0 h.2 k.2 in

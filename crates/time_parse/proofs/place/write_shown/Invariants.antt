@@ -1,4 +1,4 @@
--- The bytes so far were shown, and no write failed.
+-- The bytes so far are written, and no write has failed.
 use Rattle.std.proofs.Common.{◌≡◌, map, take}
 use Rattle.std.specs.Io.KnownBytes.{Appends}
 use Rattle.time_parse.specs.Request.{shown}

@@ -9,7 +9,7 @@ use Rattle.time_parse.specs.Request.{Means, Meaning, meaning_of}
 use Rattle.time_parse.specs.declared.request.Version.{Version}
 use Rattle.time_parse.proofs.serving.serve.Goals as goal
 
--- what answers by a meaning answers by the format that means it
+-- answers by a meaning are answers by the format that has it
 served : (tells_places : Bool) (version : Version) (format target : List ℕ) (m : Meaning) (t : Target) (left old new : Option (List ℕ))
     → Means version format m × (target_named target ≡ Some t)
     → IfSome left (λ bytes. output.WritesAnswers (IsAnswerAsked tells_places greatest_year m t) old new bytes)

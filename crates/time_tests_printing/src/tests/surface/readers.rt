@@ -103,7 +103,7 @@ fn copied_types(rt: HostRuntime) {
     assert!(rt; count == 0);
 }
 
-// The answers by a literal, a component and a description of version 3.
+// Whether a literal, a component and a description of version 3 parse the input.
 fn answers(parsed: &mut Parsed, input: &[u8]) -> [bool; 3] {
     let literal: Result<&[u8], ParseFromDescription> = Parsed::parse_literal(input, b"-");
     let component: Result<&[u8], ParseFromDescription> = parsed.parse_component(input, HOUR);
@@ -114,7 +114,7 @@ fn answers(parsed: &mut Parsed, input: &[u8]) -> [bool; 3] {
     [literal.is_ok(), component.is_ok(), v3.is_ok()]
 }
 
-// The answers by an item, by the item itself, and by a list.
+// Whether an item, the item's own method, and a list parse the input.
 fn item_answers<I: AnyFormatItem>(
     parsed: &mut Parsed,
     input: &[u8],
@@ -134,7 +134,7 @@ fn rests(rt: HostRuntime) {
     assert!(rt; item_answers(&mut parsed, b"-05", &ITEM, &[ITEM]) == [true; 3]);
 }
 
-// How many items are tried of an item, and then of it and a list.
+// How many items are visited by a parse of an item, and by one of the item and a list.
 fn counts<I: AnyFormatItem>(parsed: &mut Parsed, input: &[u8], item: &I, items: &[I]) -> [u64; 2] {
     let mut tries = Tries::new();
     let _: Result<&[u8], ParseFromDescription> = item.parse_item_counted(parsed, input, &mut tries);
@@ -202,7 +202,7 @@ mod digits {
         assert!(rt; is_whole(padded, 7) && is_whole(exact, 7));
     }
 
-    // A number with a digit pushed onto it, where it fits.
+    // A number with one more digit, if it fits.
     fn pushed<T: Integer>(number: T, digit: u8) -> Option<T>
         requires { digit ≤ 9 }
     {
@@ -210,7 +210,7 @@ mod digits {
         pushed
     }
 
-    // Zero, with a digit pushed onto it.
+    // Zero with one more digit.
     fn one_digit(digit: u8) -> (u8, u16, u32, u128)
         requires { digit ≤ 9 }
     {
@@ -320,7 +320,7 @@ mod components {
         assert!(rt; Padding::Zero == PADDING);
     }
 
-    // The components that are padded.
+    // The components with a padding.
     fn padded(padding: Padding) -> [Component; 14] {
         [
             Component::Day(modifier::Day { padding }),
@@ -340,7 +340,7 @@ mod components {
         ]
     }
 
-    // The components that are padded and have a sign.
+    // The components with a padding and a sign.
     fn signed(padding: Padding, sign_is_mandatory: bool) -> [Component; 9] {
         [
             Component::CalendarYearFullExtendedRange(modifier::CalendarYearFullExtendedRange {
@@ -436,7 +436,7 @@ mod components {
         ]
     }
 
-    // None of the components reads the byte.
+    // Whether each of the components rejects the byte.
     fn refuse(components: &[Component]) -> bool {
         for component in components {
             if Parsed::new().parse_component(b"!", *component).is_ok() {
@@ -453,12 +453,12 @@ mod components {
         assert!(rt; refuse(&others(true, SubsecondDigits::One, TrailingInput::Prohibit)));
     }
 
-    // The component that skips so many bytes.
+    // The component that skips this many bytes.
     fn skipped(count: NonZero<u16>) -> Component {
         Component::Ignore(modifier::Ignore { count })
     }
 
-    // The readers of numbers in two places.
+    // The readers of numbers of two digits.
     fn two_places(input: &[u8], padding: Padding) -> [Option<ParsedItem<'_, u8>>; 9] {
         [
             parse_calendar_year_last_two(input, modifier::CalendarYearLastTwo { padding }),
@@ -611,7 +611,7 @@ mod components {
     // The halves of the day, and how they are written.
     static HALVES: [(&[u8], Period); 2] = [(b"AM", Period::Am), (b"PM", Period::Pm)];
 
-    // How many digits a fraction may have, and a fraction of so many digits.
+    // How many digits a fraction may have, and a fraction of that many digits.
     static FRACTIONS: [(SubsecondDigits, &[u8]); 10] = [
         (SubsecondDigits::One, b"5"),
         (SubsecondDigits::Two, b"50"),

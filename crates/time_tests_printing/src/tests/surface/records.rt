@@ -3,7 +3,7 @@ use std::num::NonZero;
 use time_record::Parsed;
 use time_values::{Month, Weekday};
 
-// The record's years are those.
+// Whether the record's years are these.
 fn has_years(parsed: &Parsed) -> bool {
     let year: Option<i32> = parsed.year();
     let iso_year: Option<i32> = parsed.iso_year();
@@ -12,7 +12,7 @@ fn has_years(parsed: &Parsed) -> bool {
     [year, iso_year] == [Some(2021), Some(2020)] && [last_two, iso_last_two] == [Some(21), Some(20)]
 }
 
-// The record's centuries are those.
+// Whether the record's centuries are these.
 fn has_centuries(parsed: &Parsed) -> bool {
     let century: Option<i16> = parsed.year_century();
     let iso_century: Option<i16> = parsed.iso_year_century();
@@ -22,7 +22,7 @@ fn has_centuries(parsed: &Parsed) -> bool {
         && [is_negative, iso_is_negative] == [Some(true), Some(false)]
 }
 
-// The number is that one.
+// Whether the number is that one.
 fn is_number(found: Option<NonZero<u8>>, number: u8) -> bool {
     match found {
         Some(found) => found.get() == number,
@@ -30,7 +30,7 @@ fn is_number(found: Option<NonZero<u8>>, number: u8) -> bool {
     }
 }
 
-// The record's weeks are those.
+// Whether the record's weeks are these.
 fn has_weeks(parsed: &Parsed) -> bool {
     let iso_week: Option<NonZero<u8>> = parsed.iso_week_number();
     let sunday_week: Option<u8> = parsed.sunday_week_number();
@@ -41,7 +41,7 @@ fn has_weeks(parsed: &Parsed) -> bool {
         && weekday == Some(Weekday::Saturday)
 }
 
-// The record's month and days are those.
+// Whether the record's month and days are these.
 fn has_days(parsed: &Parsed) -> bool {
     let month: Option<Month> = parsed.month();
     let day: Option<NonZero<u8>> = parsed.day();
@@ -53,7 +53,7 @@ fn has_days(parsed: &Parsed) -> bool {
     month == Some(Month::January) && is_number(day, 3) && is_ordinal
 }
 
-// The record's time is that one.
+// Whether the record's time is that one.
 fn has_time(parsed: &Parsed) -> bool {
     let hour: Option<u8> = parsed.hour_24();
     let minute: Option<u8> = parsed.minute();
@@ -62,14 +62,14 @@ fn has_time(parsed: &Parsed) -> bool {
     [hour, minute, second] == [Some(15), Some(4), Some(60)] && subsecond == Some(999_999_999)
 }
 
-// The record's time is in that half of the day.
+// Whether the record's time is in that half of the day.
 fn has_half(parsed: &Parsed) -> bool {
     let hour: Option<NonZero<u8>> = parsed.hour_12();
     let is_pm: Option<bool> = parsed.hour_12_is_pm();
     is_number(hour, 3) && is_pm == Some(true)
 }
 
-// The record's offset is that one.
+// Whether the record's offset is that one.
 fn has_offset(parsed: &Parsed) -> bool {
     let hour: Option<i8> = parsed.offset_hour();
     let minute: Option<i8> = parsed.offset_minute_signed();
@@ -77,14 +77,14 @@ fn has_offset(parsed: &Parsed) -> bool {
     [hour, minute, second] == [Some(-25), Some(-30), Some(59)]
 }
 
-// The record's offset has those minutes and seconds, where no sign is asked.
+// Whether the record's offset has those minutes and seconds, by the getters without a sign.
 fn has_absolute_offset(parsed: &Parsed) -> bool {
     let minute: Option<u8> = parsed.offset_minute();
     let second: Option<u8> = parsed.offset_second();
     [minute, second] == [Some(30), Some(59)]
 }
 
-// The record's timestamp is that one.
+// Whether the record's timestamp is that one.
 fn has_timestamp(parsed: &Parsed) -> bool {
     let nanos: Option<i128> = parsed.unix_timestamp_nanos();
     nanos == Some(-1)

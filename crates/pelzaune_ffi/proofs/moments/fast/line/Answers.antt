@@ -22,7 +22,7 @@ use Rattle.pelzaune_ffi.specs.Handed.{of_moment}
 use Rattle.pelzaune_ffi.proofs.IsoInPlace.{outcome_of}
 use Rattle.pelzaune_ffi.proofs.moments.fast.line.Goals as goal
 
--- ---- A moment of RFC 3339 that stands in front of a text up to the end of its first line
+-- ---- A moment of RFC 3339 that is the first line of a text
 
 -- no byte is LF
 abbrev NoLf : List ℕ → Type 0
@@ -55,7 +55,7 @@ line_whole : (line : List ℕ) → NoLf line → 1 ≤ length line → lines_of 
 line_whole [] apart some = absurd (omega (arith, some))
 line_whole (b ∷ line) apart some = line_alone b line apart
 
--- what a place asks before the rest of a line, where more follows that
+-- a place that matches before a longer rest matches before the rest of its line
 
 module _ (tail : List ℕ) where
   no_digit : (xs : List ℕ) → NoDigitFirst (xs ++ tail) → NoDigitFirst xs
@@ -112,7 +112,7 @@ module _ (tail : List ℕ) where
   asked place.OffsetColon n m text xs h = h
   asked place.OffsetMinute n m text xs h = offset_minute n.is_utc n m text xs h
 
--- no byte of a place is LF, but that of the separator may be
+-- no place but the separator contains an LF
 
 two_apart : (text after : List ℕ) (v : ℕ) → IsDigitRun 2 2 text after v → NoLf text
 two_apart text after v h = digits_apart text h.digits
@@ -158,7 +158,7 @@ text_apart place.OffsetHour n m text after other (inr signed) =
 text_apart place.OffsetColon n m text after other h = colon_apart n.is_utc text h.0
 text_apart place.OffsetMinute n m text after other h = minute_apart n.is_utc n m text after h
 
--- places without a separator, before what is kept and a tail that is not
+-- places without a separator match before a rest without its tail
 
 abbrev Apart : List Place → Type 0
 Apart [] = Unit {0}
@@ -263,7 +263,7 @@ is_first line text rest after is apart some (inr none) =
       shorter = omega (arith, ap length none.1, some);
     }
 
--- the moment of the numbers of a text's front is that of its first line
+-- the moment of the numbers at a text's start is that of its first line
 line_is : (text rest after : List ℕ) (m : Numbers) (v : OffsetDateTime) → HasForm false text rest m → get_or text 10 0 ≢ 10
     → 1 ≤ length text → EndsLine rest after → m.offset_minute ≤ 59 → IsMade greatest_year (said_rfc3339 m) v
     → (line : List ℕ) × IsFirstLine line text after

@@ -7,9 +7,9 @@ use Rattle.time_values.specs.declared.offset_date_time.OffsetDateTime.{OffsetDat
 use Rattle.time_values.proofs.InstantLemmas.{clock_nanos_is, instant_is}
 use Rattle.pelzaune_ffi.proofs.parts.InstantFromOffsetDateTime.from.Goals as goal
 
--- ---- Instants by their seconds and what is left
+-- ---- Instants as whole seconds and nanoseconds
 
--- after the whole seconds of an instant is what the clock shows of the second
+-- the nanoseconds after the whole seconds of an instant are those of the local time
 whole_and_left : (v : OffsetDateTime) (z : ℤ) → IsWhole 1_000_000_000 (instant greatest_year v.date v.time v.offset) z
     → instant greatest_year v.date v.time v.offset ≡ z *ℤ pos 1_000_000_000 +ℤ pos (nanosecond v.time)
 whole_and_left v z h =

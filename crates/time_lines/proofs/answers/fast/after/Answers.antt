@@ -3,7 +3,7 @@ use Rattle.std.proofs.lemmas.Slice.Eq.{strip_prefix_is}
 use Rattle.std.proofs.lemmas.Bool.Decides.{Decides-eqb}
 use Rattle.time_lines.proofs.answers.fast.after.Goals as goal
 
--- what says when there is a rest says what the rest is
+-- a match of all cases has the rest where there is one
 rest-is : (b n : List ℕ) → (r : Option (Bor (List ℕ)))
     → MatchOption r ((x : List ℕ) → b ≢ n ++ x) (λ x. b ≡ n ++ x.now) → IfSome r (λ x. b ≡ n ++ x.now)
 rest-is b n None _ = tt

@@ -10,14 +10,14 @@ use Rattle.time_lines.proofs.answers.fast.request.Goals as goal
 
 -- ---- Lines of known names. `Y` is the greatest year.
 
--- the name of which bytes are, before TAB and the rest
+-- the name that the bytes start with, before TAB and the rest
 begun : {X : Type 0} (named : List ℕ → Option X) (bytes : List ℕ) (x : X) (rest : List ℕ) (o : Option (List ℕ × List ℕ))
     → cut_at_tab bytes ≡ o → MatchOption o ⊥ (λ cut. (named cut.0 ≡ Some x) × (cut.1 ≡ rest))
     → (name : List ℕ) × (cut_at_tab bytes ≡ Some (name, rest)) × (named name ≡ Some x)
 begun named bytes x rest None e h = absurd h
 begun named bytes x rest (Some cut) e h = (cut.0, e ∙ ap (λ r. Some (cut.0, r)) h.1, h.0)
 
--- a line of known names is answered by the outcome of its text
+-- a line with known names is answered by the outcome of its text
 IsAnswer-named : (Y : ℕ) (line rest text : List ℕ) (f : Format) (t : Target) (answer : List ℕ)
     → BeginsNamed format_named line f rest → BeginsNamed target_named rest t text
     → IsParsed Y f t text answer → IsAnswer Y line answer

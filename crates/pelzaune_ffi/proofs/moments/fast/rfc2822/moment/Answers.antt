@@ -11,7 +11,7 @@ use Rattle.time_parsing.specs.Rfc2822.{Reads, Refuses}
 use Rattle.time_parsing.specs.exact.RecordedRfc2822.{direct-value}
 use Rattle.pelzaune_ffi.proofs.moments.fast.rfc2822.moment.Goals as goal
 
--- ---- Mail dates that are read in place
+-- ---- Mail dates that are parsed in place
 
 -- the places of a whole text, one after another
 whole_stands : (bytes mid left : List ℕ) (n k m : Numbers) → Stand (Asks false) day_places nothing_read bytes mid n
@@ -20,7 +20,7 @@ whole_stands bytes mid left n k m first middle last =
     Stand-append (Asks false) day_places (to_offset_places ++ offset_places) nothing_read n m bytes mid [] first
     (Stand-append (Asks false) to_offset_places offset_places n k m mid left [] middle last)
 
--- the moment of the numbers of a whole text is what a parse of the text answers
+-- parsing the whole text results in the moment of its numbers
 outcome_of : (bytes : List ℕ) (n : Numbers) (o : Option OffsetDateTime) → HasForm false bytes [] n
     → IfSome o (λ v. IsMade greatest_year (said_rfc2822 n) v)
     → IfSome o (λ v. IsMomentOutcome greatest_year (direct (RefusesRfc2822 greatest_year)) (Reads greatest_year)

@@ -1,4 +1,4 @@
--- It answers `Err` where the call is due, and else what the inner allocator answers. Assumes `Logic`.
+-- It returns `Err` where the call is due to fail, and else the result of the inner allocator. Assumes `Logic`.
 use Rattle.std.proofs.Common.{◌≡◌, ℕ, ◌+◌, ◌^◌, ◌<◌, true, false, List, [], ◌∷◌, Ok, Err, refl, w64, Bor}
 use seplogic.Ra.Ura.{Ura}
 use mir.Syntax.{Ty, Args, Fn, a_type, dnil, dcons}

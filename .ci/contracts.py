@@ -4,10 +4,10 @@ A fence such as
 
     ```text contracts src/date.rt Date::from_ordinal_date Date::year src/time.rt Time::hour
 
-has the contracts of these functions as they stand in the files, without comments and bodies. A path begins at the page's
-folder, and the names after it are of that file: `name` of a function, `Type::name` of a function or a ghost member in an
-`impl` of the type or in a trait of that name. The head of the `impl` or trait stands above its members, and the path
-above functions outside of any where a fence quotes several files.
+has the contracts of these functions as in the files, without comments and bodies. A path is relative to the page's
+folder, and the names after it are of that file: `name` of a function, `Type::name` of a function or a ghost member in
+an `impl` of the type or in a trait with that name. The head of the `impl` or trait precedes its members, and if a fence
+quotes several files the path precedes functions outside of any.
 """
 import os
 import re
@@ -17,7 +17,7 @@ HEAD = re.compile(r"(?P<kind>pub trait|trait|impl)\b(?:<.*?>)? ?(?P<rest>.*?) \{
 
 
 class Missing(Exception):
-    """A name that no public function of the file has."""
+    """The name isn't that of a public function of the file."""
 
 
 def blocks(lines):
@@ -65,7 +65,7 @@ def contract(lines, wanted):
 
 
 def quote(folder, names):
-    """The text of a fence whose first line has these words."""
+    """The text of a fence with these words in its first line."""
     made, lines, path, last = [], [], "", ""
     several = names.count(".rt") > 1
     for word in names.split():
@@ -89,7 +89,7 @@ def quote(folder, names):
 
 
 def written(folder, page):
-    """A page with each of its fences of contracts as it has to be, and what is wrong with the names."""
+    """The page with its fences of contracts updated, and what is wrong with the names."""
     wrong = []
 
     def filled(found):

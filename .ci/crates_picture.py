@@ -1,8 +1,8 @@
-"""The picture of the crates: bands from bottom to top, and in the last one, side by side, what is built of them.
+"""The picture of the crates: bands from bottom to top, and in the last one, side by side, what is built from them.
 
-A box has its name, and below it its one purpose. A line leads from a crate to one that stands on it, where no other path
-says so. It is told where a crate isn't shown, where a label doesn't fit, where two things overlap, where a line runs
-behind a box or a label, and where the lines aren't those of crates.txt.
+A box has its name, and below it its one purpose. A line leads from a crate to one that depends on it, unless another
+path does. It reports a crate without a box, a label that doesn't fit, two things that overlap, a line that runs behind
+a box or a label, and lines that aren't those of crates.txt.
 """
 import re
 
@@ -23,13 +23,14 @@ BOXES = {
     "time_preparing": (2, 4, 0, "a description for many texts"),
     "time_locating": (2, 4, 1, "where a text goes wrong"),
     "programs_streams": (2, 4, 2.15, "calls that fail, counted"),
+    "the facade": (2, 4, 3.25, "all of them, by Rust's paths", "time, time_uses"),
     "programs": (3, 5, 0, "texts parsed line by line", "programs_answers", "time_lines", "time_parse"),
-    "restamp": (3, 5, 2.15, "times rewritten in lines", "restamp_place, restamp_verdict,", "restamp_stream, restamp_options,",
-                "restamp_in_place,", "restamp_command, restamp"),
+    "restamp": (3, 5, 2.15, "times rewritten in lines", "restamp_place, restamp_verdict,", "restamp_stream, restamp_command,",
+                "restamp_in_place, restamp"),
     "C": (3, 5, 1.1, "C, Rust, Python and SQL", "pelzaune_ffi", "pelzaune"),
     "tests and benches": (3, 5, 3.25, "stand on all of these", "time_tests_.., restamp_tests", "time_bench"),
 }
-# The lines, each with the column of the way up that it takes past other rows, if it passes some.
+# The lines, each with the column in which it runs up past other rows, if it passes some.
 LINES = [
     ("time_values", "time_zones", None), ("time_values", "time_writing", None),
     ("time_digits", "time_components", None), ("time_values", "time_components", None),
@@ -43,12 +44,14 @@ LINES = [
     ("time_formatting", "restamp", 3.0), ("time_zones", "restamp", 1.9), ("programs", "C", None),
 ]
 WIDE, HIGH, STEP, PITCH, LEFT, SMALL = 204, 30, 244, 112, 30, 6.1
-MEMBERS = {"programs": ("programs_answers", "time_lines", "time_parse"), "C": ("pelzaune_ffi", "pelzaune"),
-           "restamp": ("restamp_place", "restamp_stream", "restamp_in_place", "restamp_verdict", "restamp_options", "restamp_command", "restamp")}
+# Boxes that depend on all others.
+ON_ALL = ("the facade", "tests and benches")
+MEMBERS = {"the facade": ("time", "time_uses"), "programs": ("programs_answers", "time_lines", "time_parse"), "C": ("pelzaune_ffi", "pelzaune"),
+           "restamp": ("restamp_place", "restamp_stream", "restamp_in_place", "restamp_verdict", "restamp_command", "restamp")}
 
 
 def box_of(crate):
-    """The box in which a crate stands."""
+    """The box of a crate."""
     if "_tests" in crate or crate == "time_bench":
         return "tests and benches"
     return next((box for box, crates in MEMBERS.items() if crate in crates), crate)
@@ -61,7 +64,7 @@ def is_shown(crate):
 
 
 def wanted_lines(below):
-    """The lines that no other path says, of crates with those on which they stand; tests and benches stand on all."""
+    """The lines without another path, from crates to their dependents, but for boxes that depend on all."""
     on = {}
     for crate, lower in below.items():
         on.setdefault(box_of(crate), set()).update(box_of(it) for it in lower)
@@ -70,7 +73,7 @@ def wanted_lines(below):
     def all_below(box):
         return on[box].union(*(all_below(it) for it in on[box]))
 
-    return {(low, box) for box, lower in on.items() if box != "tests and benches"
+    return {(low, box) for box, lower in on.items() if box not in ON_ALL
             for low in lower if not any(low in all_below(it) for it in lower if it != low)}
 
 
@@ -99,7 +102,7 @@ class Plan:
         self.compare()
 
     def feet(self):
-        """Where the bands end."""
+        """The tops of the bands."""
         for k in range(len(BANDS)):
             yield self.bottom - min(it[1] for it in BOXES.values() if it[0] == k) * PITCH + HIGH + 40
 
@@ -109,7 +112,8 @@ class Plan:
         self.labels.append((x, y, round(len(words) * SMALL), 14, words))
 
     def lead(self, low, high, channel):
-        """A way from the top of the lower box to the bottom of the higher one, by a way up of its own past other rows."""
+        """A path from the top of the lower box to the bottom of the higher one, in a column of its own past other
+        rows."""
         (a, b, c, d), (x, y, w, h) = self.rects[low], self.rects[high]
         if b + d == y + h and BOXES[low][1] == BOXES[high][1]:
             side = y + h - HIGH // 2
@@ -123,7 +127,7 @@ class Plan:
         self.wrong.append(f"no way leads from {low} to {high}")
 
     def is_free(self, low, high, way):
-        """Nothing stands in the way, and no other line runs along it, but for one from the same box, or at its end one to
+        """Whether nothing is in the way, and no other line runs along it, except from the same box, or at its end to
         the same box."""
         parts = list(zip(way, way[1:]))
         if any(meets(part, it) for part in parts for it in [*self.rects.values(), *(it[:4] for it in self.labels)]):
@@ -165,7 +169,7 @@ class Plan:
 
 
 def ways_between(begin, top, end, foot, channel):
-    """The ways from a place up to another, each by its own height, and where there is a channel by that."""
+    """The paths from a place up to another, each at a height of its own, and through the channel if there is one."""
     for first in range(8, PITCH - HIGH - 30, 5):
         if channel is None:
             yield [(begin, top), (begin, top - first), (end, top - first), (end, foot)]
@@ -176,14 +180,14 @@ def ways_between(begin, top, end, foot, channel):
 
 
 def meets(part, box):
-    """A part of a way runs through a box, more than along its edge."""
+    """Whether a part of a path runs through a box, more than along its edge."""
     (a, b), (c, d) = part
     x, y, w, h = box
     return min(a, c) < x + w + 2 and max(a, c) > x - 2 and min(b, d) < y + h and max(b, d) > y
 
 
 def runs_along(one, other):
-    """Two parts of ways lie on one another, or look like one."""
+    """Whether two parts of paths overlap, or look like one."""
     (a, b), (c, d) = one
     (e, f), (g, h) = other
     if a == c and e == g and abs(a - e) < 4:

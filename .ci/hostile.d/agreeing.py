@@ -1,4 +1,5 @@
-"""The readers against Python's own: moments that `datetime` and `email.utils` print, and texts that they read, too."""
+"""The readers compared with Python's own: moments that `datetime` and `email.utils` print, and texts that they parse,
+too."""
 import datetime
 import email.utils
 import re
@@ -35,7 +36,7 @@ def readers(rng, tally, count=20):
         for name in ("rfc3339", "iso8601"):
             tally.same("the readers", asked(name, "datetime", text.encode()), moment, lambda text=text: repr(text))
         written = writing.of_3339(moment, "auto")
-        if sys.version_info >= (3, 11):  # before that no `Z` is read
+        if sys.version_info >= (3, 11):  # older versions parse no `Z`
             tally.same("the readers", datetime.datetime.fromisoformat(written), value, lambda text=written: repr(text))
         if value.year >= 1900:
             value = value.replace(microsecond=0)
@@ -47,8 +48,8 @@ def readers(rng, tally, count=20):
 
 
 def mail_dates(rng, tally):
-    """A mail date that both read has one value. `email.utils` reads no comments that hold others and no blanks beside a
-    colon, other years of two digits, and no leap second."""
+    """A mail date that both parse has one value. `email.utils` parses no nested comments and no blanks beside a colon,
+    other years of two digits, and no leap second."""
     text = texts.rfc2822(rng)
     ours = asked("rfc2822", "datetime", text)
     theirs = email.utils.parsedate_tz(text.decode())

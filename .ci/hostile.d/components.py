@@ -1,4 +1,4 @@
-"""The components of descriptions: which texts spell them, and what they say."""
+"""The components of descriptions: which texts they parse, and the values."""
 from values import MONTHS, WEEKDAYS, Refused
 from digits import named, padded, run, signed
 from records import with_part
@@ -6,7 +6,7 @@ from records import with_part
 SHORT_MONTHS = [it[:3] for it in MONTHS]
 SHORT_WEEKDAYS = [it[:3] for it in WEEKDAYS]
 
-# The modifiers of each component, the first value of each being what holds without one.
+# The modifiers of each component, with the default value of each first.
 PADDING = ("padding", ("zero", "space", "none"))
 SIGN = ("sign", ("automatic", "mandatory"))
 CASE_SENSITIVE = ("case_sensitive", ("true", "false"))
@@ -30,7 +30,7 @@ MODIFIERS = {
     "ignore": (("count", ("1", "2", "3", "12")),),
     "end": (("trailing_input", ("prohibit", "discard")),),
 }
-# What a component is called where it is refused, but for those that are called as they are written.
+# The names of components in errors, except for those that are equal to the names in descriptions.
 NAMES = {"week_number": "week number", "offset_hour": "offset hour", "offset_minute": "offset minute",
          "offset_second": "offset second"}
 PRECISIONS = {"second": (14, 10**9), "millisecond": (17, 10**6), "microsecond": (20, 10**3), "nanosecond": (23, 1)}
@@ -48,7 +48,7 @@ class Component:
         return self.said.get(key)
 
     def is_padded(self):
-        """Whether it is a number that something may fill up."""
+        """Whether it is a number that may be padded."""
         return "padding" in self.said and not (self.name == "month" and self.repr != "numerical")
 
     def refused(self):
@@ -56,7 +56,7 @@ class Component:
 
 
 def plain(part, least, most, positive=False):
-    """A reader of a padded number that is a part as it stands."""
+    """A reader of a padded number that is stored as a part unchanged."""
     def read(component, text, at):
         found = padded(text, at, least, most, component.padding)
         return None if found is None or positive and found[0] == 0 else ({part: found[0]}, found[1])
@@ -83,7 +83,7 @@ def year(component, text, at):
 def month(component, text, at):
     if component.repr == "numerical":
         return plain("month", 2, 2)(component, text, at)
-    # A long name whose first letters are those of one month is of no other.
+    # A long name that starts with the letters of one month is not that of another.
     found = named(text, at, MONTHS if component.repr == "long" else SHORT_MONTHS, component.case_sensitive == "true")
     return found and ({"month": found[0] + 1}, found[1])
 
@@ -158,7 +158,7 @@ READERS = {
 
 
 def read(component, text, at, record):
-    """Where the text of a component ends, and the record with what it says; or None."""
+    """The end of a component's text, and the record with its value; or None."""
     found = READERS[component.name](component, text, at)
     if found is None:
         return None

@@ -1,6 +1,6 @@
-"""Where the time stands in a line: (begin, end), or None where the line has no such place.
+"""Where the time is in a line: (begin, end), or None if the line has no such place.
 
-A CR that ends the line is no part of a time.
+A CR at the end of the line isn't part of a time.
 """
 
 
@@ -42,7 +42,7 @@ def field(line, number, kind, delimiter):
 
 
 def word(line, number):
-    """The word of that number, from 1, between runs of space and TAB."""
+    """The word with that number, from 1, between runs of space and TAB."""
     at, found = 0, None
     for _ in range(number):
         while line[at:at + 1] in (b" ", b"\t"):
@@ -57,7 +57,7 @@ def word(line, number):
 
 
 def span(place, line):
-    """The part of a line that is its time, or begins with it; of `anywhere` there is none to tell."""
+    """The part of a line that is its time, or starts with it; None for `anywhere`."""
     kind, *said = place
     inside = body(line)
     if kind in ("whole", "front"):

@@ -1,4 +1,4 @@
-"""Random descriptions: trees, with their texts in brackets, of both versions, or as strftime has them."""
+"""Random descriptions: trees, with their texts in brackets, of both versions, or of strftime."""
 from components import MODIFIERS, Component
 from formats import part, several
 
@@ -26,7 +26,7 @@ LITERALS = ["-", "/", ":", ".", " ", "T", "Z", ",", ", ", "at ", "W", "x1", "0",
 
 
 def of_letter(letter):
-    """The items that a letter of strftime stands for."""
+    """The items that a letter of strftime means."""
     if letter == "z":
         return [part("offset_hour", sign="mandatory"), part("offset_minute")]
     if letter in BYTES_OF:
@@ -42,7 +42,7 @@ def whole_words(rng):
 
 
 def strftime(rng, words=None):
-    """A description as strftime has it, and its tree, of which each byte is an item."""
+    """A description of strftime, and its tree, in which each byte is an item."""
     given = words
     words = words or rng.choice([rng.choice(DATES), rng.choice(TIMES), f"{rng.choice(DATES)} {rng.choice(TIMES)}",
                                  whole_words(rng), "s", "c z"])
@@ -77,7 +77,7 @@ def random_component(rng, name=None):
 
 
 def from_words(rng, words, is_brackets):
-    """The items of words as those of DATES, with modifiers changed here and there."""
+    """The items of words such as those of DATES, with some modifiers changed."""
     items = []
     for word in words:
         if not word.isalpha() or word in "TZ" and is_brackets:
@@ -130,13 +130,13 @@ def component_text(rng, component):
     rng.shuffle(given)
     if given and given[0][0] != "count" and rng.random() < 0.05:
         key = given[0][0]
-        words.append(f"{key}:{rng.choice(dict(MODIFIERS[component.name])[key])}")  # which the later one replaces
+        words.append(f"{key}:{rng.choice(dict(MODIFIERS[component.name])[key])}")  # the later one overrides this
     words += [f"{cased(rng, key)}:{cased(rng, value)}" for key, value in given]
     return "[" + space(rng) + "".join(word + space(rng, 1) for word in words[:-1]) + words[-1] + space(rng) + "]"
 
 
 def literal_items(text, version, nested):
-    """The texts and the trees of a literal: a byte that is escaped stands alone."""
+    """The texts and the trees of a literal: an escaped byte is a literal of its own."""
     special = b"[" if version == 1 else b"[\\]" if nested else b"[\\"
     found = []
     for byte in text:
@@ -151,7 +151,7 @@ def literal_items(text, version, nested):
 
 
 def joined(items):
-    """The items, in which a literal follows no other."""
+    """The items, without two literals in a row."""
     found = []
     for item in items:
         if item[0] == "literal" and found and found[-1][0] == "literal":
@@ -162,7 +162,7 @@ def joined(items):
 
 
 def brackets(rng, items, version, nested=False):
-    """The text of items in brackets, and the items as they are read."""
+    """The text of items in brackets, and the items that it parses as."""
     text, read = "", []
     for kind, inside in joined(items):
         if kind == "literal":
@@ -183,7 +183,7 @@ def brackets(rng, items, version, nested=False):
 
 
 def random_description(rng, most=200, says_all=False):
-    """The syntax (`v1`, `v2` or `strftime`), the bytes and the tree of a description; where asked, of a moment."""
+    """The syntax (`v1`, `v2` or `strftime`), the bytes and the tree of a description; of a moment if requested."""
     while True:
         syntax = rng.choice(["v1", "v2", "v2", "v2", "strftime"])
         words = whole_words(rng) if says_all and rng.random() < 0.9 else None

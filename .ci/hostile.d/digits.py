@@ -1,8 +1,8 @@
-"""Runs of digits in bytes. A reader answers what it read and where it ended, or None."""
+"""Runs of digits in bytes. A reader returns the value and its end, or None."""
 
 
 def run(text, at, least, most):
-    """From `least` to `most` digits, as many as stand there."""
+    """From `least` to `most` digits, as many as there are."""
     end = at
     while end < len(text) and end - at < most and text[end] in b"0123456789":
         end += 1
@@ -14,7 +14,7 @@ def two(text, at):
 
 
 def padded(text, at, least, most, padding):
-    """A number under a padding: of zeros, of spaces in place of zeros, or none."""
+    """A number with a padding: zeros, spaces in place of zeros, or none."""
     if padding == "none":
         return run(text, at, 1, most)
     begin = at
@@ -24,12 +24,12 @@ def padded(text, at, least, most, padding):
 
 
 def signed(text, at):
-    """A sign, if one stands there."""
+    """An optional sign."""
     return (text[at:at + 1], at + 1) if text[at:at + 1] in (b"+", b"-") else (b"", at)
 
 
 def named(text, at, names, exact):
-    """The number of the first name that stands there, in its own case or in any."""
+    """The number of the first name that matches, in its own case or in any."""
     for number, name in enumerate(names):
         part = text[at:at + len(name)]
         if part == name.encode() or not exact and part.lower() == name.lower().encode():

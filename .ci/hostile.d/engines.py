@@ -1,6 +1,7 @@
-"""Tries of the extensions of SQLite and PostgreSQL: the same texts by their functions, places, and texts of moments.
+"""Fuzz tests of the extensions of SQLite and PostgreSQL: random texts by their functions, locations, and texts of
+moments.
 
-PostgreSQL is asked on a server of its own, of a database whose texts may have any bytes but 0.
+PostgreSQL runs on a server of its own, with a database whose texts may have any bytes but 0.
 """
 import json
 import os
@@ -18,13 +19,13 @@ sys.path.insert(0, f"{TOP}/crates/pelzaune/users/postgres/tests")
 import server  # noqa: E402
 
 NAMES = {number: name for name, number in module.NUMBERS.items()}
-# What PostgreSQL's timestamps and dates begin with, and the first second after timestamps: 4714-11-24 BC and 294277.
+# The start of PostgreSQL's timestamps and dates, and the first second after timestamps: 4714-11-24 BC and 294277.
 FIRST_DAY, END_DAY = day_number((-4713, 11, 24)), day_number((294277, 1, 1))
 SHOWN_MOST = 100
 
 
 def random_form(rng):
-    """A format as it is written, its reader, and a maker of texts."""
+    """The text of a format, its reader, and a maker of texts."""
     sent, form, made = module.random_form(rng)
     return NAMES[sent].encode() if isinstance(sent, int) else bytes.fromhex(sent), form, made
 
@@ -34,7 +35,7 @@ def escaped(byte):
 
 
 def place_of(form, text):
-    """The index and the expectation of a place, or None."""
+    """The index and the expectation of a location, or None."""
     place = form.place(text, {})
     if not place:
         return None
@@ -45,7 +46,7 @@ def place_of(form, text):
 
 
 def reason_of(form, text):
-    """Why a text has no moment, and nothing of one; or None."""
+    """The error of a text without a moment or a part of one; or None."""
     try:
         outcome(form, "datetime", text)
         return None
@@ -69,7 +70,7 @@ def reason_of(form, text):
 
 
 def row_of(form, text):
-    """What `pelzaune_place` answers."""
+    """The expected result of `pelzaune_place`."""
     reason = reason_of(form, text)
     if not reason:
         return None
@@ -78,7 +79,8 @@ def row_of(form, text):
 
 
 def value(form, call, text):
-    """What a function of PostgreSQL answers, as a number: microseconds or days since 1970, or since midnight, or nanoseconds."""
+    """The expected result of a function of PostgreSQL, as a number: microseconds or days since 1970, or since midnight,
+    or nanoseconds."""
     if call == "unix_ns":
         return instant(outcome(form, "datetime", text))
     if call == "time":
@@ -103,7 +105,7 @@ def shown(text):
 
 
 def answer(form, call, text):
-    """What a function of PostgreSQL answers, or its error."""
+    """The expected result of a function of PostgreSQL, or its error."""
     if call == "place":
         return row_of(form, text)
     try:
@@ -118,7 +120,7 @@ def answer(form, call, text):
 
 
 def ask_sqlite(rng):
-    """A question, and what it answers."""
+    """A query, and its expected result."""
     written, form, made = random_form(rng)
     text = module.texts.some_text(rng, made(rng))
     call = rng.choice(["unix", "rfc3339", "place"])
@@ -216,7 +218,7 @@ servers = {}
 
 
 def needs_of_postgres():
-    """What builds the extension and runs a server."""
+    """The tools that build the extension and run a server."""
     try:
         programs, headers = server.folder_of("bindir"), server.folder_of("includedir-server")
     except OSError:
@@ -235,7 +237,7 @@ def server_of(built):
 
 
 def as_answered(line):
-    """An answer of `told`: an object or another text, or None."""
+    """A result of `told`: an object or another text, or None."""
     answered = json.loads(line) if line else None
     return json.loads(answered) if answered and answered.startswith("{") else answered
 

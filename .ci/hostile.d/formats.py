@@ -1,4 +1,4 @@
-"""Formats, each as a reader of a text's front over a record, and the answers of `time_lines` and `time_parse`."""
+"""Formats, each as a reader of a prefix into a record, and the expected answers of `time_lines` and `time_parse`."""
 import iso8601
 import rfc2822
 import rfc3339
@@ -102,7 +102,7 @@ FORMATS = {
 
 
 def outcome(form, target, text):
-    """The value of a whole text, or a refusal."""
+    """The value of a whole text, or its error."""
     if target == "datetime" and isinstance(form, ByPlaces):
         return form.direct(text)
     at, record = form.read(text, {})
@@ -112,7 +112,7 @@ def outcome(form, target, text):
 
 
 def value_place(form, text, record, fault):
-    """Where the component begins that a refused range names: the week, for an ordinal that no text says."""
+    """Where the component of a rejected range starts: the week, for an ordinal that isn't in the text."""
     if fault.kind != "range":
         return None
     at = form.mark(text, record, fault.name)
@@ -128,7 +128,7 @@ def expected(wanted):
 
 
 def answer(form, target, text, tells_places=False):
-    """The line that answers a text."""
+    """The answer line for a text."""
     try:
         return show(target, outcome(form, target, text))
     except Refused as fault:

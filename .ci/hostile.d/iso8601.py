@@ -1,6 +1,6 @@
-"""ISO 8601: a date, a time and an offset, each optional, and each a row of pieces of a table.
+"""ISO 8601: a date, a time and an offset, each optional, and each by a row of pieces in a table.
 
-A date is basic or extended as a hyphen stands after its year or doesn't; what follows it may not be of the other kind.
+A date is extended if a hyphen follows its year, and else basic; the parts after it may not be of the other kind.
 """
 from digits import run, two
 from trees import furthest
@@ -11,7 +11,7 @@ UNKNOWN, BASIC, EXTENDED = "unknown", "basic", "extended"
 
 
 def number(text, at):
-    """Two digits, and a fraction's digits or None; nothing where a point stands without digits."""
+    """Two digits, and a fraction's digits or None; nothing for a point without digits."""
     whole = two(text, at)
     if not whole or text[whole[1]:whole[1] + 1] not in (b".", b","):
         return whole and (whole[0], None, whole[1])
@@ -27,7 +27,7 @@ def whole(name, most):
 
 
 def broken(name, most):
-    """A number with a fraction, of which the floor in nanoseconds counts."""
+    """A number with a fraction, rounded down to nanoseconds."""
     def read(text, at):
         found = number(text, at)
         if not found or found[1] is None or found[0] > most:
@@ -38,7 +38,7 @@ def broken(name, most):
 
 
 def any_second(text, at):
-    """A second, and its fraction rounded half up, which isn't rounded up to a second."""
+    """A second, and its fraction rounded half up, but not up to a second."""
     found = number(text, at)
     if not found or found[0] > 60:
         return None
@@ -64,7 +64,7 @@ def year(text, at):
     return found and (-found[0] if sign == b"-" else found[0], found[1])
 
 
-# The pieces, each with what is wanted where it doesn't stand.
+# The pieces, each with what is expected there.
 PIECES = {
     "year": (year, "year"), "-": (byte(b"-"), b"-"), "month": (digits(2, 1, 12), "month"),
     "day": (digits(2, 1, 99), "day"),
@@ -80,7 +80,7 @@ DATE_ROWS = [it.split() for it in ("year month day", "year ordinal", "year W wee
 NO_COLON = lambda text, at: text[at:at + 1] != b":"
 NO_NUMBER = lambda text, at: number(text, at) is None
 NO_DIGITS = lambda text, at: two(text, at) is None
-# A row, the kinds before it, what may follow it, and the kind after it (None: as before).
+# A row, the kinds before it, what may follow it, and the kind after it (None: unchanged).
 TIME_ROWS = [
     ("H", (UNKNOWN, BASIC, EXTENDED), (), None),
     ("h", (UNKNOWN, BASIC, EXTENDED), (NO_COLON, NO_NUMBER), None),
@@ -103,7 +103,7 @@ OFFSET_ROWS = [
 
 
 def pieces(row, text, at):
-    """What the pieces of a row say, each with its place, and where they end; or the miss of the first that isn't."""
+    """The values of a row's pieces, each with its place, and their end; or the miss of the first that fails."""
     said = []
     for name in row:
         found = PIECES[name][0](text, at)
@@ -115,7 +115,8 @@ def pieces(row, text, at):
 
 
 def table(rows, kind, text, at):
-    """What the row that fits says, where it ends and the kind after it; and the misses of all rows that may stand."""
+    """The values of the row that matches, its end and the kind after it; and the misses of all rows that are
+    allowed."""
     fitting, misses = None, []
     for row, before, behind, after in rows:
         if kind not in before:
@@ -129,7 +130,7 @@ def table(rows, kind, text, at):
 
 
 def date(text):
-    """What a date says, where it ends, its kind and the pieces; or its fault."""
+    """The value of a date, its end, its kind and the pieces; or its error."""
     found = year(text, 0)
     if not found:
         raise Refused("component", "year")
@@ -145,7 +146,7 @@ def date(text):
 
 
 def dated(said, record):
-    """The record with a date, or a refusal by the number that it has no room for, the year first."""
+    """The record with a date, or an error by the number that is out of its range, the year first."""
     numbers = {name: value for name, value, _ in said}
     parts = [("year", "iso_year" if "week" in numbers else "year"), ("month", "month"), ("day", "day"),
              ("ordinal", "ordinal"), ("week", "iso_week"), ("weekday", "weekday")]
@@ -182,7 +183,7 @@ def zoned(said, record):
 
 
 class Seen:
-    """What was seen of a text: where it was read to, with the record, or the fault; misses, and pieces that stood."""
+    """The result for a text: its end, with the record, or the error; misses, and pieces that matched."""
 
     def __init__(self, text, record):
         self.record, self.at, self.fault, self.read = {**record, "leap": True}, None, None, []
@@ -192,7 +193,7 @@ class Seen:
             self.record = dated(said, self.record)
         except Refused as fault:
             self.fault = fault
-            # A number that the record has no room for is missed; else the rows of a date are.
+            # A number out of the record's range is missed; else the rows of a date are.
             known = getattr(self, "misses", None)
             self.misses = [(at, fault.name) for at, _ in known] if known is not None else [
                 it for it in (pieces(row, text, 0)[1] for row in DATE_ROWS) if it]
@@ -202,7 +203,7 @@ class Seen:
             self.time(text, end, kind, True)
 
     def time(self, text, at, kind, needs_t):
-        """A time, and an offset after it; answers whether there is a time."""
+        """A time, and an offset after it; returns whether there is a time."""
         has_t = text[at:at + 1] == b"T"
         if needs_t and not has_t:
             self.misses = [(at, b"T"), *self.misses]

@@ -1,6 +1,6 @@
-"""Tries of the Python module: the same texts, by its calls, as columns and as lists, and moments that it writes.
+"""Fuzz tests of the Python module: random texts, by its calls, as columns and as lists, and moments that it writes.
 
-A process of its own imports the module and answers, so that it may end in any way.
+A worker process imports the module and makes the calls, so that a crash is detected.
 """
 import datetime
 import json
@@ -43,7 +43,7 @@ for line in sys.stdin:
 
 
 class Told(Exception):
-    """An error that the module raises, which isn't a refusal of the text."""
+    """An error of the module that isn't the rejection of a text."""
 
 
 def zone_of(offset):
@@ -99,7 +99,7 @@ def parse_parts(form, text):
 
 
 def answer(call, form, text):
-    """What a call answers, as the worker tells it."""
+    """The expected result of a call, in the worker's form."""
     try:
         if call == "parse":
             return repr(parse(form, text))
@@ -123,7 +123,7 @@ def answer(call, form, text):
 
 
 def within(form, text):
-    """The nanoseconds of a text, which 64 bits hold."""
+    """The nanoseconds of a text, if they fit 64 bits."""
     found = instant(outcome(form, "datetime", text))
     if not -2**63 <= found < 2**63:
         raise Told("the instant is out of range of 64 bits of nanoseconds", None)
@@ -138,7 +138,7 @@ def count(form, line):
 
 
 def answer_many(form, many, errors):
-    """What `parse_many` answers."""
+    """The expected result of `parse_many`."""
     found = [answer("within", form, it) for it in many]
     refused = [at for at, it in enumerate(found) if isinstance(it, list)]
     if errors == "none":
@@ -150,7 +150,7 @@ def answer_many(form, many, errors):
 
 
 def written(value, name):
-    """What `format_datetime` answers."""
+    """The expected result of `format_datetime`."""
     moment = ((value.year, value.month, value.day), (value.hour, value.minute, value.second, value.microsecond * 1000),
               int(value.utcoffset().total_seconds()))
     try:
@@ -179,7 +179,7 @@ def steps(tree):
 
 
 def ask(rng):
-    """A call, as it is sent, and what it answers."""
+    """A call, as it is sent, and its expected result."""
     if rng.random() < 0.1:
         value, name = agreeing.random_value(rng), rng.choice(list(NUMBERS))
         if rng.random() < 0.3:

@@ -1,4 +1,4 @@
-"""Tries of `time_lines` and `time_parse`."""
+"""Fuzz tests of `time_lines` and `time_parse`."""
 import reading_descriptions as reading
 import texts
 from descriptions import random_description
@@ -17,7 +17,7 @@ def named_text(rng, name):
 
 
 def lines(rng, tally, command, count=400):
-    """Lines of every format and target, and some that are none."""
+    """Lines of every format and target, and some malformed ones."""
     sent = []
     for _ in range(count):
         name = rng.choice([*FORMATS, "rfc3339", "rfc2822", "iso8601"])
@@ -63,7 +63,7 @@ def by_descriptions(rng, tally, command, count=40):
 
 
 def by_damaged_descriptions(rng, tally, command):
-    """A description that is damaged, or has as many steps as there is room for, or one more."""
+    """A damaged description, or one with the greatest number of steps, or with one more."""
     syntax, text, tree = random_description(rng)
     version = 1 if syntax == "v1" else 2
     tally.same("the readers", reading.shown(reading.read(text, version)), reading.shown(tree), lambda: repr(text))
@@ -79,7 +79,7 @@ def by_damaged_descriptions(rng, tally, command):
 
 
 def described(text, version):
-    """What `time_parse` answers to a time by a description, what it tells, and its status."""
+    """The expected output of `time_parse` for a time by a description, its report, and its status."""
     said = "".join(chr(it) if 32 <= it <= 126 else "?" for it in text)
     try:
         if b"[" not in text and b"%" not in text:

@@ -1,7 +1,7 @@
-"""What the readers of RFC 3339 and RFC 2822 share: a text is read place by place.
+"""Shared code of the readers of RFC 3339 and RFC 2822: a text is read place by place.
 
-A place that doesn't stand is a Stop: the index of the byte that doesn't, what was wanted there, and the refusal. A text
-is read by the form of its places alone, or by their ranges too.
+A place that fails raises a Stop: the index of the failing byte, what was expected there, and the error. A text is read
+by the form of its places alone, or by their ranges too.
 """
 from values import Refused
 

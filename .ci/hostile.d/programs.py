@@ -1,4 +1,4 @@
-"""The programs, what they answer, and how a try is told so that it can be made again."""
+"""The programs, their expected output, and how a failing test is reported so that it can be repeated."""
 import os
 import re
 import shlex
@@ -17,19 +17,19 @@ def quoted(word):
 
 
 def piped(command, given):
-    """A command of bash that hands bytes to a program."""
+    """A command of bash that pipes bytes to a program."""
     sent = "".join(chr(it) if 32 <= it < 127 and it not in b"'\\%" else f"\\{it:03o}" for it in given)
     return f"printf '{sent}' | {' '.join(quoted(os.fsencode(it)) for it in command)}"
 
 
 class Tally:
-    """What passed and what failed. Of each part the first differences are told."""
+    """The counts of passed and failed tests. Of each part the first differences are reported."""
 
     def __init__(self, most=20):
         self.passed, self.failed, self.most, self.told = 0, 0, most, {}
 
     def same(self, part, got, wanted, again):
-        """Counts a try; `again` makes the text by which it can be made again."""
+        """Counts a test; `again` makes the text that repeats it."""
         if got == wanted:
             self.passed += 1
             return True
@@ -46,7 +46,7 @@ class Tally:
 
 
 class Cases(Tally):
-    """Inputs and wanted outputs, which are written for `rt try --cases`."""
+    """Inputs and expected outputs, which are written for `rt try --cases`."""
 
     def __init__(self, folder):
         super().__init__()
@@ -74,7 +74,7 @@ def run(command, given, cwd=None, env=None):
 
 
 def answers(tally, part, command, lines, wanted):
-    """Compares the lines that a program answers with those that are wanted. Where the last is short, no LF ends it."""
+    """Compares the lines that a program prints with the expected ones. If the last is short, no LF ends it."""
     sent = b"".join(it + b"\n" for it in lines)
     if lines and 0 < len(lines[-1]) < 10:
         sent = sent[:-1]

@@ -1,4 +1,4 @@
-"""Descriptions written as text, read from the left: a tree, or the first fault."""
+"""Descriptions as text, parsed from the left: a tree, or the first fault."""
 from components import MODIFIERS, Component
 from descriptions import BYTES_OF, FLAGS, LETTERS, SHORTHANDS, of_letter
 from stamping import escaped
@@ -9,7 +9,7 @@ GROUPS = (b"optional", b"first")
 
 
 class Fault(Exception):
-    """Why a text is no description, and the index of its first fault."""
+    """The error of a malformed description, and the index of its first fault."""
 
     def __init__(self, text, index):
         super().__init__(text, index)
@@ -29,7 +29,7 @@ def looked_up(names, word):
 
 
 class Brackets:
-    """A description of version 1, where `[[` stands for a bracket, or 2, where a backslash escapes."""
+    """A description of version 1, where `[[` is a literal bracket, or 2, where a backslash escapes."""
 
     def __init__(self, text, version):
         self.text, self.version, self.at = text, version, 0
@@ -190,7 +190,7 @@ def read(text, version):
 
 
 def steps(tree):
-    """A byte of a literal and a component are a step each, and so are a group and each list of a choice."""
+    """Each byte of a literal and each component is a step, as is each group and each list of a choice."""
     kind, inside = tree
     if kind in ("literal", "component"):
         return len(inside) if kind == "literal" else 1

@@ -1,4 +1,4 @@
-"""What a text says, part by part, and the value that the parts make: the first row of parts that is wholly there."""
+"""The parts of a text, and the value that they make: by the first row of parts that is complete."""
 from values import (BILLION, LAST_NANOSECOND, Refused, ask_leap_second, calendar_date, clock_time, counted_week_date,
                     has_date, instant, iso_week_date, offset_of, ordinal_date, shown_at, LEAST_INSTANT, MOST_INSTANT)
 
@@ -17,7 +17,7 @@ RANGES = {
 
 
 def with_part(record, part, value):
-    """The record with a part more, or None where the value is out of its range."""
+    """The record with one more part, or None if the value is out of range."""
     least, most = RANGES[part]
     return {**record, part: value} if least <= value <= most else None
 
@@ -99,7 +99,7 @@ def count_of(record):
 
 
 def resolve(record, target):
-    """The value of a target, or why the parts make none."""
+    """The value of a target, or the error."""
     if target == "plain":
         return date_of(record), time_of(record)
     return {

@@ -17,7 +17,7 @@ def blanks(text, at):
 
 
 def folding(text, at):
-    """Blanks, which a line break may stand before, or among."""
+    """Blanks, which may include line breaks."""
     if text[at:at + 2] == b"\r\n":
         end = blanks(text, at + 2)
         return end if end > at + 2 else None
@@ -65,7 +65,7 @@ def blank_or_comment(text, at):
 
 
 def skipped(text, at):
-    """After blanks and comments, of which there may be none."""
+    """After optional blanks and comments."""
     return repeated(blank_or_comment, text, at)
 
 
@@ -82,7 +82,7 @@ def colon(text, at):
 
 
 def zone_name(text, at):
-    """The hours of a zone's name, and its end. Where less than three bytes remain it is `UT` or a letter."""
+    """The hours of a zone's name, and its end. With fewer than three bytes left it is `UT` or a letter."""
     left = text[at:]
     if len(left) >= 3:
         hours = ZONES.get(left[:3].upper())
@@ -152,7 +152,7 @@ def clock(text, at, ranges, said, marks):
 
 
 def places(text, ranges):
-    """The numbers of a text's front, where it ends, and where its parts begin."""
+    """The numbers at a text's start, their end, and where its parts start."""
     said, marks = {}, []
     at = clock(text, date(text, ranges, said, marks), ranges, said, marks)
     marks.append(("offset hour", at))
@@ -172,7 +172,7 @@ def places(text, ranges):
 
 
 def record_of(said, record):
-    """The record with what a text says, in which a leap second may stand."""
+    """The record with the parts of a text, in which a leap second is allowed."""
     parts = {it: said[it] for it in ("year", "month", "day", "minute", "offset_hour", "offset_minute")}
     parts |= {it: said[it] for it in ("weekday", "second") if it in said}
     return {**record, **parts, "hour_24": said["hour"], "offset_negative": False, "leap": True}

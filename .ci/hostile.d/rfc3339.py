@@ -42,7 +42,7 @@ def offset(text, at, ranges):
 
 
 def places(text, ranges):
-    """The numbers of a text's front, where it ends, and where its parts begin."""
+    """The numbers at a text's start, their end, and where its parts start."""
     said, marks, at = {}, [], 0
     for name, least, most, width, behind in (
             ("year", 0, 9999, 4, b"-"), ("month", 1, 12, 2, b"-"), ("day", 1, 31, 2, None), ("hour", 0, 23, 2, b":"),
@@ -66,7 +66,7 @@ def places(text, ranges):
 
 
 def record_of(said, record):
-    """The record with what a text says, in which a leap second may stand."""
+    """The record with the parts of a text, in which a leap second is allowed."""
     parts = {"year": said["year"], "month": said["month"], "day": said["day"], "hour_24": said["hour"],
              "minute": said["minute"], "second": said["second"], "offset_hour": said["offset_hour"],
              "offset_minute": said["offset_minute"], "offset_negative": False, "leap": True}

@@ -1,4 +1,4 @@
-"""What `restamp` does with lines: the time of each, what takes its place, and what is told."""
+"""The expected output of `restamp` for lines: the time of each, its replacement, and the report."""
 import cutting
 import writing
 from formats import FORMATS, ByPlaces, outcome, value_place
@@ -17,14 +17,14 @@ TOO_FAR = f"the time goes on past byte {LIMIT} of its line"
 
 
 class Reading:
-    """A format that times are read by. Of a number of seconds a fraction after a minus is refused."""
+    """A format that parses times. For a number of seconds, a fraction after a minus is rejected."""
 
     def __init__(self, word, form, is_counted=False):
         self.word, self.form, self.is_counted = word, form, is_counted
 
 
 class Reason(Exception):
-    """Why a time isn't rewritten: its text, and the refusal where no format reads it."""
+    """Why a time isn't rewritten: its text, and the error if no format parses it."""
 
     def __init__(self, text, fault=None):
         super().__init__(text)
@@ -32,7 +32,7 @@ class Reason(Exception):
 
 
 def completed(record, parts):
-    """The record of a text with the parts that stand for what it doesn't say: its year, and its offset."""
+    """The record of a text with the defaults for its missing year and offset."""
     if "year" in parts and not any(it in record for it in YEAR_PARTS):
         record = {**record, "year": parts["year"]}
     if "offset_hour" not in record:
@@ -41,13 +41,13 @@ def completed(record, parts):
 
 
 def front(form, text, parts):
-    """The moment that a front of a text says, and where that ends."""
+    """The moment at the start of a text, and its end."""
     at, record = form.read(text, {})
     return at, record if isinstance(form, ByPlaces) else completed(record, parts)
 
 
 def said(reading, is_open, text, parts):
-    """(moment, begin, end) of what a text says by a format: all of it, or a front where it is open."""
+    """(moment, begin, end) of a text by a format: the whole text, or a prefix if it is open."""
     form = reading.form
     try:
         if not is_open and isinstance(form, ByPlaces):
@@ -67,7 +67,7 @@ def said(reading, is_open, text, parts):
 
 
 def dated(reading, is_open, text, job):
-    """The same; where a text says nothing without a year, in the latest year in which it isn't after a moment."""
+    """That; for a text without a year, in the latest year in which it isn't after a moment."""
     try:
         return said(reading, is_open, text, job.parts)
     except Reason as reason:
@@ -90,7 +90,7 @@ def dated(reading, is_open, text, job):
 
 
 def in_turn(job, is_open, text):
-    """By the first format that reads; where none does, the reason is the first one's."""
+    """By the first format that parses; without one, the error is that of the first format."""
     first = None
     for reading in job.readings:
         try:
@@ -101,12 +101,12 @@ def in_turn(job, is_open, text):
 
 
 def is_word(line, at):
-    """A letter or digit stands right before the place, and one right after it."""
+    """Whether a letter or digit is right before the place, and one right after it."""
     return 0 < at < len(line) and line[at - 1:at].isalnum() and line[at:at + 1].isalnum()
 
 
 def anywhere(job, line):
-    """The first byte from which on a format reads a time, which neither begins nor ends inside a word or number."""
+    """The first byte from which on a format parses a time, which neither starts nor ends inside a word or number."""
     line = cutting.body(line)
     for at in range(len(line)):
         if is_word(line, at):
@@ -122,7 +122,7 @@ def anywhere(job, line):
 
 
 def wrong_place(job, text, fault):
-    """Where a refused text goes wrong by the first format, and what was expected there; or None."""
+    """Where a rejected text fails by the first format, and what was expected there; or None."""
     form = job.readings[0].form
     is_read = False
     try:
@@ -138,7 +138,8 @@ def wrong_place(job, text, fault):
 
 
 def lacking(job, text):
-    """What a text says nothing of that the first format reads: of a day, its year, an hour, its half, and so on."""
+    """The first missing part of a text that the first format parses: of a day, its year, an hour, its half, and so
+    on."""
     parts = {**job.parts, "year": job.latest[0][0]} if job.latest else job.parts
     record = front(job.readings[0].form, text, parts)[1]
     counted = "sunday_week" in record or "monday_week" in record
@@ -155,7 +156,7 @@ def lacking(job, text):
 
 
 def escaped(wanted):
-    """What was expected, with what isn't printed after a backslash."""
+    """What was expected, with escapes for what isn't printable."""
     if wanted is None:
         return "expected the end"
     if isinstance(wanted, str):
@@ -166,7 +167,7 @@ def escaped(wanted):
 
 
 class Job:
-    """What the options ask for."""
+    """The job of the options."""
 
     def __init__(self, place, readings, form, digits="auto", zone=None, parts=None):
         self.place, self.readings, self.form, self.digits, self.zone = place, readings, form, digits, zone
@@ -175,8 +176,8 @@ class Job:
         self.judged = {}
 
     def judge(self, line):
-        """("without",), ("dropped",), ("rewritten", begin, end, text) or ("refused", column, reason), of which what is
-        None isn't compared."""
+        """("without",), ("dropped",), ("rewritten", begin, end, text) or ("refused", column, reason), in which None
+        isn't compared."""
         front = line[:FRONT]
         if front not in self.judged:
             self.judged[front] = self.verdict(front)
@@ -220,7 +221,7 @@ class Job:
 
 
 class Settings:
-    """Which lines go out, and what is told of the others."""
+    """The expected output lines, and the reports on the others."""
 
     def __init__(self, output="all", most=10, strict=False, keeps_going=False, shows=False):
         self.output, self.most, self.strict, self.keeps_going, self.shows = output, most, strict, keeps_going, shows
@@ -233,8 +234,8 @@ def pointer(line, column):
 
 
 class Expected:
-    """What goes out for files, what is told, and the status. A report is a list of what must stand in turn: where a
-    reason isn't compared, its line begins with what is known."""
+    """The expected output for files, the reports, and the status. A report is a list of what must follow in turn; if a
+    reason isn't compared, its line starts with what is known."""
 
     def __init__(self, job, settings):
         self.job, self.settings = job, settings
@@ -289,7 +290,7 @@ class Expected:
         return 0 if self.rewritten else 1
 
     def difference(self, out, log, status):
-        """What differs of a run from what is wanted, or None."""
+        """The difference of a run from the expected one, or None."""
         wanted = b"".join(self.out)
         if (out, status) == (wanted, self.status()) and self.agrees(log):
             return None

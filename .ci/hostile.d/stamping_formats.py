@@ -1,4 +1,4 @@
-"""Formats of `restamp`, random texts by them, and what they lack to say a moment."""
+"""Formats of `restamp`, random texts by them, and the parts that they miss for a moment."""
 import descriptions
 import texts
 import writing
@@ -36,7 +36,7 @@ def parts_of(tree):
 
 
 def always_says(tree, wanted):
-    """Whether each text of a tree says one of some parts."""
+    """Whether each text of a tree has one of some parts."""
     kind, inside = tree
     if kind == "list":
         return any(always_says(it, wanted) for it in inside)
@@ -46,12 +46,12 @@ def always_says(tree, wanted):
 
 
 def lacks_year(reading):
-    """Whether a format has texts without a year, which another stands for. A date of ISO 8601 has its year."""
+    """Whether a format has texts without a year, which need a default. A date of ISO 8601 has its year."""
     return isinstance(reading.form, ByTree) and not always_says(reading.form.tree, {*YEAR_PARTS, "timestamp"})
 
 
 def lacks_offset(reading):
-    """Whether a format has texts without an offset, which another stands for."""
+    """Whether a format has texts without an offset, which need a default."""
     if isinstance(reading.form, ByTree):
         return not always_says(reading.form.tree, {"offset_hour", "timestamp"})
     return reading.word == "iso8601"
@@ -66,7 +66,7 @@ def mentioned(tree):
 
 
 def have_date_and_hour(parts):
-    """Whether parts name a day with its year, and an hour of it."""
+    """Whether parts have a day with its year, and an hour of it."""
     year, iso = (f"{it}year" in parts or {f"{it}century", f"{it}last_two"} <= parts for it in ("", "iso_"))
     week = "weekday" in parts and parts & {"sunday_week", "monday_week"}
     day = "ordinal" in parts or {"month", "day"} <= parts or week
@@ -75,7 +75,7 @@ def have_date_and_hour(parts):
 
 
 def says_moment(tree, has_year):
-    """Whether each text of a tree says a moment, where a year may be given, and a missing offset always is."""
+    """Whether each text of a tree has a moment, where a year may be given, and a missing offset always is."""
     parts = parts_of(tree)
     if "timestamp" in parts:
         return True
@@ -94,7 +94,7 @@ def lacks_part(tree, has_year):
 
 
 def described(rng, has_year):
-    """A description whose texts all say a moment, which has few steps and no name."""
+    """A description whose texts all have a moment, which has few steps and isn't a name."""
     while True:
         syntax, text, tree = descriptions.random_description(rng, says_all=True)
         if syntax != "v1" and says_moment(tree, has_year):
@@ -102,7 +102,7 @@ def described(rng, has_year):
 
 
 def speechless(rng, has_year):
-    """A description of which no text says a moment, for want of a component, where a year may be given."""
+    """A description whose texts have no moment, since a component is missing, where a year may be given."""
     while True:
         syntax, text, tree = descriptions.random_description(rng)
         if syntax != "v1" and lacks_part(tree, has_year):
@@ -110,7 +110,7 @@ def speechless(rng, has_year):
 
 
 def text_by(rng, reading, moment):
-    """A text of a format, which says the moment where it is easily said."""
+    """A text of a format, at the moment where that is simple."""
     name = reading.word
     if name in MADE:
         if rng.random() < 0.5:

@@ -1,4 +1,4 @@
-"""Random options of `restamp`, and the job that they ask for."""
+"""Random options of `restamp`, and the job that they request."""
 import descriptions
 import stamping_formats as formats
 import texts
@@ -46,7 +46,7 @@ def random_field(rng):
 
 
 def random_readings(rng, has_year):
-    """Formats that say a moment, where a year may be given."""
+    """Formats whose texts have a moment, where a year may be given."""
     found = []
     for _ in range(rng.choice([1, 1, 1, 2, 3])):
         names = [it for it in formats.NAMED if it != "syslog" or has_year]
@@ -70,7 +70,7 @@ def random_form(rng):
 
 
 def add_years(rng, job, kind):
-    """The option for times without a year, and whether it is refused, since no format has such times."""
+    """The option for times without a year, and whether it is rejected, since no format has such times."""
     if not kind:
         return [], False
     uses = any(formats.lacks_year(it) for it in job.readings)
@@ -86,7 +86,7 @@ def add_years(rng, job, kind):
 
 
 def add_offset(rng, job):
-    """The option for times without an offset, and whether it is refused."""
+    """The option for times without an offset, and whether it is rejected."""
     uses = any(formats.lacks_offset(it) for it in job.readings)
     if rng.random() > (0.2 if uses else 0.02):
         return [], False
@@ -108,7 +108,7 @@ def bound_of(job, text):
 
 
 def add_bounds(rng, job):
-    """Options of moments that lines lie between, and whether one is refused."""
+    """Options for a range of moments, and whether one is rejected."""
     words, refused = [], False
     for name, letter in (("since", "-s"), ("until", "-e")):
         if rng.random() > 0.15:
@@ -143,7 +143,7 @@ def random_settings(rng):
 
 
 def random_job(rng):
-    """A job, its settings and options, and whether they are refused at the start."""
+    """A job, its settings and options, and whether they are rejected at the start."""
     place, words = random_place(rng)
     year = rng.choice(["", "", "", "year", "latest"])
     readings, refused = random_readings(rng, bool(year)), False

@@ -1,4 +1,4 @@
-"""Tries of `restamp`: random log lines by random options."""
+"""Fuzz tests of `restamp`: random log lines by random options."""
 import os
 import tempfile
 
@@ -19,7 +19,7 @@ def junk(rng, most=3):
 
 
 def line_at(rng, place, text):
-    """A line with a text at a place, more or less."""
+    """A line with a text about at a place."""
     kind, tail = place[0], rng.choice(TAILS)
     if kind == "whole":
         return text
@@ -65,14 +65,14 @@ def random_lines(rng, job, count):
 
 
 def lengthened(rng, job, lines):
-    """The lines many times over, as more than one read has, or one with more bytes than are read of a line."""
+    """The lines repeated to more than one read, or one with more bytes than are read of a line."""
     if rng.random() < 0.5:
         return lines[:-1] * rng.randint(50, 150) + lines[-1:]
     at = rng.randrange(len(lines))
     line = lines[at].rstrip(b"\r\n")
     fate = job.judge(line)
     if job.place[0] == "after" and fate[0] == "rewritten" and rng.random() < 0.5:
-        # The time ends where one may stand, or where what is read of the line ends, or goes on.
+        # The time ends where one is allowed to, or where the read part of the line ends, or continues.
         far = rng.choice([LIMIT, FRONT]) + rng.choice([-3, -1, 0, 1, 5])
         line = b"\x01" * (far - fate[2]) + line + b" x"
     else:
@@ -87,7 +87,7 @@ def expectation(job, settings, given, name="-"):
 
 
 def differs(command, words, job, settings, given):
-    """What a run answers in place of what is wanted, or None."""
+    """The difference of a run from the expected one, or None."""
     expected = expectation(job, settings, given)
     out, log, status = run([*command, *words], given)
     return expected.difference(out, log, status)
@@ -109,14 +109,14 @@ def one(rng, tally, command, count=30):
         if not found:
             tally.passed += len(lines)
             return
-        # Where a line alone differs, that is told.
+        # If one line alone differs, that is reported.
         alone = ((it, differs(command, words, job, settings, it)) for it in dict.fromkeys(lines))
         given, found = next((it for it in alone if it[1]), (given, found))
         tally.differ("restamp", f"{piped([*command, *words], given)}\n    {found}")
 
 
 def files(rng, tally, command):
-    """Several files, whose names may have bytes that aren't printed."""
+    """Several files, whose names may have unprintable bytes."""
     job, settings, words, refused = random_job(rng)
     names = rng.sample(NAMES, rng.randint(1, 3))
     data = {name: b"".join(random_lines(rng, job, rng.randint(0, 12))) for name in names}

@@ -1,4 +1,4 @@
-"""Random moments, texts that say them, and texts that are damaged."""
+"""Random moments, texts of them, and damaged texts."""
 import components
 import writing
 from values import BILLION, MONTHS, WEEKDAYS, date_at, day_number, GREATEST
@@ -39,7 +39,7 @@ def fraction(rng, points="."):
 
 
 def leap(rng):
-    """A leap second at a month's end in UTC, on a clock with an offset of whole hours; or right beside it."""
+    """A leap second at a month's end in UTC, at an offset of whole hours; or right beside it."""
     year, month = rng.randint(1, 9998), rng.randint(1, 12)
     hours = rng.choice([0, 0, rng.randint(-12, 14)])
     minutes = (day_number((year + month // 12, month % 12 + 1, 1)) * 24 + hours + rng.choice([0, 0, 0, 1, 24])) * 60 - 1
@@ -57,7 +57,7 @@ def rfc3339(rng):
 
 
 def comment(rng, depth=0):
-    """Of some pieces, the last of which stands for a comment inside it."""
+    """Some pieces, of which the last means a comment inside a comment."""
     pieces = [rng.choice(["x", " ", "\\)", "\\(", "\r\n ", "a b", ".", "\t", ""]) for _ in range(rng.randint(0, 3))]
     return "(" + "".join(it or (comment(rng, depth + 1) if depth < 4 else "y") for it in pieces) + ")"
 
@@ -110,7 +110,7 @@ def iso8601(rng):
 
 
 def spelled(rng, tree, moment):
-    """A text of a tree that says a moment, here and there loosely."""
+    """A text of a tree at a moment, with some random variations."""
     kind, inside = tree
     if kind == "literal":
         return inside
@@ -131,7 +131,7 @@ def spelled(rng, tree, moment):
 
 
 def damaged(rng, text):
-    """The text, with a byte or two changed, left out, doubled or added; or cut; or with others around it."""
+    """The text, with a byte or two changed, removed, doubled or added; or truncated; or with others around it."""
     for _ in range(rng.choice([1, 1, 1, 2])):
         at = rng.randint(0, len(text))
         byte = bytes([rng.choice(BYTES)])
@@ -155,7 +155,7 @@ def clean(text):
 
 
 def some_text(rng, made):
-    """A text as it was made, damaged, or of any bytes."""
+    """A text as it was made, damaged, or of random bytes."""
     draw = rng.random()
     if draw < 0.03:
         count = rng.randint(0, 40)

@@ -1,4 +1,4 @@
-"""Descriptions as trees, which are read as their documentation says.
+"""Descriptions as trees, which are parsed as their documentation specifies.
 
 A tree is ("literal", bytes), ("component", Component), ("list", trees), ("optional", tree) or ("first", trees).
 """
@@ -7,12 +7,12 @@ from values import Refused
 
 
 class Walk:
-    """What was seen while a text was read by a tree.
+    """The result of parsing a text by a tree.
 
-    `reading` is where it ended, with the record, or None. `fault` is why there is none. `misses` are the leaves that
-    were begun and read nothing, each as the index and what was wanted there, in the order in which the first that goes
-    furthest is told: of trees in turn the later come first. `marks` are the components that were read, with the index
-    where each began, the last one first.
+    `reading` is its end, with the record, or None. `fault` is the error. `misses` are the leaves that were started and
+    parsed nothing, each as the index and what was expected there, in the order in which the first that goes furthest is
+    reported: of trees in turn the later come first. `marks` are the parsed components, with the index where each starts,
+    the last one first.
     """
 
     def __init__(self, reading, fault=None, misses=(), marks=()):
@@ -79,7 +79,7 @@ def furthest(misses):
 
 
 def place_of(tree, text, record):
-    """Where a text that isn't read whole goes wrong, and what was wanted there (bytes, a name, or None for the end)."""
+    """Where a text that isn't parsed whole fails, and what was expected there (bytes, a name, or None for the end)."""
     seen = walk(tree, text, 0, record)
     if seen.reading is None:
         return furthest(seen.misses)
@@ -89,11 +89,11 @@ def place_of(tree, text, record):
 
 
 def is_called(part, name):
-    """Whether a range of that name is told of the component. Of an ISO week the date's refusal has another name."""
+    """Whether a range with that name is about the component. Of an ISO week the date's error has another name."""
     return part.called == name or name == "week" and part.name == "week_number" and part.repr == "iso"
 
 
 def mark_of(tree, text, record, name):
-    """Where the last component of a name begins, in the front of a text that the tree reads; or None."""
+    """Where the last component with a name starts, in the prefix that the tree parses; or None."""
     marks = walk(tree, text, 0, record).marks
     return next((at for part, at in marks if is_called(part, name)), None)

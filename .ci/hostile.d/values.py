@@ -1,8 +1,8 @@
 """Dates, times, offsets and moments, as `datetime` counts them.
 
-The calendar repeats after 400 years, so that a date of any year is one of the years 2000 to 2399 of `datetime`, so many
-times 400 years away. A date is (year, month, day), a time (hour, minute, second, nanosecond), an offset its seconds,
-and a moment all three.
+The calendar repeats after 400 years, so that a date of any year is one of the years 2000 to 2399 of `datetime`, a
+multiple of 400 years away. A date is (year, month, day), a time (hour, minute, second, nanosecond), an offset its
+seconds, and a moment all three.
 """
 import datetime
 import functools
@@ -19,7 +19,7 @@ WEEKDAYS = "Monday Tuesday Wednesday Thursday Friday Saturday Sunday".split()
 
 
 class Refused(Exception):
-    """Why a text has no value. The kind is `literal`, `component`, `trailing`, `missing` or `range`."""
+    """The error of a text without a value. The kind is `literal`, `component`, `trailing`, `missing` or `range`."""
 
     def __init__(self, kind, name=None, conditional=False):
         super().__init__(kind, name, conditional)
@@ -37,7 +37,7 @@ class Refused(Exception):
 
 
 def turned(year):
-    """The year of 2000 to 2399 with the same calendar, and how many times 400 years it lies before the given one."""
+    """The year of 2000 to 2399 with an equal calendar, and how many times 400 years it is before the given one."""
     turns = (year - 2000) // 400
     return year - 400 * turns, turns
 
@@ -113,7 +113,7 @@ def counted_week_date(year, letter, week, weekday):
 
 
 def like(date):
-    """The date of `datetime` with the same month, day, weekday and weeks, and the years between them."""
+    """The date of `datetime` with equal month, day, weekday and weeks, and the years between them."""
     year, turns = turned(date[0])
     return datetime.date(year, date[1], date[2]), 400 * turns
 
@@ -130,7 +130,7 @@ def nanoseconds_of(time):
 
 
 def split(nanoseconds):
-    """The hour, minute, second and nanosecond of what has passed of a day."""
+    """The hour, minute, second and nanosecond of the time since midnight."""
     seconds, nanosecond = divmod(nanoseconds, BILLION)
     return seconds // 3600, seconds // 60 % 60, seconds % 60, nanosecond
 
@@ -145,7 +145,7 @@ def has_date(nanoseconds):
 
 
 def shown_at(nanoseconds, offset):
-    """The moment of an instant on a clock with an offset, or None where that shows no date."""
+    """The moment of an instant in local time at an offset, or None if that has no date."""
     local = nanoseconds + offset * BILLION
     return (date_at(local // DAY), split(local % DAY), offset) if has_date(local) else None
 
@@ -161,7 +161,7 @@ def offset_of(hours, minutes, seconds):
 
 
 def ask_leap_second(moment):
-    """A leap second stands at the end of a month in UTC."""
+    """A leap second is at the end of a month in UTC."""
     at = instant(moment)
     if has_date(at):
         date, time, _ = shown_at(at, 0)

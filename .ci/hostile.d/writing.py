@@ -7,7 +7,7 @@ UNITS = {"unix": BILLION, "unix-ms": 10**6, "unix-us": 10**3, "unix-ns": 1}
 
 
 class Unwritable(Exception):
-    """Why a moment has no text, as it is told."""
+    """The error of a moment without a text."""
 
 
 def no_component(name):
@@ -15,7 +15,7 @@ def no_component(name):
 
 
 def filled(padding, width, number):
-    """A number with that for each zero in front of it; the last digit stays."""
+    """A number padded with that in place of leading zeros; the last digit stays."""
     text = f"{number:0{width}}"
     digits = text.lstrip("0") or "0"
     return {"zero": "0", "space": " ", "none": ""}[padding] * (len(text) - len(digits)) + digits
@@ -81,7 +81,8 @@ def of_component(component, moment):
 
 
 def of_tree(tree, moment, before=b"", most=MOST_BYTES):
-    """The bytes before, and a tree's text after them, so many at most, with what is optional, and of a choice the first."""
+    """The bytes before, and a tree's text after them, at most this many, with optional items, and the first of a
+    choice."""
     kind, inside = tree
     if kind in ("list", "first"):
         for item in inside[:1] if kind == "first" else inside:
@@ -96,7 +97,7 @@ def of_tree(tree, moment, before=b"", most=MOST_BYTES):
 
 
 def of_3339(moment, digits):
-    """With so many digits of a fraction, or up to the last that isn't 0."""
+    """With this many digits of a fraction, or up to the last that isn't 0."""
     date, time, offset = moment
     if not 0 <= date[0] <= 9999:
         raise no_component("year")
@@ -123,7 +124,7 @@ def of_2822(moment):
 
 
 def of_form(form, digits, offset, moment, most=MOST_BYTES):
-    """The bytes of a moment by a name or a tree, shown at an offset where one is given, and by a tree so many at most."""
+    """The bytes of a moment by a name or a tree, at an offset if one is given, and by a tree at most this many."""
     no_date = Unwritable("the time has no date at that offset")
     at = instant(moment)
     if offset is not None:

@@ -1,8 +1,8 @@
-"""Tries of `restamp` in the time zones of the system, held against Python's `zoneinfo`.
+"""Fuzz tests of `restamp` in the time zones of the system, compared with Python's `zoneinfo`.
 
-Each zone is tried at, one second before and one second after each transition of its file, and at random moments, also
-past the last transition, where the rule of the file goes on. So are the dates and times that its clocks leave out or
-show twice there, by each `--fold`, and times of RFC 9557 with its name.
+Each zone is tested at, one second before and one second after each transition of its file, and at random moments, also
+after the last transition, where the rule of the file applies. So are its nonexistent and ambiguous local times there,
+by each `--fold`, and times of RFC 9557 with its name.
 """
 import datetime
 import struct
@@ -19,7 +19,7 @@ left = []
 
 
 def next_zones(count):
-    """The next zones in turn: after some rounds each was tried, and they begin anew."""
+    """The next zones in turn: after some rounds each was tested, and they start again."""
     names = sorted(it for it in zoneinfo.available_timezones() if it != "localtime")
     taken = []
     while names and len(taken) < min(count, len(names)):
@@ -40,7 +40,7 @@ def file_of(name):
 
 
 def transitions(name):
-    """The seconds of the transitions of a zone's file: those of its second block, where it has one (RFC 9636)."""
+    """The seconds of the transitions of a zone's file: those of its second block, if it has one (RFC 9636)."""
     data, at, width = file_of(name), 0, 4
     if data[:4] != b"TZif":
         return []
@@ -65,7 +65,7 @@ def moments(rng, name):
         yield from (second - 1, second, second + 1)
     for _ in range(30):
         yield rng.randint(-5_000_000_000, 20_000_000_000)
-    yield 20_000_000_000  # the last line is no short one, as `answers` would send that without its LF
+    yield 20_000_000_000  # the last line is no short one, since `answers` would send that without its LF
 
 
 def in_zone(rng, tally, command, name):
@@ -93,7 +93,7 @@ def clocks(rng, zone, name):
 
 
 def meant(clock, zone, fold):
-    """The moment that a date and time means, or `None`. One that clocks leave out is shown at neither of its offsets."""
+    """The moment of a local time, or `None`. A nonexistent one is the local time of neither of its offsets."""
     earlier, later = (clock.replace(tzinfo=zone, fold=it) for it in (0, 1))
     if earlier.utcoffset() == later.utcoffset():
         return earlier
@@ -126,14 +126,14 @@ def offset_text(seconds):
 
 
 def is_ahead(name, second, offset):
-    """Whether clocks of the zone are so many seconds ahead of UTC at the second."""
+    """Whether the zone is this many seconds ahead of UTC at the second."""
     return (EPOCH + second * SECOND).astimezone(zoneinfo.ZoneInfo(name)).utcoffset() == offset * SECOND
 
 
 def with_suffix(rng, second, moment, name):
-    """A text of RFC 9557, and what it becomes as a number of seconds: itself where it is refused."""
+    """A text of RFC 9557, and its replacement by a number of seconds: itself if it is rejected."""
     clock, offset = moment.replace(tzinfo=None).isoformat(), int(moment.utcoffset().total_seconds())
-    # The clock may be shown at both offsets, where the zone's changed by a quarter of an hour.
+    # Both offsets may have the local time, if the zone's changed by a quarter of an hour.
     other = next(it for it in (offset + 900, offset - 900) if abs(it) < 86_400 and not is_ahead(name, second + offset - it, it))
     utc = f"{(EPOCH + second * SECOND).replace(tzinfo=None).isoformat()}{rng.choice(['Z', 'z', '-00:00'])}"
     text, key = f"{clock}{offset_text(offset)}", rng.choice(["u-ca=gregory", "_a=b-c"])

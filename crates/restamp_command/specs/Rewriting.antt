@@ -79,7 +79,7 @@ TellsWrong Y job zone shows_lines front begin reason column text =
     (w : Wrong) × (lack : Option Lack) × IsWrong Y job front begin reason w × IsLack Y job front reason lack
     × (column ≡ w.column) × (text ≡ told_wrong shows_lines front zone reason lack w)
 
--- A front is refused, goes wrong at that column, and that text tells the reason.
+-- A front is rejected, its error is at that column, and that text is the reason.
 abbrev pub IsReason : ℕ → Job → List ℕ → Bool → List ℕ → ℕ → List ℕ → Type 0
 IsReason Y job zone shows_lines front column text =
     (begin : ℕ) × (reason : Reason) × IsJudged Y job front (refused begin reason)

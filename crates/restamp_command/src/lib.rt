@@ -1,4 +1,4 @@
-//! The options of `restamp`, what they ask for, and the answer to files.
+//! The options of `restamp`, what they request, and how files are processed.
 #![tactic(auto)]
 
 mod bounds;

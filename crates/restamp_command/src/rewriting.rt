@@ -106,7 +106,7 @@ impl Restamping<'_> {
     }
 }
 
-/// Answers all lines of the files as it is asked for, one after the other.
+/// Processes all lines of the files as requested, one after the other.
 ///
 /// A file that can't be opened or read to its end is told to the log, and the others are answered, so that the answer is
 /// never [`Stop::Unread`]. The work stops at a failed write, and under `--strict` at the first refused line, unless it is

@@ -227,7 +227,7 @@ pub record DidSome (job : Job) (old new : Option (List ℕ)) (before after : Sta
   pub fails : Fails job.name answered failed
   pub closed : Closes job.name job.settings.reports failed after
 
--- A line of the input was refused: all lines before it were answered, and what was refused was told.
+-- A line of the input was rejected: all lines before it were processed, and what was rejected was reported.
 pub record DidBefore (job : Job) (before after : State) (bytes : List ℕ) : Type 0 where
   pub between : State
   pub stopped : Stopped job (before_lines before) between (lines_of bytes)

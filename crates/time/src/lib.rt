@@ -1,6 +1,6 @@
 //! Parses, formats and computes with dates and times, by the paths of the Rust crate `time`.
 //!
-//! Each item is defined in a crate below, whose name stands in its `use` line, and keeps its contract.
+//! Each item is defined in a crate below, which its `use` line names, and keeps its contract.
 #![tactic(auto)]
 
 pub use time_values::{

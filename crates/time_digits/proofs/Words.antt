@@ -1,4 +1,4 @@
--- Runs of exactly so many digits, by the first bytes of a text.
+-- Runs of an exact number of digits, by the first bytes of a text.
 use Rattle.std.proofs.Common.{get_or, ◌≡◌, ℕ, zero, suc, ◌+◌, ◌-◌, ◌*◌, ◌≤◌, ◌<◌, List, [], ◌∷◌, ◌++◌, length, take, drop, replicate, refl, ap, sym, ◌∙◌, inl, inr, arith, subst, length-append, append_assoc}
 use Rattle.std.proofs.lemmas.List.{length-drop, length-take-le, take-append-drop, take-append-le, take_all}
 use Rattle.time_digits.specs.Digits.{Cut, NoCut, IsDigitByte, AllDigits, digits_value, IsDigitRun}

@@ -126,7 +126,7 @@ mod tests {
         }
     }
 
-    // The first so many of the digits. The bytes after them are absent.
+    // The first `count` digits. The bytes after them are absent.
     fn first_digits(count: u8) -> [u8; 8] {
         let mut bytes = DIGITS;
         for place in count..8 {

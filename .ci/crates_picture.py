@@ -22,7 +22,7 @@ BOXES = {
     "time_describing": (2, 3, 2, "the text of a description"),
     "time_preparing": (2, 4, 0, "a description for many texts"),
     "time_locating": (2, 4, 1, "where a text goes wrong"),
-    "programs_streams": (2, 4, 2.15, "calls that fail, counted"),
+    "byte_streams": (2, 4, 2.15, "calls that fail, counted"),
     "the facade": (2, 4, 3.25, "all of them, by Rust's paths", "time, time_uses"),
     "programs": (3, 5, 0, "texts parsed line by line", "programs_answers", "time_lines", "time_parse"),
     "restamp": (3, 5, 2.15, "times rewritten in lines", "restamp_place, restamp_verdict,", "restamp_stream, restamp_command,",
@@ -39,9 +39,9 @@ LINES = [
     ("time_writing", "time_formatting", None), ("time_writing", "time_parsing", 3.0),
     ("time_readers", "time_parsing", None), ("time_record", "time_parsing", None), ("time_descriptions", "time_parsing", None),
     ("time_descriptions", "time_describing", None), ("time_parsing", "time_preparing", None), ("time_preparing", "time_locating", None),
-    ("time_locating", "programs", None), ("programs_streams", "programs", None), ("programs_streams", "restamp", None),
-    ("time_locating", "restamp", None),
-    ("time_formatting", "restamp", 3.0), ("time_zones", "restamp", 1.9), ("programs", "C", None),
+    ("time_locating", "programs", None), ("byte_streams", "programs", None), ("byte_streams", "restamp", None),
+    ("time_locating", "restamp", None), ("time_locating", "C", None), ("byte_streams", "C", None),
+    ("time_formatting", "restamp", 3.0), ("time_zones", "restamp", 1.9),
 ]
 WIDE, HIGH, STEP, PITCH, LEFT, SMALL = 204, 30, 244, 112, 30, 6.1
 # Boxes that depend on all others.

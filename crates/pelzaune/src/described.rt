@@ -2,7 +2,7 @@
 ghost use Rattle.std.specs.Prelude.{◌≡◌, length};
 ghost use Rattle.time_values.specs.Calendar.{greatest_year};
 ghost use Rattle.time_record.specs.Resolution.{IsDated, IsTimed, IsOffset, IsPlain, IsUtcMoment};
-ghost use Rattle.programs_answers.specs.Output.{lines_of};
+ghost use Rattle.byte_streams.specs.Lines.{line_texts};
 ghost use Rattle.pelzaune_ffi.specs.Columns.{IsColumn};
 ghost use Rattle.pelzaune_ffi.specs.Handed.{IsHanded, IsCountHanded, ArePartsHanded, HasDate, HasTime, HasOffset, HasPlain, HasUtc, HasMoment, HasInstant, over_empty, of_record, of_moment, HandsCount};
 ghost use Rattle.pelzaune_ffi.specs.Described as Described;
@@ -151,8 +151,8 @@ pub extern "C" fn pelzaune_described_column(
     entries: &mut [Nanoseconds],
     refused: &mut usize,
 ) -> usize
-    ensures lines { result ≡ length (lines_of text.now) }
-    ensures entries { IsColumn (HandsHeld IsCountHanded of_moment description.now) (lines_of text.now)
+    ensures lines { result ≡ length (line_texts text.now) }
+    ensures entries { IsColumn (HandsHeld IsCountHanded of_moment description.now) (line_texts text.now)
         entries.old entries.new refused.new }
 {
     column_held(description, text, entries, refused)
@@ -196,8 +196,8 @@ pub extern "C" fn pelzaune_column(
     entries: &mut [Nanoseconds],
     refused: &mut usize,
 ) -> usize
-    ensures lines { result ≡ length (lines_of text.now) }
-    ensures entries { IsColumn (HandsCount (Formats.format_of format)) (lines_of text.now)
+    ensures lines { result ≡ length (line_texts text.now) }
+    ensures entries { IsColumn (HandsCount (Formats.format_of format)) (line_texts text.now)
         entries.old entries.new refused.new }
 {
     column_by(format, text, entries, refused)
@@ -213,9 +213,9 @@ pub extern "C" fn pelzaune_read_column(
     entries: &mut [Nanoseconds],
     refused: &mut usize,
 ) -> usize
-    ensures lines { result ≡ length (lines_of text.now) }
+    ensures lines { result ≡ length (line_texts text.now) }
     ensures entries { IsColumn (HandsRead IsCountHanded of_moment (Described.syntax_of syntax) description.now)
-        (lines_of text.now) entries.old entries.new refused.new }
+        (line_texts text.now) entries.old entries.new refused.new }
 {
     column_read(syntax, description, text, entries, refused)
 }

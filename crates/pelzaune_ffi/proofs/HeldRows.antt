@@ -26,8 +26,8 @@ use Rattle.time_record.specs.Reading.{Reads, IsFault, Refuses}
 use Rattle.time_record.specs.Record.{Record}
 use Rattle.time_record.specs.WalkSteps.{Goes}
 use Rattle.time_record.proofs.WalkSteps.{behind_is, first_item}
-use Rattle.programs_answers.specs.Output.{lines_of}
-use Rattle.programs_answers.proofs.OutputLemmas.{lines_of-cut, lines_of-found, lines_of-none}
+use Rattle.byte_streams.specs.Lines.{line_texts}
+use Rattle.byte_streams.proofs.LinesLemmas.{line_texts-cut, line_texts-found, line_texts-none}
 use Rattle.pelzaune_ffi.specs.Columns.{Counting, IsColumn, no_count, one_if_refused}
 use Rattle.pelzaune_ffi.specs.declared.parts.Nanoseconds.{Nanoseconds}
 use Rattle.pelzaune_ffi.specs.Described.{step_of, kinds, kind_in, padding_of, padding_number, digits_of, digits_number, trailing_of, trailing_number, is_set, skipping}
@@ -72,7 +72,7 @@ Ends-all hands all begun entries lines index refused ended so_far =
     ]
 
 -- an empty text has no lines
-pub no_lines : (xs : List ℕ) → (length xs == 0) ≡ true → lines_of xs ≡ []
+pub no_lines : (xs : List ℕ) → (length xs == 0) ≡ true → line_texts xs ≡ []
 no_lines [] e = refl
 no_lines (x ∷ xs) e = absurd (grind (arith, nat_tests, e))
 
@@ -114,18 +114,18 @@ not_lf x other is = cc
 
 -- the line that ends at that bit
 pub cut_at : (xs : List ℕ) (n r : ℕ) → n ≤ length xs → r < n → r ≡ prefix_len (λ x. not (lf x)) (chunk 0 n xs)
-    → lines_of xs ≡ take r xs ∷ lines_of (drop (r + 1) xs)
+    → line_texts xs ≡ take r xs ∷ line_texts (drop (r + 1) xs)
 cut_at xs n r room below counted =
     let fits : 0 + n ≤ length xs = omega (arith, room) in
     let here : lf (get_or xs r 0) ≡ true = rw zero-add at (run_in_chunk_stops lf xs 0 n r 0 fits counted below) in
-    lines_of-cut xs r (omega arith) (eqb-true _ _ here)
+    line_texts-cut xs r (omega arith) (eqb-true _ _ here)
     (λ k less is. not_lf (get_or xs k 0) (run_in_chunk_fails lf xs 0 n r 0 fits counted k (omega arith) (omega (arith, less))) is)
 
 -- the result of a search
 pub searched : (xs : List ℕ) (found : Option ℕ) → 0 < length xs → IsFirstByte (is_byte 10) xs found
-    → MatchOption found (lines_of xs ≡ xs ∷ []) (λ i. (i < length xs) × (lines_of xs ≡ take i xs ∷ lines_of (drop (i + 1) xs)))
-searched xs (Some i) some first = (first.0.high, lines_of-found xs i first.0 first.1)
-searched xs None some first = lines_of-none xs some first
+    → MatchOption found (line_texts xs ≡ xs ∷ []) (λ i. (i < length xs) × (line_texts xs ≡ take i xs ∷ line_texts (drop (i + 1) xs)))
+searched xs (Some i) some first = (first.0.high, line_texts-found xs i first.0 first.1)
+searched xs None some first = line_texts-none xs some first
 
 -- ---- Stored steps of known forms, by their numbers
 

@@ -1,6 +1,6 @@
 -- Columns: the lines of a text, each as the nanoseconds of its moment.
 use Rattle.std.specs.Prelude.{◌≡◌, ◌⊎◌, ℕ, ◌+◌, ◌<◌, nat_eq, List, [], ◌∷◌, length, Ok, pos, neg_ℤ, if◌then◌else◌}
-use Rattle.programs_answers.specs.Output.{lines_of}
+use Rattle.byte_streams.specs.Lines.{line_texts}
 use Rattle.time_components.specs.Tree.{Tree}
 use Rattle.pelzaune_ffi.specs.Described.{HandsByTree}
 use Rattle.pelzaune_ffi.specs.Handed.{IsCountHanded, of_moment}
@@ -38,7 +38,7 @@ IsColumn hands (line ∷ lines) (entry ∷ old) new refused =
 
 -- The line is the first of a text, and the bytes after it have the other lines.
 pub record IsFirstLine (line text after : List ℕ) : Type 0 where
-  pub lines : lines_of text ≡ line ∷ lines_of after
+  pub lines : line_texts text ≡ line ∷ line_texts after
   pub shorter : length after < length text
 
 -- A line ends here: with LF, or with the text.

@@ -1,6 +1,6 @@
 //! Columns: the lines of a text, each as the nanoseconds of its moment.
 ghost use Rattle.std.specs.Prelude.{◌≡◌, ◌<◌, ◌≤◌, length, Some};
-ghost use Rattle.programs_answers.specs.Output.{lines_of};
+ghost use Rattle.byte_streams.specs.Lines.{line_texts};
 ghost use Rattle.time_components.specs.Tree.{steps_shape};
 ghost use Rattle.pelzaune_ffi.specs.Columns.{Counting, CountsFirst, IsColumn, refusing, by_tree};
 ghost use Rattle.pelzaune_ffi.specs.Columns as spec;
@@ -96,8 +96,8 @@ fn column<C: Count>(
     entries: &mut [Nanoseconds],
     refused: &mut usize,
 ) -> usize
-    ensures lines { result ≡ length (lines_of text.now) }
-    ensures entries { IsColumn (C.hands counting.now) (lines_of text.now) entries.old entries.new refused.new }
+    ensures lines { result ≡ length (line_texts text.now) }
+    ensures entries { IsColumn (C.hands counting.now) (line_texts text.now) entries.old entries.new refused.new }
 {
     let mut rest = text;
     let mut index = 0;
@@ -129,8 +129,8 @@ pub fn column_by(
     entries: &mut [Nanoseconds],
     refused: &mut usize,
 ) -> usize
-    ensures lines { result ≡ length (lines_of text.now) }
-    ensures entries { IsColumn (HandsCount (Formats.format_of format)) (lines_of text.now)
+    ensures lines { result ≡ length (line_texts text.now) }
+    ensures entries { IsColumn (HandsCount (Formats.format_of format)) (line_texts text.now)
         entries.old entries.new refused.new }
 {
     column(&ByNumber(format), text, entries, refused)
@@ -144,8 +144,8 @@ fn described_column(
     entries: &mut [Nanoseconds],
     refused: &mut usize,
 ) -> usize
-    ensures lines { result ≡ length (lines_of text.now) }
-    ensures entries { IsColumn (HandsRead IsCountHanded of_moment (Some syntax) description.now) (lines_of text.now)
+    ensures lines { result ≡ length (line_texts text.now) }
+    ensures entries { IsColumn (HandsRead IsCountHanded of_moment (Some syntax) description.now) (line_texts text.now)
         entries.old entries.new refused.new }
 {
     match read_description(syntax, description) {
@@ -164,9 +164,9 @@ pub fn column_read(
     entries: &mut [Nanoseconds],
     refused: &mut usize,
 ) -> usize
-    ensures lines { result ≡ length (lines_of text.now) }
+    ensures lines { result ≡ length (line_texts text.now) }
     ensures entries { IsColumn (HandsRead IsCountHanded of_moment (Described.syntax_of syntax) description.now)
-        (lines_of text.now) entries.old entries.new refused.new }
+        (line_texts text.now) entries.old entries.new refused.new }
 {
     match syntax_of(syntax) {
         Some(syntax) => described_column(syntax, description, text, entries, refused),
@@ -182,8 +182,8 @@ pub fn column_held(
     entries: &mut [Nanoseconds],
     refused: &mut usize,
 ) -> usize
-    ensures lines { result ≡ length (lines_of text.now) }
-    ensures entries { IsColumn (HandsHeld IsCountHanded of_moment description.now) (lines_of text.now)
+    ensures lines { result ≡ length (line_texts text.now) }
+    ensures entries { IsColumn (HandsHeld IsCountHanded of_moment description.now) (line_texts text.now)
         entries.old entries.new refused.new }
 {
     column(&prepare(description), text, entries, refused)

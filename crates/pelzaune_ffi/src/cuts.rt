@@ -2,7 +2,7 @@
 mod fast;
 
 ghost use Rattle.std.specs.Prelude.{◌≡◌, ◌∷◌, ◌+◌, ◌<◌, ◌≤◌, [], length, take, drop, MatchOption};
-ghost use Rattle.programs_answers.specs.Output.{lines_of};
+ghost use Rattle.byte_streams.specs.Lines.{line_texts};
 ghost use Rattle.pelzaune_ffi.specs.Columns.{IsFirstLine};
 
 use memchr::memchr;
@@ -11,8 +11,8 @@ use memchr::memchr;
 #[inline(always)]
 fn line_end(text: &[u8]) -> Option<usize>
     requires { 0 < length text.now }
-    ensures { MatchOption result (lines_of text.now ≡ text.now ∷ [])
-        (λ i. (i < length text.now) × (lines_of text.now ≡ take i text.now ∷ lines_of (drop (i + 1) text.now))) }
+    ensures { MatchOption result (line_texts text.now ≡ text.now ∷ [])
+        (λ i. (i < length text.now) × (line_texts text.now ≡ take i text.now ∷ line_texts (drop (i + 1) text.now))) }
 {
     match fast::line_end(text) {
         Some(end) => Some(end),
@@ -34,7 +34,7 @@ pub fn first_line(bytes: &[u8]) -> (&[u8], &[u8])
 
 /// How many lines a text has.
 pub fn count_lines(text: &[u8]) -> usize
-    ensures count { result ≡ length (lines_of text.now) }
+    ensures count { result ≡ length (line_texts text.now) }
     ensures bound { result ≤ length text.now }
 {
     let mut rest = text;

@@ -6,7 +6,6 @@ use Rattle.std.proofs.lemmas.List.{drop_all, take_all}
 use Rattle.std.proofs.lemmas.Bool.Decides.{nat_tests}
 use Rattle.std.proofs.KnownBytes.{Appends-trans, Consumes-trans, Consumes-whole, Appends-kept}
 use borrow.Rule.Slice.PartMut.{put_mid}
-use Rattle.memchr.specs.Find.{Nowhere, NoneBefore, Passes, is_byte}
 use Rattle.itoa.proofs.Decimal.{decimal_four, pair}
 use Rattle.time_values.specs.Calendar.{month_length, greatest_year}
 use Rattle.time_values.specs.Names.{month_number}
@@ -26,7 +25,8 @@ use Rattle.time_parsing.specs.Iso8601 as Iso8601
 use Rattle.time_parsing.specs.Rfc2822 as Rfc2822
 use Rattle.time_parsing.specs.Rfc3339 as Rfc3339
 use Rattle.time_parsing.proofs.OneOutcome.{one_outcome, one_moment_outcome}
-use Rattle.programs_answers.specs.Output.{four_digits, minus_if, year_text, date_text, date_time_text, lines_of, onto_first, IsDescribed, AreAnswers, Writes, IsPrinted, IsPrintedMoment, IsAnswerFor, IsParsed, WritesAnswers, printed, time_text, offset_text, plain_text, utc_text, offset_date_time_text, timestamp_text}
+use Rattle.byte_streams.specs.Lines.{line_texts}
+use Rattle.programs_answers.specs.Output.{four_digits, minus_if, year_text, date_text, date_time_text, IsDescribed, AreAnswers, Writes, IsPrinted, IsPrintedMoment, IsAnswerFor, IsParsed, WritesAnswers, printed, time_text, offset_text, plain_text, utc_text, offset_date_time_text, timestamp_text}
 use Rattle.programs_answers.specs.Pieces.{leading_digits, year_front, WithLineFeed}
 use Rattle.programs_answers.specs.declared.formats.Target.{Target}
 use Rattle.programs_answers.specs.Formats.{ymd, clock, unix, local}
@@ -100,52 +100,7 @@ month_length-below y m = grind (arith, nat_tests)
 pub same_date_time : (d d' : Date) (t t' : Time) → d ≡ d' → t ≡ t' → date_time_text d t ≡ date_time_text d' t'
 same_date_time d d' t t' p q = ap (λ (x : Date). date_time_text x t) p ∙ ap (date_time_text d') q
 
--- ---- A text, cut at its first LF
-
--- the rest of a slice, as the range `n..` of it reads
-pub tail_range : (n : ℕ) (xs : List ℕ) → take (length xs - n) (drop n xs) ≡ drop n xs
-tail_range n xs = take_all (length xs - n) (drop n xs) (omega (arith, length-drop n xs))
-
-pub drop_more : (x : ℕ) (xs : List ℕ) (n : ℕ) → drop (suc n + 1) (x ∷ xs) ≡ drop (n + 1) xs
-drop_more x xs n = simp add-one
-
-at_lf : (x : ℕ) (xs : List ℕ) → x ≡ 10 → lines_of (x ∷ xs) ≡ [] ∷ lines_of xs
-at_lf x xs e = rw e
-
-past_lf : (x : ℕ) (xs : List ℕ) → (x ≡ 10 → ⊥) → lines_of (x ∷ xs) ≡ onto_first x (lines_of xs)
-past_lf x xs ne = grind (arith, nat_tests)
-
-pub lines_of-cut : (xs : List ℕ) (n : ℕ) → n < length xs
-    → get_or xs n 0 ≡ 10 → ((k : ℕ) → k < n → get_or xs k 0 ≡ 10 → ⊥)
-    → lines_of xs ≡ take n xs ∷ lines_of (drop (n + 1) xs)
-lines_of-cut [] n h e before = absurd (omega arith)
-lines_of-cut (x ∷ xs) zero h e before = at_lf x xs e
-lines_of-cut (x ∷ xs) (suc n) h e before =
-    rw drop_more
-    (past_lf x xs (before 0 (omega arith))
-    ∙ ap (onto_first x) (lines_of-cut xs n (omega arith) e (λ k below. before (suc k) (omega arith))))
-
-pub lines_of-whole : (xs : List ℕ) → 0 < length xs → ((k : ℕ) → k < length xs → get_or xs k 0 ≡ 10 → ⊥) → lines_of xs ≡ xs ∷ []
-lines_of-whole [] h before = absurd (omega arith)
-lines_of-whole (x ∷ []) h before = past_lf x [] (before 0 (omega arith))
-lines_of-whole (x ∷ y ∷ xs) h before =
-    past_lf x (y ∷ xs) (before 0 (omega arith)) ∙ ap (onto_first x) (lines_of-whole (y ∷ xs) (omega arith) (λ k below. before (suc k) (omega arith)))
-
--- what a search for a byte found
-passed : (a : ℕ) (xs : List ℕ) (k : ℕ) → Passes (is_byte a) xs k → get_or xs k 0 ≡ a
-passed a xs k h = grind (arith, nat_tests)
-
-passes : (a : ℕ) (xs : List ℕ) (k : ℕ) → get_or xs k 0 ≡ a → Passes (is_byte a) xs k
-passes a xs k h = grind (arith, nat_tests)
-
-pub lines_of-found : (xs : List ℕ) (n : ℕ)
-    → NoneBefore (Passes (is_byte 10) xs) 0 (length xs) n → Passes (is_byte 10) xs n
-    → lines_of xs ≡ take n xs ∷ lines_of (drop (n + 1) xs)
-lines_of-found xs n first here =
-    lines_of-cut xs n first.high (passed 10 xs n here) (λ k below is. first.before k (omega arith) below (passes 10 xs k is))
-
-pub lines_of-none : (xs : List ℕ) → 0 < length xs → Nowhere (Passes (is_byte 10) xs) 0 (length xs) → lines_of xs ≡ xs ∷ []
-lines_of-none xs h nowhere = lines_of-whole xs h (λ k below is. nowhere k (omega arith) below (passes 10 xs k is))
+-- ---- What was read and written
 
 -- what was read before the end is all that there was
 pub Consumes-end : (a b c : Option (List ℕ)) (xs : List ℕ) → Consumes a b xs → Consumes b c [] → IsAtEnd c → IfSome a (λ bytes. xs ≡ bytes)
@@ -185,16 +140,16 @@ pub Writes-described : {E : Type 0} (r : Result (Unit {0}) E) (Y : ℕ) (tree sa
 Writes-described r Y tree same target bytes a b e h =
     subst (λ (t : Tree). OnOk r (Writes (IsDescribed Y t target bytes) a b)) e h
 
--- nothing waits behind what a writer holds
-pub append_known-none : (a : Option (List ℕ)) (waiting : List ℕ) → waiting ≡ [] → Appends a (append_known a waiting) []
-append_known-none None waiting e = tt
-append_known-none (Some s) waiting e = ap (λ t. s ++ t) e
+-- nothing is buffered behind what a writer holds
+pub append_known-none : (a : Option (List ℕ)) (buffered : List ℕ) → buffered ≡ [] → Appends a (append_known a buffered) []
+append_known-none None buffered e = tt
+append_known-none (Some s) buffered e = ap (λ t. s ++ t) e
 
--- what waits is written in the end
-pub Writes_settled : {E : Type 0} (r : Result (Unit {0}) E) (P : List ℕ → Type 0) (a b c : Option (List ℕ))
+-- the buffered bytes are written in the end
+pub Writes_flushed : {E : Type 0} (r : Result (Unit {0}) E) (P : List ℕ → Type 0) (a b c : Option (List ℕ))
     → Writes P a b → OnOk r (Keeps b c) → OnOk r (Writes P a c)
-Writes_settled (Err e) P a b c w kept = tt
-Writes_settled (Ok u) P a b c w kept = (w.0, w.1, Appends-kept a b c w.0 w.2 kept)
+Writes_flushed (Err e) P a b c w kept = tt
+Writes_flushed (Ok u) P a b c w kept = (w.0, w.1, Appends-kept a b c w.0 w.2 kept)
 
 -- ---- A text has one answer, and an input one output
 
@@ -260,4 +215,4 @@ module _ (P : List ℕ → List ℕ → Type 0) (one : (line : List ℕ) → One
       → WritesAnswers P (Some held) (Some new) input → WritesAnswers P (Some held) (Some other) input
       → new ≡ other
   WritesAnswers-one input held new other h k =
-      h.2 ∙ ap (λ (t : List ℕ). held ++ t) (AreAnswers-one (lines_of input) h.0 k.0 h.1 k.1) ∙ sym k.2
+      h.2 ∙ ap (λ (t : List ℕ). held ++ t) (AreAnswers-one (line_texts input) h.0 k.0 h.1 k.1) ∙ sym k.2

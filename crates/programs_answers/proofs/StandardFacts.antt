@@ -1,4 +1,4 @@
--- Worked values of lines, names and layouts, so that a wrong rule in the specs does not check. They follow from the
+-- Worked values of names and layouts, so that a wrong rule in the specs does not check. They follow from the
 -- definitions, and no code lies between.
 use Rattle.std.proofs.Common.{get_or, ◌≡◌, ℕ, List, [], ◌∷◌, ◌++◌, length, pos, neg_ℤ, true, false, Some, None, Err, codes, refl, sym, ap, ◌∙◌, arith}
 use Rattle.time_values.specs.Dates.{HasParts}
@@ -13,42 +13,7 @@ use Rattle.time_values.specs.declared.utc_offset.UtcOffset.{UtcOffset}
 use Rattle.programs_answers.specs.Formats.{format_named, target_named}
 use Rattle.programs_answers.specs.declared.formats.Format.TheVariants.{Rfc3339}
 use Rattle.programs_answers.specs.declared.formats.Target.TheVariants.{Staged}
-use Rattle.programs_answers.specs.Output.{date_text, lines_of, offset_text, printed, time_text, year_text}
-
--- a line feed, and a carriage return
-abbrev feed : List ℕ
-feed = 10 ∷ []
-
-abbrev carriage : List ℕ
-carriage = 13 ∷ []
-
--- ---- The lines of an input
-
-pub two_lines : lines_of (codes "a" ++ feed ++ codes "b" ++ feed) ≡ codes "a" ∷ codes "b" ∷ []
-two_lines = refl
-
--- a last line without a line feed counts, and nothing after a last line feed does
-pub last_line_without_feed : lines_of (codes "a" ++ feed ++ codes "b") ≡ codes "a" ∷ codes "b" ∷ []
-last_line_without_feed = refl
-
-pub an_empty_line : lines_of (feed ++ codes "b") ≡ [] ∷ codes "b" ∷ []
-an_empty_line = refl
-
-pub no_line_of_nothing : lines_of [] ≡ []
-no_line_of_nothing = refl
-
--- a carriage return is part of the line
-pub carriage_return_in_a_line : lines_of (codes "a" ++ carriage ++ feed) ≡ (codes "a" ++ carriage) ∷ []
-carriage_return_in_a_line = refl
-
-pub no_line_after_the_last_feed : lines_of (codes "a" ++ feed) ≡ codes "a" ∷ [] ∷ [] → ⊥
-no_line_after_the_last_feed h = omega (arith, ap length h)
-
-pub no_line_of_a_carriage_return : lines_of (codes "a" ++ carriage ++ codes "b") ≡ codes "a" ∷ codes "b" ∷ [] → ⊥
-no_line_of_a_carriage_return h = omega (arith, ap length h)
-
-pub no_empty_line_left_out : lines_of (feed ++ codes "b") ≡ codes "b" ∷ [] → ⊥
-no_empty_line_left_out h = omega (arith, ap length h)
+use Rattle.programs_answers.specs.Output.{date_text, offset_text, printed, time_text, year_text}
 
 -- ---- Names
 

@@ -25,7 +25,8 @@ use Rattle.time_parsing.specs.Outcome.{Reading, Refusing, Resolving, Path, over_
 use Rattle.time_parsing.specs.Iso8601 as Iso8601
 use Rattle.time_parsing.specs.Rfc2822 as Rfc2822
 use Rattle.time_parsing.specs.Rfc3339 as Rfc3339
-use Rattle.programs_streams.specs.Faults.{Rises, count_more}
+use Rattle.byte_streams.specs.Faults.{Rises, count_more}
+use Rattle.byte_streams.specs.Lines.{line_texts}
 use Rattle.programs_answers.specs.Formats.{ymd, clock, unix, local}
 use Rattle.programs_answers.specs.declared.formats.Format.{Format}
 use Rattle.programs_answers.specs.declared.formats.Format.TheVariants as format
@@ -106,17 +107,7 @@ abbrev pub printed : {V : Type 0} → (V → List ℕ) → Result V Refusal → 
 printed value_text (Ok v) = value_text v
 printed value_text (Err e) = codes "error: " ++ refusal_text e
 
--- ---- The lines of an input
-
--- the byte b in front of the first of the lines
-abbrev pub onto_first : ℕ → List (List ℕ) → List (List ℕ)
-onto_first b [] = (b ∷ []) ∷ []
-onto_first b (line ∷ lines) = (b ∷ line) ∷ lines
-
--- The lines of a text, each without its LF. What comes after the last LF is a line unless it is empty.
-abbrev pub lines_of : List ℕ → List (List ℕ)
-lines_of [] = []
-lines_of (b ∷ bytes) = if b == 10 then [] ∷ lines_of bytes else onto_first b (lines_of bytes)
+-- ---- The answers to the lines of an input
 
 -- The answer is an outcome of which P holds, printed.
 abbrev pub PrintsSuch : {V : Type 0} → (Result V Refusal → Type 0) → (V → List ℕ) → List ℕ → Type 0
@@ -171,7 +162,7 @@ Writes P old new = (text : List ℕ) × P text × Appends old new text
 
 -- A writer holds what it held, and then the answers to the lines of the input.
 abbrev pub WritesAnswers : (List ℕ → List ℕ → Type 0) → Option (List ℕ) → Option (List ℕ) → List ℕ → Type 0
-WritesAnswers P old new input = Writes (AreAnswers P (lines_of input)) old new
+WritesAnswers P old new input = Writes (AreAnswers P (line_texts input)) old new
 
 -- ---- Why the work stopped
 

@@ -4,14 +4,14 @@ ghost use Rattle.std.specs.Io.KnownBytes.{Appends};
 ghost use Rattle.time_values.specs.Calendar.{greatest_year};
 ghost use Rattle.time_values.specs.Refusal.{refusal_of, refusal_text};
 ghost use Rattle.time_parsing.specs.Outcome.{seen};
-ghost use Rattle.programs_streams.specs.Faults.{HasCause};
+ghost use Rattle.byte_streams.specs.Faults.{HasCause};
 ghost use Rattle.programs_answers.specs.Output.{IsAnswerFor, Writes, printed};
 
 mod fast;
 
 use crate::formats::Target;
 use crate::layout::Layout;
-use programs_streams::{Sink, Unwritten};
+use byte_streams::{Sink, Unwritten};
 use time_parsing::Parsable;
 use time_record::Parsed;
 use time_values::error::Parse;

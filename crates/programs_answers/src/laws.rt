@@ -1,11 +1,10 @@
 //! Laws of what is done to an input: the contract of a function is the law.
 ghost use Rattle.std.specs.Prelude.{◌≡◌, ◌⊎◌, IfErr, IfSome, OnOk};
-ghost use Rattle.programs_streams.specs.Faults.{Rises};
+ghost use Rattle.byte_streams.specs.Faults.{Rises};
 ghost use Rattle.programs_answers.specs.Output.{IsUnread, WritesAnswers};
 
-use crate::held::Waiting;
 use crate::serving::{Answering, Stop, serve};
-use programs_streams::{Sink, Source};
+use byte_streams::{BufferedSink, Sink, Source};
 use std::alloc::Allocator;
 
 /// The work stops before its end only after a read or a write that gave an error, or where memory is short, or where
@@ -15,7 +14,7 @@ pub fn law_done<A: Answering, R: Source, W: Sink, G: Allocator>(
     answering: &A,
     alloc: G,
     input: &mut R,
-    out: &mut Waiting<W>,
+    out: &mut BufferedSink<W>,
 ) -> Result<(), Stop>
     ensures done { OnOk result (IfSome (R.remaining input.old)
         (λ bytes. WritesAnswers (A.is_answer answering.now) (W.contents out.old.sink) (W.contents out.new.sink) bytes)) }

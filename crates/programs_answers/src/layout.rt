@@ -1,14 +1,14 @@
 //! Lays values out as text.
 ghost use Rattle.std.specs.Prelude.{◌≡◌, ℕ, ◌<◌, List, ◌++◌, ◌∷◌, codes, OnOk};
 ghost use Rattle.std.specs.Io.KnownBytes.{Appends};
-ghost use Rattle.programs_streams.specs.Faults.{HasCause};
+ghost use Rattle.byte_streams.specs.Faults.{HasCause};
 ghost use Rattle.programs_answers.specs.Output.{minus_if, is_negative, date_text, time_text, offset_text, date_time_text, plain_text, utc_text, offset_date_time_text, timestamp_text};
 ghost use Rattle.programs_answers.specs.Pieces.{leading_digits, year_front};
 ghost use Rattle.time_values.specs.Dates as Dates;
 ghost use Rattle.time_values.specs.Moments.{offset_date};
 ghost use Rattle.time_values.specs.Shown.{fixed};
 
-use programs_streams::{Sink, Unwritten};
+use byte_streams::{Sink, Unwritten};
 use time_values::digits::{four, nine, pair};
 use time_values::{Date, OffsetDateTime, PlainDateTime, Time, Timestamp, UtcDateTime, UtcOffset};
 

@@ -3,14 +3,12 @@
 
 mod answers;
 pub mod formats;
-mod held;
 mod laws;
 mod layout;
 mod named;
 mod serving;
 
 pub use answers::{write_outcome, write_value};
-pub use held::Waiting;
 pub use laws::law_done;
 pub use layout::Layout;
 pub use named::Named;

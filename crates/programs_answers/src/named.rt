@@ -3,7 +3,7 @@ ghost use Rattle.std.specs.Prelude.{◌≡◌, ◌∷◌, [], OnOk, map};
 ghost use Rattle.time_values.specs.Calendar.{greatest_year};
 ghost use Rattle.time_components.specs.Tree.{borrowed_shape, steps_shape, first_of, sequence, trees};
 ghost use Rattle.time_preparing.specs.Items.{Prepares};
-ghost use Rattle.programs_streams.specs.Faults.{HasCause};
+ghost use Rattle.byte_streams.specs.Faults.{HasCause};
 ghost use Rattle.programs_answers.specs.Formats as formats;
 ghost use Rattle.programs_answers.specs.Output.{IsDescribed, IsParsed, Writes};
 
@@ -12,7 +12,7 @@ use crate::formats::{
     Format, Target, clock_items, compound, date_items, first, fraction_items, local_items,
     second_items, unix,
 };
-use programs_streams::{Sink, Unwritten};
+use byte_streams::{Sink, Unwritten};
 use std::marker::Model;
 use time_components::BorrowedFormatItem;
 use time_parsing::{Iso8601, Rfc2822, Rfc3339};

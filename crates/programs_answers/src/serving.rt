@@ -1,13 +1,11 @@
 //! Cuts an input into lines, and answers whole inputs.
 ghost use Rattle.std.specs.Io.KnownBytes.{append_known};
 ghost use Rattle.std.specs.Prelude.{◌≡◌, ◌≢◌, ℕ, List, [], OnOk, IfErr, IfOk, IfSome, Err, ◌∷◌, ◌<◌, length};
-ghost use Rattle.programs_streams.specs.Faults.{HasCause};
-ghost use Rattle.programs_answers.specs.Output.{HasReadCause, HasWriteCause, Writes, WritesAnswers, lines_of};
+ghost use Rattle.byte_streams.specs.Faults.{HasCause};
+ghost use Rattle.programs_answers.specs.Output.{HasReadCause, HasWriteCause, Writes, WritesAnswers};
 ghost use Rattle.programs_answers.specs.Pieces.{WithLineFeed};
 
-use crate::held::Waiting;
-use memchr::memchr;
-use programs_streams::{Sink, Source, Unwritten};
+use byte_streams::{BufferedSink, Sink, Source, Unwritten, first_line};
 use std::alloc::Allocator;
 
 /// Why the program stopped before its end.
@@ -52,10 +50,10 @@ pub trait Answering {
 fn add_line<A: Answering, W: Sink>(
     answering: &A,
     line: &[u8],
-    out: &mut Waiting<W>,
+    out: &mut BufferedSink<W>,
 ) -> Result<(), Unwritten>
     ensures bytes { OnOk result (Writes (WithLineFeed (A.is_answer answering.now line.now))
-        (append_known (W.contents out.old.sink) out.old.held.items) (append_known (W.contents out.new.sink) out.new.held.items)) }
+        (append_known (W.contents out.old.sink) out.old.buffer.items) (append_known (W.contents out.new.sink) out.new.buffer.items)) }
     ensures cause { HasCause result (W.faults out.old.sink) (W.faults out.new.sink) }
     ensures through { W.through out.new.sink ≡ W.through out.old.sink }
 {
@@ -63,16 +61,16 @@ fn add_line<A: Answering, W: Sink>(
     out.write_all(b"\n")
 }
 
-// Answers all lines. The last answers may wait.
+// Answers all lines. The last answers may still be buffered.
 #[inline(always)]
 fn answer_lines<A: Answering, W: Sink>(
     answering: &A,
     input: &[u8],
-    out: &mut Waiting<W>,
+    out: &mut BufferedSink<W>,
 ) -> Result<(), Unwritten>
-    requires { out.old.held.items ≡ [] }
+    requires { out.old.buffer.items ≡ [] }
     ensures answers { OnOk result (WritesAnswers (A.is_answer answering.now) (W.contents out.old.sink)
-        (append_known (W.contents out.new.sink) out.new.held.items) input.now) }
+        (append_known (W.contents out.new.sink) out.new.buffer.items) input.now) }
     ensures cause { HasCause result (W.faults out.old.sink) (W.faults out.new.sink) }
     ensures through { W.through out.new.sink ≡ W.through out.old.sink }
 {
@@ -85,25 +83,25 @@ fn answer_lines<A: Answering, W: Sink>(
     Ok(())
 }
 
-/// Writes the answer to each line of the input, and allocates nothing. What waited before is forgotten.
+/// Writes the answer to each line of the input, and allocates nothing. What was buffered before is dropped.
 ///
 /// Each line ends with LF, which the last one may lack. After an `Err`, which only a write of the sink gives, nothing is
 /// known of how much was written.
 #[inline(always)]
-#[tactic(auto, using(crate::proofs::OutputLemmas::Writes_settled))]
+#[tactic(auto, using(crate::proofs::OutputLemmas::Writes_flushed))]
 pub fn run<A: Answering, W: Sink>(
     answering: &A,
     input: &[u8],
-    out: &mut Waiting<W>,
+    out: &mut BufferedSink<W>,
 ) -> Result<(), Unwritten>
     ensures answers { OnOk result
         (WritesAnswers (A.is_answer answering.now) (W.contents out.old.sink) (W.contents out.new.sink) input.now) }
     ensures cause { HasCause result (W.faults out.old.sink) (W.faults out.new.sink) }
     ensures through { W.through out.new.sink ≡ W.through out.old.sink }
 {
-    out.held.clear();
+    out.clear_buffer();
     answer_lines(answering, input, out)?;
-    out.settle()
+    out.flush_buffer()
 }
 
 // After so many reads an input counts as one without an end.
@@ -139,7 +137,7 @@ pub fn serve<A: Answering, R: Source, W: Sink, G: Allocator>(
     answering: &A,
     alloc: G,
     input: &mut R,
-    out: &mut Waiting<W>,
+    out: &mut BufferedSink<W>,
 ) -> Result<(), Stop>
     ensures ok { OnOk result (IfSome (R.remaining input.old)
         (λ bytes. WritesAnswers (A.is_answer answering.now) (W.contents out.old.sink) (W.contents out.new.sink) bytes)) }
@@ -150,17 +148,8 @@ pub fn serve<A: Answering, R: Source, W: Sink, G: Allocator>(
     ensures through { W.through out.new.sink ≡ W.through out.old.sink }
 {
     let text = read_all(alloc, input)?;
-    run(answering, text.as_slice(), out).map_err(|_| Stop::Unwritten)
-}
-
-/// The first line of an input that isn't empty, and what comes after its LF.
-pub fn first_line(bytes: &[u8]) -> (&[u8], &[u8])
-    requires { 0 < length bytes.now }
-    ensures line { lines_of bytes.now ≡ result.0.now ∷ lines_of result.1.now }
-    ensures shorter { length result.1.now < length bytes.now }
-{
-    match memchr(b'\n', bytes) {
-        Some(i) => (&bytes[..i], &bytes[i + 1..]),
-        None => (bytes, &bytes[bytes.len()..]),
+    match run(answering, text.as_slice(), out) {
+        Ok(()) => Ok(()),
+        Err(_) => Err(Stop::Unwritten),
     }
 }

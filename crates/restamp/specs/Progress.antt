@@ -1,8 +1,8 @@
 -- How far a file was read, and how that is told.
 use Rattle.std.specs.Prelude.{◌≡◌, ℕ, ◌-◌, ◌/◌, ◌^◌, ◌≤◌, ◌<◌, List, ◌++◌, codes, length, drop, IsCharBoundary, Option, None, Some}
 use Rattle.std.specs.Fmt.{decimal}
-use Rattle.programs_streams.specs.declared.counted.Counted.{Counted}
-use Rattle.restamp_stream.specs.Reports.{shown_name}
+use Rattle.byte_streams.specs.declared.counted.Counted.{Counted}
+use Rattle.restamp_stream.specs.Reports.{displayed_name}
 use Rattle.restamp.specs.declared.progress.Telling.{Telling}
 use Rattle.restamp.specs.declared.progress.Telling.TheVariants.{Nothing, Lines, OneLine}
 use Rattle.restamp.specs.declared.opening.Origin.{Origin}
@@ -25,9 +25,9 @@ IsEnd text end =
 
 -- What is told of a name: it is shown as in a report, and on a terminal by the end of that.
 abbrev pub IsTold : Telling → List ℕ → List ℕ → Type 0
-IsTold Nothing name told = told ≡ shown_name name
-IsTold Lines name told = told ≡ shown_name name
-IsTold OneLine name told = IsEnd (shown_name name) told
+IsTold Nothing name told = told ≡ displayed_name name
+IsTold Lines name told = told ≡ displayed_name name
+IsTold OneLine name told = IsEnd (displayed_name name) told
 
 -- the line of a file of whose name that is told, without its end
 abbrev pub progress_text : List ℕ → ℕ → Option ℕ → List ℕ

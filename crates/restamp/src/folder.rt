@@ -1,7 +1,7 @@
 //! The folders of a disk.
 use crate::opening::Metered;
 use crate::progress::{Meter, Progress};
-use programs_streams::Counted;
+use byte_streams::Counted;
 use restamp_in_place::{Folder, Original};
 use std::fs::{Metadata, OpenFile, OpenOptions, Permissions};
 use std::io::ErrorKind;

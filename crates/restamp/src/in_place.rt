@@ -2,7 +2,7 @@
 use crate::folder::find;
 use crate::output::Erasing;
 use crate::progress::{Progress, Telling};
-use programs_streams::{Counted, Sink};
+use byte_streams::{Counted, Sink};
 use restamp_command::{Request, replace};
 use restamp_in_place::{Made, Step, Target, Unreplaced, backup_name, write_unreplaced};
 use restamp_stream::{Block, Stop, Tally, status};

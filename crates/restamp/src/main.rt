@@ -9,12 +9,12 @@ mod output;
 mod progress;
 mod words;
 
+use byte_streams::Counted;
 use clap::ArgMatches;
 use completions::completions_of;
 use in_place::replace_all;
 use opening::Disk;
 use output::Erasing;
-use programs_streams::Counted;
 use progress::{Progress, Telling};
 use restamp_command::{Fault, Options, Request, make_command, serve};
 use restamp_stream::{Block, Stop, Stream, status};

@@ -1,10 +1,10 @@
 //! Files and standard input, by their names.
 ghost use Rattle.std.specs.Prelude.{◌≡◌, ◌≤◌};
-ghost use Rattle.programs_streams.specs.Faults.{IsCutOff, Rises};
+ghost use Rattle.byte_streams.specs.Faults.{IsCutOff, Rises};
 ghost use Rattle.restamp.specs.Progress.{faults_of, given_of};
 
 use crate::progress::{Meter, Progress};
-use programs_streams::{Counted, Opener, Source};
+use byte_streams::{Counted, Opener, Source};
 use restamp_stream::Opening;
 use std::fs::{Metadata, OpenFile};
 use std::rt::Files;

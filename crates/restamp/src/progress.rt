@@ -1,10 +1,10 @@
 //! How far a long file was read, on standard error.
 ghost use Rattle.std.specs.Prelude.{◌≡◌, ◌≤◌, ◌+◌, ◌-◌, ◌^◌, ◌↔◌, min, length, IsTrue, IfSome, Some, string_bytes};
 ghost use Rattle.std.specs.Time.{instant_nanos};
-ghost use Rattle.restamp_stream.specs.Reports.{shown_name};
+ghost use Rattle.restamp_stream.specs.Reports.{displayed_name};
 ghost use Rattle.restamp.specs.Progress as spec;
 
-use programs_streams::Counted;
+use byte_streams::Counted;
 use restamp_stream::write_name;
 use std::alloc::Global;
 use std::cell::Cell;
@@ -39,8 +39,8 @@ fn end_of(text: &str) -> &str
 }
 
 // A name with its control bytes as `\x` and two digits; `None` where there is no memory, and no second way of reading.
-fn shown_name(alloc: Global, name: &[u8]) -> Option<String>
-    ensures { IfSome result (λ shown. string_bytes shown ≡ shown_name name.now) }
+fn displayed_name(alloc: Global, name: &[u8]) -> Option<String>
+    ensures { IfSome result (λ shown. string_bytes shown ≡ displayed_name name.now) }
 {
     let mut shown = Counted::new(Vec::new(alloc));
     write_name(name, &mut shown).ok()?;
@@ -52,7 +52,7 @@ fn shown_name(alloc: Global, name: &[u8]) -> Option<String>
 fn told_name(alloc: Global, telling: Telling, name: &[u8]) -> Option<String>
     ensures { IfSome result (λ told. spec.IsTold telling name.now (string_bytes told)) }
 {
-    let shown = shown_name(alloc, name)?;
+    let shown = displayed_name(alloc, name)?;
     match telling {
         Telling::OneLine => String::from_str(alloc, end_of(shown.as_str())).ok(),
         Telling::Nothing | Telling::Lines => Some(shown),

@@ -1,10 +1,10 @@
 //! The words of the command line.
 ghost use Rattle.std.specs.Io.KnownBytes.{Appends};
 ghost use Rattle.std.specs.Prelude.{OnOk};
-ghost use Rattle.programs_streams.specs.Faults.{HasCause};
+ghost use Rattle.byte_streams.specs.Faults.{HasCause};
 ghost use Rattle.restamp.specs.Words.{unread_text};
 
-use programs_streams::{Counted, Sink, Unwritten};
+use byte_streams::{Counted, Sink, Unwritten};
 use restamp_stream::write_shown;
 use std::env::{Env, FillError};
 use std::io::{ErrorKind, Write};

@@ -1,4 +1,4 @@
--- What is wrong with one of the formats is wrong with the options.
+-- An error in one of the formats is an error of the options.
 use Rattle.std.specs.Int.{int_div_euclid}
 use Rattle.std.specs.Fmt.{decimal}
 use Rattle.std.specs.Io.KnownBytes.{Appends}
@@ -18,12 +18,12 @@ use Rattle.restamp_command.specs.Options.{other_names}
 use Rattle.restamp_command.specs.declared.options.Options.{Options}
 use Rattle.restamp_command.specs.Fault as fault
 use Rattle.restamp_command.specs.Fault.{Fault}
-use Rattle.restamp_command.specs.Request.{AddsFormats, IsFault, IsFaultAt, IsFormat, IsFormatFault, IsOneOf, IsSuffixFault, gives_year, zone_of}
+use Rattle.restamp_command.specs.Request.{AddsFormats, IsFault, IsFaultAt, IsFormat, IsFormatFault, IsOneOf, IsSuffixFault, has_default_year, zone_of}
 use Rattle.restamp_command.specs.Zones.{IsZone}
 use Rattle.restamp_command.specs.declared.zone.Zone.{Zone}
-use Rattle.restamp_command.specs.Rewriting.{around, blanks, red, pointer, told_reason}
+use Rattle.restamp_command.specs.Rewriting.{around, blanks, red, pointer, reason_report}
 
--- ---- Instants near 1970, their days, and those that have no date
+-- ---- Instants near 1970, their days, and instants without a date
 
 pub near : (n : ℤ) → IsInstant greatest_year n → IsNear n
 near n h = omega (arith, ints, first_instant_is, last_instant_is)
@@ -42,19 +42,19 @@ no_date Y n r e inside =
     let clash : None ≡ Some r = rw ((is_instant-IsInstant Y n).1 inside) at e in
     absurd cc
 
-pub others_fault : (Y : ℕ) (o : Options) (has_year : Bool) (names : List (List ℕ)) (f : Fault) → has_year ≡ gives_year o
+pub others_fault : (Y : ℕ) (o : Options) (has_year : Bool) (names : List (List ℕ)) (f : Fault) → has_year ≡ has_default_year o
     → names ≡ other_names o → IsFormatFault has_year names f → IsFault Y o f
 others_fault Y o has_year names f e n h =
     by_fault f (subst (λ b. IsFormatFault b (other_names o) f) e (subst (λ (names : List (List ℕ)). IsFormatFault has_year names f) n h))
   where
-    by_fault : (f : Fault) → IsFormatFault (gives_year o) (other_names o) f → IsFault Y o f
+    by_fault : (f : Fault) → IsFormatFault (has_default_year o) (other_names o) f → IsFault Y o f
     by_fault fault.memory h = h
     by_fault (fault.from value why) h = (inr h.0, h.1, h.2)
     by_fault (fault.zones value why) h = (inr h.0, h.1, h.2)
-    by_fault (fault.lacking value lack) h = (inr h.0, h.1, h.2)
+    by_fault (fault.incomplete_format value missing_field) h = (inr h.0, h.1, h.2)
     by_fault f h = absurd h
 
--- what is wrong whatever the clock shows is wrong at each moment
+-- an error at any time is an error at each moment
 pub fault_at : (Y : ℕ) (now : Option UtcDateTime) (o : Options) (f : Fault) → IsFault Y o f → IsFaultAt Y now o f
 fault_at Y now o (fault.latest value why) h = absurd h
 fault_at Y now o (fault.since value why) h = absurd h
@@ -68,7 +68,7 @@ push has_year [] name old new format p q = (format, q, ap (λ (l : List Reading)
 push has_year (first ∷ names) name old new format p q =
     (p.0, p.1, push has_year names name (old ++ p.0 ∷ []) new format p.2 q)
 
--- the format of the name at the index was added
+-- the format of the name at the index is appended
 pub more_formats : {X : Type 0} (f : X → List ℕ) (has_year : Bool) (old new : List Reading) (format : Reading) (xs : List X) (i : ℕ) (x : X)
     → AddsFormats has_year (map f (take i xs)) old new → i < length xs → IsFormat has_year (f (get_or xs i x)) format
     → AddsFormats has_year (map f (take (i + 1) xs)) old (new ++ format ∷ [])
@@ -83,24 +83,24 @@ one_of f (y ∷ ys) zero x value below (inl e) = inl e
 one_of f (y ∷ ys) zero x value below (inr none) = absurd none
 one_of f (y ∷ ys) (suc i) x value below h = inr (one_of f ys i x value (omega (arith, below)) h)
 
--- what is wrong with the format at the index is wrong with the formats
+-- an error in the format at the index is an error in the formats
 pub fault_of_one : {X : Type 0} (f : X → List ℕ) (has_year : Bool) (xs : List X) (i : ℕ) (x : X) (why : Fault) → i < length xs
     → IsFormatFault has_year (f (get_or xs i x) ∷ []) why → IsFormatFault has_year (map f xs) why
 fault_of_one f has_year xs i x fault.memory below h = h
 fault_of_one f has_year xs i x (fault.from value why) below h = (one_of f xs i x value below h.0, h.1, h.2)
 fault_of_one f has_year xs i x (fault.zones value why) below h = (one_of f xs i x value below h.0, h.1, h.2)
-fault_of_one f has_year xs i x (fault.lacking value lack) below h = (one_of f xs i x value below h.0, h.1, h.2)
+fault_of_one f has_year xs i x (fault.incomplete_format value missing_field) below h = (one_of f xs i x value below h.0, h.1, h.2)
 fault_of_one f has_year xs i x why below h = absurd h
 
--- what is wrong with a suffix in the zone that is given is wrong with the options
+-- an error in a suffix of the given zone is an error of the options
 pub suffix_fault : (Y : ℕ) (o : Options) (zone : Zone) (f : Fault) → IsZone Y (zone_of o) zone → IsSuffixFault o.to.now zone f → IsFault Y o f
 suffix_fault Y o zone fault.memory is h = h
 suffix_fault Y o zone (fault.unnamed value) is h = (h.0, (h.1, (zone, is, h.2)))
 suffix_fault Y o zone f is h = absurd h
 
--- ---- The part of a line that is shown, and what a log got of it in several writes
+-- ---- The part of a line that is printed, and several writes to a log
 
--- a range from one place on, and then so many bytes of it, is that part of a line
+-- a range is a place and a number of bytes from there on
 pub part_is : (line : List ℕ) (most left_out from n : ℕ) → from ≡ min left_out (length line)
     → n ≡ min most (length (take (length line - from) (drop from line)))
     → take n (take (length line - from) (drop from line)) ≡ take most (drop left_out line)
@@ -127,7 +127,7 @@ told_joined number mark red_on reason expected red_off line = simp append_assoc
 pub Appends-told : (a b c d e : Option (List ℕ)) (line reason expected : List ℕ) (column : ℕ)
     → Appends a b (decimal column ++ ((codes ": " ++ (27 ∷ codes "[31m")) ++ reason)) → Appends b c expected
     → Appends c d (27 ∷ codes "[0m") → Appends d e (pointer line column)
-    → Appends a e (reason_text column (told_reason true line column (reason ++ expected)))
+    → Appends a e (reason_text column (reason_report true line column (reason ++ expected)))
 Appends-told a b c d e line reason expected column p q r s =
     let red_off : List ℕ = 27 ∷ codes "[0m" in
     subst (Appends a e)
@@ -139,7 +139,7 @@ plain_joined : (number mark reason expected : List ℕ)
     → (number ++ (mark ++ reason)) ++ expected ≡ number ++ (mark ++ (reason ++ expected))
 plain_joined number mark reason expected = simp append_assoc
 
--- a reason with what was expected
+-- a reason, with what was expected
 pub Appends-plain : (a b c : Option (List ℕ)) (reason expected : List ℕ) (column : ℕ)
     → Appends a b (decimal column ++ (codes ": " ++ reason)) → Appends b c expected
     → Appends a c (reason_text column (reason ++ expected))

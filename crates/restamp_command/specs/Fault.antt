@@ -1,40 +1,40 @@
--- What is wrong with an option, without where its value lies in memory, and how it is told.
+-- The error of an option, without the address of its value, and its text.
 use Rattle.std.specs.Prelude.{ℕ, List, codes, Option, None, Some}
 use Rattle.time_zones.specs.Zones.{fault_text}
 use Rattle.time_zones.specs.declared.zone_fault.ZoneFault.{ZoneFault}
-use Rattle.restamp_verdict.specs.Lack.{lack_text}
+use Rattle.restamp_verdict.specs.MissingField.{missing_field_text}
 use Rattle.restamp_verdict.specs.Naming as naming
 use Rattle.restamp_verdict.specs.Reason.{Reason, seen, reason_text}
-use Rattle.restamp_verdict.specs.declared.lack.Lack.{Lack}
+use Rattle.restamp_verdict.specs.declared.missing_field.MissingField.{MissingField}
 use Rattle.restamp_command.specs.declared.fault.Fault as declared
 use Rattle.restamp_command.specs.declared.fault.Fault.TheVariants as fault
-use Rattle.restamp_command.specs.declared.fault.NoMoment as declared_none
-use Rattle.restamp_command.specs.declared.fault.NoMoment.TheVariants as none
+use Rattle.restamp_command.specs.declared.fault.TimeArgError as declared_none
+use Rattle.restamp_command.specs.declared.fault.TimeArgError.TheVariants as none
 
--- a text says no moment, for that reason; it names one that has no date; or it names one where the clock shows none
-pub data NoMoment : Type 0 where
-  unread : Reason → NoMoment
-  out_of_range : NoMoment
-  no_clock : NoMoment
+-- why a text is no moment: a reason; a moment without a date; or a clock out of range
+pub data TimeArgError : Type 0 where
+  unread : Reason → TimeArgError
+  out_of_range : TimeArgError
+  no_clock : TimeArgError
 
-abbrev pub seen_none : declared_none.NoMoment → NoMoment
-seen_none (none.Unread reason) = unread (seen reason)
-seen_none none.OutOfRange = out_of_range
-seen_none none.NoClock = no_clock
+abbrev pub erased_time_error : declared_none.TimeArgError → TimeArgError
+erased_time_error (none.Unread reason) = unread (seen reason)
+erased_time_error none.OutOfRange = out_of_range
+erased_time_error none.NoClock = no_clock
 
-abbrev pub none_text : NoMoment → List ℕ
+abbrev pub none_text : TimeArgError → List ℕ
 none_text (unread reason) = reason_text reason
 none_text out_of_range = codes "it is before the year -999999 or after 999999"
 none_text no_clock = codes "the clock shows no time from 1970 to 999999"
 
--- each with the value that its option doesn't take, and why
+-- the errors, each with the rejected value, and why
 pub data Fault : Type 0 where
   memory : Fault
   field : List ℕ → Fault
   delimiter : List ℕ → Fault
   from : List ℕ → naming.Fault → Fault
   zones : List ℕ → ZoneFault → Fault
-  lacking : List ℕ → Lack → Fault
+  incomplete_format : List ℕ → MissingField → Fault
   to : List ℕ → naming.Fault → Fault
   unnamed : List ℕ → Fault
   year : List ℕ → Fault
@@ -49,19 +49,19 @@ pub data Fault : Type 0 where
   digits : List ℕ → Fault
   errors : List ℕ → Fault
   color : List ℕ → Fault
-  latest : List ℕ → NoMoment → Fault
-  since : List ℕ → NoMoment → Fault
-  until : List ℕ → NoMoment → Fault
+  latest : List ℕ → TimeArgError → Fault
+  since : List ℕ → TimeArgError → Fault
+  until : List ℕ → TimeArgError → Fault
   in_place : List ℕ → Fault
 
--- what a fault says
+-- the error without the addresses of its texts
 abbrev pub told : declared.Fault → Fault
 told fault.Memory = memory
 told (fault.Field value) = field value.now
 told (fault.Delimiter value) = delimiter value.now
 told (fault.From value why) = from value.now (naming.fault_of why)
 told (fault.Zones value why) = zones value.now why
-told (fault.Lacking value lack) = lacking value.now lack
+told (fault.IncompleteFormat value missing_field) = incomplete_format value.now missing_field
 told (fault.To value why) = to value.now (naming.fault_of why)
 told (fault.Unnamed value) = unnamed value.now
 told (fault.Year value) = year value.now
@@ -76,19 +76,19 @@ told (fault.Zone value why) = zone value.now why
 told (fault.Digits value) = digits value.now
 told (fault.Errors value) = errors value.now
 told (fault.Color value) = color value.now
-told (fault.Latest value why) = latest value.now (seen_none why)
-told (fault.Since value why) = since value.now (seen_none why)
-told (fault.Until value why) = until value.now (seen_none why)
+told (fault.Latest value why) = latest value.now (erased_time_error why)
+told (fault.Since value why) = since value.now (erased_time_error why)
+told (fault.Until value why) = until value.now (erased_time_error why)
 told (fault.InPlace value) = in_place value.now
 
--- the option, and the value that it doesn't take
+-- the option, and the rejected value
 abbrev pub place_of : Fault → Option (List ℕ × List ℕ)
 place_of memory = None
 place_of (field value) = Some (codes "--field <N>", value)
 place_of (delimiter value) = Some (codes "--delimiter <BYTE>", value)
 place_of (from value why) = Some (codes "--from <FORMAT>", value)
 place_of (zones value why) = Some (codes "--from <FORMAT>", value)
-place_of (lacking value lack) = Some (codes "--from <FORMAT>", value)
+place_of (incomplete_format value missing_field) = Some (codes "--from <FORMAT>", value)
 place_of (to value why) = Some (codes "--to <FORMAT>", value)
 place_of (unnamed value) = Some (codes "--to <FORMAT>", value)
 place_of (year value) = Some (codes "--year <YEAR>", value)
@@ -108,14 +108,14 @@ place_of (since value why) = Some (codes "--since <TIME>", value)
 place_of (until value why) = Some (codes "--until <TIME>", value)
 place_of (in_place value) = Some (codes "--in-place[=<SUFFIX>]", value)
 
--- what is printed of a fault; of a word that a description has nothing is said
+-- the text of an error; no text is specified for a word that a description doesn't have
 abbrev pub why_text : Fault → Option (List ℕ)
 why_text memory = Some (codes "out of memory")
 why_text (field value) = Some (codes "it is not a number from 1 to 18446744073709551615")
 why_text (delimiter value) = Some (codes "it is not one byte")
 why_text (from value why) = naming.fault_text why
 why_text (zones value why) = fault_text why
-why_text (lacking value lack) = Some (lack_text lack)
+why_text (incomplete_format value missing_field) = Some (missing_field_text missing_field)
 why_text (to value why) = naming.fault_text why
 why_text (unnamed value) = Some (codes "--zone gives it no name and no offset of whole minutes")
 why_text (year value) = Some (codes "it is not a year from -999999 to 999999")

@@ -1,4 +1,4 @@
--- What the words of the command line give, as `clap` matches them.
+-- The values of the command line, as `clap` matches them.
 use Rattle.std.specs.Prelude.{◌≡◌, ℕ, Bool, true, false, List, [], ◌∷◌, codes, map, drop, unwrap_or, Option, None, Some}
 use Rattle.std.specs.Borrow.{Bor}
 use Rattle.std.specs.Option.{option_map}
@@ -6,17 +6,17 @@ use Rattle.clap.specs.Matches.{first_value, matched_of, one_text, raw_values}
 use Rattle.clap.specs.declared.parser.matches.Found.{Found}
 use Rattle.restamp_command.specs.declared.options.Options.{Options}
 
--- A flag is true where it was given, and false where it was not.
+-- A flag is true if it was given, otherwise false.
 abbrev pub IsFlag : Found → List ℕ → Bool → Type 0
 IsFlag f id flag =
     (one_text f id ≡ Some (codes "true") → flag ≡ true) × (one_text f id ≡ Some (codes "false") → flag ≡ false)
     × (one_text f id ≡ None → flag ≡ false)
 
--- what a reference to a text points to, if there is one
+-- the text behind a reference, if there is one
 abbrev pub text_behind : Option (Bor (List ℕ)) → Option (List ℕ)
 text_behind = option_map (λ t. t.now)
 
--- the first text of an option, and of none the empty one
+-- the first text of an option, empty without one
 abbrev pub text_given : Found → List ℕ → List ℕ
 text_given f id = unwrap_or (first_value f id) []
 
@@ -29,7 +29,7 @@ abbrev pub pair_of : List (List ℕ) → Option (List ℕ × List ℕ)
 pair_of (first ∷ second ∷ []) = Some (first, second)
 pair_of texts = None
 
--- the first format of `--from`: of none RFC 3339
+-- the first format of `--from`, RFC 3339 by default
 abbrev pub first_format : List (List ℕ) → List ℕ
 first_format [] = codes "rfc3339"
 first_format (name ∷ names) = name
@@ -38,11 +38,11 @@ first_format (name ∷ names) = name
 abbrev pub texts_behind : Option (Bor (List (Bor (List ℕ)))) → Option (List (List ℕ))
 texts_behind = option_map (λ texts. map (λ t. t.now) texts.now)
 
--- the formats of options but the first
+-- the names of the other formats
 abbrev pub other_names : Options → List (List ℕ)
 other_names o = drop 1 (unwrap_or (texts_behind o.formats) [])
 
--- Options are what the words give.
+-- The options have the values of the command line.
 pub record AreGiven (f : Found) (o : Options) : Type 0 where
   pub front : IsFlag f (codes "front") o.front
   pub anywhere : IsFlag f (codes "anywhere") o.anywhere

@@ -1,4 +1,4 @@
--- What options ask for. `Y` is the greatest year.
+-- The request of the options. `Y` is the greatest year.
 use Rattle.std.specs.Prelude.{◌≡◌, ℕ, ℤ, List, [], ◌∷◌, ◌++◌, codes, Bool, true, false, ◌&&◌, ◌||◌, not, if◌then◌else◌, ◌==◌, ◌⊎◌, MatchBool, Option, None, Some, is_some, IfSome, IsSomeAnd, Result, Ok, Err}
 use Rattle.std.specs.Borrow.{Bor}
 use Rattle.std.specs.List.{list_any}
@@ -8,15 +8,15 @@ use Rattle.restamp_place.specs.declared.cuts.Place.{Place}
 use Rattle.restamp_place.specs.declared.cuts.Place.TheVariants as place
 use Rattle.restamp_place.specs.declared.fields.Fields.{Fields}
 use Rattle.restamp_place.specs.declared.fields.Fields.TheVariants.{Delimited, Blank, Quoted}
-use Rattle.restamp_verdict.specs.Lack.{format_lack, takes}
+use Rattle.restamp_verdict.specs.MissingField.{format_missing_field, can_default}
 use Rattle.restamp_verdict.specs.Naming as naming
-use Rattle.restamp_verdict.specs.Naming.{Means, MeansWriting, meaning_of, way_of}
+use Rattle.restamp_verdict.specs.Naming.{Means, MeansWriting, meaning_of, format_name_of}
 use Rattle.restamp_verdict.specs.declared.form.Named.TheVariants.{Rfc3339}
 use Rattle.restamp_verdict.specs.declared.form.Writing.{Writing}
 use Rattle.restamp_verdict.specs.declared.form.Writing.TheVariants.{Named}
 use Rattle.restamp_verdict.specs.declared.job.Job.{Job}
-use Rattle.restamp_verdict.specs.declared.lack.Part.{Part}
-use Rattle.restamp_verdict.specs.declared.lack.Part.TheVariants as part
+use Rattle.restamp_verdict.specs.declared.missing_field.Part.{Part}
+use Rattle.restamp_verdict.specs.declared.missing_field.Part.TheVariants as part
 use Rattle.restamp_verdict.specs.declared.local.Fold.{Fold}
 use Rattle.restamp_verdict.specs.declared.local.Fold.TheVariants.{Refuse}
 use Rattle.restamp_verdict.specs.declared.reading.Defaults.{Defaults}
@@ -36,18 +36,18 @@ use Rattle.time_values.specs.declared.utc_offset.UtcOffset.{UtcOffset}
 use Rattle.time_zones.specs.Finding.{zone_named, IsFolderFault}
 use Rattle.time_zones.specs.declared.finding.NamedZone.TheVariants as NamedZone
 use Rattle.restamp_command.specs.Fault as fault
-use Rattle.restamp_command.specs.Fault.{Fault, NoMoment, seen_none}
+use Rattle.restamp_command.specs.Fault.{Fault, TimeArgError, erased_time_error}
 use Rattle.restamp_command.specs.Values.{delimiter_of, digits_of, fold_of, shows_of, IsNumber, IsPositive, IsOffsetText, IsYear, IsMomentText}
-use Rattle.restamp_command.specs.Zones.{AreDefaultsOf, ComesOf, IsZone, IsNoZone, IsClockOf, IsSuffixOf, HasNoSuffix}
-use Rattle.restamp_command.specs.declared.fault.NoMoment as declared
+use Rattle.restamp_command.specs.Zones.{AreDefaultsOf, IsZoneResult, IsZone, IsNoZone, IsClockOf, IsSuffixOf, HasNoSuffix}
+use Rattle.restamp_command.specs.declared.fault.TimeArgError as declared
 use Rattle.restamp_command.specs.declared.request.Request.{Request}
 use Rattle.restamp_command.specs.declared.style.Style.{Style}
-use Rattle.restamp_command.specs.declared.zone.Given.{Given}
+use Rattle.restamp_command.specs.declared.zone.OwnedDefaults.{OwnedDefaults}
 use Rattle.restamp_command.specs.declared.zone.Local.{Local}
 use Rattle.restamp_command.specs.declared.zone.Local.TheVariants as local
 use Rattle.restamp_command.specs.declared.zone.Zone.{Zone}
 
--- a place in a line, without where its texts lie in memory, or any place
+-- a place in a line, without the addresses of its texts, or any place
 pub data Where : Type 0 where
   anywhere : Where
   whole : Where
@@ -64,13 +64,13 @@ seen_place (Some (place.Field fields n)) = field fields n
 seen_place (Some (place.Between begin close)) = between begin.now close.now
 seen_place (Some (place.After key)) = after key.now
 
--- how a line has fields
+-- how a line is split into fields
 abbrev pub fields_of : Options → Option Fields
 fields_of o =
     if o.blanks then Some Blank else
     option_map (λ byte. if o.csv then Quoted byte else Delimited byte) (delimiter_of o.delimiter.now)
 
--- The place of the field of that number; without one the whole line.
+-- The place of the field of that number; without a number the whole line.
 abbrev pub IsFieldPlace : Options → Option (List ℕ) → Where → Type 0
 IsFieldPlace o None w = w ≡ whole
 IsFieldPlace o (Some number) w =
@@ -86,207 +86,210 @@ abbrev pub IsAfterPlace : Options → Option (Bor (List ℕ)) → Where → Type
 IsAfterPlace o None w = IsBetweenPlace o o.between w
 IsAfterPlace o (Some key) w = w ≡ after key.now
 
--- Where a line's time stands.
+-- The place of a line's timestamp.
 abbrev pub IsPlace : Options → Where → Type 0
 IsPlace o w = MatchBool o.front (w ≡ front) (MatchBool o.anywhere (w ≡ anywhere) (IsAfterPlace o o.after w))
 
--- a year is given for times that say none
-abbrev pub gives_year : Options → Bool
-gives_year o = is_some o.year || is_some o.latest
+-- there is a default year
+abbrev pub has_default_year : Options → Bool
+has_default_year o = is_some o.year || is_some o.latest
 
--- an offset is given for times that say none, or a zone
-abbrev pub gives_offset : Options → Bool
-gives_offset o = is_some o.offset || is_some o.local
+-- there is a default offset, or a zone for local times
+abbrev pub has_default_offset : Options → Bool
+has_default_offset o = is_some o.offset || is_some o.local
 
 -- a name is that of RFC 9557
 abbrev pub is_zoned : List ℕ → Bool
 is_zoned name = bytes_eq name (codes "rfc9557")
 
--- The format of that name, whose zones are UTC and those of the system. What its files hold no contract tells.
+-- The format of that name, with the zones UTC and those of the system. No contract describes the system's files.
 abbrev pub IsZoned : Reading → Type 0
 IsZoned (reading.Zoned zones) = zone_named zones (codes "UTC") ≡ Some NamedZone.Utc
 IsZoned format = ⊥
 
--- The format that has that name, or that the text describes. Some text says a moment by it, where a year is given or
--- isn't.
+-- The format that has that name, or that the text describes. It has texts that are moments, with or without a default
+-- year.
 abbrev pub IsFormat : Bool → List ℕ → Reading → Type 0
 IsFormat has_year name format =
     MatchBool (is_zoned name) (IsZoned format)
-    (Means (way_of name) (meaning_of format) × (format_lack has_year format ≡ None))
+    (Means (format_name_of name) (meaning_of format) × (format_missing_field has_year format ≡ None))
 
--- A list got the formats of those names, one after the other.
+-- A list is extended by the formats of those names, in order.
 abbrev pub AddsFormats : Bool → List (List ℕ) → List Reading → List Reading → Type 0
 AddsFormats has_year [] old new = new ≡ old
 AddsFormats has_year (name ∷ names) old new =
     (format : Reading) × IsFormat has_year name format × AddsFormats has_year names (old ++ format ∷ []) new
 
--- The formats that are asked for, the first and the others.
+-- The requested formats, the first and the others.
 abbrev pub AreFormats : Options → Reading → List Reading → Type 0
 AreFormats o first others =
-    IsFormat (gives_year o) o.from.now first × AddsFormats (gives_year o) (other_names o) [] others
+    IsFormat (has_default_year o) o.from.now first × AddsFormats (has_default_year o) (other_names o) [] others
 
 -- one of the texts
 abbrev pub IsOneOf : List (List ℕ) → List ℕ → Type 0
 IsOneOf [] text = ⊥
 IsOneOf (name ∷ names) text = (text ≡ name) ⊎ IsOneOf names text
 
--- One of the texts is no format, for that reason, one whose zones can't be read, or a format that lacks something; or
--- memory was short.
+-- One of the texts is no format, for that reason, or its zones can't be read, or it has a missing part; or memory was
+-- short.
 abbrev pub IsFormatFault : Bool → List (List ℕ) → Fault → Type 0
 IsFormatFault has_year names fault.memory = Unit {0}
 IsFormatFault has_year names (fault.from value why) =
-    IsOneOf names value × (is_zoned value ≡ false) × naming.IsFault (way_of value) why
+    IsOneOf names value × (is_zoned value ≡ false) × naming.IsFault (format_name_of value) why
 IsFormatFault has_year names (fault.zones value why) =
     IsOneOf names value × (is_zoned value ≡ true) × IsFolderFault why
-IsFormatFault has_year names (fault.lacking value lack) =
+IsFormatFault has_year names (fault.incomplete_format value missing_field) =
     IsOneOf names value × (is_zoned value ≡ false)
-    × ((format : Reading) × Means (way_of value) (meaning_of format) × (format_lack has_year format ≡ Some lack))
+    × ((format : Reading) × Means (format_name_of value) (meaning_of format)
+    × (format_missing_field has_year format ≡ Some missing_field))
 IsFormatFault has_year names f = ⊥
 
--- The year that is given, if one is.
+-- The default year, if there is one.
 abbrev pub IsYearGiven : ℕ → Option (List ℕ) → Option ℤ → Type 0
 IsYearGiven Y None year = year ≡ None
 IsYearGiven Y (Some text) year = IsSomeAnd year (λ y. IsYear Y text (Some y))
 
--- The offset that is given; without one UTC.
+-- The default offset, UTC unless given.
 abbrev pub IsOffsetGiven : ℕ → Option (List ℕ) → UtcOffset → Type 0
 IsOffsetGiven Y None offset = IsUtc offset
 IsOffsetGiven Y (Some text) offset = IsOffsetText Y text (Some offset)
 
--- Which of two moments it is that the clocks of a zone show alike; without a text neither.
+-- The moment that an ambiguous local time means; none by default.
 abbrev pub IsFoldGiven : Option (List ℕ) → Fold → Type 0
 IsFoldGiven None fold = fold ≡ Refuse
 IsFoldGiven (Some text) fold = fold_of text ≡ Some fold
 
--- what the zone of that name is called in reports
-abbrev pub told_name : List ℕ → List ℕ
-told_name name = if bytes_eq name (codes "local") then codes "the local zone" else name
+-- the name of a zone in reports
+abbrev pub reported_zone_name : List ℕ → List ℕ
+reported_zone_name name = if bytes_eq name (codes "local") then codes "the local zone" else name
 
--- What stands for an offset: the clocks of the zone of that name, or without one the offset that is given.
+-- The default for an omitted offset: the zone of that name, or without a name the given offset.
 abbrev pub IsLocalGiven : ℕ → Options → Option (List ℕ) → Local → Type 0
 IsLocalGiven Y o None (local.Offset offset) = IsOffsetGiven Y (text_behind o.offset) offset
 IsLocalGiven Y o None (local.Zone named called fold) = ⊥
 IsLocalGiven Y o (Some name) (local.Offset offset) = ⊥
 IsLocalGiven Y o (Some name) (local.Zone named called fold) =
-    ComesOf name (Ok named) × (called.now ≡ told_name name) × IsFoldGiven (text_behind o.fold) fold
+    IsZoneResult name (Ok named) × (called.now ≡ reported_zone_name name) × IsFoldGiven (text_behind o.fold) fold
 
--- The year and what stands for an offset where a time leaves them out.
-abbrev pub AreParts : ℕ → Options → Given → Type 0
+-- The defaults for an omitted year and an omitted offset.
+abbrev pub AreParts : ℕ → Options → OwnedDefaults → Type 0
 AreParts Y o given =
     IsYearGiven Y (text_behind o.year) given.year × IsLocalGiven Y o (text_behind o.local) given.local
     × (given.latest ≡ None)
 
--- A text of one of the formats may leave that part out.
-abbrev pub one_takes : Part → Reading → List Reading → Bool
-one_takes p first others = takes p first || list_any (takes p) others
+-- A text of one of the formats may omit that part.
+abbrev pub one_can_default : Part → Reading → List Reading → Bool
+one_can_default p first others = can_default p first || list_any (can_default p) others
 
--- What is given for a part of a time can be of use.
+-- The defaults can be of use.
 pub record AreUsed (o : Options) (first : Reading) (others : List Reading) : Type 0 where
-  pub year : gives_year o ≡ true → one_takes part.Year first others ≡ true
-  pub offset : gives_offset o ≡ true → one_takes part.Offset first others ≡ true
+  pub year : has_default_year o ≡ true → one_can_default part.Year first others ≡ true
+  pub offset : has_default_offset o ≡ true → one_can_default part.Offset first others ≡ true
 
--- No text of a format that is asked for leaves that part out.
+-- Each text of the requested formats has that part.
 abbrev pub HasNoUse : Options → Part → Type 0
 HasNoUse o p =
-    (first : Reading) × (others : List Reading) × AreFormats o first others × (one_takes p first others ≡ false)
+    (first : Reading) × (others : List Reading) × AreFormats o first others × (one_can_default p first others ≡ false)
 
--- the zone that is given, by its text or by the flag for UTC
+-- the output zone, by its text or by the flag for UTC
 abbrev pub zone_of : Options → List ℕ
 zone_of o = if o.utc then codes "utc" else o.zone.now
 
--- The format that times are written by. RFC 9557 is RFC 3339 with a suffix.
+-- The output format. RFC 9557 is RFC 3339 with a suffix.
 abbrev pub IsWriting : List ℕ → Writing → Type 0
 IsWriting name writing =
     MatchBool (is_zoned name) (writing ≡ Named Rfc3339) (MeansWriting name writing)
 
--- The suffix of times in a zone by the format of that name.
+-- The suffix of timestamps in a zone by the format of that name.
 abbrev pub IsSuffixBy : List ℕ → Zone → List ℕ → Type 0
 IsSuffixBy name zone bytes = MatchBool (is_zoned name) (IsSuffixOf zone bytes) (bytes ≡ [])
 
--- How a time is written.
+-- How a moment is written.
 pub record IsStyle (Y : ℕ) (o : Options) (style : Style) : Type 0 where
   pub writing : IsWriting o.to.now style.writing
   pub digits : digits_of o.digits.now ≡ Some style.digits
   pub zone : IsZone Y (zone_of o) style.zone
   pub suffix : IsSuffixBy o.to.now style.zone style.suffix.items
 
--- A zone has no suffix, though one is asked for, or memory was short.
+-- A zone has no suffix, though the format needs one, or memory was short.
 abbrev pub IsSuffixFault : List ℕ → Zone → Fault → Type 0
 IsSuffixFault name zone fault.memory = Unit {0}
 IsSuffixFault name zone (fault.unnamed value) = (value ≡ name) × (is_zoned name ≡ true) × HasNoSuffix zone
 IsSuffixFault name zone f = ⊥
 
--- RFC 9557 is asked for, and the zone that is given has no suffix.
+-- The output format is RFC 9557, and the output zone has no suffix.
 abbrev pub IsUnnamed : ℕ → Options → Type 0
 IsUnnamed Y o =
     (is_zoned o.to.now ≡ true) × ((zone : Zone) × IsZone Y (zone_of o) zone × HasNoSuffix zone)
 
--- the bound that a text's moment is
-abbrev pub bound_of : List ℕ → Result OffsetDateTime NoMoment → Result (Option OffsetDateTime) (List ℕ × NoMoment)
+-- the moment of a text as a bound
+abbrev pub bound_of : List ℕ → Result OffsetDateTime TimeArgError
+    → Result (Option OffsetDateTime) (List ℕ × TimeArgError)
 bound_of text (Ok moment) = Ok (Some moment)
 bound_of text (Err why) = Err (text, why)
 
--- a result, without where its texts lie in memory
-abbrev pub seen_bound : Result (Option OffsetDateTime) (Bor (List ℕ) × declared.NoMoment)
-    → Result (Option OffsetDateTime) (List ℕ × NoMoment)
-seen_bound (Ok bound) = Ok bound
-seen_bound (Err e) = Err (e.0.now, seen_none e.1)
+-- a result, without the addresses of its texts
+abbrev pub erased_bound : Result (Option OffsetDateTime) (Bor (List ℕ) × declared.TimeArgError)
+    → Result (Option OffsetDateTime) (List ℕ × TimeArgError)
+erased_bound (Ok bound) = Ok bound
+erased_bound (Err e) = Err (e.0.now, erased_time_error e.1)
 
--- A bound is the moment that a text says, if there is one; or the text says none, for that reason. `now` is the moment
--- that the clock shows.
+-- A bound is the moment of a text, if there is one; or an error, as the text is none. `now` is the clock's
+-- moment.
 abbrev pub IsBound : ℕ → Option UtcDateTime → Reading → List Reading → Defaults → Option (List ℕ)
-    → Result (Option OffsetDateTime) (List ℕ × NoMoment) → Type 0
+    → Result (Option OffsetDateTime) (List ℕ × TimeArgError) → Type 0
 IsBound Y now first others defaults None result = result ≡ Ok None
 IsBound Y now first others defaults (Some text) result =
-    (moment : Result OffsetDateTime NoMoment) × IsMomentText Y now first others text defaults moment
+    (moment : Result OffsetDateTime TimeArgError) × IsMomentText Y now first others text defaults moment
     × (result ≡ bound_of text moment)
 
--- The same by the defaults that are given.
-abbrev pub IsBoundBy : ℕ → Option UtcDateTime → Reading → List Reading → Given → Option (List ℕ)
-    → Result (Option OffsetDateTime) (List ℕ × NoMoment) → Type 0
+-- A bound by the given defaults.
+abbrev pub IsBoundBy : ℕ → Option UtcDateTime → Reading → List Reading → OwnedDefaults → Option (List ℕ)
+    → Result (Option OffsetDateTime) (List ℕ × TimeArgError) → Type 0
 IsBoundBy Y now first others given text result =
     (defaults : Defaults) × AreDefaultsOf given defaults × IsBound Y now first others defaults text result
 
--- What is given for what a time leaves out: these parts, and the moment that a time with no year isn't after.
-abbrev pub IsGiven : ℕ → Option UtcDateTime → Options → Reading → List Reading → Given → Type 0
+-- The defaults for what a timestamp omits: these parts, and the latest moment for a timestamp without a year.
+abbrev pub IsGiven : ℕ → Option UtcDateTime → Options → Reading → List Reading → OwnedDefaults → Type 0
 IsGiven Y now o first others given =
-    (parts : Given) × AreParts Y o parts × (given ≡ record parts { latest = given.latest })
+    (parts : OwnedDefaults) × AreParts Y o parts × (given ≡ record parts { latest = given.latest })
     × IsBoundBy Y now first others parts (text_behind o.latest) (Ok given.latest)
 
--- The bounds of the times of lines that are kept.
-abbrev pub AreBounds : ℕ → Option UtcDateTime → Options → Reading → List Reading → Given
+-- The bounds of the moments of lines that are kept.
+abbrev pub AreBounds : ℕ → Option UtcDateTime → Options → Reading → List Reading → OwnedDefaults
     → Option OffsetDateTime × Option OffsetDateTime → Type 0
 AreBounds Y now o first others given bounds =
     IsBoundBy Y now first others given (text_behind o.since) (Ok bounds.0)
     × IsBoundBy Y now first others given (text_behind o.until) (Ok bounds.1)
 
--- Colours are shown, or aren't, where reports go to a terminal or don't.
+-- Whether reports have colours, by whether they go to a terminal.
 abbrev pub AreColors : Options → Bool → Bool → Type 0
 AreColors o is_terminal shows = shows_of o.color.now is_terminal ≡ Some shows
 
--- which lines go out
+-- which lines are written
 abbrev pub output_of : Options → Output
 output_of o = if o.only then Times else (if o.drop_refused then RewrittenLines else AllLines)
 
--- the work stops at the first refused line
+-- it stops at the first rejected line
 abbrev pub stops : Options → Bool
 stops o = o.strict && not o.keep_going
 
--- Which refused lines are named.
+-- Which rejected lines are reported.
 abbrev pub AreReports : Options → Reports → Type 0
 AreReports o reports =
     (n : ℕ) × IsNumber o.errors.now (Some n) × (reports ≡ (if o.quiet then Quiet else First n))
 
--- a slash stands in a text
+-- a text has a slash
 abbrev pub has_slash : List ℕ → Bool
 has_slash text = list_any (λ b. b == 47) text
 
--- The suffix of the backups of files that are to be replaced, which has no slash.
+-- The suffix of the backups of files that are replaced, which has no slash.
 abbrev pub IsSuffix : Options → Option (List ℕ) → Type 0
 IsSuffix o suffix = (suffix ≡ text_behind o.in_place) × IfSome suffix (λ text. has_slash text ≡ false)
 
--- Options ask for a request, where the clock shows that moment, and reports go to a terminal or don't.
-pub record Asks (Y : ℕ) (now : Option UtcDateTime) (o : Options) (is_terminal : Bool) (r : Request) : Type 0 where
+-- The request of options, by the clock's moment, and by whether reports go to a terminal.
+pub record IsRequestOf (Y : ℕ) (now : Option UtcDateTime) (o : Options) (is_terminal : Bool)
+    (r : Request) : Type 0 where
   pub place : IsPlace o (seen_place r.place)
   pub formats : AreFormats o r.first r.others.items
   pub uses : AreUsed o r.first r.others.items
@@ -300,37 +303,37 @@ pub record Asks (Y : ℕ) (now : Option UtcDateTime) (o : Options) (is_terminal 
   pub strict : r.strict ≡ o.strict
   pub in_place : IsSuffix o (text_behind r.in_place)
 
--- A bound's text says no moment by the formats and the defaults that are given, for that reason.
-abbrev pub IsNoBound : ℕ → Option UtcDateTime → Options → Option (List ℕ) → List ℕ → NoMoment → Type 0
+-- A bound's text is no moment by the given formats and defaults, for that reason.
+abbrev pub IsNoBound : ℕ → Option UtcDateTime → Options → Option (List ℕ) → List ℕ → TimeArgError → Type 0
 IsNoBound Y now o text value why =
-    (first : Reading) × (others : List Reading) × (given : Given)
+    (first : Reading) × (others : List Reading) × (given : OwnedDefaults)
     × AreFormats o first others × IsGiven Y now o first others given
     × IsBoundBy Y now first others given text (Err (value, why))
 
--- The same of the moment that a time with no year isn't after, by the other defaults alone.
-abbrev pub IsNoLatest : ℕ → Option UtcDateTime → Options → List ℕ → NoMoment → Type 0
+-- The text of the latest moment is no moment, by the other defaults alone.
+abbrev pub IsNoLatest : ℕ → Option UtcDateTime → Options → List ℕ → TimeArgError → Type 0
 IsNoLatest Y now o value why =
-    (first : Reading) × (others : List Reading) × (parts : Given)
+    (first : Reading) × (others : List Reading) × (parts : OwnedDefaults)
     × AreFormats o first others × AreParts Y o parts
     × IsBoundBy Y now first others parts (text_behind o.latest) (Err (value, why))
 
--- An option doesn't take its value, whatever the clock shows, or memory was short.
+-- An option rejects its value at any time, or memory was short.
 abbrev pub IsFault : ℕ → Options → Fault → Type 0
 IsFault Y o fault.memory = Unit {0}
 IsFault Y o (fault.field value) = (text_behind o.field ≡ Some value) × IsPositive value None
 IsFault Y o (fault.delimiter value) = (value ≡ o.delimiter.now) × (delimiter_of value ≡ None)
 IsFault Y o (fault.from value why) =
-    IsFormatFault (gives_year o) (o.from.now ∷ other_names o) (fault.from value why)
+    IsFormatFault (has_default_year o) (o.from.now ∷ other_names o) (fault.from value why)
 IsFault Y o (fault.zones value why) =
-    IsFormatFault (gives_year o) (o.from.now ∷ other_names o) (fault.zones value why)
-IsFault Y o (fault.lacking value lack) =
-    IsFormatFault (gives_year o) (o.from.now ∷ other_names o) (fault.lacking value lack)
+    IsFormatFault (has_default_year o) (o.from.now ∷ other_names o) (fault.zones value why)
+IsFault Y o (fault.incomplete_format value missing_field) =
+    IsFormatFault (has_default_year o) (o.from.now ∷ other_names o) (fault.incomplete_format value missing_field)
 IsFault Y o (fault.to value why) =
     (value ≡ o.to.now) × (is_zoned value ≡ false) × naming.IsWritingFault value why
 IsFault Y o (fault.unnamed value) = (value ≡ o.to.now) × IsUnnamed Y o
 IsFault Y o (fault.year value) = (text_behind o.year ≡ Some value) × IsYear Y value None
 IsFault Y o (fault.offset value) = (text_behind o.offset ≡ Some value) × IsOffsetText Y value None
-IsFault Y o (fault.local value why) = (text_behind o.local ≡ Some value) × ComesOf value (Err why)
+IsFault Y o (fault.local value why) = (text_behind o.local ≡ Some value) × IsZoneResult value (Err why)
 IsFault Y o (fault.fold value) = (text_behind o.fold ≡ Some value) × (fold_of value ≡ None)
 IsFault Y o (fault.unused_year value) = (text_behind o.year ≡ Some value) × HasNoUse o part.Year
 IsFault Y o (fault.unused_latest value) = (text_behind o.latest ≡ Some value) × HasNoUse o part.Year
@@ -345,21 +348,21 @@ IsFault Y o (fault.since value why) = ⊥
 IsFault Y o (fault.until value why) = ⊥
 IsFault Y o (fault.in_place value) = (text_behind o.in_place ≡ Some value) × (has_slash value ≡ true)
 
--- An option doesn't take its value, where the clock shows that moment, or memory was short.
+-- An option rejects its value by the clock's moment, or memory was short.
 abbrev pub IsFaultAt : ℕ → Option UtcDateTime → Options → Fault → Type 0
 IsFaultAt Y now o (fault.latest value why) = IsNoLatest Y now o value why
 IsFaultAt Y now o (fault.since value why) = IsNoBound Y now o (text_behind o.since) value why
 IsFaultAt Y now o (fault.until value why) = IsNoBound Y now o (text_behind o.until) value why
 IsFaultAt Y now o f = IsFault Y o f
 
--- The lines of files are answered as a request asks for.
+-- The settings of a request for the lines of files.
 pub record AreSettingsOf (r : Request) (s : Settings) : Type 0 where
   pub output : s.output ≡ r.output
   pub suffix : s.suffix.now ≡ r.style.suffix.items
   pub reports : s.reports ≡ r.reports
   pub strict : s.strict ≡ r.stops
 
--- A job does what a request asks for.
+-- The job of a request.
 pub record IsJobOf (r : Request) (job : Job) : Type 0 where
   pub place : job.place ≡ r.place
   pub first : job.first.now ≡ r.first
@@ -370,4 +373,4 @@ pub record IsJobOf (r : Request) (job : Job) : Type 0 where
   pub clock : IsClockOf r.style.zone job.form.clock
   pub since : job.since ≡ r.since
   pub until : job.until ≡ r.until
-  pub asks_for_times : job.asks_for_times ≡ r.strict
+  pub requires_timestamp : job.requires_timestamp ≡ r.strict

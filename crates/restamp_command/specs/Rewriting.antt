@@ -1,4 +1,4 @@
--- What becomes of a line, as a job judges it. `Y` is the greatest year.
+-- The fate of a line by a job's verdict. `Y` is the greatest year.
 use Rattle.std.specs.Prelude.{ℕ, ◌-◌, Bool, true, false, ◌&&◌, nat_le, min, List, ◌∷◌, ◌++◌, codes, map, take, drop, replicate, if◌then◌else◌, [], flat_map, Option, None, Some, ◌≡◌, ◌+◌}
 use Rattle.std.specs.Char.Escape.{escape_ascii}
 use Rattle.std.proofs.Common.{ap, subst, sym, ◌∙◌}
@@ -7,20 +7,20 @@ use Rattle.time_locating.specs.Misses.{Wanted, these_bytes, named, the_end}
 use Rattle.restamp_stream.specs.declared.fate.Fate.{Fate}
 use Rattle.restamp_stream.specs.declared.fate.Fate.TheVariants.{Without, Rewritten, Dropped, Refused}
 use Rattle.restamp_verdict.specs.Job.{Verdict, without, rewritten, dropped, refused, IsJudged}
-use Rattle.restamp_verdict.specs.Wrong.{IsLack, why_text, IsWrong, Wrong}
+use Rattle.restamp_verdict.specs.ErrorLocation.{IsMissingField, why_text, IsErrorLocation, ErrorLocation}
 use Rattle.restamp_verdict.specs.Reason.{Reason}
 use Rattle.restamp_verdict.specs.declared.job.Job.{Job}
-use Rattle.restamp_verdict.specs.declared.lack.Lack.{Lack}
+use Rattle.restamp_verdict.specs.declared.missing_field.MissingField.{MissingField}
 use Rattle.restamp_verdict.proofs.OneVerdict.{one_verdict}
-use Rattle.restamp_verdict.proofs.OneWrong.{one_lack, one_wrong}
+use Rattle.restamp_verdict.proofs.OneErrorLocation.{one_missing_field, one_error_location}
 
--- ---- A refused line as a terminal shows it
+-- ---- A rejected line on a terminal
 
 -- a byte, or a dot for one that doesn't print
 abbrev pub shown_byte : ℕ → ℕ
 shown_byte b = if nat_le 32 b && nat_le b 126 then b else 46
 
--- so many blanks, at most 40
+-- n spaces, at most 40
 abbrev pub blanks : ℕ → List ℕ
 blanks n = replicate (min n 40) 32
 
@@ -28,29 +28,29 @@ blanks n = replicate (min n 40) 32
 abbrev pub red : List ℕ → List ℕ
 red text = (27 ∷ codes "[31m") ++ (text ++ (27 ∷ codes "[0m"))
 
--- the bytes of a line around a column: at most 60, of which at most 40 stand before it
+-- the bytes of a line around a column: at most 60, with at most 40 before it
 abbrev pub around : List ℕ → ℕ → List ℕ
 around line column = map shown_byte (take 60 (drop (column - 41) line))
 
--- these, and a caret under that column
+-- those bytes, and a caret under that column
 abbrev pub pointer : List ℕ → ℕ → List ℕ
 pointer line column = 10 ∷ (around line column ++ (10 ∷ (blanks (column - 1) ++ red (codes "^"))))
 
--- how a reason is told: in red with the line below it, or plain
-abbrev pub told_reason : Bool → List ℕ → ℕ → List ℕ → List ℕ
-told_reason false line column reason = reason
-told_reason true line column reason = red reason ++ pointer line column
+-- a reason with its column: in red with the line below it, or plain
+abbrev pub reason_report : Bool → List ℕ → ℕ → List ℕ → List ℕ
+reason_report false line column reason = reason
+reason_report true line column reason = red reason ++ pointer line column
 
--- ---- How it is told what was expected where a time goes wrong
+-- ---- The text of what was expected at an error
 
--- bytes between quotes, where a backslash and a letter or a number stand for one that doesn't print; the name of a
--- component; or the end
+-- bytes between quotes, in which a backslash escapes one that doesn't print; the name of a component; or the
+-- end
 abbrev pub wanted_text : Wanted → List ℕ
 wanted_text (these_bytes bytes) = codes "'" ++ (flat_map escape_ascii bytes ++ codes "'")
 wanted_text (named name) = name
 wanted_text the_end = codes "the end"
 
--- the same after a reason, or nothing
+-- that text after a reason, or nothing
 abbrev pub expected_text : Option Wanted → List ℕ
 expected_text None = []
 expected_text (Some wanted) = codes ": expected " ++ wanted_text wanted
@@ -66,39 +66,40 @@ fate_of (refused column reason) = Refused
 abbrev pub IsFate : ℕ → Job → List ℕ → Fate → Type 0
 IsFate Y job front fate = (verdict : Verdict) × IsJudged Y job front verdict × (fate ≡ fate_of verdict)
 
--- how it is told that a front goes wrong there for a reason, about the clocks of a zone that is called so, or for what
--- its time lacks: with what was expected, and the line below it where it is to be shown
-abbrev pub told_wrong : Bool → List ℕ → List ℕ → Reason → Option Lack → Wrong → List ℕ
-told_wrong shows_lines front zone reason lack w =
-    told_reason shows_lines front w.column (why_text zone reason lack ++ expected_text w.wanted)
+-- the text of an error in a front, for a reason or a missing part, with the name of the zone that it may be about, with
+-- what was expected, and with the line below it if it is to be printed
+abbrev pub error_report : Bool → List ℕ → List ℕ → Reason → Option MissingField → ErrorLocation → List ℕ
+error_report shows_lines front zone reason missing_field w =
+    reason_report shows_lines front w.column (why_text zone reason missing_field ++ expected_text w.wanted)
 
--- A front that is refused at a column for a reason goes wrong at that one, and that text tells it, with what the zone
--- is called.
-abbrev pub TellsWrong : ℕ → Job → List ℕ → Bool → List ℕ → ℕ → Reason → ℕ → List ℕ → Type 0
-TellsWrong Y job zone shows_lines front begin reason column text =
-    (w : Wrong) × (lack : Option Lack) × IsWrong Y job front begin reason w × IsLack Y job front reason lack
-    × (column ≡ w.column) × (text ≡ told_wrong shows_lines front zone reason lack w)
+-- A front is rejected at `column` for a reason, its error is at another column, and that text reports it, with the name
+-- of the zone.
+abbrev pub ReportsError : ℕ → Job → List ℕ → Bool → List ℕ → ℕ → Reason → ℕ → List ℕ → Type 0
+ReportsError Y job zone shows_lines front begin reason column text =
+    (w : ErrorLocation) × (missing_field : Option MissingField) × IsErrorLocation Y job front begin reason w
+    × IsMissingField Y job front reason missing_field
+    × (column ≡ w.column) × (text ≡ error_report shows_lines front zone reason missing_field w)
 
 -- A front is rejected, its error is at that column, and that text is the reason.
 abbrev pub IsReason : ℕ → Job → List ℕ → Bool → List ℕ → ℕ → List ℕ → Type 0
 IsReason Y job zone shows_lines front column text =
     (begin : ℕ) × (reason : Reason) × IsJudged Y job front (refused begin reason)
-    × TellsWrong Y job zone shows_lines front begin reason column text
+    × ReportsError Y job zone shows_lines front begin reason column text
 
--- A front has one fate.
+-- A front has exactly one fate.
 pub one_fate : (job : Job) (front : List ℕ) (a b : Fate)
     → IsFate greatest_year job front a → IsFate greatest_year job front b → a ≡ b
 one_fate job front a b p q = p.2 ∙ ap fate_of (one_verdict job front p.0 q.0 p.1 q.1) ∙ sym q.2
 
--- A front of that verdict goes wrong there, and that text tells it.
+-- A front of that verdict has its error there, and that text reports it.
 Tells : Job → List ℕ → Bool → List ℕ → ℕ → List ℕ → Verdict → Type 0
 Tells job zone shows_lines front column text without = ⊥
 Tells job zone shows_lines front column text (rewritten start n bytes) = ⊥
 Tells job zone shows_lines front column text dropped = ⊥
 Tells job zone shows_lines front column text (refused begin reason) =
-    TellsWrong greatest_year job zone shows_lines front begin reason column text
+    ReportsError greatest_year job zone shows_lines front begin reason column text
 
--- A front is refused at one column and for one reason.
+-- A front is rejected at one column and for one reason.
 pub one_reason : (job : Job) (zone : List ℕ) (shows_lines : Bool) (front : List ℕ) (column other : ℕ)
     (reason why : List ℕ)
     → IsReason greatest_year job zone shows_lines front column reason
@@ -108,11 +109,11 @@ unfolding Tells
 one_reason job zone shows_lines front column other reason why
     (begin, e, judged, told) (start, f, same_judged, same_told) =
     let verdict = one_verdict job front (refused begin e) (refused start f) judged same_judged in
-    let there : TellsWrong greatest_year job zone shows_lines front start f column reason =
+    let there : ReportsError greatest_year job zone shows_lines front start f column reason =
     subst (λ (v : Verdict). Tells job zone shows_lines front column reason v) verdict told in
-    let one = one_wrong job front start f there.0 same_told.0 there.2 same_told.2 in
-    let lack = one_lack job front f there.1 same_told.1 there.3 same_told.3 in (
-      there.4 ∙ ap (λ (w : Wrong). w.column) one ∙ sym same_told.4,
-      there.5 ∙ ap (λ (l : Option Lack). told_wrong shows_lines front zone f l there.0) lack
-          ∙ ap (told_wrong shows_lines front zone f same_told.1) one ∙ sym same_told.5,
+    let one = one_error_location job front start f there.0 same_told.0 there.2 same_told.2 in
+    let missing_field = one_missing_field job front f there.1 same_told.1 there.3 same_told.3 in (
+      there.4 ∙ ap (λ (w : ErrorLocation). w.column) one ∙ sym same_told.4,
+      there.5 ∙ ap (λ (l : Option MissingField). error_report shows_lines front zone f l there.0) missing_field
+          ∙ ap (error_report shows_lines front zone f same_told.1) one ∙ sym same_told.5,
     )

@@ -1,4 +1,4 @@
--- What the values of options mean. `Y` is the greatest year.
+-- The meaning of option values. `Y` is the greatest year.
 use Rattle.std.specs.Prelude.{◌≡◌, ℕ, ◌-◌, ℤ, pos, ◌+ℤ◌, ◌-ℤ◌, ◌*ℤ◌, IsTrue, ◌||◌, ◌==◌, Bool, MatchBool, List, [], codes, length, take, drop, slice_index, slice_get, if◌then◌else◌, Option, None, Some, MatchOption, SomeIff, Result, Ok, Err, MatchResult, FitsSigned, ◌^◌, ◌<◌, nat_le, unsigned_abs, false, true, ◌∷◌}
 use Rattle.std.specs.Int.{w64, int_div_euclid, w32}
 use Rattle.std.specs.Option.{option_and_then}
@@ -26,22 +26,22 @@ use Rattle.time_record.specs.Record.{empty}
 use Rattle.time_record.specs.Resolution.{IsOffset}
 use Rattle.time_parsing.specs.Outcome.{IsOutcome}
 use Rattle.restamp_verdict.specs.declared.reading.Defaults.{Defaults}
-use Rattle.restamp_verdict.specs.Zoned.{IsShown, clock_of}
-use Rattle.restamp_verdict.specs.Reason.{left_out, untold, Reason}
+use Rattle.restamp_verdict.specs.Zoned.{IsConverted, clock_of}
+use Rattle.restamp_verdict.specs.Reason.{nonexistent, outside_zone_range, Reason}
 use Rattle.restamp_verdict.specs.declared.clock.Clock.TheVariants as on
 use Rattle.restamp_verdict.specs.declared.local.Clocks.{Clocks}
-use Rattle.restamp_verdict.specs.Reading.{Says, IsReadInTurn}
+use Rattle.restamp_verdict.specs.Reading.{ParsesAs, IsReadInTurn}
 use Rattle.restamp_verdict.specs.declared.local.Fold.{Fold}
 use Rattle.restamp_verdict.specs.declared.local.Fold.TheVariants.{Refuse, Earlier, Later}
 use Rattle.restamp_verdict.specs.declared.reading.Reading.{Reading}
 use Rattle.restamp_verdict.specs.declared.reading.Reading.TheVariants.{Rfc3339}
-use Rattle.restamp_verdict.specs.declared.reading.Said.{Said}
-use Rattle.restamp_command.specs.Fault.{NoMoment, unread, out_of_range, no_clock, seen_none}
+use Rattle.restamp_verdict.specs.declared.reading.Match.{Match}
+use Rattle.restamp_command.specs.Fault.{TimeArgError, unread, out_of_range, no_clock, erased_time_error}
 use Rattle.restamp_command.specs.declared.bounds.Unit.{Unit}
 use Rattle.restamp_command.specs.declared.bounds.Unit.TheVariants as unit
 use Rattle.restamp_command.specs.declared.bounds.Word.{Word}
 use Rattle.restamp_command.specs.declared.bounds.Word.TheVariants as word
-use Rattle.restamp_command.specs.declared.fault.NoMoment as declared
+use Rattle.restamp_command.specs.declared.fault.TimeArgError as declared
 
 -- ---- Texts that name a moment by the clock. `Y` is the greatest year.
 
@@ -61,11 +61,11 @@ seconds_of unit.Hour = 3_600
 seconds_of unit.Day = 86_400
 seconds_of unit.Week = 604_800
 
--- a text begins with `+` or `-`
+-- a text starts with `+` or `-`
 abbrev pub has_sign : List ℕ → Bool
 has_sign text = (slice_index text 0 == 43) || (slice_index text 0 == 45)
 
--- the number of 64 bits that a text says in decimal digits behind a sign, as so many units, or none
+-- the number of 64 bits that a text has in decimal digits after a sign, as a number of units, or none
 abbrev pub AreUnits : List ℕ → Unit → Option Word → Type 0
 AreUnits number u result =
     SomeIff result
@@ -73,7 +73,7 @@ AreUnits number u result =
     × FitsSigned w64 (signed_digits_value 10 number))
     (word.Later (signed_digits_value 10 number) u)
 
--- What stands behind `now` names: nothing is no later, and `-90m` so many units later; or it names nothing.
+-- The meaning of the text after `now`: 0 units for no text, and that many units for `-90m`; none otherwise.
 abbrev pub IsShift : List ℕ → Option Word → Type 0
 IsShift [] result = result ≡ Some (word.Later (pos 0) unit.Second)
 IsShift text result =
@@ -81,88 +81,88 @@ IsShift text result =
     MatchOption (option_and_then unit_of (slice_get text last)) (result ≡ None)
     (λ u. AreUnits (take last text) u result)
 
--- What a text names by the clock: the beginning of a day, or the clock's moment and a shift; or nothing.
+-- The meaning of a text by the clock: the start of a day, or the clock's moment with a shift; none otherwise.
 abbrev pub IsWord : List ℕ → Option Word → Type 0
 IsWord text result =
     MatchBool (bytes_eq text (codes "today")) (result ≡ Some (word.Day 0))
     (MatchBool (bytes_eq text (codes "yesterday")) (result ≡ Some (word.Day 1))
     (MatchBool (bytes_eq (take 3 text) (codes "now")) (IsShift (drop 3 text) result) (result ≡ None)))
 
--- the day that a clock with an offset shows, counted from that of 1970-01-01
-abbrev pub day_shown : ℤ → UtcOffset → ℤ
-day_shown now offset = int_div_euclid (shown_at now offset) (pos nanos_per_day)
+-- the day at a moment in local time at an offset, counted from 1970-01-01
+abbrev pub local_day : ℤ → UtcOffset → ℤ
+local_day now offset = int_div_euclid (shown_at now offset) (pos nanos_per_day)
 
--- what a word names where the clock shows so many nanoseconds since 1970: so many units later; or midnight on
--- clocks with that offset, of the day that they show or of one before
+-- the nanoseconds since 1970 of a word's moment, by those of the clock: a number of units later; or midnight at that
+-- offset, on the clock's day or on one before
 abbrev pub nanos_of : ℤ → UtcOffset → Word → ℤ
 nanos_of now offset (word.Later number u) = now +ℤ number *ℤ pos (seconds_of u) *ℤ pos 1_000_000_000
 nanos_of now offset (word.Day back) =
-    (day_shown now offset -ℤ pos back) *ℤ pos nanos_per_day -ℤ offset_seconds offset *ℤ pos 1_000_000_000
+    (local_day now offset -ℤ pos back) *ℤ pos nanos_per_day -ℤ offset_seconds offset *ℤ pos 1_000_000_000
 
 -- The moment of that many nanoseconds since 1970, in UTC, where it has a date there.
-abbrev pub IsMomentAt : ℕ → ℤ → Result OffsetDateTime NoMoment → Type 0
+abbrev pub IsMomentAt : ℕ → ℤ → Result OffsetDateTime TimeArgError → Type 0
 IsMomentAt Y n (Ok v) = (offset_instant Y v ≡ n) × IsUtc (offset_of v)
 IsMomentAt Y n (Err why) = (why ≡ out_of_range) × ¬ IsInstant Y n
 
--- Days begin at that offset, or else at that of UTC.
+-- Days start at that offset, or at UTC without one.
 abbrev pub IsDayOffset : Option UtcOffset → UtcOffset → Type 0
 IsDayOffset given offset = MatchOption given (IsUtc offset) (λ o. offset ≡ o)
 
--- the first moment by what a zone answers to a date and time
-abbrev pub first_of : Result OffsetDateTime NotOne → Result OffsetDateTime NoMoment
+-- the earliest moment, by the moments that a zone has for a local date and time
+abbrev pub first_of : Result OffsetDateTime NotOne → Result OffsetDateTime TimeArgError
 first_of (Ok v) = Ok v
 first_of (Err (not_one.Fold earlier later)) = Ok earlier
-first_of (Err not_one.Gap) = Err (unread left_out)
-first_of (Err not_one.Untold) = Err (unread untold)
+first_of (Err not_one.Gap) = Err (unread nonexistent)
+first_of (Err not_one.Untold) = Err (unread outside_zone_range)
 
--- The first moment at which clocks of the zone show the date and time of a moment on its own clock.
-abbrev pub IsFirstLike : Clocks → OffsetDateTime → Result OffsetDateTime NoMoment → Type 0
-IsFirstLike clocks v result =
+-- The earliest moment with the local date and time of a moment in the zone.
+abbrev pub IsEarliestWithLocal : Clocks → OffsetDateTime → Result OffsetDateTime TimeArgError → Type 0
+IsEarliestWithLocal clocks v result =
     (answer : Result OffsetDateTime NotOne) × IsAnswer clocks.zone (clock_of v) answer × (result ≡ first_of answer)
 
--- The beginning of the day that clocks of the zone show at a moment, or of one before: the first moment at which they
--- show its midnight.
-abbrev pub IsBegunIn : ℕ → Clocks → UtcDateTime → ℕ → Result OffsetDateTime NoMoment → Type 0
-IsBegunIn Y clocks now back result =
+-- The start of the zone's day at a moment, or of a day before: the earliest moment with the local time of its
+-- midnight.
+abbrev pub IsStartOfDayIn : ℕ → Clocks → UtcDateTime → ℕ → Result OffsetDateTime TimeArgError → Type 0
+IsStartOfDayIn Y clocks now back result =
     (v : OffsetDateTime) × (offset_instant Y v ≡ utc_instant Y now)
-    × (shown : Option OffsetDateTime) × IsShown Y (on.Zone clocks.zone) v shown
-    × MatchOption shown (result ≡ Err (unread untold))
-    (λ s. (midnight : Result OffsetDateTime NoMoment)
-    × IsMomentAt Y ((day_shown (utc_instant Y now) (offset_of s) -ℤ pos back) *ℤ pos nanos_per_day) midnight
-    × MatchResult midnight (λ m. IsFirstLike clocks m result) (λ why. result ≡ Err why))
+    × (shown : Option OffsetDateTime) × IsConverted Y (on.Zone clocks.zone) v shown
+    × MatchOption shown (result ≡ Err (unread outside_zone_range))
+    (λ s. (midnight : Result OffsetDateTime TimeArgError)
+    × IsMomentAt Y ((local_day (utc_instant Y now) (offset_of s) -ℤ pos back) *ℤ pos nanos_per_day) midnight
+    × MatchResult midnight (λ m. IsEarliestWithLocal clocks m result) (λ why. result ≡ Err why))
 
--- what a word names by an offset at which days begin
-abbrev pub IsNamedAt : ℕ → UtcDateTime → Option UtcOffset → Word → Result OffsetDateTime NoMoment → Type 0
+-- the moment of a word, with days that start at an offset
+abbrev pub IsNamedAt : ℕ → UtcDateTime → Option UtcOffset → Word → Result OffsetDateTime TimeArgError → Type 0
 IsNamedAt Y now given w result =
     (offset : UtcOffset) × IsDayOffset given offset × IsMomentAt Y (nanos_of (utc_instant Y now) offset w) result
 
--- The moment that a word names where the clock shows that one. A day begins on the clocks of times with no offset.
-abbrev pub IsMomentFrom : ℕ → UtcDateTime → Defaults → Word → Result OffsetDateTime NoMoment → Type 0
+-- The moment of a word by the clock. Days start in the default zone, or at the default offset.
+abbrev pub IsMomentFrom : ℕ → UtcDateTime → Defaults → Word → Result OffsetDateTime TimeArgError → Type 0
 IsMomentFrom Y now defaults (word.Later number u) result =
     IsNamedAt Y now defaults.offset (word.Later number u) result
 IsMomentFrom Y now defaults (word.Day back) result =
     MatchOption defaults.clocks (IsNamedAt Y now defaults.offset (word.Day back) result)
-    (λ clocks. IsBegunIn Y clocks now back result)
+    (λ clocks. IsStartOfDayIn Y clocks now back result)
 
--- The same where the clock may show none.
-abbrev pub IsMomentOf : ℕ → Option UtcDateTime → Defaults → Word → Result OffsetDateTime NoMoment → Type 0
+-- The moment of a word, or an error if the clock is out of range.
+abbrev pub IsMomentOf : ℕ → Option UtcDateTime → Defaults → Word → Result OffsetDateTime TimeArgError → Type 0
 IsMomentOf Y now defaults w result =
     MatchOption now (result ≡ Err no_clock) (λ u. IsMomentFrom Y u defaults w result)
 
--- The number of 64 bits that a text says in decimal digits, with or without a plus, or none.
+-- The number of 64 bits that a text has in decimal digits, with or without a plus, or none.
 abbrev pub IsNumber : List ℕ → Option ℕ → Type 0
 IsNumber text result =
     let digits = without_leading_plus text in
     SomeIff result (IsNumeral 10 digits × (digits_value 10 digits < 2 ^ 64)) (digits_value 10 digits)
 
--- The same, but 0 is none.
+-- The number of a text, other than 0.
 abbrev pub IsPositive : List ℕ → Option ℕ → Type 0
 IsPositive text result =
     let digits = without_leading_plus text in
     SomeIff result (IsNumeral 10 digits × (0 < digits_value 10 digits) × (digits_value 10 digits < 2 ^ 64))
     (digits_value 10 digits)
 
--- The number of 32 bits that a text says in decimal digits, with or without a sign, or none.
+-- The number of 32 bits that a text has in decimal digits, with or without a sign, or none.
 abbrev pub IsSigned : List ℕ → Option ℤ → Type 0
 IsSigned text result =
     SomeIff result (IsNumeral 10 (without_leading_sign text) × FitsSigned w32 (signed_digits_value 10 text))
@@ -183,14 +183,14 @@ digits_of text =
     if bytes_eq text (codes "auto") then Some Auto else
     option_and_then (λ b. if is_ascii_digit b then Some (Exactly (b - 48)) else None) (only_byte text)
 
--- whether colours are shown, where `auto` is the answer that a terminal is written to
+-- whether to use colours, for `auto` if the output is a terminal
 abbrev pub shows_of : List ℕ → Bool → Option Bool
 shows_of text is_terminal =
     if bytes_eq text (codes "auto") then Some is_terminal else
     if bytes_eq text (codes "always") then Some true else
     if bytes_eq text (codes "never") then Some false else None
 
--- which of two moments a date and time means that clocks show twice
+-- the moment that an ambiguous local time means
 abbrev pub fold_of : List ℕ → Option Fold
 fold_of text =
     if bytes_eq text (codes "refuse") then Some Refuse else
@@ -208,37 +208,38 @@ offset_parts =
 abbrev pub offset_tree : Tree
 offset_tree = sequence (trees offset_parts)
 
--- The offset that a text says, or none.
+-- The offset of a text, or none.
 abbrev pub IsOffsetText : ℕ → List ℕ → Option UtcOffset → Type 0
 IsOffsetText Y text result =
     (outcome : Result UtcOffset Refusal)
     × IsOutcome IsOffset (Reads Y offset_tree) (Refuses Y offset_tree) text empty outcome
     × (result ≡ result_ok outcome)
 
--- The year that a text says in decimal digits, with or without a sign, or none.
+-- The year of a text in decimal digits, with or without a sign, or none.
 abbrev pub IsYear : ℕ → List ℕ → Option ℤ → Type 0
 IsYear Y text result =
     (number : Option ℤ) × IsSigned text number
     × (result ≡ option_and_then (λ n. if nat_le (unsigned_abs n) Y then Some n else None) number)
 
--- What a text that no format reads names by the clock; where it's no such word, it says nothing for that reason.
-abbrev pub IsNamedMoment : ℕ → Option UtcDateTime → Defaults → List ℕ → Reason → Result OffsetDateTime NoMoment → Type 0
+-- The moment of a word by the clock, for a text that no format matches; an error with that reason for any other word.
+abbrev pub IsNamedMoment : ℕ → Option UtcDateTime → Defaults → List ℕ → Reason
+    → Result OffsetDateTime TimeArgError → Type 0
 IsNamedMoment Y now defaults text reason result =
     (word : Option Word) × IsWord text word
     × MatchOption word (result ≡ Err (unread reason))
     (λ w. IsMomentOf Y now defaults w result)
 
--- The moment that a text says by RFC 3339, or else by the first of the formats by which it says one, or else names by
--- the clock; the reason why it says none is that of RFC 3339.
+-- The moment of a text by RFC 3339, or else by the first of the formats that matches, or else as a word by the clock.
+-- The error is that of RFC 3339.
 abbrev pub IsMomentText : ℕ → Option UtcDateTime → Reading → List Reading → List ℕ → Defaults
-    → Result OffsetDateTime NoMoment → Type 0
+    → Result OffsetDateTime TimeArgError → Type 0
 IsMomentText Y now first others text defaults result =
-    (plain : Result Said Reason) × Says Y Rfc3339 false text defaults plain
+    (plain : Result Match Reason) × ParsesAs Y Rfc3339 false text defaults plain
     × MatchResult plain (λ said. result ≡ Ok said.moment)
-    (λ reason. (said : Result Said Reason) × IsReadInTurn Y first others false text defaults said
+    (λ reason. (said : Result Match Reason) × IsReadInTurn Y first others false text defaults said
     × MatchResult said (λ s. result ≡ Ok s.moment) (λ _. IsNamedMoment Y now defaults text reason result))
 
--- a result, its reason without where its texts lie in memory
-abbrev pub seen_moment : Result OffsetDateTime declared.NoMoment → Result OffsetDateTime NoMoment
-seen_moment (Ok moment) = Ok moment
-seen_moment (Err why) = Err (seen_none why)
+-- a result, with an error without the addresses of its texts
+abbrev pub erased_moment : Result OffsetDateTime declared.TimeArgError → Result OffsetDateTime TimeArgError
+erased_moment (Ok moment) = Ok moment
+erased_moment (Err why) = Err (erased_time_error why)

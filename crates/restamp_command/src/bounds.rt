@@ -1,4 +1,4 @@
-//! The times between which lines are kept, and the words that name them by the clock.
+//! The bounds of the moments of lines that are kept, and the words that name moments by the clock.
 ghost use Rattle.std.specs.Prelude.{◌≡◌, pos, neg_ℤ, ◌+ℤ◌, ◌-ℤ◌, ◌*ℤ◌, FitsSigned};
 ghost use Rattle.std.specs.Int.{w128, int_div_euclid};
 ghost use Rattle.time_values.specs.Calendar.{IsBetween, greatest_year};
@@ -6,12 +6,12 @@ ghost use Rattle.time_values.specs.Instants.{nanos_per_day};
 ghost use Rattle.time_values.specs.Moments.{utc_instant};
 ghost use Rattle.time_values.specs.MovedClocks.{IsNear};
 ghost use Rattle.time_values.specs.Offsets.{offset_seconds};
-ghost use Rattle.restamp_verdict.specs.Zoned.{IsShown};
+ghost use Rattle.restamp_verdict.specs.Zoned.{IsConverted};
 ghost use Rattle.restamp_verdict.specs.Reason.{seen};
 ghost use Rattle.restamp_verdict.specs.declared.clock.Clock.TheVariants as on;
 ghost use Rattle.restamp_command.specs.Values as words;
 
-use crate::fault::NoMoment;
+use crate::fault::TimeArgError;
 use restamp_verdict::{Clocks, Defaults, Reading, Reason, read, read_in_turn};
 use time_values::{OffsetDateTime, PlainDateTime, UtcDateTime, UtcOffset};
 use time_zones::{NotOne, assume_zone, checked_to_zone};
@@ -20,7 +20,7 @@ const NANOS_PER_SECOND: i128 = 1_000_000_000;
 
 const NANOS_PER_DAY: i128 = 86_400 * NANOS_PER_SECOND;
 
-/// A length of time.
+/// A unit of time.
 #[derive(Clone, Copy)]
 pub(crate) enum Unit {
     /// `s`.
@@ -35,12 +35,12 @@ pub(crate) enum Unit {
     Week,
 }
 
-/// What a word names by the clock.
+/// What a word names, relative to the clock.
 #[derive(Clone, Copy)]
 pub(crate) enum Word {
-    /// The clock's moment, so many units later.
+    /// The clock's moment plus a number of units.
     Later(i64, Unit),
-    /// The beginning of the day that the clock shows, or of the one so many days before.
+    /// The start of the clock's day, or of the day that many days before.
     Day(u8),
 }
 
@@ -58,7 +58,7 @@ fn find_unit(letter: u8) -> Option<Unit>
     }
 }
 
-// A number with a sign, as so many units later.
+// A number with a sign, as a number of units to add.
 fn find_units(number: &str, unit: Unit) -> Option<Word>
     ensures { words.AreUnits number.now unit result }
 {
@@ -69,7 +69,7 @@ fn find_units(number: &str, unit: Unit) -> Option<Word>
     Some(Word::Later(number, unit))
 }
 
-// What `now` with this behind it names.
+// The meaning of `now` followed by this text.
 fn find_shift(text: &str) -> Option<Word>
     ensures { words.IsShift text.now result }
 {
@@ -80,7 +80,7 @@ fn find_shift(text: &str) -> Option<Word>
     find_units(text.get(..text.len() - 1)?, unit)
 }
 
-// What a text names by the clock, if it does.
+// The meaning of a word by the clock, if it has one.
 fn find_word(text: &str) -> Option<Word>
     ensures { words.IsWord text.now result }
 {
@@ -91,7 +91,7 @@ fn find_word(text: &str) -> Option<Word>
     }
 }
 
-// The seconds of so many units.
+// The seconds of a number of units.
 fn seconds_of(number: i64, unit: Unit) -> i128
     ensures value { result ≡ number *ℤ pos (words.seconds_of unit) }
     ensures range { IsBetween (neg_ℤ (pos 6_000_000_000_000_000_000_000_000)) (pos 6_000_000_000_000_000_000_000_000) result }
@@ -106,7 +106,7 @@ fn seconds_of(number: i64, unit: Unit) -> i128
     }
 }
 
-// The nanoseconds since 1970 of a moment.
+// The nanoseconds of a moment since 1970.
 fn since_1970(moment: UtcDateTime) -> i128
     ensures value { result ≡ utc_instant greatest_year moment }
     ensures range { IsNear result }
@@ -114,7 +114,7 @@ fn since_1970(moment: UtcDateTime) -> i128
     moment.unix_timestamp_nanos()
 }
 
-// So many seconds later.
+// The instant plus a number of seconds.
 fn later(now: i128, seconds: i128) -> i128
     requires now { IsNear now }
     requires seconds { IsBetween (neg_ℤ (pos 6_000_000_000_000_000_000_000_000)) (pos 6_000_000_000_000_000_000_000_000) seconds }
@@ -132,7 +132,7 @@ fn ahead_of(offset: UtcOffset) -> i128
     offset.whole_seconds() as i128 * NANOS_PER_SECOND
 }
 
-// The day of a clock that shows so many nanoseconds since 1970-01-01T00:00:00.
+// The day of a local time that is given in nanoseconds since 1970-01-01T00:00:00.
 fn day_of(shown: i128) -> i128
     requires { IsBetween (neg_ℤ (pos 33_000_000_000_000_000_000_000)) (pos 33_000_000_000_000_000_000_000) shown }
     ensures value { result ≡ int_div_euclid shown (pos nanos_per_day) }
@@ -141,7 +141,7 @@ fn day_of(shown: i128) -> i128
     shown.div_euclid(NANOS_PER_DAY)
 }
 
-// What a clock shows at the beginning of the day so many before that one.
+// The local time of midnight, `back` days before a day.
 fn midnight(day: i128, back: u8) -> i128
     requires { IsBetween (neg_ℤ (pos 500_000_000)) (pos 500_000_000) day }
     ensures value { result ≡ (day -ℤ pos back) *ℤ pos nanos_per_day }
@@ -150,7 +150,7 @@ fn midnight(day: i128, back: u8) -> i128
     (day - back as i128) * NANOS_PER_DAY
 }
 
-// The nanoseconds since 1970 that a word names where the clock shows so many, and days begin at that offset.
+// The nanoseconds since 1970 of a word's moment, by the clock's nanoseconds and the offset at which days start.
 fn nanos_of(word: Word, now: i128, offset: UtcOffset) -> i128
     requires { IsNear now }
     ensures value { result ≡ words.nanos_of now offset word }
@@ -166,18 +166,21 @@ fn nanos_of(word: Word, now: i128, offset: UtcOffset) -> i128
 }
 
 // The moment of that many nanoseconds since 1970, in UTC.
-fn moment_at(nanos: i128) -> Result<OffsetDateTime, NoMoment>
-    ensures { words.IsMomentAt greatest_year nanos (words.seen_moment result) }
+fn moment_at(nanos: i128) -> Result<OffsetDateTime, TimeArgError>
+    ensures { words.IsMomentAt greatest_year nanos (words.erased_moment result) }
 {
     match OffsetDateTime::from_unix_timestamp_nanos(nanos) {
         Ok(moment) => Ok(moment),
-        Err(_) => Err(NoMoment::OutOfRange),
+        Err(_) => Err(TimeArgError::OutOfRange),
     }
 }
 
-// The first moment at which the clocks show what a moment's own clock shows.
-fn first_like(moment: OffsetDateTime, clocks: &Clocks<'_>) -> Result<OffsetDateTime, NoMoment>
-    ensures { words.IsFirstLike clocks.now moment (words.seen_moment result) }
+// The earliest moment with the local time of a moment in the zone.
+fn earliest_with_local(
+    moment: OffsetDateTime,
+    clocks: &Clocks<'_>,
+) -> Result<OffsetDateTime, TimeArgError>
+    ensures { words.IsEarliestWithLocal clocks.now moment (words.erased_moment result) }
 {
     match assume_zone(
         PlainDateTime::new(moment.date(), moment.time()),
@@ -185,40 +188,44 @@ fn first_like(moment: OffsetDateTime, clocks: &Clocks<'_>) -> Result<OffsetDateT
     ) {
         Ok(found) => Ok(found),
         Err(NotOne::Fold { earlier, .. }) => Ok(earlier),
-        Err(NotOne::Gap) => Err(NoMoment::Unread(Reason::LeftOut)),
-        Err(NotOne::Untold) => Err(NoMoment::Unread(Reason::Untold)),
+        Err(NotOne::Gap) => Err(TimeArgError::Unread(Reason::Nonexistent)),
+        Err(NotOne::Untold) => Err(TimeArgError::Unread(Reason::OutsideZoneRange)),
     }
 }
 
-// The moment at the offset that the clocks have then.
-fn shown_in(moment: OffsetDateTime, clocks: &Clocks<'_>) -> Option<OffsetDateTime>
-    ensures { IsShown greatest_year (on.Zone clocks.now.zone) moment result }
+// The moment in local time of the zone.
+fn converted_in(moment: OffsetDateTime, clocks: &Clocks<'_>) -> Option<OffsetDateTime>
+    ensures { IsConverted greatest_year (on.Zone clocks.now.zone) moment result }
 {
     checked_to_zone(moment, &clocks.zone)
 }
 
-// What a clock with that offset shows at the beginning of the day so many before that which it shows now.
+// The local time of midnight at that offset, `back` days before the clock's day.
 fn midnight_at(now: UtcDateTime, offset: UtcOffset, back: u8) -> i128
-    ensures value { result ≡ (words.day_shown (utc_instant greatest_year now) offset -ℤ pos back) *ℤ pos nanos_per_day }
+    ensures value { result ≡ (words.local_day (utc_instant greatest_year now) offset -ℤ pos back) *ℤ pos nanos_per_day }
     ensures fits { FitsSigned w128 result }
 {
     midnight(day_of(since_1970(now) + ahead_of(offset)), back)
 }
 
-// The beginning of the day so many before that which the clocks show.
-fn begin_in(clocks: &Clocks<'_>, now: UtcDateTime, back: u8) -> Result<OffsetDateTime, NoMoment>
-    ensures { words.IsBegunIn greatest_year clocks.now now back (words.seen_moment result) }
+// The start of the day in the zone, `back` days before the clock's day.
+fn start_of_day_in(
+    clocks: &Clocks<'_>,
+    now: UtcDateTime,
+    back: u8,
+) -> Result<OffsetDateTime, TimeArgError>
+    ensures { words.IsStartOfDayIn greatest_year clocks.now now back (words.erased_moment result) }
 {
-    let Some(shown) = shown_in(OffsetDateTime::from(now), clocks) else {
-        return Err(NoMoment::Unread(Reason::Untold));
+    let Some(shown) = converted_in(OffsetDateTime::from(now), clocks) else {
+        return Err(TimeArgError::Unread(Reason::OutsideZoneRange));
     };
     match moment_at(midnight_at(now, shown.offset(), back)) {
-        Ok(begin) => first_like(begin, clocks),
+        Ok(begin) => earliest_with_local(begin, clocks),
         Err(why) => Err(why),
     }
 }
 
-// The offset at which days begin: that of times that say none.
+// The offset at which days start: the default offset, or UTC without one.
 fn day_offset(offset: Option<UtcOffset>) -> UtcOffset
     ensures { words.IsDayOffset offset result }
 {
@@ -228,73 +235,73 @@ fn day_offset(offset: Option<UtcOffset>) -> UtcOffset
     }
 }
 
-// The moment that a word names where the clock shows that one, and days begin at that offset.
+// The moment of a word by the clock, with days that start at that offset.
 fn named_at(
     word: Word,
     now: UtcDateTime,
     offset: Option<UtcOffset>,
-) -> Result<OffsetDateTime, NoMoment>
-    ensures { words.IsNamedAt greatest_year now offset word (words.seen_moment result) }
+) -> Result<OffsetDateTime, TimeArgError>
+    ensures { words.IsNamedAt greatest_year now offset word (words.erased_moment result) }
 {
     moment_at(nanos_of(word, since_1970(now), day_offset(offset)))
 }
 
-// The moment that a word names where the clock shows that one.
+// The moment of a word by the clock and the defaults.
 fn moment_from(
     word: Word,
     now: UtcDateTime,
     defaults: &Defaults<'_>,
-) -> Result<OffsetDateTime, NoMoment>
-    ensures { words.IsMomentFrom greatest_year now defaults.now word (words.seen_moment result) }
+) -> Result<OffsetDateTime, TimeArgError>
+    ensures { words.IsMomentFrom greatest_year now defaults.now word (words.erased_moment result) }
 {
     match word {
         Word::Later(..) => named_at(word, now, defaults.offset),
         Word::Day(back) => match defaults.clocks {
-            Some(clocks) => begin_in(&clocks, now, back),
+            Some(clocks) => start_of_day_in(&clocks, now, back),
             None => named_at(word, now, defaults.offset),
         },
     }
 }
 
-// The same where the clock may show none.
+// The moment of a word, or an error if the clock is out of range.
 fn moment_of(
     word: Word,
     now: Option<UtcDateTime>,
     defaults: &Defaults<'_>,
-) -> Result<OffsetDateTime, NoMoment>
-    ensures { words.IsMomentOf greatest_year now defaults.now word (words.seen_moment result) }
+) -> Result<OffsetDateTime, TimeArgError>
+    ensures { words.IsMomentOf greatest_year now defaults.now word (words.erased_moment result) }
 {
     match now {
         Some(now) => moment_from(word, now, defaults),
-        None => Err(NoMoment::NoClock),
+        None => Err(TimeArgError::NoClock),
     }
 }
 
-// The moment that a text names by the clock, or that reason.
+// The moment of a text as a word, or that reason if it is none.
 fn find_named(
     now: Option<UtcDateTime>,
     text: &str,
     defaults: &Defaults<'_>,
     reason: Reason,
-) -> Result<OffsetDateTime, NoMoment>
-    ensures { words.IsNamedMoment greatest_year now defaults.now text.now (seen reason) (words.seen_moment result) }
+) -> Result<OffsetDateTime, TimeArgError>
+    ensures { words.IsNamedMoment greatest_year now defaults.now text.now (seen reason) (words.erased_moment result) }
 {
     match find_word(text) {
         Some(word) => moment_of(word, now, defaults),
-        None => Err(NoMoment::Unread(reason)),
+        None => Err(TimeArgError::Unread(reason)),
     }
 }
 
-/// The moment that the text says by RFC 3339, or else by one of the formats, or else names by the clock, which shows
-/// `now`. A text that does none of these is refused for the reason of RFC 3339.
+/// Parses a text as a moment by RFC 3339, then by the other formats, then as a word relative to the clock, which is at
+/// `now`. If none of them matches, the error is that of RFC 3339.
 pub fn find_moment(
     now: Option<UtcDateTime>,
     first: &Reading,
     others: &[Reading],
     text: &str,
     defaults: &Defaults<'_>,
-) -> Result<OffsetDateTime, NoMoment>
-    ensures { words.IsMomentText greatest_year now first.now others.now text.now defaults.now (words.seen_moment result) }
+) -> Result<OffsetDateTime, TimeArgError>
+    ensures { words.IsMomentText greatest_year now first.now others.now text.now defaults.now (words.erased_moment result) }
 {
     let reason = match read(&Reading::Rfc3339, false, text.as_bytes(), defaults) {
         Ok(said) => return Ok(said.moment),

@@ -1,9 +1,9 @@
-//! The command line, from the table of the options.
+//! The command line, built from the table of the options.
 use crate::table::{EXAMPLES, Kind, OTHERS, Row, SECTIONS};
 use clap::{Arg, ArgAction, ArgGroup, Command};
 use std::alloc::{AllocError, Global};
 
-// The option of a row. Its value may begin with a hyphen.
+// The option of a row. Its value may start with a hyphen.
 fn option<'a>(alloc: Global, row: &Row) -> Result<Arg<'a>, AllocError> {
     let option = Arg::new(alloc, row.name)
         .long(row.name)
@@ -32,7 +32,7 @@ fn with_value<'a>(option: Arg<'a>, name: &'static str) -> Arg<'a> {
     option.value_name(name).allow_hyphen_values(true)
 }
 
-// The option with a value of that name behind `=`, which may be left out.
+// The option with an optional value of that name after `=`.
 fn with_attached<'a>(option: Arg<'a>, name: &'static str) -> Arg<'a> {
     option
         .value_name(name)
@@ -41,7 +41,7 @@ fn with_attached<'a>(option: Arg<'a>, name: &'static str) -> Arg<'a> {
         .default_missing_value("")
 }
 
-// The words that are no options.
+// The arguments that aren't options.
 fn files<'a>(alloc: Global) -> Arg<'a> {
     Arg::new(alloc, "FILE")
         .num_args(0..)
@@ -49,7 +49,7 @@ fn files<'a>(alloc: Global) -> Arg<'a> {
         .help("Files, in turn; none, or -, is standard input")
 }
 
-// The options of which one at most says where a line's time stands.
+// The group of options for a line's timestamp, at most one of them.
 fn one_place<'a>(alloc: Global) -> Result<ArgGroup<'a>, AllocError> {
     ArgGroup::new(alloc, "place")
         .arg("front")?
@@ -79,7 +79,7 @@ fn add_sections(alloc: Global, mut command: Command<'_>) -> Result<Command<'_>, 
     Ok(command)
 }
 
-/// The command line of `restamp`, which takes no option that it doesn't name, and no two that exclude each other.
+/// The command line of `restamp`. It rejects unknown options, and options that exclude each other.
 pub fn make_command<'a>(alloc: Global) -> Result<Command<'a>, AllocError> {
     let command = Command::new(alloc, "restamp")
         .bin_name("restamp")?

@@ -1,90 +1,90 @@
-//! What is wrong with an option.
+//! The error of an option.
 ghost use Rattle.std.specs.Prelude.{◌≡◌, Some};
 ghost use Rattle.std.specs.Option.{option_map};
 ghost use Rattle.restamp_command.specs.Fault as spec;
 
-use restamp_verdict::{FormatFault, Lack, Reason};
+use restamp_verdict::{FormatFault, MissingField, Reason};
 use std::fmt;
 use time_zones::ZoneFault;
 
-/// Why a text says no moment.
+/// Why a text is no moment.
 #[derive(Clone, Copy, Debug)]
-pub enum NoMoment {
-    /// No format reads it; what RFC 3339 says.
+pub enum TimeArgError {
+    /// No format matches it; the error of RFC 3339.
     Unread(Reason),
-    /// The word names a moment that has no date: it is before the year -999999 or after 999999.
+    /// The word's moment has no date: it is before the year -999999 or after 999999.
     OutOfRange,
-    /// It is a word, and the clock shows no time from 1970 to the year 999999.
+    /// It is a word, and the clock is outside the years 1970 to 999999.
     NoClock,
 }
 
-impl fmt::Display for NoMoment {
-    ghost output = { λ why. Some (spec.none_text (spec.seen_none why)) };
+impl fmt::Display for TimeArgError {
+    ghost output = { λ why. Some (spec.none_text (spec.erased_time_error why)) };
 
     fn fmt<W: fmt::Write>(&self, f: &mut fmt::Formatter<W>) -> fmt::Result {
         match self {
-            NoMoment::Unread(reason) => write!(f, "{reason}"),
-            NoMoment::OutOfRange => write!(f, "it is before the year -999999 or after 999999"),
-            NoMoment::NoClock => write!(f, "the clock shows no time from 1970 to 999999"),
+            TimeArgError::Unread(reason) => write!(f, "{reason}"),
+            TimeArgError::OutOfRange => write!(f, "it is before the year -999999 or after 999999"),
+            TimeArgError::NoClock => write!(f, "the clock shows no time from 1970 to 999999"),
         }
     }
 }
 
-/// Why the options ask for nothing: an option that doesn't take its value.
+/// Why the options are no request: an option rejects its value.
 #[derive(Drop)]
 pub enum Fault<'a> {
-    /// There is no memory for what they ask for.
+    /// Out of memory.
     Memory,
-    /// `--field` takes a number from 1 to 18446744073709551615.
+    /// `--field` expects a number from 1 to 18446744073709551615.
     Field(&'a str),
-    /// `--delimiter` takes one byte.
+    /// `--delimiter` expects one byte.
     Delimiter(&'a str),
-    /// `--from` takes a format's name, or a description.
+    /// `--from` expects a format's name, or a description.
     From(&'a str, FormatFault<'a>),
-    /// `--from rfc9557` takes the zones of the system, which can't be read.
+    /// `--from rfc9557` needs the zones of the system, which can't be read.
     Zones(&'a str, ZoneFault),
-    /// `--from` takes a format by which some text says a moment.
-    Lacking(&'a str, Lack),
-    /// `--to` takes the name of a format that times are written by, or a description.
+    /// `--from` expects a format with texts that are moments.
+    IncompleteFormat(&'a str, MissingField),
+    /// `--to` expects the name of an output format, or a description.
     To(&'a str, FormatFault<'a>),
-    /// `--to rfc9557` takes a zone that has a name or an offset, by `--zone`.
+    /// `--to rfc9557` needs a zone with a name or an offset, by `--zone`.
     Unnamed(&'a str),
-    /// `--year` takes a year from -999999 to 999999.
+    /// `--year` expects a year from -999999 to 999999.
     Year(&'a str),
-    /// `--offset` takes an offset.
+    /// `--offset` expects an offset.
     Offset(&'a str),
-    /// `--in` takes the name of a zone.
+    /// `--in` expects the name of a zone.
     In(&'a str, ZoneFault),
-    /// `--fold` takes `earlier`, `later` or `refuse`.
+    /// `--fold` expects `earlier`, `later` or `refuse`.
     Fold(&'a str),
-    /// `--year` has no use: each text of each format says a part of a year.
+    /// `--year` is of no use: each text of each format has a part of a year.
     UnusedYear(&'a str),
-    /// `--latest` has none, for that reason.
+    /// `--latest` is of no use, for that reason.
     UnusedLatest(&'a str),
-    /// `--offset` has no use: each text of each format says the hour of an offset.
+    /// `--offset` is of no use: each text of each format has the hour of an offset.
     UnusedOffset(&'a str),
-    /// `--in` has none, for that reason.
+    /// `--in` is of no use, for that reason.
     UnusedIn(&'a str),
-    /// `--zone` takes `keep`, `utc`, an offset or the name of a zone.
+    /// `--zone` expects `keep`, `utc`, an offset or the name of a zone.
     Zone(&'a str, ZoneFault),
-    /// `--digits` takes 0 to 9, or `auto`.
+    /// `--digits` expects 0 to 9, or `auto`.
     Digits(&'a str),
-    /// `--errors` takes a number from 0 to 18446744073709551615.
+    /// `--errors` expects a number from 0 to 18446744073709551615.
     Errors(&'a str),
-    /// `--latest` takes a time, or a word for one.
-    Latest(&'a str, NoMoment),
-    /// `--color` takes `auto`, `always` or `never`.
+    /// `--latest` expects a time, or a word for one.
+    Latest(&'a str, TimeArgError),
+    /// `--color` expects `auto`, `always` or `never`.
     Color(&'a str),
-    /// `--since` takes a time, or a word for one.
-    Since(&'a str, NoMoment),
-    /// `--until` takes a time, or a word for one.
-    Until(&'a str, NoMoment),
-    /// `--in-place` takes a suffix with no slash.
+    /// `--since` expects a time, or a word for one.
+    Since(&'a str, TimeArgError),
+    /// `--until` expects a time, or a word for one.
+    Until(&'a str, TimeArgError),
+    /// `--in-place` expects a suffix without a slash.
     InPlace(&'a str),
 }
 
 impl<'a> Fault<'a> {
-    /// The option, as help shows it, and the value that it doesn't take, where the fault has one.
+    /// The option, as help prints it, and the rejected value; `None` if the error has neither.
     pub fn place(&self) -> Option<(&'static str, &'a str)>
         ensures { option_map (λ place. (place.0.now, place.1.now)) result ≡ spec.place_of (spec.told self.now) }
     {
@@ -94,7 +94,7 @@ impl<'a> Fault<'a> {
             Fault::Delimiter(value) => Some(("--delimiter <BYTE>", value)),
             Fault::From(value, _) => Some(("--from <FORMAT>", value)),
             Fault::Zones(value, _) => Some(("--from <FORMAT>", value)),
-            Fault::Lacking(value, _) => Some(("--from <FORMAT>", value)),
+            Fault::IncompleteFormat(value, _) => Some(("--from <FORMAT>", value)),
             Fault::To(value, _) => Some(("--to <FORMAT>", value)),
             Fault::Unnamed(value) => Some(("--to <FORMAT>", value)),
             Fault::Year(value) => Some(("--year <YEAR>", value)),
@@ -127,7 +127,7 @@ impl fmt::Display for Fault<'_> {
             Fault::Delimiter(_) => write!(f, "it is not one byte"),
             Fault::From(_, why) => write!(f, "{why}"),
             Fault::Zones(_, why) => write!(f, "{why}"),
-            Fault::Lacking(_, lack) => write!(f, "{lack}"),
+            Fault::IncompleteFormat(_, missing_field) => write!(f, "{missing_field}"),
             Fault::To(_, why) => write!(f, "{why}"),
             Fault::Unnamed(_) => {
                 write!(f, "--zone gives it no name and no offset of whole minutes")

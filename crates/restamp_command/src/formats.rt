@@ -1,4 +1,4 @@
-//! The formats that the options ask for.
+//! The formats that the options request.
 ghost use Rattle.std.specs.Prelude.{◌≡◌, [], ◌∷◌, IfErr, MatchResult, OnOk, map};
 ghost use Rattle.time_values.specs.Calendar.{greatest_year};
 ghost use Rattle.restamp_command.specs.Options as options_;
@@ -11,21 +11,21 @@ use restamp_verdict::{Reading, find_reading};
 use std::rt::{Env, Files};
 use time_zones::find_zones;
 
-/// Whether a year is given for times that say none.
-pub(crate) fn gives_year(options: &Options<'_, '_>) -> bool
-    ensures { result ≡ spec.gives_year options.now }
+/// Whether there is a default year.
+pub(crate) fn has_default_year(options: &Options<'_, '_>) -> bool
+    ensures { result ≡ spec.has_default_year options.now }
 {
     options.year.is_some() || options.latest.is_some()
 }
 
-/// Whether the name is that of RFC 9557, by which a time has a suffix with its zone.
+/// Whether the name is that of RFC 9557, whose timestamps have a suffix with their zone.
 pub(crate) fn is_zoned(name: &str) -> bool
     ensures { result ≡ spec.is_zoned name.now }
 {
     name == "rfc9557"
 }
 
-// The format of that name, which lacks nothing. That of RFC 9557 has the zones of the system.
+// The format of that name, which has no missing part. RFC 9557 gets the zones of the system.
 fn find_format<'a, R: Env + Files + AllocGlobal + Clone + Drop>(
     rt: &R,
     name: &'a str,
@@ -44,13 +44,13 @@ fn find_format<'a, R: Env + Files + AllocGlobal + Clone + Drop>(
         Ok(format) => format,
         Err(why) => return Err(Fault::From(name, why)),
     };
-    match format.lack(has_year) {
-        Some(lack) => Err(Fault::Lacking(name, lack)),
+    match format.missing_field(has_year) {
+        Some(missing_field) => Err(Fault::IncompleteFormat(name, missing_field)),
         None => Ok(format),
     }
 }
 
-/// The names of the formats but the first.
+/// The names of the other formats.
 pub(crate) fn other_names<'m, 'a>(options: &Options<'m, 'a>) -> &'m [&'a str]
     ensures { map (λ name. name.now) result.now ≡ options_.other_names options.now }
 {
@@ -65,13 +65,13 @@ pub(crate) fn find_first<'a, R: Env + Files + AllocGlobal + Clone + Drop>(
     rt: &R,
     options: &Options<'_, 'a>,
 ) -> Result<Reading, Fault<'a>>
-    ensures { MatchResult result (λ first. spec.IsFormat (spec.gives_year options.now) options.now.from.now first)
+    ensures { MatchResult result (λ first. spec.IsFormat (spec.has_default_year options.now) options.now.from.now first)
         (λ fault. spec.IsFault greatest_year options.now (told fault)) }
 {
-    find_format(rt, options.from, gives_year(options))
+    find_format(rt, options.from, has_default_year(options))
 }
 
-/// Adds the formats of those names, where a year is given or isn't.
+/// Adds the formats of those names, with or without a default year.
 pub(crate) fn add_formats<'a, R: Env + Files + AllocGlobal + Clone + Drop>(
     rt: &R,
     names: &[&'a str],

@@ -16,9 +16,9 @@ mod values;
 mod zone;
 
 pub use command::make_command;
-pub use fault::{Fault, NoMoment};
+pub use fault::{Fault, TimeArgError};
 pub use options::Options;
 pub use request::Request;
 pub use rewriting::{Restamping, replace, serve};
 pub use style::Style;
-pub use zone::{Given, Local, Zone};
+pub use zone::{Local, OwnedDefaults, Zone};

@@ -1,4 +1,4 @@
-//! What the words of the command line give.
+//! The values of the command line.
 ghost use Rattle.std.specs.Prelude.{◌≡◌, unwrap_or, [], codes};
 ghost use Rattle.std.specs.Option.{option_map};
 ghost use Rattle.clap.specs.Matches.{found_of, first_value};
@@ -6,7 +6,7 @@ ghost use Rattle.restamp_command.specs.Options as spec;
 
 use clap::ArgMatches;
 
-/// What the words of the command line give, before it is known what they mean: flags, and the texts of the others.
+/// The values of the command line before they are interpreted: flags, and the texts of the other options.
 #[derive(Clone, Copy)]
 pub struct Options<'m, 'a> {
     /// `--front`.
@@ -65,7 +65,7 @@ pub struct Options<'m, 'a> {
     pub strict: bool,
     /// `--keep-going`.
     pub keep_going: bool,
-    /// `--in-place`, with no suffix an empty one.
+    /// `--in-place`; empty without a suffix.
     pub in_place: Option<&'a str>,
 }
 
@@ -87,7 +87,7 @@ fn between_of<'a>(matches: &ArgMatches<'a>) -> Option<(&'a str, &'a str)>
     }
 }
 
-// The first format of `--from`: of none RFC 3339.
+// The first format of `--from`; RFC 3339 by default.
 fn first_format<'a>(matches: &ArgMatches<'a>) -> &'a str
     ensures { result.now ≡ spec.first_format (spec.values_of (found_of matches.now) (codes "from")) }
 {
@@ -98,7 +98,7 @@ fn first_format<'a>(matches: &ArgMatches<'a>) -> &'a str
 }
 
 impl<'m, 'a> Options<'m, 'a> {
-    /// What the matches of [`make_command`](crate::make_command) give.
+    /// The values that [`make_command`](crate::make_command) matched.
     pub fn of(matches: &'m ArgMatches<'a>) -> Options<'m, 'a>
         ensures { spec.AreGiven (found_of matches.now) result }
     {

@@ -1,18 +1,18 @@
-//! What was expected where a time goes wrong, and the line with a caret below it.
+//! Writes what was expected at an error, and the line with a caret below the error.
 ghost use Rattle.std.specs.Char.Escape.{escape_ascii};
 ghost use Rattle.std.specs.Char.Iter.{escape_byte_end, escape_byte_rest};
 ghost use Rattle.std.specs.Io.KnownBytes.{Appends};
 ghost use Rattle.std.specs.Option.{option_map};
 ghost use Rattle.std.specs.Prelude.{◌≤◌, OnOk, flat_map, ◌≡◌, ◌-◌, map, take, drop};
-ghost use Rattle.programs_streams.specs.Faults.{HasCause};
+ghost use Rattle.byte_streams.specs.Faults.{HasCause};
 ghost use Rattle.time_locating.specs.Located.{wants};
 ghost use Rattle.restamp_command.specs.Rewriting as spec;
 
-use programs_streams::{Sink, Unwritten};
+use byte_streams::{Sink, Unwritten};
 use std::ascii::EscapeDefault;
 use time_locating::Expected;
 
-// Writes what is left of how a byte is escaped.
+// Writes the rest of an escaped byte.
 fn write_left<L: Sink>(mut left: EscapeDefault, log: &mut L) -> Result<(), Unwritten>
     requires { escape_byte_end left ≤ 4 }
     ensures written { OnOk result (Appends (L.contents log.old) (L.contents log.new) (escape_byte_rest left)) }
@@ -25,7 +25,7 @@ fn write_left<L: Sink>(mut left: EscapeDefault, log: &mut L) -> Result<(), Unwri
     write_left(left, log)
 }
 
-// Writes the bytes, each that doesn't print escaped.
+// Writes the bytes, and escapes those that don't print.
 fn write_escaped<L: Sink>(bytes: &[u8], log: &mut L) -> Result<(), Unwritten>
     ensures written { OnOk result (Appends (L.contents log.old) (L.contents log.new) (flat_map escape_ascii bytes.now)) }
     ensures cause { HasCause result (L.faults log.old) (L.faults log.new) }
@@ -53,7 +53,7 @@ fn write_wanted<L: Sink>(expected: Expected<'_>, log: &mut L) -> Result<(), Unwr
     }
 }
 
-/// Writes what was expected where a time goes wrong, after its reason; or nothing where nothing is told.
+/// Writes what was expected at an error, after its reason; nothing if nothing is reported as expected.
 pub fn write_expected<L: Sink>(expected: Option<Expected<'_>>, log: &mut L) -> Result<(), Unwritten>
     ensures written { OnOk result (Appends (L.contents log.old) (L.contents log.new)
         (spec.expected_text (option_map wants expected.entry))) }
@@ -66,10 +66,10 @@ pub fn write_expected<L: Sink>(expected: Option<Expected<'_>>, log: &mut L) -> R
     write_wanted(expected, log)
 }
 
-/// How many bytes of a line are shown.
+/// How many bytes of a line are printed.
 const SHOWN: usize = 60;
 
-/// How many of them may stand before the column that is pointed at.
+/// How many of them may come before the error's column.
 const BEFORE: usize = 40;
 
 const BLANKS: [u8; BEFORE] = [b' '; BEFORE];
@@ -85,7 +85,7 @@ fn shown_byte(byte: u8) -> u8
     }
 }
 
-// Writes the bytes as they are shown.
+// Writes the bytes, with dots for those that don't print.
 fn write_shown<L: Sink>(bytes: &[u8], log: &mut L) -> Result<(), Unwritten>
     ensures written { OnOk result (Appends (L.contents log.old) (L.contents log.new) (map spec.shown_byte bytes.now)) }
     ensures cause { HasCause result (L.faults log.old) (L.faults log.new) }
@@ -97,7 +97,7 @@ fn write_shown<L: Sink>(bytes: &[u8], log: &mut L) -> Result<(), Unwritten>
     write_shown(rest, log)
 }
 
-// Writes so many blanks, at most 40.
+// Writes n spaces, at most 40.
 fn write_blanks<L: Sink>(n: usize, log: &mut L) -> Result<(), Unwritten>
     ensures written { OnOk result (Appends (L.contents log.old) (L.contents log.new) (spec.blanks n)) }
     ensures cause { HasCause result (L.faults log.old) (L.faults log.new) }
@@ -105,7 +105,7 @@ fn write_blanks<L: Sink>(n: usize, log: &mut L) -> Result<(), Unwritten>
     log.write_all(&BLANKS[..n.min(BEFORE)])
 }
 
-// The bytes of a line around a column: at most 60, of which at most 40 stand before it.
+// The bytes of a line around a column: at most 60, with at most 40 before it.
 fn bytes_around(line: &[u8], column: usize) -> &[u8]
     ensures { result.now ≡ take 60 (drop (column - 41) line.now) }
 {

@@ -1,4 +1,4 @@
-//! What the options ask for.
+//! The request of the options.
 ghost use Rattle.std.specs.Prelude.{◌≡◌, MatchResult, Some};
 ghost use Rattle.time_values.specs.Calendar.{greatest_year};
 ghost use Rattle.restamp_command.specs.Options.{text_behind};
@@ -6,15 +6,15 @@ ghost use Rattle.restamp_command.specs.Fault.{told};
 ghost use Rattle.restamp_command.specs.Request as spec;
 
 use crate::bounds::find_moment;
-use crate::fault::{Fault, NoMoment};
-use crate::formats::{add_formats, find_first, gives_year, other_names};
+use crate::fault::{Fault, TimeArgError};
+use crate::formats::{add_formats, find_first, has_default_year, other_names};
 use crate::options::Options;
 use crate::style::{Style, find_style};
 use crate::uses::find_unused;
 use crate::values::{
     find_delimiter, find_fold, find_number, find_offset, find_positive, find_shows, find_year,
 };
-use crate::zone::{Given, Local};
+use crate::zone::{Local, OwnedDefaults};
 use restamp_place::{Fields, Place};
 use restamp_stream::{Output, Reports, Settings};
 use restamp_verdict::{Defaults, Fold, Form, Job, Reading};
@@ -22,38 +22,38 @@ use std::rt::{Env, Files};
 use time_values::{OffsetDateTime, UtcDateTime, UtcOffset};
 use time_zones::find_zone;
 
-/// What the options ask for.
+/// The request of the options.
 #[derive(Drop)]
 pub struct Request<'a> {
-    /// Where a line's time stands, or `None` for the first place from which on a format reads one.
+    /// The place of a line's timestamp; `None` means the first byte from which on a format matches.
     pub place: Option<Place<'a>>,
-    /// The format that reads it.
+    /// The format that is tried first.
     pub first: Reading,
-    /// The formats that are tried in turn where that one doesn't.
+    /// The formats that are tried next, in turn.
     pub others: Vec<Reading>,
-    /// What is given for what a time leaves out.
-    pub given: Given<'a>,
-    /// How it is written.
+    /// Defaults for what a timestamp omits.
+    pub given: OwnedDefaults<'a>,
+    /// How a moment is written.
     pub style: Style,
-    /// Drops lines whose time is before.
+    /// Drops lines with an earlier moment.
     pub since: Option<OffsetDateTime>,
-    /// Drops lines whose time isn't before.
+    /// Drops lines with this moment or a later one.
     pub until: Option<OffsetDateTime>,
-    /// Which lines go out.
+    /// Which lines are written.
     pub output: Output,
-    /// Which refused lines are named.
+    /// Which rejected lines are reported.
     pub reports: Reports,
-    /// Whether the work stops at the first refused line.
+    /// Whether to stop at the first rejected line.
     pub stops: bool,
-    /// Shows refused lines below their reasons, in colours.
+    /// Prints rejected lines below their reasons, in colours.
     pub shows_lines: bool,
-    /// Whether a refused line is a failure, and a line with no place for a time is refused.
+    /// Whether a rejected line is a failure, and a line without a timestamp is rejected.
     pub strict: bool,
-    /// The suffix of the backups of files that are to be replaced. An empty one asks for none.
+    /// The suffix of the backups of files that are replaced; empty without backups.
     pub in_place: Option<&'a str>,
 }
 
-// How a line has fields.
+// How a line is split into fields.
 fn find_fields<'a>(options: &Options<'_, 'a>) -> Result<Fields, Fault<'a>>
     ensures { MatchResult result (λ fields. spec.fields_of options.now ≡ Some fields)
         (λ fault. spec.IsFault greatest_year options.now (told fault)) }
@@ -83,7 +83,7 @@ fn find_field<'a>(options: &Options<'_, 'a>, number: &'a str) -> Result<Place<'a
     }
 }
 
-// Where a line's time stands.
+// The place of a line's timestamp.
 fn find_place<'a>(options: &Options<'_, 'a>) -> Result<Option<Place<'a>>, Fault<'a>>
     ensures { MatchResult result (λ place. spec.IsPlace options.now (spec.seen_place place))
         (λ fault. spec.IsFault greatest_year options.now (told fault)) }
@@ -106,7 +106,7 @@ fn find_place<'a>(options: &Options<'_, 'a>) -> Result<Option<Place<'a>>, Fault<
     Ok(Some(find_field(options, number)?))
 }
 
-// The year that is given, if one is.
+// The default year, if there is one.
 fn find_given_year<'a>(options: &Options<'_, 'a>) -> Result<Option<i32>, Fault<'a>>
     ensures { MatchResult result (λ year. spec.IsYearGiven greatest_year (text_behind options.now.year) year)
         (λ fault. spec.IsFault greatest_year options.now (told fault)) }
@@ -120,7 +120,7 @@ fn find_given_year<'a>(options: &Options<'_, 'a>) -> Result<Option<i32>, Fault<'
     }
 }
 
-// The offset that is given; without one UTC.
+// The default offset, UTC unless given.
 fn find_given_offset<'a>(options: &Options<'_, 'a>) -> Result<UtcOffset, Fault<'a>>
     ensures { MatchResult result (λ offset. spec.IsOffsetGiven greatest_year (text_behind options.now.offset) offset)
         (λ fault. spec.IsFault greatest_year options.now (told fault)) }
@@ -134,7 +134,7 @@ fn find_given_offset<'a>(options: &Options<'_, 'a>) -> Result<UtcOffset, Fault<'
     }
 }
 
-// Which of two moments it is that the clocks of a zone show alike; without a text neither.
+// The moment that an ambiguous local time means; none by default.
 fn find_given_fold<'a>(options: &Options<'_, 'a>) -> Result<Fold, Fault<'a>>
     ensures { MatchResult result (λ fold. spec.IsFoldGiven (text_behind options.now.fold) fold)
         (λ fault. spec.IsFault greatest_year options.now (told fault)) }
@@ -148,9 +148,9 @@ fn find_given_fold<'a>(options: &Options<'_, 'a>) -> Result<Fold, Fault<'a>>
     }
 }
 
-// What the zone of that name is called in reports.
-fn told_name(name: &str) -> &str
-    ensures { result.now ≡ spec.told_name name.now }
+// The name of a zone in reports.
+fn reported_zone_name(name: &str) -> &str
+    ensures { result.now ≡ spec.reported_zone_name name.now }
 {
     if name == "local" {
         "the local zone"
@@ -159,7 +159,7 @@ fn told_name(name: &str) -> &str
     }
 }
 
-// What stands for an offset that a time leaves out: the clocks of the zone that is named, or else the offset.
+// The default for an omitted offset: a named zone, or else an offset.
 fn find_local<'a, R: Env + Files + AllocGlobal>(
     rt: &R,
     options: &Options<'_, 'a>,
@@ -172,37 +172,37 @@ fn find_local<'a, R: Env + Files + AllocGlobal>(
     };
     let fold = find_given_fold(options)?;
     match find_zone(rt, name) {
-        Ok(named) => Ok(Local::Zone(named, told_name(name), fold)),
+        Ok(named) => Ok(Local::Zone(named, reported_zone_name(name), fold)),
         Err(why) => Err(Fault::In(name, why)),
     }
 }
 
-// The year and what stands for an offset where a time leaves them out.
+// The defaults for an omitted year and an omitted offset.
 fn find_parts<'a, R: Env + Files + AllocGlobal>(
     rt: &R,
     options: &Options<'_, 'a>,
-) -> Result<Given<'a>, Fault<'a>>
+) -> Result<OwnedDefaults<'a>, Fault<'a>>
     ensures { MatchResult result (λ parts. spec.AreParts greatest_year options.now parts)
         (λ fault. spec.IsFault greatest_year options.now (told fault)) }
 {
     let year = find_given_year(options)?;
     let local = find_local(rt, options)?;
-    Ok(Given {
+    Ok(OwnedDefaults {
         year,
         local,
         latest: None,
     })
 }
 
-// The moment that a text says, if there is one, where the clock shows `now`.
+// The moment of a bound's text, if there is one, by the clock at `now`.
 fn find_bound<'a>(
     now: Option<UtcDateTime>,
     first: &Reading,
     others: &[Reading],
     defaults: &Defaults<'_>,
     text: Option<&'a str>,
-) -> Result<Option<OffsetDateTime>, (&'a str, NoMoment)>
-    ensures { spec.IsBound greatest_year now first.now others.now defaults.now (text_behind text.entry) (spec.seen_bound result) }
+) -> Result<Option<OffsetDateTime>, (&'a str, TimeArgError)>
+    ensures { spec.IsBound greatest_year now first.now others.now defaults.now (text_behind text.entry) (spec.erased_bound result) }
 {
     let Some(text) = text else {
         return Ok(None);
@@ -213,7 +213,7 @@ fn find_bound<'a>(
     }
 }
 
-// What is given for what a time leaves out, where these are the formats that the options mean, and the clock shows `now`.
+// The defaults for what a timestamp omits, by the formats of the options and the clock at `now`.
 #[tactic(auto, using(crate::proofs::FormatLemmas::fault_at))]
 fn find_given<'a, R: Env + Files + AllocGlobal>(
     rt: &R,
@@ -221,7 +221,7 @@ fn find_given<'a, R: Env + Files + AllocGlobal>(
     now: Option<UtcDateTime>,
     first: &Reading,
     others: &[Reading],
-) -> Result<Given<'a>, Fault<'a>>
+) -> Result<OwnedDefaults<'a>, Fault<'a>>
     requires { spec.AreFormats options.now first.now others.now }
     ensures { MatchResult result (λ given. spec.IsGiven greatest_year now options.now first.now others.now given)
         (λ fault. spec.IsFaultAt greatest_year now options.now (told fault)) }
@@ -231,7 +231,7 @@ fn find_given<'a, R: Env + Files + AllocGlobal>(
         Err(fault) => return Err(fault),
     };
     match find_bound(now, first, others, &parts.defaults(), options.latest) {
-        Ok(latest) => Ok(Given {
+        Ok(latest) => Ok(OwnedDefaults {
             year: parts.year,
             local: parts.local,
             latest,
@@ -240,7 +240,7 @@ fn find_given<'a, R: Env + Files + AllocGlobal>(
     }
 }
 
-// Which lines go out.
+// Which lines are written.
 fn output_of(options: &Options<'_, '_>) -> Output
     ensures { result ≡ spec.output_of options.now }
 {
@@ -253,14 +253,14 @@ fn output_of(options: &Options<'_, '_>) -> Output
     }
 }
 
-// Whether the work stops at the first refused line.
+// Whether to stop at the first rejected line.
 fn stops(options: &Options<'_, '_>) -> bool
     ensures { result ≡ spec.stops options.now }
 {
     options.strict && !options.keep_going
 }
 
-// Which refused lines are named.
+// Which rejected lines are reported.
 fn find_reports<'a>(options: &Options<'_, 'a>) -> Result<Reports, Fault<'a>>
     ensures { MatchResult result (λ reports. spec.AreReports options.now reports)
         (λ fault. spec.IsFault greatest_year options.now (told fault)) }
@@ -274,7 +274,7 @@ fn find_reports<'a>(options: &Options<'_, 'a>) -> Result<Reports, Fault<'a>>
     Ok(Reports::First(errors))
 }
 
-// The suffix of the backups of files that are to be replaced.
+// The suffix of the backups of files that are replaced.
 fn find_in_place<'a>(options: &Options<'_, 'a>) -> Result<Option<&'a str>, Fault<'a>>
     ensures { MatchResult result (λ suffix. spec.IsSuffix options.now (text_behind suffix))
         (λ fault. spec.IsFault greatest_year options.now (told fault)) }
@@ -288,7 +288,7 @@ fn find_in_place<'a>(options: &Options<'_, 'a>) -> Result<Option<&'a str>, Fault
     Ok(Some(suffix))
 }
 
-// Whether colours are shown.
+// Whether reports have colours.
 fn find_colors<'a>(options: &Options<'_, 'a>, is_terminal: bool) -> Result<bool, Fault<'a>>
     ensures { MatchResult result (λ shows. spec.AreColors options.now is_terminal shows)
         (λ fault. spec.IsFault greatest_year options.now (told fault)) }
@@ -299,13 +299,13 @@ fn find_colors<'a>(options: &Options<'_, 'a>, is_terminal: bool) -> Result<bool,
     }
 }
 
-// The bounds of the times of lines that are kept, by what is given for what a time leaves out.
+// The bounds of the moments of lines that are kept, by the defaults.
 fn find_bounds<'a>(
     options: &Options<'_, 'a>,
     now: Option<UtcDateTime>,
     first: &Reading,
     others: &[Reading],
-    given: &Given<'_>,
+    given: &OwnedDefaults<'_>,
 ) -> Result<(Option<OffsetDateTime>, Option<OffsetDateTime>), Fault<'a>>
     requires formats { spec.AreFormats options.now first.now others.now }
     requires given { spec.IsGiven greatest_year now options.now first.now others.now given.now }
@@ -324,13 +324,13 @@ fn find_bounds<'a>(
 }
 
 impl<'a> Request<'a> {
-    /// What the options ask for. Where `--color` is `auto`, colours are shown if reports go to a terminal. A zone that they
-    /// name is read from its file, and for the format `rfc9557` all zones of the system are. The clock shows `now`, or
-    /// `None` out of its range, which counts only where a bound is a word.
+    /// The request of the options. If `--color` is `auto`, reports have colours where they go to a terminal. It loads a
+    /// named zone from its file, and all zones of the system for the format `rfc9557`. `now` is the clock's time, or
+    /// `None` if it is out of range, which matters only where a bound is a word.
     ///
     /// # Errors
     ///
-    /// An option that doesn't take its value, or that memory is short.
+    /// An option rejects its value, or memory is short.
     #[tactic(auto, using(crate::proofs::FormatLemmas::fault_at))]
     pub fn new<R: Env + Files + AllocGlobal + Clone + Drop>(
         rt: &R,
@@ -338,7 +338,7 @@ impl<'a> Request<'a> {
         is_terminal: bool,
         now: Option<UtcDateTime>,
     ) -> Result<Request<'a>, Fault<'a>>
-        ensures { MatchResult result (spec.Asks greatest_year now options.now is_terminal)
+        ensures { MatchResult result (spec.IsRequestOf greatest_year now options.now is_terminal)
             (λ fault. spec.IsFaultAt greatest_year now options.now (told fault)) }
     {
         let place = find_place(options)?;
@@ -348,7 +348,7 @@ impl<'a> Request<'a> {
         let first = find_first(rt, options)?;
         let mut others = Vec::new(rt.alloc());
         let names = other_names(options);
-        if let Err(fault) = add_formats(rt, names, gives_year(options), &mut others) {
+        if let Err(fault) = add_formats(rt, names, has_default_year(options), &mut others) {
             return Err(fault);
         }
         let given = match find_given(rt, options, now, &first, others.as_slice()) {
@@ -380,7 +380,7 @@ impl<'a> Request<'a> {
         })
     }
 
-    /// How the lines of files are answered.
+    /// The settings for the lines of files.
     pub fn settings(&self) -> Settings<'_>
         ensures { spec.AreSettingsOf self.now result }
     {
@@ -408,7 +408,7 @@ impl<'a> Request<'a> {
             },
             since: self.since,
             until: self.until,
-            asks_for_times: self.strict,
+            requires_timestamp: self.strict,
         }
     }
 }

@@ -1,36 +1,36 @@
-//! The answer to files.
+//! Processes files as requested.
 ghost use Rattle.std.specs.Option.{option_map};
 ghost use Rattle.std.specs.Prelude.{◌≡◌, ◌≢◌, IfErr, IfSome, OnOk, map};
 ghost use Rattle.time_values.specs.Calendar.{greatest_year};
-ghost use Rattle.programs_streams.specs.Faults.{HasCause};
+ghost use Rattle.byte_streams.specs.Faults.{HasCause};
 ghost use Rattle.restamp_in_place.specs.Replacing.{Makes, Replaces};
-ghost use Rattle.restamp_stream.specs.Streams.{job_of, DidFiles, StoppedIn, state_of};
+ghost use Rattle.restamp_stream.specs.Streams.{job_of, ProcessedFiles, StoppedIn, state_of};
 ghost use Rattle.restamp_stream.specs.Causes.{faults_of, HasWriteCause};
 ghost use Rattle.restamp_stream.specs.Reports.{WritesReason};
 ghost use Rattle.restamp_stream.specs.declared.settings.Settings.{Settings as Settings_};
 ghost use Rattle.restamp_verdict.specs.Reason.{seen};
 ghost use Rattle.restamp_verdict.specs.declared.job.Job.{Job as Job_};
 ghost use Rattle.restamp_command.specs.Request.{AreSettingsOf, IsJobOf};
-ghost use Rattle.restamp_command.specs.Rewriting.{IsFate, IsReason, TellsWrong};
+ghost use Rattle.restamp_command.specs.Rewriting.{IsFate, IsReason, ReportsError};
 ghost use Rattle.restamp_command.specs.Zones.{zone_name};
 
 use crate::pointing::{write_expected, write_pointer};
 use crate::request::Request;
-use programs_streams::{Sink, Unwritten};
+use byte_streams::{Sink, Unwritten};
 use restamp_in_place::{Folder, Made, Target, Unreplaced, replace_file};
 use restamp_stream::{Block, Fate, Opening, Rewriting, Stop, Stream, Tally};
-use restamp_verdict::{Job, Outcome, Reason, Verdict, Why, Wrong};
+use restamp_verdict::{Brief, ErrorLocation, Job, Reason, Verdict, Why};
 use std::alloc::Global;
 use time_values::text::Text;
 
-/// A job, which says which fate a line has, and how a refused line is told.
+/// A job, which decides the fate of each line, and how a rejected line is reported.
 #[derive(Clone, Copy)]
 pub struct Restamping<'a> {
     /// What is done with each line.
     pub job: Job<'a>,
-    /// What the zone is called whose clocks stand for offsets that times leave out.
+    /// The name of the zone of local times, for reports.
     pub zone: &'a str,
-    /// Shows a refused line below its reason, with a caret under the column that is told, in colours.
+    /// Prints a rejected line below its reason, with a caret under the column of the error, in colours.
     pub shows_lines: bool,
 }
 
@@ -51,21 +51,22 @@ impl Rewriting for Restamping<'_> {
     #[inline(always)]
     fn fate(&self, front: &[u8]) -> Fate {
         let mut text = Text::new();
-        match self.job.decide(front, &mut text) {
-            Outcome::Without => Fate::Without,
-            Outcome::Rewritten { start, length } => Fate::Rewritten {
+        match self.job.judge::<Brief>(front, &mut text) {
+            Verdict::Without => Fate::Without,
+            Verdict::Rewritten { start, length } => Fate::Rewritten {
                 begin: start,
                 end: start + length,
                 text,
             },
-            Outcome::Dropped => Fate::Dropped,
-            Outcome::Refused => Fate::Refused,
+            Verdict::Dropped => Fate::Dropped,
+            Verdict::Refused { .. } => Fate::Refused,
         }
     }
 
+    #[inline(never)]
     fn write_reason<L: Sink>(&self, front: &[u8], log: &mut L) -> Result<(), Unwritten> {
-        match self.job.judge(front, &mut Text::new()) {
-            Verdict::Refused { column, reason } => self.write_wrong(front, column, reason, log),
+        match self.job.judge::<Reason>(front, &mut Text::new()) {
+            Verdict::Refused { column, reason } => self.write_location(front, column, reason, log),
             Verdict::Without => Ok(()),
             Verdict::Rewritten { .. } => Ok(()),
             Verdict::Dropped => Ok(()),
@@ -74,25 +75,25 @@ impl Rewriting for Restamping<'_> {
 }
 
 impl Restamping<'_> {
-    // Writes the column where a front goes wrong that is refused at a column for a reason, the reason or what the time
-    // lacks, and what was expected there. It isn't inlined, so that reports take no place beside lines that are rewritten.
+    // Writes the column of the error in a rejected front, the reason or the missing part, and what was expected there.
+    // Not inlined, so that reports need no stack beside lines that are rewritten.
     #[inline(never)]
-    fn write_wrong<L: Sink>(
+    fn write_location<L: Sink>(
         &self,
         front: &[u8],
         column: usize,
         reason: Reason,
         log: &mut L,
     ) -> Result<(), Unwritten>
-        ensures told { OnOk result (WritesReason (TellsWrong greatest_year self.now.job self.now.zone.now self.now.shows_lines front.now column (seen reason))
+        ensures told { OnOk result (WritesReason (ReportsError greatest_year self.now.job self.now.zone.now self.now.shows_lines front.now column (seen reason))
             (L.contents log.old) (L.contents log.new)) }
         ensures cause { HasCause result (L.faults log.old) (L.faults log.new) }
     {
-        let Wrong { column, expected } = self.job.find_wrong(front, column, reason);
-        let lack = self.job.find_lack(front, reason);
+        let ErrorLocation { column, expected } = self.job.find_location(front, column, reason);
+        let missing_field = self.job.find_missing_field(front, reason);
         let why = Why {
             reason,
-            lack,
+            missing_field,
             zone: self.zone,
         };
         if self.shows_lines {
@@ -106,11 +107,11 @@ impl Restamping<'_> {
     }
 }
 
-/// Processes all lines of the files as requested, one after the other.
+/// Processes all lines of the files as requested, one file after the other.
 ///
-/// A file that can't be opened or read to its end is told to the log, and the others are answered, so that the answer is
-/// never [`Stop::Unread`]. The work stops at a failed write, and under `--strict` at the first refused line, unless it is
-/// to go on: the files and lines before that one are answered. After a failed write nothing is known of how much was
+/// It logs a file that it can't open or read to its end, and processes the others, so it never returns
+/// [`Stop::Unread`]. It stops at a failed write, and under `--strict` at the first rejected line, unless `--keep-going`
+/// is given: all files and lines before that one are processed. After a failed write it is unknown how many bytes were
 /// written.
 pub fn serve<W: Sink, L: Sink, O: Opening>(
     request: &Request<'_>,
@@ -120,7 +121,7 @@ pub fn serve<W: Sink, L: Sink, O: Opening>(
     block: &mut Block,
 ) -> Result<(), Stop>
     ensures ok { (job : Job_) × (settings : Settings_) × IsJobOf request.now job × AreSettingsOf request.now settings
-        × OnOk result (DidFiles (IsFate greatest_year job) (IsReason greatest_year job (zone_name request.now.given.local) request.now.shows_lines)
+        × OnOk result (ProcessedFiles (IsFate greatest_year job) (IsReason greatest_year job (zone_name request.now.given.local) request.now.shows_lines)
         settings
         (O.bytes_of opening.old) (O.faults opening.old) (O.faults opening.new)
         (state_of W.contents L.contents stream.old) (state_of W.contents L.contents stream.new)
@@ -142,10 +143,10 @@ pub fn serve<W: Sink, L: Sink, O: Opening>(
     stream.serve_files(&rewriting, request.settings(), names, opening, block)
 }
 
-/// Replaces a file by what its lines become as it is asked for, unless no time of it is rewritten. The log is given back,
-/// and how many of the file's lines had which fate.
+/// Replaces a file by its processed lines, unless none of its timestamps is rewritten. Returns the log and the counts
+/// of the file's lines by their fates.
 ///
-/// At each moment a crash leaves under the file's name what it might have left before, or the new file, whole.
+/// A crash at any moment leaves what it might have left before under the file's name, or the whole new file.
 pub fn replace<F: Folder, L: Sink + Drop>(
     request: &Request<'_>,
     target: Target<'_>,

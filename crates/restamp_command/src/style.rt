@@ -1,4 +1,4 @@
-//! How the options ask for times to be written.
+//! How moments are written by the options.
 ghost use Rattle.std.specs.Prelude.{◌≡◌, MatchResult, false};
 ghost use Rattle.time_values.specs.Calendar.{greatest_year};
 ghost use Rattle.restamp_verdict.specs.Naming.{IsWritingFault, fault_of};
@@ -9,34 +9,34 @@ use crate::fault::Fault;
 use crate::formats::is_zoned;
 use crate::options::Options;
 use crate::values::find_digits;
-use crate::zone::{Zone, find_shown};
+use crate::zone::{Zone, parse_zone};
 use restamp_verdict::{FormatFault, Named, Writing, find_writing};
 use std::alloc::Global;
 use std::rt::{Env, Files};
 use time_writing::FractionDigits;
 use time_zones::write_suffix;
 
-/// How a time is written.
+/// How a moment is written.
 #[derive(Drop)]
 pub struct Style {
     /// The format.
     pub writing: Writing,
-    /// How many digits of a fraction RFC 3339 has.
+    /// How many digits the fraction of RFC 3339 has.
     pub digits: FractionDigits,
-    /// The zone in which the time is shown.
+    /// The zone that moments are converted to.
     pub zone: Zone,
-    /// What stands behind each time: by RFC 9557 the zone in brackets, and else nothing.
+    /// The text after each timestamp: for RFC 9557 the zone in brackets, otherwise nothing.
     pub suffix: Vec<u8>,
 }
 
-// The zone that is given.
+// The name of the output zone.
 fn zone_of<'a>(options: &Options<'_, 'a>) -> &'a str
     ensures { result.now ≡ spec.zone_of options.now }
 {
     if options.utc { "utc" } else { options.zone }
 }
 
-// The format of that name that times are written by.
+// The output format of that name.
 fn find_format<'a>(name: &'a str) -> Result<Writing, FormatFault<'a>>
     ensures { MatchResult result (λ writing. spec.IsWriting name.now writing)
         (λ fault. (spec.is_zoned name.now ≡ false) × IsWritingFault name.now (fault_of fault)) }
@@ -47,7 +47,7 @@ fn find_format<'a>(name: &'a str) -> Result<Writing, FormatFault<'a>>
     find_writing(name.as_bytes())
 }
 
-// The suffix of times in the zone by the format of that name.
+// The suffix of timestamps in the zone by the format of that name.
 fn find_suffix<'a>(alloc: Global, name: &'a str, zone: &Zone) -> Result<Vec<u8>, Fault<'a>>
     ensures { MatchResult result (λ suffix. spec.IsSuffixBy name.now zone.now suffix.items)
         (λ fault. spec.IsSuffixFault name.now zone.now (told fault)) }
@@ -65,7 +65,7 @@ fn find_suffix<'a>(alloc: Global, name: &'a str, zone: &Zone) -> Result<Vec<u8>,
     }
 }
 
-/// How a time is written.
+/// How a moment is written.
 pub(crate) fn find_style<'a, R: Env + Files + AllocGlobal>(
     rt: &R,
     options: &Options<'_, 'a>,
@@ -78,7 +78,7 @@ pub(crate) fn find_style<'a, R: Env + Files + AllocGlobal>(
         Err(why) => return Err(Fault::To(options.to, why)),
     };
     let name = zone_of(options);
-    let zone = match find_shown(rt, name) {
+    let zone = match parse_zone(rt, name) {
         Ok(zone) => zone,
         Err(why) => return Err(Fault::Zone(name, why)),
     };

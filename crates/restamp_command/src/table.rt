@@ -19,18 +19,18 @@ The status is 0 where a time was rewritten, 1 where none was, and 2 after a
 wrong option, a file that was not read or not replaced, a failed write, or a
 line that is refused under --strict.";
 
-/// What values an option has, and what help calls them.
+/// How many values an option has, and their name in help.
 #[derive(Clone, Copy)]
 pub(crate) enum Kind {
-    /// None: it is given, or not.
+    /// None: a flag.
     Flag,
     /// One.
     Text(&'static str),
-    /// One each time that it is given.
+    /// One for each time that the option is given.
     Texts(&'static str),
     /// Two.
     Pair(&'static str),
-    /// One behind `=`, or the empty text.
+    /// One after `=`, or the empty text.
     Attached(&'static str),
 }
 
@@ -38,19 +38,19 @@ pub(crate) enum Kind {
 #[derive(Clone, Copy)]
 pub(crate) struct Row {
     pub(crate) name: &'static str,
-    /// `-l` stands for it.
+    /// The short form.
     pub(crate) letter: Option<char>,
     pub(crate) kind: Kind,
-    /// Its value where it isn't given.
+    /// The default value.
     pub(crate) default: Option<&'static str>,
     pub(crate) help: &'static str,
-    /// The options that it needs.
+    /// The options that it requires.
     pub(crate) needs: &'static [&'static str],
-    /// The options that can't stand beside it.
+    /// The options that it excludes.
     pub(crate) excludes: &'static [&'static str],
 }
 
-// What most rows have.
+// The defaults of a row.
 const FLAG: Row = Row {
     name: "",
     letter: None,
@@ -61,7 +61,7 @@ const FLAG: Row = Row {
     excludes: &[],
 };
 
-// Where a line's time stands.
+// The place of a line's timestamp.
 const PLACES: &[Row] = &[
     Row {
         name: "front",
@@ -118,7 +118,7 @@ const PLACES: &[Row] = &[
     },
 ];
 
-// How it is read.
+// How timestamps are parsed.
 const READING: &[Row] = &[
     Row {
         name: "from",
@@ -163,7 +163,7 @@ const READING: &[Row] = &[
     },
 ];
 
-// How it is written.
+// How moments are written.
 const WRITING: &[Row] = &[
     Row {
         name: "to",
@@ -203,7 +203,7 @@ const WRITING: &[Row] = &[
     },
 ];
 
-// Which lines go out.
+// Which lines are written.
 const LINES: &[Row] = &[
     Row {
         name: "since",
@@ -226,7 +226,7 @@ const LINES: &[Row] = &[
     },
 ];
 
-// What becomes of refused lines.
+// What is done with rejected lines.
 const REPORTS: &[Row] = &[
     Row {
         name: "quiet",

@@ -1,9 +1,9 @@
-//! Whether what is given for a part of a time can be of use.
+//! Whether a default can be of use.
 ghost use Rattle.std.specs.Prelude.{◌≡◌, MatchOption, true};
 ghost use Rattle.std.specs.List.{list_any};
 ghost use Rattle.time_values.specs.Calendar.{greatest_year};
-ghost use Rattle.restamp_verdict.specs.Lack.{takes};
-ghost use Rattle.restamp_verdict.specs.declared.lack.Part.TheVariants as part;
+ghost use Rattle.restamp_verdict.specs.MissingField.{can_default};
+ghost use Rattle.restamp_verdict.specs.declared.missing_field.Part.TheVariants as part;
 ghost use Rattle.restamp_command.specs.Fault.{told};
 ghost use Rattle.restamp_command.specs.Request as spec;
 
@@ -11,17 +11,17 @@ use crate::fault::Fault;
 use crate::options::Options;
 use restamp_verdict::{Part, Reading};
 
-// Whether some text of one of the formats may not say that part.
-fn one_takes(formats: &[Reading], part: Part) -> bool
-    ensures { result ≡ list_any (takes part) formats.now }
+// Whether some text of one of the formats may omit that part.
+fn one_can_default(formats: &[Reading], part: Part) -> bool
+    ensures { result ≡ list_any (can_default part) formats.now }
 {
     match formats {
         [] => false,
-        [format, others @ ..] => format.takes(part) || one_takes(others, part),
+        [format, others @ ..] => format.can_default(part) || one_can_default(others, part),
     }
 }
 
-// The fault of an option that gives a year, if there is one and none is left out.
+// The error of an option for the year, if it is given, and no text omits the year.
 fn find_unused_year<'a>(
     options: &Options<'_, 'a>,
     first: &Reading,
@@ -29,10 +29,10 @@ fn find_unused_year<'a>(
 ) -> Option<Fault<'a>>
     requires { spec.AreFormats options.now first.now others.now }
     ensures { MatchOption result
-        (spec.gives_year options.now ≡ true → spec.one_takes part.Year first.now others.now ≡ true)
+        (spec.has_default_year options.now ≡ true → spec.one_can_default part.Year first.now others.now ≡ true)
         (λ fault. spec.IsFault greatest_year options.now (told fault)) }
 {
-    if first.takes(Part::Year) || one_takes(others, Part::Year) {
+    if first.can_default(Part::Year) || one_can_default(others, Part::Year) {
         return None;
     }
     if let Some(text) = options.year {
@@ -44,7 +44,7 @@ fn find_unused_year<'a>(
     }
 }
 
-// The fault of an option that gives an offset or a zone, if there is one and no offset is left out.
+// The error of an option for the offset or its zone, if it is given, and no text omits the offset.
 fn find_unused_offset<'a>(
     options: &Options<'_, 'a>,
     first: &Reading,
@@ -52,10 +52,10 @@ fn find_unused_offset<'a>(
 ) -> Option<Fault<'a>>
     requires { spec.AreFormats options.now first.now others.now }
     ensures { MatchOption result
-        (spec.gives_offset options.now ≡ true → spec.one_takes part.Offset first.now others.now ≡ true)
+        (spec.has_default_offset options.now ≡ true → spec.one_can_default part.Offset first.now others.now ≡ true)
         (λ fault. spec.IsFault greatest_year options.now (told fault)) }
 {
-    if first.takes(Part::Offset) || one_takes(others, Part::Offset) {
+    if first.can_default(Part::Offset) || one_can_default(others, Part::Offset) {
         return None;
     }
     if let Some(text) = options.offset {
@@ -67,7 +67,7 @@ fn find_unused_offset<'a>(
     }
 }
 
-/// The fault of an option that gives what each text of the formats says.
+/// The error of an option for a part that each text of the formats has.
 pub(crate) fn find_unused<'a>(
     options: &Options<'_, 'a>,
     first: &Reading,

@@ -1,4 +1,4 @@
-//! What the values of options mean.
+//! Parses the values of options.
 ghost use Rattle.std.specs.Prelude.{◌≡◌, map};
 ghost use Rattle.time_values.specs.Calendar.{greatest_year};
 ghost use Rattle.time_components.specs.Tree.{borrowed_shape, sequence, trees};
@@ -73,7 +73,7 @@ pub fn find_digits(text: &str) -> Option<FractionDigits>
     }
 }
 
-/// Whether colours are shown: always, never, or where a terminal is written to.
+/// Whether to use colours: always, never, or if the output is a terminal.
 pub fn find_shows(text: &str, is_terminal: bool) -> Option<bool>
     ensures { result ≡ spec.shows_of text.now is_terminal }
 {
@@ -85,7 +85,7 @@ pub fn find_shows(text: &str, is_terminal: bool) -> Option<bool>
     }
 }
 
-/// Which of two moments a date and time means that clocks show twice.
+/// The moment that an ambiguous local time means.
 pub fn find_fold(text: &str) -> Option<Fold>
     ensures { result ≡ spec.fold_of text.now }
 {
@@ -113,7 +113,7 @@ fn offset_items() -> [BorrowedFormatItem<'static>; 3]
     ]
 }
 
-// The items in turn.
+// The items in sequence.
 fn compound<'a>(items: &'a [BorrowedFormatItem<'a>]) -> BorrowedFormatItem<'a>
     ensures { borrowed_shape result ≡ sequence (trees (map borrowed_shape items.now)) }
 {

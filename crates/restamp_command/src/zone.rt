@@ -10,10 +10,10 @@ use std::rt::{Env, Files};
 use time_values::{OffsetDateTime, UtcOffset};
 use time_zones::{NamedZone, ZoneFault, ZoneText, find_zone};
 
-/// The zone in which times are shown.
+/// The zone that moments are converted to.
 #[derive(Drop)]
 pub enum Zone {
-    /// Each keeps its offset.
+    /// The offset is kept.
     Keep,
     /// One offset.
     Fixed(UtcOffset),
@@ -22,9 +22,9 @@ pub enum Zone {
 }
 
 impl Zone {
-    /// What a suffix tells of it, as RFC 9557 has one: nothing where each time keeps its offset, or the zone has no name.
+    /// The text of the zone in a suffix of RFC 9557; `None` if each moment keeps its offset, or the zone has no name.
     pub(crate) fn text(&self) -> Option<ZoneText<'_>>
-        ensures { option_map zone_of result ≡ spec.told_zone self.now }
+        ensures { option_map zone_of result ≡ spec.suffix_zone self.now }
     {
         match self {
             Zone::Keep => None,
@@ -36,7 +36,7 @@ impl Zone {
         }
     }
 
-    /// The clock on which times are shown.
+    /// The clock that moments are converted to.
     pub fn clock(&self) -> Clock<'_>
         ensures { spec.IsClockOf self.now result }
     {
@@ -48,28 +48,28 @@ impl Zone {
     }
 }
 
-/// What stands for an offset that a time leaves out.
+/// The default for an omitted offset.
 #[derive(Drop)]
 pub enum Local<'a> {
-    /// That offset.
+    /// An offset.
     Offset(UtcOffset),
-    /// The clocks of a named zone, what it is called, and which of two moments it is that they show alike.
+    /// A named zone, its name, and which moment an ambiguous local time means.
     Zone(NamedZone, &'a str, Fold),
 }
 
-/// What is given for what a time leaves out.
+/// Defaults for what a timestamp omits.
 #[derive(Drop)]
-pub struct Given<'a> {
-    /// The year of a time that says no part of one.
+pub struct OwnedDefaults<'a> {
+    /// The year, if the timestamp has no part of one.
     pub year: Option<i32>,
-    /// What stands for its offset.
+    /// The offset, or the zone of local times.
     pub local: Local<'a>,
-    /// A time that has no year either is the latest that isn't after this moment.
+    /// A timestamp without a year means the latest moment that isn't after this one, if `year` is `None`.
     pub latest: Option<OffsetDateTime>,
 }
 
 impl Local<'_> {
-    /// What the zone is called whose clocks stand for offsets that times leave out, if there is one.
+    /// The name of the zone of local times; `its zone` without a name.
     pub fn zone_name(&self) -> &str
         ensures { result.now ≡ spec.zone_name self.now }
     {
@@ -80,8 +80,8 @@ impl Local<'_> {
     }
 }
 
-impl Given<'_> {
-    /// The defaults by which times are read.
+impl OwnedDefaults<'_> {
+    /// The defaults for parsing.
     pub fn defaults(&self) -> Defaults<'_>
         ensures { spec.AreDefaultsOf self.now result }
     {
@@ -104,9 +104,9 @@ impl Given<'_> {
     }
 }
 
-/// What a text asks for: `keep`, `utc`, an offset, or a zone by its name, `local` among them. A named zone is read from its
-/// file.
-pub(crate) fn find_shown<R: Env + Files + AllocGlobal>(
+/// Parses the value of `--zone`: `keep`, `utc`, an offset, or the name of a zone, such as `local`. It loads a named
+/// zone from its file.
+pub(crate) fn parse_zone<R: Env + Files + AllocGlobal>(
     rt: &R,
     text: &str,
 ) -> Result<Zone, ZoneFault>

@@ -1,4 +1,4 @@
--- What a thing that was done changes.
+-- The effect of an event.
 use Rattle.std.proofs.Common.{◌≡◌, inl, inr, ℕ, List, [], ◌∷◌, refl, ◌∙◌, ap, Option, None, Some, Bool, true, false, arith, rules, if◌then◌else◌}
 use Rattle.std.specs.Bool.{Decides}
 use Rattle.std.specs.Str.{bytes_eq}
@@ -11,11 +11,11 @@ not_true : (b : Bool) (P : Type 0) → Decides b P → ¬ P → b ≡ false
 not_true true P d never = absurd (never (d.0 refl))
 not_true false P d never = refl
 
--- a name leads where it was last made to lead
+-- a name is that of the file that it was last given to
 pub leads-at : (name : List ℕ) (file : Option ℕ) (done : List Event) → leads (Leads name file ∷ done) name ≡ file
 leads-at name file done = rw ((bytes_eq-Decides name name).1 refl) refl
 
--- another name leads where it did
+-- other names are those of the same files as before
 pub leads-past : (other name : List ℕ) (file : Option ℕ) (done : List Event) → ¬ (other ≡ name) → leads (Leads other file ∷ done) name ≡ leads done name
 leads-past other name file done apart = rw (not_true (bytes_eq other name) (other ≡ name) (bytes_eq-Decides other name) apart) refl
 
@@ -31,14 +31,14 @@ may_now (Leads other led ∷ done) name = may_now-step (bytes_eq other name) oth
 may_now (Stored number bytes ∷ done) name = may_now done name
 may_now (Synced ∷ done) name = refl
 
--- bytes that are put on the disk are there
+-- bytes that are stored on the disk are there
 pub stored-at : (number : ℕ) (bytes : List ℕ) (done : List Event) → stored (Stored number bytes ∷ done) number ≡ Some bytes
 stored-at number bytes done = let same : nat_eq number number ≡ true = search rules in rw same refl
 
--- another file has the bytes that it had
+-- another file has the same bytes as before
 pub stored-past : (number other : ℕ) (bytes : List ℕ) (done : List Event) → ¬ (other ≡ number) → stored (Stored number bytes ∷ done) other ≡ stored done other
 stored-past number other bytes done apart = let differ : nat_eq number other ≡ false = grind arith in rw differ refl
 
--- names that lead elsewhere differ
+-- names of different files differ
 pub names_differ : (done : List Event) (name other : List ℕ) (number : ℕ) → leads done name ≡ Some number → leads done other ≡ None → ¬ (name ≡ other)
 names_differ done name other number there none same = absurd (cc (there, none, ap (leads done) same))

@@ -1,4 +1,4 @@
--- How the replacement of a file goes on.
+-- The steps of a file's replacement, from phase to phase.
 use Rattle.std.proofs.Common.{◌≡◌, ◌⊎◌, inl, inr, ⊎_elim, ℕ, List, [], ◌∷◌, refl, sym, ◌∙◌, ap, subst, Option, None, Some, Bool, true, false}
 use Rattle.std.specs.Bool.{Decides}
 use Rattle.std.specs.Str.{bytes_eq}
@@ -6,10 +6,10 @@ use Rattle.std.specs.Prelude.{IfSome}
 use Rattle.std.proofs.lemmas.Slice.Eq.{bytes_eq-Decides}
 use Rattle.restamp_in_place.specs.Replacing.{Event, leads, stored, MayLead, IsBackedUp, IsNew, HasSameBytes}
 use Rattle.restamp_in_place.specs.Replacing.Event.{Leads, Stored, Synced}
-use Rattle.restamp_in_place.specs.Phases.{Aim, Safe, Reached, Same, Kept, Ready, Linked, HasBackup, Backed, Loose, LooseBacked, Put, Done}
+use Rattle.restamp_in_place.specs.Phases.{Replacement, Safe, Reached, Same, Kept, Ready, Linked, HasBackup, Backed, TempRemovable, BackupRemovable, Put, Installed}
 use Rattle.restamp_in_place.proofs.FolderLemmas.{leads-at, leads-past, may_now, stored-at, stored-past, names_differ}
 
-module _ (aim : Aim) where
+module _ (aim : Replacement) where
   -- the file's name is not the new one's
   pub apart : ¬ (aim.name ≡ aim.temporary)
   apart = names_differ aim.before aim.name aim.temporary aim.original aim.there aim.unused
@@ -23,7 +23,7 @@ module _ (aim : Aim) where
   original_apart : (name : List ℕ) (file : Option ℕ) → MayLead aim.before name file → ¬ (file ≡ Some aim.number)
   original_apart name file may = aim.fresh.led name file may
 
-  -- one thing more was done
+  -- one more event
   pub goes_on : (event : Event) (done : List Event) → Reached aim done → Safe aim (event ∷ done) → Reached aim (event ∷ done)
   goes_on event done reached safe = record {
     more = event ∷ reached.more;
@@ -31,7 +31,7 @@ module _ (aim : Aim) where
     safe = (subst (Safe aim) (ap (λ (l : List Event). event ∷ l) reached.is) safe, reached.safe);
   }
 
-  -- as long as nothing was done with the file, it is safe
+  -- a file that is untouched is safe
   safe_same : (done : List Event) → ((file : Option ℕ) → MayLead done aim.name file → MayLead aim.before aim.name file)
       → ((number : ℕ) → ¬ (number ≡ aim.number) → stored done number ≡ stored aim.before number) → Safe aim done
   safe_same done same bytes file may =
@@ -45,7 +45,7 @@ module _ (aim : Aim) where
     bytes = λ number differs. refl;
   }
 
-  -- a name other than the file's leads elsewhere
+  -- a name other than the file's is that of another file
   pub same-leads : (name : List ℕ) (led : Option ℕ) (done : List Event) → ¬ (name ≡ aim.name) → Same aim done → Same aim (Leads name led ∷ done)
   same-leads name led done differs s =
       let still : (file : Option ℕ) → MayLead (Leads name led ∷ done) aim.name file → MayLead aim.before aim.name file = λ file may. ⊎_elim
@@ -56,7 +56,7 @@ module _ (aim : Aim) where
         bytes = s.bytes;
       }
 
-  -- the new file gets on the disk
+  -- the new file is stored on the disk
   pub same-stored : (bytes : List ℕ) (done : List Event) → Same aim done → Same aim (Stored aim.number bytes ∷ done)
   same-stored bytes done s =
       let others : (number : ℕ) → ¬ (number ≡ aim.number) → stored (Stored aim.number bytes ∷ done) number ≡ stored aim.before number = λ number
@@ -67,7 +67,7 @@ module _ (aim : Aim) where
         bytes = others;
       }
 
-  -- the names get on the disk
+  -- the names are written to the disk
   pub same-synced : (done : List Event) → Same aim done → Same aim (Synced ∷ done)
   same-synced done s =
       let still : (file : Option ℕ) → MayLead (Synced ∷ done) aim.name file → MayLead aim.before aim.name file = λ file may. s.same file
@@ -78,13 +78,13 @@ module _ (aim : Aim) where
         bytes = s.bytes;
       }
 
-  -- the new file's own name may be taken away
-  pub same-loose : (done : List Event) → Same aim done → Loose aim done
-  same-loose done s =
+  -- the new file's own name may be removed
+  pub same-removable : (done : List Event) → Same aim done → TempRemovable aim done
+  same-removable done s =
       let after = same-leads aim.temporary None done (λ is. apart (sym is)) s in
       record { reached = s.reached; safe = safe_same (Leads aim.temporary None ∷ done) after.same after.bytes }
 
-  -- the new file was made
+  -- the new file was created
   pub made : Kept aim (Leads aim.temporary (Some aim.number) ∷ aim.before)
   made = record {
     untouched = same-leads aim.temporary (Some aim.number) aim.before (λ is. apart (sym is)) started;
@@ -93,7 +93,7 @@ module _ (aim : Aim) where
     others = λ other differs _ _. leads-past aim.temporary other (Some aim.number) aim.before (λ is. differs (sym is));
   }
 
-  -- and put on the disk
+  -- and stored on the disk
   pub kept-stored : (bytes : List ℕ) (done : List Event) → Kept aim done → Kept aim (Stored aim.number bytes ∷ done)
   kept-stored bytes done k = record {
     untouched = same-stored bytes done k.untouched;
@@ -137,7 +137,7 @@ module _ (aim : Aim) where
         beside = λ same. from_name (sym same);
       }
 
-  -- the second name got on the disk
+  -- the second name is on the disk
   pub backed : (done : List Event) → Linked aim done → Backed aim (Synced ∷ done)
   backed done l = record {
     ready = record {
@@ -162,11 +162,11 @@ module _ (aim : Aim) where
     });
   }
 
-  -- none is asked for
+  -- no backup is requested
   pub backed-none : (done : List Event) → Ready aim done → aim.backup ≡ None → Backed aim done
   backed-none done r none = record { ready = r; backed = subst (λ (b : Option (List ℕ)). IfSome b (HasBackup aim done)) (sym none) tt }
 
-  -- what leads elsewhere leaves the backup
+  -- events of other names keep the backup
   has-past : (second name : List ℕ) (led : Option ℕ) (done : List Event) → ¬ (name ≡ second) → HasBackup aim done second → HasBackup aim
       (Leads name led ∷ done) second
   has-past second name led done differs h = record {
@@ -200,7 +200,7 @@ module _ (aim : Aim) where
   is_backed None done h = tt
   is_backed (Some second) done h = h.backed
 
-  -- the new file, where the backup is on the disk
+  -- the new file, if the backup is on the disk
   is_new : (done : List Event) (file : Option ℕ) (bytes : List ℕ) → aim.new ≡ Some bytes → stored done aim.number ≡ Some bytes
       → IfSome aim.backup (HasBackup aim done) → file ≡ Some aim.number → IsNew aim.before done aim.name aim.backup aim.new file
   is_new done file bytes new whole backed is = record {
@@ -226,7 +226,7 @@ module _ (aim : Aim) where
       ⊎_elim (λ before. inl (before, same_bytes done file p.old (original_apart aim.name file before)))
       (λ is. inr (is_new done file p.bytes p.new p.whole p.backed is)) (p.either file may)
 
-  -- the new file's own name leads to none
+  -- the new file's own name is unused
   placed-temporary : (done : List Event) → Placed done → Placed (Leads aim.temporary None ∷ done)
   placed-temporary done p = record {
     either = λ file may. ⊎_elim (λ here. absurd (apart (sym here.0))) (p.either file) may;
@@ -270,7 +270,7 @@ module _ (aim : Aim) where
       leads-past aim.temporary other None (Leads aim.name (Some aim.number) ∷ done) (λ is. new (sym is))
       ∙ leads-past aim.name other (Some aim.number) done (λ is. old (sym is)) ∙ k.others other new old backup
 
-  -- the new file took the old one's place
+  -- the new file replaced the old one
   pub put : (done : List Event) → Backed aim done → Put aim (Leads aim.temporary None ∷ Leads aim.name (Some aim.number) ∷ done)
   put done b =
       let both = placed-temporary (Leads aim.name (Some aim.number) ∷ done) (placed done b) in
@@ -285,11 +285,11 @@ module _ (aim : Aim) where
       }
 
   -- it may have, though the call failed
-  pub loose-renamed : (done : List Event) → Backed aim done → LooseBacked aim (Leads aim.temporary None ∷ Leads aim.name (Some aim.number) ∷ done)
-  loose-renamed done b =
+  pub removable-renamed : (done : List Event) → Backed aim done → BackupRemovable aim (Leads aim.temporary None ∷ Leads aim.name (Some aim.number) ∷ done)
+  removable-renamed done b =
       let both = placed-temporary (Leads aim.name (Some aim.number) ∷ done) (placed done b) in
       record {
-        loose = record {
+        removable = record {
           reached = reached-renamed done b;
           safe = placed-safe (Leads aim.temporary None ∷ Leads aim.temporary None ∷ Leads aim.name (Some aim.number) ∷ done)
               (placed-temporary (Leads aim.temporary None ∷ Leads aim.name (Some aim.number) ∷ done) both);
@@ -303,38 +303,38 @@ module _ (aim : Aim) where
 
       never : (backup : Option (List ℕ)) → IfSome backup
           (λ second. leads (Leads aim.temporary None ∷ Leads aim.name (Some aim.number) ∷ done) aim.name ≡ Some aim.original
-          → Loose aim (Leads second None ∷ Leads aim.temporary None ∷ Leads aim.name (Some aim.number) ∷ done))
+          → TempRemovable aim (Leads second None ∷ Leads aim.temporary None ∷ Leads aim.name (Some aim.number) ∷ done))
       never None = tt
       never (Some second) = λ still. absurd (differs (the_same (sym (leads-renamed done) ∙ still)))
         where
           the_same : Some aim.number ≡ Some aim.original → aim.number ≡ aim.original
           the_same is = cc is
 
-  -- as long as nothing was done with the file, all that was made may be taken away
-  loose-second : (backup : Option (List ℕ)) (done : List Event) → Same aim done → IfSome backup (λ second. ¬ (second ≡ aim.name))
-      → IfSome backup (λ second. leads done aim.name ≡ Some aim.original → Loose aim (Leads second None ∷ done))
-  loose-second None done s beside = tt
-  loose-second (Some second) done s beside = λ _. same-loose (Leads second None ∷ done) (same-leads second None done beside s)
+  -- while the file is untouched, all that was created may be removed
+  removable-second : (backup : Option (List ℕ)) (done : List Event) → Same aim done → IfSome backup (λ second. ¬ (second ≡ aim.name))
+      → IfSome backup (λ second. leads done aim.name ≡ Some aim.original → TempRemovable aim (Leads second None ∷ done))
+  removable-second None done s beside = tt
+  removable-second (Some second) done s beside = λ _. same-removable (Leads second None ∷ done) (same-leads second None done beside s)
 
   has-beside : (backup : Option (List ℕ)) (done : List Event) → IfSome backup (HasBackup aim done) → IfSome backup (λ second. ¬ (second ≡ aim.name))
   has-beside None done h = tt
   has-beside (Some second) done h = h.beside
 
-  pub loose-backed : (done : List Event) → Backed aim done → LooseBacked aim done
-  loose-backed done b = record {
-    loose = same-loose done b.ready.kept.untouched;
-    unbacked = loose-second aim.backup done b.ready.kept.untouched (has-beside aim.backup done b.backed);
+  pub removable-backed : (done : List Event) → Backed aim done → BackupRemovable aim done
+  removable-backed done b = record {
+    removable = same-removable done b.ready.kept.untouched;
+    unbacked = removable-second aim.backup done b.ready.kept.untouched (has-beside aim.backup done b.backed);
   }
 
-  pub loose-linked : (done : List Event) → Linked aim done → LooseBacked aim done
-  loose-linked done l = record {
-    loose = same-loose done l.ready.kept.untouched;
-    unbacked = loose-second aim.backup done l.ready.kept.untouched
+  pub removable-linked : (done : List Event) → Linked aim done → BackupRemovable aim done
+  removable-linked done l = record {
+    removable = same-removable done l.ready.kept.untouched;
+    unbacked = removable-second aim.backup done l.ready.kept.untouched
         (subst (λ (b : Option (List ℕ)). IfSome b (λ second. ¬ (second ≡ aim.name))) (sym l.is) l.beside);
   }
 
   -- and the names are on the disk
-  pub done-synced : (done : List Event) → Put aim done → Done aim (Synced ∷ done)
+  pub done-synced : (done : List Event) → Put aim done → Installed aim (Synced ∷ done)
   done-synced done p =
       let new : (file : Option ℕ) → MayLead (Synced ∷ done) aim.name file → IsNew aim.before (Synced ∷ done) aim.name aim.backup aim.new file =
       λ file may. is_new (Synced ∷ done) file p.bytes p.new p.whole (has-all_synced aim.backup done p.backed) (may ∙ p.is) in
@@ -346,6 +346,6 @@ module _ (aim : Aim) where
   pub reached-put-synced : (done : List Event) → Put aim done → Reached aim (Synced ∷ done)
   reached-put-synced done p = (done-synced done p).reached
 
-  -- the new file's own name was taken away
-  pub removed : (done : List Event) → Loose aim done → Reached aim (Leads aim.temporary None ∷ done)
+  -- the new file's own name was removed
+  pub removed : (done : List Event) → TempRemovable aim done → Reached aim (Leads aim.temporary None ∷ done)
   removed done l = goes_on (Leads aim.temporary None) done l.reached l.safe

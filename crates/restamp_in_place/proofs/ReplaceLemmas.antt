@@ -5,11 +5,11 @@ use Rattle.std.specs.Option.{option_and_then}
 use Rattle.std.specs.Io.KnownBytes.{Appends}
 use Rattle.restamp_in_place.specs.declared.lines.Made.{Made}
 use Rattle.restamp_in_place.specs.declared.lines.Made.TheVariants.{Changed}
-use Rattle.restamp_in_place.specs.Replacing.{Event, leads, stored, bytes_at, Does, Creates, Removes, bytes_made, HasSameBytes, IsEnded, IsUntouched, Replaces}
+use Rattle.restamp_in_place.specs.Replacing.{Event, leads, stored, bytes_at, Performs, Creates, Removes, bytes_made, HasSameBytes, IsEnded, IsUntouched, Replaces}
 use Rattle.restamp_in_place.specs.Replacing.Event.{Leads}
-use Rattle.restamp_in_place.specs.Phases.{Aim, IsWritten, Reached, Kept, Loose, IsMade, IsEndOf, Runs}
+use Rattle.restamp_in_place.specs.Phases.{Replacement, IsWritten, Reached, Kept, TempRemovable, IsMade, IsEndOf, Runs}
 use Rattle.restamp_in_place.proofs.FolderLemmas.{leads-at, leads-past}
-use Rattle.restamp_in_place.proofs.PhaseLemmas.{made, same-loose, removed}
+use Rattle.restamp_in_place.proofs.PhaseLemmas.{made, same-removable, removed}
 use Rattle.std.specs.Bool.{Decides}
 use Rattle.std.specs.Str.{bytes_eq}
 use Rattle.std.proofs.lemmas.Slice.Eq.{bytes_eq-Decides}
@@ -35,8 +35,8 @@ replaces-nothing makes (Some before) name backup error = record {
   same = tt;
 }
 
--- where its making is known to end so
-module _ (aim : Aim) where
+-- the making ends as known
+module _ (aim : Replacement) where
   pub is_made-kept : (done : List Event) → IsMade aim done → Kept aim done
   is_made-kept done is = subst (Kept aim) (sym is) (made aim)
 
@@ -46,7 +46,7 @@ module _ (aim : Aim) where
       let all : more ++ done ≡ Leads aim.temporary None ∷ Leads aim.temporary (Some aim.number) ∷ aim.before =
       ap (λ (m : List Event). m ++ done) gone ∙ ap (λ (d : List Event). Leads name None ∷ d) is ∙ ap
       (λ (n : List ℕ). Leads n None ∷ Leads aim.temporary (Some aim.number) ∷ aim.before) named in
-      (subst (Reached aim) (sym all) (removed aim _ (same-loose aim _ (made aim).untouched)), subst (IsUntouched aim.before) (sym all) untouched)
+      (subst (Reached aim) (sym all) (removed aim _ (same-removable aim _ (made aim).untouched)), subst (IsUntouched aim.before) (sym all) untouched)
     where
       past : (other : List ℕ) (b : Bool) → Decides b (other ≡ aim.temporary) → leads
           (Leads aim.temporary None ∷ Leads aim.temporary (Some aim.number) ∷ aim.before) other ≡ leads aim.before other
@@ -61,13 +61,13 @@ module _ (aim : Aim) where
       untouched : IsUntouched aim.before (Leads aim.temporary None ∷ Leads aim.temporary (Some aim.number) ∷ aim.before)
       untouched other = past other (bytes_eq other aim.temporary) (bytes_eq-Decides other aim.temporary)
 
-  pub is_made-loose : (done : List Event) → IsMade aim done → Loose aim done
-  is_made-loose done is = same-loose aim done (is_made-kept done is).untouched
+  pub is_made-removable : (done : List Event) → IsMade aim done → TempRemovable aim done
+  is_made-removable done is = same-removable aim done (is_made-kept done is).untouched
 
   pub is_made-reached : (done : List Event) → IsMade aim done → Reached aim done
   is_made-reached done is = (is_made-kept done is).untouched.reached
 
-  -- what was reached is what is to be shown
+  -- the phase that was reached implies the contract
   pub replaces-reached : {E : Type 0} (makes : List ℕ → Option (List ℕ) → Type 0) (after : Option (List Event)) (now : List Event) (result : Result Made E)
       → IfSome aim.new (λ bytes. IfSome (bytes_at aim.before aim.name) (λ old. makes old (Some bytes)))
       → IfOk result (λ how. how ≡ Made.Same → IfSome (bytes_at aim.before aim.name) (λ old. makes old None))
@@ -95,11 +95,11 @@ module _ (aim : Aim) where
     same = stays;
   }
 
--- a new file may have been made, though that failed
+-- a new file may have been created, though the call failed
 pub replaces-unmade : {E : Type 0} (makes : List ℕ → Option (List ℕ) → Type 0) (events after : Option (List Event)) (name : List ℕ) (backup : Option (List ℕ))
     (original : ℕ) (error : E)
     → IfSome events (λ done. leads done name ≡ Some original)
-    → Does events after (λ done more. (more ≡ []) ⊎ ((temporary : List ℕ) × Creates temporary done more))
+    → Performs events after (λ done more. (more ≡ []) ⊎ ((temporary : List ℕ) × Creates temporary done more))
     → IfSome events (λ before. Replaces makes before after name backup (Failed error))
 replaces-unmade makes None after name backup original error there did = tt
 replaces-unmade makes (Some before) after name backup original error there did =
@@ -109,7 +109,7 @@ replaces-unmade makes (Some before) after name backup original error there did =
   where
     some : (temporary : List ℕ) × Creates temporary before did.0 → Replaces makes before after name backup (Failed error)
     some m =
-        let aim : Aim = record {
+        let aim : Replacement = record {
           before = before;
           name = name;
           temporary = m.0;
@@ -137,7 +137,7 @@ written (Some old) (Some all) new empty appends = ap Some (appends ∙ ap (λ (l
     none : Some old ≡ Some [] → old ≡ []
     none is = cc is
 
--- it doesn't stay the same where its maker says so
+-- the result isn't `Same` unless the maker returned that
 not_same : {S E : Type 0} (P : Type 0) (how_made : Result Made S) (result : Result Made E) → IfOk result (λ how. how_made ≡ Ok how)
     → ¬ (how_made ≡ Ok Made.Same) → IfOk result (λ how. how ≡ Made.Same → P)
 not_same P how_made (Ok how) is never = λ same. absurd (never (is ∙ ap Ok same))
@@ -152,7 +152,7 @@ module _ {E : Type 0} (makes : List ℕ → Option (List ℕ) → Type 0) (after
     (remaining contents contents' : Option (List ℕ)) (result : Result Made E)
     (there : leads before name ≡ Some original) (read : List ℕ) (reads : remaining ≡ Some read)
     (same_read : IfSome (stored before original) (λ bytes. bytes ≡ read)) (m : Creates temporary before more) (empty : contents ≡ Some []) where
-  abbrev aim_of : Option (List ℕ) → Aim
+  abbrev aim_of : Option (List ℕ) → Replacement
   aim_of new = record {
     before = before;
     name = name;
@@ -166,10 +166,10 @@ module _ {E : Type 0} (makes : List ℕ → Option (List ℕ) → Type 0) (after
     there = there;
   }
 
-  -- what the end of the work gives
+  -- the contract of the last step
   abbrev Ends : {S : Type 0} → Result Made S → Type 0
   Ends how_made =
-      (aim : Aim) → aim.name ≡ name → aim.temporary ≡ temporary → aim.backup ≡ backup → aim.original ≡ original
+      (aim : Replacement) → aim.name ≡ name → aim.temporary ≡ temporary → aim.backup ≡ backup → aim.original ≡ original
       → IfOk how_made (λ how. how ≡ Changed → IsWritten aim contents')
       → Runs (Some (more ++ before)) after (IsMade aim) (λ now. MatchResult result (λ how. IsEndOf aim how now) (λ _. Reached aim now))
 
@@ -181,7 +181,7 @@ module _ {E : Type 0} (makes : List ℕ → Option (List ℕ) → Type 0) (after
       let run = ends (aim_of new) refl refl refl refl writes (ap (λ (l : List Event). l ++ before) m.3) in
       replaces-reached (aim_of new) makes after run.0 result makes_it stays run.1 run.2
 
-  -- what the maker says of the bytes that were on the disk
+  -- the maker's contract for the bytes that were on the disk
   did_at : (how : Made) → IfSome remaining (λ old. (text : List ℕ) × Appends contents contents' text × makes old (bytes_made how text))
       → (text : List ℕ) × Appends contents contents' text × IfSome (bytes_at before name) (λ old. makes old (bytes_made how text))
   did_at how did =
@@ -211,10 +211,10 @@ pub replaces-all : {S E : Type 0} (makes : List ℕ → Option (List ℕ) → Ty
     (remaining contents contents' : Option (List ℕ)) (result : Result Made E) (how_made : Result Made S)
     → IfSome events (λ done. (leads done name ≡ Some original)
     × ((read : List ℕ) × (remaining ≡ Some read) × IfSome (stored done original) (λ bytes. bytes ≡ read)))
-    → Does events mid (Creates temporary) → IfSome events (λ _. contents ≡ Some [])
+    → Performs events mid (Creates temporary) → IfSome events (λ _. contents ≡ Some [])
     → IfOk how_made (λ how. IfSome remaining (λ old. (text : List ℕ) × Appends contents contents' text × makes old (bytes_made how text)))
     → IfOk result (λ how. how_made ≡ Ok how)
-    → ((aim : Aim) → aim.name ≡ name → aim.temporary ≡ temporary → aim.backup ≡ backup → aim.original ≡ original
+    → ((aim : Replacement) → aim.name ≡ name → aim.temporary ≡ temporary → aim.backup ≡ backup → aim.original ≡ original
     → IfOk how_made (λ how. how ≡ Changed → IsWritten aim contents')
     → Runs mid after (IsMade aim) (λ now. MatchResult result (λ how. IsEndOf aim how now) (λ _. Reached aim now)))
     → IfSome events (λ before. Replaces makes before after name backup result)

@@ -1,22 +1,22 @@
--- What each call does to the replacement of a file.
+-- The effect of each call on the replacement of a file.
 use Rattle.std.proofs.Common.{◌≡◌, ◌⊎◌, ⊎_elim, ℕ, List, [], ◌∷◌, ◌++◌, refl, sym, ◌∙◌, ap, subst, Option, None, Some, Bool, true, false, Result, Ok, Err}
 use Rattle.std.specs.Prelude.{IfSome}
-use Rattle.restamp_in_place.specs.Replacing.{Event, leads, Does, Stores, Links, Renames, Removes, Syncs}
+use Rattle.restamp_in_place.specs.Replacing.{Event, leads, Performs, Stores, Links, Renames, Removes, Syncs}
 use Rattle.restamp_in_place.specs.Replacing.Event.{Leads, Stored}
-use Rattle.restamp_in_place.specs.Phases.{Aim, IsWritten, Reached, Kept, Ready, Linked, Backed, Loose, LooseBacked, Put, Done, Runs, Goes}
-use Rattle.restamp_in_place.proofs.PhaseLemmas.{ready, linked, backed, put, loose-renamed, loose-linked, same-loose, done-synced, removed}
+use Rattle.restamp_in_place.specs.Phases.{Replacement, IsWritten, Reached, Kept, Ready, Linked, Backed, TempRemovable, BackupRemovable, Put, Installed, Runs, Transitions}
+use Rattle.restamp_in_place.proofs.PhaseLemmas.{ready, linked, backed, put, removable-renamed, removable-linked, same-removable, done-synced, removed}
 
--- a call that was done
+-- a call that succeeded
 pub runs-ok : (before after : Option (List Event)) (fact : List Event → List Event → Type 0) (from onto : List Event → Type 0)
-    → Does before after (λ done more. fact done more ⊎ ((false ≡ true) × (more ≡ []))) →
+    → Performs before after (λ done more. fact done more ⊎ ((false ≡ true) × (more ≡ []))) →
     ((done more : List Event) → from done → fact done more → onto (more ++ done)) → Runs before after from onto
 runs-ok None after fact from onto tries step = tt
 runs-ok (Some done) after fact from onto tries step =
     λ is. (tries.0 ++ done, tries.1, ⊎_elim (λ did. step done tries.0 is did) (λ failed. absurd (cc failed.0)) tries.2)
 
--- one that may have failed
+-- a call that may have failed
 pub runs-any : (before after : Option (List Event)) (P : Type 0) (fact : List Event → List Event → Type 0) (from onto : List Event → Type 0)
-    → Does before after (λ done more. fact done more ⊎ (P × (more ≡ []))) →
+    → Performs before after (λ done more. fact done more ⊎ (P × (more ≡ []))) →
     ((done more : List Event) → from done → fact done more → onto (more ++ done)) → ((done : List Event) → from done → onto done) → Runs before
     after from onto
 runs-any None after P fact from onto tries step stays = tt
@@ -45,7 +45,7 @@ runs-into None after from mid onto runs step = tt
 runs-into (Some done) after from mid onto runs step = λ is. let at = runs is in (at.0, at.1, step at.0 at.2)
 
 pub goes-after : {T E : Type 0} (before between after : Option (List Event)) (result : Result T E) (from mid onto failed : List Event → Type 0)
-    → Runs before between from mid → Goes between after result mid onto failed → Goes before after result from onto failed
+    → Runs before between from mid → Transitions between after result mid onto failed → Transitions before after result from onto failed
 goes-after before between after (Ok value) from mid onto failed first second = runs-then before between after from mid onto first second
 goes-after before between after (Err e) from mid onto failed first second = runs-then before between after from mid failed first second
 
@@ -55,11 +55,11 @@ runs-from None after from mid onto step runs = tt
 runs-from (Some done) after from mid onto step runs = λ is. runs (step done is)
 
 pub goes-into : {T E : Type 0} (before after : Option (List Event)) (result : Result T E) (from onto failed other : List Event → Type 0)
-    → Goes before after result from onto failed → ((done : List Event) → failed done → other done) → Goes before after result from onto other
+    → Transitions before after result from onto failed → ((done : List Event) → failed done → other done) → Transitions before after result from onto other
 goes-into before after (Ok value) from onto failed other goes step = goes
 goes-into before after (Err e) from onto failed other goes step = runs-into before after from failed other goes step
 
-module _ (aim : Aim) where
+module _ (aim : Replacement) where
   same_number : (done : List Event) (name : List ℕ) (a b : ℕ) → leads done name ≡ Some a → leads done name ≡ Some b → a ≡ b
   same_number done name a b p q = unwrapped (sym p ∙ q)
     where
@@ -75,11 +75,11 @@ module _ (aim : Aim) where
       ap (λ (l : List Event). l ++ done) s.4 ∙ ap (λ (n : ℕ). Stored n s.1 ∷ done) number ∙ ap (λ (b : List ℕ). Stored aim.number b ∷ done) bytes in
       subst (Ready aim) (sym all) (ready aim w.0 done k w.2)
 
-  pub ready-loose : (done : List Event) → Ready aim done → Loose aim done
-  ready-loose done r = same-loose aim done r.kept.untouched
+  pub ready-removable : (done : List Event) → Ready aim done → TempRemovable aim done
+  ready-removable done r = same-removable aim done r.kept.untouched
 
-  pub kept-loose : (done : List Event) → Kept aim done → Loose aim done
-  kept-loose done k = same-loose aim done k.untouched
+  pub kept-removable : (done : List Event) → Kept aim done → TempRemovable aim done
+  kept-removable done k = same-removable aim done k.untouched
 
   pub did_link : (name second : List ℕ) → name ≡ aim.name → aim.backup ≡ Some second → (done more : List Event) → Ready aim done → Links name second
       done more → Linked aim (more ++ done)
@@ -89,8 +89,8 @@ module _ (aim : Aim) where
       ap (λ (m : List Event). m ++ done) l.3 ∙ ap (λ (n : ℕ). Leads second (Some n) ∷ done) number in
       subst (Linked aim) (sym all) (linked aim second done r asked l.2)
 
-  pub linked-loose : (done : List Event) → Linked aim done → Loose aim done
-  linked-loose done l = (loose-linked aim done l).loose
+  pub linked-removable : (done : List Event) → Linked aim done → TempRemovable aim done
+  linked-removable done l = (removable-linked aim done l).removable
 
   pub did_sync : (done more : List Event) → Linked aim done → Syncs done more → Backed aim (more ++ done)
   did_sync done more l is = subst (Backed aim) (sym (ap (λ (m : List Event). m ++ done) is)) (backed aim done l)
@@ -108,39 +108,40 @@ module _ (aim : Aim) where
   did_rename name onto from to done more b r = subst (Put aim) (sym (rename_is name onto from to done more b r)) (put aim done b)
 
   pub rename_failed : (name onto : List ℕ) → name ≡ aim.temporary → onto ≡ aim.name → (done more : List Event) → Backed aim done → Renames name onto
-      done more → LooseBacked aim (more ++ done)
-  rename_failed name onto from to done more b r = subst (LooseBacked aim) (sym (rename_is name onto from to done more b r)) (loose-renamed aim done b)
+      done more → BackupRemovable aim (more ++ done)
+  rename_failed name onto from to done more b r = subst (BackupRemovable aim) (sym (rename_is name onto from to done more b r)) (removable-renamed aim done b)
 
-  pub did_remove : (name : List ℕ) → name ≡ aim.temporary → (done more : List Event) → Loose aim done → Removes name done more → Reached aim (more ++ done)
+  pub did_remove : (name : List ℕ) → name ≡ aim.temporary → (done more : List Event) → TempRemovable aim done → Removes name done more
+      → Reached aim (more ++ done)
   did_remove name is done more l r =
       subst (Reached aim) (sym (ap (λ (m : List Event). m ++ done) r ∙ ap (λ (m : List ℕ). Leads m None ∷ done) is)) (removed aim done l)
 
-  pub did_finish : (done more : List Event) → Put aim done → Syncs done more → Done aim (more ++ done)
-  did_finish done more p is = subst (Done aim) (sym (ap (λ (m : List Event). m ++ done) is)) (done-synced aim done p)
+  pub did_finish : (done more : List Event) → Put aim done → Syncs done more → Installed aim (more ++ done)
+  did_finish done more p is = subst (Installed aim) (sym (ap (λ (m : List Event). m ++ done) is)) (done-synced aim done p)
 
   pub finish_failed : (done more : List Event) → Put aim done → Syncs done more → Reached aim (more ++ done)
   finish_failed done more p is = (did_finish done more p is).reached
 
   unbacked : (backup : Option (List ℕ)) (second : List ℕ) (done : List Event) → backup ≡ Some second
-      → IfSome backup (λ second. leads done aim.name ≡ Some aim.original → Loose aim (Leads second None ∷ done)) → leads done aim.name ≡ Some
-      aim.original → Loose aim (Leads second None ∷ done)
+      → IfSome backup (λ second. leads done aim.name ≡ Some aim.original → TempRemovable aim (Leads second None ∷ done)) → leads done aim.name ≡ Some
+      aim.original → TempRemovable aim (Leads second None ∷ done)
   unbacked backup second done is all = subst
-      (λ (b : Option (List ℕ)). IfSome b (λ second. leads done aim.name ≡ Some aim.original → Loose aim (Leads second None ∷ done))) is all
+      (λ (b : Option (List ℕ)). IfSome b (λ second. leads done aim.name ≡ Some aim.original → TempRemovable aim (Leads second None ∷ done))) is all
 
-  -- the backup was taken away, where the name leads to the old file
-  pub take-back : (before after : Option (List Event)) (P : Type 0) (second : List ℕ) → aim.backup ≡ Some second
-      → IfSome before (λ done. leads done aim.name ≡ Some aim.original) → Does before after
-      (λ done more. Removes second done more ⊎ (P × (more ≡ []))) → Runs before after (LooseBacked aim) (Loose aim)
-  take-back None after P second is there tries = tt
-  take-back (Some done) after P second is there tries =
+  -- the backup was removed, while the name is the old file's
+  pub remove-backup : (before after : Option (List Event)) (P : Type 0) (second : List ℕ) → aim.backup ≡ Some second
+      → IfSome before (λ done. leads done aim.name ≡ Some aim.original) → Performs before after
+      (λ done more. Removes second done more ⊎ (P × (more ≡ []))) → Runs before after (BackupRemovable aim) (TempRemovable aim)
+  remove-backup None after P second is there tries = tt
+  remove-backup (Some done) after P second is there tries =
       λ l. (
         tries.0 ++ done,
         tries.1,
-        ⊎_elim (λ did. subst (λ (m : List Event). Loose aim (m ++ done)) (sym did) (unbacked aim.backup second done is l.unbacked there))
-            (λ failed. subst (λ (m : List Event). Loose aim (m ++ done)) (sym failed.1) l.loose) tries.2,
+        ⊎_elim (λ did. subst (λ (m : List Event). TempRemovable aim (m ++ done)) (sym did) (unbacked aim.backup second done is l.unbacked there))
+            (λ failed. subst (λ (m : List Event). TempRemovable aim (m ++ done)) (sym failed.1) l.removable) tries.2,
       )
 
-  -- the name leads to the old file, where it was seen that it does
+  -- the name is the old file's, if a look found it so
   pub known-there : (events : Option (List Event)) (name : List ℕ) (number : ℕ) (is : Bool) → is ≡ true → name ≡ aim.name → number ≡ aim.original
       → IfSome events (λ done. is ≡ true → leads done name ≡ Some number) → IfSome events (λ done. leads done aim.name ≡ Some aim.original)
   known-there None name number is seen same file there = tt

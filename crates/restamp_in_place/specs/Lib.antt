@@ -1,3 +1,3 @@
 pub mod Replacing
 pub mod Phases
-pub mod Telling
+pub mod ReplaceErrors

@@ -1,6 +1,6 @@
 -- No public contract rests on this file.
 --
--- How far the replacement of a file has come.
+-- The phases of a file's replacement.
 use Rattle.std.specs.Prelude.{◌≡◌, ◌++◌, ℕ, List, ◌∷◌, Option, Some, None, IfSome, MatchResult, Result}
 use Rattle.std.specs.Option.{option_map}
 use Rattle.restamp_in_place.specs.declared.lines.Made.{Made}
@@ -9,9 +9,9 @@ use Rattle.restamp_in_place.specs.declared.replacing.Plan.{Plan}
 use Rattle.restamp_in_place.specs.Replacing.{Event, leads, stored, IsFresh, MayLead, IsSafe, IsBackedUp, IsReplaced, IsUntouched, Throughout}
 use Rattle.restamp_in_place.specs.Replacing.Event.{Leads}
 
--- What is to be done: what was done in the folder before, the name of the file, the new one's and the backup's, the
--- numbers of both files, and the new bytes.
-pub record Aim : Type 0 where
+-- The plan: the folder's earlier events, the names of the file, the new file and the backup, the numbers of both files,
+-- and the new bytes.
+pub record Replacement : Type 0 where
   pub before : List Event
   pub name : List ℕ
   pub temporary : List ℕ
@@ -24,38 +24,38 @@ pub record Aim : Type 0 where
   pub there : leads before name ≡ Some original
 
 -- a crash leaves the file safe
-abbrev pub Safe : Aim → List Event → Type 0
+abbrev pub Safe : Replacement → List Event → Type 0
 Safe aim done = IsSafe aim.before aim.name aim.backup aim.new done
 
--- At each moment up to now a crash leaves the file safe.
-pub record Reached (aim : Aim) (done : List Event) : Type 0 where
+-- A crash at any moment up to now leaves the file safe.
+pub record Reached (aim : Replacement) (done : List Event) : Type 0 where
   pub more : List Event
   pub is : done ≡ more ++ aim.before
   pub safe : Throughout aim.before more (Safe aim)
 
--- Nothing was done with the file.
-pub record Same (aim : Aim) (done : List Event) : Type 0 where
+-- The file is untouched.
+pub record Same (aim : Replacement) (done : List Event) : Type 0 where
   pub reached : Reached aim done
   pub same : (file : Option ℕ) → MayLead done aim.name file → MayLead aim.before aim.name file
   pub bytes : (number : ℕ) → ¬ (number ≡ aim.number) → stored done number ≡ stored aim.before number
 
--- Nothing was done with the file, and the new one has a name.
-pub record Kept (aim : Aim) (done : List Event) : Type 0 where
+-- The file is untouched, and the new one has a name.
+pub record Kept (aim : Replacement) (done : List Event) : Type 0 where
   pub untouched : Same aim done
   pub temporary : leads done aim.temporary ≡ Some aim.number
   pub still : leads done aim.name ≡ leads aim.before aim.name
   pub others : (other : List ℕ) → ¬ (other ≡ aim.temporary) → ¬ (other ≡ aim.name) → ¬ (aim.backup ≡ Some other)
       → leads done other ≡ leads aim.before other
 
--- The same, and the new file is on the disk.
-pub record Ready (aim : Aim) (done : List Event) : Type 0 where
+-- The file is untouched, and the new one is on the disk.
+pub record Ready (aim : Replacement) (done : List Event) : Type 0 where
   pub kept : Kept aim done
   pub bytes : List ℕ
   pub new : aim.new ≡ Some bytes
   pub whole : stored done aim.number ≡ Some bytes
 
--- The same, and the backup's name leads to the old file.
-pub record Linked (aim : Aim) (done : List Event) : Type 0 where
+-- The file is untouched, the new one is on the disk, and the backup's name is the old file's.
+pub record Linked (aim : Replacement) (done : List Event) : Type 0 where
   pub ready : Ready aim done
   pub second : List ℕ
   pub is : aim.backup ≡ Some second
@@ -64,29 +64,29 @@ pub record Linked (aim : Aim) (done : List Event) : Type 0 where
   pub beside : ¬ (second ≡ aim.name)
 
 -- the backup is on the disk
-pub record HasBackup (aim : Aim) (done : List Event) (second : List ℕ) : Type 0 where
+pub record HasBackup (aim : Replacement) (done : List Event) (second : List ℕ) : Type 0 where
   pub apart : ¬ (second ≡ aim.temporary)
   pub beside : ¬ (second ≡ aim.name)
   pub backed : IsBackedUp aim.before done aim.name second
 
--- The new file is on the disk, and so is the backup where one is asked for.
-pub record Backed (aim : Aim) (done : List Event) : Type 0 where
+-- The new file is on the disk, and so is the backup if one is requested.
+pub record Backed (aim : Replacement) (done : List Event) : Type 0 where
   pub ready : Ready aim done
   pub backed : IfSome aim.backup (HasBackup aim done)
 
--- The new file's own name may be taken away.
-pub record Loose (aim : Aim) (done : List Event) : Type 0 where
+-- The new file's own name may be removed.
+pub record TempRemovable (aim : Replacement) (done : List Event) : Type 0 where
   pub reached : Reached aim done
   pub safe : Safe aim (Leads aim.temporary None ∷ done)
 
--- The backup's may be, too, while the name leads to the old file.
-pub record LooseBacked (aim : Aim) (done : List Event) : Type 0 where
-  pub loose : Loose aim done
+-- The backup's name may be removed, too, while the name is the old file's.
+pub record BackupRemovable (aim : Replacement) (done : List Event) : Type 0 where
+  pub removable : TempRemovable aim done
   pub unbacked : IfSome aim.backup (λ second.
-      leads done aim.name ≡ Some aim.original → Loose aim (Leads second None ∷ done))
+      leads done aim.name ≡ Some aim.original → TempRemovable aim (Leads second None ∷ done))
 
 -- The new file is in its place.
-pub record Put (aim : Aim) (done : List Event) : Type 0 where
+pub record Put (aim : Replacement) (done : List Event) : Type 0 where
   pub reached : Reached aim done
   pub is : leads done aim.name ≡ Some aim.number
   pub bytes : List ℕ
@@ -97,37 +97,37 @@ pub record Put (aim : Aim) (done : List Event) : Type 0 where
       → leads done other ≡ leads aim.before other
 
 -- The new file is in its place, also on the disk.
-pub record Done (aim : Aim) (done : List Event) : Type 0 where
+pub record Installed (aim : Replacement) (done : List Event) : Type 0 where
   pub reached : Reached aim done
   pub replaced : IsReplaced aim.before done aim.name aim.backup aim.new
 
--- the plan has that aim
-pub record IsPlanOf (aim : Aim) (plan : Plan) : Type 0 where
+-- the plan matches a value of `Plan`
+pub record IsPlanOf (aim : Replacement) (plan : Plan) : Type 0 where
   pub name : plan.name.now ≡ aim.name
   pub temporary : plan.temporary.now ≡ aim.temporary
   pub backup : option_map (λ second. second.now) plan.backup ≡ aim.backup
   pub original : plan.original.number ≡ aim.original
 
 -- those bytes were written
-abbrev pub IsWritten : Aim → Option (List ℕ) → Type 0
+abbrev pub IsWritten : Replacement → Option (List ℕ) → Type 0
 IsWritten aim known = (bytes : List ℕ) × (known ≡ Some bytes) × (aim.new ≡ Some bytes)
 
--- the new file was made, and that is all
-abbrev pub IsMade : Aim → List Event → Type 0
+-- the new file was created, and nothing else was done
+abbrev pub IsMade : Replacement → List Event → Type 0
 IsMade aim done = done ≡ Leads aim.temporary (Some aim.number) ∷ aim.before
 
--- how it ends with a file that changed, and with one that stays the same
-abbrev pub IsEndOf : Aim → Made → List Event → Type 0
-IsEndOf aim Changed done = Done aim done
+-- the last phase for a file that changed, and for one that is unchanged
+abbrev pub IsEndOf : Replacement → Made → List Event → Type 0
+IsEndOf aim Changed done = Installed aim done
 IsEndOf aim Made.Same done = Reached aim done × IsUntouched aim.before done
 
--- From there it comes there.
+-- A call leads from one phase to another.
 abbrev pub Runs : Option (List Event) → Option (List Event) → (List Event → Type 0) → (List Event → Type 0) → Type 0
 Runs before after from onto =
     IfSome before (λ done. from done → (now : List Event) × (after ≡ Some now) × onto now)
 
--- From there it comes there, or where it fails there.
-abbrev pub Goes : {T E : Type 0} → Option (List Event) → Option (List Event) → Result T E
+-- A call leads from one phase to another, or to a third if it fails.
+abbrev pub Transitions : {T E : Type 0} → Option (List Event) → Option (List Event) → Result T E
     → (List Event → Type 0) → (List Event → Type 0) → (List Event → Type 0) → Type 0
-Goes before after result from onto failed =
+Transitions before after result from onto failed =
     Runs before after from (λ now. MatchResult result (λ _. onto now) (λ _. failed now))

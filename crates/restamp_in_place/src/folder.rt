@@ -1,38 +1,38 @@
-//! A folder, by the calls that the replacement of a file in it takes.
+//! The calls to a folder that the replacement of a file needs.
 ghost use Rattle.std.specs.Prelude.{◌≡◌, ℕ, List, [], Option, Some, IfErr, IfOk, IfSome, true};
 ghost use Rattle.std.specs.IoError.{error_kind};
 ghost use Rattle.std.specs.declared.io.Error.{Error};
 ghost use Rattle.restamp_in_place.specs.Replacing.{Event, leads, stored, Tries, Creates, Stores, Links, Renames, Removes, Syncs};
 
-use programs_streams::{Counted, Sink, Source};
+use byte_streams::{Counted, Sink, Source};
 use std::io;
 use std::io::ErrorKind;
 
-/// A file as it was when it was opened.
+/// The state of a file when it was opened.
 #[derive(Clone, Copy, Debug, PartialEq, Eq)]
 pub struct Original {
-    /// Its number in the folder's file system.
+    /// The file's number in its file system.
     pub number: u64,
-    /// The number of that file system.
+    /// The number of the file system.
     pub device: u64,
-    /// How many bytes it has.
+    /// The length in bytes.
     pub length: u64,
-    /// When it was last written, in seconds since 1970, and how many nanoseconds after that.
+    /// The last write, in seconds and nanoseconds since 1970.
     pub written: (i64, i64),
-    /// Who may read and write it.
+    /// The permissions.
     pub mode: u32,
-    /// The number of its owner.
+    /// The owner's number.
     pub owner: u32,
-    /// The number of its group.
+    /// The group's number.
     pub group: u32,
 }
 
-/// A writer that keeps why a write failed.
+/// A writer that keeps the error of a failed write.
 pub trait Failing {
-    // The error of the last write that failed, if one has.
+    // The error of the last failed write, if there is one.
     ghost failure: { Self → Option Error };
 
-    /// The error of the last write that failed, if one has. The writer is let go.
+    /// Returns the error of the last failed write, if there is one, and drops the writer.
     fn into_failure(self) -> Option<io::Error>
         ensures { result ≡ failure self };
 }
@@ -46,56 +46,56 @@ impl<W: Drop> Failing for Counted<W> {
     }
 }
 
-/// A folder. Each call does one thing in it, and one that fails has done it or nothing.
+/// A folder. Each call does one thing in it; a call that fails has done it or nothing.
 ///
-/// What is known of a folder is what was done in it so far, the last first (`events`), or nothing: so of files on a disk,
-/// of which these contracts are what is taken to be true.
+/// `events` lists what was done in the folder, the last event first; it is `None` for files on a disk, where the
+/// contracts state what is assumed of them.
 pub trait Folder {
     /// A file that is read.
     type Old: Source + Drop;
 
-    /// A new file, which is written. Until it is stored, a crash may leave any bytes in it.
+    /// A new file, which is written. A crash may leave any bytes in it until it is stored.
     type New: Sink + Failing + Drop;
 
-    // What was done in the folder so far, the last first, where it is known.
+    // What was done in the folder, the last event first, if it is known.
     ghost events: { Self → Option (List Event) };
 
-    /// Opens a file that is to be replaced. Refuses what isn't a file with one name.
+    /// Opens a file that is to be replaced. Rejects all but files with a single name.
     fn open(&self, name: &str) -> io::Result<(Self::Old, Original)>
         ensures { IfOk result (λ opened. IfSome (events self.now) (λ done.
             (leads done name.now ≡ Some opened.1.number)
             × ((read : List ℕ) × (Self.Old.remaining opened.0 ≡ Some read)
             × IfSome (stored done opened.1.number) (λ bytes. bytes ≡ read)))) };
 
-    /// Whether a name leads to that file, which is as it was when it was opened.
+    /// Whether the name is still that file's, and the file hasn't changed since it was opened.
     fn is_at(&self, name: &str, original: &Original) -> io::Result<bool>
         ensures { IfOk result (λ is. IfSome (events self.now) (λ done.
             is ≡ true → leads done name.now ≡ Some original.now.number)) };
 
-    /// Makes a new file under a name that nothing has, which no other user may read.
+    /// Creates a file under an unused name, readable by no other user.
     fn create(&mut self, name: &str) -> io::Result<Self::New>
         ensures made { Tries (events self.old) (events self.new) result (Creates name.now) }
         ensures taken { IfErr result (λ e. error_kind e ≡ ErrorKind.AlreadyExists → events self.new ≡ events self.old) }
         ensures empty { IfOk result (λ new. IfSome (events self.old) (λ _. Self.New.contents new ≡ Some [])) };
 
-    /// Puts what was written to the new file of that name on the disk, with the mode of the old file, and its owner where
-    /// that may be set. No more is written to it.
+    /// Writes the bytes of the new file of that name to the disk, with the mode of the old file, and its owner where
+    /// that may be set. The new file takes no more writes.
     fn store(&mut self, name: &str, new: Self::New, original: &Original) -> io::Result<()>
         ensures { Tries (events self.old) (events self.new) result (Stores name.now (Self.New.contents new)) };
 
-    /// Gives a file a second name, which nothing has.
+    /// Gives a file a second name, which must be unused.
     fn link(&mut self, name: &str, second: &str) -> io::Result<()>
         ensures { Tries (events self.old) (events self.new) result (Links name.now second.now) };
 
-    /// Gives the file of a name another name in place of it. Where that name led to a file, it doesn't any more.
+    /// Renames a file. If the other name was in use, its old file loses that name.
     fn rename(&mut self, name: &str, onto: &str) -> io::Result<()>
         ensures { Tries (events self.old) (events self.new) result (Renames name.now onto.now) };
 
-    /// Takes a name away.
+    /// Removes a name.
     fn remove(&mut self, name: &str) -> io::Result<()>
         ensures { Tries (events self.old) (events self.new) result (Removes name.now) };
 
-    /// Puts on the disk where the names lead.
+    /// Writes the names of the folder to the disk.
     fn sync(&mut self) -> io::Result<()>
         ensures { Tries (events self.old) (events self.new) result Syncs };
 }

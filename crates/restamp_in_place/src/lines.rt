@@ -1,40 +1,40 @@
-//! The lines of a file, and what makes its new bytes from the old.
+//! Makes the new bytes of a file from its lines.
 ghost use Rattle.std.specs.Io.KnownBytes.{Appends};
 ghost use Rattle.std.specs.Prelude.{List, ℕ, IfOk, IfSome, Option, ◌≡◌, OnOk};
 ghost use Rattle.restamp_in_place.specs.Replacing.{made_of};
-ghost use Rattle.restamp_stream.specs.Streams.{job_of, state, DidAll};
+ghost use Rattle.restamp_stream.specs.Streams.{job_of, state, ProcessedAll};
 ghost use Rattle.restamp_stream.specs.Reports.{nothing_counted};
 
-use programs_streams::{Sink, Source};
+use byte_streams::{Sink, Source};
 use restamp_stream::{Block, Rewriting, Settings, Stop, Stream, Tally};
 
 /// Whether a file is to be replaced.
 #[derive(Clone, Copy, Debug, PartialEq, Eq)]
 pub enum Made {
-    /// It is.
+    /// It is replaced.
     Changed,
-    /// It stays as it is, whatever was written.
+    /// It is unchanged, whatever was written.
     Same,
 }
 
-/// What makes the new bytes of a file from the old, or finds that the file stays as it is.
-pub trait Making: Drop {
+/// Makes the new bytes of a file from the old ones, or finds that the file needs no change.
+pub trait FileTransform: Drop {
     ghost use Rattle.restamp_in_place.specs.Replacing.{bytes_made};
 
-    /// Why nothing was made.
+    /// Why no new bytes were made.
     type Stop: Drop;
 
-    // From the one to the other it made the new bytes from the old, or none.
+    // The new bytes that it made from the old ones, or none, by its states before and after.
     ghost makes: { Self → Self → List ℕ → Option (List ℕ) → Type 0 };
 
-    /// Reads the old bytes to their end, and writes the new ones, or something where there are none. The writer is given
-    /// back.
+    /// Reads the old bytes to their end, and writes the new ones, or anything if there are none. Returns the
+    /// writer.
     fn make<R: Source, W: Sink>(self, input: &mut R, out: W) -> (Self, W, Result<Made, Self::Stop>)
         ensures { IfOk result.2 (λ made. IfSome (R.remaining input.old) (λ old.
             (text : List ℕ) × Appends (W.contents out) (W.contents result.1) text × makes self result.0 old (bytes_made made text))) };
 }
 
-/// The lines of a file, which make its new bytes by what becomes of them.
+/// Makes the new bytes of a file by processing its lines.
 #[derive(Drop)]
 pub(crate) struct Lines<'a, T, L: Drop> {
     pub(crate) rewriting: &'a T,
@@ -42,13 +42,13 @@ pub(crate) struct Lines<'a, T, L: Drop> {
     /// The file's name, for reports.
     pub(crate) name: &'a [u8],
     pub(crate) block: &'a mut Block,
-    /// The reports.
+    /// The log of reports.
     pub(crate) log: L,
     /// The counts of the file's lines.
     pub(crate) tally: Tally,
 }
 
-// Whether a file of those counts is to be replaced: where a time of it was rewritten.
+// Whether a file with those counts is to be replaced: if one of its timestamps was rewritten.
 fn made_of(tally: &Tally) -> Made
     ensures { result ≡ made_of tally.now }
 {
@@ -60,10 +60,10 @@ fn made_of(tally: &Tally) -> Made
 }
 
 impl<T: Rewriting, L: Sink + Drop> Lines<'_, T, L> {
-    // Answers all lines of the old bytes, and writes what they become.
+    // Processes all lines of the old bytes, and writes the output.
     fn answer<R: Source, W: Sink>(self, input: &mut R, out: W) -> (Self, W, Result<(), Stop>)
         ensures { OnOk result.2 (IfSome (R.remaining input.old)
-            (DidAll (job_of (T.is_fate self.entry.rewriting.now) (T.is_reason self.entry.rewriting.now) self.entry.name.now self.entry.settings)
+            (ProcessedAll (job_of (T.is_fate self.entry.rewriting.now) (T.is_reason self.entry.rewriting.now) self.entry.name.now self.entry.settings)
             (state (W.contents out) (L.contents self.entry.log) nothing_counted)
             (state (W.contents result.1) (L.contents result.0.log) result.0.tally))) }
     {
@@ -90,7 +90,7 @@ impl<T: Rewriting, L: Sink + Drop> Lines<'_, T, L> {
     }
 }
 
-impl<T: Rewriting, L: Sink + Drop> Making for Lines<'_, T, L> {
+impl<T: Rewriting, L: Sink + Drop> FileTransform for Lines<'_, T, L> {
     ghost use Rattle.restamp_in_place.specs.Replacing.{Makes};
     ghost use Rattle.restamp_stream.specs.Streams.{job_of};
 

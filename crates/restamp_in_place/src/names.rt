@@ -6,7 +6,7 @@ use std::alloc::Global;
 use std::io;
 use std::io::ErrorKind;
 
-// Whether a `*` stands in a text.
+// Whether a text has a `*`.
 fn has_star(text: &[u8]) -> bool
     ensures { result ≡ spec.has_star text.now }
 {
@@ -20,7 +20,7 @@ fn has_star(text: &[u8]) -> bool
     false
 }
 
-// The text with the name for each `*` in it.
+// The text with the name for each `*`.
 fn with_name(alloc: Global, name: &[u8], text: &[u8]) -> io::Result<Vec<u8>>
     ensures { IfOk result (λ bytes. bytes.items ≡ spec.with_name name.now text.now) }
 {
@@ -37,8 +37,8 @@ fn with_name(alloc: Global, name: &[u8], text: &[u8]) -> io::Result<Vec<u8>>
     Ok(bytes)
 }
 
-/// The name of the backup of a file: its name and the suffix; or, where a `*` stands in the suffix, that with the name for
-/// each `*`.
+/// The name of the backup of a file: the suffix with the name for each `*`; without a `*`, the name followed by the
+/// suffix.
 ///
 /// # Errors
 ///

@@ -1,12 +1,12 @@
-//! Replaces a file by what a maker makes of it.
+//! Replaces a file by the bytes that a `FileTransform` makes of it.
 ghost use Rattle.std.specs.Option.{option_map};
 ghost use Rattle.std.specs.Prelude.{◌≡◌, ◌⊎◌, ◌∷◌, ℕ, List, [], Some, Ok, IfOk, IfSome, OnErr, MatchResult, string_bytes};
-ghost use Rattle.restamp_in_place.specs.Replacing.{Event, Does, Creates, Replaces};
-ghost use Rattle.restamp_in_place.specs.Phases.{Aim, IsPlanOf, IsWritten, Kept, Ready, Linked, Backed, Loose, LooseBacked, Put, Done, Reached, IsMade, IsEndOf, Runs, Goes};
+ghost use Rattle.restamp_in_place.specs.Replacing.{Event, Performs, Creates, Replaces};
+ghost use Rattle.restamp_in_place.specs.Phases.{Replacement, IsPlanOf, IsWritten, Kept, Ready, Linked, Backed, TempRemovable, BackupRemovable, Put, Installed, Reached, IsMade, IsEndOf, Runs, Transitions};
 
 use crate::folder::{Failing, Folder, Original};
-use crate::lines::{Made, Making};
-use crate::telling::{Step, Unreplaced};
+use crate::lines::{FileTransform, Made};
+use crate::replace_errors::{Step, Unreplaced};
 use std::alloc::Global;
 use std::io;
 use std::io::ErrorKind;
@@ -14,7 +14,7 @@ use std::io::ErrorKind;
 // How many names are tried for a new file.
 const TRIES: u32 = 1000;
 
-// A file that is to be replaced, and the names of the new one and of the backup beside it.
+// A file that is to be replaced, and the names of the new file and of the backup.
 #[derive(Clone, Copy)]
 pub(crate) struct Plan<'a> {
     name: &'a str,
@@ -23,22 +23,22 @@ pub(crate) struct Plan<'a> {
     original: Original,
 }
 
-// Why a file was not replaced by a new one that was made.
+// Why a new file didn't replace the old one.
 #[derive(Drop)]
-enum Unput {
+enum InstallError {
     Changed,
     Failed(Step, io::Error),
 }
 
-// A new file beside a file, and its name, which nothing had.
+// Creates a file beside a file, under an unused name.
 fn create_beside<F: Folder>(
     folder: &mut F,
     alloc: Global,
     name: &str,
 ) -> io::Result<(String, F::New)>
-    ensures made { IfOk result (λ made. Does (F.events folder.old) (F.events folder.new) (Creates (string_bytes made.0))) }
+    ensures made { IfOk result (λ made. Performs (F.events folder.old) (F.events folder.new) (Creates (string_bytes made.0))) }
     ensures empty { IfOk result (λ made. IfSome (F.events folder.old) (λ _. F.New.contents made.1 ≡ Some [])) }
-    ensures failed { OnErr result (Does (F.events folder.old) (F.events folder.new) (λ done more.
+    ensures failed { OnErr result (Performs (F.events folder.old) (F.events folder.new) (λ done more.
         (more ≡ []) ⊎ ((temporary : List ℕ) × Creates temporary done more))) }
 {
     for number in 0..TRIES {
@@ -52,49 +52,49 @@ fn create_beside<F: Folder>(
     Err(io::Error::from(ErrorKind::AlreadyExists))
 }
 
-// Puts the new file on the disk. Where the old one isn't what it was, it is not to be replaced.
-fn prepare<F: Folder>(folder: &mut F, plan: &Plan<'_>, new: F::New) -> Result<(), Unput>
-    ensures { (aim : Aim) → IsPlanOf aim plan.now → IsWritten aim (F.New.contents new)
-        → Goes (F.events folder.old) (F.events folder.new) result (Kept aim) (Ready aim) (Loose aim) }
+// Writes the new file to the disk. An error if another program changed the old one.
+fn prepare<F: Folder>(folder: &mut F, plan: &Plan<'_>, new: F::New) -> Result<(), InstallError>
+    ensures { (aim : Replacement) → IsPlanOf aim plan.now → IsWritten aim (F.New.contents new)
+        → Transitions (F.events folder.old) (F.events folder.new) result (Kept aim) (Ready aim) (TempRemovable aim) }
 {
     match folder.store(plan.temporary, new, &plan.original) {
         Ok(()) => {}
-        Err(e) => return Err(Unput::Failed(Step::Store, e)),
+        Err(e) => return Err(InstallError::Failed(Step::Store, e)),
     }
     match folder.is_at(plan.name, &plan.original) {
         Ok(true) => Ok(()),
-        Ok(false) => Err(Unput::Changed),
-        Err(e) => Err(Unput::Failed(Step::Look, e)),
+        Ok(false) => Err(InstallError::Changed),
+        Err(e) => Err(InstallError::Failed(Step::Look, e)),
     }
 }
 
-// Puts the new file in the place of the old one.
-fn rename<F: Folder>(folder: &mut F, plan: &Plan<'_>) -> Result<(), Unput>
-    ensures { (aim : Aim) → IsPlanOf aim plan.now
-        → Goes (F.events folder.old) (F.events folder.new) result (Backed aim) (Put aim) (LooseBacked aim) }
+// Renames the new file to the old one's name.
+fn rename<F: Folder>(folder: &mut F, plan: &Plan<'_>) -> Result<(), InstallError>
+    ensures { (aim : Replacement) → IsPlanOf aim plan.now
+        → Transitions (F.events folder.old) (F.events folder.new) result (Backed aim) (Put aim) (BackupRemovable aim) }
 {
     match folder.rename(plan.temporary, plan.name) {
         Ok(()) => Ok(()),
-        Err(e) => Err(Unput::Failed(Step::Rename, e)),
+        Err(e) => Err(InstallError::Failed(Step::Rename, e)),
     }
 }
 
-// The same, once the second name of the old file is on the disk.
-fn rename_linked<F: Folder>(folder: &mut F, plan: &Plan<'_>) -> Result<(), Unput>
-    ensures { (aim : Aim) → IsPlanOf aim plan.now
-        → Goes (F.events folder.old) (F.events folder.new) result (Linked aim) (Put aim) (LooseBacked aim) }
+// Writes the second name of the old file to the disk, then renames the new file.
+fn rename_linked<F: Folder>(folder: &mut F, plan: &Plan<'_>) -> Result<(), InstallError>
+    ensures { (aim : Replacement) → IsPlanOf aim plan.now
+        → Transitions (F.events folder.old) (F.events folder.new) result (Linked aim) (Put aim) (BackupRemovable aim) }
 {
     match folder.sync() {
         Ok(()) => {}
-        Err(e) => return Err(Unput::Failed(Step::BackUp, e)),
+        Err(e) => return Err(InstallError::Failed(Step::BackUp, e)),
     }
     rename(folder, plan)
 }
 
-// Takes the backup away again, where the name leads to the old file.
-fn take_back<F: Folder>(folder: &mut F, plan: &Plan<'_>, backup: &str)
-    ensures { (aim : Aim) → IsPlanOf aim plan.now → aim.backup ≡ Some backup.now
-        → IfSome (F.events folder.old) (λ done. LooseBacked aim done → (now : List Event) × (F.events folder.new ≡ Some now) × Loose aim now) }
+// Removes the backup again, if the name is still the old file's.
+fn remove_backup<F: Folder>(folder: &mut F, plan: &Plan<'_>, backup: &str)
+    ensures { (aim : Replacement) → IsPlanOf aim plan.now → aim.backup ≡ Some backup.now
+        → IfSome (F.events folder.old) (λ done. BackupRemovable aim done → (now : List Event) × (F.events folder.new ≡ Some now) × TempRemovable aim now) }
 {
     let Ok(true) = folder.is_at(plan.name, &plan.original) else {
         return;
@@ -102,28 +102,32 @@ fn take_back<F: Folder>(folder: &mut F, plan: &Plan<'_>, backup: &str)
     let _ = folder.remove(backup);
 }
 
-// The same, and before it the old file gets its second name.
-fn rename_backed<F: Folder>(folder: &mut F, plan: &Plan<'_>, backup: &str) -> Result<(), Unput>
-    ensures { (aim : Aim) → IsPlanOf aim plan.now → aim.backup ≡ Some backup.now
-        → Goes (F.events folder.old) (F.events folder.new) result (Ready aim) (Put aim) (Loose aim) }
+// Gives the old file its second name, then renames the new file.
+fn rename_backed<F: Folder>(
+    folder: &mut F,
+    plan: &Plan<'_>,
+    backup: &str,
+) -> Result<(), InstallError>
+    ensures { (aim : Replacement) → IsPlanOf aim plan.now → aim.backup ≡ Some backup.now
+        → Transitions (F.events folder.old) (F.events folder.new) result (Ready aim) (Put aim) (TempRemovable aim) }
 {
     match folder.link(plan.name, backup) {
         Ok(()) => {}
-        Err(e) => return Err(Unput::Failed(Step::BackUp, e)),
+        Err(e) => return Err(InstallError::Failed(Step::BackUp, e)),
     }
     match rename_linked(folder, plan) {
         Ok(()) => Ok(()),
         Err(unput) => {
-            take_back(folder, plan, backup);
+            remove_backup(folder, plan, backup);
             Err(unput)
         }
     }
 }
 
-// Puts the new file in the place of the old one, which gets its backup first where one is asked for.
-fn install<F: Folder>(folder: &mut F, plan: &Plan<'_>, new: F::New) -> Result<(), Unput>
-    ensures { (aim : Aim) → IsPlanOf aim plan.now → IsWritten aim (F.New.contents new)
-        → Goes (F.events folder.old) (F.events folder.new) result (Kept aim) (Put aim) (Loose aim) }
+// Renames the new file to the old one's name, after the old one got its backup if one is requested.
+fn install<F: Folder>(folder: &mut F, plan: &Plan<'_>, new: F::New) -> Result<(), InstallError>
+    ensures { (aim : Replacement) → IsPlanOf aim plan.now → IsWritten aim (F.New.contents new)
+        → Transitions (F.events folder.old) (F.events folder.new) result (Kept aim) (Put aim) (TempRemovable aim) }
 {
     match prepare(folder, plan, new) {
         Ok(()) => {}
@@ -135,20 +139,20 @@ fn install<F: Folder>(folder: &mut F, plan: &Plan<'_>, new: F::New) -> Result<()
     }
 }
 
-// Puts the folder on the disk, in which the new file is in its place.
-fn settle<F: Folder>(disk: &mut F) -> Result<(), Unput>
-    ensures { (aim : Aim) → Goes (F.events disk.old) (F.events disk.new) result (Put aim) (Done aim) (Reached aim) }
+// Writes the folder to the disk, with the new file in place.
+fn sync_folder<F: Folder>(disk: &mut F) -> Result<(), InstallError>
+    ensures { (aim : Replacement) → Transitions (F.events disk.old) (F.events disk.new) result (Put aim) (Installed aim) (Reached aim) }
 {
     match disk.sync() {
         Ok(()) => Ok(()),
-        Err(e) => Err(Unput::Failed(Step::Sync, e)),
+        Err(e) => Err(InstallError::Failed(Step::Sync, e)),
     }
 }
 
-// The same, and puts the folder on the disk. Where the new file doesn't take its place, it is removed.
-fn put<F: Folder>(folder: &mut F, plan: &Plan<'_>, new: F::New) -> Result<(), Unput>
-    ensures { (aim : Aim) → IsPlanOf aim plan.now → IsWritten aim (F.New.contents new)
-        → Goes (F.events folder.old) (F.events folder.new) result (Kept aim) (Done aim) (Reached aim) }
+// Installs the new file, and writes the folder to the disk. Removes the new file if it can't be installed.
+fn put<F: Folder>(folder: &mut F, plan: &Plan<'_>, new: F::New) -> Result<(), InstallError>
+    ensures { (aim : Replacement) → IsPlanOf aim plan.now → IsWritten aim (F.New.contents new)
+        → Transitions (F.events folder.old) (F.events folder.new) result (Kept aim) (Installed aim) (Reached aim) }
 {
     match install(folder, plan, new) {
         Ok(()) => {}
@@ -157,30 +161,30 @@ fn put<F: Folder>(folder: &mut F, plan: &Plan<'_>, new: F::New) -> Result<(), Un
             return Err(unput);
         }
     }
-    settle(folder)
+    sync_folder(folder)
 }
 
-// The same, of a file whose new bytes were made.
+// Installs the new file, after its bytes were made.
 fn finish_changed<F: Folder, S: Drop>(
     folder: &mut F,
     plan: &Plan<'_>,
     new: F::New,
 ) -> Result<Made, Unreplaced<S>>
-    ensures ends { (aim : Aim) → IsPlanOf aim plan.now → IsWritten aim (F.New.contents new)
+    ensures ends { (aim : Replacement) → IsPlanOf aim plan.now → IsWritten aim (F.New.contents new)
         → Runs (F.events folder.old) (F.events folder.new) (IsMade aim)
         (λ now. MatchResult result (λ how. IsEndOf aim how now) (λ _. Reached aim now)) }
     ensures how { IfOk result (λ how. how ≡ Made.Changed) }
 {
     match put(folder, plan, new) {
         Ok(()) => Ok(Made::Changed),
-        Err(Unput::Changed) => Err(Unreplaced::Changed),
-        Err(Unput::Failed(step, error)) => Err(Unreplaced::Failed(step, error)),
+        Err(InstallError::Changed) => Err(Unreplaced::Changed),
+        Err(InstallError::Failed(step, error)) => Err(Unreplaced::Failed(step, error)),
     }
 }
 
 // Removes the new file, which isn't needed.
 fn finish_same<F: Folder, S: Drop>(folder: &mut F, plan: &Plan<'_>) -> Result<Made, Unreplaced<S>>
-    ensures ends { (aim : Aim) → IsPlanOf aim plan.now
+    ensures ends { (aim : Replacement) → IsPlanOf aim plan.now
         → Runs (F.events folder.old) (F.events folder.new) (IsMade aim)
         (λ now. MatchResult result (λ how. IsEndOf aim how now) (λ _. Reached aim now)) }
     ensures how { IfOk result (λ how. how ≡ Made.Same) }
@@ -191,14 +195,14 @@ fn finish_same<F: Folder, S: Drop>(folder: &mut F, plan: &Plan<'_>) -> Result<Ma
     }
 }
 
-// Removes the new file, whose bytes were not made: a write failed, or the maker stopped.
+// Removes the new file, whose bytes were not made: a write failed, or the `FileTransform` stopped.
 fn abandon<F: Folder, S: Drop>(
     folder: &mut F,
     plan: &Plan<'_>,
     failure: Option<io::Error>,
     stop: S,
 ) -> Unreplaced<S>
-    ensures { (aim : Aim) → IsPlanOf aim plan.now
+    ensures { (aim : Replacement) → IsPlanOf aim plan.now
         → Runs (F.events folder.old) (F.events folder.new) (IsMade aim) (Reached aim) }
 {
     let _ = folder.remove(plan.temporary);
@@ -208,14 +212,14 @@ fn abandon<F: Folder, S: Drop>(
     }
 }
 
-// Does with the new file what its making asks for.
+// Installs or removes the new file, by the result of its making.
 fn finish<F: Folder, S: Drop>(
     folder: &mut F,
     plan: &Plan<'_>,
     new: F::New,
     made: Result<Made, S>,
 ) -> Result<Made, Unreplaced<S>>
-    ensures ends { (aim : Aim) → IsPlanOf aim plan.now
+    ensures ends { (aim : Replacement) → IsPlanOf aim plan.now
         → IfOk made (λ how. how ≡ Made.Changed → IsWritten aim (F.New.contents new))
         → Runs (F.events folder.old) (F.events folder.new) (IsMade aim)
         (λ now. MatchResult result (λ how. IsEndOf aim how now) (λ _. Reached aim now)) }
@@ -234,15 +238,15 @@ fn finish<F: Folder, S: Drop>(
     }
 }
 
-/// Replaces the file of that name by what the maker makes of its bytes, and gives the maker back.
+/// Replaces the file of that name by what `maker` makes of its bytes. Returns the maker.
 ///
-/// The new bytes go to a new file beside it, which is put on the disk and then takes its place. With the name of a backup
-/// the old file has that one from then on. It stays as it is where the maker says so, where another program replaced or
-/// wrote it meanwhile, and where anything fails: then the new file is removed, unless that fails, too. Where only the
-/// folder could not be put on the disk afterwards, the new file is in its place and the answer an error.
+/// It writes the new bytes to a new file beside the old one, stores that on the disk, and renames it. If a backup's name
+/// is given, the old file has that name from then on. The old file is unchanged if the maker returns `Same`, if another
+/// program replaced or wrote it meanwhile, and if anything fails: then the new file is removed, unless that fails too.
+/// If only the last write of the folder to the disk fails, the new file is in place, and the result is an error.
 ///
-/// At each moment, whatever a crash leaves under the name, it might have left before, or it is the new file, whole.
-pub fn replace<F: Folder, M: Making>(
+/// A crash at any moment leaves what it might have left before under the name, or the whole new file.
+pub fn replace<F: Folder, M: FileTransform>(
     folder: &mut F,
     alloc: Global,
     name: &str,

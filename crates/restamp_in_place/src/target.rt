@@ -1,4 +1,4 @@
-//! Replaces a file by what its lines become.
+//! Replaces a file by its processed lines.
 ghost use Rattle.std.specs.Option.{option_map};
 ghost use Rattle.std.specs.Prelude.{IfSome};
 ghost use Rattle.restamp_in_place.specs.Replacing.{Makes, Replaces};
@@ -6,9 +6,9 @@ ghost use Rattle.restamp_stream.specs.Streams.{job_of};
 
 use crate::folder::Folder;
 use crate::lines::{Lines, Made};
+use crate::replace_errors::Unreplaced;
 use crate::replacing::replace;
-use crate::telling::Unreplaced;
-use programs_streams::Sink;
+use byte_streams::Sink;
 use restamp_stream::{Block, Rewriting, Settings, Stop, Tally};
 use std::alloc::Global;
 
@@ -17,17 +17,17 @@ use std::alloc::Global;
 pub struct Target<'a> {
     /// Its name in its folder.
     pub name: &'a str,
-    /// The second name of the old file, where one is asked for.
+    /// The second name of the old file, if a backup is requested.
     pub backup: Option<&'a str>,
-    /// Its name, as reports show it.
+    /// Its name in reports.
     pub shown: &'a [u8],
 }
 
-/// Replaces a file by what its lines become, unless no time of it is rewritten. The log is given back, and how many of
-/// the file's lines had which fate.
+/// Replaces a file by its processed lines, unless none of its timestamps is rewritten. Returns the log and the counts
+/// of the file's lines by their fates.
 ///
-/// The file stays as it is where a line is refused and the work stops at the first, and where anything fails but to put
-/// the folder on the disk afterwards.
+/// The file is unchanged if the work stops at a rejected line, and if anything fails but the last write of the folder
+/// to the disk.
 pub fn replace_file<T: Rewriting, F: Folder, L: Sink + Drop>(
     rewriting: &T,
     settings: Settings<'_>,

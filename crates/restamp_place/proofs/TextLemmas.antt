@@ -18,7 +18,7 @@ pub is_false : (b : Bool) → (b ≡ true → ⊥) → b ≡ false
 is_false true h = absurd (h refl)
 is_false false h = refl
 
--- what a search for a byte found
+-- the result of a search for a byte
 pub first_byte-some : (test : ℕ → Bool) (xs : List ℕ) (n : ℕ)
     → NoneBefore (Passes test xs) 0 (length xs) n → Passes test xs n → n ≡ position_or_len test xs
 first_byte-some test xs n first here =
@@ -30,7 +30,7 @@ first_byte-none test xs nowhere =
     sym (position_or_len_is test xs (length xs) 0 (omega arith) (λ k below. is_false _ (λ h. nowhere k (omega arith) below h))
     (λ below. absurd (omega arith)))
 
--- a text that stands in the rest of bytes, a byte further on
+-- a text in the rest of the bytes is one byte further on in all of them
 OccursAt-tail : (x : ℕ) (bytes text : List ℕ) (n : ℕ) → OccursAt (x ∷ bytes) text (suc n) → OccursAt bytes text n
 OccursAt-tail x bytes text n h =
     let fits = h.fits in
@@ -53,7 +53,7 @@ place_of-here : (text bytes : List ℕ) → OccursAt bytes text 0 → place_of t
 place_of-here text [] h = rw (occurs_at-true [] text 0 h) refl
 place_of-here text (x ∷ bytes) h = rw (occurs_at-true (x ∷ bytes) text 0 h) refl
 
--- the text stands at the front of the bytes
+-- the bytes start with the text
 pub place_of-front : (text bytes : List ℕ) → occurs_at bytes text 0 ≡ true → place_of text bytes ≡ Some 0
 place_of-front text [] h = rw h refl
 place_of-front text (x ∷ bytes) h = rw h refl
@@ -79,13 +79,13 @@ place_of-nowhere text (x ∷ bytes) before =
     ∙ ap (option_map (λ n. n + 1))
     (place_of-nowhere text bytes (λ k below is. before (suc k) (omega arith) (OccursAt-onto x bytes text k is)))
 
--- what a search for a text found
+-- the result of a search for a text
 pub place_of-is : (text bytes : List ℕ) (r : Option ℕ) → FindsNeedle bytes text 0 r → r ≡ place_of text bytes
 place_of-is text bytes None nowhere = sym (place_of-nowhere text bytes (λ k below is. nowhere k (omega arith) below is))
 place_of-is text bytes (Some n) first =
     sym (place_of-found text bytes n first.1 (λ k below is. first.0.before k (omega arith) below is))
 
--- the rest of the bytes begins with a text
+-- the rest of the bytes starts with a text
 pub begins-stands : (text bytes : List ℕ) (n : ℕ) → n ≤ length bytes → occurs_at (drop n bytes) text 0 ≡ true → OccursAt bytes text n
 begins-stands text bytes n inside e =
     let h = OccursAt-true (drop n bytes) text 0 e in
@@ -104,18 +104,18 @@ stands-begins text bytes n h =
           subst (λ (k : ℕ). get_or (drop n bytes) k 0 ≡ get_or text j 0) from (get_or-drop n bytes j 0 ∙ h.reads j below);
     })
 
--- a byte of a text that stands there
+-- a byte of a text at its place
 byte_at : (text bytes : List ℕ) (n i j : ℕ) → OccursAt bytes text n → j < length text → n + j ≡ i → get_or bytes i 0 ≡ get_or text j 0
 byte_at text bytes n i j h below is = subst (λ (k : ℕ). get_or bytes k 0 ≡ get_or text j 0) is (h.reads j below)
 
--- its first byte
+-- the first byte of a text at its place
 pub stands-first : (text bytes : List ℕ) (n : ℕ) → OccursAt bytes text n → 0 < length text → get_or bytes n 0 ≡ get_or text 0 0
 stands-first text bytes n h some = byte_at text bytes n n 0 h some (omega arith)
 
 half_below : (n : ℕ) → 0 < n → n / 2 < n
 half_below n some = omega arith
 
--- sixteen bytes compared with one, where the result of equal ones is 255
+-- sixteen bytes compared with one, where equal bytes result in 255
 module _ (hit : ℕ → ℕ → ℕ) (same : (x : ℕ) → hit x x ≡ 255) (bytes : List ℕ) where
   abbrev lanes : ℕ → ℕ → List ℕ
   lanes i x = zip2 hit (chunk i 16 bytes) (replicate 16 x)
@@ -203,14 +203,14 @@ module _ (hit : ℕ → ℕ → ℕ) (same : (x : ℕ) → hit x x ≡ 255) (byt
     first_is : 0 < mask → count_trailing_zeros 64 mask ≡ clear
     first_is set = ap (count_trailing_zeros 64) mask_is ∙ trailing_mask_l (top 7) 64 three (omega (arith, length-three)) (omega (arith, mask_is))
 
-    -- the first that is
+    -- the first lane that is set in all three
     pub first-le : 0 < mask → count_trailing_zeros 64 mask ≤ 16
     first-le set = omega (arith, first_is set, clear-le)
 
     pub first-nowhere : 0 < mask → Nowhere (OccursAt bytes text) at (at + count_trailing_zeros 64 mask)
     first-nowhere set k low below = before_clear k low (omega (arith, first_is set))
 
--- the first of places, and none before them or after
+-- the first of places, if it is at none before them
 pub first_further : (text bytes : List ℕ) (i m j l : ℕ) (r : Option ℕ) → Nowhere (OccursAt bytes text) i m → IsFirst (OccursAt bytes text) m j r
     → i ≤ m → j ≤ l → length bytes < j + length text → IsFirst (OccursAt bytes text) i l r
 first_further text bytes i m j l None none nowhere low high room =
@@ -225,7 +225,7 @@ first_further text bytes i m j l (Some n) none first low high room = (
   first.1,
 )
 
--- a text of one byte stands where that byte does
+-- a text of one byte is where that byte is
 module _ (text bytes : List ℕ) (one : length text ≡ 1) where
   stands-byte : (n : ℕ) → n < length bytes → Passes (is_byte (get_or text 0 0)) bytes n → OccursAt bytes text n
   stands-byte n below here = record {
@@ -239,7 +239,7 @@ module _ (text bytes : List ℕ) (one : length text ≡ 1) where
       let there : n + 0 ≡ n = omega arith in
       let same : get_or bytes n 0 ≡ get_or text 0 0 = rw there at (h.reads 0 (omega arith)) in grind (arith, nat_tests)
 
-  -- what a search for that byte found
+  -- the result of a search for that byte
   pub place_of-byte : (r : Option ℕ) → IsFirstByte (is_byte (get_or text 0 0)) bytes r → r ≡ place_of text bytes
   place_of-byte None nowhere =
       place_of-is text bytes None (λ k low below is. let fits = is.fits in nowhere k low (omega arith) (byte-stands k is))

@@ -1,4 +1,4 @@
--- Words of a line that are passed over.
+-- Words of a line that are skipped.
 use Rattle.std.specs.Prelude.{Option, nat_le, IfSome, ◌&&◌}
 use Rattle.std.specs.Option.{option_map, option_and_then}
 use Rattle.std.specs.List.{position_or_len}
@@ -20,11 +20,11 @@ use Rattle.restamp_place.proofs.TextLemmas.{is_false}
 
 -- ---- The fields of a line, one after the other
 
--- the rest of a slice, as the range `n..` of it reads
+-- the rest of a slice, as the range `n..` of it
 pub tail_range : (n : ℕ) (xs : List ℕ) → take (length xs - n) (drop n xs) ≡ drop n xs
 tail_range n xs = take_all (length xs - n) (drop n xs) (omega (arith, length-drop n xs))
 
--- a part, so many bytes further on
+-- a part that is n bytes further on
 abbrev pub further_on : ℕ → Option Span → Option Span
 further_on k r = option_map (moved k) r
 
@@ -42,7 +42,7 @@ further_on-zero (Some s) =
     let f : 0 + s.stop ≡ s.stop = omega arith in
     rw (e, f) refl
 
--- a field is passed over
+-- a field is skipped
 pub nth-step : (kind : Fields) (n : ℕ) (line : List ℕ) (f : Field)
     → 0 < n → first_field kind line ≡ Some f → f.edge + gap kind ≤ length line
     → nth_field kind n line ≡ further_on (f.edge + gap kind) (nth_field kind (n - 1) (drop (f.edge + gap kind) line))
@@ -74,11 +74,11 @@ parts_whole [] (suc s) (suc e) h = rw (take_none (suc e - suc s)) refl
 parts_whole (x ∷ xs) (suc s) zero h = absurd (omega arith)
 parts_whole (x ∷ xs) (suc s) (suc e) h = simp unary_clauses (ap (λ k. x ∷ k) (parts_whole xs s e (omega arith)))
 
--- where a run of bytes that aren't blank ends, which begins there
+-- the end of a run of bytes that aren't blank, from its start
 abbrev run_from : List ℕ → ℕ → Option ℕ
 run_from line start = if start == length line then None else Some (start + position_or_len is_blank (drop start line))
 
--- how many blanks a line begins with
+-- how many blanks a line starts with
 abbrev blanks : List ℕ → ℕ
 blanks line = position_or_len (λ x. not (is_blank x)) line
 
@@ -109,7 +109,7 @@ edge-within line =
       length-drop start line,
     ))
 
--- the word that m others stand before, behind a word that ends there
+-- the word after m others, behind a word that ends there
 abbrev after_edge : ℕ → List ℕ → Option ℕ → Option Span
 after_edge m line None = None
 after_edge m line (Some e) = further_on e (nth_field Blank m (drop e line))
@@ -135,7 +135,7 @@ run-next x line n =
     let e : 1 + n ≡ suc n = omega arith in
     rw (e, same_test n (length line)) (run-where (n == length line) n (position_or_len is_blank (drop n line)))
 
--- behind a blank each word ends a byte further on
+-- behind a blank each word ends one byte further on
 edge-blank : (x : ℕ) (line : List ℕ) → is_blank x ≡ true → edge_of (x ∷ line) ≡ option_map (λ e. 1 + e) (edge_of line)
 edge-blank x line h =
     let s : blanks (x ∷ line) ≡ 1 + blanks line = rw h refl in
@@ -154,13 +154,13 @@ later m x line (Some e) =
     let s : 1 + e ≡ suc e = omega arith in
     ap (λ k. further_on (1 + e) (nth_field Blank m (drop k (x ∷ line)))) s ∙ sym (further_on-further_on 1 e (nth_field Blank m (drop e line)))
 
--- a byte that ends no word is passed over
+-- a byte inside a word is skipped
 passed-inside : (m x : ℕ) (line : List ℕ) → edge_of (x ∷ line) ≡ option_map (λ e. 1 + e) (edge_of line)
     → nth_field Blank (suc m) (x ∷ line) ≡ further_on 1 (nth_field Blank (suc m) line)
 passed-inside m x line e =
     nth-edge m (x ∷ line) ∙ ap (after_edge m (x ∷ line)) e ∙ later m x line (edge_of line) ∙ ap (further_on 1) (sym (nth-edge m line))
 
--- one byte is passed over
+-- one byte is skipped
 passed-byte : (b d : Bool) (m x y : ℕ) (rest : List ℕ) → is_blank x ≡ b → is_blank y ≡ d
     → nth_field Blank (suc m) (x ∷ y ∷ rest) ≡ further_on 1 (nth_field Blank (suc m - (if not b && d then 1 else 0)) (y ∷ rest))
 passed-byte true d m x y rest h g =
@@ -178,7 +178,7 @@ passed-byte false false m x y rest h g =
     edge-here x (y ∷ rest) h ∙ ap (λ k. Some (1 + k)) first ∙ ap (option_map (λ k. 1 + k)) (sym (edge-here y rest g))
     ))
 
--- So many bytes are passed over that end fewer words than are to be.
+-- Blocks of bytes are skipped if fewer words end in them than have to be skipped.
 passes : (k n : ℕ) (line : List ℕ) → k < length line → word_ends k line < n
     → nth_field Blank n line ≡ further_on k (nth_field Blank (n - word_ends k line) (drop k line))
 passes zero n line inside fewer = let e : n - 0 ≡ n = omega arith in rw e (further_on-zero (nth_field Blank n line))
@@ -196,7 +196,7 @@ passes (suc k) (suc m) (x ∷ y ∷ rest) inside fewer =
     ∙ ap (λ j. further_on j (nth_field Blank (suc m - e - word_ends k line) (drop k line))) next
     ∙ ap (λ j. further_on (suc k) (nth_field Blank j (drop k line))) both
 
--- the same behind what was passed over
+-- a block behind the skipped bytes is skipped
 pub passes-further : (n : ℕ) (line : List ℕ) (start left block ends : ℕ) → block < length (drop start line) → ends ≡ word_ends block (drop start line)
     → ends < left → IsPassed n line (record { start = start; left = left }) → IsPassed n line (record { start = start + block; left = left - ends })
 passes-further n line start left block ends inside e fewer h =
@@ -216,7 +216,7 @@ passed-one (suc m) (x ∷ y ∷ rest) some inside =
     let one : suc m - e ≡ suc m - (e + 0) = omega arith in
     passed-byte (is_blank x) (is_blank y) m x y rest refl refl ∙ ap (λ k. further_on 1 (nth_field Blank k (y ∷ rest))) one
 
--- one more byte is passed over behind what was, also where it ends the last word that is to be
+-- one more byte behind the skipped ones is skipped, also if it ends the last word that has to be skipped
 pub passes-byte : (n : ℕ) (line : List ℕ) (start left ends : ℕ) → 0 < left → 1 < length (drop start line) → ends ≡ word_ends 1 (drop start line)
     → IsPassed n line (record { start = start; left = left }) → IsPassed n line (record { start = start + 1; left = left - ends })
 passes-byte n line start left ends some inside e h =
@@ -248,7 +248,7 @@ one_most : (b : Bool) → bool_byte b ≤ 1
 one_most true = omega arith
 one_most false = omega arith
 
--- one more byte is counted, as it stands in a line
+-- one more byte is counted at its place in a line
 pub counts : (line : List ℕ) (start k ends more : ℕ) (a b : Bool) → k < length (drop start line)
     → ends ≤ k → ends ≡ word_ends k (drop start line)
     → a ≡ is_blank (get_or line (start + k) 0) → b ≡ is_blank (get_or line (start + k + 1) 0) → more ≡ bool_byte (not a && b)
@@ -262,9 +262,9 @@ counts line start k ends more a b inside few said x y m =
     ∙ ap (λ (d : Bool). if not (is_blank (get_or rest k 0)) && d then 1 else 0) after in
     (omega (arith, one_most (not a && b)), omega (arith, counted, said, ends-more k rest inside))
 
--- ---- Where a quote closes a field
+-- ---- The place of the quote that closes a field
 
--- a place, so many bytes further on
+-- a place that is n bytes further on
 abbrev pub further : ℕ → Option ℕ → Option ℕ
 further k r = option_map (λ n. k + n) r
 

@@ -1,4 +1,4 @@
--- Where the time stands in a line.
+-- The timestamp of a line by its place.
 use Rattle.std.specs.Prelude.{ℕ, ◌+◌, List, [], ◌∷◌, if◌then◌else◌, Option, None, Some, Bool, true, false, ◌-◌, ◌==◌, length, take, drop, slice_index, slice_range}
 use Rattle.std.specs.Option.{option_map, option_and_then}
 use Rattle.memchr.specs.Find.{occurs_at}
@@ -8,29 +8,29 @@ use Rattle.restamp_place.specs.declared.cuts.Place.TheVariants.{Whole, Front, Fi
 use Rattle.restamp_place.specs.declared.fields.Span.{Span}
 use Rattle.restamp_place.specs.Fields.{span, nth_field}
 
--- ---- Where a text stands in bytes
+-- ---- The place of a text in bytes
 
--- how many bytes stand before the text, where it first stands in the bytes
+-- how many bytes come before the first occurrence of the text
 abbrev pub place_of : List ℕ → List ℕ → Option ℕ
 place_of text [] = if occurs_at [] text 0 then Some 0 else None
 place_of text (x ∷ bytes) =
     if occurs_at (x ∷ bytes) text 0 then Some 0 else option_map (λ n. n + 1) (place_of text bytes)
 
--- a line in three parts: what stands before the time, the time, and what stands after it
+-- a line in three parts: the bytes before the timestamp, the timestamp, and the bytes after it
 pub record Cut : Type 0 where
   pub before : List ℕ
   pub time : List ℕ
   pub after : List ℕ
 
--- the cut that a value stands for
+-- the cut without its addresses
 abbrev pub seen : declared.Cut → Cut
 seen c = record { before = c.before.now; time = c.time.now; after = c.after.now }
 
--- a line, cut at that part
+-- a line, cut at a part
 abbrev pub cut_by : List ℕ → Span → Cut
 cut_by line s = record { before = take s.start line; time = slice_range line s.start s.stop; after = drop s.stop line }
 
--- how long a line is without a CR at its end
+-- the length of a line without a CR at its end
 abbrev pub body_length : List ℕ → ℕ
 body_length line = if slice_index line (length line - 1) == 13 then length line - 1 else length line
 
@@ -49,7 +49,7 @@ between_of begin close line =
 abbrev pub after_of : List ℕ → List ℕ → Option Span
 after_of key line = option_map (λ n. span (n + length key) (length line)) (place_of key line)
 
--- the part of a line that is its time, or begins with it; no CR at its end is in it, but for what stands between two
+-- the part of a line that is its timestamp, or starts with it; without a CR at the line's end, except between two
 -- texts
 abbrev pub span_of : Place → List ℕ → Option Span
 span_of Whole line = Some (span 0 (body_length line))
@@ -58,14 +58,15 @@ span_of (Field kind n) line = if n == 0 then None else nth_field kind (n - 1) (b
 span_of (Between begin close) line = between_of begin.now close.now line
 span_of (After key) line = after_of key.now (body_of line)
 
--- a line, cut at its time, where it has a place for one
+-- a line, cut at its timestamp, if it has one
 abbrev pub located : Place → List ℕ → Option Cut
 located place line = option_map (cut_by line) (span_of place line)
 
--- whether the time ends where its format does, so that its part goes on to the end of the line, or to a CR there
-abbrev pub is_open : Place → Bool
-is_open Whole = false
-is_open Front = true
-is_open (Field kind n) = false
-is_open (Between begin close) = false
-is_open (After key) = true
+-- whether the format decides where the timestamp ends, so that its part goes on to the end of the line, or to a
+-- CR there
+abbrev pub is_prefix : Place → Bool
+is_prefix Whole = false
+is_prefix Front = true
+is_prefix (Field kind n) = false
+is_prefix (Between begin close) = false
+is_prefix (After key) = true

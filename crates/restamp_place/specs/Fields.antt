@@ -14,11 +14,11 @@ is_blank x = x == 32 || x == 9
 abbrev pub span : ℕ → ℕ → Span
 span start stop = record { start = start; stop = stop }
 
--- a field that says the bytes from `start` up to `stop`, and ends at `edge`
+-- a field with the bytes from `start` up to `stop` as its content, which ends at `edge`
 abbrev pub field : ℕ → ℕ → ℕ → Field
 field start stop edge = record { said = span start stop; edge = edge }
 
--- A field of a line that has n bytes: it says some of them, and ends after those.
+-- A field of a line of n bytes: its content lies within the line, and the field ends after it.
 pub record IsWithin (n : ℕ) (f : Field) : Type 0 where
   pub ordered : f.said.start ≤ f.said.stop
   pub closed : f.said.stop ≤ f.edge
@@ -40,8 +40,8 @@ first_word line =
     let stop = start + position_or_len is_blank (drop start line) in
     if start == length line then None else Some (field start stop stop)
 
--- where the quote stands that closes what an opening one began before these bytes: the first of which no other follows,
--- for two of them stand for one
+-- the place of the quote that closes the one before these bytes: the first that no other quote follows, since two
+-- quotes are an escaped one
 abbrev pub closing_quote : List ℕ → Option ℕ
 closing_quote [] = None
 closing_quote (x ∷ []) = if x == 34 then Some 0 else None
@@ -49,12 +49,12 @@ closing_quote (x ∷ y ∷ bytes) =
     if x == 34 then (if y == 34 then option_map (λ n. n + 2) (closing_quote bytes) else Some 0)
     else option_map (λ n. n + 1) (closing_quote (y ∷ bytes))
 
--- a field in quotes of which n bytes stand between them, where the delimiter or the end comes next
+-- a field in quotes with n bytes between them, if the delimiter or the end comes next
 abbrev pub closed_field : ℕ → List ℕ → ℕ → Option Field
 closed_field d line n =
     if n + 2 == length line || slice_index line (n + 2) == d then Some (field 1 (n + 1) (n + 2)) else None
 
--- a field that begins with a quote ends with one, and any other as if there were no quotes
+-- a field that starts with a quote ends with one; any other is split as without quotes
 abbrev pub first_quoted : ℕ → List ℕ → Option Field
 first_quoted d line =
     if slice_index line 0 == 34 then option_and_then (closed_field d line) (closing_quote (drop 1 line))
@@ -66,7 +66,7 @@ first_field (Delimited d) line = Some (first_delimited d line)
 first_field Blank line = first_word line
 first_field (Quoted d) line = first_quoted d line
 
--- how many bytes stand between the end of a field and what the next one is looked for in
+-- how many bytes are between the end of a field and the rest in which the next one is searched
 abbrev pub gap : Fields → ℕ
 gap (Delimited d) = 1
 gap Blank = 0
@@ -76,7 +76,7 @@ gap (Quoted d) = 1
 abbrev pub moved : ℕ → Span → Span
 moved n s = span (n + s.start) (n + s.stop)
 
--- what the field says that n fields stand before
+-- the content of the field after n others
 abbrev pub nth_field : Fields → ℕ → List ℕ → Option Span
 nth_field fields zero line = option_map (λ f. f.said) (first_field fields line)
 nth_field fields (suc n) line =

@@ -1,13 +1,13 @@
 -- No public contract rests on this file.
 --
--- Words that are passed over.
+-- Words that are skipped.
 use Rattle.std.specs.Prelude.{◌≡◌, ℕ, zero, suc, ◌+◌, Bool, not, ◌&&◌, List, [], ◌∷◌, drop, slice_index, if◌then◌else◌}
 use Rattle.std.specs.Option.{option_map}
 use Rattle.restamp_place.specs.Fields.{is_blank, moved, nth_field}
 use Rattle.restamp_place.specs.declared.fields.Fields.TheVariants.{Blank}
 use Rattle.restamp_place.specs.declared.fields.fast.Passed.{Passed}
 
--- a word ends with this byte, which the others follow
+-- a word ends with this byte, by the bytes that follow it
 abbrev pub is_end : ℕ → List ℕ → Bool
 is_end x rest = not (is_blank x) && is_blank (slice_index rest 0)
 
@@ -17,6 +17,6 @@ word_ends zero line = 0
 word_ends (suc n) [] = 0
 word_ends (suc n) (x ∷ rest) = (if is_end x rest then 1 else 0) + word_ends n rest
 
--- The word that n others stand before is the one that so many stand before in what is left of the line.
+-- The word after n others is the word after `left` others in the rest of the line.
 abbrev pub IsPassed : ℕ → List ℕ → Passed → Type 0
 IsPassed n line p = nth_field Blank n line ≡ option_map (moved p.start) (nth_field Blank p.left (drop p.start line))

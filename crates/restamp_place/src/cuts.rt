@@ -1,33 +1,33 @@
-//! Cuts a line at its time.
+//! Cuts a line at its timestamp.
 ghost use Rattle.std.specs.Prelude.{◌≡◌, ◌≤◌, ◌++◌, length, take, IfSome};
 ghost use Rattle.std.specs.Option.{option_map};
-ghost use Rattle.restamp_place.specs.Cuts.{seen, cut_by, body_length, body_of, after_of, span_of, located, is_open};
+ghost use Rattle.restamp_place.specs.Cuts.{seen, cut_by, body_length, body_of, after_of, span_of, located, is_prefix};
 ghost use Rattle.restamp_place.specs.Fields.{IsPart};
 
 use crate::fields::{Fields, Span, nth_field};
 use crate::texts::find_text;
 
-/// Where the time stands in a line, which has no LF. A CR at the line's end is no part of the time, but for what stands
+/// The place of the timestamp in a line, which has no LF. A CR at the line's end isn't part of the timestamp, except
 /// between two texts.
 #[derive(Clone, Copy, Debug)]
 pub enum Place<'a> {
-    /// The line is the time.
+    /// The whole line.
     Whole,
-    /// The line begins with the time, which ends where its format does.
+    /// The start of the line. The format decides where the timestamp ends.
     Front,
     /// The field of that number, from 1.
     Field(Fields, usize),
-    /// From after the first such text up to the next one of the other kind.
+    /// From after the first occurrence of the first text up to the next one of the second.
     Between(&'a [u8], &'a [u8]),
-    /// From after the first such text to where the format ends.
+    /// From after the first occurrence of the text. The format decides where the timestamp ends.
     After(&'a [u8]),
 }
 
 impl Place<'_> {
-    /// Whether the time ends where its format does, so that the cut has all that comes after its beginning as `time`, up to
-    /// a CR at the end of the line.
-    pub fn is_open(self) -> bool
-        ensures { result ≡ is_open self.entry }
+    /// Whether the format decides where the timestamp ends. Then `time` of the cut has all that follows its start, up
+    /// to a CR at the end of the line.
+    pub fn is_prefix(self) -> bool
+        ensures { result ≡ is_prefix self.entry }
     {
         match self {
             Place::Front | Place::After(_) => true,
@@ -39,15 +39,15 @@ impl Place<'_> {
 /// A line in three parts.
 #[derive(Clone, Copy, Debug)]
 pub struct Cut<'a> {
-    /// What stands before the time.
+    /// The bytes before the timestamp.
     pub before: &'a [u8],
-    /// The time.
+    /// The timestamp.
     pub time: &'a [u8],
-    /// What stands after it.
+    /// The bytes after the timestamp.
     pub after: &'a [u8],
 }
 
-// How long the line is without a CR at its end.
+// The length of the line without a CR at its end.
 #[inline(always)]
 fn body_length(line: &[u8]) -> usize
     ensures value { result ≡ body_length line.now }
@@ -94,8 +94,8 @@ fn find_after(key: &[u8], line: &[u8]) -> Option<Span>
     })
 }
 
-/// The part of the line that is its time, or for an open place begins with it; `None` where the line has no place for
-/// one: too few fields, no such text, or a quote that isn't closed. No field has the number 0.
+/// The part of the line that is its timestamp, or that starts with it if the place is open. `None` if the line has no
+/// timestamp: too few fields, no such text, or a quote without an end. No field has the number 0.
 #[inline(always)]
 pub fn find_span(place: Place<'_>, line: &[u8]) -> Option<Span>
     ensures value { result ≡ span_of place.entry line.now }
@@ -113,7 +113,7 @@ pub fn find_span(place: Place<'_>, line: &[u8]) -> Option<Span>
     }
 }
 
-// The line, cut at that part of it.
+// The line, cut at that part.
 fn cut_span(line: &[u8], span: Span) -> Cut<'_>
     requires { IsPart (length line.now) span }
     ensures value { seen result ≡ cut_by line.now span }
@@ -126,7 +126,7 @@ fn cut_span(line: &[u8], span: Span) -> Cut<'_>
     }
 }
 
-/// The line, cut at what [`find_span`] finds.
+/// The line, cut at the part that [`find_span`] finds.
 pub fn find_time<'a>(place: Place<'_>, line: &'a [u8]) -> Option<Cut<'a>>
     ensures value { option_map seen result ≡ located place.entry line.now }
     ensures whole { IfSome result (λ c. c.before.now ++ c.time.now ++ c.after.now ≡ line.now) }

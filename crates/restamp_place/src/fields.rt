@@ -1,4 +1,4 @@
-//! The fields of a line.
+//! Splits a line into fields.
 ghost use Rattle.std.specs.Prelude.{◌≡◌, ◌≤◌, length, drop, IfSome};
 ghost use Rattle.std.specs.Option.{option_map};
 ghost use Rattle.restamp_place.specs.Fields as fields;
@@ -7,28 +7,28 @@ mod fast;
 
 use crate::texts::{blanks_length, closing_quote, length_before, word_length};
 
-/// How a line has fields.
+/// How a line is split into fields.
 #[derive(Clone, Copy, Debug, PartialEq, Eq)]
 pub enum Fields {
-    /// Each ends before that byte, or at the end of the line.
+    /// Each field ends before that byte, or at the end of the line.
     Delimited(u8),
-    /// Each is a run of bytes other than space and TAB, as in `awk`.
+    /// Each field is a run of bytes other than space and TAB, as in `awk`.
     Blank,
-    /// Each ends before that byte, but one in quotes ends with its quote, and has two quotes for one
-    /// (RFC 4180, section 2).
+    /// Each field ends before that byte, but one in quotes ends with its quote, and has two quotes for one (RFC 4180,
+    /// section 2).
     Quoted(u8),
 }
 
 /// A part of a line: its bytes from `start` up to `stop`.
 #[derive(Clone, Copy, Debug, PartialEq, Eq)]
 pub struct Span {
-    /// How many bytes stand before it.
+    /// How many bytes come before the part.
     pub start: usize,
-    /// How many bytes stand before what comes after it.
+    /// How many bytes come before its end.
     pub stop: usize,
 }
 
-/// A field: what it says, and where it ends, after the quote that may close it.
+/// A field: its content, and where it ends, after a closing quote.
 #[derive(Clone, Copy)]
 pub(crate) struct Field {
     pub(crate) said: Span,
@@ -94,7 +94,7 @@ fn first_field(kind: Fields, line: &[u8]) -> Option<Field>
 }
 
 impl Fields {
-    // How many bytes stand between the end of a field and what the next one is looked for in.
+    // How many bytes are between the end of a field and the rest in which the next one is searched.
     fn gap(self) -> usize
         ensures value { result ≡ fields.gap self }
         ensures least { result ≤ 1 }
@@ -106,7 +106,7 @@ impl Fields {
     }
 }
 
-// How far the line is passed over for the field that `n` fields stand before, and how many of them are left.
+// How many bytes of the line are skipped to find the field after n others, and how many fields still have to be skipped.
 #[inline(always)]
 fn passed(kind: Fields, n: usize, line: &[u8]) -> (usize, usize)
     ensures value { fields.nth_field kind n line.now
@@ -121,7 +121,7 @@ fn passed(kind: Fields, n: usize, line: &[u8]) -> (usize, usize)
     (0, n)
 }
 
-/// What the field says that `n` fields stand before.
+/// The content of the field after n others.
 pub(crate) fn nth_field(kind: Fields, n: usize, line: &[u8]) -> Option<Span>
     ensures value { result ≡ fields.nth_field kind n line.now }
     ensures within { IfSome result (fields.IsPart (length line.now)) }

@@ -1,4 +1,4 @@
-//! Where the time stands in a line.
+//! Finds the timestamp of a line by its place.
 #![tactic(auto)]
 
 mod cuts;

@@ -1,4 +1,4 @@
-//! Searches of bytes.
+//! Searches bytes.
 ghost use Rattle.std.specs.Prelude.{◌≡◌, ◌≤◌, ◌<◌, ◌==◌, ◌+◌, ℕ, true, false, IsTrue, length, slice_index, not, IfSome};
 ghost use Rattle.std.specs.List.{prefix_len, position_or_len};
 ghost use Rattle.std.specs.Simd.Lanes.{chunk};
@@ -9,13 +9,13 @@ ghost use Rattle.restamp_place.specs.Cuts as texts;
 use memchr::{memchr, memmem};
 use std::simd::prelude::*;
 
-// How many bytes are asked at once.
+// How many bytes are compared at once.
 const BLOCK: usize = 16;
 
-// Up to this length a text is compared whole wherever three of its bytes stand.
+// A text up to this length is compared whole wherever three of its bytes match.
 const SHORT: usize = 32;
 
-/// How many bytes stand before the first such byte, or before the end.
+/// How many bytes come before the first occurrence of `byte`, or before the end.
 #[inline]
 pub(crate) fn length_before(byte: u8, bytes: &[u8]) -> usize
     ensures value { result ≡ position_or_len (λ x. x == byte) bytes.now }
@@ -27,7 +27,7 @@ pub(crate) fn length_before(byte: u8, bytes: &[u8]) -> usize
     }
 }
 
-// How many of sixteen bytes stand before the first such one, or all.
+// How many of sixteen bytes come before the first occurrence of `byte`; 16 if it doesn't occur.
 #[inline(always)]
 fn place_in_block(byte: u8, bytes: &[u8], at: usize) -> usize
     requires { at + 16 ≤ length bytes.now }
@@ -43,7 +43,7 @@ fn place_in_block(byte: u8, bytes: &[u8], at: usize) -> usize
     }
 }
 
-// How many of sixteen bytes stand before the first space or TAB, or all.
+// How many of sixteen bytes come before the first space or TAB; 16 if there is neither.
 #[inline(always)]
 fn word_in_block(bytes: &[u8], at: usize) -> usize
     requires { at + 16 ≤ length bytes.now }
@@ -56,7 +56,7 @@ fn word_in_block(bytes: &[u8], at: usize) -> usize
     if tab < space { tab } else { space }
 }
 
-// How many bytes stand before the first space or TAB, or before the end, where none is among so many.
+// How many bytes come before the first space or TAB, or before the end, if the first `from` bytes have neither.
 #[inline(always)]
 fn word_from(bytes: &[u8], from: usize) -> usize
     requires within { from ≤ length bytes.now }
@@ -72,7 +72,7 @@ fn word_from(bytes: &[u8], from: usize) -> usize
     bytes.len()
 }
 
-/// How many bytes stand before the first space or TAB, or before the end.
+/// How many bytes come before the first space or TAB, or before the end.
 #[inline]
 pub(crate) fn word_length(bytes: &[u8]) -> usize
     ensures value { result ≡ position_or_len fields.is_blank bytes.now }
@@ -97,7 +97,7 @@ pub(crate) fn is_blank(byte: u8) -> bool
     (byte == b' ') | (byte == b'\t')
 }
 
-/// How many spaces and TABs the bytes begin with.
+/// How many spaces and TABs the bytes start with.
 pub(crate) fn blanks_length(bytes: &[u8]) -> usize
     ensures value { result ≡ position_or_len (λ x. not (fields.is_blank x)) bytes.now }
     ensures within { result ≤ length bytes.now }
@@ -110,7 +110,7 @@ pub(crate) fn blanks_length(bytes: &[u8]) -> usize
     bytes.len()
 }
 
-/// Where the quote stands that closes what an opening one began just before these bytes.
+/// The place of the quote that closes the one just before these bytes.
 pub(crate) fn closing_quote(bytes: &[u8]) -> Option<usize>
     ensures value { result ≡ fields.closing_quote bytes.now }
     ensures within { IfSome result (λ n. n + 1 ≤ length bytes.now) }
@@ -128,7 +128,7 @@ pub(crate) fn closing_quote(bytes: &[u8]) -> Option<usize>
     None
 }
 
-// Whether the bytes begin with the text, as the lines of a mailbox do with a key.
+// Whether the bytes start with the text, as the lines of a mailbox start with a key.
 #[inline(always)]
 fn begins_with(text: &[u8], bytes: &[u8]) -> bool
     ensures { result ≡ occurs_at bytes.now text.now 0 }
@@ -136,8 +136,8 @@ fn begins_with(text: &[u8], bytes: &[u8]) -> bool
     text.len() <= bytes.len() && &bytes[..text.len()] == text
 }
 
-// How many of sixteen places stand before the first at which the text may stand, as far as its first byte, one in its middle
-// and its last tell, or all.
+// How many of sixteen places come before the first at which the text may be, judged by its first byte, one in its
+// middle and its last; 16 if it is at none.
 #[inline(always)]
 fn first_in_block(text: &[u8], bytes: &[u8], at: usize) -> usize
     requires some { 0 < length text.now }
@@ -158,7 +158,7 @@ fn first_in_block(text: &[u8], bytes: &[u8], at: usize) -> usize
     }
 }
 
-// Where the text first stands of these places.
+// The first of these places at which the text is.
 #[inline(always)]
 fn find_within(text: &[u8], bytes: &[u8], from: usize, to: usize) -> Option<usize>
     requires some { 0 < length text.now }
@@ -173,7 +173,7 @@ fn find_within(text: &[u8], bytes: &[u8], from: usize, to: usize) -> Option<usiz
     None
 }
 
-// Where the text first stands of the last places, which are at most sixteen.
+// The first of the last places, at most sixteen, at which the text is.
 #[inline(always)]
 fn find_last(text: &[u8], bytes: &[u8], from: usize, end: usize) -> Option<usize>
     requires some { 0 < length text.now }
@@ -189,7 +189,7 @@ fn find_last(text: &[u8], bytes: &[u8], from: usize, end: usize) -> Option<usize
     find_within(text, bytes, from.max(place), end)
 }
 
-// Where the text first stands in the bytes, sixteen places at a time.
+// The first place of the text in the bytes, searched sixteen places at a time.
 fn find_short(text: &[u8], bytes: &[u8]) -> Option<usize>
     requires some { 0 < length text.now }
     requires within { length text.now ≤ length bytes.now }
@@ -210,8 +210,8 @@ fn find_short(text: &[u8], bytes: &[u8]) -> Option<usize>
     find_last(text, bytes, at, end)
 }
 
-/// Where the text first stands in the bytes. A search by a long text lays it out first, which costs some three hundred
-/// instructions.
+/// The first place of the text in the bytes. The search for a long text prepares it first, at a cost of some three
+/// hundred instructions.
 #[inline]
 pub(crate) fn find_text(text: &[u8], bytes: &[u8]) -> Option<usize>
     ensures value { result ≡ texts.place_of text.now bytes.now }

@@ -11,14 +11,15 @@ use Rattle.restamp_stream.specs.declared.settings.Output.{Output}
 use Rattle.restamp_stream.specs.declared.settings.Output.TheVariants.{AllLines, RewrittenLines, Times}
 use Rattle.restamp_stream.specs.declared.tally.Tally.{Tally}
 use Rattle.restamp_stream.specs.Reports.{rest_of, passed, HasFront}
-use Rattle.restamp_stream.specs.Streams.{Line, ended, unended, joined, HasNoLf, lines_of, Job, State, state, Did, IsLong, IsBegun, Answered}
+use Rattle.byte_streams.specs.Lines.{Line, ended, unended, joined, HasNoLf, lines_of}
+use Rattle.byte_streams.proofs.LinesLemmas.{joined-append, AreEnded-append, HasNoLf-append, lines_of-joined, lines_of-last}
+use Rattle.restamp_stream.specs.Streams.{Job, State, state, Processed, IsLong, IsBegun, Answered}
 use Rattle.restamp_stream.specs.Held.{Continues, GoesOn, Ends, Settles}
-use Rattle.restamp_stream.proofs.DidLemmas.{Did-none, Did-then, Did-settled, Did-ended, Did-more, passed-append, same_state}
-use Rattle.restamp_stream.proofs.LinesLemmas.{joined-append, AreEnded-append, HasNoLf-append, lines_of-joined, lines_of-last}
+use Rattle.restamp_stream.proofs.ProcessedLemmas.{Processed-none, Processed-then, Processed-settled, Processed-ended, Processed-more, passed-append, same_state}
 
 pub Answered-none : (job : Job) (a : State) (bytes : List ℕ) → Answered job a a bytes Absent bytes
 Answered-none job a bytes =
-    record { lines = []; fates = []; between = a; text = []; whole = refl; apart = tt; did = Did-none job a; begun = (refl, refl) }
+    record { lines = []; fates = []; between = a; text = []; whole = refl; apart = tt; processed = Processed-none job a; begun = (refl, refl) }
 
 -- more bytes come after
 pub Answered-read : (job : Job) (a b : State) (bytes more held : List ℕ) (rest : Rest)
@@ -33,7 +34,7 @@ Answered-read job a b bytes more held rest p =
           ap (λ (l : List ℕ). l ++ more) p.whole ∙ append_assoc (joined p.lines) (p.text ++ held) more
           ∙ ap (λ (l : List ℕ). joined p.lines ++ l) (append_assoc p.text held more);
       apart = p.apart;
-      did = p.did;
+      processed = p.processed;
       begun = p.begun;
     }
 
@@ -45,8 +46,8 @@ joined-line lines text rest =
     ∙ ap (λ (l : List ℕ). joined lines ++ l) (append_assoc text (10 ∷ []) rest)
 
 -- what was done to the lines that end, where no line is begun
-pub Did-apart : (job : Job) (a b : State) (bytes held : List ℕ) (p : Answered job a b bytes Absent held) → Did job a b p.lines p.fates
-Did-apart job a b bytes held p = subst (λ (s : State). Did job a s p.lines p.fates) p.begun.1 p.did
+pub Processed-apart : (job : Job) (a b : State) (bytes held : List ℕ) (p : Answered job a b bytes Absent held) → Processed job a b p.lines p.fates
+Processed-apart job a b bytes held p = subst (λ (s : State). Processed job a s p.lines p.fates) p.begun.1 p.processed
 
 pub whole-apart : (job : Job) (a b : State) (bytes held : List ℕ) (p : Answered job a b bytes Absent held) → bytes ≡ joined p.lines ++ held
 whole-apart job a b bytes held p = p.whole ∙ ap (λ (l : List ℕ). joined p.lines ++ (l ++ held)) p.begun.0
@@ -54,9 +55,9 @@ whole-apart job a b bytes held p = p.whole ∙ ap (λ (l : List ℕ). joined p.l
 -- a line more, which ends
 pub Answered-line : (job : Job) (b b1 : State) (out : Option (List ℕ)) (held line left : List ℕ) (fate : Fate) (rest : Rest)
     → held ≡ line ++ 10 ∷ left → HasNoLf line
-    → rest_of job.settings.output fate ≡ rest → Did job b b1 (unended line ∷ []) (fate ∷ []) → Appends b1.out out (passed rest (10 ∷ []))
+    → rest_of job.settings.output fate ≡ rest → Processed job b b1 (unended line ∷ []) (fate ∷ []) → Appends b1.out out (passed rest (10 ∷ []))
     → Continues job b (state out b1.log b1.tally) Absent held Absent left
-Answered-line job b b1 out held line left fate rest e h rests did w a bytes p =
+Answered-line job b b1 out held line left fate rest e h rests processed w a bytes p =
     let c : State = state out b1.log b1.tally in
     record {
       lines = p.lines ++ ended line ∷ [];
@@ -66,9 +67,9 @@ Answered-line job b b1 out held line left fate rest e h rests did w a bytes p =
       whole =
           whole-apart job a b bytes held p ∙ ap (λ (l : List ℕ). joined p.lines ++ l) e ∙ sym (joined-line p.lines line left);
       apart = AreEnded-append p.lines (ended line ∷ []) p.apart (h, refl, tt);
-      did =
-          Did-then job a b c p.lines (ended line ∷ []) p.fates (fate ∷ []) (Did-apart job a b bytes held p)
-          (Did-ended job b b1 line fate out did (subst (λ (r : Rest). Appends b1.out out (passed r (10 ∷ []))) (sym rests) w));
+      processed =
+          Processed-then job a b c p.lines (ended line ∷ []) p.fates (fate ∷ []) (Processed-apart job a b bytes held p)
+          (Processed-ended job b b1 line fate out processed (subst (λ (r : Rest). Appends b1.out out (passed r (10 ∷ []))) (sym rests) w));
       begun = (refl, refl);
     }
 
@@ -90,8 +91,8 @@ IsBegun-long job a b text Dropping front p = p
 
 -- a line is begun that is as long as the limit or longer
 pub Answered-begun : (job : Job) (b c : State) (held : List ℕ) (rest : Rest) (fate : Fate) → HasNoLf held → job.limit ≤ length held
-    → rest_of job.settings.output fate ≡ rest → Did job b c (unended held ∷ []) (fate ∷ []) → Continues job b c Absent held rest []
-Answered-begun job b c held rest fate h long rests did a bytes p =
+    → rest_of job.settings.output fate ≡ rest → Processed job b c (unended held ∷ []) (fate ∷ []) → Continues job b c Absent held rest []
+Answered-begun job b c held rest fate h long rests processed a bytes p =
     record {
       lines = p.lines;
       fates = p.fates;
@@ -99,10 +100,10 @@ Answered-begun job b c held rest fate h long rests did a bytes p =
       text = held;
       whole = whole-apart job a b bytes held p ∙ ap (λ (l : List ℕ). joined p.lines ++ l) (sym (append-nil held));
       apart = p.apart;
-      did = Did-apart job a b bytes held p;
+      processed = Processed-apart job a b bytes held p;
       begun =
           IsBegun-long job b c held rest (subst HasFront rests (rest_of-front job.settings.output fate))
-          (record { fate = fate; rests = rests; begun = h; long = long; did = did });
+          (record { fate = fate; rests = rests; begun = h; long = long; processed = processed });
     }
 
 IsLong-more : (job : Job) (a b : State) (out : Option (List ℕ)) (text more : List ℕ) (rest : Rest) → HasNoLf more
@@ -113,8 +114,8 @@ IsLong-more job a b out text more rest h w p =
       rests = p.rests;
       begun = HasNoLf-append text more p.begun h;
       long = omega (arith, p.long, length-append text more);
-      did =
-          Did-more job a b text more p.fate out p.long p.did
+      processed =
+          Processed-more job a b text more p.fate out p.long p.processed
           (subst (λ (r : Rest). Appends b.out out (passed r more)) (sym p.rests) w);
     }
 
@@ -130,7 +131,7 @@ more_text job a b c bytes more held left rest p e begun =
           p.whole ∙ ap (λ (l : List ℕ). joined p.lines ++ (p.text ++ l)) e
           ∙ ap (λ (l : List ℕ). joined p.lines ++ l) (sym (append_assoc p.text more left));
       apart = p.apart;
-      did = p.did;
+      processed = p.processed;
       begun = begun;
     }
 
@@ -154,9 +155,9 @@ ended_long job a b out bytes left rest p w long =
       text = [];
       whole = p.whole ∙ sym (joined-line p.lines p.text left);
       apart = AreEnded-append p.lines (ended p.text ∷ []) p.apart (long.begun, refl, tt);
-      did =
-          Did-then job a p.between c p.lines (ended p.text ∷ []) p.fates (long.fate ∷ []) p.did
-          (Did-ended job p.between b p.text long.fate out long.did
+      processed =
+          Processed-then job a p.between c p.lines (ended p.text ∷ []) p.fates (long.fate ∷ []) p.processed
+          (Processed-ended job p.between b p.text long.fate out long.processed
           (subst (λ (r : Rest). Appends b.out out (passed r (10 ∷ []))) (sym long.rests) w));
       begun = (refl, refl);
     }
@@ -168,11 +169,11 @@ Answered-ended job b out left Absent front w a bytes p = absurd front
 Answered-ended job b out left Passing front w a bytes p = ended_long job a b out bytes left Passing p w p.begun
 Answered-ended job b out left Dropping front w a bytes p = ended_long job a b out bytes left Dropping p w p.begun
 
--- ---- what waits is written
+-- ---- the buffered bytes are written
 
-pub held-none : (out log : Option (List ℕ)) (t : Tally) (waiting : List ℕ) → waiting ≡ [] → state (append_known out waiting) log t ≡ state out log t
-held-none None log t waiting e = refl
-held-none (Some s) log t waiting e = ap (λ (l : List ℕ). state (Some (s ++ l)) log t) e ∙ ap (λ (l : List ℕ). state (Some l) log t) (append-nil s)
+pub held-none : (out log : Option (List ℕ)) (t : Tally) (buffered : List ℕ) → buffered ≡ [] → state (append_known out buffered) log t ≡ state out log t
+held-none None log t buffered e = refl
+held-none (Some s) log t buffered e = ap (λ (l : List ℕ). state (Some (s ++ l)) log t) e ∙ ap (λ (l : List ℕ). state (Some l) log t) (append-nil s)
 
 IsLong-settled : (job : Job) (a b c : State) (text : List ℕ) (rest : Rest) → Settles b c → IsLong job a b text rest → IsLong job a c text rest
 IsLong-settled job a b c text rest s p =
@@ -181,13 +182,13 @@ IsLong-settled job a b c text rest s p =
       rests = p.rests;
       begun = p.begun;
       long = p.long;
-      did = Did-settled job a b c (unended text ∷ []) (p.fate ∷ []) p.did s;
+      processed = Processed-settled job a b c (unended text ∷ []) (p.fate ∷ []) p.processed s;
     }
 
 same_text : (job : Job) (a b c : State) (bytes held : List ℕ) (rest : Rest) (p : Answered job a b bytes rest held)
     → IsBegun job p.between c p.text rest → Answered job a c bytes rest held
 same_text job a b c bytes held rest p begun =
-    record { lines = p.lines; fates = p.fates; between = p.between; text = p.text; whole = p.whole; apart = p.apart; did = p.did; begun = begun }
+    record { lines = p.lines; fates = p.fates; between = p.between; text = p.text; whole = p.whole; apart = p.apart; processed = p.processed; begun = begun }
 
 pub Answered-settled : (job : Job) (a b c : State) (bytes held : List ℕ) (rest : Rest) → Settles b c
     → Answered job a b bytes rest held → Answered job a c bytes rest held
@@ -199,7 +200,7 @@ Answered-settled job a b c bytes held Absent s p =
       text = p.text;
       whole = p.whole;
       apart = p.apart;
-      did = Did-settled job a b c p.lines p.fates (Did-apart job a b bytes held p) s;
+      processed = Processed-settled job a b c p.lines p.fates (Processed-apart job a b bytes held p) s;
       begun = (p.begun.0, refl);
     }
 Answered-settled job a b c bytes held Passing s p =
@@ -257,10 +258,6 @@ GoesOn-continues job b out rest bytes front p = Answered-more job b out bytes by
 
 -- ---- the end
 
-pub lines_of-text : (text : List ℕ) → 0 < length text → HasNoLf text → lines_of text ≡ unended text ∷ []
-lines_of-text [] h begun = absurd (omega arith)
-lines_of-text (x ∷ text) h begun = lines_of-last x text begun
-
 lines_of-all : (job : Job) (a b : State) (bytes held : List ℕ) (rest : Rest) (p : Answered job a b bytes rest held)
     → lines_of bytes ≡ p.lines ++ lines_of (p.text ++ held)
 lines_of-all job a b bytes held rest p = ap lines_of p.whole ∙ lines_of-joined p.lines (p.text ++ held) p.apart
@@ -269,7 +266,7 @@ lines_of-all job a b bytes held rest p = ap lines_of p.whole ∙ lines_of-joined
 pub record IsDone (job : Job) (a b : State) (bytes held : List ℕ) : Type 0 where
   pub lines : List Line
   pub fates : List Fate
-  pub did : Did job a b lines fates
+  pub processed : Processed job a b lines fates
   pub cut : lines_of bytes ≡ lines ++ lines_of held
 
 done_long : (job : Job) (a b : State) (bytes held : List ℕ) (rest : Rest) (p : Answered job a b bytes rest held) → 0 < job.limit → held ≡ []
@@ -278,12 +275,12 @@ done_long job a b bytes held rest p some none long =
     record {
       lines = p.lines ++ unended p.text ∷ [];
       fates = p.fates ++ long.fate ∷ [];
-      did = Did-then job a p.between b p.lines (unended p.text ∷ []) p.fates (long.fate ∷ []) p.did long.did;
+      processed = Processed-then job a p.between b p.lines (unended p.text ∷ []) p.fates (long.fate ∷ []) p.processed long.processed;
       cut =
           lines_of-all job a b bytes held rest p
           ∙ ap (λ (l : List ℕ). p.lines ++ lines_of (p.text ++ l)) none
           ∙ ap (λ (l : List ℕ). p.lines ++ lines_of l) (append-nil p.text)
-          ∙ ap (λ (ls : List Line). p.lines ++ ls) (lines_of-text p.text (omega (arith, long.long)) long.begun)
+          ∙ ap (λ (ls : List Line). p.lines ++ ls) (lines_of-last p.text (omega (arith, long.long)) long.begun)
           ∙ sym (append-nil (p.lines ++ unended p.text ∷ []))
           ∙ ap (λ (l : List ℕ). (p.lines ++ unended p.text ∷ []) ++ lines_of l) (sym none);
     }
@@ -295,7 +292,7 @@ Answered-done job a b bytes held Absent some none p =
     record {
       lines = p.lines;
       fates = p.fates;
-      did = Did-apart job a b bytes held p;
+      processed = Processed-apart job a b bytes held p;
       cut = ap lines_of (whole-apart job a b bytes held p) ∙ lines_of-joined p.lines held p.apart;
     }
 Answered-done job a b bytes held Passing some none p = done_long job a b bytes held Passing p some (none tt) p.begun

@@ -1,4 +1,4 @@
 pub mod LinesLemmas
-pub mod DidLemmas
+pub mod ProcessedLemmas
 pub mod AnsweredLemmas
 pub mod StoppedLemmas

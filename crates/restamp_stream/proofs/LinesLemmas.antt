@@ -1,81 +1,21 @@
--- Lines that are joined, and a text that is cut into its lines.
+-- What is left of bytes that are cut into lines, and the laws of an input.
 use Rattle.std.specs.Bool.{MatchBool}
 use Rattle.std.specs.Io.KnownBytes.{Appends}
 use Rattle.std.specs.Prelude.{if◌then◌else◌}
 use Rattle.std.specs.Fmt.{decimal}
-use Rattle.std.proofs.Common.{◌≡◌, ℕ, ◌-◌, ◌≤◌, suc, List, [], ◌∷◌, ◌++◌, length, drop, refl, ap, sym, arith, ◌∙◌, append_assoc, inl, inr, zero, take, subst, take-append-drop, Option, None, Some, Bool, true, false, ◌<◌, get_or, codes, Result, Ok, Err, OnOk}
-use Rattle.std.proofs.lemmas.Bool.Decides.{nat_tests}
-use Rattle.std.proofs.lemmas.Bool.{cases_eq}
+use Rattle.std.proofs.Common.{◌≡◌, ℕ, ◌-◌, ◌≤◌, suc, List, [], ◌∷◌, ◌++◌, length, drop, refl, ap, sym, arith, ◌∙◌, append_assoc, zero, take, subst, take-append-drop, Option, None, Some, Bool, true, false, ◌<◌, get_or, codes, Result, Ok, Err, OnOk}
 use Rattle.std.proofs.lemmas.List.{drop_at, length-append, take_all, length-drop}
 use Rattle.std.proofs.lemmas.Grind.{flat_map-append}
 use Rattle.std.proofs.KnownBytes.{Appends-trans}
-use Rattle.restamp_stream.specs.Streams.{Line, ended, unended, onto_first, lines_of, joined, AreEnded, HasNoLf, EndsWith, Job, front_of, text_of, IsNaming, IsReport, AreAnswered, OneAnswer, OneResult, AreKept, KeptBytes}
+use Rattle.byte_streams.specs.Lines.{Line, lines_of, joined}
+use Rattle.byte_streams.proofs.LinesLemmas.{joined-lines_of}
+use Rattle.restamp_stream.specs.Streams.{EndsWith, Job, front_of, text_of, IsNaming, IsReport, AreAnswered, OneAnswer, OneResult, AreKept, KeptBytes}
 use Rattle.restamp_stream.specs.declared.fate.Fate.{Fate}
 use Rattle.restamp_stream.specs.declared.fate.Fate.TheVariants.{Without, Rewritten, Dropped, Refused}
 use Rattle.restamp_stream.specs.declared.settings.Output.{Output}
 use Rattle.restamp_stream.specs.declared.settings.Output.TheVariants.{AllLines}
 use Rattle.restamp_stream.specs.declared.tally.Tally.{Tally}
-use Rattle.restamp_stream.specs.Reports.{count_fate, counted, front_text, rest_of, passed, is_named, report_of, unnamed, more_text, is_escaped, escape, shown_byte, shown_as, reason_text, shown_name, unread_text}
-
-pub joined-append : (lines more : List Line) → joined (lines ++ more) ≡ joined lines ++ joined more
-joined-append [] more = refl
-joined-append (line ∷ lines) more =
-    ap (λ (l : List ℕ). (line.text ++ line.ending) ++ l) (joined-append lines more)
-    ∙ sym (append_assoc (line.text ++ line.ending) (joined lines) (joined more))
-
-pub AreEnded-append : (lines more : List Line) → AreEnded lines → AreEnded more → AreEnded (lines ++ more)
-AreEnded-append [] more p q = q
-AreEnded-append (line ∷ lines) more p q = (p.0, p.1, AreEnded-append lines more p.2 q)
-
-pub HasNoLf-nil : HasNoLf []
-HasNoLf-nil k below = absurd (omega arith)
-
-pub HasNoLf-append : (xs ys : List ℕ) → HasNoLf xs → HasNoLf ys → HasNoLf (xs ++ ys)
-HasNoLf-append [] ys p q k below = q k below
-HasNoLf-append (x ∷ xs) ys p q zero below = p 0 (omega arith)
-HasNoLf-append (x ∷ xs) ys p q (suc k) below = HasNoLf-append xs ys (λ j b. p (suc j) (omega arith)) q k (omega arith)
-
-pub past_lf : (x : ℕ) (xs : List ℕ) → (x ≡ 10 → ⊥) → lines_of (x ∷ xs) ≡ onto_first x (lines_of xs)
-past_lf x xs ne = grind (arith, nat_tests)
-
-pub lines_of-ended : (line rest : List ℕ) → HasNoLf line → lines_of (line ++ 10 ∷ rest) ≡ ended line ∷ lines_of rest
-lines_of-ended [] rest h = refl
-lines_of-ended (x ∷ line) rest h =
-    past_lf x (line ++ 10 ∷ rest) (h 0 (omega arith))
-    ∙ ap (onto_first x) (lines_of-ended line rest (λ k below. h (suc k) (omega arith)))
-
-pub lines_of-joined : (lines : List Line) (rest : List ℕ) → AreEnded lines → lines_of (joined lines ++ rest) ≡ lines ++ lines_of rest
-lines_of-joined [] rest h = refl
-lines_of-joined (line ∷ lines) rest h =
-    let cut : (line.text ++ line.ending) ++ joined lines ++ rest ≡ line.text ++ 10 ∷ (joined lines ++ rest) =
-    ap (λ (e : List ℕ). (line.text ++ e) ++ joined lines ++ rest) h.1
-    ∙ append_assoc (line.text ++ 10 ∷ []) (joined lines) rest
-    ∙ append_assoc line.text (10 ∷ []) (joined lines ++ rest) in
-    let same : ended line.text ≡ line = λ j. record { text = line.text; ending = sym h.1 j } in
-    ap lines_of cut
-    ∙ lines_of-ended line.text (joined lines ++ rest) h.0
-    ∙ ap (λ (l : Line). l ∷ lines_of (joined lines ++ rest)) same
-    ∙ ap (λ (ls : List Line). line ∷ ls) (lines_of-joined lines rest h.2)
-
--- the last line has no LF
-pub lines_of-last : (x : ℕ) (line : List ℕ) → HasNoLf (x ∷ line) → lines_of (x ∷ line) ≡ unended (x ∷ line) ∷ []
-lines_of-last x [] h = past_lf x [] (h 0 (omega arith))
-lines_of-last x (y ∷ line) h =
-    past_lf x (y ∷ line) (h 0 (omega arith))
-    ∙ ap (onto_first x) (lines_of-last y line (λ k below. h (suc k) (omega arith)))
-
--- the lines of a text have its bytes
-joined-onto_first : (x : ℕ) (lines : List Line) → joined (onto_first x lines) ≡ x ∷ joined lines
-joined-onto_first x [] = refl
-joined-onto_first x (line ∷ lines) = refl
-
-pub joined-lines_of : (bytes : List ℕ) → joined (lines_of bytes) ≡ bytes
-joined-lines_of [] = refl
-joined-lines_of (x ∷ bytes) =
-    elim (cases_eq x 10) [
-      | inl e ↦ ap (λ (y : ℕ). joined (lines_of (y ∷ bytes))) e ∙ ap (λ (l : List ℕ). 10 ∷ l) (joined-lines_of bytes) ∙ ap (λ (y : ℕ). y ∷ bytes) (sym e)
-      | inr ne ↦ ap joined (past_lf x bytes ne) ∙ joined-onto_first x (lines_of bytes) ∙ ap (λ (l : List ℕ). x ∷ l) (joined-lines_of bytes)
-    ]
+use Rattle.restamp_stream.specs.Reports.{count_fate, counted, front_text, rest_of, passed, is_named, report_of, unnamed, more_text, is_escaped, escape, shown_byte, displayed_as, reason_text, displayed_name, unread_text}
 
 -- what is left at the end
 pub left_at_end : (bytes front left : List ℕ) → bytes ≡ front ++ left → drop (length bytes - length left) bytes ≡ left
@@ -153,8 +93,8 @@ known_after (Some x) (Some y) text known is p = (y, refl)
 
 pub one_result : (job : Job) → OneFate job → OneReason job → OneResult job
 one_result job fate_one reason_one bytes out log tally after other p q =
-    let a = p.did in
-    let b = q.did in
+    let a = p.processed in
+    let b = q.processed in
     let same : (p.fates ≡ q.fates) × (a.text ≡ b.text) × (a.reports ≡ b.reports) =
     one_answer job fate_one reason_one _ (lines_of bytes) p.fates q.fates a.text b.text a.reports b.reports a.become b.become in
     let outs : p.between.out ≡ q.between.out = one_text (Some out) p.between.out q.between.out a.text b.text out refl same.1 a.written b.written in
@@ -204,29 +144,29 @@ kept_bytes job bytes before after fates all p k =
 -- ---- How a name is shown, part by part
 
 -- bytes of which none is shown by its number
-pub shown_as-plain : (ascii : Bool) (n : ℕ) (name : List ℕ)
-    → ((k : ℕ) → k < n → is_escaped ascii (get_or name k 0) ≡ false) → shown_as ascii (take n name) ≡ take n name
-shown_as-plain ascii zero name plain = refl
-shown_as-plain ascii (suc n) [] plain = refl
-shown_as-plain ascii (suc n) (x ∷ name) plain =
-    ap (λ (escaped : Bool). (if escaped then escape x else x ∷ []) ++ shown_as ascii (take n name)) (plain 0 (omega arith))
-    ∙ ap (λ (l : List ℕ). x ∷ l) (shown_as-plain ascii n name (λ k below. plain (suc k) (omega arith)))
+pub displayed_as-plain : (ascii : Bool) (n : ℕ) (name : List ℕ)
+    → ((k : ℕ) → k < n → is_escaped ascii (get_or name k 0) ≡ false) → displayed_as ascii (take n name) ≡ take n name
+displayed_as-plain ascii zero name plain = refl
+displayed_as-plain ascii (suc n) [] plain = refl
+displayed_as-plain ascii (suc n) (x ∷ name) plain =
+    ap (λ (escaped : Bool). (if escaped then escape x else x ∷ []) ++ displayed_as ascii (take n name)) (plain 0 (omega arith))
+    ∙ ap (λ (l : List ℕ). x ∷ l) (displayed_as-plain ascii n name (λ k below. plain (suc k) (omega arith)))
 
 -- a name is shown in two parts
-pub shown_as-parts : (ascii : Bool) (n : ℕ) (name : List ℕ)
-    → shown_as ascii (take n name) ++ shown_as ascii (drop n name) ≡ shown_as ascii name
-shown_as-parts ascii n name =
-    sym (flat_map-append (shown_byte ascii) (take n name) (drop n name)) ∙ ap (shown_as ascii) (take-append-drop n name)
+pub displayed_as-parts : (ascii : Bool) (n : ℕ) (name : List ℕ)
+    → displayed_as ascii (take n name) ++ displayed_as ascii (drop n name) ≡ displayed_as ascii name
+displayed_as-parts ascii n name =
+    sym (flat_map-append (shown_byte ascii) (take n name) (drop n name)) ∙ ap (displayed_as ascii) (take-append-drop n name)
 
 -- what was shown of a name, and then its next part
-pub shown_as-next : (ascii : Bool) (n : ℕ) (front rest name : List ℕ) → front ++ shown_as ascii rest ≡ shown_as ascii name
-    → (front ++ shown_as ascii (take n rest)) ++ shown_as ascii (take (length rest - n) (drop n rest)) ≡ shown_as ascii name
-shown_as-next ascii n front rest name so_far =
+pub displayed_as-next : (ascii : Bool) (n : ℕ) (front rest name : List ℕ) → front ++ displayed_as ascii rest ≡ displayed_as ascii name
+    → (front ++ displayed_as ascii (take n rest)) ++ displayed_as ascii (take (length rest - n) (drop n rest)) ≡ displayed_as ascii name
+displayed_as-next ascii n front rest name so_far =
     let tail : take (length rest - n) (drop n rest) ≡ drop n rest =
     take_all (length rest - n) (drop n rest) (omega (arith, length-drop n rest)) in
-    append_assoc front (shown_as ascii (take n rest)) (shown_as ascii (take (length rest - n) (drop n rest)))
-    ∙ ap (λ (l : List ℕ). front ++ (shown_as ascii (take n rest) ++ shown_as ascii l)) tail
-    ∙ ap (λ (l : List ℕ). front ++ l) (shown_as-parts ascii n rest) ∙ so_far
+    append_assoc front (displayed_as ascii (take n rest)) (displayed_as ascii (take (length rest - n) (drop n rest)))
+    ∙ ap (λ (l : List ℕ). front ++ (displayed_as ascii (take n rest) ++ displayed_as ascii l)) tail
+    ∙ ap (λ (l : List ℕ). front ++ l) (displayed_as-parts ascii n rest) ∙ so_far
 
 -- ---- What the log got in several writes
 
@@ -236,14 +176,15 @@ report_joined name number mark why end =
     ap (λ (l : List ℕ). name ++ l) (append_assoc mark (number ++ mark) (why ++ end) ∙ ap (λ (l : List ℕ). mark ++ l) (append_assoc number mark (why ++ end)))
 
 pub Appends-report : (a b c d e : Option (List ℕ)) (name : List ℕ) (line column : ℕ) (reason : List ℕ)
-    → Appends a b (shown_name name) → Appends b c (codes ":" ++ (decimal line ++ codes ":")) → Appends c d (reason_text column reason) → Appends d e (10 ∷ [])
+    → Appends a b (displayed_name name) → Appends b c (codes ":" ++ (decimal line ++ codes ":")) → Appends c d (reason_text column reason)
+    → Appends d e (10 ∷ [])
     → Appends a e (report_of name line column reason)
 Appends-report a b c d e name line column reason p q r s =
     let mark : List ℕ = codes ":" in
     let middle : List ℕ = mark ++ (decimal line ++ mark) in
     let why : List ℕ = reason_text column reason in
-    subst (Appends a e) (report_joined (shown_name name) (decimal line) mark why (10 ∷ []))
-    (Appends-trans a b e (shown_name name) (middle ++ (why ++ 10 ∷ [])) p
+    subst (Appends a e) (report_joined (displayed_name name) (decimal line) mark why (10 ∷ []))
+    (Appends-trans a b e (displayed_name name) (middle ++ (why ++ 10 ∷ [])) p
     (Appends-trans b c e middle (why ++ 10 ∷ []) q
     (Appends-trans c d e why (10 ∷ []) r s)))
 
@@ -251,8 +192,8 @@ pub OnOk-map : {V E : Type 0} (r : Result V E) (P Q : Type 0) → OnOk r P → (
 OnOk-map (Ok v) P Q p f = f p
 OnOk-map (Err e) P Q p f = tt
 
-pub Appends-unread : (a b c d e : Option (List ℕ)) (name why : List ℕ) → Appends a b (shown_name name)
+pub Appends-unread : (a b c d e : Option (List ℕ)) (name why : List ℕ) → Appends a b (displayed_name name)
     → Appends b c (codes ": ") → Appends c d why → Appends d e (10 ∷ []) → Appends a e (unread_text name why)
 Appends-unread a b c d e name why p q r s =
-    Appends-trans a b e (shown_name name) (codes ": " ++ (why ++ 10 ∷ [])) p
+    Appends-trans a b e (displayed_name name) (codes ": " ++ (why ++ 10 ∷ [])) p
     (Appends-trans b c e (codes ": ") (why ++ 10 ∷ []) q (Appends-trans c d e why (10 ∷ []) r s))

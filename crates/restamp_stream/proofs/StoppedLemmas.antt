@@ -10,12 +10,13 @@ use Rattle.restamp_stream.specs.declared.fate.Rest.TheVariants.{Absent, Passing,
 use Rattle.restamp_stream.specs.declared.ending.Stop.{Stop}
 use Rattle.restamp_stream.specs.declared.ending.Stop.TheVariants.{Unread, Unwritten, Refused}
 use Rattle.restamp_stream.specs.declared.tally.Tally.{Tally}
-use Rattle.restamp_stream.specs.Streams.{Line, ended, unended, onto_first, lines_of, joined, HasNoLf, Job, IsReport, State, Did, Answered, RefusedAt, Stopped, IsHeld, Served}
+use Rattle.byte_streams.specs.Lines.{Line, ended, unended, onto_first, lines_of, joined, HasNoLf}
+use Rattle.byte_streams.proofs.LinesLemmas.{lines_of-joined, lines_of-ended, lines_of-last, past_lf, HasNoLf-nil}
+use Rattle.restamp_stream.specs.Streams.{Job, IsReport, State, Processed, Answered, RefusedAt, Stopped, IsHeld, Served}
 use Rattle.restamp_stream.specs.Held.{Continues, Stops, StoppedBy, Settles}
 use Rattle.restamp_stream.specs.Reports.{HasFront}
-use Rattle.restamp_stream.proofs.DidLemmas.{Did-none, Did-then, Did-settled}
-use Rattle.restamp_stream.proofs.AnsweredLemmas.{Did-apart, whole-apart, Answered-none, Answered-read, Answered-new, IsDone, Answered-done, lines_of-text}
-use Rattle.restamp_stream.proofs.LinesLemmas.{lines_of-joined, lines_of-ended, past_lf, HasNoLf-nil}
+use Rattle.restamp_stream.proofs.ProcessedLemmas.{Processed-none, Processed-then, Processed-settled}
+use Rattle.restamp_stream.proofs.AnsweredLemmas.{Processed-apart, whole-apart, Answered-none, Answered-read, Answered-new, IsDone, Answered-done}
 
 -- the lines begin with one of that front
 record BeginsWith (job : Job) (front : List ℕ) (lines : List Line) : Type 0 where
@@ -33,13 +34,13 @@ Stopped-first job a b front all p q =
       whole = p.whole;
       fates = [];
       between = a;
-      did = Did-none job a;
+      processed = Processed-none job a;
       stopped = subst (RefusedAt job a b) (sym p.same) q;
     }
 
 pub Stopped-then : (job : Job) (a b c : State) (lines all : List Line) (fates : List Fate)
-    → Did job a b lines fates → Stopped job b c all → Stopped job a c (lines ++ all)
-Stopped-then job a b c lines all fates did p =
+    → Processed job a b lines fates → Stopped job b c all → Stopped job a c (lines ++ all)
+Stopped-then job a b c lines all fates processed p =
     record {
       lines = lines ++ p.lines;
       line = p.line;
@@ -47,7 +48,7 @@ Stopped-then job a b c lines all fates did p =
       whole = ap (λ (ls : List Line). lines ++ ls) p.whole ∙ sym (append_assoc lines p.lines (p.line ∷ p.others));
       fates = fates ++ p.fates;
       between = p.between;
-      did = Did-then job a b p.between lines p.lines fates p.fates did p.did;
+      processed = Processed-then job a b p.between lines p.lines fates p.fates processed p.processed;
       stopped = p.stopped;
     }
 
@@ -59,7 +60,7 @@ Stops-first job b c held front first q a read more p =
     ∙ ap lines_of (append_assoc (joined p.lines) held more)
     ∙ lines_of-joined p.lines (held ++ more) p.apart in
     subst (Stopped job a c) (sym cut)
-    (Stopped-then job a b c p.lines (lines_of (held ++ more)) p.fates (Did-apart job a b read held p)
+    (Stopped-then job a b c p.lines (lines_of (held ++ more)) p.fates (Processed-apart job a b read held p)
     (Stopped-first job b c front (lines_of (held ++ more)) (first more) q))
 
 -- at a line that ends
@@ -149,7 +150,7 @@ Stopped-settled job a b c all s p =
       whole = p.whole;
       fates = p.fates;
       between = p.between;
-      did = p.did;
+      processed = p.processed;
       stopped =
           record {
             report = at.report;
@@ -183,19 +184,19 @@ Stopped-last_settled stop job a0 a b c line rest same is e short p s =
 -- ---- What was read and answered, to the end
 
 -- no line is left
-pub finished-none : (job : Job) (a : State) (rest : List ℕ) → length rest ≡ 0 → (fates : List Fate) × Did job a a (lines_of rest) fates
-finished-none job a [] e = ([], Did-none job a)
+pub finished-none : (job : Job) (a : State) (rest : List ℕ) → length rest ≡ 0 → (fates : List Fate) × Processed job a a (lines_of rest) fates
+finished-none job a [] e = ([], Processed-none job a)
 finished-none job a (x ∷ rest) e = absurd (omega arith)
 
 -- the last line has no LF
 pub finished : (job : Job) (a0 a b c : State) (line rest : List ℕ) (fate : Fate) → a0 ≡ a → 0 < length rest → HasNoLf rest → line ≡ rest
-    → Did job a0 b (unended line ∷ []) (fate ∷ []) → Settles b c → (fates : List Fate) × Did job a c (lines_of rest) fates
-finished job a0 a b c line rest fate same h begun is did s = (
+    → Processed job a0 b (unended line ∷ []) (fate ∷ []) → Settles b c → (fates : List Fate) × Processed job a c (lines_of rest) fates
+finished job a0 a b c line rest fate same h begun is processed s = (
   fate ∷ [],
-  subst (λ (ls : List Line). Did job a c ls (fate ∷ []))
-      (ap (λ (l : List ℕ). unended l ∷ []) is ∙ sym (lines_of-text rest h begun))
-      (subst (λ (x : State). Did job x c (unended line ∷ []) (fate ∷ [])) same
-      (Did-settled job a0 b c (unended line ∷ []) (fate ∷ []) did s)),
+  subst (λ (ls : List Line). Processed job a c ls (fate ∷ []))
+      (ap (λ (l : List ℕ). unended l ∷ []) is ∙ sym (lines_of-last rest h begun))
+      (subst (λ (x : State). Processed job x c (unended line ∷ []) (fate ∷ [])) same
+      (Processed-settled job a0 b c (unended line ∷ []) (fate ∷ []) processed s)),
 )
 
 -- ---- what is held before a read
@@ -262,17 +263,17 @@ Served-done job r0 r1 a b held more new rest some p e none =
 
 pub Served-all : {E : Type 0} (result : Result (Unit {0}) E) (job : Job) (r0 r1 r2 : Option (List ℕ)) (a b c : State) (held more new : List ℕ) (rest : Rest)
     → 0 < job.limit → Served job r0 r1 a b rest held → new ≡ held ++ more → more ≡ [] → Consumes r1 r2 more → IsAtEnd r2
-    → OnOk result ((fates : List Fate) × Did job b c (lines_of new) fates)
-    → OnOk result (IfSome r0 (λ bytes. (fates : List Fate) × Did job a c (lines_of bytes) fates))
+    → OnOk result ((fates : List Fate) × Processed job b c (lines_of new) fates)
+    → OnOk result (IfSome r0 (λ bytes. (fates : List Fate) × Processed job a c (lines_of bytes) fates))
 Served-all (Err f) job r0 r1 r2 a b c held more new rest some p e none q end last = tt
 Served-all (Ok u) job r0 r1 r2 a b c held more new rest some p e none q end last =
     let done : IsDone job a b (p.read ++ more) new = Served-done job r0 r1 a b held more new rest some p e none in
-    Consumes-whole r0 r2 (p.read ++ more) (λ bytes. (fates : List Fate) × Did job a c (lines_of bytes) fates)
+    Consumes-whole r0 r2 (p.read ++ more) (λ bytes. (fates : List Fate) × Processed job a c (lines_of bytes) fates)
     (Consumes-trans r0 r1 r2 p.read more p.consumed q)
     end (
       done.fates ++ last.0,
-      subst (λ (ls : List Line). Did job a c ls (done.fates ++ last.0)) (sym done.cut)
-          (Did-then job a b c done.lines (lines_of new) done.fates last.0 done.did last.1),
+      subst (λ (ls : List Line). Processed job a c ls (done.fates ++ last.0)) (sym done.cut)
+          (Processed-then job a b c done.lines (lines_of new) done.fates last.0 done.processed last.1),
     )
 
 -- ---- the work stops
@@ -288,7 +289,7 @@ Served-stopped_at_end (Err stop) job r0 r1 r2 a b c held more new rest some p e 
     let stopped : Stopped job b c (lines_of new) = subst (λ (s : Stop). StoppedBy s (Stopped job b c (lines_of new))) is last in
     Consumes-whole r0 r2 (p.read ++ more) (λ bytes. Stopped job a c (lines_of bytes))
     (Consumes-trans r0 r1 r2 p.read more p.consumed q)
-    end (subst (Stopped job a c) (sym done.cut) (Stopped-then job a b c done.lines (lines_of new) done.fates done.did stopped))
+    end (subst (Stopped job a c) (sym done.cut) (Stopped-then job a b c done.lines (lines_of new) done.fates done.processed stopped))
 
 Consumes-front : (a b : Option (List ℕ)) (bs : List ℕ) (P : List ℕ → Type 0) → Consumes a b bs → ((more : List ℕ) → P (bs ++ more)) → IfSome a P
 Consumes-front None b bs P p h = tt

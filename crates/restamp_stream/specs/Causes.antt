@@ -1,6 +1,6 @@
 -- Why the work stopped.
-use Rattle.std.specs.Prelude.{◌≡◌, ◌⊎◌, ℕ, ◌+◌, ◌≤◌, Result, MatchResult, ◌<◌, Bool, IsTrue, IsSome, Option}
-use Rattle.programs_streams.specs.Faults.{Rises, count_more}
+use Rattle.std.specs.Prelude.{◌≡◌, ◌⊎◌, ℕ, ◌+◌, Result, MatchResult, ◌<◌, Bool, IsTrue, IsSome, Option}
+use Rattle.byte_streams.specs.Faults.{Rises}
 use Rattle.restamp_stream.specs.declared.ending.Stop.{Stop}
 use Rattle.restamp_stream.specs.declared.ending.Stop.TheVariants.{Unread, Unwritten, Refused}
 use Rattle.restamp_stream.specs.declared.stream.Stream.{Stream}
@@ -8,7 +8,7 @@ use Rattle.restamp_stream.specs.declared.tally.Tally.{Tally}
 
 -- how often a call of a stream's writer or of its log has failed
 abbrev pub faults_of : {W L : Type 0} → (W → ℕ) → (L → ℕ) → Stream W L → ℕ
-faults_of faults log_faults s = faults s.out + log_faults s.log
+faults_of faults log_faults s = faults s.out.sink + log_faults s.log
 
 -- That count rose where the work stopped by a write, and is as it was where it stopped otherwise.
 abbrev pub IsCounted : Stop → ℕ → ℕ → Type 0
@@ -19,10 +19,6 @@ IsCounted Refused before now = now ≡ before
 -- The same, and it is as it was where the work came to its end.
 abbrev pub HasWriteCause : {V : Type 0} → Result V Stop → ℕ → ℕ → Type 0
 HasWriteCause result before now = MatchResult result (λ _. now ≡ before) (λ stop. IsCounted stop before now)
-
--- A read gave a byte more at least, or it failed.
-abbrev pub HasCome : ℕ → ℕ → ℕ → ℕ → Type 0
-HasCome faults faults' given given' = ((faults' ≡ faults) × (count_more given 1 ≤ given')) ⊎ Rises faults faults'
 
 -- ---- What the exit status tells of
 

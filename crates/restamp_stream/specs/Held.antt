@@ -3,7 +3,8 @@
 -- What a step of a stream does.
 use Rattle.std.specs.Prelude.{◌≡◌, ◌⊎◌, ℕ, ◌≤◌, List, [], ◌∷◌, ◌++◌, Option}
 use Rattle.std.specs.Io.KnownBytes.{Appends, Keeps, append_known}
-use Rattle.programs_streams.specs.Faults.{Rises, count_more}
+use Rattle.byte_streams.specs.Faults.{Rises, count_more}
+use Rattle.byte_streams.specs.Lines.{HasNoLf, lines_of}
 use Rattle.restamp_stream.specs.declared.fate.Fate.{Fate}
 use Rattle.restamp_stream.specs.declared.fate.Rest.{Rest}
 use Rattle.restamp_stream.specs.declared.fate.Rest.TheVariants.{Absent, Passing, Dropping}
@@ -12,17 +13,17 @@ use Rattle.restamp_stream.specs.declared.ending.Stop.{Stop}
 use Rattle.restamp_stream.specs.declared.ending.Stop.TheVariants.{Unread, Unwritten, Refused}
 use Rattle.restamp_stream.specs.declared.stream.Stream.{Stream}
 use Rattle.restamp_stream.specs.Reports.{passed}
-use Rattle.restamp_stream.specs.Streams.{HasNoLf, lines_of, Job, job_of, State, state, Answered, Stopped}
+use Rattle.restamp_stream.specs.Streams.{Job, job_of, State, state, Answered, Stopped}
 
 -- the job of those relations at a file
 abbrev pub job_at : (List ℕ → Fate → Type 0) → (List ℕ → ℕ → List ℕ → Type 0) → File → Job
 job_at is_fate is_reason file = job_of is_fate is_reason file.name.now file.settings
 
--- what a stream's writer gets once what waits is written
+-- what a stream's writer gets once the buffered bytes are written
 abbrev pub held_out : {W L : Type 0} → (W → Option (List ℕ)) → Stream W L → Option (List ℕ)
-held_out contents s = append_known (contents s.out) s.waiting.items
+held_out contents s = append_known (contents s.out.sink) s.out.buffer.items
 
--- the state of a stream once what waits is written
+-- the state of a stream once the buffered bytes are written
 abbrev pub held_state : {W L : Type 0} → (W → Option (List ℕ)) → (L → Option (List ℕ)) → Stream W L → State
 held_state contents log_contents s = state (held_out contents s) (log_contents s.log) s.tally
 
@@ -64,7 +65,7 @@ Ends out out' Passing bytes after =
 Ends out out' Dropping bytes after =
     (line : List ℕ) × (bytes ≡ line ++ 10 ∷ after) × HasNoLf line × Appends out out' []
 
--- From the one state to the other what waited was written.
+-- From the one state to the other the buffered bytes were written.
 pub record Settles (before after : State) : Type 0 where
   pub out : Keeps before.out after.out
   pub log : Keeps before.log after.log

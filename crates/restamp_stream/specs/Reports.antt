@@ -31,12 +31,12 @@ is_escaped ascii b = is_ascii_control b || (ascii && nat_le 128 b)
 abbrev pub shown_byte : Bool → ℕ → List ℕ
 shown_byte ascii b = if is_escaped ascii b then escape b else b ∷ []
 
-abbrev pub shown_as : Bool → List ℕ → List ℕ
-shown_as ascii name = flat_map (shown_byte ascii) name
+abbrev pub displayed_as : Bool → List ℕ → List ℕ
+displayed_as ascii name = flat_map (shown_byte ascii) name
 
 -- a name with its control bytes so
-abbrev pub shown_name : List ℕ → List ℕ
-shown_name name = shown_as false name
+abbrev pub displayed_name : List ℕ → List ℕ
+displayed_name name = displayed_as false name
 
 -- ---- What becomes of a line, by its front, and how it is counted
 
@@ -168,15 +168,15 @@ unnamed (First most) t = t.refused_here - most
 -- the report of a line of that file and number
 abbrev pub report_of : List ℕ → ℕ → ℕ → List ℕ → List ℕ
 report_of name line column reason =
-    shown_name name ++ (codes ":" ++ (decimal line ++ (codes ":" ++ (reason_text column reason ++ 10 ∷ []))))
+    displayed_name name ++ (codes ":" ++ (decimal line ++ (codes ":" ++ (reason_text column reason ++ 10 ∷ []))))
 
 -- the line on the log that n more lines of the file were refused, if there are any
 abbrev pub more_text : List ℕ → ℕ → List ℕ
 more_text name n =
     if n == 0 then [] else
-    if n == 1 then shown_name name ++ (codes ": 1 more line was refused" ++ 10 ∷ []) else
-    shown_name name ++ (codes ": " ++ (decimal n ++ (codes " more lines were refused" ++ 10 ∷ [])))
+    if n == 1 then displayed_name name ++ (codes ": 1 more line was refused" ++ 10 ∷ []) else
+    displayed_name name ++ (codes ": " ++ (decimal n ++ (codes " more lines were refused" ++ 10 ∷ [])))
 
 -- the line on the log that the file was not read, and why
 abbrev pub unread_text : List ℕ → List ℕ → List ℕ
-unread_text name why = shown_name name ++ (codes ": " ++ (why ++ 10 ∷ []))
+unread_text name why = displayed_name name ++ (codes ": " ++ (why ++ 10 ∷ []))

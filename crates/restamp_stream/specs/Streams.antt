@@ -1,7 +1,8 @@
 -- What a stream of lines is at, also where it stopped.
-use Rattle.std.specs.Prelude.{◌≡◌, ◌<◌, ℕ, List, [], ◌∷◌, ◌++◌, if◌then◌else◌, ◌==◌, length, slice_index, MatchBool, take, drop, Option, IsTrue, ◌≤◌, ◌⊎◌, IfSome, ⊤, Some}
+use Rattle.std.specs.Prelude.{◌≡◌, ◌<◌, ℕ, List, [], ◌∷◌, ◌++◌, length, MatchBool, take, drop, Option, IsTrue, ◌≤◌, ◌⊎◌, IfSome, ⊤, Some}
 use Rattle.std.specs.Io.KnownBytes.{Appends, Keeps, Consumes}
-use Rattle.programs_streams.specs.Faults.{Rises}
+use Rattle.byte_streams.specs.Faults.{Rises}
+use Rattle.byte_streams.specs.Lines.{Line, unended, lines_of, joined, HasNoLf, AreEnded}
 use Rattle.restamp_stream.specs.declared.fate.Fate.{Fate}
 use Rattle.restamp_stream.specs.declared.settings.Reports.{Reports}
 use Rattle.restamp_stream.specs.declared.settings.Settings.{Settings}
@@ -14,48 +15,9 @@ use Rattle.restamp_stream.specs.declared.fate.Rest.TheVariants.{Absent, Passing,
 use Rattle.restamp_stream.specs.declared.stream.Stream.{Stream}
 use Rattle.restamp_stream.specs.declared.settings.Output.TheVariants.{AllLines}
 
--- ---- The lines of an input
-
--- a line: what stands before its LF, and LF, or nothing where the input ends without one
-pub record Line : Type 0 where
-  pub text : List ℕ
-  pub ending : List ℕ
-
--- a line that ends with LF
-abbrev pub ended : List ℕ → Line
-ended text = record { text = text; ending = 10 ∷ [] }
-
--- a line with no LF
-abbrev pub unended : List ℕ → Line
-unended text = record { text = text; ending = [] }
-
--- the byte b in front of the first of the lines
-abbrev pub onto_first : ℕ → List Line → List Line
-onto_first b [] = unended (b ∷ []) ∷ []
-onto_first b (line ∷ lines) = record { text = b ∷ line.text; ending = line.ending } ∷ lines
-
--- The lines of a text. What comes after the last LF is a line unless it is empty.
-abbrev pub lines_of : List ℕ → List Line
-lines_of [] = []
-lines_of (b ∷ bytes) = if b == 10 then ended [] ∷ lines_of bytes else onto_first b (lines_of bytes)
-
--- the bytes of lines
-abbrev pub joined : List Line → List ℕ
-joined [] = []
-joined (line ∷ lines) = (line.text ++ line.ending) ++ joined lines
-
--- no byte is LF
-abbrev pub HasNoLf : List ℕ → Type 0
-HasNoLf bytes = (k : ℕ) → k < length bytes → ¬ (slice_index bytes k ≡ 10)
-
 -- Bytes end with those that are left.
 abbrev pub EndsWith : List ℕ → List ℕ → Type 0
 EndsWith bytes left = (front : List ℕ) × (bytes ≡ front ++ left)
-
--- each ends with its one LF
-abbrev pub AreEnded : List Line → Type 0
-AreEnded [] = Unit {0}
-AreEnded (line ∷ lines) = HasNoLf line.text × (line.ending ≡ 10 ∷ []) × AreEnded lines
 
 -- ---- What was done to lines: what the writer and the log got, and what was counted
 
@@ -124,7 +86,7 @@ abbrev pub before_lines : State → State
 before_lines s = state s.out s.log (at_first_line s.tally)
 
 -- From the one state to the other the lines, which have those fates, were answered, reported and counted.
-pub record Did (job : Job) (before after : State) (lines : List Line) (fates : List Fate) : Type 0 where
+pub record Processed (job : Job) (before after : State) (lines : List Line) (fates : List Fate) : Type 0 where
   pub text : List ℕ
   pub reports : List ℕ
   pub become : AreAnswered job before.tally lines fates text reports
@@ -139,15 +101,15 @@ pub record Closes (name : List ℕ) (reports : Reports) (before after : State) :
   pub same_tally : after.tally ≡ before.tally
 
 -- From the one state to the other all lines of an input were answered, and what was refused was told.
-pub record DidAll (job : Job) (before after : State) (bytes : List ℕ) : Type 0 where
+pub record ProcessedAll (job : Job) (before after : State) (bytes : List ℕ) : Type 0 where
   pub fates : List Fate
   pub between : State
-  pub did : Did job (before_lines before) between (lines_of bytes) fates
+  pub processed : Processed job (before_lines before) between (lines_of bytes) fates
   pub closed : Closes job.name job.settings.reports between after
 
 -- what a stream's writer and its log hold, and its tally
 abbrev pub state_of : {W L : Type 0} → (W → Option (List ℕ)) → (L → Option (List ℕ)) → Stream W L → State
-state_of contents log_contents s = state (contents s.out) (log_contents s.log) s.tally
+state_of contents log_contents s = state (contents s.out.sink) (log_contents s.log) s.tally
 
 -- From the one state to the other a line was answered that has that text so far: at least its front, and no LF.
 pub record IsLong (job : Job) (before after : State) (text : List ℕ) (rest : Rest) : Type 0 where
@@ -155,7 +117,7 @@ pub record IsLong (job : Job) (before after : State) (text : List ℕ) (rest : R
   pub rests : rest_of job.settings.output fate ≡ rest
   pub begun : HasNoLf text
   pub long : job.limit ≤ length text
-  pub did : Did job before after (unended text ∷ []) (fate ∷ [])
+  pub processed : Processed job before after (unended text ∷ []) (fate ∷ [])
 
 -- the same, or there is no such line
 abbrev pub IsBegun : Job → State → State → List ℕ → Rest → Type 0
@@ -172,7 +134,7 @@ pub record Answered (job : Job) (before after : State) (read : List ℕ) (rest :
   pub text : List ℕ
   pub whole : read ≡ joined lines ++ (text ++ held)
   pub apart : AreEnded lines
-  pub did : Did job before between lines fates
+  pub processed : Processed job before between lines fates
   pub begun : IsBegun job between after text rest
 
 -- What may be held before a read: less than the front of a line, and nothing of a line whose front was answered.
@@ -207,7 +169,7 @@ pub record Stopped (job : Job) (before after : State) (all : List Line) : Type 0
   pub whole : all ≡ lines ++ line ∷ others
   pub fates : List Fate
   pub between : State
-  pub did : Did job before between lines fates
+  pub processed : Processed job before between lines fates
   pub stopped : RefusedAt job between after (front_of job line)
 
 -- From the one state to the other the log got that the file was not read to its end, and why.
@@ -218,7 +180,7 @@ pub record Fails (name : List ℕ) (before after : State) : Type 0 where
   pub counts : after.tally ≡ count_unread before.tally
 
 -- A read of the input failed: of all that was read what could be answered was answered, and what was refused was told.
-pub record DidSome (job : Job) (old new : Option (List ℕ)) (before after : State) : Type 0 where
+pub record ProcessedSome (job : Job) (old new : Option (List ℕ)) (before after : State) : Type 0 where
   pub rest : Rest
   pub held : List ℕ
   pub answered : State
@@ -228,7 +190,7 @@ pub record DidSome (job : Job) (old new : Option (List ℕ)) (before after : Sta
   pub closed : Closes job.name job.settings.reports failed after
 
 -- A line of the input was rejected: all lines before it were processed, and what was rejected was reported.
-pub record DidBefore (job : Job) (before after : State) (bytes : List ℕ) : Type 0 where
+pub record ProcessedBefore (job : Job) (before after : State) (bytes : List ℕ) : Type 0 where
   pub between : State
   pub stopped : Stopped job (before_lines before) between (lines_of bytes)
   pub closed : Closes job.name job.settings.reports between after
@@ -237,25 +199,27 @@ pub record DidBefore (job : Job) (before after : State) (bytes : List ℕ) : Typ
 
 -- From the one state to the other the lines of a file that were read until a read failed were answered, or none where
 -- it was not opened. The count of openings and files that failed rose from the one number to the other.
-abbrev pub DidCutOff : Job → Option (List ℕ) → ℕ → ℕ → State → State → Type 0
-DidCutOff job bytes faults faults' before after =
+abbrev pub ProcessedCutOff : Job → Option (List ℕ) → ℕ → ℕ → State → State → Type 0
+ProcessedCutOff job bytes faults faults' before after =
     Rises faults faults'
-    × (((left : Option (List ℕ)) × DidSome job bytes left before after) ⊎ Fails job.name before after)
+    × (((left : Option (List ℕ)) × ProcessedSome job bytes left before after) ⊎ Fails job.name before after)
 
 -- The same, or all its lines were answered. The file has those bytes, where they are known.
-abbrev pub DidFile : Job → Option (List ℕ) → ℕ → ℕ → State → State → Type 0
-DidFile job bytes faults faults' before after =
-    IfSome bytes (DidAll job before after) ⊎ DidCutOff job bytes faults faults' before after
+abbrev pub ProcessedFile : Job → Option (List ℕ) → ℕ → ℕ → State → State → Type 0
+ProcessedFile job bytes faults faults' before after =
+    IfSome bytes (ProcessedAll job before after) ⊎ ProcessedCutOff job bytes faults faults' before after
 
 -- the same of the files of those names
-abbrev pub DidFiles : (List ℕ → Fate → Type 0) → (List ℕ → ℕ → List ℕ → Type 0) → Settings → (List ℕ → Option (List ℕ))
+abbrev pub ProcessedFiles : (List ℕ → Fate → Type 0) → (List ℕ → ℕ → List ℕ → Type 0) → Settings
+    → (List ℕ → Option (List ℕ))
     → ℕ → ℕ → State → State → List (List ℕ) → Type 0
-DidFiles is_fate is_reason settings bytes_of faults faults' before after [] = (before ≡ after) × (faults ≡ faults')
-DidFiles is_fate is_reason settings bytes_of faults faults' before after (name ∷ names) =
+ProcessedFiles is_fate is_reason settings bytes_of faults faults' before after [] =
+    (before ≡ after) × (faults ≡ faults')
+ProcessedFiles is_fate is_reason settings bytes_of faults faults' before after (name ∷ names) =
     (between : State) × (mid : ℕ)
-    × DidFile (job_of is_fate is_reason name settings) (bytes_of name) faults mid before between
+    × ProcessedFile (job_of is_fate is_reason name settings) (bytes_of name) faults mid before between
     × (faults ≤ mid)
-    × DidFiles is_fate is_reason settings bytes_of mid faults' between after names
+    × ProcessedFiles is_fate is_reason settings bytes_of mid faults' between after names
 
 -- The work stopped at the first refused line of one of the files of those names, whose bytes are those where they are
 -- known: the files before it were answered, and of it all lines before that one.
@@ -263,20 +227,22 @@ abbrev pub StoppedIn : (List ℕ → Fate → Type 0) → (List ℕ → ℕ → 
     → ℕ → ℕ → State → State → List (List ℕ) → Type 0
 StoppedIn is_fate is_reason settings bytes_of faults faults' before after [] = ⊥
 StoppedIn is_fate is_reason settings bytes_of faults faults' before after (name ∷ names) =
-    (IfSome (bytes_of name) (DidBefore (job_of is_fate is_reason name settings) before after) × (faults ≤ faults'))
+    (IfSome (bytes_of name) (ProcessedBefore (job_of is_fate is_reason name settings) before after)
+    × (faults ≤ faults'))
     ⊎ ((between : State) × (mid : ℕ)
-    × DidFile (job_of is_fate is_reason name settings) (bytes_of name) faults mid before between
+    × ProcessedFile (job_of is_fate is_reason name settings) (bytes_of name) faults mid before between
     × (faults ≤ mid)
     × StoppedIn is_fate is_reason settings bytes_of mid faults' between after names)
 
 -- From the one state to the other all lines of each of the files of those names were answered.
-abbrev pub AreDone : (List ℕ → Fate → Type 0) → (List ℕ → ℕ → List ℕ → Type 0) → Settings → (List ℕ → Option (List ℕ))
+abbrev pub AreProcessed : (List ℕ → Fate → Type 0) → (List ℕ → ℕ → List ℕ → Type 0) → Settings
+    → (List ℕ → Option (List ℕ))
     → State → State → List (List ℕ) → Type 0
-AreDone is_fate is_reason settings bytes_of before after [] = before ≡ after
-AreDone is_fate is_reason settings bytes_of before after (name ∷ names) =
+AreProcessed is_fate is_reason settings bytes_of before after [] = before ≡ after
+AreProcessed is_fate is_reason settings bytes_of before after (name ∷ names) =
     (between : State)
-    × IfSome (bytes_of name) (DidAll (job_of is_fate is_reason name settings) before between)
-    × AreDone is_fate is_reason settings bytes_of between after names
+    × IfSome (bytes_of name) (ProcessedAll (job_of is_fate is_reason name settings) before between)
+    × AreProcessed is_fate is_reason settings bytes_of between after names
 
 -- ---- Laws of what is done to an input
 
@@ -291,8 +257,8 @@ OneAnswer job =
 abbrev pub OneResult : Job → Type 0
 OneResult job =
     (bytes out log : List ℕ) (tally : Tally) (after other : State)
-    → DidAll job (state (Some out) (Some log) tally) after bytes
-    → DidAll job (state (Some out) (Some log) tally) other bytes → after ≡ other
+    → ProcessedAll job (state (Some out) (Some log) tally) after bytes
+    → ProcessedAll job (state (Some out) (Some log) tally) other bytes → after ≡ other
 
 -- The lines of an input have its bytes.
 abbrev pub SameBytes : Type 0
@@ -310,4 +276,4 @@ AreKept (Refused ∷ fates) = AreKept fates
 abbrev pub KeptBytes : Job → Type 0
 KeptBytes job =
     (bytes : List ℕ) (before after : State) (fates : List Fate) → job.settings.output ≡ AllLines
-    → Did job before after (lines_of bytes) fates → AreKept fates → Appends before.out after.out bytes
+    → Processed job before after (lines_of bytes) fates → AreKept fates → Appends before.out after.out bytes

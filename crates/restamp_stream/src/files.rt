@@ -1,7 +1,7 @@
 //! Answers several files, one after the other.
 ghost use Rattle.std.specs.Prelude.{◌≡◌, ◌≢◌, ◌≤◌, ℕ, List, IfErr, IfOk, IfSome, OnOk, map, Option, Some};
-ghost use Rattle.programs_streams.specs.Faults.{HasCause, IsCutOff, Rises};
-ghost use Rattle.restamp_stream.specs.Streams.{DidAll, job_of, DidCutOff, DidFile, DidFiles, StoppedIn, state_of, DidBefore};
+ghost use Rattle.byte_streams.specs.Faults.{HasCause, IsCutOff, Rises};
+ghost use Rattle.restamp_stream.specs.Streams.{ProcessedAll, job_of, ProcessedCutOff, ProcessedFile, ProcessedFiles, StoppedIn, state_of, ProcessedBefore};
 ghost use Rattle.restamp_stream.specs.Causes.{faults_of, HasWriteCause};
 
 use crate::block::Block;
@@ -9,7 +9,7 @@ use crate::ending::Stop;
 use crate::rewriting::Rewriting;
 use crate::settings::{File, Settings};
 use crate::stream::Stream;
-use programs_streams::{Sink, Source};
+use byte_streams::{Sink, Source};
 use std::io;
 
 /// What opens files by their names.
@@ -49,14 +49,14 @@ impl<W: Sink, L: Sink> Stream<W, L> {
         block: &mut Block,
     ) -> Result<(), Stop>
         ensures all { OnOk result (IfSome (O.bytes_of opening.old name.now)
-            (DidAll (job_of (T.is_fate rewriting.now) (T.is_reason rewriting.now) name.now settings.entry)
+            (ProcessedAll (job_of (T.is_fate rewriting.now) (T.is_reason rewriting.now) name.now settings.entry)
             (state_of W.contents L.contents self.old) (state_of W.contents L.contents self.new))) }
         ensures unread { IfErr result (λ stop. stop ≡ Stop.Unread →
-            DidCutOff (job_of (T.is_fate rewriting.now) (T.is_reason rewriting.now) name.now settings.entry)
+            ProcessedCutOff (job_of (T.is_fate rewriting.now) (T.is_reason rewriting.now) name.now settings.entry)
             (O.bytes_of opening.old name.now) (O.faults opening.old) (O.faults opening.new)
             (state_of W.contents L.contents self.old) (state_of W.contents L.contents self.new)) }
         ensures refused { IfErr result (λ stop. stop ≡ Stop.Refused → IfSome (O.bytes_of opening.old name.now)
-            (DidBefore (job_of (T.is_fate rewriting.now) (T.is_reason rewriting.now) name.now settings.entry)
+            (ProcessedBefore (job_of (T.is_fate rewriting.now) (T.is_reason rewriting.now) name.now settings.entry)
             (state_of W.contents L.contents self.old) (state_of W.contents L.contents self.new))) }
         ensures cause { HasWriteCause result (faults_of W.faults L.faults self.old) (faults_of W.faults L.faults self.new) }
         ensures later { O.faults opening.old ≤ O.faults opening.new }
@@ -81,12 +81,12 @@ impl<W: Sink, L: Sink> Stream<W, L> {
         block: &mut Block,
     ) -> Result<(), Stop>
         ensures ok { OnOk result
-            (DidFile (job_of (T.is_fate rewriting.now) (T.is_reason rewriting.now) name.now settings.entry) (O.bytes_of opening.old name.now)
+            (ProcessedFile (job_of (T.is_fate rewriting.now) (T.is_reason rewriting.now) name.now settings.entry) (O.bytes_of opening.old name.now)
             (O.faults opening.old) (O.faults opening.new)
             (state_of W.contents L.contents self.old) (state_of W.contents L.contents self.new)) }
         ensures unread { IfErr result (λ stop. stop ≢ Stop.Unread) }
         ensures refused { IfErr result (λ stop. stop ≡ Stop.Refused → IfSome (O.bytes_of opening.old name.now)
-            (DidBefore (job_of (T.is_fate rewriting.now) (T.is_reason rewriting.now) name.now settings.entry)
+            (ProcessedBefore (job_of (T.is_fate rewriting.now) (T.is_reason rewriting.now) name.now settings.entry)
             (state_of W.contents L.contents self.old) (state_of W.contents L.contents self.new))) }
         ensures cause { HasWriteCause result (faults_of W.faults L.faults self.old) (faults_of W.faults L.faults self.new) }
         ensures later { O.faults opening.old ≤ O.faults opening.new }
@@ -111,7 +111,7 @@ impl<W: Sink, L: Sink> Stream<W, L> {
         opening: &mut O,
         block: &mut Block,
     ) -> Result<(), Stop>
-        ensures ok { OnOk result (DidFiles (T.is_fate rewriting.now) (T.is_reason rewriting.now) settings.entry (O.bytes_of opening.old)
+        ensures ok { OnOk result (ProcessedFiles (T.is_fate rewriting.now) (T.is_reason rewriting.now) settings.entry (O.bytes_of opening.old)
             (O.faults opening.old) (O.faults opening.new)
             (state_of W.contents L.contents self.old) (state_of W.contents L.contents self.new) (map (λ name. name.now) names.now)) }
         ensures unread { IfErr result (λ stop. stop ≢ Stop.Unread) }

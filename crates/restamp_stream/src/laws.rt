@@ -1,7 +1,7 @@
 //! Laws of what is done to an input: the contract of a function is the law.
 ghost use Rattle.std.specs.Prelude.{◌≡◌, ◌⊎◌, ℕ, List, IfErr, OnOk, map};
-ghost use Rattle.programs_streams.specs.Faults.{Rises};
-ghost use Rattle.restamp_stream.specs.Streams.{job_of, AreDone, state_of, OneAnswer, OneResult, SameBytes, KeptBytes};
+ghost use Rattle.byte_streams.specs.Faults.{Rises};
+ghost use Rattle.restamp_stream.specs.Streams.{job_of, AreProcessed, state_of, OneAnswer, OneResult, SameBytes, KeptBytes};
 ghost use Rattle.restamp_stream.specs.Causes.{faults_of};
 
 use crate::block::Block;
@@ -10,7 +10,7 @@ use crate::files::Opening;
 use crate::rewriting::Rewriting;
 use crate::settings::Settings;
 use crate::stream::Stream;
-use programs_streams::Sink;
+use byte_streams::Sink;
 
 /// An input has one output, one log and one tally.
 pub fn law_one_result<T: Rewriting>(rewriting: &T, name: &[u8], settings: Settings<'_>)
@@ -35,7 +35,7 @@ pub fn law_done<T: Rewriting, O: Opening, W: Sink, L: Sink>(
     block: &mut Block,
 ) -> Result<(), Stop>
     ensures done { OnOk result (¬ Rises (O.faults opening.old) (O.faults opening.new)
-        → AreDone (T.is_fate rewriting.now) (T.is_reason rewriting.now) settings.entry (O.bytes_of opening.old)
+        → AreProcessed (T.is_fate rewriting.now) (T.is_reason rewriting.now) settings.entry (O.bytes_of opening.old)
         (state_of W.contents L.contents stream.old) (state_of W.contents L.contents stream.new) (map (λ name. name.now) names.now)) }
     ensures stopped { IfErr result (λ stop. (stop ≡ Stop.Refused)
         ⊎ Rises (faults_of W.faults L.faults stream.old) (faults_of W.faults L.faults stream.new)) }

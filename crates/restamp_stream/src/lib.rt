@@ -5,7 +5,6 @@ mod block;
 mod ending;
 mod fate;
 mod files;
-mod held;
 mod laws;
 mod names;
 mod rewriting;
@@ -13,7 +12,6 @@ mod serving;
 mod settings;
 mod stream;
 mod tally;
-mod waiting;
 
 pub use block::{Block, LIMIT};
 pub use ending::{Stop, status};

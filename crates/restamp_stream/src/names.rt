@@ -1,11 +1,10 @@
 //! How a name is shown, and the text of an error, in a fixed array.
 ghost use Rattle.std.specs.Io.KnownBytes.{Appends};
 ghost use Rattle.std.specs.Prelude.{◌≡◌, ◌<◌, ◌≤◌, ℕ, length, slice_index, take, true, false, IfOk, OnOk};
-ghost use Rattle.programs_streams.specs.Faults.{HasCause};
+ghost use Rattle.byte_streams.specs.Faults.{HasCause};
 ghost use Rattle.restamp_stream.specs.Reports as names;
 
-use crate::held::Held;
-use programs_streams::{Sink, Unwritten};
+use byte_streams::{ArrayBuf, Sink, Unwritten};
 use std::io;
 use std::io::Write;
 
@@ -54,7 +53,7 @@ fn write_part<L: Sink>(ascii: bool, name: &[u8], log: &mut L) -> Result<usize, U
     requires { 0 < length name.now }
     ensures some { IfOk result (λ n. 0 < n) }
     ensures within { IfOk result (λ n. n ≤ length name.now) }
-    ensures shown { IfOk result (λ n. Appends (L.contents log.old) (L.contents log.new) (names.shown_as ascii (take n name.now))) }
+    ensures shown { IfOk result (λ n. Appends (L.contents log.old) (L.contents log.new) (names.displayed_as ascii (take n name.now))) }
     ensures cause { HasCause result (L.faults log.old) (L.faults log.new) }
 {
     let plain = plain_length(ascii, name);
@@ -68,7 +67,7 @@ fn write_part<L: Sink>(ascii: bool, name: &[u8], log: &mut L) -> Result<usize, U
 
 /// Writes a name with each control byte as `\x` and two digits, and where `ascii` asks for it each byte beyond ASCII, too.
 pub fn write_shown<L: Sink>(ascii: bool, name: &[u8], log: &mut L) -> Result<(), Unwritten>
-    ensures shown { OnOk result (Appends (L.contents log.old) (L.contents log.new) (names.shown_as ascii name.now)) }
+    ensures shown { OnOk result (Appends (L.contents log.old) (L.contents log.new) (names.displayed_as ascii name.now)) }
     ensures cause { HasCause result (L.faults log.old) (L.faults log.new) }
 {
     let mut rest = name;
@@ -81,36 +80,20 @@ pub fn write_shown<L: Sink>(ascii: bool, name: &[u8], log: &mut L) -> Result<(),
 
 /// Writes a name with each control byte as `\x` and two digits, so that no name moves a terminal's cursor or ends a line.
 pub fn write_name<L: Sink>(name: &[u8], log: &mut L) -> Result<(), Unwritten>
-    ensures shown { OnOk result (Appends (L.contents log.old) (L.contents log.new) (names.shown_name name.now)) }
+    ensures shown { OnOk result (Appends (L.contents log.old) (L.contents log.new) (names.displayed_name name.now)) }
     ensures cause { HasCause result (L.faults log.old) (L.faults log.new) }
 {
     write_shown(false, name, log)
 }
 
-/// The text of an error, of which at most 256 bytes count.
-pub type Message = Held<256>;
+/// The text of an error: at most 256 bytes.
+pub type Message = ArrayBuf<256>;
 
-impl Held<256> {
-    /// The text of that error.
-    pub fn of(error: &io::Error) -> Message {
-        let mut message = Message::new();
-        // What doesn't fit is left out.
-        match write!(message, "{error}") {
-            Ok(()) | Err(_) => message,
-        }
-    }
-}
-
-impl Write for Held<256> {
-    fn write(&mut self, buf: &[u8]) -> io::Result<usize> {
-        let n = buf.len().min(256 - self.len);
-        let end = self.len + n;
-        self.array[self.len..end].copy_from_slice(&buf[..n]);
-        self.len = end;
-        Ok(n)
-    }
-
-    fn flush(&mut self) -> io::Result<()> {
-        Ok(())
+/// The text of that error.
+pub fn message_of(error: &io::Error) -> Message {
+    let mut message = Message::new();
+    // The text is cut off where the buffer is full.
+    match write!(message, "{error}") {
+        Ok(()) | Err(_) => message,
     }
 }

@@ -1,10 +1,10 @@
 //! What says which fate a line has.
 ghost use Rattle.std.specs.Prelude.{◌≡◌, ℕ, List, OnOk};
-ghost use Rattle.programs_streams.specs.Faults.{HasCause};
+ghost use Rattle.byte_streams.specs.Faults.{HasCause};
 ghost use Rattle.restamp_stream.specs.Reports.{IsWithin, WritesReason};
 
 use crate::fate::Fate;
-use programs_streams::{Sink, Unwritten};
+use byte_streams::{Sink, Unwritten};
 
 /// What says which fate a line has, by its front: all of a line of at most [`LIMIT`](crate::LIMIT) bytes, without its LF,
 /// and of a longer one the first so many.

@@ -1,19 +1,20 @@
 //! Answers the lines of a stream.
 ghost use Rattle.std.specs.Prelude.{◌≡◌, ◌≤◌, IfOk, IfErr, IfSome, MatchOption, [], OnOk, length, ℕ, List};
-ghost use Rattle.programs_streams.specs.Faults.{HasCause, IsCutOff};
-ghost use Rattle.restamp_stream.specs.Streams.{Did, DidAll, State, job_of, HasNoLf, EndsWith, lines_of, state_of, IsHeld, Served, Stopped, Fails, DidSome, DidBefore};
+ghost use Rattle.byte_streams.specs.Faults.{HasCause, IsCutOff};
+ghost use Rattle.byte_streams.specs.Lines.{HasNoLf, lines_of};
+ghost use Rattle.restamp_stream.specs.Streams.{Processed, ProcessedAll, State, job_of, EndsWith, state_of, IsHeld, Served, Stopped, Fails, ProcessedSome, ProcessedBefore};
 ghost use Rattle.restamp_stream.specs.Causes.{faults_of, HasWriteCause};
 ghost use Rattle.restamp_stream.specs.Reports.{HasFront};
 ghost use Rattle.restamp_stream.specs.Held.{held_out, held_state, job_at, Continues, Stops, StoppedBy, GoesOn, Ends};
 ghost use Rattle.restamp_stream.specs.declared.block.TheConstants.{LIMIT};
 
-use crate::block::{Block, LIMIT, whole_line};
+use crate::block::{Block, LIMIT};
 use crate::ending::Stop;
 use crate::fate::{Fate, Rest};
 use crate::rewriting::Rewriting;
 use crate::settings::{File, Settings};
 use crate::stream::Stream;
-use programs_streams::{Sink, Source, Unwritten};
+use byte_streams::{Sink, Source, Unwritten, whole_line};
 use std::io;
 use std::io::ErrorKind;
 
@@ -32,7 +33,7 @@ impl<W: Sink, L: Sink> Stream<W, L> {
             × Ends (held_out W.contents self.old) (held_out W.contents self.new) rest.old bytes.now after.now)) }
         ensures log { self.new.log ≡ self.old.log }
         ensures tally { self.new.tally ≡ self.old.tally }
-        ensures cause { HasCause result (W.faults self.old.out) (W.faults self.new.out) }
+        ensures cause { HasCause result (W.faults self.old.out.sink) (W.faults self.new.out.sink) }
     {
         if rest.is_absent() {
             return Ok(Some(bytes));
@@ -119,8 +120,8 @@ impl<W: Sink, L: Sink> Stream<W, L> {
         block: &mut Block,
         rest: &mut Rest,
     ) -> Result<(), Stop>
-        requires { self.old.waiting.items ≡ [] }
-        ensures none { OnOk result (self.new.waiting.items ≡ []) }
+        requires { self.old.out.buffer.items ≡ [] }
+        ensures none { OnOk result (self.new.out.buffer.items ≡ []) }
         ensures held { OnOk result
             (IsHeld (job_at (T.is_fate rewriting.now) (T.is_reason rewriting.now) file.now) rest.new block.new.items) }
         ensures ok { OnOk result
@@ -146,10 +147,10 @@ impl<W: Sink, L: Sink> Stream<W, L> {
         file: &File<'_>,
         block: &Block,
     ) -> Result<(), Stop>
-        requires none { self.old.waiting.items ≡ [] }
+        requires none { self.old.out.buffer.items ≡ [] }
         requires begun { HasNoLf block.now.items }
         ensures ok { OnOk result ((fates : List Fate)
-            × Did (job_at (T.is_fate rewriting.now) (T.is_reason rewriting.now) file.now)
+            × Processed (job_at (T.is_fate rewriting.now) (T.is_reason rewriting.now) file.now)
             (state_of W.contents L.contents self.old) (state_of W.contents L.contents self.new) (lines_of block.now.items) fates) }
         ensures err { IfErr result (λ stop. StoppedBy stop
             (Stopped (job_at (T.is_fate rewriting.now) (T.is_reason rewriting.now) file.now)
@@ -177,10 +178,10 @@ impl<W: Sink, L: Sink> Stream<W, L> {
         input: &mut R,
         block: &mut Block,
     ) -> Result<(), Stop>
-        requires waiting { self.old.waiting.items ≡ [] }
+        requires buffer { self.old.out.buffer.items ≡ [] }
         requires block { block.old.items ≡ [] }
         ensures ok { OnOk result (IfSome (R.remaining input.old) (λ bytes. (fates : List Fate)
-            × Did (job_at (T.is_fate rewriting.now) (T.is_reason rewriting.now) file.now)
+            × Processed (job_at (T.is_fate rewriting.now) (T.is_reason rewriting.now) file.now)
             (state_of W.contents L.contents self.old) (state_of W.contents L.contents self.new) (lines_of bytes) fates)) }
         ensures unread { IfErr result (λ stop. stop ≡ Stop.Unread → (answered : State) × (rest : Rest) × (held : List ℕ)
             × Served (job_at (T.is_fate rewriting.now) (T.is_reason rewriting.now) file.now) (R.remaining input.old) (R.remaining input.new)
@@ -220,14 +221,14 @@ impl<W: Sink, L: Sink> Stream<W, L> {
         block: &mut Block,
     ) -> Result<(), Stop>
         ensures all { OnOk result (IfSome (R.remaining input.old)
-            (DidAll (job_of (T.is_fate rewriting.now) (T.is_reason rewriting.now) name.now settings.entry)
+            (ProcessedAll (job_of (T.is_fate rewriting.now) (T.is_reason rewriting.now) name.now settings.entry)
             (state_of W.contents L.contents self.old) (state_of W.contents L.contents self.new))) }
         ensures unread { IfErr result (λ stop. stop ≡ Stop.Unread →
-            DidSome (job_of (T.is_fate rewriting.now) (T.is_reason rewriting.now) name.now settings.entry)
+            ProcessedSome (job_of (T.is_fate rewriting.now) (T.is_reason rewriting.now) name.now settings.entry)
             (R.remaining input.old) (R.remaining input.new)
             (state_of W.contents L.contents self.old) (state_of W.contents L.contents self.new)) }
         ensures refused { IfErr result (λ stop. stop ≡ Stop.Refused → IfSome (R.remaining input.old)
-            (DidBefore (job_of (T.is_fate rewriting.now) (T.is_reason rewriting.now) name.now settings.entry)
+            (ProcessedBefore (job_of (T.is_fate rewriting.now) (T.is_reason rewriting.now) name.now settings.entry)
             (state_of W.contents L.contents self.old) (state_of W.contents L.contents self.new))) }
         ensures cause { HasWriteCause result (faults_of W.faults L.faults self.old) (faults_of W.faults L.faults self.new) }
         ensures cut_off { IfErr result (λ stop. stop ≡ Stop.Unread →
@@ -235,7 +236,7 @@ impl<W: Sink, L: Sink> Stream<W, L> {
     {
         let file = File { name, settings };
         self.tally.begin_file();
-        self.waiting.clear();
+        self.out.clear_buffer();
         block.clear();
         let served = self.serve_lines(rewriting, &file, input, block);
         let Ok(()) = self.close(&file) else {

@@ -1,8 +1,9 @@
 //! Where answers go.
 ghost use Rattle.std.specs.Io.KnownBytes.{Appends};
 ghost use Rattle.std.specs.Prelude.{◌≡◌, ◌≤◌, ◌++◌, ℕ, List, IfOk, IfErr, [], ◌∷◌, OnOk, length, take, drop, IsTrue, false};
-ghost use Rattle.programs_streams.specs.Faults.{HasCause};
-ghost use Rattle.restamp_stream.specs.Streams.{Did, IsNaming, IsReport, Closes, unended, RefusedAt, Fails, state_of};
+ghost use Rattle.byte_streams.specs.Faults.{HasCause};
+ghost use Rattle.byte_streams.specs.Lines.{unended};
+ghost use Rattle.restamp_stream.specs.Streams.{Processed, IsNaming, IsReport, Closes, RefusedAt, Fails, state_of};
 ghost use Rattle.restamp_stream.specs.Causes.{faults_of, HasWriteCause, IsCounted};
 ghost use Rattle.restamp_stream.specs.Reports.{IsWithin, front_text, passed, rest_of, nothing_counted, more_text, unread_text};
 ghost use Rattle.restamp_stream.specs.Held.{held_out, held_state, job_at, Settles, StoppedBy, FailedBy};
@@ -10,67 +11,59 @@ ghost use Rattle.restamp_stream.specs.declared.block.TheConstants.{LIMIT};
 
 use crate::ending::Stop;
 use crate::fate::{Fate, Rest};
-use crate::names::{Message, write_name};
+use crate::names::{message_of, write_name};
 use crate::rewriting::Rewriting;
 use crate::settings::{File, Output, Settings};
 use crate::tally::Tally;
-use crate::waiting::Waiting;
-use programs_streams::{Sink, Unwritten};
+use byte_streams::{BufferedSink, Sink, Unwritten};
 use std::io;
 
 /// Where answers go: what lines become to `out`, reports to `log`, and their counts to `tally`.
 ///
-/// Up to 65536 bytes wait to be written to `out`.
+/// Up to 65536 bytes are buffered before they are written to `out`.
 #[derive(Drop)]
 pub struct Stream<W, L> {
-    /// What lines become.
-    pub out: W,
+    /// What lines become, buffered.
+    pub out: BufferedSink<W>,
     /// The reports.
     pub log: L,
     /// The counts.
     pub tally: Tally,
-    pub(crate) waiting: Waiting,
 }
 
 impl<W: Sink, L: Sink> Stream<W, L> {
     /// A stream to these, where nothing is counted yet.
     pub fn new(out: W, log: L) -> Stream<W, L>
-        ensures out { result.out ≡ out }
+        ensures out { result.out.sink ≡ out }
         ensures log { result.log ≡ log }
         ensures tally { result.tally ≡ nothing_counted }
     {
         Stream {
-            out,
+            out: BufferedSink::new(out),
             log,
             tally: Tally::new(),
-            waiting: Waiting::new(),
         }
     }
 
     /// The writer, the log and the counts.
     pub fn into_parts(self) -> (W, L, Tally)
-        ensures out { result.0 ≡ self.out }
+        ensures out { result.0 ≡ self.out.sink }
         ensures log { result.1 ≡ self.log }
         ensures tally { result.2 ≡ self.tally }
     {
-        let Stream {
-            out,
-            log,
-            tally,
-            waiting: _,
-        } = self;
-        (out, log, tally)
+        let Stream { out, log, tally } = self;
+        (out.into_sink(), log, tally)
     }
 
-    // Puts bytes after what waits.
+    // Puts bytes after the buffered ones.
     #[inline(always)]
     fn put(&mut self, bytes: &[u8]) -> Result<(), Unwritten>
         ensures put { OnOk result (Appends (held_out W.contents self.old) (held_out W.contents self.new) bytes.now) }
         ensures log { self.new.log ≡ self.old.log }
         ensures tally { self.new.tally ≡ self.old.tally }
-        ensures cause { HasCause result (W.faults self.old.out) (W.faults self.new.out) }
+        ensures cause { HasCause result (W.faults self.old.out.sink) (W.faults self.new.out.sink) }
     {
-        self.waiting.put(bytes, &mut self.out)
+        self.out.write_all(bytes)
     }
 
     // Puts bytes that come after the front of a line, unless it is dropped.
@@ -80,7 +73,7 @@ impl<W: Sink, L: Sink> Stream<W, L> {
             (Appends (held_out W.contents self.old) (held_out W.contents self.new) (passed rest bytes.now)) }
         ensures log { self.new.log ≡ self.old.log }
         ensures tally { self.new.tally ≡ self.old.tally }
-        ensures cause { HasCause result (W.faults self.old.out) (W.faults self.new.out) }
+        ensures cause { HasCause result (W.faults self.old.out.sink) (W.faults self.new.out.sink) }
     {
         match rest {
             Rest::Absent | Rest::Passing => self.put(bytes),
@@ -89,7 +82,7 @@ impl<W: Sink, L: Sink> Stream<W, L> {
     }
 
     // Tells the log how many more lines of a file were refused than it names.
-    fn tell_more(&mut self, name: &[u8], n: u64) -> Result<(), Unwritten>
+    fn report_more(&mut self, name: &[u8], n: u64) -> Result<(), Unwritten>
         ensures told { OnOk result (Appends (L.contents self.old.log) (L.contents self.new.log) (more_text name.now n)) }
         ensures out { self.new.out ≡ self.old.out }
         ensures tally { self.new.tally ≡ self.old.tally }
@@ -114,12 +107,12 @@ impl<W: Sink, L: Sink> Stream<W, L> {
         ensures cause { HasCause result (L.faults self.old.log) (L.faults self.new.log) }
     {
         let n = file.settings.reports.unnamed(&self.tally);
-        self.tell_more(file.name, n)?;
+        self.report_more(file.name, n)?;
         self.log.flush()
     }
 
     // Tells the log that a file was not read to its end, and why.
-    fn tell_unread(&mut self, name: &[u8], error: &io::Error) -> Result<(), Unwritten>
+    fn report_unread(&mut self, name: &[u8], error: &io::Error) -> Result<(), Unwritten>
         ensures told { OnOk result ((why : List ℕ) × Appends (L.contents self.old.log) (L.contents self.new.log) (unread_text name.now why)) }
         ensures out { self.new.out ≡ self.old.out }
         ensures tally { self.new.tally ≡ self.old.tally }
@@ -127,7 +120,7 @@ impl<W: Sink, L: Sink> Stream<W, L> {
     {
         write_name(name, &mut self.log)?;
         self.log.write_all(b": ")?;
-        self.log.write_all(Message::of(error).as_slice())?;
+        self.log.write_all(message_of(error).as_slice())?;
         self.log.write_all(b"\n")
     }
 
@@ -137,19 +130,19 @@ impl<W: Sink, L: Sink> Stream<W, L> {
         ensures cause { IsCounted result (faults_of W.faults L.faults self.old) (faults_of W.faults L.faults self.new) }
     {
         self.tally.count_unread();
-        match self.tell_unread(file.name, error) {
+        match self.report_unread(file.name, error) {
             Ok(()) => Stop::Unread,
             Err(_) => Stop::Unwritten,
         }
     }
 
-    // Writes what waits, and what the log holds back.
+    // Writes the buffered bytes, and what the log holds back.
     pub(crate) fn settle(&mut self) -> Result<(), Unwritten>
         ensures written { OnOk result (Settles (held_state W.contents L.contents self.old) (state_of W.contents L.contents self.new)) }
-        ensures none { OnOk result (self.new.waiting.items ≡ []) }
+        ensures none { OnOk result (self.new.out.buffer.items ≡ []) }
         ensures cause { HasCause result (faults_of W.faults L.faults self.old) (faults_of W.faults L.faults self.new) }
     {
-        self.waiting.write_all_to(&mut self.out)?;
+        self.out.flush_buffer()?;
         self.log.flush()
     }
 
@@ -159,7 +152,7 @@ impl<W: Sink, L: Sink> Stream<W, L> {
         ensures put { OnOk result (Appends (held_out W.contents self.old) (held_out W.contents self.new) suffix.now) }
         ensures log { self.new.log ≡ self.old.log }
         ensures tally { self.new.tally ≡ self.old.tally }
-        ensures cause { HasCause result (W.faults self.old.out) (W.faults self.new.out) }
+        ensures cause { HasCause result (W.faults self.old.out.sink) (W.faults self.new.out.sink) }
     {
         self.put(suffix)
     }
@@ -170,7 +163,7 @@ impl<W: Sink, L: Sink> Stream<W, L> {
         ensures put { OnOk result (Appends (held_out W.contents self.old) (held_out W.contents self.new) suffix.now) }
         ensures log { self.new.log ≡ self.old.log }
         ensures tally { self.new.tally ≡ self.old.tally }
-        ensures cause { HasCause result (W.faults self.old.out) (W.faults self.new.out) }
+        ensures cause { HasCause result (W.faults self.old.out.sink) (W.faults self.new.out.sink) }
     {
         if suffix.is_empty() {
             return Ok(());
@@ -195,7 +188,7 @@ impl<W: Sink, L: Sink> Stream<W, L> {
             (take begin front.now ++ (text.now ++ (suffix.now ++ drop end front.now)))) }
         ensures log { self.new.log ≡ self.old.log }
         ensures tally { self.new.tally ≡ self.old.tally }
-        ensures cause { HasCause result (W.faults self.old.out) (W.faults self.new.out) }
+        ensures cause { HasCause result (W.faults self.old.out.sink) (W.faults self.new.out.sink) }
     {
         self.put(&front[..begin])?;
         self.put(text)?;
@@ -219,12 +212,10 @@ impl<W: Sink, L: Sink> Stream<W, L> {
             (take begin front.now ++ (text.now ++ (suffix.now ++ drop end front.now)))) }
         ensures log { self.new.log ≡ self.old.log }
         ensures tally { self.new.tally ≡ self.old.tally }
-        ensures cause { HasCause result (W.faults self.old.out) (W.faults self.new.out) }
+        ensures cause { HasCause result (W.faults self.old.out.sink) (W.faults self.new.out.sink) }
     {
         if suffix.is_empty() {
-            return self
-                .waiting
-                .put_changed(front, begin, end, text, &mut self.out);
+            return self.out.write_spliced(front, begin, end, text);
         }
         self.put_suffixed(suffix, front, begin, end, text)
     }
@@ -236,7 +227,7 @@ impl<W: Sink, L: Sink> Stream<W, L> {
             (text.now ++ (suffix.now ++ 10 ∷ []))) }
         ensures log { self.new.log ≡ self.old.log }
         ensures tally { self.new.tally ≡ self.old.tally }
-        ensures cause { HasCause result (W.faults self.old.out) (W.faults self.new.out) }
+        ensures cause { HasCause result (W.faults self.old.out.sink) (W.faults self.new.out.sink) }
     {
         self.put(text)?;
         self.put_suffix(suffix)?;
@@ -257,7 +248,7 @@ impl<W: Sink, L: Sink> Stream<W, L> {
             (front_text settings.now.output settings.now.suffix.now front.now fate.now)) }
         ensures log { self.new.log ≡ self.old.log }
         ensures tally { self.new.tally ≡ self.old.tally }
-        ensures cause { HasCause result (W.faults self.old.out) (W.faults self.new.out) }
+        ensures cause { HasCause result (W.faults self.old.out.sink) (W.faults self.new.out.sink) }
     {
         match fate {
             Fate::Rewritten { begin, end, text } => match settings.output {
@@ -287,7 +278,6 @@ impl<W: Sink, L: Sink> Stream<W, L> {
             × IsNaming (job_at (T.is_fate rewriting.now) (T.is_reason rewriting.now) file.now) self.old.tally front.now report
             × Appends (L.contents self.old.log) (L.contents self.new.log) report) }
         ensures out { self.new.out ≡ self.old.out }
-        ensures waiting { self.new.waiting ≡ self.old.waiting }
         ensures tally { self.new.tally ≡ self.old.tally }
         ensures cause { HasCause result (L.faults self.old.log) (L.faults self.new.log) }
     {
@@ -311,7 +301,6 @@ impl<W: Sink, L: Sink> Stream<W, L> {
             × IsReport (job_at (T.is_fate rewriting.now) (T.is_reason rewriting.now) file.now) self.old.tally front.now fate.now report
             × Appends (L.contents self.old.log) (L.contents self.new.log) report) }
         ensures out { self.new.out ≡ self.old.out }
-        ensures waiting { self.new.waiting ≡ self.old.waiting }
         ensures tally { self.new.tally ≡ self.old.tally }
         ensures cause { HasCause result (L.faults self.old.log) (L.faults self.new.log) }
     {
@@ -331,7 +320,7 @@ impl<W: Sink, L: Sink> Stream<W, L> {
     ) -> Result<Rest, Stop>
         requires { length front.now ≤ LIMIT }
         ensures ok { IfOk result (λ rest. (fate : Fate) × (rest_of file.now.settings.output fate ≡ rest)
-            × Did (job_at (T.is_fate rewriting.now) (T.is_reason rewriting.now) file.now)
+            × Processed (job_at (T.is_fate rewriting.now) (T.is_reason rewriting.now) file.now)
             (held_state W.contents L.contents self.old) (held_state W.contents L.contents self.new)
             (unended front.now ∷ []) (fate ∷ [])) }
         ensures err { IfErr result (λ stop. StoppedBy stop

@@ -28,7 +28,7 @@ pub(super) fn berlin(alloc: Global) -> Option<NamedZone> {
 #[derive(Clone, Copy, Debug, PartialEq, Eq)]
 enum Answer {
     At(i64),
-    LeftOut,
+    Nonexistent,
     // The offsets.
     Twice(TwoOffsets),
     Otherwise,
@@ -51,8 +51,8 @@ fn answer_of(
     };
     match read_dated(&reading, false, text, &defaults) {
         Ok(said) => Answer::At(said.moment.unix_timestamp()),
-        Err(Reason::LeftOut) => Answer::LeftOut,
-        Err(Reason::ShownTwice(offsets)) => Answer::Twice(offsets),
+        Err(Reason::Nonexistent) => Answer::Nonexistent,
+        Err(Reason::Ambiguous(offsets)) => Answer::Twice(offsets),
         Err(_) => Answer::Otherwise,
     }
 }
@@ -72,7 +72,7 @@ type Row = (Fold, &'static [u8], Answer);
 
 static ROWS: [Row; 8] = [
     (Fold::Refuse, b"2021-03-28 01:59", Answer::At(1_616_893_140)),
-    (Fold::Later, b"2021-03-28 02:30", Answer::LeftOut),
+    (Fold::Later, b"2021-03-28 02:30", Answer::Nonexistent),
     (Fold::Refuse, b"2021-03-28 03:00", Answer::At(1_616_893_200)),
     (Fold::Refuse, b"2021-10-31 02:30", BOTH),
     (
@@ -102,7 +102,7 @@ fn on_clocks(rt: HostRuntime) {
 // Of a time with no year: seconds of the moment that it isn't after, the time, and its seconds. 2021-12-01T00:00:00Z is
 // 1638316800, and 2021-02-01T00:00:00Z 1612137600.
 static UNDATED: [(i64, &[u8], Answer); 5] = [
-    (1_638_316_800, b"Mar 28 02:30:00", Answer::LeftOut),
+    (1_638_316_800, b"Mar 28 02:30:00", Answer::Nonexistent),
     (1_638_316_800, b"Mar 27 02:30:00", Answer::At(1_616_808_600)),
     (1_638_316_800, b"Oct 31 02:30:00", BOTH),
     (1_612_137_600, b"Mar 28 02:30:00", Answer::At(1_585_359_000)),
@@ -126,7 +126,7 @@ fn with_no_year(rt: HostRuntime) {
 
 // The bounds that words name by the clock.
 mod bounds {
-    use restamp_command::{Fault, NoMoment, Options, Request, make_command};
+    use restamp_command::{Fault, Options, Request, TimeArgError, make_command};
     use std::test::Fail;
     use time_values::UtcDateTime;
 
@@ -200,9 +200,9 @@ mod bounds {
                 Some(moment) => Ok(Named::At(moment.unix_timestamp())),
                 None => Err("no bound".into()),
             },
-            Err(Fault::Since(_, NoMoment::OutOfRange)) => Ok(Named::OutOfRange),
-            Err(Fault::Since(_, NoMoment::NoClock)) => Ok(Named::NoClock),
-            Err(Fault::Since(_, NoMoment::Unread(_))) => Ok(Named::Nothing),
+            Err(Fault::Since(_, TimeArgError::OutOfRange)) => Ok(Named::OutOfRange),
+            Err(Fault::Since(_, TimeArgError::NoClock)) => Ok(Named::NoClock),
+            Err(Fault::Since(_, TimeArgError::Unread(_))) => Ok(Named::Nothing),
             Err(_) => Err("another fault".into()),
         }
     }

@@ -8,7 +8,7 @@ ghost use Rattle.restamp_in_place.specs.Replacing as model;
 
 use crate::memory::event::{Event, is_unused, leads, stored};
 use crate::memory::page::Page;
-use programs_streams::Counted;
+use byte_streams::Counted;
 use restamp_in_place::{Folder, Original};
 use std::alloc::Global;
 use std::cell::Cell;

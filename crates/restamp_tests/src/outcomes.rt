@@ -1,7 +1,8 @@
-//! What becomes of a line, beside the verdict on it.
+//! The verdict on a line with its reason, beside the same in brief.
 use restamp_place::Place;
 use restamp_verdict::{
-    Clock, Defaults, Form, Job, Outcome, Reading, Verdict, Writing, find_reading, find_writing,
+    Brief, Clock, Defaults, Form, Job, Reading, Reason, Verdict, Writing, find_reading,
+    find_writing,
 };
 use std::test::Fail;
 use time_values::{OffsetDateTime, UtcOffset};
@@ -88,29 +89,33 @@ fn job_of<'a>(
         },
         since: OffsetDateTime::from_unix_timestamp(0).ok(),
         until: None,
-        asks_for_times: true,
+        requires_timestamp: true,
     }
 }
 
-// Whether that becomes of a line what its verdict says, with the same text.
-fn is_decided(job: &Job<'_>, line: &[u8]) -> bool {
-    let mut judged = Text::new();
-    let mut decided = Text::new();
-    match (job.judge(line, &mut judged), job.decide(line, &mut decided)) {
-        (Verdict::Without, Outcome::Without) | (Verdict::Dropped, Outcome::Dropped) => true,
-        (Verdict::Refused { .. }, Outcome::Refused) => true,
+// Whether both verdicts on a line are one, with the same text.
+fn is_one(job: &Job<'_>, line: &[u8]) -> bool {
+    let mut full = Text::new();
+    let mut brief = Text::new();
+    match (
+        job.judge::<Reason>(line, &mut full),
+        job.judge::<Brief>(line, &mut brief),
+    ) {
+        (Verdict::Without, Verdict::Without) | (Verdict::Dropped, Verdict::Dropped) => true,
+        (Verdict::Refused { column, .. }, Verdict::Refused { column: other, .. }) => column
+            == other,
         (
             Verdict::Rewritten { start, length },
-            Outcome::Rewritten {
+            Verdict::Rewritten {
                 start: begin,
                 length: many,
             },
-        ) => { start == begin && length == many && judged.as_bytes() == decided.as_bytes() }
+        ) => { start == begin && length == many && full.as_bytes() == brief.as_bytes() }
         _ => false,
     }
 }
 
-// The first byte of a line's front, and what it becomes where the outcome then isn't what the verdict says.
+// The first byte of a line's front, and what it is changed to, where the verdicts then differ.
 fn find_difference(job: &Job<'_>, sample: &[u8]) -> Option<(usize, u8)> {
     let many = sample.len().min(32);
     for at in 0..many {
@@ -118,7 +123,7 @@ fn find_difference(job: &Job<'_>, sample: &[u8]) -> Option<(usize, u8)> {
             let mut line = [0; 32];
             line[..many].copy_from_slice(&sample[..many]);
             line[at] = byte;
-            if !is_decided(job, &line[..many]) {
+            if !is_one(job, &line[..many]) {
                 return Some((at, byte));
             }
         }

@@ -161,7 +161,7 @@ fn missing(rt: HostRuntime) {
 
 #[test]
 fn open(rt: HostRuntime) {
-    assert!(rt; Place::Front.is_open() && !Place::Between(b"a", b"b").is_open());
+    assert!(rt; Place::Front.is_prefix() && !Place::Between(b"a", b"b").is_prefix());
 }
 
 // A line that has words longer and shorter than sixteen bytes, and a text of which parts stand elsewhere.
@@ -246,8 +246,8 @@ fn changed(rt: HostRuntime) {
 mod anywhere {
     use restamp_place::Place;
     use restamp_verdict::{
-        Clock, Defaults, Form, Job, REACH, Reading, Verdict, Writing, find_reading, find_writing,
-        read_dated,
+        Clock, Defaults, Form, Job, REACH, Reading, Reason, Verdict, Writing, find_reading,
+        find_writing, read_dated,
     };
     use std::test::Fail;
     use time_writing::{FractionDigits, Text};
@@ -263,7 +263,7 @@ mod anywhere {
         first: &'a Reading,
         writing: &'a Writing,
         text: &mut Text,
-    ) -> Verdict {
+    ) -> Verdict<Reason> {
         let job = Job {
             place: ANYWHERE,
             first,
@@ -281,7 +281,7 @@ mod anywhere {
             },
             since: None,
             until: None,
-            asks_for_times: false,
+            requires_timestamp: false,
         };
         job.judge(line, text)
     }
@@ -447,8 +447,8 @@ mod fronts {
     };
 
     // The moment that the bytes say, and how many of them do: all, or a front of them.
-    fn said_by(is_open: bool, text: &[u8]) -> Option<(OffsetDateTime, usize)> {
-        match read(&Reading::Rfc3339, is_open, text, &NOTHING_GIVEN) {
+    fn said_by(is_prefix: bool, text: &[u8]) -> Option<(OffsetDateTime, usize)> {
+        match read(&Reading::Rfc3339, is_prefix, text, &NOTHING_GIVEN) {
             Ok(said) => Some((said.moment, said.start + said.length)),
             Err(_) => None,
         }

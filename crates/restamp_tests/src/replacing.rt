@@ -2,7 +2,7 @@
 use crate::memory::event::{Event, leads, stored};
 use crate::memory::{Faults, Memory};
 use crate::stream::{ALL, Marks};
-use programs_streams::Counted;
+use byte_streams::Counted;
 use restamp_in_place::{Made, Step, Target, Unreplaced, replace_file};
 use restamp_stream::{Block, Settings, Stop};
 use std::alloc::Global;

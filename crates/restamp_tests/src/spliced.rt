@@ -1,6 +1,6 @@
 //! A text of each length in the place of each byte of a line. No byte stands twice, so that one at a wrong place shows.
 use crate::stream::{ALL, Answer, NEVER, Page, make_source};
-use programs_streams::{Counted, Sink, Unwritten};
+use byte_streams::{Counted, Sink, Unwritten};
 use restamp_stream::{Block, Fate, Rewriting, Stream};
 use std::alloc::Global;
 use time_values::text::Text;

@@ -1,5 +1,5 @@
 //! Streams rewritten line by line. What is expected of a line is seen from its first byte, by the rule of [`Marks`].
-use programs_streams::{Counted, Sink, Unwritten};
+use byte_streams::{Counted, Sink, Unwritten};
 use restamp_stream::{Block, Fate, Output, Reports, Rewriting, Settings, Stop, Stream, Tally};
 use std::alloc::Global;
 use std::io;
@@ -487,7 +487,7 @@ mod failures {
 // Several files over one tally.
 mod files {
     use crate::stream::{ALL, Answer, Marks, NEVER, Page, Source, make_source};
-    use programs_streams::Counted;
+    use byte_streams::Counted;
     use restamp_stream::{Block, Opening, Stream, Tally, status};
     use std::io;
     use std::io::ErrorKind;
@@ -567,7 +567,7 @@ mod files {
 // How names are shown.
 mod names {
     use crate::stream::{ALL, Answer, Marks, NEVER, Page, make_source};
-    use programs_streams::Counted;
+    use byte_streams::Counted;
     use restamp_stream::{Block, Reports, Settings, Stream, write_name, write_shown};
     use std::alloc::Global;
 

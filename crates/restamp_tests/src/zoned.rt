@@ -34,8 +34,8 @@ enum Answer {
     Otherwise,
 }
 
-fn answer_of(reading: &Reading, is_open: bool, text: &[u8]) -> Answer {
-    match read(reading, is_open, text, &NOTHING_GIVEN) {
+fn answer_of(reading: &Reading, is_prefix: bool, text: &[u8]) -> Answer {
+    match read(reading, is_prefix, text, &NOTHING_GIVEN) {
         Ok(said) => Answer::Says(said.moment.unix_timestamp(), said.start + said.length),
         Err(Reason::Suffix(fault)) => Answer::Refused(fault),
         Err(
@@ -147,8 +147,11 @@ fn suffixes(rt: HostRuntime) {
         assert!(rt; false);
         return;
     };
-    for (is_open, text, wanted) in &ROWS {
-        assert!(rt; answer_of(&reading, *is_open, text) == *wanted, "{text:?}");
+    for (is_prefix, text, wanted) in &ROWS {
+        assert!(rt;
+            answer_of(&reading, *is_prefix, text) == *wanted,
+            "{text:?}"
+        );
     }
 }
 
@@ -166,10 +169,10 @@ fn wrong_in<'a>(reading: &'a Reading, writing: &'a Writing, line: &[u8]) -> usiz
         },
         since: None,
         until: None,
-        asks_for_times: false,
+        requires_timestamp: false,
     };
-    match job.judge(line, &mut Text::new()) {
-        Verdict::Refused { column, reason } => job.find_wrong(line, column, reason).column,
+    match job.judge::<Reason>(line, &mut Text::new()) {
+        Verdict::Refused { column, reason } => job.find_location(line, column, reason).column,
         Verdict::Without | Verdict::Rewritten { .. } | Verdict::Dropped => 0,
     }
 }

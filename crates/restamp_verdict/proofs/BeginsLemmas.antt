@@ -1,4 +1,4 @@
--- From a byte with which no text of a format begins nothing is said.
+-- No format matches from a byte on that its texts can't start with.
 use Rattle.std.proofs.Common.{◌≡◌, ℕ, zero, suc, ◌+◌, ◌<◌, ◌≤◌, ◌==◌, ◌++◌, ℤ, pos, Bool, true, false, not, List, [], ◌∷◌, codes, length, get_or, take, drop, refl, sym, ap, subst, arith, inl, inr, get_or-drop, get_or-take, ◌∙◌, None, Some, Err}
 use Rattle.std.specs.Prelude.{Option, Result, if◌then◌else◌, ◌&&◌, ◌||◌, MatchBool, MatchOption, ◌-ℤ◌, neg_ℤ}
 use Rattle.std.specs.Char.{is_ascii_digit}
@@ -28,8 +28,8 @@ use Rattle.time_record.specs.Components.{component_fault}
 use Rattle.time_record.specs.Reading.{IsFault, IsFaultAll, NoReading, Reads, ReadsAll, Refuses}
 use Rattle.time_record.specs.Record.{empty}
 use Rattle.restamp_verdict.specs.Begins.{IsInNone, component_firsts, digits, format_firsts, has_year, is_gap, is_in, is_weekday, may_be_of, numbers, padded, steps_firsts}
-use Rattle.restamp_verdict.specs.Job.{AreTriedAlone, SaysAlone, SaysFrom, is_inside}
-use Rattle.restamp_verdict.specs.Reading.{AreYearsTried, IsDated, IsRead, SaysLocally, SaysOn, at_offset, in_year, undated, year_after}
+use Rattle.restamp_verdict.specs.Job.{AreTriedAlone, MatchesAlone, MatchesFrom, is_inside}
+use Rattle.restamp_verdict.specs.Reading.{AreYearsTried, IsDated, IsRead, ParsesLocally, ParsesInZone, at_offset, in_year, undated, year_after}
 use Rattle.restamp_verdict.specs.declared.local.Clocks.{Clocks}
 use Rattle.restamp_verdict.specs.Reason.{Reason, unread}
 use Rattle.restamp_verdict.specs.declared.anywhere.fast.Firsts.{Firsts}
@@ -38,7 +38,7 @@ use Rattle.restamp_verdict.specs.declared.job.TheConstants.{REACH}
 use Rattle.restamp_verdict.specs.declared.reading.Defaults.{Defaults}
 use Rattle.restamp_verdict.specs.declared.reading.Reading.{Reading}
 use Rattle.restamp_verdict.specs.declared.reading.Reading.TheVariants as reading
-use Rattle.restamp_verdict.specs.declared.reading.Said.{Said}
+use Rattle.restamp_verdict.specs.declared.reading.Match.{Match}
 use Rattle.restamp_verdict.proofs.MailBegins.{digit-first, mail-fails, run-first}
 
 -- the first byte of a text
@@ -48,7 +48,7 @@ first text = get_or text 0 0
 digit-in : (f : Firsts) (x : ℕ) → is_ascii_digit x ≡ true → is_in f x ≡ true
 digit-in f x h = or_left _ _ (or_left _ _ (or_left _ _ h))
 
--- and so does one of some width, where no spaces fill it up
+-- a padded number starts with a digit, unless spaces pad it
 padded-first : (p : Padding) (f : Firsts) (least most : ℕ) (text rest : List ℕ) (v : ℕ) → 1 ≤ least → IsPaddedRun p least most text rest v
     → is_in (padded p f) (first (text ++ rest)) ≡ true
 padded-first padding.Space f least most text rest v some h = or_right _ _ refl
@@ -64,12 +64,12 @@ sign-padded padding.Space s = or_right _ _ refl
 sign-padded padding.Zero s = sign-in s
 sign-padded padding.None s = sign-in s
 
--- a text whose first byte is the sign
+-- a signed number starts with its sign
 signed-first : (p : Padding) (s : Sign) (text tail rest : List ℕ) → text ≡ sign_byte s ∷ tail → is_in (padded p numbers) (first (text ++ rest)) ≡ true
 signed-first p s text tail rest e =
     subst (λ (t : List ℕ). is_in (padded p numbers) (first (t ++ rest)) ≡ true) (sym e) (sign-padded p s)
 
--- a component's text begins with a byte that it may begin with
+-- a component's text starts with one of the component's first bytes
 spelled-first : (c : Component) (text rest : List ℕ) (v : Value) → Spells false c text rest v → is_in (component_firsts c) (first (text ++ rest)) ≡ true
 spelled-first (variant.Day m) text rest v h = padded-first m.padding digits 2 2 text rest h.0 (omega arith) h.2.0
 spelled-first (variant.MonthNumerical m) text rest v h = padded-first m.padding digits 2 2 text rest _ (omega arith) h.2
@@ -88,14 +88,14 @@ spelled-first (variant.UnixTimestampNanosecond m) text rest v (a, is, inl h) = s
 spelled-first (variant.UnixTimestampNanosecond m) text rest v (a, is, inr h) = padded-first padding.Zero numbers 1 23 text rest a.1 (omega arith) h.2
 spelled-first _ text rest v h = or_right _ _ refl
 
--- no text in front of the bytes spells the component
+-- no prefix of the bytes spells the component
 component-unread : (Y : ℕ) (c : Component) (bytes : List ℕ) → is_in (component_firsts c) (first bytes) ≡ false → NoReading Y (component false c) bytes empty
 unfolding Reads
 component-unread Y c bytes none rest r' h =
     let in-front = subst (λ (b : List ℕ). is_in (component_firsts c) (first b) ≡ true) (sym h.cut) (spelled-first c h.text rest h.value h.spells) in
     true≢false (sym in-front ∙ none)
 
--- trees in turn are refused where the first, a component, is
+-- a sequence is rejected where its first tree, a component, is
 sequence-refuses : (Y : ℕ) (c : Component) (ts : Trees) (bytes : List ℕ) → is_in (component_firsts c) (first bytes) ≡ false
     → Refuses Y (sequence (more (component false c) ts)) bytes empty (component_fault c)
 unfolding Reads ReadsAll IsFault IsFaultAll
@@ -103,7 +103,7 @@ sequence-refuses Y c ts bytes none =
     let here = component-unread Y c bytes none in
     record { unread = λ rest r' h. here h.0 h.1 h.2; fault = inl (here, refl) }
 
--- a description refuses bytes with which its text can't begin
+-- a description rejects bytes that its text can't start with
 steps-refuse : (Y : ℕ) (steps : List Step) (bytes : List ℕ) → is_in (steps_firsts steps) (first bytes) ≡ false
     → (e : Refusal) × Refuses Y (steps_shape steps) bytes empty e
 unfolding trees_in
@@ -123,7 +123,7 @@ year-digits (a ∷ b ∷ c ∷ d ∷ text) rest v h =
     let all = h.digits in
     and_from _ _ (and_from _ _ (and_from _ _ (digit-first a all.0) (digit-first b all.1.0)) (digit-first c all.1.1.0)) (digit-first d all.1.1.1.0)
 
--- and so does RFC 3339 where no year stands
+-- RFC 3339 fails at the year without four digits
 year-fails : (bytes : List ℕ) → has_year bytes ≡ false → FailsAt true bytes Year
 unfolding Stand
 year-fails bytes none =
@@ -139,7 +139,7 @@ year-fails bytes none =
           true≢false (sym (subst (λ (b : List ℕ). has_year b ≡ true) (sym cut) (year-digits text rest h.0 h.1)) ∙ none);
     }
 
--- A format refuses bytes with which no text of it begins, whatever stands for the rest.
+-- A format rejects bytes that its texts can't start with, whatever the defaults.
 abbrev Refused : ℕ → Reading → List ℕ → Type 0
 Refused Y format text = (e : Refusal) × ((defaults : Defaults) → IsRead Y format true text defaults (Err e))
 
@@ -158,8 +158,8 @@ refused Y (reading.Described d) text none = let h = steps-refuse Y d text none i
 refused Y (reading.Complete d) text none = let h = steps-refuse Y d text none in (h.0, λ defaults. (Err h.0, inl h.1, refl))
 refused Y (reading.Counted d) text none = let h = steps-refuse Y d text none in (h.0, λ defaults. (Err h.0, inl h.1, refl))
 
--- the result of such a refusal
-abbrev refusal : Refusal → Result Said Reason
+-- the result of such an error
+abbrev refusal : Refusal → Result Match Reason
 refusal e = Err (unread e)
 
 -- an offset of 0
@@ -177,20 +177,20 @@ no_offset = record {
   one_sign = (refl, refl);
 }
 
--- on no clocks it says anything
+-- no match in any zone
 clocks-refuse : (Y : ℕ) (format : Reading) (text : List ℕ) (defaults : Defaults) (h : Refused Y format text) (clocks : Option Clocks)
-    → MatchOption clocks (refusal h.0 ≡ refusal h.0) (λ c. SaysOn Y c format true text defaults (Err (unread h.0)))
+    → MatchOption clocks (refusal h.0 ≡ refusal h.0) (λ c. ParsesInZone Y c format true text defaults (Err (unread h.0)))
 unfolding no_offset
 clocks-refuse Y format text defaults h None = refl
 clocks-refuse Y format text defaults h (Some c) =
     (no_offset, (refl, refl, refl), Err (unread h.0), (Err h.0, h.1 (at_offset no_offset defaults), refl), refl)
 
 locally-refused : (Y : ℕ) (format : Reading) (text : List ℕ) (defaults : Defaults) (h : Refused Y format text)
-    → SaysLocally Y format true text defaults (Err (unread h.0))
+    → ParsesLocally Y format true text defaults (Err (unread h.0))
 locally-refused Y format text defaults h =
     (Err (unread h.0), (Err h.0, h.1 defaults, refl), clocks-refuse Y format text defaults h defaults.clocks)
 
--- nor in any year
+-- no match with any year
 module _ (Y : ℕ) (format : Reading) (text : List ℕ) (offset : Option UtcOffset) (clocks : Option Clocks) (h : Refused Y format text) where
   years-refuse : (latest : OffsetDateTime) (n : ℕ) (year : ℤ)
       → AreYearsTried Y (undated format true text offset clocks latest) n year (unread h.0) (Err (unread h.0))
@@ -227,7 +227,7 @@ no_year x b c d none =
     let digit = or_parts (is_ascii_digit x) false mail.0 in
     no_digits (is_ascii_digit x) b c d digit.0
 
--- by the first bytes alone a format refuses what it refuses by more of them
+-- a format that rejects bytes by the first few rejects them with more bytes
 unlike : (format : Reading) (text : List ℕ) → is_in (format_firsts format) (first text) ≡ false → may_be_of format text ≡ false
 unlike reading.Rfc3339 text none = no_year (first text) _ _ _ none
 unlike (reading.Zoned zones) text none = no_year (first text) _ _ _ none
@@ -243,7 +243,7 @@ unlike (reading.Described d) text none = none
 unlike (reading.Complete d) text none = none
 unlike (reading.Counted d) text none = none
 
--- the first bytes of the part that is read
+-- the first bytes of the part that is parsed
 near : (format : Reading) (text : List ℕ) → may_be_of format (take REACH text) ≡ may_be_of format text
 near reading.Rfc3339 text =
     rw (
@@ -266,10 +266,10 @@ near (reading.Described d) text = rw (get_or-take REACH text 0 0 (omega arith)) 
 near (reading.Complete d) text = rw (get_or-take REACH text 0 0 (omega arith)) refl
 near (reading.Counted d) text = rw (get_or-take REACH text 0 0 (omega arith)) refl
 
--- From bytes with which no text of the format begins the line says nothing by it.
-pub says-nothing : (Y : ℕ) (job : Job) (line : List ℕ) (k : ℕ) (format : Reading) → may_be_of format (drop k line) ≡ false
-    → SaysAlone Y job line k format None
-says-nothing Y job line k format none =
+-- The line has no match of the format from bytes on that its texts can't start with.
+pub matches-nothing : (Y : ℕ) (job : Job) (line : List ℕ) (k : ℕ) (format : Reading) → may_be_of format (drop k line) ≡ false
+    → MatchesAlone Y job line k format None
+matches-nothing Y job line k format none =
     let text = take REACH (drop k line) in
     let h = refused Y format text (near format (drop k line) ∙ none) in
     (Err (unread h.0), dated-refused Y format text job.defaults h, refl)
@@ -278,10 +278,10 @@ tried-nothing : (Y : ℕ) (job : Job) (line : List ℕ) (k : ℕ) (formats : Lis
     → AreTriedAlone Y job line k formats None
 tried-nothing Y job line k [] none = refl
 tried-nothing Y job line k (format ∷ formats) none =
-    (None, says-nothing Y job line k format (unlike format (drop k line) none.0), tried-nothing Y job line k formats none.1)
+    (None, matches-nothing Y job line k format (unlike format (drop k line) none.0), tried-nothing Y job line k formats none.1)
 
--- nothing is said
-abbrev nothing : Option Said
+-- no match
+abbrev nothing : Option Match
 nothing = None
 
 from-nothing : (Y : ℕ) (job : Job) (line : List ℕ) (k : ℕ) (inside within : Bool)
@@ -290,11 +290,11 @@ from-nothing : (Y : ℕ) (job : Job) (line : List ℕ) (k : ℕ) (inside within 
 from-nothing Y job line k true within none h = refl
 from-nothing Y job line k false within none h = tried-nothing Y job line k (job.first.now ∷ job.others.now) (h none)
 
--- And from one that is inside a word or a number, or with which no text of any format begins, it says nothing at all.
-pub says-none : (Y : ℕ) (job : Job) (line : List ℕ) (f : Firsts)
+-- The line has no match at all from a byte on inside a word or a number, or that no text of any format starts with.
+pub matches-none : (Y : ℕ) (job : Job) (line : List ℕ) (f : Firsts)
     → ((x : ℕ) → is_in f x ≡ false → IsInNone x (job.first.now ∷ job.others.now)) → (k : ℕ)
-    → (not (is_inside line k) && is_in f (get_or line k 0)) ≡ false → SaysFrom Y job line k None
-says-none Y job line f all k none =
+    → (not (is_inside line k) && is_in f (get_or line k 0)) ≡ false → MatchesFrom Y job line k None
+matches-none Y job line f all k none =
     let here = get_or-drop k line 0 0 in
     let from : k + 0 ≡ k = omega arith in
     let same : get_or line k 0 ≡ first (drop k line) = sym (here ∙ ap (λ (j : ℕ). get_or line j 0) from) in
@@ -305,11 +305,11 @@ joined_and : (p q s : Bool) → ((p || q) && s) ≡ false → ((p && s) ≡ fals
 joined_and true q s h = (h, and_right q s h)
 joined_and false q s h = (refl, h)
 
--- the bytes of one of two
+-- the first bytes of either format
 abbrev pub joined : Firsts → Firsts → Firsts
 joined a b = record { signs = a.signs || b.signs; mail = a.mail || b.mail; others = a.others || b.others }
 
--- a byte that isn't among these is in neither
+-- a byte that isn't among the joined ones is in neither
 pub in-joined : (a b : Firsts) (x : ℕ) → is_in (joined a b) x ≡ false → (is_in a x ≡ false) × (is_in b x ≡ false)
 in-joined a b x none =
     let outer = or_parts _ _ none in
@@ -327,7 +327,7 @@ none-push : (x : ℕ) (formats : List Reading) (format : Reading) → IsInNone x
 none-push x [] format none h = (h, tt)
 none-push x (first ∷ formats) format none h = (none.0, none-push x formats format none.1 h)
 
--- one more format is none of which a text begins with the byte
+-- no text of one more format starts with the byte
 pub none-more : (x : ℕ) (formats : List Reading) (i : ℕ) (format : Reading) → i < length formats → format ≡ get_or formats i format
     → IsInNone x (take i formats) → is_in (format_firsts format) x ≡ false → IsInNone x (take (i + 1) formats)
 none-more x formats i format below is none h =

@@ -1,4 +1,4 @@
--- The times of access logs are read back.
+-- The timestamps of access logs parse back.
 use Rattle.std.specs.Prelude.{Option, MatchOption, bytes_eq, if◌then◌else◌, unsigned_abs}
 use Rattle.std.proofs.Common.{◌≡◌, ◌≢◌, ℕ, List, [], Bool, true, false, None, Some, Ok, Err, ap, sym, ◌∙◌, refl, subst, codes, Decides, pos, ◌∷◌, arith}
 use Rattle.std.proofs.lemmas.Slice.Eq.{bytes_eq-Decides}
@@ -27,7 +27,7 @@ use Rattle.time_formatting.specs.Components.{SignedStops, PaddedStops}
 use Rattle.time_formatting.specs.Numbers.{year_sign}
 use Rattle.time_record.specs.Record.{Record, empty}
 use Rattle.restamp_verdict.specs.Laws.{OneTree, CommonReadsBack}
-use Rattle.restamp_verdict.specs.Naming.{Way, rfc3339, rfc2822, iso8601, counted, complete, brackets, strftime, unknown, way_of, described_way, writing_named, meaning_of, as_tree, Means, common_text, as_complete}
+use Rattle.restamp_verdict.specs.Naming.{FormatName, rfc3339, rfc2822, iso8601, counted, complete, brackets, strftime, unknown, format_name_of, description_name, writing_named, meaning_of, as_tree, Means, common_text, as_complete}
 use Rattle.restamp_verdict.specs.declared.form.Named.{Named}
 use Rattle.restamp_verdict.specs.declared.form.Named.TheVariants.{Rfc3339, Rfc2822, Iso8601, Count}
 use Rattle.restamp_verdict.specs.declared.form.Unit.TheVariants.{Seconds, Milliseconds, Microseconds, Nanoseconds}
@@ -35,10 +35,10 @@ use Rattle.restamp_verdict.specs.declared.form.Writing.TheVariants as writing
 use Rattle.restamp_verdict.specs.declared.reading.Reading.{Reading}
 use Rattle.restamp_verdict.specs.declared.reading.Reading.TheVariants as reading
 use Rattle.restamp_verdict.specs.declared.reading.TheConstants.{MOST_STEPS}
-use Rattle.restamp_verdict.specs.Told.{pieces, AllStop, SaysMoment, ReadsTree, no_defaults, clock, HasAll}
-use Rattle.restamp_verdict.proofs.Telling.{says_all_told, signs_tell}
+use Rattle.restamp_verdict.specs.ComponentValues.{pieces, AllStop, DeterminesMoment, ReadsTree, no_defaults, clock, HasAll}
+use Rattle.restamp_verdict.proofs.ComponentValueLemmas.{says_all_told, signs_tell}
 
--- ---- A text by which times are read and written means one tree
+-- ---- A text that names both a format to parse by and a description to write by has one tree
 
 items_in : Read (List Item) → List Item
 items_in (Ok x) = x.0
@@ -53,7 +53,7 @@ one_strftime : (text : List ℕ) (a b : Tree) → DescribesStrftime text a → D
 unfolding DescribesStrftime
 one_strftime text a b x y = x.1 ∙ sym y.1
 
--- the reading that means a tree
+-- the format with a tree as its meaning
 abbrev ByTree : Reading → Tree → Type 0
 ByTree format tree = (e : List Step) × (format ≡ reading.Described e) × (steps_shape e ≡ tree)
 
@@ -69,35 +69,35 @@ by_tree (reading.Counted d) tree e = absurd cc
 pub same_as_tree : (a b : Tree) → as_tree a ≡ as_tree b → a ≡ b
 same_as_tree a b e = cc
 
--- one way means one tree
-one_way : (way : Way) (format : Reading) (tree : Tree) → Means way (meaning_of format) → Means way (as_tree tree) → ByTree format tree
-one_way rfc3339 format tree means writes = absurd cc
-one_way rfc2822 format tree means writes = absurd cc
-one_way iso8601 format tree means writes = absurd cc
-one_way (counted text) format tree means writes = let e = writes.2 in absurd cc
-one_way (complete text) format tree means writes = let e = writes.2 in absurd cc
-one_way (brackets text) format tree (a, describes, is) (b, also, e) =
+-- a way has one tree
+one_format_name : (way : FormatName) (format : Reading) (tree : Tree) → Means way (meaning_of format) → Means way (as_tree tree) → ByTree format tree
+one_format_name rfc3339 format tree means writes = absurd cc
+one_format_name rfc2822 format tree means writes = absurd cc
+one_format_name iso8601 format tree means writes = absurd cc
+one_format_name (counted text) format tree means writes = let e = writes.2 in absurd cc
+one_format_name (complete text) format tree means writes = let e = writes.2 in absurd cc
+one_format_name (brackets text) format tree (a, describes, is) (b, also, e) =
     by_tree format tree (is ∙ ap as_tree (one_description (version_of 2) text a b describes also ∙ sym (same_as_tree tree b e)))
-one_way (strftime text) format tree (a, describes, is) (b, also, e) =
+one_format_name (strftime text) format tree (a, describes, is) (b, also, e) =
     by_tree format tree (is ∙ ap as_tree (one_strftime text a b describes also ∙ sym (same_as_tree tree b e)))
-one_way unknown format tree means writes = absurd means
+one_format_name unknown format tree means writes = absurd means
 
--- a test that picks a name fails where there is none
+-- a failed test picks no name
 not_picked : (test : Bool) (x : Named) (others : Option Named) → (if test then Some x else others) ≡ None
     → (test ≡ false) × (others ≡ None)
 not_picked true x others e = absurd cc
 not_picked false x others e = (refl, e)
 
--- no text that describes something is that name
-not_that : (text name : List ℕ) → described_way text ≢ unknown → described_way name ≡ unknown → bytes_eq text name ≡ false
+-- a text with a description isn't that name
+not_that : (text name : List ℕ) → description_name text ≢ unknown → description_name name ≡ unknown → bytes_eq text name ≡ false
 not_that text name known none = by_test (bytes_eq text name) (bytes_eq-Decides text name)
   where
     by_test : (test : Bool) → Decides test (text ≡ name) → test ≡ false
-    by_test true same = absurd (known (ap described_way (same.0 refl) ∙ none))
+    by_test true same = absurd (known (ap description_name (same.0 refl) ∙ none))
     by_test false other = refl
 
-module _ (text : List ℕ) (known : described_way text ≢ unknown) (unnamed : writing_named text ≡ None) where
-  same_way : way_of text ≡ described_way text
+module _ (text : List ℕ) (known : description_name text ≢ unknown) (unnamed : writing_named text ≡ None) where
+  same_way : format_name_of text ≡ description_name text
   same_way =
       let is : List ℕ → Bool = bytes_eq text in
       let a = not_picked (is (codes "rfc3339")) Rfc3339 _ unnamed in
@@ -111,16 +111,16 @@ module _ (text : List ℕ) (known : described_way text ≢ unknown) (unnamed : w
       let syslog = not_that text (codes "syslog") known refl in rw (a.0, b.0, c.0, d.0, e.0, f.0, g.0, common, syslog) refl
 
 by_name : (text : List ℕ) (format : Reading) (d : Description MOST_STEPS) (name : Option Named) → writing_named text ≡ name
-    → Means (way_of text) (meaning_of format)
+    → Means (format_name_of text) (meaning_of format)
     → MatchOption name
-    ((e : Description MOST_STEPS) × Means (described_way text) (as_tree (shape e)) × (writing.Described d ≡ writing.Described e))
+    ((e : Description MOST_STEPS) × Means (description_name text) (as_tree (shape e)) × (writing.Described d ≡ writing.Described e))
     (λ n. writing.Described d ≡ writing.Named n)
     → ByTree format (shape d)
 by_name text format d None unnamed means (e, writes, same) =
-    let way = same_way text (λ none. subst (λ (w : Way). Means w (as_tree (shape e))) none writes) unnamed in
+    let way = same_way text (λ none. subst (λ (w : FormatName). Means w (as_tree (shape e))) none writes) unnamed in
     let one : e ≡ d = cc in
-    one_way (described_way text) format (shape d) (subst (λ (w : Way). Means w (meaning_of format)) way means)
-    (subst (λ (x : Description MOST_STEPS). Means (described_way text) (as_tree (shape x))) one writes)
+    one_format_name (description_name text) format (shape d) (subst (λ (w : FormatName). Means w (meaning_of format)) way means)
+    (subst (λ (x : Description MOST_STEPS). Means (description_name text) (as_tree (shape x))) one writes)
 by_name text format d (Some n) unnamed means is = absurd cc
 
 pub one_tree : OneTree
@@ -129,7 +129,7 @@ one_tree text format d means writes = by_name text format d (writing_named text)
 same_described : (d e : Description MOST_STEPS) → writing.Described d ≡ writing.Described e → d ≡ e
 same_described d e same = cc
 
--- the items of their description
+-- the items of the description of access logs
 abbrev common_items : List Item
 common_items =
     component (part.Day (record { padding = Zero }))
@@ -164,7 +164,7 @@ module _ (v : OffsetDateTime) (none : Times.nanosecond (offset_time v) ≡ 0) (m
   stops : AllStop greatest_year v (pieces common_tree)
   stops = (tt, (tt, (no_digit (year_sign false (Dates.year (offset_date v))) _, (tt, (tt, (tt, (tt, (tt, tt))))))))
 
-  -- what is told
+  -- the record with the values of all components
   abbrev after : Record
   after = record empty {
     day = Some (Dates.day (offset_date v));
@@ -186,10 +186,10 @@ module _ (v : OffsetDateTime) (none : Times.nanosecond (offset_time v) ≡ 0) (m
     no_count = refl;
   }
 
-  says : SaysMoment greatest_year common_tree no_defaults v
+  says : DeterminesMoment greatest_year common_tree no_defaults v
   says = says_all_told v common_tree no_defaults after stops refl has_all
 
--- the reading of that name
+-- the format of that name
 complete_tree : (format : Reading) (tree : Tree) → meaning_of format ≡ as_complete tree
     → (e : List Step) × (format ≡ reading.Complete e) × (steps_shape e ≡ tree)
 complete_tree reading.Rfc3339 tree e = absurd cc
@@ -207,4 +207,4 @@ common_reads_back v format defaults d (read_tree, reads, is) (e, (tree, writes, 
     let there = one_description (version_of 2) common_text read_tree common_tree reads describes_common in
     let (c, format_is, tree_is) = complete_tree format read_tree is in
     subst (λ (f : Reading). ReadsTree greatest_year f defaults (shape d) v) (sym format_is)
-    (tree_is ∙ there ∙ sym here, subst (λ (t : Tree). SaysMoment greatest_year t no_defaults v) (sym here) (says v none minutes))
+    (tree_is ∙ there ∙ sym here, subst (λ (t : Tree). DeterminesMoment greatest_year t no_defaults v) (sym here) (says v none minutes))

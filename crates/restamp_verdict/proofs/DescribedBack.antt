@@ -1,4 +1,4 @@
--- What is written of a moment by a tree is read back by it. `Y` is the greatest year.
+-- The text that a tree writes of a moment parses back by the tree. `Y` is the greatest year.
 use Rattle.std.specs.Prelude.{Option, MatchOption, ◌||◌, is_some, unwrap_or, if◌then◌else◌, Result, option_and_then}
 use Rattle.std.specs.Option.{option_or}
 use Rattle.std.proofs.Common.{◌≡◌, ℕ, ℤ, Bool, true, false, None, Some, Ok, Err, inl, inr, refl, sym, ap, subst, ◌∙◌, List, [], ◌∷◌, ◌++◌, length, nat_le, append-nil, append_assoc}
@@ -26,29 +26,29 @@ use Rattle.time_record.specs.Components.{put_value}
 use Rattle.time_record.specs.Reading.{Reads, ReadsAll, ReadsSome, Refuses}
 use Rattle.time_parsing.specs.Outcome.{IsOutcome}
 use Rattle.restamp_verdict.specs.Laws.{KeepsMoment}
-use Rattle.restamp_verdict.specs.Reading.{has_year, with_year, with_offset, completed, Says, said, is_negative_fraction, guarded, IsCompleted}
+use Rattle.restamp_verdict.specs.Reading.{has_year, with_year, with_offset, completed, ParsesAs, said, is_negative_fraction, guarded, IsCompleted}
 use Rattle.restamp_verdict.specs.declared.reading.Defaults.{Defaults}
 use Rattle.restamp_verdict.specs.Form.{described}
-use Rattle.restamp_verdict.specs.Told.{Piece, verbatim, part, pieces, all_pieces, whole_text, AllStop, or_nothing, put_values, SaysMoment, ReadsTree, no_defaults}
+use Rattle.restamp_verdict.specs.ComponentValues.{Piece, verbatim, part, pieces, all_pieces, whole_text, AllStop, or_nothing, put_values, DeterminesMoment, ReadsTree, no_defaults}
 use Rattle.restamp_verdict.specs.Reason.{negative_fraction}
 use Rattle.restamp_verdict.specs.declared.reading.Reading.{Reading}
 use Rattle.restamp_verdict.specs.declared.reading.Reading.TheVariants as reading
-use Rattle.restamp_verdict.proofs.SayingLemmas.{on_none, on_some}
+use Rattle.restamp_verdict.proofs.ParseLemmas.{on_none, on_some}
 
--- ---- What a record says all of stays with what stands for what it doesn't say. `Y` is the greatest year.
+-- ---- Defaults change no record that has all of a moment. `Y` is the greatest year.
 
 completing_behind : (a b c d : Bool) → (b || c || d) ≡ true → (a || b || c || d) ≡ true
 completing_behind true b c d e = refl
 completing_behind false b c d e = e
 
--- a year is said by one of its parts
+-- a record with a year has one of the year's parts
 year_said : (y c : Option ℤ) (minus : Bool) (n : Option ℕ) (year : ℤ) → year_of y c minus n ≡ Some year
     → (is_some y || is_some c || is_some n) ≡ true
 year_said (Some y) c minus n year e = refl
 year_said None (Some c) minus n year e = refl
 year_said None None minus n year e = absurd cc
 
--- the first row of a record, of these years
+-- the first row of a record with these years
 abbrev rows : Record → Option ℤ → Option ℤ → Option Row
 rows r year iso_year =
     option_or (row_of_two by_ordinal year r.ordinal)
@@ -99,7 +99,7 @@ module _ (r : Record) where
     offset_is_negative = false;
   }) said
 
-  -- a count from 1970 and a fraction stay
+  -- a count from 1970 and a fraction are unchanged
   abbrev SameCount : Record → Type 0
   SameCount q = (q.unix_timestamp_nanos ≡ r.unix_timestamp_nanos) × (q.subsecond ≡ r.subsecond)
 
@@ -136,7 +136,7 @@ module _ (Y : ℕ) (defaults : Defaults) (r : Record) where
       let offset = offset_counts (with_year Y defaults.year r) defaults.offset in
       (offset.0 ∙ year.0, offset.1 ∙ year.1)
 
-  -- a record that says a year and an hour of an offset stays
+  -- a record with a year and an hour of an offset is unchanged
   stays : has_year r ≡ true → is_some r.offset_hour ≡ true → done ≡ r
   stays year hour = ap (with_offset defaults.offset) (year_stays r Y defaults.year year) ∙ offset_stays r defaults.offset hour
 
@@ -182,7 +182,7 @@ module _ (Y : ℕ) (v : OffsetDateTime) where
   nothing_is : (before bytes : List ℕ) → texts_after Y v before none ≡ Ok bytes → bytes ≡ before ++ []
   nothing_is before bytes e = let same : bytes ≡ before = cc in same ∙ sym (append-nil before)
 
-  -- pieces joined
+  -- the text of joined pieces
   text-joined : (ps qs : List Piece) → whole_text Y v (ps ++ qs) ≡ whole_text Y v ps ++ whole_text Y v qs
   text-joined [] qs = refl
   text-joined (verbatim text ∷ ps) qs =
@@ -205,7 +205,7 @@ module _ (Y : ℕ) (v : OffsetDateTime) where
       let later = put-joined ps qs first new next in
       (later.0, ap (option_and_then (put_values Y v ps)) here ∙ later.1, later.2))
 
-  -- the text of a tree stands behind what stood
+  -- a tree appends its text
   mutual
     text_is : (t : Tree) (before bytes : List ℕ) → text_after Y v before t ≡ Ok bytes
         → bytes ≡ before ++ whole_text Y v (pieces t)
@@ -230,7 +230,7 @@ module _ (Y : ℕ) (v : OffsetDateTime) where
         ∙ append_assoc before (whole_text Y v (pieces t)) (whole_text Y v (all_pieces ts))
         ∙ ap (λ b. before ++ b) (sym (text-joined (pieces t) (all_pieces ts)))
 
-  -- it is read by the tree, with the text of later pieces behind it
+  -- the tree parses its text, followed by the text of later pieces
   module _ (spelled : ComponentSpelled Y) where
     mutual
       unfolding Reads ReadsAll ReadsSome
@@ -271,11 +271,11 @@ module _ (Y : ℕ) (v : OffsetDateTime) where
             trees_back ts later mid bytes q new next (stops-later here behind all) puts_next,
           )
 
--- what a whole text says
+-- the match of a whole text
 abbrev pub SaysAll : Reading → Defaults → OffsetDateTime → List ℕ → Type 0
-SaysAll format defaults v bytes = Says greatest_year format false bytes defaults (Ok (said v (length bytes)))
+SaysAll format defaults v bytes = ParsesAs greatest_year format false bytes defaults (Ok (said v (length bytes)))
 
--- by a description of the tree, the text has the moment as its outcome
+-- the text parses as the moment by a description with the tree
 module _ (d : List Step) (t : Tree) (v : OffsetDateTime) (bytes : List ℕ) (same : steps_shape d ≡ t)
     (written : text_of greatest_year v t ≡ Ok bytes) where
   abbrev text : List ℕ
@@ -288,7 +288,7 @@ module _ (d : List Step) (t : Tree) (v : OffsetDateTime) (bytes : List ℕ) (sam
   Back u b defaults =
       IsOutcome (IsCompleted greatest_year defaults) (Reads greatest_year u) (Refuses greatest_year u) b empty (Ok v)
 
-  outcome : (defaults : Defaults) → SaysMoment greatest_year t defaults v → Back (steps_shape d) bytes defaults
+  outcome : (defaults : Defaults) → DeterminesMoment greatest_year t defaults v → Back (steps_shape d) bytes defaults
   outcome defaults says =
       let all = append-nil (pieces t) in
       let reads = tree_back greatest_year v component_spelled t [] [] bytes empty says.after written

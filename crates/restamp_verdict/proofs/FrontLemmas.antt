@@ -1,4 +1,4 @@
--- A moment of RFC 3339 that is the whole of some bytes is also one in front of more.
+-- A moment of RFC 3339 that is all of some bytes is also a prefix of more.
 use Rattle.std.specs.Char.{to_ascii_lowercase}
 use Rattle.std.proofs.Common.{◌≡◌, ◌≢◌, ◌≤◌, ◌-◌, ◌∙◌, ℕ, Bool, IsTrue, true, false, List, [], ◌∷◌, ◌++◌, length, take, drop, length-drop, take-append-drop, ap, refl, subst, inl, inr, arith, append_assoc, Option, Some, None, Ok, ◌+◌, Err, sym, length-append, nat_lt}
 use Rattle.std.proofs.Math.Seq.{take-length, take-append_seam, drop-append_seam}
@@ -19,13 +19,13 @@ use Rattle.time_record.specs.Record.{empty}
 use Rattle.time_record.specs.Resolution.{IsMoment}
 use Rattle.time_parsing.specs.Rfc3339.{Reads, Refuses}
 use Rattle.time_parsing.specs.Outcome.{IsOutcome, IsFront, direct}
-use Rattle.restamp_verdict.specs.Reading.{IsReadBy, IsReadInFront, said, Says}
+use Rattle.restamp_verdict.specs.Reading.{IsReadBy, IsReadInFront, said, ParsesAs}
 use Rattle.restamp_verdict.specs.Laws.{ReadsSuffixedBack}
 use Rattle.restamp_verdict.specs.Zoned.{IsLongestSuffix, IsSuffixed, Suffix, has_tail, tells_offset}
 use Rattle.restamp_verdict.specs.declared.reading.Defaults.{Defaults}
 use Rattle.restamp_verdict.specs.declared.reading.Reading.TheVariants as reading
-use Rattle.restamp_verdict.specs.declared.reading.Said.{Said}
-use Rattle.restamp_verdict.proofs.OneVerdict.{one_says}
+use Rattle.restamp_verdict.specs.declared.reading.Match.{Match}
+use Rattle.restamp_verdict.proofs.OneVerdict.{one_has}
 
 -- places without a fraction
 abbrev Plain : List Place → Type 0
@@ -85,7 +85,7 @@ module _ (tail : List ℕ) where
   offset_minute true n m text xs h = h
   offset_minute false n m text xs h = (h.0, (run 2 text xs h.0 h.1.0, h.1.1), h.2)
 
-  -- what a place asks where more follows
+  -- the syntax of a place where more bytes follow
   asked : (p : Place) (n m : Numbers) (text xs : List ℕ) → (p ≡ place.Subsecond → 1 ≤ length xs) → Asks true p n text xs m
       → Asks true p n text (xs ++ tail) m
   asked place.Year n m text xs some h = (h.0, run 4 text xs h.0 h.1, h.2)
@@ -124,7 +124,7 @@ module _ (tail : List ℕ) where
   stand (p ∷ ps) n m bytes rest plain s =
       (s.0 ++ tail, s.1, cut p n s.1 bytes s.0 (λ is. absurd (plain.0 is)) s.2, stand ps s.1 m s.0 rest plain.1 s.3)
 
-  -- an offset has a byte
+  -- an offset has at least one byte
   offset_long : (n m : Numbers) (bytes rest : List ℕ) → Cut (Asks true place.OffsetHour n) bytes rest m → 1 ≤ length bytes
   offset_long n m bytes rest (text, is, inl utc) =
       let long : length bytes ≡ length (utc.0.0 ∷ rest) = ap length (is ∙ ap (λ x. x ++ rest) utc.0.1) in omega (arith, long)
@@ -143,13 +143,13 @@ module _ (tail : List ℕ) where
       (stand to_second_places nothing_read k bytes mid to_second_plain first.1.1)
       (s.0 ++ tail, s.1, cut place.Subsecond k s.1 mid s.0 (λ is. long) s.2, stand offset_places s.1 n s.0 [] offset_plain s.3)
 
--- The moment of the whole bytes is that of a front of more.
+-- The moment of all the bytes is that of a prefix of more.
 pub front-moment : (bytes tail : List ℕ) (v : OffsetDateTime)
     → IsOutcome (IsMoment greatest_year) (Reads greatest_year) (Refuses greatest_year) bytes empty (Ok v)
     → IsFront (IsMoment greatest_year) (Reads greatest_year) (Refuses greatest_year) (bytes ++ tail) empty (Ok (v, tail))
 front-moment bytes tail v (r, (n, m, whole, month, put), moment) = (r, (n, m, form tail bytes n whole, month, put), moment)
 
--- so a front of a text says it
+-- a prefix of a text parses as the moment
 pub front_said : (text : List ℕ) (end : ℕ) (v : OffsetDateTime) → end ≤ length text
     → IsOutcome (IsMoment greatest_year) (Reads greatest_year) (Refuses greatest_year) (take end text) empty (Ok v)
     → IsReadBy greatest_year true (direct (RefusesRfc3339 greatest_year)) (Reads greatest_year) (Refuses greatest_year) text (Ok (said v end))
@@ -162,9 +162,9 @@ front_said text end v fits moment =
       ap (λ (k : ℕ). Ok (said v k)) long,
     )
 
--- ---- A time in front of a text ends with a digit or the letter of UTC
+-- ---- A timestamp at the start of a text ends with a digit or the letter of UTC
 
--- it ends so before the rest
+-- the timestamp ends so before the rest
 pub record EndsBefore (text rest : List ℕ) : Type 0 where
   pub before : List ℕ
   pub end : ℕ
@@ -231,23 +231,23 @@ what_is_left text rest ends =
     let long : length text - length rest ≡ length front = omega (arith, ap length whole, length-append front rest) in
     ap (λ (n : ℕ). drop n text) long ∙ ap (drop (length front)) whole ∙ drop-append_seam front rest
 
-pub front_ends : (Y : ℕ) (text : List ℕ) (s : Said) → IsReadInFront Y text (Ok s) → EndsBefore text (drop s.length text)
+pub front_ends : (Y : ℕ) (text : List ℕ) (s : Match) → IsReadInFront Y text (Ok s) → EndsBefore text (drop s.length text)
 front_ends Y text s (Ok (v, rest), (r, (n, m, form, month, put), moment), e) =
     let ends = form_ends text rest n form in
     let same : s ≡ said v (length text - length rest) = cc in
-    subst (EndsBefore text) (sym (ap (λ (x : Said). drop x.length text) same ∙ what_is_left text rest ends)) ends
+    subst (EndsBefore text) (sym (ap (λ (x : Match). drop x.length text) same ∙ what_is_left text rest ends)) ends
 front_ends Y text s (Err f, front, e) = absurd cc
 
--- ---- A text of RFC 3339 with a suffix that goes with its moment is read back
+-- ---- A text of RFC 3339 with a suffix that fits its moment parses back
 
 -- the moment of a whole text
 whole-moment : (text : List ℕ) (defaults : Defaults) (v : OffsetDateTime)
-    → Says greatest_year reading.Rfc3339 false text defaults (Ok (said v (length text)))
+    → ParsesAs greatest_year reading.Rfc3339 false text defaults (Ok (said v (length text)))
     → IsOutcome (IsMoment greatest_year) (Reads greatest_year) (Refuses greatest_year) text empty (Ok v)
 whole-moment text defaults v (Ok s, (Ok w, outcome, zoned_whole), is) =
     let same : said v (length text) ≡ said w (length text) = cc in
     subst (λ (u : OffsetDateTime). IsOutcome (IsMoment greatest_year) (Reads greatest_year) (Refuses greatest_year) text empty (Ok u))
-    (sym (ap (λ (x : Said). x.moment) same)) outcome
+    (sym (ap (λ (x : Match). x.moment) same)) outcome
 whole-moment text defaults v (Ok s, (Err e, outcome, zoned_whole), is) = absurd cc
 whole-moment text defaults v (Err e, read, is) = absurd cc
 
@@ -283,5 +283,5 @@ reads_suffixed_back zones defaults v text behind zone tags read says is goes rea
     let moment = subst (λ (front : List ℕ). IsOutcome (IsMoment greatest_year) (Reads greatest_year) (Refuses greatest_year) front empty (Ok v))
     (sym (take-append_seam text behind)) (whole-moment text defaults v says) in
     let front = front_said (text ++ behind) (length text) v (omega (arith, length-append text behind)) moment in
-    one_says (reading.Zoned zones) false (text ++ behind) defaults read (Ok (said v (length (text ++ behind)))) reads
+    one_has (reading.Zoned zones) false (text ++ behind) defaults read (Ok (said v (length (text ++ behind)))) reads
     (Ok (said v (length text)), front, suffixed zones v text behind zone tags is goes)

@@ -5,13 +5,14 @@ pub mod OneWriting
 pub mod OneVerdict
 pub mod WrittenAgain
 pub mod DescribedBack
-pub mod Telling
+pub mod ComponentValueLemmas
 pub mod CommonBack
 mod ClocksOnce
-pub mod OneWrong
-pub mod LackRecords
-pub mod LackTrees
-pub mod LackMoments
-pub mod LackUses
-pub mod SayingLemmas
+pub mod OneErrorLocation
+pub mod MissingFieldRecords
+pub mod MissingFieldTrees
+pub mod MissingFieldMoments
+pub mod MissingFieldUses
+pub mod ParseLemmas
+pub mod GivesLemmas
 pub mod NamedZonesLemmas

@@ -1,4 +1,4 @@
--- A text with whose first bytes no mail date begins is refused.
+-- RFC 2822 rejects a text whose first bytes no mail date starts with.
 use Rattle.std.proofs.Common.{◌≡◌, ℕ, ◌≤◌, ◌==◌, ◌++◌, Bool, true, false, List, [], ◌∷◌, length, get_or, take, refl, sym, ap, subst, arith, ◌∙◌, None, Some}
 use Rattle.std.specs.Prelude.{◌&&◌, if◌then◌else◌}
 use Rattle.std.specs.Char.{is_ascii_digit, to_ascii_lowercase}
@@ -20,18 +20,18 @@ use Rattle.restamp_verdict.specs.Begins.{begins_day, is_gap, is_letter, is_weekd
 pub digit-first : (c : ℕ) → IsDigit c → is_ascii_digit c ≡ true
 digit-first c h = and_from _ _ (le-leb _ _ h.0) (le-leb _ _ h.1)
 
--- a run of digits begins with one
+-- a run of digits starts with a digit
 pub run-first : (least most : ℕ) (text rest : List ℕ) (v : ℕ) → 1 ≤ least → IsDigitRun least most text rest v
     → is_ascii_digit (get_or (text ++ rest) 0 0) ≡ true
 run-first least most [] rest v some h = let enough = h.enough in absurd (omega arith)
 run-first least most (c ∷ cs) rest v some h = digit-first c h.digits.0
 
--- a reader of one byte refuses another one
+-- a reader of one byte rejects a different one
 one_of-none : (test : ℕ → Bool) (bytes : List ℕ) → test (get_or bytes 0 0) ≡ false → one_of test bytes ≡ None
 one_of-none test [] other = refl
 one_of-none test (x ∷ xs) other = rw other refl
 
--- no blanks and no comment begin with another byte
+-- neither white space nor a comment starts with another byte
 module _ (bytes : List ℕ) (other : is_gap (get_or bytes 0 0) ≡ false) where
   no_end : crlf bytes ≡ None
   no_end = then-none (one_of (λ c. c == 13)) (one_of (λ c. c == 10)) bytes (one_of-none (λ c. c == 13) bytes (or_parts _ _ (or_parts _ _ other).0).1)
@@ -58,7 +58,7 @@ module _ (bytes : List ℕ) (other : is_gap (get_or bytes 0 0) ≡ false) where
   unfolding opt_cfws cfws
   gap-none = or-none cfws Some bytes (then-none blanks_or_comment (zero_or_more blanks_or_comment) bytes no_gap)
 
-  -- nor after one space
+  -- nor follows one space
   one_blank : blanks (32 ∷ bytes) ≡ Some bytes
   unfolding blanks
   one_blank =
@@ -81,7 +81,7 @@ module _ (bytes : List ℕ) (other : is_gap (get_or bytes 0 0) ≡ false) where
       (then-some blanks_or_comment (zero_or_more blanks_or_comment) (32 ∷ bytes) bytes one_gap
       ∙ zero_or_more-none blanks_or_comment bytes no_gap)
 
--- a byte whose small letter is that one
+-- a byte with that lower case letter
 in_case : (x l : ℕ) → 97 ≤ l → l ≤ 122 → to_ascii_lowercase x ≡ l → is_letter x l ≡ true
 in_case x l low high is = grind (arith, nat_tests)
 
@@ -120,7 +120,7 @@ three Friday = refl
 three Saturday = refl
 three Sunday = refl
 
--- two bytes with which no weekday begins
+-- two bytes that no weekday starts with
 abbrev begin_none : List ℕ → Type 0
 begin_none bytes = (is_weekday (get_or bytes 0 0) && is_weekday_second (get_or bytes 1 0)) ≡ false
 
@@ -136,7 +136,7 @@ no_weekday bytes none text rest w cut is =
     true≢false (sym (subst (λ (b : List ℕ). (is_weekday (get_or b 0 0) && is_weekday_second (get_or b 1 0)) ≡ true) (sym cut)
     (weekday-begins w text rest is)) ∙ none)
 
--- no day follows what stands before it
+-- no day follows the bytes before it
 day-fails : (bytes mid : List ℕ) → opt_cfws bytes ≡ Some mid → is_ascii_digit (get_or mid 0 0) ≡ false → begin_none mid → FailsAt true bytes Day
 unfolding Stand
 day-fails bytes mid gap no_digit none =
@@ -153,7 +153,7 @@ day-fails bytes mid gap no_digit none =
           (run-first 1 2 text rest h.0 (omega arith) h.1)) ∙ no_digit);
     }
 
--- the day fails where the bytes of a text begin no blanks, no comment, no day and no weekday
+-- the day fails where the bytes start with no white space, no comment, no day and no weekday
 begun-fails : (bytes mid : List ℕ) → (is_gap (get_or mid 0 0) ≡ false → opt_cfws bytes ≡ Some mid)
     → begins_day (get_or mid 0 0) (get_or mid 1 0) ≡ false → FailsAt true bytes Day
 begun-fails bytes mid gap none =
@@ -170,6 +170,6 @@ space-fails (x ∷ bytes) true is none =
     let same : 32 ≡ x = grind (arith, nat_tests) in
     subst (λ (b : ℕ). FailsAt true (b ∷ bytes) Day) same (begun-fails (32 ∷ bytes) bytes (gap-one bytes) none)
 
--- No mail date begins so.
+-- No mail date starts with these bytes.
 pub mail-fails : (bytes : List ℕ) → may_be_mail bytes ≡ false → FailsAt true bytes Day
 mail-fails bytes none = space-fails bytes (get_or bytes 0 0 == 32) refl none

@@ -1,4 +1,4 @@
--- A verdict stays where tables of zones change in names that the line doesn't have.
+-- A verdict is unchanged by tables of zones that differ only in names that aren't in the line.
 use Rattle.std.proofs.Common.{◌≡◌, ℕ, zero, suc, ℤ, pos, Bool, true, false, List, [], ◌∷◌, ◌++◌, ◌+◌, ◌-◌, take, drop, sym, ap, subst, refl, ◌∙◌, None, Some, Ok, Err, append_assoc, append-nil, inl, inr}
 use Rattle.std.proofs.lemmas.List.{take-append-drop}
 use Rattle.std.specs.Prelude.{Option, Result, ◌-ℤ◌, MatchOption, MatchResult, MatchBool, slice_range, nat_lt, not, ◌&&◌, if◌then◌else◌}
@@ -18,11 +18,11 @@ use Rattle.restamp_place.specs.Cuts.{span_of, body_of, body_length}
 use Rattle.restamp_place.specs.declared.cuts.Place.{Place}
 use Rattle.restamp_place.specs.declared.fields.Span.{Span}
 use Rattle.restamp_verdict.specs.Form.{IsWritten}
-use Rattle.restamp_verdict.specs.Job.{Verdict, IsJudgedAnywhere, IsJudgedAt, IsJudgedPart, IsPut, IsFirst, SaysAlone, AreTriedAlone, SaysFrom, is_inside, is_before, missed, refused, without, verdict_of, dropped}
+use Rattle.restamp_verdict.specs.Job.{Verdict, IsJudgedAnywhere, IsJudgedAt, IsJudgedPart, IsPut, IsFirst, MatchesAlone, AreTriedAlone, MatchesFrom, is_inside, is_before, missed, refused, without, verdict_of, dropped}
 use Rattle.restamp_verdict.specs.Zoned.{IsOffsetWhen, IsChecked, IsLongestSuffix, IsSuffixed, Suffix, has_tail, tells_offset}
-use Rattle.restamp_verdict.specs.Laws.{SameZones, AreAlike, AllAlike, DiffersInZones, NeedsNamedZones}
-use Rattle.restamp_verdict.specs.Reading.{IsReadInFront, Says, SaysOn, SaysLocally, undated, at_offset, in_year, is_after, is_of_clocks, IsEarly, IsFinal, year_after, AreYearsTried, IsDated, AreTried, IsReadInTurn}
-use Rattle.restamp_verdict.specs.Reason.{Reason, missing, too_far, unread}
+use Rattle.restamp_verdict.specs.Laws.{SameZones, AreEquivalent, AllEquivalent, DiffersInZones, NeedsNamedZones}
+use Rattle.restamp_verdict.specs.Reading.{IsReadInFront, ParsesAs, ParsesInZone, ParsesLocally, undated, at_offset, in_year, is_after, IsEarly, IsFinal, year_after, AreYearsTried, IsDated, AreTried, IsReadInTurn}
+use Rattle.restamp_verdict.specs.Reason.{Reason, missing, too_far, unread, is_local_time_error}
 use Rattle.restamp_verdict.specs.declared.form.Form.{Form}
 use Rattle.restamp_verdict.specs.declared.job.Job.{Job}
 use Rattle.restamp_verdict.specs.declared.job.TheConstants.{LIMIT, REACH}
@@ -30,10 +30,10 @@ use Rattle.restamp_verdict.specs.declared.local.Clocks.{Clocks}
 use Rattle.restamp_verdict.specs.declared.reading.Defaults.{Defaults}
 use Rattle.restamp_verdict.specs.declared.reading.Reading.{Reading}
 use Rattle.restamp_verdict.specs.declared.reading.Reading.TheVariants as reading
-use Rattle.restamp_verdict.specs.declared.reading.Said.{Said}
+use Rattle.restamp_verdict.specs.declared.reading.Match.{Match}
 use Rattle.restamp_verdict.proofs.FrontLemmas.{EndsBefore, front_ends}
 
--- what stands in a part stands in the whole
+-- a part of a part is a part of the whole
 deeper : (name part bytes : List ℕ) → StandsIn name part → StandsIn part bytes → StandsIn name bytes
 deeper name part bytes p q = record {
   before = q.before ++ p.before;
@@ -58,7 +58,7 @@ of_drop n bytes = record {
 of_range : (start stop : ℕ) (bytes : List ℕ) → StandsIn (slice_range bytes start stop) bytes
 of_range start stop bytes = deeper (slice_range bytes start stop) (drop start bytes) bytes (of_take (stop - start) (drop start bytes)) (of_drop start bytes)
 
--- a name that stands in a part stands in the whole
+-- a name in a part is in the whole
 name_deeper : (name part bytes : List ℕ) → IsNameIn part name → StandsIn part bytes → IsNameIn bytes name
 name_deeper name part bytes p q = record {
   end = p.end;
@@ -68,7 +68,7 @@ name_deeper name part bytes p q = record {
   stands = deeper (p.end ∷ bracketed p.is_critical name) part bytes p.stands q;
 }
 
--- the name of the zone of a suffix behind a time stands in the text
+-- the zone's name in a suffix is in the text
 name_of_suffix : (text rest : List ℕ) (len : ℕ) (tag : ZoneTag) (tags : List Tag) (name : List ℕ) → EndsBefore text rest
     → tag.zone ≡ named name → IsSuffix (take len rest) (Some tag) tags → IsNameIn text name
 name_of_suffix text rest len tag tags name ends e s =
@@ -106,7 +106,7 @@ goes None None zones other tells m a same p = p
 goes (Some z) None zones other tells m a same p = goes_zone z.zone zones other tells m a (λ name e. same z name refl e) p
 
 module _ (zones other : Zones) (text : List ℕ) (same : SameZones text zones other) where
-  checked_alike : (front : Said) (s : Suffix) (a : Result Said Reason) → EndsBefore text (drop front.length text)
+  checked_alike : (front : Match) (s : Suffix) (a : Result Match Reason) → EndsBefore text (drop front.length text)
       → IsLongestSuffix (drop front.length text) s → IsChecked zones text front s a → IsChecked other text front s a
   checked_alike front s a ends longest p =
       let rest = drop front.length text in (
@@ -118,113 +118,113 @@ module _ (zones other : Zones) (text : List ℕ) (same : SameZones text zones ot
         p.2,
       )
 
-  ended_alike : (tail : Bool) (front : Said) (s : Suffix) (a : Result Said Reason) → EndsBefore text (drop front.length text)
+  ended_alike : (tail : Bool) (front : Match) (s : Suffix) (a : Result Match Reason) → EndsBefore text (drop front.length text)
       → IsLongestSuffix (drop front.length text) s
       → MatchBool tail (a ≡ Err (unread trailing)) (IsChecked zones text front s a)
       → MatchBool tail (a ≡ Err (unread trailing)) (IsChecked other text front s a)
   ended_alike true front s a ends longest p = p
   ended_alike false front s a ends longest p = checked_alike front s a ends longest p
 
-  told_alike : (Y : ℕ) (is_open : Bool) (outcome : Result Said Refusal) (a : Result Said Reason) → IsReadInFront Y text outcome
-      → MatchResult outcome (λ s. IsSuffixed zones is_open text s a) (λ e. a ≡ Err (unread e))
-      → MatchResult outcome (λ s. IsSuffixed other is_open text s a) (λ e. a ≡ Err (unread e))
-  told_alike Y is_open (Ok s) a front p =
-      (p.0, p.1, ended_alike (has_tail is_open text (s.length + p.0.len)) s p.0 a (front_ends Y text s front) p.1 p.2)
-  told_alike Y is_open (Err e) a front p = p
+  told_alike : (Y : ℕ) (is_prefix : Bool) (outcome : Result Match Refusal) (a : Result Match Reason) → IsReadInFront Y text outcome
+      → MatchResult outcome (λ s. IsSuffixed zones is_prefix text s a) (λ e. a ≡ Err (unread e))
+      → MatchResult outcome (λ s. IsSuffixed other is_prefix text s a) (λ e. a ≡ Err (unread e))
+  told_alike Y is_prefix (Ok s) a front p =
+      (p.0, p.1, ended_alike (has_tail is_prefix text (s.length + p.0.len)) s p.0 a (front_ends Y text s front) p.1 p.2)
+  told_alike Y is_prefix (Err e) a front p = p
 
--- what a text says by both formats of a kind
+-- both formats of a kind have the same match of a text
 abbrev Alike : ℕ → Bool → List ℕ → Reading → Reading → Type 0
-Alike Y is_open text format other =
-    (d : Defaults) (a : Result Said Reason) → Says Y format is_open text d a → Says Y other is_open text d a
+Alike Y is_prefix text format other =
+    (d : Defaults) (a : Result Match Reason) → ParsesAs Y format is_prefix text d a → ParsesAs Y other is_prefix text d a
 
-says_alike : (Y : ℕ) (is_open : Bool) (text : List ℕ) (format other : Reading) → AreAlike text format other → Alike Y is_open text format other
-says_alike Y is_open text format other (inl e) d a p = subst (λ (f : Reading). Says Y f is_open text d a) e p
-says_alike Y is_open text format other (inr (zones, same, e, f, h)) d a p =
-    let q : Says Y (reading.Zoned zones) is_open text d a = subst (λ (r : Reading). Says Y r is_open text d a) e p in
-    let r : Says Y (reading.Zoned same) is_open text d a = (q.0, q.1, told_alike zones same text h Y is_open q.0 a q.1 q.2) in
-    subst (λ (r : Reading). Says Y r is_open text d a) (sym f) r
+says_alike : (Y : ℕ) (is_prefix : Bool) (text : List ℕ) (format other : Reading) → AreEquivalent text format other → Alike Y is_prefix text format other
+says_alike Y is_prefix text format other (inl e) d a p = subst (λ (f : Reading). ParsesAs Y f is_prefix text d a) e p
+says_alike Y is_prefix text format other (inr (zones, same, e, f, h)) d a p =
+    let q : ParsesAs Y (reading.Zoned zones) is_prefix text d a = subst (λ (r : Reading). ParsesAs Y r is_prefix text d a) e p in
+    let r : ParsesAs Y (reading.Zoned same) is_prefix text d a = (q.0, q.1, told_alike zones same text h Y is_prefix q.0 a q.1 q.2) in
+    subst (λ (r : Reading). ParsesAs Y r is_prefix text d a) (sym f) r
 
--- what both say stays what follows from it: on clocks, in years, by several formats
-module _ (Y : ℕ) (is_open : Bool) (text : List ℕ) (format other : Reading) (says : Alike Y is_open text format other) where
-  at_clocks : (clocks : Clocks) (d : Defaults) (offset : Result UtcOffset Reason) (a : Result Said Reason)
-      → MatchResult offset (λ o. Says Y format is_open text (at_offset o d) a) (λ why. a ≡ Err why)
-      → MatchResult offset (λ o. Says Y other is_open text (at_offset o d) a) (λ why. a ≡ Err why)
+-- equal matches have equal results: in zones, with years, by several formats
+module _ (Y : ℕ) (is_prefix : Bool) (text : List ℕ) (format other : Reading) (says : Alike Y is_prefix text format other) where
+  at_clocks : (clocks : Clocks) (d : Defaults) (offset : Result UtcOffset Reason) (a : Result Match Reason)
+      → MatchResult offset (λ o. ParsesAs Y format is_prefix text (at_offset o d) a) (λ why. a ≡ Err why)
+      → MatchResult offset (λ o. ParsesAs Y other is_prefix text (at_offset o d) a) (λ why. a ≡ Err why)
   at_clocks clocks d (Ok o) a p = says (at_offset o d) a p
   at_clocks clocks d (Err why) a p = p
 
-  on_shown : (clocks : Clocks) (d : Defaults) (shown a : Result Said Reason)
+  on_shown : (clocks : Clocks) (d : Defaults) (shown a : Result Match Reason)
       → MatchResult shown
       (λ s. (offset : Result UtcOffset Reason) × IsOffsetWhen clocks s.moment offset
-      × MatchResult offset (λ o. Says Y format is_open text (at_offset o d) a) (λ why. a ≡ Err why))
+      × MatchResult offset (λ o. ParsesAs Y format is_prefix text (at_offset o d) a) (λ why. a ≡ Err why))
       (λ why. a ≡ Err why)
       → MatchResult shown
       (λ s. (offset : Result UtcOffset Reason) × IsOffsetWhen clocks s.moment offset
-      × MatchResult offset (λ o. Says Y other is_open text (at_offset o d) a) (λ why. a ≡ Err why))
+      × MatchResult offset (λ o. ParsesAs Y other is_prefix text (at_offset o d) a) (λ why. a ≡ Err why))
       (λ why. a ≡ Err why)
   on_shown clocks d (Ok s) a p = (p.0, p.1, at_clocks clocks d p.0 a p.2)
   on_shown clocks d (Err why) a p = p
 
-  on_clocks : (clocks : Option Clocks) (d : Defaults) (reason : Reason) (a : Result Said Reason)
-      → MatchOption clocks (a ≡ Err reason) (λ c. SaysOn Y c format is_open text d a)
-      → MatchOption clocks (a ≡ Err reason) (λ c. SaysOn Y c other is_open text d a)
+  on_clocks : (clocks : Option Clocks) (d : Defaults) (reason : Reason) (a : Result Match Reason)
+      → MatchOption clocks (a ≡ Err reason) (λ c. ParsesInZone Y c format is_prefix text d a)
+      → MatchOption clocks (a ≡ Err reason) (λ c. ParsesInZone Y c other is_prefix text d a)
   on_clocks None d reason a p = p
   on_clocks (Some clocks) d reason a p =
       (p.0, p.1, p.2, says (at_offset p.0 d) p.2 p.3, on_shown clocks d p.2 a p.4)
 
-  after_plain : (d : Defaults) (plain a : Result Said Reason)
+  after_plain : (d : Defaults) (plain a : Result Match Reason)
       → MatchResult plain (λ s. a ≡ Ok s)
-      (λ reason. MatchOption d.clocks (a ≡ Err reason) (λ c. SaysOn Y c format is_open text d a))
+      (λ reason. MatchOption d.clocks (a ≡ Err reason) (λ c. ParsesInZone Y c format is_prefix text d a))
       → MatchResult plain (λ s. a ≡ Ok s)
-      (λ reason. MatchOption d.clocks (a ≡ Err reason) (λ c. SaysOn Y c other is_open text d a))
+      (λ reason. MatchOption d.clocks (a ≡ Err reason) (λ c. ParsesInZone Y c other is_prefix text d a))
   after_plain d (Ok s) a p = p
   after_plain d (Err reason) a p = on_clocks d.clocks d reason a p
 
-  locally : (d : Defaults) (a : Result Said Reason) → SaysLocally Y format is_open text d a → SaysLocally Y other is_open text d a
+  locally : (d : Defaults) (a : Result Match Reason) → ParsesLocally Y format is_prefix text d a → ParsesLocally Y other is_prefix text d a
   locally d a p = (p.0, says d p.0 p.1, after_plain d p.0 a p.2)
 
-  -- the years before are tried with one result
+  -- the earlier years have one result
   abbrev EarlierAlike : ℕ → Option UtcOffset → Option Clocks → OffsetDateTime → ℤ → Type 0
-  EarlierAlike n offset clocks latest year = (reason : Reason) (a : Result Said Reason)
-      → AreYearsTried Y (undated format is_open text offset clocks latest) n year reason a
-      → AreYearsTried Y (undated other is_open text offset clocks latest) n year reason a
+  EarlierAlike n offset clocks latest year = (reason : Reason) (a : Result Match Reason)
+      → AreYearsTried Y (undated format is_prefix text offset clocks latest) n year reason a
+      → AreYearsTried Y (undated other is_prefix text offset clocks latest) n year reason a
 
   late_alike : (late : Bool) (n : ℕ) (offset : Option UtcOffset) (clocks : Option Clocks) (latest : OffsetDateTime) (year : ℤ)
-      (reason : Reason) (s : Said) (a : Result Said Reason) → EarlierAlike n offset clocks latest year
-      → MatchBool late (AreYearsTried Y (undated format is_open text offset clocks latest) n year reason a) (a ≡ Ok s)
-      → MatchBool late (AreYearsTried Y (undated other is_open text offset clocks latest) n year reason a) (a ≡ Ok s)
+      (reason : Reason) (s : Match) (a : Result Match Reason) → EarlierAlike n offset clocks latest year
+      → MatchBool late (AreYearsTried Y (undated format is_prefix text offset clocks latest) n year reason a) (a ≡ Ok s)
+      → MatchBool late (AreYearsTried Y (undated other is_prefix text offset clocks latest) n year reason a) (a ≡ Ok s)
   late_alike true n offset clocks latest year reason s a before p = before reason a p
   late_alike false n offset clocks latest year reason s a before p = p
 
   final_alike : (of_clocks : Bool) (offset : Option UtcOffset) (clocks : Option Clocks) (latest : OffsetDateTime) (year : ℤ) (final : Bool)
-      → MatchBool of_clocks (IsEarly Y (undated format is_open text offset clocks latest) year final) (final ≡ false)
-      → MatchBool of_clocks (IsEarly Y (undated other is_open text offset clocks latest) year final) (final ≡ false)
+      → MatchBool of_clocks (IsEarly Y (undated format is_prefix text offset clocks latest) year final) (final ≡ false)
+      → MatchBool of_clocks (IsEarly Y (undated other is_prefix text offset clocks latest) year final) (final ≡ false)
   final_alike true offset clocks latest year final p =
       (p.0, says (at_offset (offset_of latest) (in_year year offset clocks)) p.0 p.1, p.2)
   final_alike false offset clocks latest year final p = p
 
   passed_alike : (final : Bool) (n : ℕ) (offset : Option UtcOffset) (clocks : Option Clocks) (latest : OffsetDateTime) (year : ℤ)
-      (why : Reason) (a : Result Said Reason) → EarlierAlike n offset clocks latest year
-      → MatchBool final (a ≡ Err why) (AreYearsTried Y (undated format is_open text offset clocks latest) n year why a)
-      → MatchBool final (a ≡ Err why) (AreYearsTried Y (undated other is_open text offset clocks latest) n year why a)
+      (why : Reason) (a : Result Match Reason) → EarlierAlike n offset clocks latest year
+      → MatchBool final (a ≡ Err why) (AreYearsTried Y (undated format is_prefix text offset clocks latest) n year why a)
+      → MatchBool final (a ≡ Err why) (AreYearsTried Y (undated other is_prefix text offset clocks latest) n year why a)
   passed_alike true n offset clocks latest year why a before p = p
   passed_alike false n offset clocks latest year why a before p = before why a p
 
-  abbrev Follows : Reading → ℕ → Option UtcOffset → Option Clocks → OffsetDateTime → ℤ → Reason → Result Said Reason → Result Said Reason → Type 0
+  abbrev Follows : Reading → ℕ → Option UtcOffset → Option Clocks → OffsetDateTime → ℤ → Reason → Result Match Reason → Result Match Reason → Type 0
   Follows f n offset clocks latest year reason read a =
       MatchResult read
       (λ s. MatchBool (is_after Y s.moment latest)
-      (AreYearsTried Y (undated f is_open text offset clocks latest) n (year -ℤ pos 1) reason a) (a ≡ Ok s))
-      (λ why. (final : Bool) × IsFinal Y (undated f is_open text offset clocks latest) year why final
-      × MatchBool final (a ≡ Err why) (AreYearsTried Y (undated f is_open text offset clocks latest) n (year -ℤ pos 1) why a))
+      (AreYearsTried Y (undated f is_prefix text offset clocks latest) n (year -ℤ pos 1) reason a) (a ≡ Ok s))
+      (λ why. (final : Bool) × IsFinal Y (undated f is_prefix text offset clocks latest) year why final
+      × MatchBool final (a ≡ Err why) (AreYearsTried Y (undated f is_prefix text offset clocks latest) n (year -ℤ pos 1) why a))
 
   following : (n : ℕ) (offset : Option UtcOffset) (clocks : Option Clocks) (latest : OffsetDateTime) (year : ℤ) (reason : Reason)
-      (read a : Result Said Reason) → EarlierAlike n offset clocks latest (year -ℤ pos 1)
+      (read a : Result Match Reason) → EarlierAlike n offset clocks latest (year -ℤ pos 1)
       → Follows format n offset clocks latest year reason read a → Follows other n offset clocks latest year reason read a
   following n offset clocks latest year reason (Ok s) a before p =
       late_alike (is_after Y s.moment latest) n offset clocks latest (year -ℤ pos 1) reason s a before p
   following n offset clocks latest year reason (Err why) a before p = (
     p.0,
-    final_alike (is_of_clocks why) offset clocks latest year p.0 p.1,
+    final_alike (is_local_time_error why) offset clocks latest year p.0 p.1,
     passed_alike p.0 n offset clocks latest (year -ℤ pos 1) why a before p.2,
   )
 
@@ -237,37 +237,37 @@ module _ (Y : ℕ) (is_open : Bool) (text : List ℕ) (format other : Reading) (
     following n offset clocks latest year reason p.0 a (years n offset clocks latest (year -ℤ pos 1)) p.2,
   )
 
-  latest_alike : (latest : Option OffsetDateTime) (offset : Option UtcOffset) (clocks : Option Clocks) (e : Reason) (a : Result Said Reason)
-      → MatchOption latest (a ≡ Err e) (λ v. AreYearsTried Y (undated format is_open text offset clocks v) 10 (year_after v) e a)
-      → MatchOption latest (a ≡ Err e) (λ v. AreYearsTried Y (undated other is_open text offset clocks v) 10 (year_after v) e a)
+  latest_alike : (latest : Option OffsetDateTime) (offset : Option UtcOffset) (clocks : Option Clocks) (e : Reason) (a : Result Match Reason)
+      → MatchOption latest (a ≡ Err e) (λ v. AreYearsTried Y (undated format is_prefix text offset clocks v) 10 (year_after v) e a)
+      → MatchOption latest (a ≡ Err e) (λ v. AreYearsTried Y (undated other is_prefix text offset clocks v) 10 (year_after v) e a)
   latest_alike None offset clocks e a p = p
   latest_alike (Some v) offset clocks e a p = years 10 offset clocks v (year_after v) e a p
 
-  after_locally : (d : Defaults) (plain a : Result Said Reason)
+  after_locally : (d : Defaults) (plain a : Result Match Reason)
       → MatchResult plain (λ s. a ≡ Ok s) (λ reason. MatchOption d.latest (a ≡ Err reason)
-      (λ v. AreYearsTried Y (undated format is_open text d.offset d.clocks v) 10 (year_after v) reason a))
+      (λ v. AreYearsTried Y (undated format is_prefix text d.offset d.clocks v) 10 (year_after v) reason a))
       → MatchResult plain (λ s. a ≡ Ok s) (λ reason. MatchOption d.latest (a ≡ Err reason)
-      (λ v. AreYearsTried Y (undated other is_open text d.offset d.clocks v) 10 (year_after v) reason a))
+      (λ v. AreYearsTried Y (undated other is_prefix text d.offset d.clocks v) 10 (year_after v) reason a))
   after_locally d (Ok s) a p = p
   after_locally d (Err e) a p = latest_alike d.latest d.offset d.clocks e a p
 
-  dated : (d : Defaults) (a : Result Said Reason) → IsDated Y format is_open text d a → IsDated Y other is_open text d a
+  dated : (d : Defaults) (a : Result Match Reason) → IsDated Y format is_prefix text d a → IsDated Y other is_prefix text d a
   dated d a p = (p.0, locally d p.0 p.1, after_locally d p.0 a p.2)
 
-module _ (Y : ℕ) (is_open : Bool) (text : List ℕ) where
-  dated_alike : (format other : Reading) (d : Defaults) (a : Result Said Reason) → AreAlike text format other
-      → IsDated Y format is_open text d a → IsDated Y other is_open text d a
-  dated_alike format other d a alike p = dated Y is_open text format other (says_alike Y is_open text format other alike) d a p
+module _ (Y : ℕ) (is_prefix : Bool) (text : List ℕ) where
+  dated_alike : (format other : Reading) (d : Defaults) (a : Result Match Reason) → AreEquivalent text format other
+      → IsDated Y format is_prefix text d a → IsDated Y other is_prefix text d a
+  dated_alike format other d a alike p = dated Y is_prefix text format other (says_alike Y is_prefix text format other alike) d a p
 
-  next_alike : (formats others : List Reading) (d : Defaults) (reason : Reason) (first a : Result Said Reason)
-      → (AreTried Y formats is_open text d reason a → AreTried Y others is_open text d reason a)
-      → MatchResult first (λ s. a ≡ Ok s) (λ _. AreTried Y formats is_open text d reason a)
-      → MatchResult first (λ s. a ≡ Ok s) (λ _. AreTried Y others is_open text d reason a)
+  next_alike : (formats others : List Reading) (d : Defaults) (reason : Reason) (first a : Result Match Reason)
+      → (AreTried Y formats is_prefix text d reason a → AreTried Y others is_prefix text d reason a)
+      → MatchResult first (λ s. a ≡ Ok s) (λ _. AreTried Y formats is_prefix text d reason a)
+      → MatchResult first (λ s. a ≡ Ok s) (λ _. AreTried Y others is_prefix text d reason a)
   next_alike formats others d reason (Ok s) a next p = p
   next_alike formats others d reason (Err e) a next p = next p
 
-  tried_alike : (formats others : List Reading) (d : Defaults) (reason : Reason) (a : Result Said Reason) → AllAlike text formats others
-      → AreTried Y formats is_open text d reason a → AreTried Y others is_open text d reason a
+  tried_alike : (formats others : List Reading) (d : Defaults) (reason : Reason) (a : Result Match Reason) → AllEquivalent text formats others
+      → AreTried Y formats is_prefix text d reason a → AreTried Y others is_prefix text d reason a
   tried_alike [] [] d reason a alike p = p
   tried_alike [] (other ∷ others) d reason a alike p = absurd alike
   tried_alike (format ∷ formats) [] d reason a alike p = absurd alike
@@ -277,41 +277,41 @@ module _ (Y : ℕ) (is_open : Bool) (text : List ℕ) where
     next_alike formats others d reason p.0 a (λ q. tried_alike formats others d reason a alike.1 q) p.2,
   )
 
-  after_first : (formats others : List Reading) (d : Defaults) (first a : Result Said Reason) → AllAlike text formats others
-      → MatchResult first (λ s. a ≡ Ok s) (λ reason. AreTried Y formats is_open text d reason a)
-      → MatchResult first (λ s. a ≡ Ok s) (λ reason. AreTried Y others is_open text d reason a)
+  after_first : (formats others : List Reading) (d : Defaults) (first a : Result Match Reason) → AllEquivalent text formats others
+      → MatchResult first (λ s. a ≡ Ok s) (λ reason. AreTried Y formats is_prefix text d reason a)
+      → MatchResult first (λ s. a ≡ Ok s) (λ reason. AreTried Y others is_prefix text d reason a)
   after_first formats others d (Ok s) a alike p = p
   after_first formats others d (Err e) a alike p = tried_alike formats others d e a alike p
 
-  in_turn_alike : (format other : Reading) (formats others : List Reading) (d : Defaults) (a : Result Said Reason)
-      → AreAlike text format other → AllAlike text formats others
-      → IsReadInTurn Y format formats is_open text d a → IsReadInTurn Y other others is_open text d a
+  in_turn_alike : (format other : Reading) (formats others : List Reading) (d : Defaults) (a : Result Match Reason)
+      → AreEquivalent text format other → AllEquivalent text formats others
+      → IsReadInTurn Y format formats is_prefix text d a → IsReadInTurn Y other others is_prefix text d a
   in_turn_alike format other formats others d a alike all p =
       (p.0, dated_alike format other d p.0 alike p.1, after_first formats others d p.0 a all p.2)
 
--- formats that are alike for some bytes are so for a part of them
-part_alike : (part bytes : List ℕ) (format other : Reading) → StandsIn part bytes → AreAlike bytes format other → AreAlike part format other
+-- formats that are equal for some bytes are equal for a part of them
+part_alike : (part bytes : List ℕ) (format other : Reading) → StandsIn part bytes → AreEquivalent bytes format other → AreEquivalent part format other
 part_alike part bytes format other stands (inl e) = inl e
 part_alike part bytes format other stands (inr (zones, same, e, f, h)) =
     inr (zones, same, e, f, λ name p. h name (name_deeper name part bytes p stands))
 
-parts_alike : (part bytes : List ℕ) (formats others : List Reading) → StandsIn part bytes → AllAlike bytes formats others
-    → AllAlike part formats others
+parts_alike : (part bytes : List ℕ) (formats others : List Reading) → StandsIn part bytes → AllEquivalent bytes formats others
+    → AllEquivalent part formats others
 parts_alike part bytes [] [] stands alike = alike
 parts_alike part bytes [] (other ∷ others) stands alike = absurd alike
 parts_alike part bytes (format ∷ formats) [] stands alike = absurd alike
 parts_alike part bytes (format ∷ formats) (other ∷ others) stands alike =
     (part_alike part bytes format other stands alike.0, parts_alike part bytes formats others stands alike.1)
 
--- the verdict where a moment is written by a form within bounds
-abbrev PutBy : ℕ → ℕ → Said → Verdict → Form → Option OffsetDateTime → Option OffsetDateTime → Type 0
+-- the verdict where a form within bounds writes a moment
+abbrev PutBy : ℕ → ℕ → Match → Verdict → Form → Option OffsetDateTime → Option OffsetDateTime → Type 0
 PutBy Y start said verdict form since until =
     MatchBool (nat_lt LIMIT (start + said.start + said.length)) (verdict ≡ refused (start + said.start + 1) too_far)
     (MatchBool (not (is_before Y said.moment since false) && is_before Y said.moment until true)
     ((text : Result Items Reason) × IsWritten Y form said.moment text × (verdict ≡ verdict_of start said text)) (verdict ≡ dropped))
 
 module _ (Y : ℕ) (job other : Job) (line : List ℕ) (same : DiffersInZones line job other) where
-  put_alike : (start : ℕ) (said : Said) (verdict : Verdict) → IsPut Y job start said verdict → IsPut Y other start said verdict
+  put_alike : (start : ℕ) (said : Match) (verdict : Verdict) → IsPut Y job start said verdict → IsPut Y other start said verdict
   put_alike start said verdict p =
       let form : PutBy Y start said verdict other.form job.since job.until =
       subst (λ (form : Form). PutBy Y start said verdict form job.since job.until) same.form p in
@@ -320,34 +320,34 @@ module _ (Y : ℕ) (job other : Job) (line : List ℕ) (same : DiffersInZones li
       subst (λ (until : Option OffsetDateTime). PutBy Y start said verdict other.form other.since until) same.until since
 
   missed_alike : missed job ≡ missed other
-  missed_alike = ap (λ (asks : Bool). if asks then refused 1 missing else without) same.asks_for_times
+  missed_alike = ap (λ (asks : Bool). if asks then refused 1 missing else without) same.requires_timestamp
 
-  after_read : (start : ℕ) (read : Result Said Reason) (verdict : Verdict)
+  after_read : (start : ℕ) (read : Result Match Reason) (verdict : Verdict)
       → MatchResult read (λ said. IsPut Y job start said verdict) (λ e. verdict ≡ refused (start + 1) e)
       → MatchResult read (λ said. IsPut Y other start said verdict) (λ e. verdict ≡ refused (start + 1) e)
   after_read start (Ok said) verdict p = put_alike start said verdict p
   after_read start (Err e) verdict p = p
 
-  judged_part : (is_open : Bool) (start : ℕ) (text : List ℕ) (verdict : Verdict) → StandsIn text line
-      → IsJudgedPart Y job is_open start text verdict → IsJudgedPart Y other is_open start text verdict
-  judged_part is_open start text verdict stands p = (
+  judged_part : (is_prefix : Bool) (start : ℕ) (text : List ℕ) (verdict : Verdict) → StandsIn text line
+      → IsJudgedPart Y job is_prefix start text verdict → IsJudgedPart Y other is_prefix start text verdict
+  judged_part is_prefix start text verdict stands p = (
     p.0,
-    subst (λ (d : Defaults). IsReadInTurn Y other.first.now other.others.now is_open text d p.0) same.defaults
-        (in_turn_alike Y is_open text job.first.now other.first.now job.others.now other.others.now job.defaults p.0
+    subst (λ (d : Defaults). IsReadInTurn Y other.first.now other.others.now is_prefix text d p.0) same.defaults
+        (in_turn_alike Y is_prefix text job.first.now other.first.now job.others.now other.others.now job.defaults p.0
         (part_alike text line job.first.now other.first.now stands same.first)
         (parts_alike text line job.others.now other.others.now stands same.others) p.1),
     after_read start p.0 verdict p.2,
   )
 
-  judged_span : (is_open : Bool) (span : Option Span) (verdict : Verdict)
-      → MatchOption span (verdict ≡ missed job) (λ s. IsJudgedPart Y job is_open s.start (slice_range line s.start s.stop) verdict)
-      → MatchOption span (verdict ≡ missed other) (λ s. IsJudgedPart Y other is_open s.start (slice_range line s.start s.stop) verdict)
-  judged_span is_open None verdict p = p ∙ missed_alike
-  judged_span is_open (Some s) verdict p =
-      judged_part is_open s.start (slice_range line s.start s.stop) verdict (of_range s.start s.stop line) p
+  judged_span : (is_prefix : Bool) (span : Option Span) (verdict : Verdict)
+      → MatchOption span (verdict ≡ missed job) (λ s. IsJudgedPart Y job is_prefix s.start (slice_range line s.start s.stop) verdict)
+      → MatchOption span (verdict ≡ missed other) (λ s. IsJudgedPart Y other is_prefix s.start (slice_range line s.start s.stop) verdict)
+  judged_span is_prefix None verdict p = p ∙ missed_alike
+  judged_span is_prefix (Some s) verdict p =
+      judged_part is_prefix s.start (slice_range line s.start s.stop) verdict (of_range s.start s.stop line) p
 
-  says_alone : (body : List ℕ) (k : ℕ) (format next : Reading) (a : Option Said) → StandsIn body line → AreAlike line format next
-      → SaysAlone Y job body k format a → SaysAlone Y other body k next a
+  says_alone : (body : List ℕ) (k : ℕ) (format next : Reading) (a : Option Match) → StandsIn body line → AreEquivalent line format next
+      → MatchesAlone Y job body k format a → MatchesAlone Y other body k next a
   says_alone body k format next a stands alike p =
       let text = take REACH (drop k body) in (
         p.0,
@@ -358,14 +358,14 @@ module _ (Y : ℕ) (job other : Job) (line : List ℕ) (same : DiffersInZones li
         p.2,
       )
 
-  next_alone : (body : List ℕ) (k : ℕ) (formats others : List Reading) (first a : Option Said)
+  next_alone : (body : List ℕ) (k : ℕ) (formats others : List Reading) (first a : Option Match)
       → (AreTriedAlone Y job body k formats a → AreTriedAlone Y other body k others a)
       → MatchOption first (AreTriedAlone Y job body k formats a) (λ s. a ≡ Some s)
       → MatchOption first (AreTriedAlone Y other body k others a) (λ s. a ≡ Some s)
   next_alone body k formats others None a next p = next p
   next_alone body k formats others (Some s) a next p = p
 
-  tried_alone : (body : List ℕ) (k : ℕ) (formats others : List Reading) (a : Option Said) → StandsIn body line → AllAlike line formats others
+  tried_alone : (body : List ℕ) (k : ℕ) (formats others : List Reading) (a : Option Match) → StandsIn body line → AllEquivalent line formats others
       → AreTriedAlone Y job body k formats a → AreTriedAlone Y other body k others a
   tried_alone body k [] [] a stands alike p = p
   tried_alone body k [] (next ∷ others) a stands alike p = absurd alike
@@ -376,22 +376,22 @@ module _ (Y : ℕ) (job other : Job) (line : List ℕ) (same : DiffersInZones li
     next_alone body k formats others p.0 a (λ q. tried_alone body k formats others a stands alike.1 q) p.2,
   )
 
-  outside_alike : (inside : Bool) (body : List ℕ) (k : ℕ) (a : Option Said) → StandsIn body line
+  outside_alike : (inside : Bool) (body : List ℕ) (k : ℕ) (a : Option Match) → StandsIn body line
       → MatchBool inside (a ≡ None) (AreTriedAlone Y job body k (job.first.now ∷ job.others.now) a)
       → MatchBool inside (a ≡ None) (AreTriedAlone Y other body k (other.first.now ∷ other.others.now) a)
   outside_alike true body k a stands p = p
   outside_alike false body k a stands p =
       tried_alone body k (job.first.now ∷ job.others.now) (other.first.now ∷ other.others.now) a stands (same.first, same.others) p
 
-  says_from : (body : List ℕ) (k : ℕ) (a : Option Said) → StandsIn body line → SaysFrom Y job body k a → SaysFrom Y other body k a
+  says_from : (body : List ℕ) (k : ℕ) (a : Option Match) → StandsIn body line → MatchesFrom Y job body k a → MatchesFrom Y other body k a
   says_from body k a stands p = outside_alike (is_inside body k) body k a stands p
 
-  first_alike : (body : List ℕ) (found : Option (ℕ × Said)) → StandsIn body line → IsFirst Y job body found → IsFirst Y other body found
+  first_alike : (body : List ℕ) (found : Option (ℕ × Match)) → StandsIn body line → IsFirst Y job body found → IsFirst Y other body found
   first_alike body None stands p = λ k below. says_from body k None stands (p k below)
   first_alike body (Some found) stands p =
       (p.0, says_from body found.0 (Some found.1) stands p.1, λ k below. says_from body k None stands (p.2 k below))
 
-  from_alike : (found : Option (ℕ × Said)) (verdict : Verdict)
+  from_alike : (found : Option (ℕ × Match)) (verdict : Verdict)
       → MatchOption found (verdict ≡ missed job) (λ f. IsPut Y job f.0 f.1 verdict)
       → MatchOption found (verdict ≡ missed other) (λ f. IsPut Y other f.0 f.1 verdict)
   from_alike None verdict p = p ∙ missed_alike
@@ -402,7 +402,7 @@ module _ (Y : ℕ) (job other : Job) (line : List ℕ) (same : DiffersInZones li
       → MatchOption place (IsJudgedAnywhere Y other line verdict) (λ at. IsJudgedAt Y other at line verdict)
   judged_alike None verdict p =
       (p.0, first_alike (body_of line) p.0 (of_take (body_length line) line) p.1, from_alike p.0 verdict p.2)
-  judged_alike (Some at) verdict p = judged_span (Cuts.is_open at) (span_of at line) verdict p
+  judged_alike (Some at) verdict p = judged_span (Cuts.is_prefix at) (span_of at line) verdict p
 
 pub needs_named_zones : NeedsNamedZones greatest_year
 needs_named_zones job other line verdict same p =

@@ -1,4 +1,4 @@
--- A line has one verdict.
+-- Each line has exactly one verdict.
 use Rattle.std.proofs.Common.{◌≡◌, ℕ, zero, suc, ℤ, pos, Bool, true, false, List, [], ◌∷◌, ◌+◌, ◌<◌, length, take, drop, sym, ap, subst, refl, arith, ◌∙◌, None, Some, Ok, Err}
 use Rattle.std.specs.Prelude.{Option, Result, nat_lt, ◌-ℤ◌, MatchOption, MatchResult, MatchBool, slice_range}
 use Rattle.std.proofs.lemmas.Int.{ints}
@@ -11,7 +11,7 @@ use Rattle.time_values.specs.declared.offset_date_time.OffsetDateTime.{OffsetDat
 use Rattle.time_values.specs.declared.utc_offset.UtcOffset.{UtcOffset}
 use Rattle.time_zones.specs.declared.zones.Zones.{Zones}
 use Rattle.time_zones.proofs.FolderLemmas.{one_answer, same_offset_by_seconds}
-use Rattle.restamp_place.specs.Cuts.{span_of, body_of, is_open}
+use Rattle.restamp_place.specs.Cuts.{span_of, body_of, is_prefix}
 use Rattle.restamp_place.specs.declared.cuts.Place.{Place}
 use Rattle.restamp_place.specs.declared.fields.Span.{Span}
 use Rattle.time_record.specs.Reading as Description
@@ -26,27 +26,27 @@ use Rattle.time_parsing.specs.Rfc2822 as Rfc2822
 use Rattle.time_parsing.specs.Rfc3339 as Rfc3339
 use Rattle.time_parsing.specs.exact.Laws.{tree_exact, rfc3339_exact_path, rfc2822_exact_path, iso8601_exact, rfc2822_exact, rfc3339_exact}
 use Rattle.time_parsing.proofs.OneOutcome.{one_moment_outcome, one_outcome, one_front}
-use Rattle.restamp_verdict.specs.Job.{Verdict, IsPutWithin, IsPut, IsJudgedAt, IsJudgedAnywhere, is_inside, alone, SaysAlone, AreTriedAlone, SaysFrom, SaysNoneBefore, IsFirst, is_kept, missed, verdict_of, refused, dropped}
+use Rattle.restamp_verdict.specs.Job.{Verdict, IsPutWithin, IsPut, IsJudgedAt, IsJudgedAnywhere, is_inside, alone, MatchesAlone, AreTriedAlone, MatchesFrom, MatchesNoneBefore, IsFirst, is_kept, missed, verdict_of, refused, dropped}
 use Rattle.restamp_verdict.specs.Laws.{OneVerdict}
-use Rattle.restamp_verdict.specs.Reading.{IsReadBy, IsReadWith, IsRead, Says, SaysOn, SaysLocally, Undated, undated, at_offset, completed, in_year, is_after, is_early, is_of_clocks, IsEarly, IsFinal, year_after, AreYearsTried, IsCompleted, IsDated, AreTried, IsReadInTurn, all_of, front_of, bare_where, guarded, IsGuarded, IsReadInFront, zones_of}
+use Rattle.restamp_verdict.specs.Reading.{IsReadBy, IsReadWith, IsRead, ParsesAs, ParsesInZone, ParsesLocally, Undated, undated, at_offset, completed, in_year, is_after, is_early, IsEarly, IsFinal, year_after, AreYearsTried, IsCompleted, IsDated, AreTried, IsReadInTurn, all_of, front_of, bare_where, guarded, IsGuarded, IsReadInFront, zones_of}
 use Rattle.time_components.specs.Tree.{steps_shape}
 use Rattle.restamp_verdict.specs.Zoned.{IsOffsetWhen, clock_of, offset_by, IsSuffixed}
-use Rattle.restamp_verdict.specs.Reason.{Reason, too_far, unread}
+use Rattle.restamp_verdict.specs.Reason.{Reason, too_far, unread, is_local_time_error}
 use Rattle.restamp_verdict.specs.declared.local.Clocks.{Clocks}
 use Rattle.restamp_verdict.specs.declared.job.Job.{Job}
 use Rattle.restamp_verdict.specs.declared.job.TheConstants.{LIMIT, REACH}
 use Rattle.restamp_verdict.specs.declared.reading.Defaults.{Defaults}
 use Rattle.restamp_verdict.specs.declared.reading.Reading.{Reading}
 use Rattle.restamp_verdict.specs.declared.reading.Reading.TheVariants as reading
-use Rattle.restamp_verdict.specs.declared.reading.Said.{Said}
+use Rattle.restamp_verdict.specs.declared.reading.Match.{Match}
 use Rattle.restamp_verdict.specs.Form.{IsWritten}
 use Rattle.restamp_verdict.proofs.OneWriting.{one_written, one_suffixed}
 
-one_read_by : (is_open : Bool) (path : Path) (reads : Outcome.Reading) (refuses : Refusing)
+one_read_by : (is_prefix : Bool) (path : Path) (reads : Outcome.Reading) (refuses : Refusing)
     → IsExact reads refuses → IsExactPath greatest_year path reads refuses
-    → (text : List ℕ) (a b : Result Said Refusal)
-    → IsReadBy greatest_year is_open path reads refuses text a
-    → IsReadBy greatest_year is_open path reads refuses text b → a ≡ b
+    → (text : List ℕ) (a b : Result Match Refusal)
+    → IsReadBy greatest_year is_prefix path reads refuses text a
+    → IsReadBy greatest_year is_prefix path reads refuses text b → a ≡ b
 one_read_by true path reads refuses exact alone text a b p q =
     p.2 ∙ ap (front_of text)
     (one_front reads refuses exact (IsMoment greatest_year) IsMoment-one text empty p.0 q.0 p.1 q.1) ∙ sym q.2
@@ -58,10 +58,10 @@ one_completed : (defaults : Defaults) (r : Record) (a b : Result OffsetDateTime 
     → IsCompleted greatest_year defaults r a → IsCompleted greatest_year defaults r b → a ≡ b
 one_completed defaults r a b p q = IsMoment-one (completed greatest_year defaults r) a b p q
 
-one_read_with : (is_open : Bool) (reads : Outcome.Reading) (refuses : Refusing) → IsExact reads refuses
-    → (text : List ℕ) (defaults : Defaults) (a b : Result Said Refusal)
-    → IsReadWith greatest_year is_open reads refuses text defaults a
-    → IsReadWith greatest_year is_open reads refuses text defaults b → a ≡ b
+one_read_with : (is_prefix : Bool) (reads : Outcome.Reading) (refuses : Refusing) → IsExact reads refuses
+    → (text : List ℕ) (defaults : Defaults) (a b : Result Match Refusal)
+    → IsReadWith greatest_year is_prefix reads refuses text defaults a
+    → IsReadWith greatest_year is_prefix reads refuses text defaults b → a ≡ b
 one_read_with true reads refuses exact text defaults a b p q =
     p.2 ∙ ap (front_of text)
     (one_front reads refuses exact (IsCompleted greatest_year defaults) (one_completed defaults) text empty p.0 q.0 p.1 q.1) ∙ sym q.2
@@ -69,57 +69,57 @@ one_read_with false reads refuses exact text defaults a b p q =
     p.2 ∙ ap (all_of text)
     (one_outcome reads refuses exact (IsCompleted greatest_year defaults) (one_completed defaults) text empty p.0 q.0 p.1 q.1) ∙ sym q.2
 
-pub one_read_in_front : (text : List ℕ) (a b : Result Said Refusal) → IsReadInFront greatest_year text a → IsReadInFront greatest_year text b
+pub one_read_in_front : (text : List ℕ) (a b : Result Match Refusal) → IsReadInFront greatest_year text a → IsReadInFront greatest_year text b
     → a ≡ b
 one_read_in_front text a b p q =
     one_read_by true (direct (RefusesRfc3339 greatest_year)) (Rfc3339.Reads greatest_year) (Rfc3339.Refuses greatest_year)
     (rfc3339_exact greatest_year) rfc3339_exact_path text a b p q
 
-one_read : (format : Reading) (is_open : Bool) (text : List ℕ) (defaults : Defaults) (a b : Result Said Refusal)
-    → IsRead greatest_year format is_open text defaults a → IsRead greatest_year format is_open text defaults b → a ≡ b
-one_read reading.Rfc3339 is_open text defaults a b p q =
-    one_read_by is_open (direct (RefusesRfc3339 greatest_year)) (Rfc3339.Reads greatest_year) (Rfc3339.Refuses greatest_year)
+one_read : (format : Reading) (is_prefix : Bool) (text : List ℕ) (defaults : Defaults) (a b : Result Match Refusal)
+    → IsRead greatest_year format is_prefix text defaults a → IsRead greatest_year format is_prefix text defaults b → a ≡ b
+one_read reading.Rfc3339 is_prefix text defaults a b p q =
+    one_read_by is_prefix (direct (RefusesRfc3339 greatest_year)) (Rfc3339.Reads greatest_year) (Rfc3339.Refuses greatest_year)
     (rfc3339_exact greatest_year) rfc3339_exact_path text a b p q
-one_read (reading.Zoned zones) is_open text defaults a b p q =
+one_read (reading.Zoned zones) is_prefix text defaults a b p q =
     one_read_in_front text a b p q
-one_read reading.Rfc2822 is_open text defaults a b p q =
-    p.2 ∙ ap (bare_where is_open text)
-    (one_read_by is_open (direct (RefusesRfc2822 greatest_year)) (Rfc2822.Reads greatest_year) (Rfc2822.Refuses greatest_year)
+one_read reading.Rfc2822 is_prefix text defaults a b p q =
+    p.2 ∙ ap (bare_where is_prefix text)
+    (one_read_by is_prefix (direct (RefusesRfc2822 greatest_year)) (Rfc2822.Reads greatest_year) (Rfc2822.Refuses greatest_year)
     (rfc2822_exact greatest_year) rfc2822_exact_path text p.0 q.0 p.1 q.1) ∙ sym q.2
-one_read reading.Iso8601 is_open text defaults a b p q =
-    one_read_with is_open (Iso8601.Reads greatest_year) (Iso8601.Refuses greatest_year) (iso8601_exact greatest_year)
+one_read reading.Iso8601 is_prefix text defaults a b p q =
+    one_read_with is_prefix (Iso8601.Reads greatest_year) (Iso8601.Refuses greatest_year) (iso8601_exact greatest_year)
     text defaults a b p q
-one_read (reading.Described d) is_open text defaults a b p q =
-    one_read_with is_open (Description.Reads greatest_year (steps_shape d)) (Description.Refuses greatest_year (steps_shape d))
+one_read (reading.Described d) is_prefix text defaults a b p q =
+    one_read_with is_prefix (Description.Reads greatest_year (steps_shape d)) (Description.Refuses greatest_year (steps_shape d))
     (tree_exact greatest_year (steps_shape d)) text defaults a b p q
-one_read (reading.Complete d) is_open text defaults a b p q =
-    one_read_by is_open over_record (Description.Reads greatest_year (steps_shape d))
+one_read (reading.Complete d) is_prefix text defaults a b p q =
+    one_read_by is_prefix over_record (Description.Reads greatest_year (steps_shape d))
     (Description.Refuses greatest_year (steps_shape d)) (tree_exact greatest_year (steps_shape d)) tt text a b p q
-one_read (reading.Counted d) is_open text defaults a b p q =
-    one_read_with is_open (Description.Reads greatest_year (steps_shape d)) (Description.Refuses greatest_year (steps_shape d))
+one_read (reading.Counted d) is_prefix text defaults a b p q =
+    one_read_with is_prefix (Description.Reads greatest_year (steps_shape d)) (Description.Refuses greatest_year (steps_shape d))
     (tree_exact greatest_year (steps_shape d)) text defaults a b p q
 
--- what is refused beside that is one
-one_guarded : (zones : Option Zones) (is_open : Bool) (text : List ℕ) (s : Said) (kept a b : Result Said Reason)
-    → MatchOption zones (a ≡ kept) (λ z. IsSuffixed z is_open text s a)
-    → MatchOption zones (b ≡ kept) (λ z. IsSuffixed z is_open text s b) → a ≡ b
-one_guarded None is_open text s kept a b p q = p ∙ sym q
-one_guarded (Some z) is_open text s kept a b p q = one_suffixed z text s is_open a b p q
+-- the further rules of a format have one result
+one_guarded : (zones : Option Zones) (is_prefix : Bool) (text : List ℕ) (s : Match) (kept a b : Result Match Reason)
+    → MatchOption zones (a ≡ kept) (λ z. IsSuffixed z is_prefix text s a)
+    → MatchOption zones (b ≡ kept) (λ z. IsSuffixed z is_prefix text s b) → a ≡ b
+one_guarded None is_prefix text s kept a b p q = p ∙ sym q
+one_guarded (Some z) is_prefix text s kept a b p q = one_suffixed z text s is_prefix a b p q
 
-one_told : (format : Reading) (is_open : Bool) (text : List ℕ) (outcome : Result Said Refusal) (a b : Result Said Reason)
-    → MatchResult outcome (λ s. IsGuarded format is_open text s a) (λ e. a ≡ Err (unread e))
-    → MatchResult outcome (λ s. IsGuarded format is_open text s b) (λ e. b ≡ Err (unread e)) → a ≡ b
-one_told format is_open text (Ok s) a b p q = one_guarded (zones_of format) is_open text s (guarded format text s) a b p q
-one_told format is_open text (Err e) a b p q = p ∙ sym q
+one_told : (format : Reading) (is_prefix : Bool) (text : List ℕ) (outcome : Result Match Refusal) (a b : Result Match Reason)
+    → MatchResult outcome (λ s. IsGuarded format is_prefix text s a) (λ e. a ≡ Err (unread e))
+    → MatchResult outcome (λ s. IsGuarded format is_prefix text s b) (λ e. b ≡ Err (unread e)) → a ≡ b
+one_told format is_prefix text (Ok s) a b p q = one_guarded (zones_of format) is_prefix text s (guarded format text s) a b p q
+one_told format is_prefix text (Err e) a b p q = p ∙ sym q
 
-pub one_says : (format : Reading) (is_open : Bool) (text : List ℕ) (defaults : Defaults) (a b : Result Said Reason)
-    → Says greatest_year format is_open text defaults a → Says greatest_year format is_open text defaults b → a ≡ b
-one_says format is_open text defaults a b p q =
-    one_told format is_open text q.0 a b
-    (subst (λ (outcome : Result Said Refusal). MatchResult outcome (λ s. IsGuarded format is_open text s a) (λ e. a ≡ Err (unread e)))
-    (one_read format is_open text defaults p.0 q.0 p.1 q.1) p.2) q.2
+pub one_has : (format : Reading) (is_prefix : Bool) (text : List ℕ) (defaults : Defaults) (a b : Result Match Reason)
+    → ParsesAs greatest_year format is_prefix text defaults a → ParsesAs greatest_year format is_prefix text defaults b → a ≡ b
+one_has format is_prefix text defaults a b p q =
+    one_told format is_prefix text q.0 a b
+    (subst (λ (outcome : Result Match Refusal). MatchResult outcome (λ s. IsGuarded format is_prefix text s a) (λ e. a ≡ Err (unread e)))
+    (one_read format is_prefix text defaults p.0 q.0 p.1 q.1) p.2) q.2
 
--- what follows from one result is one
+-- one result has one consequence
 one_after : {V X : Type 0} (r s : Result V Reason) (P : V → X → Type 0) (Q : Reason → X → Type 0) (x y : X) → r ≡ s
     → ((v : V) → P v x → P v y → x ≡ y) → ((e : Reason) → Q e x → Q e y → x ≡ y)
     → MatchResult r (λ v. P v x) (λ e. Q e x) → MatchResult s (λ v. P v y) (λ e. Q e y) → x ≡ y
@@ -130,7 +130,7 @@ one_after (Err f) (Ok v) P Q x y e one other p q = absurd cc
 one_after (Err f) (Err g) P Q x y e one other p q =
     let same : f ≡ g = cc in other g (subst (λ (u : Reason). Q u x) same p) q
 
--- the clocks of a zone have one offset when they show a date and time
+-- a zone has one offset at a local date and time
 one_offset : (clocks : Clocks) (v : OffsetDateTime) (a b : Result UtcOffset Reason)
     → IsOffsetWhen clocks v a → IsOffsetWhen clocks v b → a ≡ b
 one_offset clocks v a b p q =
@@ -139,61 +139,61 @@ one_offset clocks v a b p q =
 one_utc : (a b : UtcOffset) → IsUtc a → IsUtc b → a ≡ b
 one_utc a b p q = same_offset_by_seconds a b (omega (arith, ints, p.0, p.1, p.2, q.0, q.1, q.2))
 
--- what a text says on them is one
-one_on : (clocks : Clocks) (format : Reading) (is_open : Bool) (text : List ℕ) (defaults : Defaults) (a b : Result Said Reason)
-    → SaysOn greatest_year clocks format is_open text defaults a → SaysOn greatest_year clocks format is_open text defaults b → a ≡ b
-one_on clocks format is_open text defaults a b p q =
-    let SaysAt : UtcOffset → Result Said Reason → Type 0 = λ o x. Says greatest_year format is_open text (at_offset o defaults) x in
+-- a text has one match as a local time
+one_on : (clocks : Clocks) (format : Reading) (is_prefix : Bool) (text : List ℕ) (defaults : Defaults) (a b : Result Match Reason)
+    → ParsesInZone greatest_year clocks format is_prefix text defaults a → ParsesInZone greatest_year clocks format is_prefix text defaults b → a ≡ b
+one_on clocks format is_prefix text defaults a b p q =
+    let SaysAt : UtcOffset → Result Match Reason → Type 0 = λ o x. ParsesAs greatest_year format is_prefix text (at_offset o defaults) x in
     let same : p.0 ≡ q.0 = one_utc p.0 q.0 p.1 q.1 in
     one_after p.2 q.2
     (λ s x. (offset : Result UtcOffset Reason) × IsOffsetWhen clocks s.moment offset
     × MatchResult offset (λ o. SaysAt o x) (λ why. x ≡ Err why)) (λ why x. x ≡ Err why) a b
-    (one_says format is_open text (at_offset q.0 defaults) p.2 q.2 (subst (λ (o : UtcOffset). SaysAt o p.2) same p.3) q.3)
+    (one_has format is_prefix text (at_offset q.0 defaults) p.2 q.2 (subst (λ (o : UtcOffset). SaysAt o p.2) same p.3) q.3)
     (λ s u v. one_after u.0 v.0 SaysAt (λ why x. x ≡ Err why) a b (one_offset clocks s.moment u.0 v.0 u.1 v.1)
-    (λ o i j. one_says format is_open text (at_offset o defaults) a b i j) (λ why i j. i ∙ sym j) u.2 v.2)
+    (λ o i j. one_has format is_prefix text (at_offset o defaults) a b i j) (λ why i j. i ∙ sym j) u.2 v.2)
     (λ why u v. u ∙ sym v) p.4 q.4
 
-one_unplaced : (clocks : Option Clocks) (format : Reading) (is_open : Bool) (text : List ℕ) (defaults : Defaults) (e : Reason)
-    (a b : Result Said Reason)
-    → MatchOption clocks (a ≡ Err e) (λ c. SaysOn greatest_year c format is_open text defaults a)
-    → MatchOption clocks (b ≡ Err e) (λ c. SaysOn greatest_year c format is_open text defaults b) → a ≡ b
-one_unplaced None format is_open text defaults e a b p q = p ∙ sym q
-one_unplaced (Some c) format is_open text defaults e a b p q = one_on c format is_open text defaults a b p q
+one_unplaced : (clocks : Option Clocks) (format : Reading) (is_prefix : Bool) (text : List ℕ) (defaults : Defaults) (e : Reason)
+    (a b : Result Match Reason)
+    → MatchOption clocks (a ≡ Err e) (λ c. ParsesInZone greatest_year c format is_prefix text defaults a)
+    → MatchOption clocks (b ≡ Err e) (λ c. ParsesInZone greatest_year c format is_prefix text defaults b) → a ≡ b
+one_unplaced None format is_prefix text defaults e a b p q = p ∙ sym q
+one_unplaced (Some c) format is_prefix text defaults e a b p q = one_on c format is_prefix text defaults a b p q
 
-one_locally : (format : Reading) (is_open : Bool) (text : List ℕ) (defaults : Defaults) (a b : Result Said Reason)
-    → SaysLocally greatest_year format is_open text defaults a → SaysLocally greatest_year format is_open text defaults b → a ≡ b
-one_locally format is_open text defaults a b p q =
+one_locally : (format : Reading) (is_prefix : Bool) (text : List ℕ) (defaults : Defaults) (a b : Result Match Reason)
+    → ParsesLocally greatest_year format is_prefix text defaults a → ParsesLocally greatest_year format is_prefix text defaults b → a ≡ b
+one_locally format is_prefix text defaults a b p q =
     one_after p.0 q.0 (λ s x. x ≡ Ok s)
-    (λ e x. MatchOption defaults.clocks (x ≡ Err e) (λ c. SaysOn greatest_year c format is_open text defaults x)) a b
-    (one_says format is_open text defaults p.0 q.0 p.1 q.1) (λ s u v. u ∙ sym v)
-    (λ e u v. one_unplaced defaults.clocks format is_open text defaults e a b u v) p.2 q.2
+    (λ e x. MatchOption defaults.clocks (x ≡ Err e) (λ c. ParsesInZone greatest_year c format is_prefix text defaults x)) a b
+    (one_has format is_prefix text defaults p.0 q.0 p.1 q.1) (λ s u v. u ∙ sym v)
+    (λ e u v. one_unplaced defaults.clocks format is_prefix text defaults e a b u v) p.2 q.2
 
--- what follows from what was refused in a year
-abbrev Passes : ℕ → Undated → ℤ → Reason → Result Said Reason → Type 0
+-- the consequence of a rejection in a year
+abbrev Passes : ℕ → Undated → ℤ → Reason → Result Match Reason → Type 0
 Passes n u year why result =
     (final : Bool) × IsFinal greatest_year u year why final
     × MatchBool final (result ≡ Err why) (AreYearsTried greatest_year u n (year -ℤ pos 1) why result)
 
--- what follows from what was read in a year
-abbrev Follows : ℕ → Undated → ℤ → Reason → Result Said Reason → Result Said Reason → Type 0
+-- the consequence of a result in a year
+abbrev Follows : ℕ → Undated → ℤ → Reason → Result Match Reason → Result Match Reason → Type 0
 Follows n u year reason read result =
     MatchResult read
     (λ s. MatchBool (is_after greatest_year s.moment u.latest)
     (AreYearsTried greatest_year u n (year -ℤ pos 1) reason result) (result ≡ Ok s))
     (λ why. Passes n u year why result)
 
--- the years before are tried with one result
+-- the earlier years have one result
 abbrev OneBefore : ℕ → Undated → ℤ → Type 0
-OneBefore n u year = (why : Reason) (a b : Result Said Reason)
+OneBefore n u year = (why : Reason) (a b : Result Match Reason)
     → AreYearsTried greatest_year u n (year -ℤ pos 1) why a → AreYearsTried greatest_year u n (year -ℤ pos 1) why b → a ≡ b
 
-one_late : (late : Bool) (n : ℕ) (u : Undated) (year : ℤ) (reason : Reason) (s : Said) (a b : Result Said Reason) → OneBefore n u year
+one_late : (late : Bool) (n : ℕ) (u : Undated) (year : ℤ) (reason : Reason) (s : Match) (a b : Result Match Reason) → OneBefore n u year
     → MatchBool late (AreYearsTried greatest_year u n (year -ℤ pos 1) reason a) (a ≡ Ok s)
     → MatchBool late (AreYearsTried greatest_year u n (year -ℤ pos 1) reason b) (b ≡ Ok s) → a ≡ b
 one_late true n u year reason s a b before p q = before reason a b p q
 one_late false n u year reason s a b before p q = p ∙ sym q
 
-one_passed : (final : Bool) (n : ℕ) (u : Undated) (year : ℤ) (why : Reason) (a b : Result Said Reason) → OneBefore n u year
+one_passed : (final : Bool) (n : ℕ) (u : Undated) (year : ℤ) (why : Reason) (a b : Result Match Reason) → OneBefore n u year
     → MatchBool final (a ≡ Err why) (AreYearsTried greatest_year u n (year -ℤ pos 1) why a)
     → MatchBool final (b ≡ Err why) (AreYearsTried greatest_year u n (year -ℤ pos 1) why b) → a ≡ b
 one_passed true n u year why a b before p q = p ∙ sym q
@@ -204,71 +204,71 @@ one_final_by : (of_clocks : Bool) (u : Undated) (year : ℤ) (a b : Bool)
     → MatchBool of_clocks (IsEarly greatest_year u year b) (b ≡ false) → a ≡ b
 one_final_by true u year a b p q =
     p.2 ∙ ap (is_early greatest_year u.latest)
-    (one_says u.format u.is_open u.text (at_offset (offset_of u.latest) (in_year year u.offset u.clocks)) p.0 q.0 p.1 q.1) ∙ sym q.2
+    (one_has u.format u.is_prefix u.text (at_offset (offset_of u.latest) (in_year year u.offset u.clocks)) p.0 q.0 p.1 q.1) ∙ sym q.2
 one_final_by false u year a b p q = p ∙ sym q
 
-one_passing : (n : ℕ) (u : Undated) (year : ℤ) (why : Reason) (a b : Result Said Reason) → OneBefore n u year
+one_passing : (n : ℕ) (u : Undated) (year : ℤ) (why : Reason) (a b : Result Match Reason) → OneBefore n u year
     → Passes n u year why a → Passes n u year why b → a ≡ b
 one_passing n u year why a b before p q =
     one_passed q.0 n u year why a b before
     (subst (λ (final : Bool). MatchBool final (a ≡ Err why) (AreYearsTried greatest_year u n (year -ℤ pos 1) why a))
-    (one_final_by (is_of_clocks why) u year p.0 q.0 p.1 q.1) p.2) q.2
+    (one_final_by (is_local_time_error why) u year p.0 q.0 p.1 q.1) p.2) q.2
 
-one_following : (n : ℕ) (u : Undated) (year : ℤ) (reason : Reason) (read a b : Result Said Reason)
+one_following : (n : ℕ) (u : Undated) (year : ℤ) (reason : Reason) (read a b : Result Match Reason)
     → OneBefore n u year → Follows n u year reason read a → Follows n u year reason read b → a ≡ b
 one_following n u year reason (Ok s) a b before p q =
     one_late (is_after greatest_year s.moment u.latest) n u year reason s a b before p q
 one_following n u year reason (Err why) a b before p q =
     one_passing n u year why a b before p q
 
-one_years : (n : ℕ) (u : Undated) (year : ℤ) (reason : Reason) (a b : Result Said Reason)
+one_years : (n : ℕ) (u : Undated) (year : ℤ) (reason : Reason) (a b : Result Match Reason)
     → AreYearsTried greatest_year u n year reason a → AreYearsTried greatest_year u n year reason b → a ≡ b
 unfolding AreYearsTried
 one_years zero u year reason a b p q = p ∙ sym q
 one_years (suc n) u year reason a b p q =
     one_following n u year reason q.0 a b (λ why x y. one_years n u (year -ℤ pos 1) why x y)
-    (subst (λ (read : Result Said Reason). Follows n u year reason read a)
-    (one_locally u.format u.is_open u.text (in_year year u.offset u.clocks) p.0 q.0 p.1 q.1) p.2) q.2
+    (subst (λ (read : Result Match Reason). Follows n u year reason read a)
+    (one_locally u.format u.is_prefix u.text (in_year year u.offset u.clocks) p.0 q.0 p.1 q.1) p.2) q.2
 
--- what is read with no year given is one
-one_latest : (latest : Option OffsetDateTime) (format : Reading) (is_open : Bool) (text : List ℕ) (offset : Option UtcOffset) (clocks : Option Clocks)
-    (e : Reason) (a b : Result Said Reason)
-    → MatchOption latest (a ≡ Err e) (λ v. AreYearsTried greatest_year (undated format is_open text offset clocks v) 10 (year_after v) e a)
-    → MatchOption latest (b ≡ Err e) (λ v. AreYearsTried greatest_year (undated format is_open text offset clocks v) 10 (year_after v) e b)
+-- a text without a default year has one result
+one_latest : (latest : Option OffsetDateTime) (format : Reading) (is_prefix : Bool) (text : List ℕ) (offset : Option UtcOffset) (clocks : Option Clocks)
+    (e : Reason) (a b : Result Match Reason)
+    → MatchOption latest (a ≡ Err e) (λ v. AreYearsTried greatest_year (undated format is_prefix text offset clocks v) 10 (year_after v) e a)
+    → MatchOption latest (b ≡ Err e) (λ v. AreYearsTried greatest_year (undated format is_prefix text offset clocks v) 10 (year_after v) e b)
     → a ≡ b
-one_latest None format is_open text offset clocks e a b p q = p ∙ sym q
-one_latest (Some v) format is_open text offset clocks e a b p q =
-    one_years 10 (undated format is_open text offset clocks v) (year_after v) e a b p q
+one_latest None format is_prefix text offset clocks e a b p q = p ∙ sym q
+one_latest (Some v) format is_prefix text offset clocks e a b p q =
+    one_years 10 (undated format is_prefix text offset clocks v) (year_after v) e a b p q
 
-one_dated : (format : Reading) (is_open : Bool) (text : List ℕ) (defaults : Defaults) (a b : Result Said Reason)
-    → IsDated greatest_year format is_open text defaults a → IsDated greatest_year format is_open text defaults b → a ≡ b
-one_dated format is_open text defaults a b p q =
+one_dated : (format : Reading) (is_prefix : Bool) (text : List ℕ) (defaults : Defaults) (a b : Result Match Reason)
+    → IsDated greatest_year format is_prefix text defaults a → IsDated greatest_year format is_prefix text defaults b → a ≡ b
+one_dated format is_prefix text defaults a b p q =
     one_after p.0 q.0 (λ s x. x ≡ Ok s)
     (λ e x. MatchOption defaults.latest (x ≡ Err e)
-    (λ v. AreYearsTried greatest_year (undated format is_open text defaults.offset defaults.clocks v) 10 (year_after v) e x)) a b
-    (one_locally format is_open text defaults p.0 q.0 p.1 q.1) (λ s u v. u ∙ sym v)
-    (λ e u v. one_latest defaults.latest format is_open text defaults.offset defaults.clocks e a b u v) p.2 q.2
+    (λ v. AreYearsTried greatest_year (undated format is_prefix text defaults.offset defaults.clocks v) 10 (year_after v) e x)) a b
+    (one_locally format is_prefix text defaults p.0 q.0 p.1 q.1) (λ s u v. u ∙ sym v)
+    (λ e u v. one_latest defaults.latest format is_prefix text defaults.offset defaults.clocks e a b u v) p.2 q.2
 
-one_tried : (formats : List Reading) (is_open : Bool) (text : List ℕ) (defaults : Defaults) (reason : Reason)
-    (a b : Result Said Reason)
-    → AreTried greatest_year formats is_open text defaults reason a
-    → AreTried greatest_year formats is_open text defaults reason b → a ≡ b
-one_tried [] is_open text defaults reason a b p q = p ∙ sym q
-one_tried (format ∷ formats) is_open text defaults reason a b p q =
-    one_after p.0 q.0 (λ s x. x ≡ Ok s) (λ _ x. AreTried greatest_year formats is_open text defaults reason x) a b
-    (one_dated format is_open text defaults p.0 q.0 p.1 q.1) (λ s u v. u ∙ sym v)
-    (λ e u v. one_tried formats is_open text defaults reason a b u v) p.2 q.2
+one_tried : (formats : List Reading) (is_prefix : Bool) (text : List ℕ) (defaults : Defaults) (reason : Reason)
+    (a b : Result Match Reason)
+    → AreTried greatest_year formats is_prefix text defaults reason a
+    → AreTried greatest_year formats is_prefix text defaults reason b → a ≡ b
+one_tried [] is_prefix text defaults reason a b p q = p ∙ sym q
+one_tried (format ∷ formats) is_prefix text defaults reason a b p q =
+    one_after p.0 q.0 (λ s x. x ≡ Ok s) (λ _ x. AreTried greatest_year formats is_prefix text defaults reason x) a b
+    (one_dated format is_prefix text defaults p.0 q.0 p.1 q.1) (λ s u v. u ∙ sym v)
+    (λ e u v. one_tried formats is_prefix text defaults reason a b u v) p.2 q.2
 
-one_in_turn : (format : Reading) (formats : List Reading) (is_open : Bool) (text : List ℕ) (defaults : Defaults)
-    (a b : Result Said Reason)
-    → IsReadInTurn greatest_year format formats is_open text defaults a
-    → IsReadInTurn greatest_year format formats is_open text defaults b → a ≡ b
-one_in_turn format formats is_open text defaults a b p q =
-    one_after p.0 q.0 (λ s x. x ≡ Ok s) (λ e x. AreTried greatest_year formats is_open text defaults e x) a b
-    (one_dated format is_open text defaults p.0 q.0 p.1 q.1) (λ s u v. u ∙ sym v)
-    (λ e u v. one_tried formats is_open text defaults e a b u v) p.2 q.2
+one_in_turn : (format : Reading) (formats : List Reading) (is_prefix : Bool) (text : List ℕ) (defaults : Defaults)
+    (a b : Result Match Reason)
+    → IsReadInTurn greatest_year format formats is_prefix text defaults a
+    → IsReadInTurn greatest_year format formats is_prefix text defaults b → a ≡ b
+one_in_turn format formats is_prefix text defaults a b p q =
+    one_after p.0 q.0 (λ s x. x ≡ Ok s) (λ e x. AreTried greatest_year formats is_prefix text defaults e x) a b
+    (one_dated format is_prefix text defaults p.0 q.0 p.1 q.1) (λ s u v. u ∙ sym v)
+    (λ e u v. one_tried formats is_prefix text defaults e a b u v) p.2 q.2
 
-one_put_within : (kept : Bool) (job : Job) (start : ℕ) (said : Said) (a b : Verdict)
+one_put_within : (kept : Bool) (job : Job) (start : ℕ) (said : Match) (a b : Verdict)
     → MatchBool kept
     ((text : Result Items Reason) × IsWritten greatest_year job.form said.moment text × (a ≡ verdict_of start said text)) (a ≡ dropped)
     → MatchBool kept
@@ -278,81 +278,81 @@ one_put_within true job start said a b p q =
     p.2 ∙ ap (verdict_of start said) (one_written job.form said.moment p.0 q.0 p.1 q.1) ∙ sym q.2
 one_put_within false job start said a b p q = p ∙ sym q
 
-one_put_by : (far : Bool) (job : Job) (start : ℕ) (said : Said) (a b : Verdict)
+one_put_by : (far : Bool) (job : Job) (start : ℕ) (said : Match) (a b : Verdict)
     → MatchBool far (a ≡ refused (start + said.start + 1) too_far) (IsPutWithin greatest_year job start said a)
     → MatchBool far (b ≡ refused (start + said.start + 1) too_far) (IsPutWithin greatest_year job start said b) → a ≡ b
 one_put_by true job start said a b p q = p ∙ sym q
 one_put_by false job start said a b p q = one_put_within (is_kept greatest_year job said.moment) job start said a b p q
 
-one_put : (job : Job) (start : ℕ) (said : Said) (a b : Verdict)
+one_put : (job : Job) (start : ℕ) (said : Match) (a b : Verdict)
     → IsPut greatest_year job start said a → IsPut greatest_year job start said b → a ≡ b
 one_put job start said a b p q = one_put_by (nat_lt LIMIT (start + said.start + said.length)) job start said a b p q
 
--- what follows from the part of a line that is its time is one
+-- the part of a line that is its timestamp has one verdict
 one_found : (job : Job) (place : Place) (line : List ℕ) (span : Option Span) (a b : Verdict)
     → MatchOption span (a ≡ missed job)
-    (λ s. (read : Result Said Reason)
-    × IsReadInTurn greatest_year job.first.now job.others.now (is_open place) (slice_range line s.start s.stop) job.defaults read
+    (λ s. (read : Result Match Reason)
+    × IsReadInTurn greatest_year job.first.now job.others.now (is_prefix place) (slice_range line s.start s.stop) job.defaults read
     × MatchResult read (λ said. IsPut greatest_year job s.start said a) (λ e. a ≡ refused (s.start + 1) e))
     → MatchOption span (b ≡ missed job)
-    (λ s. (read : Result Said Reason)
-    × IsReadInTurn greatest_year job.first.now job.others.now (is_open place) (slice_range line s.start s.stop) job.defaults read
+    (λ s. (read : Result Match Reason)
+    × IsReadInTurn greatest_year job.first.now job.others.now (is_prefix place) (slice_range line s.start s.stop) job.defaults read
     × MatchResult read (λ said. IsPut greatest_year job s.start said b) (λ e. b ≡ refused (s.start + 1) e))
     → a ≡ b
 one_found job place line None a b p q = p ∙ sym q
 one_found job place line (Some s) a b p q =
     one_after p.0 q.0 (λ said x. IsPut greatest_year job s.start said x) (λ e x. x ≡ refused (s.start + 1) e) a b
-    (one_in_turn job.first.now job.others.now (is_open place) (slice_range line s.start s.stop) job.defaults p.0 q.0 p.1 q.1)
+    (one_in_turn job.first.now job.others.now (is_prefix place) (slice_range line s.start s.stop) job.defaults p.0 q.0 p.1 q.1)
     (λ said u v. one_put job s.start said a b u v) (λ e u v. u ∙ sym v) p.2 q.2
 
--- what follows from what one format says is one
-one_next : (first : Option Said) (job : Job) (line : List ℕ) (k : ℕ) (formats : List Reading) (a b : Option Said)
-    → ((x y : Option Said) → AreTriedAlone greatest_year job line k formats x → AreTriedAlone greatest_year job line k formats y → x ≡ y)
+-- one format's match has one consequence
+one_next : (first : Option Match) (job : Job) (line : List ℕ) (k : ℕ) (formats : List Reading) (a b : Option Match)
+    → ((x y : Option Match) → AreTriedAlone greatest_year job line k formats x → AreTriedAlone greatest_year job line k formats y → x ≡ y)
     → MatchOption first (AreTriedAlone greatest_year job line k formats a) (λ s. a ≡ Some s)
     → MatchOption first (AreTriedAlone greatest_year job line k formats b) (λ s. b ≡ Some s) → a ≡ b
 one_next None job line k formats a b one p q = one a b p q
 one_next (Some s) job line k formats a b one p q = p ∙ sym q
 
-one_alone : (job : Job) (line : List ℕ) (k : ℕ) (format : Reading) (a b : Option Said)
-    → SaysAlone greatest_year job line k format a → SaysAlone greatest_year job line k format b → a ≡ b
+one_alone : (job : Job) (line : List ℕ) (k : ℕ) (format : Reading) (a b : Option Match)
+    → MatchesAlone greatest_year job line k format a → MatchesAlone greatest_year job line k format b → a ≡ b
 one_alone job line k format a b p q =
     p.2 ∙ ap (alone line k) (one_dated format true (take REACH (drop k line)) job.defaults p.0 q.0 p.1 q.1) ∙ sym q.2
 
-one_tried_alone : (job : Job) (line : List ℕ) (k : ℕ) (formats : List Reading) (a b : Option Said)
+one_tried_alone : (job : Job) (line : List ℕ) (k : ℕ) (formats : List Reading) (a b : Option Match)
     → AreTriedAlone greatest_year job line k formats a → AreTriedAlone greatest_year job line k formats b → a ≡ b
 one_tried_alone job line k [] a b p q = p ∙ sym q
 one_tried_alone job line k (format ∷ formats) a b p q =
     one_next q.0 job line k formats a b (λ x y u v. one_tried_alone job line k formats x y u v)
-    (subst (λ (first : Option Said). MatchOption first (AreTriedAlone greatest_year job line k formats a) (λ s. a ≡ Some s))
+    (subst (λ (first : Option Match). MatchOption first (AreTriedAlone greatest_year job line k formats a) (λ s. a ≡ Some s))
     (one_alone job line k format p.0 q.0 p.1 q.1) p.2) q.2
 
-one_outside : (inside : Bool) (job : Job) (line : List ℕ) (k : ℕ) (a b : Option Said)
+one_outside : (inside : Bool) (job : Job) (line : List ℕ) (k : ℕ) (a b : Option Match)
     → MatchBool inside (a ≡ None) (AreTriedAlone greatest_year job line k (job.first.now ∷ job.others.now) a)
     → MatchBool inside (b ≡ None) (AreTriedAlone greatest_year job line k (job.first.now ∷ job.others.now) b) → a ≡ b
 one_outside true job line k a b p q = p ∙ sym q
 one_outside false job line k a b p q = one_tried_alone job line k (job.first.now ∷ job.others.now) a b p q
 
-one_near : (job : Job) (line : List ℕ) (k : ℕ) (a b : Option Said)
-    → SaysFrom greatest_year job line k a → SaysFrom greatest_year job line k b → a ≡ b
+one_near : (job : Job) (line : List ℕ) (k : ℕ) (a b : Option Match)
+    → MatchesFrom greatest_year job line k a → MatchesFrom greatest_year job line k b → a ≡ b
 one_near job line k a b p q = one_outside (is_inside line k) job line k a b p q
 
--- no byte from which on a moment is said is passed over
-not_before : (job : Job) (line : List ℕ) (n k : ℕ) (said : Said)
-    → SaysNoneBefore greatest_year job line n → k < n → SaysFrom greatest_year job line k (Some said) → ⊥
+-- no byte from which on a format matches is skipped
+not_before : (job : Job) (line : List ℕ) (n k : ℕ) (said : Match)
+    → MatchesNoneBefore greatest_year job line n → k < n → MatchesFrom greatest_year job line k (Some said) → ⊥
 not_before job line n k said none below says =
     let e : Some said ≡ None = one_near job line k (Some said) None says (none k below) in absurd cc
 
--- what is said from one byte on is one
-same_said : (job : Job) (line : List ℕ) (i k : ℕ) (said other : Said) → i ≡ k
-    → SaysFrom greatest_year job line i (Some said) → SaysFrom greatest_year job line k (Some other) → said ≡ other
+-- the match from one byte on is unique
+same_said : (job : Job) (line : List ℕ) (i k : ℕ) (said other : Match) → i ≡ k
+    → MatchesFrom greatest_year job line i (Some said) → MatchesFrom greatest_year job line k (Some other) → said ≡ other
 same_said job line i k said other same p q =
     let e : Some said ≡ Some other = one_near job line k (Some said) (Some other)
-    (subst (λ (n : ℕ). SaysFrom greatest_year job line n (Some said)) same p) q in cc
+    (subst (λ (n : ℕ). MatchesFrom greatest_year job line n (Some said)) same p) q in cc
 
 same_pair : {A B : Type 0} (f g : A × B) → f.0 ≡ g.0 → f.1 ≡ g.1 → f ≡ g
 same_pair {A} {B} f g p q = ap (λ (i : A). (i, f.1)) p ∙ ap (λ (s : B). (g.0, s)) q
 
-one_first : (job : Job) (line : List ℕ) (a b : Option (ℕ × Said))
+one_first : (job : Job) (line : List ℕ) (a b : Option (ℕ × Match))
     → IsFirst greatest_year job line a → IsFirst greatest_year job line b → a ≡ b
 one_first job line None None p q = refl
 one_first job line None (Some g) p q = absurd (not_before job line (length line) g.0 g.1 p q.0 q.1)
@@ -363,8 +363,8 @@ one_first job line (Some f) (Some g) p q =
     let same : f.0 ≡ g.0 = omega (arith, low, high) in
     ap Some (same_pair f g same (same_said job line f.0 g.0 f.1 g.1 same p.1 q.1))
 
--- what follows from the first such byte is one
-one_from : (job : Job) (found : Option (ℕ × Said)) (a b : Verdict)
+-- the first such byte has one verdict
+one_from : (job : Job) (found : Option (ℕ × Match)) (a b : Verdict)
     → MatchOption found (a ≡ missed job) (λ f. IsPut greatest_year job f.0 f.1 a)
     → MatchOption found (b ≡ missed job) (λ f. IsPut greatest_year job f.0 f.1 b) → a ≡ b
 one_from job None a b p q = p ∙ sym q
@@ -374,7 +374,7 @@ one_anywhere : (job : Job) (line : List ℕ) (a b : Verdict)
     → IsJudgedAnywhere greatest_year job line a → IsJudgedAnywhere greatest_year job line b → a ≡ b
 one_anywhere job line a b p q =
     one_from job q.0 a b
-    (subst (λ (found : Option (ℕ × Said)). MatchOption found (a ≡ missed job) (λ f. IsPut greatest_year job f.0 f.1 a))
+    (subst (λ (found : Option (ℕ × Match)). MatchOption found (a ≡ missed job) (λ f. IsPut greatest_year job f.0 f.1 a))
     (one_first job (body_of line) p.0 q.0 p.1 q.1) p.2) q.2
 
 one_judged : (job : Job) (place : Option Place) (line : List ℕ) (a b : Verdict)

@@ -1,4 +1,4 @@
--- A moment has one text in a form.
+-- A moment has exactly one text in a form.
 use Rattle.std.specs.Prelude.{Option, Result, MatchOption, MatchBool, option_map}
 use Rattle.std.specs.Fmt.{signed_decimal}
 use Rattle.std.proofs.Common.{◌≡◌, ℕ, ℤ, List, sym, ap, subst, refl, arith, ◌∙◌, None, Some, Ok, Err, ◌+◌, ◌≤◌, Bool, true, false, length, take, drop}
@@ -21,7 +21,7 @@ use Rattle.time_zones.proofs.LongestLemmas.{suffix_once}
 use Rattle.time_writing.specs.Texts.{Writes, WritesSuch, IsMailText, mail_text}
 use Rattle.time_writing.specs.declared.parts.FractionDigits.{FractionDigits}
 use Rattle.time_writing.specs.declared.parts.Unwritable.{Unwritable}
-use Rattle.restamp_verdict.specs.Zoned.{IsShownAt, IsShownIn, IsShown, why_unshown, IsChecked, IsLongestSuffix, IsSuffixed, Suffix, checked, extended, has_tail, tells_offset}
+use Rattle.restamp_verdict.specs.Zoned.{IsConvertedTo, IsConvertedIn, IsConverted, conversion_error, IsChecked, IsLongestSuffix, IsSuffixed, Suffix, checked, extended, has_tail, tells_offset}
 use Rattle.restamp_verdict.specs.Form.{IsCounted, IsNamedText, IsWrittenBy, IsWritten, unit_of, written}
 use Rattle.restamp_verdict.specs.Reason.{Reason, unread}
 use Rattle.restamp_verdict.specs.declared.clock.Clock.{Clock}
@@ -33,14 +33,14 @@ use Rattle.restamp_verdict.specs.declared.form.Named.{Named as Named_}
 use Rattle.restamp_verdict.specs.declared.form.Named.TheVariants.{Rfc3339, Rfc2822, Iso8601, Count}
 use Rattle.restamp_verdict.specs.declared.form.Writing.{Writing}
 use Rattle.restamp_verdict.specs.declared.form.Writing.TheVariants.{Named, Described}
-use Rattle.restamp_verdict.specs.declared.reading.Said.{Said}
+use Rattle.restamp_verdict.specs.declared.reading.Match.{Match}
 
--- what the clock of a moment shows
+-- the local date and time of a moment
 clock_is : (v : OffsetDateTime)
     → clock_nanos greatest_year (offset_date v) (offset_time v) ≡ shown_at (offset_instant greatest_year v) (offset_of v)
 clock_is v = let e = instant_is (offset_date v) (offset_time v) (offset_of v) in omega (arith, ints, e)
 
--- moments of one instant at one offset are one
+-- moments with one instant and one offset are equal
 pub same_shown : (v w : OffsetDateTime)
     → offset_instant greatest_year v ≡ offset_instant greatest_year w → offset_of v ≡ offset_of w → v ≡ w
 same_shown v w e o =
@@ -50,22 +50,22 @@ same_shown v w e o =
     λ j. record { date = parts.0 j; time = parts.1 j; offset = o j }
 
 -- a moment has a date at its own offset
-pub shown_in : (v : OffsetDateTime) → IsInstant greatest_year (shown_at (offset_instant greatest_year v) (offset_of v))
-shown_in v = subst (IsInstant greatest_year) (clock_is v) (clock_nanos_range (offset_date v) (offset_time v))
+pub converted_in : (v : OffsetDateTime) → IsInstant greatest_year (shown_at (offset_instant greatest_year v) (offset_of v))
+converted_in v = subst (IsInstant greatest_year) (clock_is v) (clock_nanos_range (offset_date v) (offset_time v))
 
 one_shown_at : (o : UtcOffset) (v : OffsetDateTime) (a b : Option OffsetDateTime)
-    → IsShownAt greatest_year o v a → IsShownAt greatest_year o v b → a ≡ b
+    → IsConvertedTo greatest_year o v a → IsConvertedTo greatest_year o v b → a ≡ b
 one_shown_at o v None None p q = refl
 one_shown_at o v None (Some w) p q =
     absurd (p (subst (λ n. IsInstant greatest_year (shown_at n o)) q.0
-    (subst (λ k. IsInstant greatest_year (shown_at (offset_instant greatest_year w) k)) q.1 (shown_in w))))
+    (subst (λ k. IsInstant greatest_year (shown_at (offset_instant greatest_year w) k)) q.1 (converted_in w))))
 one_shown_at o v (Some w) None p q =
     absurd (q (subst (λ n. IsInstant greatest_year (shown_at n o)) p.0
-    (subst (λ k. IsInstant greatest_year (shown_at (offset_instant greatest_year w) k)) p.1 (shown_in w))))
+    (subst (λ k. IsInstant greatest_year (shown_at (offset_instant greatest_year w) k)) p.1 (converted_in w))))
 one_shown_at o v (Some w) (Some x) p q = ap Some (same_shown w x (p.0 ∙ sym q.0) (p.1 ∙ sym q.1))
 
 one_shown_in : (zone : TimeZone) (v : OffsetDateTime) (a b : Option OffsetDateTime)
-    → IsShownIn greatest_year zone v a → IsShownIn greatest_year zone v b → a ≡ b
+    → IsConvertedIn greatest_year zone v a → IsConvertedIn greatest_year zone v b → a ≡ b
 one_shown_in zone v None None p q = refl
 one_shown_in zone v None (Some w) p q = absurd (p q.1)
 one_shown_in zone v (Some w) None p q = absurd (q p.1)
@@ -73,7 +73,7 @@ one_shown_in zone v (Some w) (Some x) p q =
     ap Some (same_shown w x (p.0 ∙ sym q.0) (same_offset_by_seconds (offset_of w) (offset_of x) (p.2 ∙ sym q.2)))
 
 pub one_shown : (on : Clock) (v : OffsetDateTime) (a b : Option OffsetDateTime)
-    → IsShown greatest_year on v a → IsShown greatest_year on v b → a ≡ b
+    → IsConverted greatest_year on v a → IsConverted greatest_year on v b → a ≡ b
 one_shown clock.Own v a b p q = p ∙ sym q
 one_shown (clock.Fixed o) v a b p q = one_shown_at o v a b p q
 one_shown (clock.Zone zone) v a b p q = one_shown_in zone v a b p q
@@ -125,8 +125,8 @@ one_by (Named named) digits v a b p q = one_named named digits v a b p q
 one_by (Described d) digits v a b p q = p ∙ sym q
 
 one_at : (form : Form) (shown other : Option OffsetDateTime) (a b : Result Items Reason) → shown ≡ other
-    → MatchOption shown (a ≡ Err (why_unshown form.clock)) (λ w. IsWrittenBy greatest_year form.writing.now form.digits w a)
-    → MatchOption other (b ≡ Err (why_unshown form.clock)) (λ w. IsWrittenBy greatest_year form.writing.now form.digits w b) → a ≡ b
+    → MatchOption shown (a ≡ Err (conversion_error form.clock)) (λ w. IsWrittenBy greatest_year form.writing.now form.digits w a)
+    → MatchOption other (b ≡ Err (conversion_error form.clock)) (λ w. IsWrittenBy greatest_year form.writing.now form.digits w b) → a ≡ b
 one_at form None None a b e p q = p ∙ sym q
 one_at form None (Some w) a b e p q = absurd cc
 one_at form (Some v) None a b e p q = absurd cc
@@ -138,7 +138,7 @@ pub one_written : (form : Form) (v : OffsetDateTime) (a b : Result Items Reason)
     → IsWritten greatest_year form v a → IsWritten greatest_year form v b → a ≡ b
 one_written form v a b p q = one_at form p.0 q.0 a b (one_shown form.clock v p.0 q.0 p.1 q.1) p.2 q.2
 
--- ---- A time with a suffix: the longest suffix behind it is one, and so is what both say
+-- ---- A timestamp with a suffix: the longest suffix after it is unique, and so is the match of both
 
 pub one_suffix : (bytes : List ℕ) (s t : Suffix) → IsLongestSuffix bytes s → IsLongestSuffix bytes t → s ≡ t
 one_suffix bytes s t h k =
@@ -149,49 +149,49 @@ one_suffix bytes s t h k =
     (subst (λ (n : ℕ). IsSuffix (take n bytes) s.zone s.tags) len h.is_suffix) k.is_suffix in
     λ i. record { len = len i; zone = same.0 i; tags = same.1 i }
 
-module _ (zones : Zones) (text : List ℕ) (front : Said) where
-  one_checked : (s : Suffix) (a b : Result Said Reason) → IsChecked zones text front s a → IsChecked zones text front s b → a ≡ b
+module _ (zones : Zones) (text : List ℕ) (front : Match) where
+  one_checked : (s : Suffix) (a b : Result Match Reason) → IsChecked zones text front s a → IsChecked zones text front s b → a ≡ b
   one_checked s a b p q =
       p.2 ∙ ap (checked (extended front s.len))
       (one_check zones (tells_offset (take front.length text)) front.moment s.zone (critical_key s.tags) p.0 q.0 p.1 q.1) ∙ sym q.2
 
-  one_ended : (tail : Bool) (s : Suffix) (a b : Result Said Reason)
+  one_ended : (tail : Bool) (s : Suffix) (a b : Result Match Reason)
       → MatchBool tail (a ≡ Err (unread trailing)) (IsChecked zones text front s a)
       → MatchBool tail (b ≡ Err (unread trailing)) (IsChecked zones text front s b) → a ≡ b
   one_ended true s a b p q = p ∙ sym q
   one_ended false s a b p q = one_checked s a b p q
 
-  pub one_suffixed : (is_open : Bool) (a b : Result Said Reason) → IsSuffixed zones is_open text front a
-      → IsSuffixed zones is_open text front b → a ≡ b
-  one_suffixed is_open a b p q =
-      one_ended (has_tail is_open text (front.length + q.0.len)) q.0 a b
-      (subst (λ (s : Suffix). MatchBool (has_tail is_open text (front.length + s.len)) (a ≡ Err (unread trailing))
+  pub one_suffixed : (is_prefix : Bool) (a b : Result Match Reason) → IsSuffixed zones is_prefix text front a
+      → IsSuffixed zones is_prefix text front b → a ≡ b
+  one_suffixed is_prefix a b p q =
+      one_ended (has_tail is_prefix text (front.length + q.0.len)) q.0 a b
+      (subst (λ (s : Suffix). MatchBool (has_tail is_prefix text (front.length + s.len)) (a ≡ Err (unread trailing))
       (IsChecked zones text front s a)) (one_suffix (drop front.length text) p.0 q.0 p.1 q.1) p.2) q.2
 
--- the suffix that was read, of which these are the tags
+-- the suffix that was parsed, with these tags
 abbrev pub suffix_of : Suffixed → List Tag → Suffix
 suffix_of r tags = record { len = r.len; zone = option_map zone_tag_of r.zone; tags = tags }
 
--- it is the longest behind a front, and what the text says goes by it
-pub read-longest : (text : List ℕ) (front : Said) (r : Suffixed) (rest : List ℕ) → rest ≡ drop front.length text → r.len ≤ length rest
+-- it is the longest suffix after a prefix, and decides the match of the text
+pub read-longest : (text : List ℕ) (front : Match) (r : Suffixed) (rest : List ℕ) → rest ≡ drop front.length text → r.len ≤ length rest
     → (says : Says (take r.len rest) r) → IsLongest rest r.len → IsLongestSuffix (drop front.length text) (suffix_of r says.0)
 read-longest text front r rest cut within says longest =
     subst (λ (bytes : List ℕ). IsLongestSuffix bytes (suffix_of r says.0)) cut
     (record { within = within; is_suffix = says.1; longest = longest })
 
-module _ (zones : Zones) (is_open : Bool) (text : List ℕ) (front : Said) (r : Suffixed) (rest : List ℕ)
+module _ (zones : Zones) (is_prefix : Bool) (text : List ℕ) (front : Match) (r : Suffixed) (rest : List ℕ)
     (cut : rest ≡ drop front.length text) (within : r.len ≤ length rest) (says : Says (take r.len rest) r)
     (longest : IsLongest rest r.len) where
   found : IsLongestSuffix (drop front.length text) (suffix_of r says.0)
   found = read-longest text front r rest cut within says longest
 
-  pub read-refused : has_tail is_open text (front.length + r.len) ≡ true → IsSuffixed zones is_open text front (Err (unread trailing))
+  pub read-refused : has_tail is_prefix text (front.length + r.len) ≡ true → IsSuffixed zones is_prefix text front (Err (unread trailing))
   read-refused tail = (suffix_of r says.0, found, rw tail refl)
 
-  pub read-checked : (tells : Bool) (answer : Checked) → has_tail is_open text (front.length + r.len) ≡ false
+  pub read-checked : (tells : Bool) (answer : Checked) → has_tail is_prefix text (front.length + r.len) ≡ false
       → tells ≡ tells_offset (take front.length text)
       → GoesWith zones tells front.moment (option_map zone_tag_of r.zone) (option_map (λ key. key.now) r.critical_key) answer
-      → IsSuffixed zones is_open text front (checked (extended front r.len) answer)
+      → IsSuffixed zones is_prefix text front (checked (extended front r.len) answer)
   read-checked tells answer tail is goes =
       let by_tags = subst (λ (key : Option (List ℕ)). GoesWith zones tells front.moment (option_map zone_tag_of r.zone) key answer) says.2 goes in
       let by_front = subst (λ (b : Bool). GoesWith zones b front.moment (option_map zone_tag_of r.zone) (critical_key says.0) answer) is by_tags in

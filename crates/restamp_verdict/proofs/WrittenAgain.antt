@@ -1,4 +1,4 @@
--- A time that was written is read back, and written again as it was.
+-- A timestamp that was written parses back, and writing it again gives the same text.
 use Rattle.std.proofs.Common.{◌≡◌, ℕ, ◌+◌, Bool, true, false, List, length, sym, ap, subst, refl, arith, ◌∙◌, None, Some, Ok, Err}
 use Rattle.std.specs.Prelude.{Option, Result, nat_lt, MatchOption, MatchBool, IsOkAnd, slice_range}
 use Rattle.jiff_core.specs.Timestamp.{IsTimestampNanos}
@@ -23,14 +23,14 @@ use Rattle.time_parsing.specs.Written.{IsCut, kept}
 use Rattle.time_parsing.proofs.IsoBack.{iso_read_back}
 use Rattle.time_parsing.proofs.MailForm.{mail_read_back}
 use Rattle.time_parsing.proofs.WrittenBack.{read_back, auto-keeps, nine-keeps}
-use Rattle.restamp_place.specs.Cuts.{span_of, is_open}
+use Rattle.restamp_place.specs.Cuts.{span_of, is_prefix}
 use Rattle.restamp_place.specs.declared.cuts.Place.{Place}
 use Rattle.restamp_place.specs.declared.fields.Span.{Span}
-use Rattle.restamp_verdict.specs.Zoned.{IsShown, why_unshown}
+use Rattle.restamp_verdict.specs.Zoned.{IsConverted, conversion_error}
 use Rattle.restamp_verdict.specs.Form.{IsNamedText, IsWrittenBy, IsWritten, written}
 use Rattle.restamp_verdict.specs.Job.{Verdict, IsPutWithin, IsPut, IsJudged, IsJudgedAt, IsJudgedAnywhere, IsJudgedPart, is_before, is_kept, missed, rewritten, dropped, refused}
 use Rattle.restamp_verdict.specs.Laws.{HasDigits, AutoHasAll, ReadsAll, IsReadable, ReadsRewrittenBack, WritesSameText, ChangesNothing}
-use Rattle.restamp_verdict.specs.Reading.{Says, IsReadInTurn, said}
+use Rattle.restamp_verdict.specs.Reading.{ParsesAs, IsReadInTurn, said}
 use Rattle.restamp_verdict.specs.Reason.{Reason, too_far}
 use Rattle.restamp_verdict.specs.declared.clock.Clock.{Clock}
 use Rattle.restamp_verdict.specs.declared.clock.Clock.TheVariants as clock
@@ -43,12 +43,12 @@ use Rattle.restamp_verdict.specs.declared.job.Job.{Job}
 use Rattle.restamp_verdict.specs.declared.job.TheConstants.{LIMIT}
 use Rattle.restamp_verdict.specs.declared.reading.Defaults.{Defaults}
 use Rattle.restamp_verdict.specs.declared.reading.Reading.{Reading}
-use Rattle.restamp_verdict.specs.declared.reading.Said.{Said}
+use Rattle.restamp_verdict.specs.declared.reading.Match.{Match}
 use Rattle.restamp_verdict.proofs.DescribedBack.{keeps_moment, SaysAll, described_back}
-use Rattle.restamp_verdict.proofs.OneVerdict.{one_says, one_verdict}
+use Rattle.restamp_verdict.proofs.OneVerdict.{one_has, one_verdict}
 use Rattle.restamp_verdict.proofs.OneWriting.{one_shown, one_written}
 
--- a moment that has a text, and the text
+-- the text of a moment that has one
 text_is : (reason : Option Unwritable) (such : List ℕ → Type 0) (text : Items) (result : Result Items Unwritable)
     → WritesSuch reason such result → Ok text ≡ written result → (reason ≡ None) × such text.items
 text_is None such text (Ok t) p e =
@@ -57,7 +57,7 @@ text_is None such text (Err why) p e = absurd p
 text_is (Some why) such text (Ok t) p e = absurd cc
 text_is (Some why) such text (Err other) p e = absurd cc
 
--- a moment of which nothing is cut off
+-- a moment without a cut-off fraction
 abbrev nanosecond_of : OffsetDateTime → ℕ
 nanosecond_of v = Times.nanosecond (offset_time v)
 
@@ -104,23 +104,23 @@ by_back : (writing : Writing) (digits : FractionDigits) (v : OffsetDateTime) (te
 by_back (Named named) digits v text format defaults all p = named_back named digits v text format defaults all p
 by_back (Described d) digits v text format defaults all p = described_back format defaults (shape d) v text all p
 
--- a moment that is shown on a clock keeps its instant, and is shown there as it is
-shown_instant : (on : Clock) (v w : OffsetDateTime) → IsShown greatest_year on v (Some w)
+-- converting a moment to a clock keeps its instant, and a second conversion changes nothing
+shown_instant : (on : Clock) (v w : OffsetDateTime) → IsConverted greatest_year on v (Some w)
     → offset_instant greatest_year w ≡ offset_instant greatest_year v
 shown_instant clock.Own v w p = let same : w ≡ v = cc in ap (offset_instant greatest_year) same
 shown_instant (clock.Fixed o) v w p = p.0
 shown_instant (clock.Zone zone) v w p = p.0
 
-shown_again : (on : Clock) (v w : OffsetDateTime) → IsShown greatest_year on v (Some w) → IsShown greatest_year on w (Some w)
+shown_again : (on : Clock) (v w : OffsetDateTime) → IsConverted greatest_year on v (Some w) → IsConverted greatest_year on w (Some w)
 shown_again clock.Own v w p = refl
 shown_again (clock.Fixed o) v w p = (refl, p.1)
 shown_again (clock.Zone zone) v w p =
     (refl, subst IsTimestampNanos (sym p.0) p.1, p.2 ∙ ap (Zone.offset_at zone) (sym p.0))
 
--- the moment as it is shown: it is what the text says, and is written as the text again
+-- the converted moment: the text parses as it, and it is written as the text again
 pub record IsBack (format : Reading) (defaults : Defaults) (form : Form) (v : OffsetDateTime) (bytes : List ℕ)
     (w : OffsetDateTime) : Type 0 where
-  pub shown : IsShown greatest_year form.clock v (Some w)
+  pub shown : IsConverted greatest_year form.clock v (Some w)
   pub says : SaysAll format defaults w bytes
   pub text : Items
   pub again : IsWritten greatest_year form w (Ok text)
@@ -129,7 +129,7 @@ pub record IsBack (format : Reading) (defaults : Defaults) (form : Form) (v : Of
 pub back : (format : Reading) (defaults : Defaults) (form : Form) (v : OffsetDateTime) (bytes : List ℕ)
     → IsReadable greatest_year format defaults form v bytes → (w : OffsetDateTime) × IsBack format defaults form v bytes w
 back format defaults form v bytes ((w, shown, all), (text, (other, p, q), e)) =
-    let there = subst (λ (s : Option OffsetDateTime). MatchOption s (Ok text ≡ Err (why_unshown form.clock))
+    let there = subst (λ (s : Option OffsetDateTime). MatchOption s (Ok text ≡ Err (conversion_error form.clock))
     (λ u. IsWrittenBy greatest_year form.writing.now form.digits u (Ok text)))
     (one_shown form.clock v other (Some w) p shown) q in
     let says = by_back form.writing.now form.digits w text format defaults all there in (
@@ -149,21 +149,21 @@ auto_has_all v = auto-keeps (nanosecond_of v) (offset_time v).nanosecond_in
 pub reads_rewritten_back : ReadsRewrittenBack greatest_year
 reads_rewritten_back format defaults form v bytes read is says =
     let it = back format defaults form v bytes is in
-    subst (λ (r : Result Said Reason). IsOkAnd r (λ s. IsShown greatest_year form.clock v (Some s.moment) × (s.start ≡ 0) × (s.length ≡ length bytes)))
-    (one_says format false bytes defaults (Ok (said it.0 (length bytes))) read it.1.says says) (it.1.shown, refl, refl)
+    subst (λ (r : Result Match Reason). IsOkAnd r (λ s. IsConverted greatest_year form.clock v (Some s.moment) × (s.start ≡ 0) × (s.length ≡ length bytes)))
+    (one_has format false bytes defaults (Ok (said it.0 (length bytes))) read it.1.says says) (it.1.shown, refl, refl)
 
 pub writes_same_text : WritesSameText greatest_year
 writes_same_text format defaults form v bytes said_ again is says next =
     let it = back format defaults form v bytes is in
     let one : Ok (said it.0 (length bytes)) ≡ Ok said_ =
-    one_says format false bytes defaults (Ok (said it.0 (length bytes))) (Ok said_) it.1.says says in
+    one_has format false bytes defaults (Ok (said it.0 (length bytes))) (Ok said_) it.1.says says in
     let same : said it.0 (length bytes) ≡ said_ = cc in
     let there : IsWritten greatest_year form said_.moment (Ok it.1.text) =
-    subst (λ (s : Said). IsWritten greatest_year form s.moment (Ok it.1.text)) same it.1.again in
+    subst (λ (s : Match). IsWritten greatest_year form s.moment (Ok it.1.text)) same it.1.again in
     subst (λ (r : Result Items Reason). IsOkAnd r (λ text. text.items ≡ bytes))
     (one_written form said_.moment (Ok it.1.text) again there next) (sym it.1.same)
 
--- moments of one instant lie within the same bounds
+-- moments with one instant lie within the same bounds
 same_before : (bound : Option OffsetDateTime) (v w : OffsetDateTime) (otherwise : Bool)
     → offset_instant greatest_year w ≡ offset_instant greatest_year v
     → is_before greatest_year w bound otherwise ≡ is_before greatest_year v bound otherwise
@@ -174,7 +174,7 @@ same_kept : (job : Job) (v w : OffsetDateTime) → offset_instant greatest_year 
     → is_kept greatest_year job w ≡ is_kept greatest_year job v
 same_kept job v w e = rw (same_before job.since v w false e, same_before job.until v w true e) refl
 
--- the verdict on a line that has a text which is written so again
+-- the verdict on a line with a text that is written so again
 abbrev Kept : Job → Bool → ℕ → List ℕ → Verdict → Type 0
 Kept job kept start bytes verdict = MatchBool kept (verdict ≡ rewritten start (length bytes) bytes) (verdict ≡ dropped)
 
@@ -189,13 +189,13 @@ kept_back job true start w bytes text again same e =
     )
 kept_back job false start w bytes text again same e = (dropped, rw e refl, refl)
 
--- the same, where it may go on too far
+-- that verdict, where the text may end too far behind
 abbrev Put : Job → Bool → Bool → ℕ → List ℕ → Verdict → Type 0
 Put job far kept start bytes verdict =
     MatchBool far (verdict ≡ refused (start + 1) too_far) (Kept job kept start bytes verdict)
 
--- the bytes of a line before those of a text that stands at the front of its part
-from_front : (job : Job) (start : ℕ) (s : Said) (verdict : Verdict) → s.start ≡ 0
+-- the bytes of a line before a text at the start of its part
+from_front : (job : Job) (start : ℕ) (s : Match) (verdict : Verdict) → s.start ≡ 0
     → MatchBool (nat_lt LIMIT (start + s.length)) (verdict ≡ refused (start + 1) too_far) (IsPutWithin greatest_year job start s verdict)
     → IsPut greatest_year job start s verdict
 from_front job start s verdict front p =
@@ -214,21 +214,21 @@ put_back job false kept start w bytes text again same e f =
     let put = kept_back job kept start w bytes text again same e in
     (put.0, from_front job start (said w (length bytes)) put.0 refl (rw f put.1), put.2)
 
--- the first format reads it
-in_turn : (job : Job) (bytes : List ℕ) (s : Said) → Says greatest_year job.first.now false bytes job.defaults (Ok s)
+-- the first format matches the text
+in_turn : (job : Job) (bytes : List ℕ) (s : Match) → ParsesAs greatest_year job.first.now false bytes job.defaults (Ok s)
     → IsReadInTurn greatest_year job.first.now job.others.now false bytes job.defaults (Ok s)
 in_turn job bytes s says = (Ok s, (Ok s, (Ok s, says, refl), refl), refl)
 
--- a line whose place has the text is judged so
+-- the verdict on a line with the text at its place
 judged : (job : Job) (place : Place) (line : List ℕ) (span : Span) (bytes : List ℕ) (verdict : Verdict)
-    → job.place ≡ Some place → is_open place ≡ false → span_of place line ≡ Some span
+    → job.place ≡ Some place → is_prefix place ≡ false → span_of place line ≡ Some span
     → slice_range line span.start span.stop ≡ bytes
     → IsJudgedPart greatest_year job false span.start bytes verdict → IsJudged greatest_year job line verdict
 judged job place line span bytes verdict at closed found part is =
     subst (λ (p : Option Place). MatchOption p (IsJudgedAnywhere greatest_year job line verdict)
     (λ q. IsJudgedAt greatest_year job q line verdict)) (sym at)
     (subst (λ (f : Option Span). MatchOption f (verdict ≡ missed job)
-    (λ s. IsJudgedPart greatest_year job (is_open place) s.start (slice_range line s.start s.stop) verdict)) (sym found)
+    (λ s. IsJudgedPart greatest_year job (is_prefix place) s.start (slice_range line s.start s.stop) verdict)) (sym found)
     (subst (λ (o : Bool). IsJudgedPart greatest_year job o span.start (slice_range line span.start span.stop) verdict) (sym closed)
     (subst (λ (b : List ℕ). IsJudgedPart greatest_year job false span.start b verdict) (sym part) is)))
 

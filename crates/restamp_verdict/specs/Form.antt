@@ -1,4 +1,4 @@
--- How a time is written. `Y` is the greatest year.
+-- How a moment is written. `Y` is the greatest year.
 use Rattle.std.specs.Prelude.{◌≡◌, ℕ, ℤ, List, Option, Result, Ok, Err, MatchOption}
 use Rattle.std.specs.Fmt.{signed_decimal}
 use Rattle.time_descriptions.specs.Description.{shape}
@@ -12,7 +12,7 @@ use Rattle.time_values.specs.declared.offset_date_time.OffsetDateTime.{OffsetDat
 use Rattle.time_writing.specs.Texts.{Writes, WritesSuch, IsMailText, moment_text, count_of, unwritable_3339, unwritable_2822}
 use Rattle.time_writing.specs.declared.parts.FractionDigits.{FractionDigits}
 use Rattle.time_writing.specs.declared.parts.Unwritable.{Unwritable}
-use Rattle.restamp_verdict.specs.Zoned.{IsShown, why_unshown}
+use Rattle.restamp_verdict.specs.Zoned.{IsConverted, conversion_error}
 use Rattle.restamp_verdict.specs.Reason.{Reason, unwritable, unformattable, out_of_range}
 use Rattle.restamp_verdict.specs.declared.clock.Clock.{Clock}
 use Rattle.restamp_verdict.specs.declared.form.Form.{Form}
@@ -23,31 +23,31 @@ use Rattle.restamp_verdict.specs.declared.form.Unit.TheVariants.{Seconds, Millis
 use Rattle.restamp_verdict.specs.declared.form.Writing.{Writing}
 use Rattle.restamp_verdict.specs.declared.form.Writing.TheVariants.{Named, Described}
 
--- a text, or that there is none
+-- a text, or the reason why there is none
 abbrev pub written : Result Items Unwritable → Result Items Reason
 written (Ok text) = Ok text
 written (Err why) = Err (unwritable why)
 
--- the same of a text by a description
+-- a text by a description, or the reason why there is none
 abbrev pub described : Result (List ℕ) Unformattable → Result Items Reason
 described (Ok bytes) = Ok (record { items = bytes })
 described (Err why) = Err (unformattable why)
 
--- how many nanoseconds it has
+-- how many nanoseconds a unit has
 abbrev pub unit_of : Unit_ → ℕ
 unit_of Seconds = 1_000_000_000
 unit_of Milliseconds = 1_000_000
 unit_of Microseconds = 1_000
 unit_of Nanoseconds = 1
 
--- the whole units since 1970-01-01T00:00:00Z, rounded down, as a decimal number, or that there is no such moment in UTC
+-- the whole units since 1970-01-01T00:00:00Z, rounded down, as a decimal number; an error if the moment has no date in UTC
 abbrev pub IsCounted : ℕ → Unit_ → OffsetDateTime → Result Items Reason → Type 0
 IsCounted Y unit v (Ok text) =
     IsInstant Y (offset_instant Y v)
     × ((z : ℤ) × IsWhole (unit_of unit) (offset_instant Y v) z × (text.items ≡ signed_decimal z))
 IsCounted Y unit v (Err e) = (e ≡ out_of_range) × (¬ IsInstant Y (offset_instant Y v))
 
--- the text of a moment by a named format, or the first reason why it has none
+-- the text of a moment by a named format, or the first reason why it has no text
 abbrev pub IsNamedText : ℕ → Named_ → FractionDigits → OffsetDateTime → Result Items Reason → Type 0
 IsNamedText Y Rfc3339 digits v result =
     (text : Result Items Unwritable)
@@ -59,17 +59,17 @@ IsNamedText Y Iso8601 digits v result =
     (text : Result Items Unwritable) × Writes (unwritable_3339 v) (moment_text 9 v) text × (result ≡ written text)
 IsNamedText Y (Count unit) digits v result = IsCounted Y unit v result
 
--- the text of a moment by a format, or the first reason why it has none
+-- the text of a moment by a format, or the first reason why it has no text
 abbrev pub IsWrittenBy : ℕ → Writing → FractionDigits → OffsetDateTime → Result Items Reason → Type 0
 IsWrittenBy Y (Named named) digits v result = IsNamedText Y named digits v result
 IsWrittenBy Y (Described d) digits v result = result ≡ described (text_of Y v (shape d))
 
--- the same as it is shown on a clock
+-- the text of a moment that is first converted to a clock
 abbrev pub IsWrittenOn : ℕ → Writing → FractionDigits → Clock → OffsetDateTime → Result Items Reason → Type 0
 IsWrittenOn Y writing digits clock v result =
-    (shown : Option OffsetDateTime) × IsShown Y clock v shown
-    × MatchOption shown (result ≡ Err (why_unshown clock)) (λ w. IsWrittenBy Y writing digits w result)
+    (shown : Option OffsetDateTime) × IsConverted Y clock v shown
+    × MatchOption shown (result ≡ Err (conversion_error clock)) (λ w. IsWrittenBy Y writing digits w result)
 
--- the same in the form that is asked for
+-- the text of a moment in a form
 abbrev pub IsWritten : ℕ → Form → OffsetDateTime → Result Items Reason → Type 0
 IsWritten Y form v result = IsWrittenOn Y form.writing.now form.digits form.clock v result

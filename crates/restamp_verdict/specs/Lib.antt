@@ -3,10 +3,10 @@ pub mod Zoned
 pub mod Reading
 pub mod Form
 pub mod Naming
-pub mod Lack
-pub mod LackSteps
+pub mod MissingField
+pub mod MissingFieldSteps
 pub mod Job
 pub mod Begins
-pub mod Told
+pub mod ComponentValues
 pub mod Laws
-pub mod Wrong
+pub mod ErrorLocation

@@ -1,4 +1,4 @@
--- How a time is read. `Y` is the greatest year.
+-- Parses a timestamp. `Y` is the greatest year.
 use Rattle.std.specs.Prelude.{◌≡◌, ℕ, zero, suc, ◌-◌, ℤ, pos, ◌+ℤ◌, ◌-ℤ◌, int_lt, Bool, true, false, not, MatchBool, ◌&&◌, ◌||◌, ◌==◌, List, [], ◌∷◌, length, take, drop, slice_index, if◌then◌else◌, Option, None, Some, MatchOption, is_some, unwrap_or, Result, Ok, Err, MatchResult}
 use Rattle.std.specs.Char.{is_ascii_whitespace}
 use Rattle.std.specs.List.{list_any, prefix_len, suffix_len}
@@ -22,35 +22,35 @@ use Rattle.time_parsing.specs.Rfc3339 as Rfc3339
 use Rattle.time_components.specs.Tree.{steps_shape}
 use Rattle.time_zones.specs.declared.zones.Zones.{Zones}
 use Rattle.restamp_verdict.specs.Zoned.{IsOffsetWhen, IsSuffixed}
-use Rattle.restamp_verdict.specs.Reason.{Reason, unread, negative_fraction, left_out, shown_twice}
+use Rattle.restamp_verdict.specs.Reason.{Reason, unread, negative_fraction, is_local_time_error}
 use Rattle.restamp_verdict.specs.declared.local.Clocks.{Clocks}
 use Rattle.restamp_verdict.specs.declared.reading.Reading.{Reading}
 use Rattle.restamp_verdict.specs.declared.reading.Reading.TheVariants as reading
-use Rattle.restamp_verdict.specs.declared.reading.Said.{Said}
+use Rattle.restamp_verdict.specs.declared.reading.Match.{Match}
 use Rattle.restamp_verdict.specs.declared.reading.Defaults.{Defaults}
 use Rattle.restamp_verdict.specs.declared.dated.Undated as declared
 
--- a moment that so many bytes at the front of a text say
-abbrev pub said : OffsetDateTime → ℕ → Said
+-- a match of the first bytes of a text
+abbrev pub said : OffsetDateTime → ℕ → Match
 said v n = record { moment = v; start = 0; length = n }
 
--- a result, with its refusal without where its text lies in memory
-abbrev pub seen_said : Result Said Parse → Result Said Refusal
-seen_said (Ok s) = Ok s
-seen_said (Err e) = Err (refusal_of e)
+-- a result, with an error without the addresses of its texts
+abbrev pub erased_match : Result Match Parse → Result Match Refusal
+erased_match (Ok s) = Ok s
+erased_match (Err e) = Err (refusal_of e)
 
--- what a whole text says, by the outcome of its parse
-abbrev pub all_of : List ℕ → Result OffsetDateTime Refusal → Result Said Refusal
+-- the match of a whole text, by the outcome of its parse
+abbrev pub all_of : List ℕ → Result OffsetDateTime Refusal → Result Match Refusal
 all_of text (Ok v) = Ok (said v (length text))
 all_of text (Err e) = Err e
 
--- what a front of a text says, by the outcome of its parse, which tells what is left
-abbrev pub front_of : List ℕ → Result (OffsetDateTime × List ℕ) Refusal → Result Said Refusal
+-- the match of a prefix of a text, by the outcome of its parse, which has the rest
+abbrev pub front_of : List ℕ → Result (OffsetDateTime × List ℕ) Refusal → Result Match Refusal
 front_of text (Ok x) = Ok (said x.0 (length text - length x.1))
 front_of text (Err e) = Err e
 
--- what a text says by a format: a front of it where it is open, and else the whole of it
-abbrev pub IsReadBy : ℕ → Bool → Path → Outcome.Reading → Refusing → List ℕ → Result Said Refusal → Type 0
+-- the match of a text by a format: of a prefix if `is_prefix` is true, otherwise of the whole text
+abbrev pub IsReadBy : ℕ → Bool → Path → Outcome.Reading → Refusing → List ℕ → Result Match Refusal → Type 0
 IsReadBy Y true path reads refuses text result =
     (outcome : Result (OffsetDateTime × List ℕ) Refusal)
     × IsFront (IsMoment Y) reads refuses text empty outcome × (result ≡ front_of text outcome)
@@ -58,18 +58,18 @@ IsReadBy Y false path reads refuses text result =
     (outcome : Result OffsetDateTime Refusal)
     × IsMomentOutcome Y path reads refuses text None outcome × (result ≡ all_of text outcome)
 
--- the record says a part of a year
+-- the record has a part of a year
 abbrev pub has_year : Record → Bool
 has_year r =
     is_some r.year || is_some r.year_century || is_some r.year_last_two
     || is_some r.iso_year || is_some r.iso_year_century || is_some r.iso_year_last_two
 
--- the record with that year, where it says no part of one
+-- the record with that year, unless it has a part of one
 abbrev pub with_year : ℕ → Option ℤ → Record → Record
 with_year Y None r = r
 with_year Y (Some year) r = if has_year r then r else unwrap_or (put Y (year_is year) r) r
 
--- the record with the parts of that offset, where it says no hour of one
+-- the record with the parts of that offset, unless it has an hour of one
 abbrev pub with_offset : Option UtcOffset → Record → Record
 with_offset None r = r
 with_offset (Some o) r =
@@ -80,16 +80,16 @@ with_offset (Some o) r =
       offset_is_negative = false;
     }
 
--- the record of what a text says, with what stands for what it doesn't say
+-- the record of a text, with defaults for what it omits
 abbrev pub completed : ℕ → Defaults → Record → Record
 completed Y defaults r = with_offset defaults.offset (with_year Y defaults.year r)
 
--- The moment of such a record.
+-- The moment of a record with defaults.
 abbrev pub IsCompleted : ℕ → Defaults → Resolving OffsetDateTime
 IsCompleted Y defaults r = IsMoment Y (completed Y defaults r)
 
--- what a text says by a format with what stands for what the text doesn't say
-abbrev pub IsReadWith : ℕ → Bool → Outcome.Reading → Refusing → List ℕ → Defaults → Result Said Refusal → Type 0
+-- the match of a text by a format, with defaults for what it omits
+abbrev pub IsReadWith : ℕ → Bool → Outcome.Reading → Refusing → List ℕ → Defaults → Result Match Refusal → Type 0
 IsReadWith Y true reads refuses text defaults result =
     (outcome : Result (OffsetDateTime × List ℕ) Refusal)
     × IsFront (IsCompleted Y defaults) reads refuses text empty outcome × (result ≡ front_of text outcome)
@@ -97,62 +97,62 @@ IsReadWith Y false reads refuses text defaults result =
     (outcome : Result OffsetDateTime Refusal)
     × IsOutcome (IsCompleted Y defaults) reads refuses text empty outcome × (result ≡ all_of text outcome)
 
--- how many bytes stand before the blanks at the end
+-- how many bytes come before the white space at the end
 abbrev pub before_blanks : List ℕ → ℕ
 before_blanks text = length text - suffix_len is_ascii_whitespace text
 
--- a moment that a text says, without the blanks at both ends of it
-abbrev pub said_bare : OffsetDateTime → List ℕ → Said
-said_bare v text = record {
+-- the match of a text as a moment, without white space at both ends
+abbrev pub bare_match : OffsetDateTime → List ℕ → Match
+bare_match v text = record {
   moment = v;
   start = prefix_len is_ascii_whitespace text;
   length = before_blanks (drop (prefix_len is_ascii_whitespace text) text);
 }
 
--- what is said by the front of a text, without the blanks at both ends of that front
-abbrev pub bare : List ℕ → Said → Said
-bare text s = said_bare s.moment (take s.length text)
+-- a match without white space at both ends of its bytes
+abbrev pub bare : List ℕ → Match → Match
+bare text s = bare_match s.moment (take s.length text)
 
--- the same of a result, where it is open
-abbrev pub bare_where : Bool → List ℕ → Result Said Refusal → Result Said Refusal
+-- a result without white space around its match, if `is_prefix` is true
+abbrev pub bare_where : Bool → List ℕ → Result Match Refusal → Result Match Refusal
 bare_where true text (Ok s) = Ok (bare text s)
 bare_where true text (Err e) = Err e
 bare_where false text result = result
 
--- The same by RFC 2822. It has blanks before a date and after it, and where it is open they don't count.
-abbrev pub IsReadMail : ℕ → Bool → List ℕ → Result Said Refusal → Type 0
-IsReadMail Y is_open text result =
-    (padded : Result Said Refusal)
-    × IsReadBy Y is_open (direct (RefusesRfc2822 Y)) (Rfc2822.Reads Y) (Rfc2822.Refuses Y) text padded
-    × (result ≡ bare_where is_open text padded)
+-- The match of a mail date, RFC 2822, which may have white space around it. If `is_prefix` is true the match leaves that out.
+abbrev pub IsReadMail : ℕ → Bool → List ℕ → Result Match Refusal → Type 0
+IsReadMail Y is_prefix text result =
+    (padded : Result Match Refusal)
+    × IsReadBy Y is_prefix (direct (RefusesRfc2822 Y)) (Rfc2822.Reads Y) (Rfc2822.Refuses Y) text padded
+    × (result ≡ bare_where is_prefix text padded)
 
--- what a front of a text says by RFC 3339
-abbrev pub IsReadInFront : ℕ → List ℕ → Result Said Refusal → Type 0
+-- the match of a prefix of a text by RFC 3339
+abbrev pub IsReadInFront : ℕ → List ℕ → Result Match Refusal → Type 0
 IsReadInFront Y = IsReadBy Y true (direct (RefusesRfc3339 Y)) (Rfc3339.Reads Y) (Rfc3339.Refuses Y)
 
--- The same by any of the formats; of a text with a suffix, the time before that. A text of RFC 3339, of RFC 2822 or of
--- a complete description says all of a moment, so that defaults don't count.
-abbrev pub IsRead : ℕ → Reading → Bool → List ℕ → Defaults → Result Said Refusal → Type 0
-IsRead Y reading.Rfc3339 is_open text defaults =
-    IsReadBy Y is_open (direct (RefusesRfc3339 Y)) (Rfc3339.Reads Y) (Rfc3339.Refuses Y) text
-IsRead Y (reading.Zoned zones) is_open text defaults = IsReadInFront Y text
-IsRead Y reading.Rfc2822 is_open text defaults = IsReadMail Y is_open text
-IsRead Y reading.Iso8601 is_open text defaults =
-    IsReadWith Y is_open (Iso8601.Reads Y) (Iso8601.Refuses Y) text defaults
-IsRead Y (reading.Described d) is_open text defaults =
-    IsReadWith Y is_open (Description.Reads Y (steps_shape d)) (Description.Refuses Y (steps_shape d)) text defaults
-IsRead Y (reading.Complete d) is_open text defaults =
-    IsReadBy Y is_open over_record (Description.Reads Y (steps_shape d)) (Description.Refuses Y (steps_shape d)) text
-IsRead Y (reading.Counted d) is_open text defaults =
-    IsReadWith Y is_open (Description.Reads Y (steps_shape d)) (Description.Refuses Y (steps_shape d)) text defaults
+-- The match by any of the formats; for RFC 9557, that of the text before the suffix. RFC 3339, RFC 2822 and a complete
+-- description give all of a moment, so defaults don't count for them.
+abbrev pub IsRead : ℕ → Reading → Bool → List ℕ → Defaults → Result Match Refusal → Type 0
+IsRead Y reading.Rfc3339 is_prefix text defaults =
+    IsReadBy Y is_prefix (direct (RefusesRfc3339 Y)) (Rfc3339.Reads Y) (Rfc3339.Refuses Y) text
+IsRead Y (reading.Zoned zones) is_prefix text defaults = IsReadInFront Y text
+IsRead Y reading.Rfc2822 is_prefix text defaults = IsReadMail Y is_prefix text
+IsRead Y reading.Iso8601 is_prefix text defaults =
+    IsReadWith Y is_prefix (Iso8601.Reads Y) (Iso8601.Refuses Y) text defaults
+IsRead Y (reading.Described d) is_prefix text defaults =
+    IsReadWith Y is_prefix (Description.Reads Y (steps_shape d)) (Description.Refuses Y (steps_shape d)) text defaults
+IsRead Y (reading.Complete d) is_prefix text defaults =
+    IsReadBy Y is_prefix over_record (Description.Reads Y (steps_shape d)) (Description.Refuses Y (steps_shape d)) text
+IsRead Y (reading.Counted d) is_prefix text defaults =
+    IsReadWith Y is_prefix (Description.Reads Y (steps_shape d)) (Description.Refuses Y (steps_shape d)) text defaults
 
--- a front of a text says a record over another, by a format that has no zones and may leave parts of a moment out
+-- a prefix of a text parses into a record, by a format without zones that may omit parts of a moment
 abbrev pub ReadsRecord : ℕ → Reading → Outcome.Reading
 ReadsRecord Y reading.Iso8601 text base rest r = Iso8601.Reads Y text base rest r
 ReadsRecord Y (reading.Described d) text base rest r = Description.Reads Y (steps_shape d) text base rest r
 ReadsRecord Y format text base rest r = ⊥
 
--- the zones by whose names a suffix may stand behind a time
+-- the zones that a suffix may name
 abbrev pub zones_of : Reading → Option Zones
 zones_of (reading.Zoned zones) = Some zones
 zones_of reading.Rfc3339 = None
@@ -162,7 +162,7 @@ zones_of (reading.Described d) = None
 zones_of (reading.Complete d) = None
 zones_of (reading.Counted d) = None
 
--- whether a fraction after a minus is refused
+-- whether a fraction after a minus is rejected
 abbrev pub is_counted : Reading → Bool
 is_counted reading.Rfc3339 = false
 is_counted (reading.Zoned zones) = false
@@ -172,146 +172,135 @@ is_counted (reading.Described d) = false
 is_counted (reading.Complete d) = false
 is_counted (reading.Counted d) = true
 
--- a number begins with a minus, and has a point
+-- a number starts with a minus, and has a point
 abbrev pub is_negative_fraction : List ℕ → Bool
 is_negative_fraction number = slice_index number 0 == 45 && list_any (λ x. x == 46) number
 
--- what is refused beside what the format refuses
-abbrev pub guarded : Reading → List ℕ → Said → Result Said Reason
+-- a match, unless a further rule of the format rejects it
+abbrev pub guarded : Reading → List ℕ → Match → Result Match Reason
 guarded format text s =
     if is_counted format && is_negative_fraction (take s.length text) then Err negative_fraction else Ok s
 
--- the same, where a suffix may stand behind what is said
-abbrev pub IsGuarded : Reading → Bool → List ℕ → Said → Result Said Reason → Type 0
-IsGuarded format is_open text s result =
-    MatchOption (zones_of format) (result ≡ guarded format text s) (λ zones. IsSuffixed zones is_open text s result)
+-- that result, where a suffix may follow the match
+abbrev pub IsGuarded : Reading → Bool → List ℕ → Match → Result Match Reason → Type 0
+IsGuarded format is_prefix text s result =
+    MatchOption (zones_of format) (result ≡ guarded format text s) (λ zones. IsSuffixed zones is_prefix text s result)
 
--- what a text says by RFC 3339 with a suffix, or why it says nothing
-abbrev pub SaysZoned : ℕ → Zones → Bool → List ℕ → Result Said Reason → Type 0
-SaysZoned Y zones is_open text result =
-    (front : Result Said Refusal) × IsReadInFront Y text front
-    × MatchResult front (λ s. IsSuffixed zones is_open text s result) (λ e. result ≡ Err (unread e))
+-- the match of a text by RFC 3339 with a suffix, or an error
+abbrev pub ParsesZoned : ℕ → Zones → Bool → List ℕ → Result Match Reason → Type 0
+ParsesZoned Y zones is_prefix text result =
+    (front : Result Match Refusal) × IsReadInFront Y text front
+    × MatchResult front (λ s. IsSuffixed zones is_prefix text s result) (λ e. result ≡ Err (unread e))
 
--- what a text says by a format, or why it says nothing
-abbrev pub Says : ℕ → Reading → Bool → List ℕ → Defaults → Result Said Reason → Type 0
-Says Y format is_open text defaults result =
-    (outcome : Result Said Refusal) × IsRead Y format is_open text defaults outcome
-    × MatchResult outcome (λ s. IsGuarded format is_open text s result) (λ e. result ≡ Err (unread e))
+-- the match of a text by a format, or an error
+abbrev pub ParsesAs : ℕ → Reading → Bool → List ℕ → Defaults → Result Match Reason → Type 0
+ParsesAs Y format is_prefix text defaults result =
+    (outcome : Result Match Refusal) × IsRead Y format is_prefix text defaults outcome
+    × MatchResult outcome (λ s. IsGuarded format is_prefix text s result) (λ e. result ≡ Err (unread e))
 
--- what is said by such an outcome, without why nothing is
-abbrev pub IsSaid : {E : Type 0} → (Result Said E → Type 0) → Option Said → Type 0
-IsSaid {E} IsSuch None = (why : E) × IsSuch (Err why)
-IsSaid IsSuch (Some s) = IsSuch (Ok s)
-
--- the same defaults with that offset
+-- the defaults with that offset
 abbrev pub at_offset : UtcOffset → Defaults → Defaults
 at_offset o d = record { year = d.year; offset = Some o; clocks = None; latest = None }
 
--- What a text says by a format on the clocks of a zone: what it says at the offset that they have when they show the
--- date and time that it says in UTC.
-abbrev pub SaysOn : ℕ → Clocks → Reading → Bool → List ℕ → Defaults → Result Said Reason → Type 0
-SaysOn Y clocks format is_open text defaults result =
+-- The match of a text as a local time in a zone: parsed at the offset that the zone has at the date and time of the
+-- text in UTC.
+abbrev pub ParsesInZone : ℕ → Clocks → Reading → Bool → List ℕ → Defaults → Result Match Reason → Type 0
+ParsesInZone Y clocks format is_prefix text defaults result =
     (utc : UtcOffset) × IsUtc utc
-    × (shown : Result Said Reason) × Says Y format is_open text (at_offset utc defaults) shown
+    × (shown : Result Match Reason) × ParsesAs Y format is_prefix text (at_offset utc defaults) shown
     × MatchResult shown
     (λ s. (offset : Result UtcOffset Reason) × IsOffsetWhen clocks s.moment offset
-    × MatchResult offset (λ o. Says Y format is_open text (at_offset o defaults) result) (λ why. result ≡ Err why))
+    × MatchResult offset (λ o. ParsesAs Y format is_prefix text (at_offset o defaults) result) (λ why. result ≡ Err why))
     (λ why. result ≡ Err why)
 
--- What a text says by a format; where it says nothing so, it may leave its offset to the clocks of a zone.
-abbrev pub SaysLocally : ℕ → Reading → Bool → List ℕ → Defaults → Result Said Reason → Type 0
-SaysLocally Y format is_open text defaults result =
-    (plain : Result Said Reason) × Says Y format is_open text defaults plain
+-- The match of a text by a format; if the format rejects it, as a local time in the zone of the defaults.
+abbrev pub ParsesLocally : ℕ → Reading → Bool → List ℕ → Defaults → Result Match Reason → Type 0
+ParsesLocally Y format is_prefix text defaults result =
+    (plain : Result Match Reason) × ParsesAs Y format is_prefix text defaults plain
     × MatchResult plain (λ s. result ≡ Ok s)
     (λ reason. MatchOption defaults.clocks (result ≡ Err reason)
-    (λ clocks. SaysOn Y clocks format is_open text defaults result))
+    (λ clocks. ParsesInZone Y clocks format is_prefix text defaults result))
 
--- the one moment lies after the other
+-- the first moment is after the second
 abbrev pub is_after : ℕ → OffsetDateTime → OffsetDateTime → Bool
 is_after Y v w = int_lt (offset_instant Y w) (offset_instant Y v)
 
--- a text that is read by a format, the offset that stands for one that it leaves out, the clocks of a zone that do, and
--- the moment that it isn't after
+-- a text without a year, its format, the default offset or the zone for local times, and the latest moment that it may
+-- mean
 pub record Undated : Type 0 where
   pub format : Reading
-  pub is_open : Bool
+  pub is_prefix : Bool
   pub text : List ℕ
   pub offset : Option UtcOffset
   pub clocks : Option Clocks
   pub latest : OffsetDateTime
 
 abbrev pub undated : Reading → Bool → List ℕ → Option UtcOffset → Option Clocks → OffsetDateTime → Undated
-undated format is_open text offset clocks latest =
-    record { format = format; is_open = is_open; text = text; offset = offset; clocks = clocks; latest = latest }
+undated format is_prefix text offset clocks latest =
+    record { format = format; is_prefix = is_prefix; text = text; offset = offset; clocks = clocks; latest = latest }
 
--- the same of a value
-abbrev pub seen_undated : declared.Undated → Undated
-seen_undated u = undated u.reading.now u.is_open u.text.now u.offset u.clocks u.latest
+-- the value without its addresses
+abbrev pub erased_undated : declared.Undated → Undated
+erased_undated u = undated u.reading.now u.is_prefix u.text.now u.offset u.clocks u.latest
 
--- the year after that of a moment on its clock
+-- the year after that of a moment at its own offset
 abbrev pub year_after : OffsetDateTime → ℤ
 year_after v = Dates.year (offset_date v) +ℤ pos 1
 
--- that year, and that offset or those clocks
+-- the defaults with that year, and that offset or that zone
 abbrev pub in_year : ℤ → Option UtcOffset → Option Clocks → Defaults
 in_year year offset clocks = record { year = Some year; offset = offset; clocks = clocks; latest = None }
 
--- what a text says in a year
-abbrev pub IsReadInYear : ℕ → Undated → ℤ → Result Said Reason → Type 0
-IsReadInYear Y u year = SaysLocally Y u.format u.is_open u.text (in_year year u.offset u.clocks)
+-- the match of a text with that year
+abbrev pub IsReadInYear : ℕ → Undated → ℤ → Result Match Reason → Type 0
+IsReadInYear Y u year = ParsesLocally Y u.format u.is_prefix u.text (in_year year u.offset u.clocks)
 
--- the clocks of a zone refuse a date and time
-abbrev pub is_of_clocks : Reason → Bool
-is_of_clocks left_out = true
-is_of_clocks (shown_twice offsets) = true
-is_of_clocks reason = false
-
--- a moment that is said and isn't too late
-abbrev pub is_early : ℕ → OffsetDateTime → Result Said Reason → Bool
+-- a match that isn't too late
+abbrev pub is_early : ℕ → OffsetDateTime → Result Match Reason → Bool
 is_early Y latest (Ok s) = not (is_after Y s.moment latest)
 is_early Y latest (Err why) = false
 
--- Whether a text says in a year, at the offset of the given moment, one that isn't after that.
+-- Whether the text, with that year and at the offset of the latest moment, is a moment that isn't after it.
 abbrev pub IsEarly : ℕ → Undated → ℤ → Bool → Type 0
 IsEarly Y u year early =
-    (shown : Result Said Reason)
-    × Says Y u.format u.is_open u.text (at_offset (offset_of u.latest) (in_year year u.offset u.clocks)) shown
+    (shown : Result Match Reason)
+    × ParsesAs Y u.format u.is_prefix u.text (at_offset (offset_of u.latest) (in_year year u.offset u.clocks)) shown
     × (early ≡ is_early Y u.latest shown)
 
--- Whether no year before one is tried: the clocks of a zone refuse a date and time that isn't too late.
+-- Whether no earlier year is tried: the zone rejects a local time that isn't too late.
 abbrev pub IsFinal : ℕ → Undated → ℤ → Reason → Bool → Type 0
-IsFinal Y u year why final = MatchBool (is_of_clocks why) (IsEarly Y u year final) (final ≡ false)
+IsFinal Y u year why final = MatchBool (is_local_time_error why) (IsEarly Y u year final) (final ≡ false)
 
--- What it says in the first of so many years, from that one down, in which it says a moment that isn't too late, or the
--- clocks of a zone refuse such a one; or else the last reason.
-unfoldable pub AreYearsTried : ℕ → Undated → ℕ → ℤ → Reason → Result Said Reason → Type 0
+-- The match with the first of `count` years, from that one down, that gives a moment that isn't too late, or for which
+-- the zone rejects such a moment; otherwise the last reason.
+unfoldable pub AreYearsTried : ℕ → Undated → ℕ → ℤ → Reason → Result Match Reason → Type 0
 AreYearsTried Y u zero year reason result = result ≡ Err reason
 AreYearsTried Y u (suc n) year reason result =
-    (read : Result Said Reason) × IsReadInYear Y u year read
+    (read : Result Match Reason) × IsReadInYear Y u year read
     × MatchResult read
     (λ s. MatchBool (is_after Y s.moment u.latest) (AreYearsTried Y u n (year -ℤ pos 1) reason result) (result ≡ Ok s))
     (λ why. (final : Bool) × IsFinal Y u year why final
     × MatchBool final (result ≡ Err why) (AreYearsTried Y u n (year -ℤ pos 1) why result))
 
--- What a text says by a format; where it says nothing so, it may leave its year out, and says the latest moment that
--- isn't after a given one.
-abbrev pub IsDated : ℕ → Reading → Bool → List ℕ → Defaults → Result Said Reason → Type 0
-IsDated Y format is_open text defaults result =
-    (plain : Result Said Reason) × SaysLocally Y format is_open text defaults plain
+-- The match of a text by a format; a text that the format rejects may omit its year, and then means the latest moment
+-- that isn't after a given one.
+abbrev pub IsDated : ℕ → Reading → Bool → List ℕ → Defaults → Result Match Reason → Type 0
+IsDated Y format is_prefix text defaults result =
+    (plain : Result Match Reason) × ParsesLocally Y format is_prefix text defaults plain
     × MatchResult plain (λ s. result ≡ Ok s)
     (λ reason. MatchOption defaults.latest (result ≡ Err reason)
-    (λ latest. AreYearsTried Y (undated format is_open text defaults.offset defaults.clocks latest)
+    (λ latest. AreYearsTried Y (undated format is_prefix text defaults.offset defaults.clocks latest)
     10 (year_after latest) reason result))
 
--- what it says by the first of these formats by which it says something, or else that reason
-abbrev pub AreTried : ℕ → List Reading → Bool → List ℕ → Defaults → Reason → Result Said Reason → Type 0
-AreTried Y [] is_open text defaults reason result = result ≡ Err reason
-AreTried Y (format ∷ formats) is_open text defaults reason result =
-    (first : Result Said Reason) × IsDated Y format is_open text defaults first
-    × MatchResult first (λ s. result ≡ Ok s) (λ _. AreTried Y formats is_open text defaults reason result)
+-- the match of the first of these formats that has one, otherwise that reason
+abbrev pub AreTried : ℕ → List Reading → Bool → List ℕ → Defaults → Reason → Result Match Reason → Type 0
+AreTried Y [] is_prefix text defaults reason result = result ≡ Err reason
+AreTried Y (format ∷ formats) is_prefix text defaults reason result =
+    (first : Result Match Reason) × IsDated Y format is_prefix text defaults first
+    × MatchResult first (λ s. result ≡ Ok s) (λ _. AreTried Y formats is_prefix text defaults reason result)
 
--- the same, where the reason is that of the first format
-abbrev pub IsReadInTurn : ℕ → Reading → List Reading → Bool → List ℕ → Defaults → Result Said Reason → Type 0
-IsReadInTurn Y format formats is_open text defaults result =
-    (first : Result Said Reason) × IsDated Y format is_open text defaults first
-    × MatchResult first (λ s. result ≡ Ok s) (λ reason. AreTried Y formats is_open text defaults reason result)
+-- the match of the first of the formats that has one, otherwise the reason of the first format
+abbrev pub IsReadInTurn : ℕ → Reading → List Reading → Bool → List ℕ → Defaults → Result Match Reason → Type 0
+IsReadInTurn Y format formats is_prefix text defaults result =
+    (first : Result Match Reason) × IsDated Y format is_prefix text defaults first
+    × MatchResult first (λ s. result ≡ Ok s) (λ reason. AreTried Y formats is_prefix text defaults reason result)

@@ -1,32 +1,33 @@
-//! The clock on which a time is shown, and times with a suffix of RFC 9557, section 4.1.
+//! The offset or zone that a moment is written in, and timestamps with a suffix of RFC 9557, section 4.1.
 ghost use Rattle.std.specs.Prelude.{◌≡◌, ◌≤◌, ◌+◌, length, IfOk};
 ghost use Rattle.time_values.specs.Calendar.{greatest_year};
 ghost use Rattle.restamp_verdict.specs.Zoned as spec;
-ghost use Rattle.restamp_verdict.specs.Reason.{seen, seen_read};
+ghost use Rattle.restamp_verdict.specs.Reason.{Gives, seen};
 ghost use Rattle.restamp_verdict.specs.declared.clock.Clock.TheVariants as clock;
-ghost use Rattle.restamp_verdict.specs.Reading.{SaysZoned};
+ghost use Rattle.restamp_verdict.specs.Reading.{ParsesZoned};
 
-use crate::reading::{Said, read_front_3339};
+use crate::brief::FromReason;
+use crate::reading::{Match, read_front_3339};
 use crate::reason::Reason;
 use time_values::error::{Parse, ParseFromDescription};
 use time_values::{OffsetDateTime, UtcOffset};
 use time_zones::{TimeZone, Zones, check_suffix, checked_to_zone, read_suffix};
 
-/// The clock on which a time is shown.
+/// The offset that a moment is converted to before it is written.
 #[derive(Clone, Copy)]
 pub enum Clock<'a> {
-    /// The one that has its own offset.
+    /// Its own offset.
     Own,
-    /// One with this offset.
+    /// This offset.
     Fixed(UtcOffset),
-    /// That of a time zone, with the offset that the zone has at the moment.
+    /// The offset that a time zone has at the moment.
     Zone(TimeZone<'a>),
 }
 
-// The moment on a clock with the offset.
+// Converts the moment to the offset; `None` if it has no date there.
 #[inline(always)]
 fn shown_at(moment: OffsetDateTime, offset: UtcOffset) -> Option<OffsetDateTime>
-    ensures { spec.IsShown greatest_year (clock.Fixed offset) moment result }
+    ensures { spec.IsConverted greatest_year (clock.Fixed offset) moment result }
 {
     if moment.offset() == offset {
         return Some(moment);
@@ -34,89 +35,98 @@ fn shown_at(moment: OffsetDateTime, offset: UtcOffset) -> Option<OffsetDateTime>
     moment.checked_to_offset(offset)
 }
 
-// The moment on the clocks of the zone. It isn't inlined, so that it takes no place where a line needs no zone.
+// Converts the moment to local time in the zone. Not inlined, so that it needs no stack for lines without a zone.
 #[inline(never)]
-fn shown_in(moment: OffsetDateTime, zone: &TimeZone<'_>) -> Option<OffsetDateTime>
-    ensures { spec.IsShown greatest_year (clock.Zone zone.now) moment result }
+fn converted_in(moment: OffsetDateTime, zone: &TimeZone<'_>) -> Option<OffsetDateTime>
+    ensures { spec.IsConverted greatest_year (clock.Zone zone.now) moment result }
 {
     checked_to_zone(moment, zone)
 }
 
 impl Clock<'_> {
-    /// The moment on this clock, or `None` where a clock with the offset shows no date, or no zone tells of the moment.
+    /// Converts the moment to this clock; `None` if it has no date at the offset, or the zone's range excludes it.
     #[inline(always)]
     pub(crate) fn show(&self, moment: OffsetDateTime) -> Option<OffsetDateTime>
-        ensures { spec.IsShown greatest_year self.now moment result }
+        ensures { spec.IsConverted greatest_year self.now moment result }
     {
         match self {
             Clock::Own => Some(moment),
             Clock::Fixed(offset) => shown_at(moment, *offset),
-            Clock::Zone(zone) => shown_in(moment, zone),
+            Clock::Zone(zone) => converted_in(moment, zone),
         }
     }
 
-    /// Why a moment isn't shown on this clock.
+    /// The reason why a moment can't be converted to this clock.
     #[inline(always)]
-    pub(crate) fn why_unshown(&self) -> Reason
-        ensures { seen result ≡ spec.why_unshown self.now }
+    pub(crate) fn conversion_error(&self) -> Reason
+        ensures { seen result ≡ spec.conversion_error self.now }
     {
         match self {
             Clock::Own | Clock::Fixed(_) => Reason::OutOfRange,
-            Clock::Zone(_) => Reason::Untold,
+            Clock::Zone(_) => Reason::OutsideZoneRange,
         }
     }
 }
 
-// The refusal of bytes that are left behind a whole text.
+// The error for bytes after a whole text.
 const TRAILING: Parse = Parse::ParseFromDescription(
     ParseFromDescription::UnexpectedTrailingCharacters,
 );
 
-// Whether a time of RFC 3339 tells its offset. `Z` and `-00:00` say nothing of the offset of a zone.
+// Whether a text of RFC 3339 has a known offset. `Z` and `-00:00` leave the offset of a zone unknown.
 fn tells_offset(front: &[u8]) -> bool
     ensures { result ≡ spec.tells_offset front.now }
 {
     !(front.ends_with(b"Z") || front.ends_with(b"z") || front.ends_with(b"-00:00"))
 }
 
-// Whether bytes are left behind a time that ends there, where none may be.
-fn has_tail(is_open: bool, text: &[u8], end: usize) -> bool
-    ensures { result ≡ spec.has_tail is_open text.now end }
+// Whether bytes follow a timestamp that ends there, though none may.
+fn has_tail(is_prefix: bool, text: &[u8], end: usize) -> bool
+    ensures { result ≡ spec.has_tail is_prefix text.now end }
 {
-    !is_open && end < text.len()
+    !is_prefix && end < text.len()
 }
 
-// What a text says whose front says that moment: the same with the longest suffix behind it. Where the text isn't open,
-// bytes behind that are refused.
-fn with_suffix(zones: &Zones, is_open: bool, text: &[u8], front: Said) -> Result<Said, Reason>
+// Extends the match of a prefix by the longest suffix after it. An error if the zone or a critical tag of the suffix
+// rejects the moment, or, unless `is_prefix` is true, if more bytes follow.
+fn with_suffix<E: FromReason>(
+    zones: &Zones,
+    is_prefix: bool,
+    text: &[u8],
+    front: Match,
+) -> Result<Match, E>
     requires { front.length ≤ length text.now }
-    ensures said { spec.IsSuffixed zones.now is_open text.now front (seen_read result) }
+    ensures said { Gives E.is_of (spec.IsSuffixed zones.now is_prefix text.now front) result }
     ensures within { IfOk result (λ said. said.start + said.length ≤ length text.now) }
 {
     let suffix = read_suffix(&text[front.length..]);
     let end = front.length + suffix.len;
-    if has_tail(is_open, text, end) {
-        return Err(Reason::Unread(TRAILING));
+    if has_tail(is_prefix, text, end) {
+        return Err(E::from_reason(Reason::Unread(TRAILING)));
     }
     let tells_offset = tells_offset(&text[..front.length]);
     match check_suffix(&suffix, front.moment, tells_offset, zones) {
-        Ok(()) => Ok(Said {
+        Ok(()) => Ok(Match {
             moment: front.moment,
             start: 0,
             length: end,
         }),
-        Err(fault) => Err(Reason::Suffix(fault)),
+        Err(fault) => Err(E::from_reason(Reason::Suffix(fault))),
     }
 }
 
-/// What a text says by RFC 3339 with a suffix. It isn't inlined, so that it takes no place where no time has one.
+/// Parses a text of RFC 3339 with a suffix. Not inlined, so that it needs no stack where no timestamp has one.
 #[inline(never)]
-pub(crate) fn read_zoned(zones: &Zones, is_open: bool, text: &[u8]) -> Result<Said, Reason>
-    ensures said { SaysZoned greatest_year zones.now is_open text.now (seen_read result) }
+pub(crate) fn read_zoned<E: FromReason>(
+    zones: &Zones,
+    is_prefix: bool,
+    text: &[u8],
+) -> Result<Match, E>
+    ensures said { Gives E.is_of (ParsesZoned greatest_year zones.now is_prefix text.now) result }
     ensures within { IfOk result (λ said. said.start + said.length ≤ length text.now) }
 {
     match read_front_3339(text) {
-        Ok(front) => with_suffix(zones, is_open, text, front),
-        Err(error) => Err(Reason::Unread(error)),
+        Ok(front) => with_suffix(zones, is_prefix, text, front),
+        Err(error) => Err(E::from_reason(Reason::Unread(error))),
     }
 }

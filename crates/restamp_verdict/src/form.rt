@@ -1,16 +1,16 @@
-//! How a time is written.
-ghost use Rattle.std.specs.Prelude.{◌≡◌, ◌≤◌, length, codes, MatchOption, MatchResult};
+//! How a moment is written.
+ghost use Rattle.std.specs.Prelude.{◌≡◌, ◌≤◌, length, MatchOption};
 ghost use Rattle.std.specs.Fmt.{signed_decimal};
 ghost use Rattle.time_values.specs.Calendar.{greatest_year};
-ghost use Rattle.time_descriptions.specs.Description.{shape};
-ghost use Rattle.time_formatting.specs.Texts.{text_of};
 ghost use Rattle.restamp_verdict.specs.Form as spec;
 ghost use Rattle.time_values.specs.Instants.{IsInstant, IsWhole};
 ghost use Rattle.time_values.specs.Moments.{nanoseconds, offset_instant};
-ghost use Rattle.restamp_verdict.specs.declared.form.Unit.TheVariants.{Milliseconds, Microseconds, Nanoseconds};
+ghost use Rattle.restamp_verdict.specs.declared.form.Unit.TheVariants.{Seconds, Milliseconds, Microseconds, Nanoseconds};
+ghost use Rattle.restamp_verdict.specs.declared.form.Named.TheVariants.{Rfc2822, Iso8601};
 ghost use Rattle.restamp_verdict.specs.declared.form.Writing.TheVariants as writing;
-ghost use Rattle.restamp_verdict.specs.Reason.{out_of_range, seen, seen_written};
+ghost use Rattle.restamp_verdict.specs.Reason.{Stores, erased_written};
 
+use crate::brief::FromReason;
 use crate::clock::Clock;
 use crate::reading::MOST_STEPS;
 use crate::reason::Reason;
@@ -19,12 +19,12 @@ use time_formatting::format;
 use time_values::{OffsetDateTime, Timestamp};
 use time_writing::{FractionDigits, Text, Unwritable, text_2822, text_3339, text_8601};
 
-// The first second of the first day in UTC, and the last one of the last day, since 1970-01-01T00:00:00Z.
+// The first and the last second of all dates in UTC, counted from 1970-01-01T00:00:00Z.
 const FIRST_SECOND: i64 = -31_619_087_596_800;
 
 const LAST_SECOND: i64 = 31_494_784_780_799;
 
-/// What is counted since 1970-01-01T00:00:00Z.
+/// The unit of a count from 1970-01-01T00:00:00Z.
 #[derive(Clone, Copy, Debug, PartialEq, Eq)]
 pub enum Unit {
     /// Whole seconds, rounded down.
@@ -37,12 +37,12 @@ pub enum Unit {
     Nanoseconds,
 }
 
-/// A format that has a name.
+/// A format with a name.
 #[derive(Clone, Copy, Debug, PartialEq, Eq)]
 pub enum Named {
     /// RFC 3339.
     Rfc3339,
-    /// A mail date, RFC 2822, which has no fraction.
+    /// A mail date, RFC 2822, without a fraction.
     Rfc2822,
     /// ISO 8601 with nine digits of a fraction.
     Iso8601,
@@ -50,40 +50,43 @@ pub enum Named {
     Count(Unit),
 }
 
-/// The format that a time is written by.
+/// The format that a moment is written in.
 #[derive(Drop)]
 pub enum Writing {
-    /// One that has a name.
+    /// A format with a name.
     Named(Named),
-    /// By a description.
+    /// A description.
     Described(Description<MOST_STEPS>),
 }
 
-/// All that says how a time is written.
+/// All that determines how a moment is written.
 #[derive(Clone, Copy)]
 pub struct Form<'a> {
     /// The format.
     pub writing: &'a Writing,
-    /// How many digits of a fraction RFC 3339 has.
+    /// How many digits the fraction of RFC 3339 has.
     pub digits: FractionDigits,
-    /// The clock on which the time is shown.
+    /// The offset or zone that the moment is converted to.
     pub clock: Clock<'a>,
 }
 
-// A text, or that there is none.
+// Stores a text, or returns what is kept of the reason why the moment has no text.
 #[inline(always)]
-fn written(text: Result<Text, Unwritable>) -> Result<Text, Reason>
-    ensures { seen_written result ≡ spec.written text }
+fn store<E: FromReason>(written: Result<Text, Unwritable>, text: &mut Text) -> Result<(), E>
+    ensures { Stores E.is_of (λ given. given ≡ spec.written written) result text.new }
 {
-    match text {
-        Ok(text) => Ok(text),
-        Err(why) => Err(Reason::Unwritable(why)),
+    match written {
+        Ok(found) => {
+            *text = found;
+            Ok(())
+        }
+        Err(why) => Err(E::from_reason(Reason::Unwritable(why))),
     }
 }
 
-/// A number that has at most 64 bits.
+// A number of at most 64 bits.
 #[inline(always)]
-pub(crate) fn number(count: i64) -> Text
+fn number(count: i64) -> Text
     ensures { result.items ≡ signed_decimal count }
 {
     let mut buffer = itoa::Buffer::new();
@@ -103,9 +106,9 @@ fn wide_number(count: i128) -> Text
     text
 }
 
-/// The whole seconds of the moment since 1970, if it has a date in UTC. They cost far less than its nanoseconds.
+// The whole seconds of the moment since 1970; `None` if it has no date in UTC. Much cheaper than its nanoseconds.
 #[inline(always)]
-pub(crate) fn seconds_of(moment: OffsetDateTime) -> Option<i64>
+fn seconds_of(moment: OffsetDateTime) -> Option<i64>
     ensures { MatchOption result (¬ IsInstant greatest_year (offset_instant greatest_year moment))
         (λ z. IsInstant greatest_year (offset_instant greatest_year moment)
         × IsWhole 1_000_000_000 (offset_instant greatest_year moment) z) }
@@ -120,20 +123,19 @@ pub(crate) fn seconds_of(moment: OffsetDateTime) -> Option<i64>
     Some(seconds)
 }
 
-// Its nanoseconds since 1970, if it has a date in UTC.
-fn stamp_of(moment: OffsetDateTime) -> Result<Timestamp, Reason>
-    ensures { MatchResult result
+// The nanoseconds of the moment since 1970; `None` if it has no date in UTC.
+fn stamp_of(moment: OffsetDateTime) -> Option<Timestamp>
+    ensures { MatchOption result (¬ IsInstant greatest_year (offset_instant greatest_year moment))
         (λ stamp. IsInstant greatest_year (offset_instant greatest_year moment)
-        × (nanoseconds stamp ≡ offset_instant greatest_year moment))
-        (λ e. (seen e ≡ out_of_range) × (¬ IsInstant greatest_year (offset_instant greatest_year moment))) }
+        × (nanoseconds stamp ≡ offset_instant greatest_year moment)) }
 {
     match moment.checked_to_utc() {
-        Some(utc) => Ok(Timestamp::from(utc)),
-        None => Err(Reason::OutOfRange),
+        Some(utc) => Some(Timestamp::from(utc)),
+        None => None,
     }
 }
 
-// The whole milliseconds of the moment since 1970, if it has a date in UTC, with no number of more than 64 bits.
+// The whole milliseconds of the moment since 1970, without numbers of more than 64 bits; `None` if it has no date in UTC.
 #[inline(always)]
 fn milliseconds_of(moment: OffsetDateTime) -> Option<i64>
     ensures { MatchOption result (¬ IsInstant greatest_year (offset_instant greatest_year moment))
@@ -144,104 +146,175 @@ fn milliseconds_of(moment: OffsetDateTime) -> Option<i64>
     Some(seconds * 1_000 + i64::from(moment.time().nanosecond() / 1_000_000))
 }
 
-// Its milliseconds since 1970. None of these is inlined, so that their results take no place where seconds are written.
+// Stores the moment's milliseconds since 1970. This and the next two aren't inlined, so that their results need no
+// stack where seconds are written.
 #[inline(never)]
-fn write_milliseconds(moment: OffsetDateTime) -> Result<Text, Reason>
-    ensures { spec.IsCounted greatest_year Milliseconds moment (seen_written result) }
+fn write_milliseconds<E: FromReason>(moment: OffsetDateTime, text: &mut Text) -> Result<(), E>
+    ensures { Stores E.is_of (spec.IsCounted greatest_year Milliseconds moment) result text.new }
 {
-    match milliseconds_of(moment) {
-        Some(milliseconds) => Ok(number(milliseconds)),
-        None => Err(Reason::OutOfRange),
-    }
+    let Some(milliseconds) = milliseconds_of(moment) else {
+        return Err(E::from_reason(Reason::OutOfRange));
+    };
+    *text = number(milliseconds);
+    Ok(())
 }
 
-// Its microseconds since 1970.
+// Stores the moment's microseconds since 1970.
 #[inline(never)]
-fn write_microseconds(moment: OffsetDateTime) -> Result<Text, Reason>
-    ensures { spec.IsCounted greatest_year Microseconds moment (seen_written result) }
+fn write_microseconds<E: FromReason>(moment: OffsetDateTime, text: &mut Text) -> Result<(), E>
+    ensures { Stores E.is_of (spec.IsCounted greatest_year Microseconds moment) result text.new }
 {
-    Ok(wide_number(stamp_of(moment)?.as_microseconds()))
+    let Some(stamp) = stamp_of(moment) else {
+        return Err(E::from_reason(Reason::OutOfRange));
+    };
+    *text = wide_number(stamp.as_microseconds());
+    Ok(())
 }
 
-// Its nanoseconds since 1970.
+// Stores the moment's nanoseconds since 1970.
 #[inline(never)]
-fn write_nanoseconds(moment: OffsetDateTime) -> Result<Text, Reason>
-    ensures { spec.IsCounted greatest_year Nanoseconds moment (seen_written result) }
+fn write_nanoseconds<E: FromReason>(moment: OffsetDateTime, text: &mut Text) -> Result<(), E>
+    ensures { Stores E.is_of (spec.IsCounted greatest_year Nanoseconds moment) result text.new }
 {
-    Ok(wide_number(stamp_of(moment)?.nanoseconds()))
+    let Some(stamp) = stamp_of(moment) else {
+        return Err(E::from_reason(Reason::OutOfRange));
+    };
+    *text = wide_number(stamp.nanoseconds());
+    Ok(())
 }
 
-// The units of the moment since 1970.
+// Stores the moment's whole seconds since 1970.
 #[inline(always)]
-fn write_count(moment: OffsetDateTime, unit: Unit) -> Result<Text, Reason>
-    ensures { spec.IsCounted greatest_year unit moment (seen_written result) }
+fn write_seconds<E: FromReason>(moment: OffsetDateTime, text: &mut Text) -> Result<(), E>
+    ensures { Stores E.is_of (spec.IsCounted greatest_year Seconds moment) result text.new }
+{
+    let Some(seconds) = seconds_of(moment) else {
+        return Err(E::from_reason(Reason::OutOfRange));
+    };
+    *text = number(seconds);
+    Ok(())
+}
+
+// Stores the moment's count of a unit since 1970.
+#[inline(always)]
+fn write_count<E: FromReason>(moment: OffsetDateTime, unit: Unit, text: &mut Text) -> Result<(), E>
+    ensures { Stores E.is_of (spec.IsCounted greatest_year unit moment) result text.new }
 {
     match unit {
-        Unit::Seconds => match seconds_of(moment) {
-            Some(seconds) => Ok(number(seconds)),
-            None => Err(Reason::OutOfRange),
-        },
-        Unit::Milliseconds => write_milliseconds(moment),
-        Unit::Microseconds => write_microseconds(moment),
-        Unit::Nanoseconds => write_nanoseconds(moment),
+        Unit::Seconds => write_seconds(moment, text),
+        Unit::Milliseconds => write_milliseconds(moment, text),
+        Unit::Microseconds => write_microseconds(moment, text),
+        Unit::Nanoseconds => write_nanoseconds(moment, text),
     }
 }
 
-/// The text of the moment by a named format, or why it has none. It isn't inlined, so that its texts take no place beside
-/// one in line.
+// Stores a mail date. Neither this nor the next is inlined, so that their texts need no stack beside one of RFC 3339.
 #[inline(never)]
-pub(crate) fn write_shown(
+fn write_mail<E: FromReason>(
+    moment: OffsetDateTime,
+    digits: FractionDigits,
+    text: &mut Text,
+) -> Result<(), E>
+    ensures { Stores E.is_of (spec.IsNamedText greatest_year Rfc2822 digits moment) result text.new }
+{
+    store(text_2822(moment), text)
+}
+
+// Stores a text of ISO 8601.
+#[inline(never)]
+fn write_8601<E: FromReason>(
+    moment: OffsetDateTime,
+    digits: FractionDigits,
+    text: &mut Text,
+) -> Result<(), E>
+    ensures { Stores E.is_of (spec.IsNamedText greatest_year Iso8601 digits moment) result text.new }
+{
+    store(text_8601(moment), text)
+}
+
+// Stores the text of the moment by a named format, or returns what is kept of the reason why it has no text.
+#[inline(always)]
+fn write_shown<E: FromReason>(
     moment: OffsetDateTime,
     named: Named,
     digits: FractionDigits,
-) -> Result<Text, Reason>
-    ensures { spec.IsNamedText greatest_year named digits moment (seen_written result) }
+    text: &mut Text,
+) -> Result<(), E>
+    ensures { Stores E.is_of (spec.IsNamedText greatest_year named digits moment) result text.new }
 {
     match named {
-        Named::Rfc3339 => written(text_3339(moment, digits)),
-        Named::Rfc2822 => written(text_2822(moment)),
-        Named::Iso8601 => written(text_8601(moment)),
-        Named::Count(unit) => write_count(moment, unit),
+        Named::Rfc3339 => store(text_3339(moment, digits), text),
+        Named::Rfc2822 => write_mail(moment, digits, text),
+        Named::Iso8601 => write_8601(moment, digits, text),
+        Named::Count(unit) => write_count(moment, unit, text),
     }
 }
 
-// The text of the moment by a named format, shown on the clock, or why it has none.
-fn write_named(
+// Converts the moment to the clock, and stores its text by a named format.
+#[inline(always)]
+fn write_named<E: FromReason>(
     moment: OffsetDateTime,
     named: Named,
     digits: FractionDigits,
     clock: &Clock<'_>,
-) -> Result<Text, Reason>
-    ensures { spec.IsWrittenOn greatest_year (writing.Named named) digits clock.now moment (seen_written result) }
+    text: &mut Text,
+) -> Result<(), E>
+    ensures { Stores E.is_of (spec.IsWrittenOn greatest_year (writing.Named named) digits clock.now moment) result text.new }
 {
-    let Some(moment) = clock.show(moment) else {
-        return Err(clock.why_unshown());
-    };
-    write_shown(moment, named, digits)
-}
-
-// Its text by a description, or why it has none.
-fn write_described(
-    moment: OffsetDateTime,
-    description: &Description<MOST_STEPS>,
-) -> Result<Text, Reason>
-    ensures { seen_written result ≡ spec.described (text_of greatest_year moment (shape description.now)) }
-{
-    match format(moment, description.steps()) {
-        Ok(text) => Ok(text),
-        Err(why) => Err(Reason::Unformattable(why)),
+    match clock.show(moment) {
+        Some(shown) => write_shown(shown, named, digits, text),
+        None => Err(E::from_reason(clock.conversion_error())),
     }
 }
 
-/// The text of the moment, or why it has none.
-pub fn write_moment(moment: OffsetDateTime, form: &Form<'_>) -> Result<Text, Reason>
-    ensures { spec.IsWritten greatest_year form.now moment (seen_written result) }
+// Converts the moment to the clock, and stores its text by a description. Not inlined, so that its text needs no stack.
+#[inline(never)]
+fn write_described<E: FromReason>(
+    moment: OffsetDateTime,
+    description: &Description<MOST_STEPS>,
+    digits: FractionDigits,
+    clock: &Clock<'_>,
+    text: &mut Text,
+) -> Result<(), E>
+    ensures { Stores E.is_of (spec.IsWrittenOn greatest_year (writing.Described description.now) digits clock.now moment) result
+        text.new }
+{
+    let Some(shown) = clock.show(moment) else {
+        return Err(E::from_reason(clock.conversion_error()));
+    };
+    match format(shown, description.steps()) {
+        Ok(found) => {
+            *text = found;
+            Ok(())
+        }
+        Err(why) => Err(E::from_reason(Reason::Unformattable(why))),
+    }
+}
+
+/// Stores the text of the moment, or returns what is kept of the reason why it has no text.
+#[inline(always)]
+pub(crate) fn write_to<E: FromReason>(
+    moment: OffsetDateTime,
+    form: &Form<'_>,
+    text: &mut Text,
+) -> Result<(), E>
+    ensures { Stores E.is_of (spec.IsWritten greatest_year form.now moment) result text.new }
 {
     match form.writing {
-        Writing::Named(named) => write_named(moment, *named, form.digits, &form.clock),
-        Writing::Described(description) => match form.clock.show(moment) {
-            Some(moment) => write_described(moment, description),
-            None => Err(form.clock.why_unshown()),
-        },
+        Writing::Named(named) => write_named(moment, *named, form.digits, &form.clock, text),
+        Writing::Described(description) => {
+            write_described(moment, description, form.digits, &form.clock, text)
+        }
+    }
+}
+
+/// The text of the moment, or the reason why it has no text.
+pub fn write_moment(moment: OffsetDateTime, form: &Form<'_>) -> Result<Text, Reason>
+    ensures { spec.IsWritten greatest_year form.now moment (erased_written result) }
+{
+    let mut text = Text::new();
+    match write_to(moment, form, &mut text) {
+        Ok(()) => Ok(text),
+        Err(reason) => Err(reason),
     }
 }

@@ -1,69 +1,70 @@
-//! What becomes of a line.
-ghost use Rattle.std.specs.Prelude.{◌≡◌, ◌≤◌, ◌<◌, ◌+◌, ◌^◌, ℕ, length};
+//! The verdict on a line.
+ghost use Rattle.std.specs.Prelude.{◌≡◌, ◌<◌, ◌+◌, ◌^◌, ℕ, length};
 ghost use Rattle.time_values.specs.Calendar.{greatest_year};
 ghost use Rattle.time_values.specs.Shown.{Items};
 ghost use Rattle.restamp_verdict.specs.Job as spec;
 
-use crate::dated::read_in_turn;
-use crate::form::{Form, write_moment};
-use crate::reading::{Defaults, Reading, Said};
+use crate::brief::FromReason;
+use crate::dated::parse_in_turn;
+use crate::form::{Form, write_to};
+use crate::reading::{Defaults, Match, Reading};
 use crate::reason::Reason;
 use restamp_place::{Place, find_span};
 use std::cmp::Ordering;
 use time_values::OffsetDateTime;
 use time_values::text::Text;
 
-/// How many bytes a time may have of which it isn't known where it stands.
+/// How many bytes a timestamp may have if no place is given.
 pub const REACH: usize = 256;
 
-/// In how many bytes of a line its time may stand.
+/// How many bytes of a line may come before the end of its timestamp.
 pub const LIMIT: usize = 262_144;
 
 /// What is done with each line.
 #[derive(Clone, Copy)]
 pub struct Job<'a> {
-    /// Where its time stands; `None` is the first place from which on a format reads one.
+    /// The place of its timestamp; `None` means the first byte from which on a format matches.
     pub place: Option<Place<'a>>,
-    /// The format that reads it.
+    /// The format that is tried first.
     pub first: &'a Reading,
-    /// The formats that are tried in turn where that one doesn't.
+    /// The formats that are tried next, in turn.
     pub others: &'a [Reading],
-    /// Defaults for what a time omits.
+    /// Defaults for what a timestamp omits.
     pub defaults: Defaults<'a>,
-    /// How it is written.
+    /// How the moment is written.
     pub form: Form<'a>,
-    /// Drops lines whose time is before.
+    /// Drops lines with an earlier moment.
     pub since: Option<OffsetDateTime>,
-    /// Drops lines whose time isn't before.
+    /// Drops lines with this moment or a later one.
     pub until: Option<OffsetDateTime>,
-    /// Refuses lines that have no place for a time.
-    pub asks_for_times: bool,
+    /// Rejects lines without a timestamp.
+    pub requires_timestamp: bool,
 }
 
-/// What becomes of a line.
-#[derive(Drop)]
-pub enum Verdict {
-    /// It has no place for a time, and stays.
+/// What happens to a line.
+#[derive(Clone, Copy)]
+pub enum Verdict<E> {
+    /// The line has no timestamp, and is kept.
     Without,
-    /// So many of its bytes, from that place on, give way to the text.
+    /// The text replaces some bytes of the line.
     Rewritten {
-        /// How many bytes stand before them.
+        /// How many bytes come before the replaced ones.
         start: usize,
-        /// How many they are.
+        /// How many bytes are replaced.
         length: usize,
     },
-    /// It is left out.
+    /// The line is dropped.
     Dropped,
-    /// It stays, and is told with its reason.
+    /// The line is kept, and is reported with its reason.
     Refused {
-        /// Where the time begins, from 1.
+        /// Where the timestamp starts, from 1.
         column: usize,
-        /// Why.
-        reason: Reason,
+        /// What is kept of the reason.
+        reason: E,
     },
 }
 
-// Whether the moment lies before the bound; `otherwise` where there is none.
+// Whether the moment is before the bound; `otherwise` if there is none.
 #[inline(always)]
 fn is_before(moment: OffsetDateTime, bound: Option<OffsetDateTime>, otherwise: bool) -> bool
     ensures { result ≡ spec.is_before greatest_year moment bound otherwise }
@@ -83,60 +84,66 @@ impl Job<'_> {
         !is_before(moment, self.since, false) && is_before(moment, self.until, true)
     }
 
-    // The verdict on a line of which some bytes say a moment, in a part from that place on.
-    pub(crate) fn put(&self, start: usize, said: Said, text: &mut Text) -> Verdict
+    // Writes the moment of a match over its bytes, in the part of a line that starts at `start`.
+    #[inline(always)]
+    pub(crate) fn put<E: FromReason>(
+        &self,
+        start: usize,
+        said: Match,
+        text: &mut Text,
+    ) -> Verdict<E>
         requires { start + said.start + said.length + 1 < 2 ^ 64 }
-        ensures put { spec.IsPut greatest_year self.now start said (spec.seen_verdict result text.new) }
-        ensures within { spec.IsWithin (start + said.start + said.length) (spec.seen_verdict result text.new) }
+        ensures put { spec.GivesVerdict E.is_of (spec.IsPut greatest_year self.now start said) result text.new }
+        ensures within { spec.EndsWithin (start + said.start + said.length) result }
     {
         let column = start + said.start + 1;
         if LIMIT < start + said.start + said.length {
             return Verdict::Refused {
                 column,
-                reason: Reason::TooFar,
+                reason: E::from_reason(Reason::TooFar),
             };
         }
         if !self.keeps(said.moment) {
             return Verdict::Dropped;
         }
-        match write_moment(said.moment, &self.form) {
-            Ok(written) => {
-                *text = written;
-                Verdict::Rewritten {
-                    start: start + said.start,
-                    length: said.length,
-                }
-            }
+        match write_to(said.moment, &self.form, text) {
+            Ok(()) => Verdict::Rewritten {
+                start: start + said.start,
+                length: said.length,
+            },
             Err(reason) => Verdict::Refused { column, reason },
         }
     }
 
-    // The verdict on a line that has no place for a time.
-    pub(crate) fn miss(&self) -> Verdict
-        ensures { (text : Items) → spec.seen_verdict result text ≡ spec.missed self.now }
+    // The verdict on a line without a timestamp.
+    #[inline(always)]
+    pub(crate) fn miss<E: FromReason>(&self) -> Verdict<E>
+        ensures verdict { (text : Items) → spec.GivesVerdict E.is_of (λ verdict. verdict ≡ spec.missed self.now) result text }
+        ensures within { (n : ℕ) → spec.EndsWithin n result }
     {
-        if self.asks_for_times {
+        if self.requires_timestamp {
             return Verdict::Refused {
                 column: 1,
-                reason: Reason::Missing,
+                reason: E::from_reason(Reason::Missing),
             };
         }
         Verdict::Without
     }
 
-    // The verdict on a line of which a part from that place on is the time.
-    pub(crate) fn judge_part(
+    // The verdict on a line whose timestamp is the part that starts at `start`.
+    #[inline(always)]
+    fn judge_part<E: FromReason>(
         &self,
         start: usize,
-        is_open: bool,
+        is_prefix: bool,
         part: &[u8],
         text: &mut Text,
-    ) -> Verdict
+    ) -> Verdict<E>
         requires { start + length part.now + 1 < 2 ^ 64 }
-        ensures verdict { spec.IsJudgedPart greatest_year self.now is_open start part.now (spec.seen_verdict result text.new) }
-        ensures within { spec.IsWithin (start + length part.now) (spec.seen_verdict result text.new) }
+        ensures verdict { spec.GivesVerdict E.is_of (spec.IsJudgedPart greatest_year self.now is_prefix start part.now) result text.new }
+        ensures within { spec.EndsWithin (start + length part.now) result }
     {
-        match read_in_turn(self.first, self.others, is_open, part, &self.defaults) {
+        match parse_in_turn(self.first, self.others, is_prefix, part, &self.defaults) {
             Ok(said) => self.put(start, said, text),
             Err(reason) => Verdict::Refused {
                 column: start + 1,
@@ -145,33 +152,36 @@ impl Job<'_> {
         }
     }
 
-    // The verdict on a line whose time stands at that place.
-    fn judge_at(&self, place: Place<'_>, line: &[u8], text: &mut Text) -> Verdict
-        ensures verdict { spec.IsJudgedAt greatest_year self.now place.entry line.now (spec.seen_verdict result text.new) }
-        ensures within { spec.IsWithin (length line.now) (spec.seen_verdict result text.new) }
+    // The verdict on a line whose timestamp is at that place.
+    #[inline(always)]
+    fn judge_at<E: FromReason>(&self, place: Place<'_>, line: &[u8], text: &mut Text) -> Verdict<E>
+        ensures verdict { spec.GivesVerdict E.is_of (spec.IsJudgedAt greatest_year self.now place.entry line.now) result text.new }
+        ensures within { spec.EndsWithin (length line.now) result }
     {
         match find_span(place, line) {
             Some(span) => {
                 let part = &line[span.start..span.stop];
-                self.judge_part(span.start, place.is_open(), part, text)
+                self.judge_part(span.start, place.is_prefix(), part, text)
             }
             None => self.miss(),
         }
     }
 
-    /// The verdict on a line, which has no LF. A time that is refused leaves the line as it is, and so does one that goes
-    /// on past the first [`LIMIT`] bytes. Of a longer line it can be given [`REACH`] bytes more, so that it is seen what
-    /// stands behind a time.
+    /// The verdict on a line, which has no LF. It keeps a line whose timestamp is rejected, or ends after the first
+    /// [`LIMIT`] bytes. The caller may pass [`REACH`] bytes more of a longer line, so that the parser sees what follows
+    /// the timestamp.
     ///
-    /// Where no place is given the time begins at the first byte from which on a format reads one, of which at most
-    /// [`REACH`] bytes count. It takes whole words and numbers: no ASCII letter or digit stands right before its first byte
-    /// or right after its last one, where that byte is one. A line with no such time has no place for one. The blanks
-    /// around a mail date stay where it isn't told where the time ends.
+    /// Without a place, the timestamp starts at the first byte from which on a format matches, and has at most
+    /// [`REACH`] bytes. It is made of whole words and numbers: if its first byte is an ASCII letter or digit, the byte
+    /// before it is none, and if its last byte is one, the byte after it is none. A line without such a text has no
+    /// timestamp. White space around a mail date stays unless the place ends the timestamp.
     ///
-    /// The text of a line that is rewritten is put in the place of `text`.
-    pub fn judge(&self, line: &[u8], text: &mut Text) -> Verdict
-        ensures verdict { spec.IsJudged greatest_year self.now line.now (spec.seen_verdict result text.new) }
-        ensures within { spec.IsWithin (length line.now) (spec.seen_verdict result text.new) }
+    /// `text` receives the text of a rewritten line. The type `E` decides how much of the reason of a rejection the
+    /// caller gets: [`Reason`] is all of it.
+    #[inline(always)]
+    pub fn judge<E: FromReason>(&self, line: &[u8], text: &mut Text) -> Verdict<E>
+        ensures verdict { spec.GivesVerdict E.is_of (spec.IsJudged greatest_year self.now line.now) result text.new }
+        ensures within { spec.EndsWithin (length line.now) result }
     {
         match self.place {
             Some(place) => self.judge_at(place, line, text),

@@ -1,36 +1,37 @@
-//! Times that leave their offset to the clocks of a zone.
+//! Timestamps that omit their offset, parsed as local times in a zone.
 ghost use Rattle.std.specs.Prelude.{◌≡◌, ◌+◌, ◌≤◌, length, Err, IfOk};
 ghost use Rattle.time_values.specs.Calendar.{greatest_year};
 ghost use Rattle.restamp_verdict.specs.Zoned as spec;
-ghost use Rattle.restamp_verdict.specs.Reading.{Says, SaysOn, SaysLocally, at_offset};
-ghost use Rattle.restamp_verdict.specs.Reason.{seen, seen_read};
+ghost use Rattle.restamp_verdict.specs.Reading.{ParsesAs, ParsesInZone, ParsesLocally, at_offset};
+ghost use Rattle.restamp_verdict.specs.Reason.{Gives, Reason as Reason_};
 
-use crate::reading::{Defaults, Reading, Said, read};
+use crate::brief::FromReason;
+use crate::reading::{Defaults, Match, Reading, parse, parse_outlined};
 use crate::reason::{OffsetParts, Reason, TwoOffsets};
 use time_values::{OffsetDateTime, PlainDateTime, UtcOffset};
 use time_zones::{NotOne, TimeZone, assume_zone};
 
-/// Which moment a date and time means that the clocks of a zone show twice.
+/// Which moment an ambiguous local time means: the clocks of the zone moved back, and show it a second time.
 #[derive(Clone, Copy, Debug, PartialEq, Eq)]
 pub enum Fold {
-    /// Neither: it is refused.
+    /// None: it is rejected.
     Refuse,
-    /// The first.
+    /// The earlier one.
     Earlier,
-    /// The last.
+    /// The later one.
     Later,
 }
 
-/// The clocks of a zone.
+/// A zone for local times.
 #[derive(Clone, Copy)]
 pub struct Clocks<'a> {
     /// The zone.
     pub zone: TimeZone<'a>,
-    /// Which of two moments it is that they show alike.
+    /// Which moment an ambiguous local time means.
     pub fold: Fold,
 }
 
-// The date and time of a moment on its own clock.
+// The local date and time of a moment at its own offset.
 pub(crate) fn clock_of(moment: OffsetDateTime) -> PlainDateTime
     ensures { result ≡ spec.clock_of moment }
 {
@@ -38,12 +39,12 @@ pub(crate) fn clock_of(moment: OffsetDateTime) -> PlainDateTime
 }
 
 impl Fold {
-    // The offset of one of two moments that the clocks show alike.
+    // The offset of the moment that an ambiguous local time means.
     fn of_two(self, earlier: OffsetDateTime, later: OffsetDateTime) -> Result<UtcOffset, Reason>
-        ensures { spec.seen_offset result ≡ spec.of_two self earlier later }
+        ensures { spec.erased_offset result ≡ spec.of_two self earlier later }
     {
         match self {
-            Fold::Refuse => Err(Reason::ShownTwice(TwoOffsets {
+            Fold::Refuse => Err(Reason::Ambiguous(TwoOffsets {
                 earlier: OffsetParts::of(earlier.offset().whole_seconds()),
                 later: OffsetParts::of(later.offset().whole_seconds()),
             })),
@@ -54,43 +55,43 @@ impl Fold {
 }
 
 impl Clocks<'_> {
-    // The offset that the clocks have when they show the date and time of a moment.
+    // The offset of the zone at the local date and time of a moment.
     fn offset_when(&self, shown: OffsetDateTime) -> Result<UtcOffset, Reason>
-        ensures { spec.IsOffsetWhen self.now shown (spec.seen_offset result) }
+        ensures { spec.IsOffsetWhen self.now shown (spec.erased_offset result) }
     {
         match assume_zone(clock_of(shown), &self.zone) {
             Ok(moment) => Ok(moment.offset()),
-            Err(NotOne::Gap) => Err(Reason::LeftOut),
+            Err(NotOne::Gap) => Err(Reason::Nonexistent),
             Err(NotOne::Fold { earlier, later }) => self.fold.of_two(earlier, later),
-            Err(NotOne::Untold) => Err(Reason::Untold),
+            Err(NotOne::Untold) => Err(Reason::OutsideZoneRange),
         }
     }
 
-    // What a text says by the format on these clocks. It isn't inlined, so that it takes no place where a line needs no zone.
+    // Parses a text as a local time in the zone. Not inlined, so that it needs no stack where a line needs no zone.
     #[inline(never)]
-    fn read(
+    fn read<E: FromReason>(
         &self,
         reading: &Reading,
-        is_open: bool,
+        is_prefix: bool,
         text: &[u8],
         defaults: &Defaults<'_>,
-    ) -> Result<Said, Reason>
-        ensures said { SaysOn greatest_year self.now reading.now is_open text.now defaults.now (seen_read result) }
+    ) -> Result<Match, E>
+        ensures said { Gives E.is_of (ParsesInZone greatest_year self.now reading.now is_prefix text.now defaults.now) result }
         ensures within { IfOk result (λ said. said.start + said.length ≤ length text.now) }
     {
-        let shown = match read(reading, is_open, text, &defaults.at(UtcOffset::UTC)) {
+        let shown = match parse_outlined(reading, is_prefix, text, &defaults.at(UtcOffset::UTC)) {
             Ok(said) => said.moment,
             Err(why) => return Err(why),
         };
         match self.offset_when(shown) {
-            Ok(offset) => read(reading, is_open, text, &defaults.at(offset)),
-            Err(why) => Err(why),
+            Ok(offset) => parse_outlined(reading, is_prefix, text, &defaults.at(offset)),
+            Err(why) => Err(E::from_reason(why)),
         }
     }
 }
 
 impl Defaults<'_> {
-    // The same with that offset.
+    // The defaults with that offset.
     pub(crate) fn at(&self, offset: UtcOffset) -> Defaults<'static>
         ensures { result ≡ at_offset offset self.now }
     {
@@ -103,39 +104,38 @@ impl Defaults<'_> {
     }
 }
 
-/// What a text says that says nothing by the format as it stands, for that reason, unless it is the offset that it leaves
-/// to clocks of a zone.
+/// Parses a text that the format rejects for that reason as a local time, if the defaults have a zone for these.
 #[inline(always)]
-pub(crate) fn read_unplaced(
+pub(crate) fn read_unplaced<E: FromReason>(
     reading: &Reading,
-    is_open: bool,
+    is_prefix: bool,
     text: &[u8],
     defaults: &Defaults<'_>,
-    reason: Reason,
-) -> Result<Said, Reason>
-    requires { Says greatest_year reading.now is_open text.now defaults.now (Err (seen reason)) }
-    ensures said { SaysLocally greatest_year reading.now is_open text.now defaults.now (seen_read result) }
+    reason: E,
+) -> Result<Match, E>
+    requires { (why : Reason_) × E.is_of why reason × ParsesAs greatest_year reading.now is_prefix text.now defaults.now (Err why) }
+    ensures said { Gives E.is_of (ParsesLocally greatest_year reading.now is_prefix text.now defaults.now) result }
     ensures within { IfOk result (λ said. said.start + said.length ≤ length text.now) }
 {
     match defaults.clocks {
-        Some(clocks) => clocks.read(reading, is_open, text, defaults),
+        Some(clocks) => clocks.read(reading, is_prefix, text, defaults),
         None => Err(reason),
     }
 }
 
-/// What a text says by the format, its offset left to clocks of a zone where it has none.
+/// Parses a text by the format; if it omits its offset, as a local time in the zone of the defaults.
 #[inline(always)]
-pub(crate) fn read_local(
+pub(crate) fn read_local<E: FromReason>(
     reading: &Reading,
-    is_open: bool,
+    is_prefix: bool,
     text: &[u8],
     defaults: &Defaults<'_>,
-) -> Result<Said, Reason>
-    ensures said { SaysLocally greatest_year reading.now is_open text.now defaults.now (seen_read result) }
+) -> Result<Match, E>
+    ensures said { Gives E.is_of (ParsesLocally greatest_year reading.now is_prefix text.now defaults.now) result }
     ensures within { IfOk result (λ said. said.start + said.length ≤ length text.now) }
 {
-    match read(reading, is_open, text, defaults) {
+    match parse(reading, is_prefix, text, defaults) {
         Ok(said) => Ok(said),
-        Err(reason) => read_unplaced(reading, is_open, text, defaults, reason),
+        Err(reason) => read_unplaced(reading, is_prefix, text, defaults, reason),
     }
 }

@@ -1,37 +1,37 @@
-//! What a refused time doesn't say.
+//! Finds the part that is missing from a rejected timestamp.
 ghost use Rattle.std.specs.Prelude.{◌≡◌, Some};
 ghost use Rattle.time_values.specs.Calendar.{greatest_year};
-ghost use Rattle.restamp_verdict.specs.Wrong as spec;
+ghost use Rattle.restamp_verdict.specs.ErrorLocation as spec;
 ghost use Rattle.restamp_verdict.specs.Reason.{seen};
 
 use crate::job::Job;
-use crate::lack::Lack;
+use crate::missing_field::MissingField;
 use crate::reading::{Defaults, Reading, complete, has_year};
-use crate::reason::{Reason, Told};
+use crate::reason::{Reason, ReasonDisplay};
 use restamp_place::find_span;
 use std::fmt;
 use time_parsing::{Iso8601, Parsable};
 use time_record::Parsed;
 use time_values::error::{Parse, TryFromParsed};
 
-// Whether the record says a whole year.
-fn says_year(parsed: &Parsed) -> bool
-    ensures { result ≡ spec.says_year parsed.now }
+// Whether the record has a whole year.
+fn has_whole_year(parsed: &Parsed) -> bool
+    ensures { result ≡ spec.has_whole_year parsed.now }
 {
     parsed.year().is_some() || (parsed.year_century().is_some() && parsed.year_last_two().is_some())
 }
 
-// Whether it says a whole year of weeks.
-fn says_iso_year(parsed: &Parsed) -> bool
-    ensures { result ≡ spec.says_iso_year parsed.now }
+// Whether the record has a whole ISO 8601 week year.
+fn has_whole_iso_year(parsed: &Parsed) -> bool
+    ensures { result ≡ spec.has_whole_iso_year parsed.now }
 {
     parsed.iso_year().is_some()
         || (parsed.iso_year_century().is_some() && parsed.iso_year_last_two().is_some())
 }
 
-// Whether it says a day of a year.
-fn says_day(parsed: &Parsed) -> bool
-    ensures { result ≡ spec.says_day parsed.now }
+// Whether the record has a day of a year.
+fn has_day(parsed: &Parsed) -> bool
+    ensures { result ≡ spec.has_day parsed.now }
 {
     parsed.ordinal().is_some()
         || (parsed.month().is_some() && parsed.day().is_some())
@@ -39,86 +39,91 @@ fn says_day(parsed: &Parsed) -> bool
             && (parsed.sunday_week_number().is_some() || parsed.monday_week_number().is_some()))
 }
 
-// Whether it says a day of a year of weeks.
-fn says_iso_day(parsed: &Parsed) -> bool
-    ensures { result ≡ spec.says_iso_day parsed.now }
+// Whether the record has a day of an ISO 8601 week year.
+fn has_iso_day(parsed: &Parsed) -> bool
+    ensures { result ≡ spec.has_iso_day parsed.now }
 {
     parsed.iso_week_number().is_some() && parsed.weekday().is_some()
 }
 
-// Whether it says a day with its year.
-fn says_date(parsed: &Parsed) -> bool
-    ensures { result ≡ spec.says_date parsed.now }
+// Whether the record has a day with its year.
+fn has_full_date(parsed: &Parsed) -> bool
+    ensures { result ≡ spec.has_full_date parsed.now }
 {
-    (says_year(parsed) && says_day(parsed)) || (says_iso_year(parsed) && says_iso_day(parsed))
+    (has_whole_year(parsed) && has_day(parsed))
+        || (has_whole_iso_year(parsed) && has_iso_day(parsed))
 }
 
-// Whether it says an hour of the day.
-fn says_hour(parsed: &Parsed) -> bool
-    ensures { result ≡ spec.says_hour parsed.now }
+// Whether the record has an hour of the day.
+fn has_hour(parsed: &Parsed) -> bool
+    ensures { result ≡ spec.has_hour parsed.now }
 {
     parsed.hour_24().is_some() || (parsed.hour_12().is_some() && parsed.hour_12_is_pm().is_some())
 }
 
-// What a record lacks that names no day of a year.
-fn date_lack(parsed: &Parsed) -> Lack
-    ensures { result ≡ spec.date_lack parsed.now }
+// The missing part of a record without a date.
+fn missing_date_field(parsed: &Parsed) -> MissingField
+    ensures { result ≡ spec.missing_date_field parsed.now }
 {
-    if !says_day(parsed) && !says_iso_day(parsed) {
-        Lack::Day
+    if !has_day(parsed) && !has_iso_day(parsed) {
+        MissingField::Day
     } else if has_year(parsed) {
-        Lack::WholeYear
+        MissingField::WholeYear
     } else {
-        Lack::Year
+        MissingField::Year
     }
 }
 
-// What one lacks that names a day.
-fn time_lack(parsed: &Parsed) -> Lack
-    ensures { result ≡ spec.time_lack parsed.now }
+// The missing part of a record with a date.
+fn missing_time_field(parsed: &Parsed) -> MissingField
+    ensures { result ≡ spec.missing_time_field parsed.now }
 {
-    if !says_hour(parsed) {
+    if !has_hour(parsed) {
         return if parsed.hour_12().is_some() {
-            Lack::Half
+            MissingField::Half
         } else {
-            Lack::Hour
+            MissingField::Hour
         };
     }
     if parsed.minute().is_none() {
-        Lack::Minute
+        MissingField::Minute
     } else if parsed.second().is_none() {
-        Lack::Second
+        MissingField::Second
     } else {
-        Lack::Offset
+        MissingField::Offset
     }
 }
 
-// What a record lacks that is no moment for want of information.
-fn lack_in(parsed: &Parsed) -> Lack
-    ensures { result ≡ spec.lack_in parsed.now }
+// The missing part of a record that has too little information for a moment.
+fn missing_field_in(parsed: &Parsed) -> MissingField
+    ensures { result ≡ spec.missing_field_in parsed.now }
 {
-    if says_date(parsed) {
-        time_lack(parsed)
+    if has_full_date(parsed) {
+        missing_time_field(parsed)
     } else {
-        date_lack(parsed)
+        missing_date_field(parsed)
     }
 }
 
-// What a text lacks that the format reads.
-fn lack_by<F: Parsable>(format: &F, defaults: &Defaults<'_>, text: &[u8]) -> Option<Lack>
-    ensures { spec.IsLackBy greatest_year (F.reads format.now) (F.refuses format.now) defaults.now text.now result }
+// The missing part of a text that the format matches.
+fn missing_field_by<F: Parsable>(
+    format: &F,
+    defaults: &Defaults<'_>,
+    text: &[u8],
+) -> Option<MissingField>
+    ensures { spec.IsMissingFieldBy greatest_year (F.reads format.now) (F.refuses format.now) defaults.now text.now result }
 {
     let mut parsed = Parsed::new();
     match format.parse_into(text, &mut parsed) {
         Ok(_rest) => {
             complete(defaults, &mut parsed);
-            Some(lack_in(&parsed))
+            Some(missing_field_in(&parsed))
         }
         Err(_) => None,
     }
 }
 
-// Whether a time is refused for want of information.
+// Whether a timestamp is rejected because information is missing.
 fn is_insufficient(reason: Reason) -> bool
     ensures { result ≡ spec.is_insufficient (seen reason) }
 {
@@ -129,7 +134,7 @@ fn is_insufficient(reason: Reason) -> bool
 }
 
 impl<'a> Defaults<'a> {
-    // The same where a year is given for a moment that a time isn't after: that moment's.
+    // The defaults with the year of `latest`, where a timestamp without a year may not be after that moment.
     fn dated(&self) -> Defaults<'a>
         ensures { result ≡ spec.dated self.now }
     {
@@ -146,28 +151,28 @@ impl<'a> Defaults<'a> {
 }
 
 impl Reading {
-    // What a text lacks that the format reads. RFC 3339 and RFC 2822 say all of a moment, and a complete description is read
-    // alone.
-    fn lack_in_text(&self, defaults: &Defaults<'_>, text: &[u8]) -> Option<Lack>
-        ensures { spec.IsLackPart greatest_year self.now defaults.now text.now result }
+    // The missing part of a text that the format matches. A text of RFC 3339 or RFC 2822 has all of a moment, and a
+    // complete description gets no defaults.
+    fn missing_field_in_text(&self, defaults: &Defaults<'_>, text: &[u8]) -> Option<MissingField>
+        ensures { spec.IsMissingFieldIn greatest_year self.now defaults.now text.now result }
     {
         match self {
             Reading::Rfc3339 | Reading::Zoned(_) => None,
             Reading::Rfc2822 | Reading::Complete(_) => None,
-            Reading::Iso8601 => lack_by(&Iso8601, defaults, text),
-            Reading::Described(described) => lack_by(described, defaults, text),
-            Reading::Counted(described) => lack_by(described, defaults, text),
+            Reading::Iso8601 => missing_field_by(&Iso8601, defaults, text),
+            Reading::Described(described) => missing_field_by(described, defaults, text),
+            Reading::Counted(described) => missing_field_by(described, defaults, text),
         }
     }
 }
 
 impl Job<'_> {
-    /// What the time of a line lacks that is refused for that reason, if it is information that is missing: the first of a
-    /// day, its year, an hour, its half of the day, a minute, a second and an offset that the first format's reading and
-    /// the defaults don't say.
+    /// The missing part of a line's timestamp that was rejected for that reason; `None` if no information is missing.
+    /// Of a day, its year, an hour, its half of the day, a minute, a second and an offset, it is the first that neither
+    /// the defaults nor the record of the first format have.
     #[inline(never)]
-    pub fn find_lack(&self, line: &[u8], reason: Reason) -> Option<Lack>
-        ensures { spec.IsLack greatest_year self.now line.now (seen reason) result }
+    pub fn find_missing_field(&self, line: &[u8], reason: Reason) -> Option<MissingField>
+        ensures { spec.IsMissingField greatest_year self.now line.now (seen reason) result }
     {
         if !is_insufficient(reason) {
             return None;
@@ -175,29 +180,30 @@ impl Job<'_> {
         let place = self.place?;
         let span = find_span(place, line)?;
         let text = &line[span.start..span.stop];
-        self.first.lack_in_text(&self.defaults.dated(), text)
+        self.first
+            .missing_field_in_text(&self.defaults.dated(), text)
     }
 }
 
-/// Why a time isn't rewritten: the reason, or in its place what the time lacks.
+/// Why a timestamp isn't rewritten: the reason, or the missing part in its place.
 #[derive(Clone, Copy)]
 pub struct Why<'a> {
     /// The reason.
     pub reason: Reason,
-    /// What the time lacks, if that is the reason.
-    pub lack: Option<Lack>,
-    /// What the zone is called whose clocks the reason may be about.
+    /// The missing part, if that is the reason.
+    pub missing_field: Option<MissingField>,
+    /// The name of the time zone that the reason may be about.
     pub zone: &'a str,
 }
 
 impl fmt::Display for Why<'_> {
-    ghost output = { λ why. Some (spec.why_text why.zone.now (seen why.reason) why.lack) };
+    ghost output = { λ why. Some (spec.why_text why.zone.now (seen why.reason) why.missing_field) };
 
     fn fmt<W: fmt::Write>(&self, f: &mut fmt::Formatter<W>) -> fmt::Result {
-        match self.lack {
-            Some(lack) => write!(f, "{lack}"),
+        match self.missing_field {
+            Some(missing_field) => write!(f, "{missing_field}"),
             None => {
-                let told = Told {
+                let told = ReasonDisplay {
                     reason: self.reason,
                     zone: self.zone,
                 };
@@ -207,8 +213,8 @@ impl fmt::Display for Why<'_> {
     }
 }
 
-/// What the time of a refused line lacks is one.
-#[tactic(auto, using(crate::proofs::OneWrong::one_lack))]
-pub fn law_one_lack()
-    ensures { spec.OneLack greatest_year }
+/// A rejected line has at most one missing part.
+#[tactic(auto, using(crate::proofs::OneErrorLocation::one_missing_field))]
+pub fn law_one_missing_field()
+    ensures { spec.OneMissingField greatest_year }
 {}

@@ -11,12 +11,12 @@ use std::fmt;
 use time_descriptions::{Description, InvalidFormatDescription, parse_borrowed, parse_strftime};
 use time_preparing::Prepared;
 
-/// What is wrong with a format.
+/// The error of a format's text.
 #[derive(Clone, Copy, Debug)]
 pub enum FormatFault<'a> {
-    /// It has no name, and is no description.
+    /// The text is neither a name nor a description.
     Unknown,
-    /// The description is faulty.
+    /// The description is invalid.
     Description(InvalidFormatDescription<'a>),
 }
 
@@ -36,65 +36,65 @@ impl fmt::Display for FormatFault<'_> {
     }
 }
 
-// How a format is named.
+// How a text names a format.
 #[derive(Clone, Copy)]
-enum Way<'a> {
+enum FormatName<'a> {
     Rfc3339,
     Rfc2822,
     Iso8601,
     // A description of a number of seconds.
     Counted(&'a [u8]),
-    // A description whose texts say all of a moment.
+    // A description whose texts have all of a moment.
     Complete(&'a [u8]),
     Brackets(&'a [u8]),
     Strftime(&'a [u8]),
     Unknown,
 }
 
-// A format that the text describes: in brackets where it has a `[`, else as strftime has it where it has a `%`.
-fn described_way(name: &[u8]) -> Way<'_>
-    ensures { spec.seen_way result ≡ spec.described_way name.now }
+// A format by its description: in brackets if the text has a `[`, otherwise as in strftime if it has a `%`.
+fn description_name(name: &[u8]) -> FormatName<'_>
+    ensures { spec.erased_format_name result ≡ spec.description_name name.now }
 {
     if name.contains(&b'[') {
-        Way::Brackets(name)
+        FormatName::Brackets(name)
     } else if name.contains(&b'%') {
-        Way::Strftime(name)
+        FormatName::Strftime(name)
     } else {
-        Way::Unknown
+        FormatName::Unknown
     }
 }
 
-// The value beside the first of these names that the bytes are, or else the last one.
+// The value beside the name that equals the bytes, or the last value if none does.
 macro_rules! value_named {
     ($bytes:expr, $($name:literal => $value:expr,)+ _ => $otherwise:expr) => {
         $(if $bytes == $name.as_slice() { $value } else)+ { $otherwise }
     };
 }
 
-// How the format is named.
-fn find_way(name: &[u8]) -> Way<'_>
-    ensures { spec.seen_way result ≡ spec.way_of name.now }
+// How the text names a format.
+fn find_format_name(name: &[u8]) -> FormatName<'_>
+    ensures { spec.erased_format_name result ≡ spec.format_name_of name.now }
 {
     value_named!(
         name,
-        b"rfc3339" => Way::Rfc3339,
-        b"rfc2822" => Way::Rfc2822,
-        b"iso8601" => Way::Iso8601,
-        b"unix" => Way::Counted(b"[unix_timestamp][optional [.[subsecond]]]"),
-        b"unix-ms" => Way::Brackets(b"[unix_timestamp precision:millisecond]"),
-        b"unix-us" => Way::Brackets(b"[unix_timestamp precision:microsecond]"),
-        b"unix-ns" => Way::Brackets(b"[unix_timestamp precision:nanosecond]"),
-        b"common" => Way::Complete(
+        b"rfc3339" => FormatName::Rfc3339,
+        b"rfc2822" => FormatName::Rfc2822,
+        b"iso8601" => FormatName::Iso8601,
+        b"unix" => FormatName::Counted(b"[unix_timestamp][optional [.[subsecond]]]"),
+        b"unix-ms" => FormatName::Brackets(b"[unix_timestamp precision:millisecond]"),
+        b"unix-us" => FormatName::Brackets(b"[unix_timestamp precision:microsecond]"),
+        b"unix-ns" => FormatName::Brackets(b"[unix_timestamp precision:nanosecond]"),
+        b"common" => FormatName::Complete(
             b"[day]/[month repr:short]/[year]:[hour]:[minute]:[second] [offset_hour sign:mandatory][offset_minute]",
         ),
-        b"syslog" => Way::Brackets(
+        b"syslog" => FormatName::Brackets(
             b"[month repr:short] [day padding:space] [hour]:[minute]:[second]",
         ),
-        _ => described_way(name)
+        _ => description_name(name)
     )
 }
 
-// What the text describes in brackets.
+// Parses a description in brackets.
 fn bracketed(text: &[u8]) -> Result<Description<MOST_STEPS>, FormatFault<'_>>
     ensures { MatchResult result (λ description. Describes (version_of 2) text.now (shape description))
         (λ fault. spec.IsFault (spec.brackets text.now) (spec.fault_of fault)) }
@@ -102,7 +102,7 @@ fn bracketed(text: &[u8]) -> Result<Description<MOST_STEPS>, FormatFault<'_>>
     parse_borrowed::<2, MOST_STEPS>(text).map_err(FormatFault::Description)
 }
 
-// What the text describes as strftime has it.
+// Parses a description as in strftime.
 fn lettered(text: &[u8]) -> Result<Description<MOST_STEPS>, FormatFault<'_>>
     ensures { MatchResult result (λ description. DescribesStrftime text.now (shape description))
         (λ fault. spec.IsFault (spec.strftime text.now) (spec.fault_of fault)) }
@@ -111,26 +111,26 @@ fn lettered(text: &[u8]) -> Result<Description<MOST_STEPS>, FormatFault<'_>>
 }
 
 /// The format of that name: `rfc3339`, `rfc2822`, `iso8601`, `common`, `syslog`, `unix`, `unix-ms`, `unix-us` or
-/// `unix-ns`; or the one that the text describes, in brackets where it has a `[`, else as strftime has it where it has a
+/// `unix-ns`; or the one that the text describes: in brackets if it has a `[`, otherwise as in strftime if it has a
 /// `%`.
 pub fn find_reading(name: &[u8]) -> Result<Reading, FormatFault<'_>>
     ensures { MatchResult result
-        (λ reading. spec.Means (spec.way_of name.now) (spec.meaning_of reading))
-        (λ fault. spec.IsFault (spec.way_of name.now) (spec.fault_of fault)) }
+        (λ reading. spec.Means (spec.format_name_of name.now) (spec.meaning_of reading))
+        (λ fault. spec.IsFault (spec.format_name_of name.now) (spec.fault_of fault)) }
 {
-    match find_way(name) {
-        Way::Rfc3339 => Ok(Reading::Rfc3339),
-        Way::Rfc2822 => Ok(Reading::Rfc2822),
-        Way::Iso8601 => Ok(Reading::Iso8601),
-        Way::Counted(text) => Ok(Reading::Counted(Prepared::new(&bracketed(text)?))),
-        Way::Complete(text) => Ok(Reading::Complete(Prepared::new(&bracketed(text)?))),
-        Way::Brackets(text) => Ok(Reading::Described(Prepared::new(&bracketed(text)?))),
-        Way::Strftime(text) => Ok(Reading::Described(Prepared::new(&lettered(text)?))),
-        Way::Unknown => Err(FormatFault::Unknown),
+    match find_format_name(name) {
+        FormatName::Rfc3339 => Ok(Reading::Rfc3339),
+        FormatName::Rfc2822 => Ok(Reading::Rfc2822),
+        FormatName::Iso8601 => Ok(Reading::Iso8601),
+        FormatName::Counted(text) => Ok(Reading::Counted(Prepared::new(&bracketed(text)?))),
+        FormatName::Complete(text) => Ok(Reading::Complete(Prepared::new(&bracketed(text)?))),
+        FormatName::Brackets(text) => Ok(Reading::Described(Prepared::new(&bracketed(text)?))),
+        FormatName::Strftime(text) => Ok(Reading::Described(Prepared::new(&lettered(text)?))),
+        FormatName::Unknown => Err(FormatFault::Unknown),
     }
 }
 
-// The format of that name that times are written by.
+// The format of that name for output.
 fn find_named(name: &[u8]) -> Option<Named>
     ensures { result ≡ spec.writing_named name.now }
 {
@@ -147,21 +147,21 @@ fn find_named(name: &[u8]) -> Option<Named>
     )
 }
 
-// What the text describes, in brackets or as strftime has it.
+// Parses a description, in brackets or as in strftime.
 fn find_description(text: &[u8]) -> Result<Description<MOST_STEPS>, FormatFault<'_>>
-    ensures { MatchResult result (λ description. spec.Means (spec.described_way text.now) (spec.as_tree (shape description)))
-        (λ fault. spec.IsFault (spec.described_way text.now) (spec.fault_of fault)) }
+    ensures { MatchResult result (λ description. spec.Means (spec.description_name text.now) (spec.as_tree (shape description)))
+        (λ fault. spec.IsFault (spec.description_name text.now) (spec.fault_of fault)) }
 {
-    match described_way(text) {
-        Way::Brackets(text) => bracketed(text),
-        Way::Strftime(text) => lettered(text),
+    match description_name(text) {
+        FormatName::Brackets(text) => bracketed(text),
+        FormatName::Strftime(text) => lettered(text),
         _ => Err(FormatFault::Unknown),
     }
 }
 
-/// The format that times are written by, of that name: `rfc3339`, `rfc2822`, `iso8601`, `unix`, `unix-ms`, `unix-us` or
-/// `unix-ns`; or the one that the text describes, in brackets where it has a `[`, else as strftime has it where it has a
-/// `%`.
+/// The format of that name for output: `rfc3339`, `rfc2822`, `iso8601`, `unix`, `unix-ms`, `unix-us` or
+/// `unix-ns`; or the one that the text describes: in brackets if it has a `[`, otherwise as in strftime if it has
+/// a `%`.
 pub fn find_writing(name: &[u8]) -> Result<Writing, FormatFault<'_>>
     ensures { MatchResult result (λ writing. spec.MeansWriting name.now writing)
         (λ fault. spec.IsWritingFault name.now (spec.fault_of fault)) }

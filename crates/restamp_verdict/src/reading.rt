@@ -1,6 +1,7 @@
-//! How a time is read.
-ghost use Rattle.std.specs.Prelude.{◌≡◌, ◌+◌, ◌-◌, ◌≤◌, true, length, IfOk};
+//! Parses a timestamp by a format.
+ghost use Rattle.std.specs.Prelude.{◌≡◌, ◌+◌, ◌-◌, ◌≤◌, true, length, IfOk, MatchResult, Ok};
 ghost use Rattle.time_values.specs.Calendar.{greatest_year};
+ghost use Rattle.time_values.specs.Refusal.{refusal_of};
 ghost use Rattle.time_record.specs.Record.{empty};
 ghost use Rattle.time_readers.specs.Direct.{RefusesRfc3339};
 ghost use Rattle.time_components.specs.Tree.{steps_shape};
@@ -9,12 +10,14 @@ ghost use Rattle.time_parsing.specs.Outcome.{direct, over_record, IsFront, IsOut
 ghost use Rattle.time_parsing.specs.Iso8601 as iso8601;
 ghost use Rattle.time_parsing.specs.Rfc3339.{Reads, Refuses};
 ghost use Rattle.restamp_verdict.specs.Reading as spec;
-ghost use Rattle.restamp_verdict.specs.Reason.{seen_read};
+ghost use Rattle.restamp_verdict.specs.Reason.{Gives, IsErrOf, erased_read, unread};
+ghost use Rattle.restamp_verdict.specs.declared.reading.Reading.TheVariants as reading;
 
 mod fast;
 
+use crate::brief::FromReason;
 use crate::clock::read_zoned;
-use crate::guard::guard;
+use crate::guard::without_negative_fraction;
 use crate::local::Clocks;
 use crate::reason::Reason;
 use std::convert::TryFrom;
@@ -25,53 +28,53 @@ use time_values::error::Parse;
 use time_values::{OffsetDateTime, UtcOffset};
 use time_zones::Zones;
 
-/// The most steps that a description may have. One in brackets of so many bytes has room.
+/// The most steps that a description may have. A description in brackets of at most this many bytes has no more.
 pub const MOST_STEPS: usize = 256;
 
-/// A format that a time is read by.
+/// A format that timestamps are parsed by.
 #[derive(Drop)]
 pub enum Reading {
     /// RFC 3339, section 5.6.
     Rfc3339,
-    /// RFC 9557, section 4.1: RFC 3339 and a suffix, which names one of these zones.
+    /// RFC 9557, section 4.1: RFC 3339 with a suffix, which names one of these zones.
     Zoned(Zones),
     /// Mail dates, RFC 2822, section 3.3.
     Rfc2822,
     /// ISO 8601.
     Iso8601,
-    /// By a description.
+    /// A description.
     Described(Prepared<MOST_STEPS>),
-    /// By a description whose texts say all of a moment, so that defaults don't count.
+    /// A description whose texts have all of a moment, so that defaults don't count.
     Complete(Prepared<MOST_STEPS>),
-    /// By a description of a number of seconds, which may have a fraction unless a minus stands before it.
+    /// A description of a number of seconds, which may have a fraction unless a minus comes before it.
     Counted(Prepared<MOST_STEPS>),
 }
 
-/// Defaults for what a time omits.
+/// Defaults for the parts that a timestamp omits.
 #[derive(Clone, Copy)]
 pub struct Defaults<'a> {
-    /// The year of a time that says no part of one.
+    /// The year, if the timestamp has no part of one.
     pub year: Option<i32>,
-    /// The offset of a time that says no hour of one.
+    /// The offset, if the timestamp has no hour of one.
     pub offset: Option<UtcOffset>,
-    /// Where no offset is given, the clocks that show such a time.
+    /// The zone of local times, if `offset` is `None`.
     pub clocks: Option<Clocks<'a>>,
-    /// A time that has no year either is the latest that isn't after this moment.
+    /// A timestamp without a year means the latest moment that isn't after this one, if `year` is `None`.
     pub latest: Option<OffsetDateTime>,
 }
 
-/// What a text says, or a front of it.
+/// The match of a text, or of a prefix of it.
 #[derive(Clone, Copy, Debug)]
-pub struct Said {
+pub struct Match {
     /// The moment.
     pub moment: OffsetDateTime,
-    /// How many bytes of the text stand before those that say it.
+    /// How many bytes of the text come before the match.
     pub start: usize,
-    /// How many bytes say it.
+    /// How many bytes the match has.
     pub length: usize,
 }
 
-// Whether the record says a part of a year.
+// Whether the record has a part of a year.
 #[inline(always)]
 pub(crate) fn has_year(parsed: &Parsed) -> bool
     ensures { result ≡ spec.has_year parsed.now }
@@ -84,7 +87,7 @@ pub(crate) fn has_year(parsed: &Parsed) -> bool
         || parsed.iso_year_last_two().is_some()
 }
 
-// Puts the year into a record that says no part of one.
+// Sets the year of a record that has no part of one.
 #[inline(always)]
 pub(crate) fn put_year(year: Option<i32>, parsed: &mut Parsed)
     ensures { parsed.new ≡ spec.with_year greatest_year year parsed.old }
@@ -97,7 +100,7 @@ pub(crate) fn put_year(year: Option<i32>, parsed: &mut Parsed)
     }
 }
 
-// Puts the parts of the offset into a record that says no hour of one.
+// Sets the parts of the offset of a record that has no hour of one.
 #[inline(always)]
 fn put_offset(offset: Option<UtcOffset>, parsed: &mut Parsed)
     ensures { parsed.new ≡ spec.with_offset offset parsed.old }
@@ -115,7 +118,7 @@ fn put_offset(offset: Option<UtcOffset>, parsed: &mut Parsed)
     parsed.forget_offset_sign();
 }
 
-// Puts what stands for what the text doesn't say into the record of what it says.
+// Sets the parts of a record that the text omits to the defaults.
 #[inline(always)]
 pub(crate) fn complete(defaults: &Defaults<'_>, parsed: &mut Parsed)
     ensures { parsed.new ≡ spec.completed greatest_year defaults.now parsed.old }
@@ -124,35 +127,35 @@ pub(crate) fn complete(defaults: &Defaults<'_>, parsed: &mut Parsed)
     put_offset(defaults.offset, parsed);
 }
 
-// The moment that the text says up to that rest.
+// The match of the text up to that rest.
 #[inline(always)]
-pub(crate) fn said_before(rest: &[u8], text: &[u8], moment: OffsetDateTime) -> Said
+pub(crate) fn match_before(rest: &[u8], text: &[u8], moment: OffsetDateTime) -> Match
     ensures said { result ≡ spec.said moment (length text.now - length rest.now) }
     ensures within { result.start + result.length ≤ length text.now }
 {
-    Said {
+    Match {
         moment,
         start: 0,
         length: text.len().saturating_sub(rest.len()),
     }
 }
 
-// What a front of the text says by the format where it is open, and else what the whole text says.
+// Parses a prefix of the text by the format if `is_prefix` is true, otherwise the whole text.
 #[inline(always)]
-pub(crate) fn read_by<F: Parsable>(format: &F, is_open: bool, text: &[u8]) -> Result<Said, Parse>
-    ensures said { spec.IsReadBy greatest_year is_open (F.path format.now) (F.reads format.now) (F.refuses format.now) text.now
-        (spec.seen_said result) }
+pub(crate) fn read_by<F: Parsable>(format: &F, is_prefix: bool, text: &[u8]) -> Result<Match, Parse>
+    ensures said { spec.IsReadBy greatest_year is_prefix (F.path format.now) (F.reads format.now) (F.refuses format.now) text.now
+        (spec.erased_match result) }
     ensures within { IfOk result (λ said. said.start + said.length ≤ length text.now) }
 {
-    if is_open {
+    if is_prefix {
         let (moment, rest) = format.parse_front(text, None)?;
-        return Ok(said_before(rest, text, moment));
+        return Ok(match_before(rest, text, moment));
     }
     let moment = format.parse_offset_date_time(text, None)?;
-    Ok(said_before(&[], text, moment))
+    Ok(match_before(&[], text, moment))
 }
 
-// The moment of a front of the text, with what stands for what that doesn't say, and the rest.
+// Parses a prefix of the text with defaults for what it omits. Returns the moment and the rest.
 #[inline(always)]
 fn front_with<'a, F: Parsable>(
     format: &F,
@@ -169,7 +172,7 @@ fn front_with<'a, F: Parsable>(
     Ok((moment, rest))
 }
 
-// The same of the whole text.
+// Parses the whole text with defaults for what it omits.
 #[inline(always)]
 fn whole_with<F: Parsable>(
     format: &F,
@@ -185,60 +188,60 @@ fn whole_with<F: Parsable>(
     value_before::<OffsetDateTime>(rest, &parsed)
 }
 
-// What a front of the text says with what stands for what it doesn't say, where it is open, and else what the whole does.
+// Parses a prefix of the text if `is_prefix` is true, otherwise the whole text, with defaults for what it omits.
 #[inline(always)]
 pub(crate) fn read_with<F: Parsable>(
     format: &F,
-    is_open: bool,
+    is_prefix: bool,
     text: &[u8],
     defaults: &Defaults<'_>,
-) -> Result<Said, Parse>
-    ensures said { spec.IsReadWith greatest_year is_open (F.reads format.now) (F.refuses format.now) text.now
-        defaults.now (spec.seen_said result) }
+) -> Result<Match, Parse>
+    ensures said { spec.IsReadWith greatest_year is_prefix (F.reads format.now) (F.refuses format.now) text.now
+        defaults.now (spec.erased_match result) }
     ensures within { IfOk result (λ said. said.start + said.length ≤ length text.now) }
 {
-    if is_open {
+    if is_prefix {
         let (moment, rest) = front_with(format, text, defaults)?;
-        return Ok(said_before(rest, text, moment));
+        return Ok(match_before(rest, text, moment));
     }
     let moment = whole_with(format, text, defaults)?;
-    Ok(said_before(&[], text, moment))
+    Ok(match_before(&[], text, moment))
 }
 
-// The same without the blanks at both ends of its bytes.
-fn bare(said: Said, text: &[u8]) -> Said
+// The match without white space at both ends of its bytes.
+fn bare(said: Match, text: &[u8]) -> Match
     requires { said.length ≤ length text.now }
     ensures said { result ≡ spec.bare text.now said }
     ensures within { result.start + result.length ≤ length text.now }
 {
     let front = text[..said.length].trim_ascii_start();
-    Said {
+    Match {
         moment: said.moment,
         start: said.length.saturating_sub(front.len()),
         length: front.trim_ascii_end().len(),
     }
 }
 
-// The same by RFC 2822, which has blanks before a date and after it: where it is open they stay around it. It isn't inlined,
-// so that the other formats are.
+// Parses a mail date, RFC 2822, which may have white space around it. If `is_prefix` is true the match leaves that out.
+// Not inlined, so that the other formats are.
 #[inline(never)]
-pub(crate) fn read_mail(is_open: bool, text: &[u8]) -> Result<Said, Parse>
-    ensures said { spec.IsReadMail greatest_year is_open text.now (spec.seen_said result) }
+pub(crate) fn read_mail(is_prefix: bool, text: &[u8]) -> Result<Match, Parse>
+    ensures said { spec.IsReadMail greatest_year is_prefix text.now (spec.erased_match result) }
     ensures within { IfOk result (λ said. said.start + said.length ≤ length text.now) }
 {
-    let said = read_by(&Rfc2822, is_open, text)?;
-    if is_open {
+    let said = read_by(&Rfc2822, is_prefix, text)?;
+    if is_prefix {
         return Ok(bare(said, text));
     }
     Ok(said)
 }
 
-/// What a front of the bytes says by RFC 3339, with no record where that can be. It isn't inlined, so that it takes no place
+/// Parses a prefix of the bytes by RFC 3339, without a record where possible. Not inlined, so that it needs no stack
 /// beside whole texts.
 #[inline(never)]
-pub(crate) fn read_front_3339(text: &[u8]) -> Result<Said, Parse>
+pub(crate) fn read_front_3339(text: &[u8]) -> Result<Match, Parse>
     ensures said { spec.IsReadBy greatest_year true (direct (RefusesRfc3339 greatest_year)) (Reads greatest_year)
-        (Refuses greatest_year) text.now (spec.seen_said result) }
+        (Refuses greatest_year) text.now (spec.erased_match result) }
     ensures within { IfOk result (λ said. said.start + said.length ≤ length text.now) }
 {
     if let Some(said) = fast::front_3339(text) {
@@ -247,97 +250,108 @@ pub(crate) fn read_front_3339(text: &[u8]) -> Result<Said, Parse>
     read_by(&Rfc3339, true, text)
 }
 
-// The same by RFC 3339 of either.
+// Parses a prefix of the text by RFC 3339 if `is_prefix` is true, otherwise the whole text.
 #[inline(always)]
-pub(crate) fn read_3339(is_open: bool, text: &[u8]) -> Result<Said, Parse>
-    ensures said { spec.IsReadBy greatest_year is_open (direct (RefusesRfc3339 greatest_year)) (Reads greatest_year)
-        (Refuses greatest_year) text.now (spec.seen_said result) }
+pub(crate) fn read_3339(is_prefix: bool, text: &[u8]) -> Result<Match, Parse>
+    ensures said { spec.IsReadBy greatest_year is_prefix (direct (RefusesRfc3339 greatest_year)) (Reads greatest_year)
+        (Refuses greatest_year) text.now (spec.erased_match result) }
     ensures within { IfOk result (λ said. said.start + said.length ≤ length text.now) }
 {
-    if is_open {
+    if is_prefix {
         return read_front_3339(text);
     }
-    read_by(&Rfc3339, is_open, text)
+    read_by(&Rfc3339, is_prefix, text)
 }
 
-// The same by ISO 8601, with defaults. It isn't inlined either.
+// Parses a text by ISO 8601 with defaults. Not inlined, so that it needs no stack beside other formats.
 #[inline(never)]
-pub(crate) fn read_8601(is_open: bool, text: &[u8], defaults: &Defaults<'_>) -> Result<Said, Parse>
-    ensures said { spec.IsReadWith greatest_year is_open (iso8601.Reads greatest_year) (iso8601.Refuses greatest_year) text.now
-        defaults.now (spec.seen_said result) }
-    ensures within { IfOk result (λ said. said.start + said.length ≤ length text.now) }
-{
-    read_with(&Iso8601, is_open, text, defaults)
-}
-
-// The same by a complete description. Neither is this one, nor the next.
-#[inline(never)]
-fn read_complete(
-    described: &Prepared<MOST_STEPS>,
-    is_open: bool,
-    text: &[u8],
-) -> Result<Said, Parse>
-    ensures said { spec.IsReadBy greatest_year is_open over_record (description.Reads greatest_year (steps_shape described.now))
-        (description.Refuses greatest_year (steps_shape described.now)) text.now (spec.seen_said result) }
-    ensures within { IfOk result (λ said. said.start + said.length ≤ length text.now) }
-{
-    read_by(described, is_open, text)
-}
-
-// The same by another description, with defaults.
-#[inline(never)]
-fn read_described(
-    described: &Prepared<MOST_STEPS>,
-    is_open: bool,
+pub(crate) fn read_8601(
+    is_prefix: bool,
     text: &[u8],
     defaults: &Defaults<'_>,
-) -> Result<Said, Parse>
-    ensures said { spec.IsReadWith greatest_year is_open (description.Reads greatest_year (steps_shape described.now))
-        (description.Refuses greatest_year (steps_shape described.now)) text.now defaults.now (spec.seen_said result) }
+) -> Result<Match, Parse>
+    ensures said { spec.IsReadWith greatest_year is_prefix (iso8601.Reads greatest_year) (iso8601.Refuses greatest_year) text.now
+        defaults.now (spec.erased_match result) }
     ensures within { IfOk result (λ said. said.start + said.length ≤ length text.now) }
 {
-    read_with(described, is_open, text, defaults)
+    read_with(&Iso8601, is_prefix, text, defaults)
 }
 
-// The same by any of the formats. Those that say all of a moment need no defaults.
-fn read_plain(
+// A match, or what is kept of the error.
+#[inline(always)]
+fn or_unread<E: FromReason>(parsed: Result<Match, Parse>) -> Result<Match, E>
+    ensures { MatchResult parsed (λ said. result ≡ Ok said) (λ error. IsErrOf E.is_of (unread (refusal_of error)) result) }
+{
+    match parsed {
+        Ok(said) => Ok(said),
+        Err(error) => Err(E::from_reason(Reason::Unread(error))),
+    }
+}
+
+// Parses a number of seconds by its description. It isn't inlined, since few logs count seconds.
+#[inline(never)]
+fn parse_counted<E: FromReason>(
+    described: &Prepared<MOST_STEPS>,
+    is_prefix: bool,
+    text: &[u8],
+    defaults: &Defaults<'_>,
+) -> Result<Match, E>
+    ensures said { Gives E.is_of (spec.ParsesAs greatest_year (reading.Counted described.now) is_prefix text.now defaults.now) result }
+    ensures within { IfOk result (λ said. said.start + said.length ≤ length text.now) }
+{
+    match read_with(described, is_prefix, text, defaults) {
+        Ok(said) => without_negative_fraction(text, said),
+        Err(error) => Err(E::from_reason(Reason::Unread(error))),
+    }
+}
+
+/// Parses a text by the format, with defaults for what it omits: a prefix of it if `is_prefix` is true, otherwise the
+/// whole text. The error is what the caller keeps of the reason.
+#[inline(always)]
+pub(crate) fn parse<E: FromReason>(
     reading: &Reading,
-    is_open: bool,
+    is_prefix: bool,
     text: &[u8],
     defaults: &Defaults<'_>,
-) -> Result<Said, Parse>
-    ensures said { spec.IsRead greatest_year reading.now is_open text.now defaults.now (spec.seen_said result) }
+) -> Result<Match, E>
+    ensures said { Gives E.is_of (spec.ParsesAs greatest_year reading.now is_prefix text.now defaults.now) result }
     ensures within { IfOk result (λ said. said.start + said.length ≤ length text.now) }
 {
     match reading {
-        Reading::Rfc3339 => read_3339(is_open, text),
-        Reading::Zoned(_) => read_front_3339(text),
-        Reading::Rfc2822 => read_mail(is_open, text),
-        Reading::Iso8601 => read_8601(is_open, text, defaults),
-        Reading::Complete(described) => read_complete(described, is_open, text),
-        Reading::Described(described) | Reading::Counted(described) => {
-            read_described(described, is_open, text, defaults)
-        }
+        Reading::Rfc3339 => or_unread(read_3339(is_prefix, text)),
+        Reading::Rfc2822 => or_unread(read_mail(is_prefix, text)),
+        Reading::Iso8601 => or_unread(read_8601(is_prefix, text, defaults)),
+        Reading::Complete(described) => or_unread(read_by(described, is_prefix, text)),
+        Reading::Described(described) => or_unread(read_with(described, is_prefix, text, defaults)),
+        Reading::Counted(described) => parse_counted(described, is_prefix, text, defaults),
+        Reading::Zoned(zones) => read_zoned(zones, is_prefix, text),
     }
 }
 
-/// Parses a text by the format, with defaults for what it omits: all of it, or where `is_open` is true the front that the
-/// format takes.
+/// [`parse`], not inlined, for texts that are parsed a second time.
 #[inline(never)]
-pub fn read(
+pub(crate) fn parse_outlined<E: FromReason>(
     reading: &Reading,
-    is_open: bool,
+    is_prefix: bool,
     text: &[u8],
     defaults: &Defaults<'_>,
-) -> Result<Said, Reason>
-    ensures said { spec.Says greatest_year reading.now is_open text.now defaults.now (seen_read result) }
+) -> Result<Match, E>
+    ensures said { Gives E.is_of (spec.ParsesAs greatest_year reading.now is_prefix text.now defaults.now) result }
     ensures within { IfOk result (λ said. said.start + said.length ≤ length text.now) }
 {
-    if let Some(zones) = reading.zones() {
-        return read_zoned(zones, is_open, text);
-    }
-    match read_plain(reading, is_open, text, defaults) {
-        Ok(said) => guard(reading, text, said),
-        Err(error) => Err(Reason::Unread(error)),
-    }
+    parse(reading, is_prefix, text, defaults)
+}
+
+/// Parses a text by the format, with defaults for what it omits: a prefix of it if `is_prefix` is true, otherwise the
+/// whole text. The defaults `clocks` and `latest` don't count.
+pub fn read(
+    reading: &Reading,
+    is_prefix: bool,
+    text: &[u8],
+    defaults: &Defaults<'_>,
+) -> Result<Match, Reason>
+    ensures said { spec.ParsesAs greatest_year reading.now is_prefix text.now defaults.now (erased_read result) }
+    ensures within { IfOk result (λ said. said.start + said.length ≤ length text.now) }
+{
+    parse_outlined(reading, is_prefix, text, defaults)
 }

@@ -1,4 +1,4 @@
-//! Why a time isn't rewritten.
+//! Why a timestamp isn't rewritten.
 ghost use Rattle.std.specs.Prelude.{◌≡◌, Some};
 ghost use Rattle.time_values.specs.Shown.{fixed};
 ghost use Rattle.restamp_verdict.specs.Reason.{seen, offset_text, offsets_text, parts_of, reason_text, text_with};
@@ -9,48 +9,48 @@ use time_values::error::Parse;
 use time_writing::Unwritable;
 use time_zones::SuffixFault;
 
-/// The offsets of two moments that clocks show alike.
+/// The offsets of the two moments that an ambiguous local time may mean.
 #[derive(Clone, Copy, Debug, PartialEq, Eq)]
 pub struct TwoOffsets {
-    /// That of the first.
+    /// The offset of the earlier moment.
     pub earlier: OffsetParts,
-    /// That of the last.
+    /// The offset of the later moment.
     pub later: OffsetParts,
 }
 
-/// By how much clocks are ahead of UTC, or behind it. Each field has a word of memory, so that a [`Reason`] is copied by words.
+/// How far local time is ahead of UTC, or behind it. Each field has a word of memory, so that a [`Reason`] is copied by words.
 #[derive(Clone, Copy, Debug, PartialEq, Eq)]
 pub struct OffsetParts {
-    /// Whether they are behind.
+    /// Whether it is behind.
     pub is_behind: bool,
-    /// By how many seconds.
+    /// How many seconds.
     pub seconds: u64,
 }
 
-/// Why a time isn't rewritten.
+/// Why a timestamp isn't rewritten.
 #[derive(Clone, Copy, Debug)]
 pub enum Reason {
-    /// No format reads it; what the first of them says.
+    /// No format matches it; the error of the first format.
     Unread(Parse),
-    /// It is a number of seconds with a fraction after a minus, which some read forwards and some backwards.
+    /// It is a number of seconds with a minus and a fraction. Programs disagree whether that fraction counts forwards.
     NegativeFraction,
-    /// The clocks of its zone leave its date and time out.
-    LeftOut,
-    /// They show its date and time twice.
-    ShownTwice(TwoOffsets),
-    /// It has no date at the offset that is asked for, or none in UTC that a number could count from.
+    /// The local time is nonexistent in its zone: the clocks moved forward.
+    Nonexistent,
+    /// The local time is ambiguous in its zone: the clocks moved back.
+    Ambiguous(TwoOffsets),
+    /// It has no date at the output's offset, or none in UTC that a number could count from.
     OutOfRange,
-    /// No time zone tells of it: it lies before the year -9999 or after 9999, or in their first or last day.
-    Untold,
-    /// Its suffix refuses it.
+    /// It is outside the range of time zones: before the year -9999 or after 9999, or in their first or last day.
+    OutsideZoneRange,
+    /// Its suffix rejects it.
     Suffix(SuffixFault),
-    /// The format that is asked for has no text for it.
+    /// The output format has no text for it.
     Unwritable(Unwritable),
-    /// The description that is asked for has no text for it.
+    /// The output's description has no text for it.
     Unformattable(Unformattable),
-    /// It goes on past the bytes of its line in which a time may stand: [`LIMIT`](crate::LIMIT).
+    /// It ends after the part of its line in which a timestamp may be: [`LIMIT`](crate::LIMIT).
     TooFar,
-    /// The line has no place for a time.
+    /// The line has no timestamp.
     Missing,
 }
 
@@ -62,7 +62,7 @@ fn pair(number: u64) -> [u8; 2]
 }
 
 impl OffsetParts {
-    // By so many seconds ahead, or behind where they are below 0.
+    // The parts of an offset in seconds, which is negative behind UTC.
     pub(crate) fn of(seconds: i32) -> OffsetParts
         ensures { result ≡ parts_of seconds }
     {
@@ -72,7 +72,7 @@ impl OffsetParts {
         }
     }
 
-    // The text of such an offset, `+HH:MM:SS`.
+    // The text of the offset, `+HH:MM:SS`.
     fn text(self) -> [u8; 9]
         ensures { result ≡ offset_text self }
     {
@@ -102,17 +102,17 @@ impl fmt::Display for TwoOffsets {
     }
 }
 
-// What a zone is called that has no name.
+// The name of a zone that has no name.
 const ITS_ZONE: &str = "its zone";
 
-// A reason, and what the zone is called whose clocks it may be about.
+// Displays a reason with the name of the time zone that it may be about.
 #[derive(Clone, Copy)]
-pub(crate) struct Told<'a> {
+pub(crate) struct ReasonDisplay<'a> {
     pub(crate) reason: Reason,
     pub(crate) zone: &'a str,
 }
 
-impl fmt::Display for Told<'_> {
+impl fmt::Display for ReasonDisplay<'_> {
     ghost output = { λ told. Some (text_with told.zone.now (seen told.reason)) };
 
     fn fmt<W: fmt::Write>(&self, f: &mut fmt::Formatter<W>) -> fmt::Result {
@@ -122,12 +122,12 @@ impl fmt::Display for Told<'_> {
             Reason::NegativeFraction => {
                 write!(f, "a fraction after a minus is read in two ways")
             }
-            Reason::LeftOut => write!(f, "the clocks of {zone} leave it out"),
-            Reason::ShownTwice(offsets) => {
+            Reason::Nonexistent => write!(f, "the clocks of {zone} leave it out"),
+            Reason::Ambiguous(offsets) => {
                 write!(f, "the clocks of {zone} show it twice, at {offsets}")
             }
             Reason::OutOfRange => write!(f, "the time has no date at that offset"),
-            Reason::Untold => write!(f, "no time zone tells of that time"),
+            Reason::OutsideZoneRange => write!(f, "no time zone tells of that time"),
             Reason::Suffix(fault) => write!(f, "{fault}"),
             Reason::Unwritable(why) => write!(f, "{why}"),
             Reason::Unformattable(why) => write!(f, "{why}"),
@@ -141,7 +141,7 @@ impl fmt::Display for Reason {
     ghost output = { λ reason. Some (reason_text (seen reason)) };
 
     fn fmt<W: fmt::Write>(&self, f: &mut fmt::Formatter<W>) -> fmt::Result {
-        let told = Told {
+        let told = ReasonDisplay {
             reason: *self,
             zone: ITS_ZONE,
         };

@@ -1,8 +1,7 @@
 -- Runs of an exact number of digits, by the first bytes of a text.
-use Rattle.std.proofs.Common.{get_or, ◌≡◌, ℕ, zero, suc, ◌+◌, ◌-◌, ◌*◌, ◌≤◌, ◌<◌, List, [], ◌∷◌, ◌++◌, length, take, drop, replicate, refl, ap, sym, ◌∙◌, inl, inr, arith, subst, length-append, append_assoc}
-use Rattle.std.proofs.lemmas.List.{length-drop, length-take-le, take-append-drop, take-append-le, take_all}
+use Rattle.std.proofs.Common.{◌≡◌, ℕ, zero, suc, ◌+◌, ◌-◌, ◌≤◌, List, [], ◌∷◌, ◌++◌, length, take, drop, replicate, refl, ap, sym, ◌∙◌, inl, arith, subst, length-append, append_assoc}
+use Rattle.std.proofs.lemmas.List.{length-drop, length-take-le, take-append-drop, take-append-le, take-replicate, take_all}
 use Rattle.time_digits.specs.Digits.{Cut, NoCut, IsDigitByte, AllDigits, digits_value, IsDigitRun}
-use Rattle.time_digits.specs.Words.{Leads}
 use Rattle.time_digits.proofs.Runs.{AllDigits-take, IsDigitRun-unique}
 
 -- ---- Runs
@@ -61,8 +60,25 @@ enough_digits (suc n) zero [] h digits = absurd (omega arith)
 enough_digits (suc n) (suc k) [] h digits = absurd (omega (arith, digits.0.0))
 enough_digits (suc n) k (c ∷ s) h digits = let rest = enough_digits n k s (omega arith) digits.1 in omega arith
 
-pub leads_of_short : (n : ℕ) (s bytes : List ℕ) → n ≤ 8 → length s ≤ 8 → bytes ≡ s ++ replicate (8 - length s) 0 → Leads n s bytes
-leads_of_short n s bytes most short same = (
-  λ h. ap (λ t. take n t) same ∙ take-append-le n s (replicate (8 - length s) 0) h,
-  λ digits. enough_digits n (8 - length s) s (omega arith) (subst (λ t. AllDigits (take n t)) same digits),
-)
+take_take : (n m : ℕ) (s : List ℕ) → n ≤ m → take n (take m s) ≡ take n s
+take_take zero m s h = refl
+take_take (suc n) zero s h = absurd (omega arith)
+take_take (suc n) (suc m) [] h = refl
+take_take (suc n) (suc m) (c ∷ s) h = ap (λ t. c ∷ t) (take_take n m s (omega arith))
+
+-- at most eight bytes are filled up with zeros
+filled : (n m k : ℕ) (s : List ℕ) → n ≡ length s + m → m ≤ k → s ++ replicate m 0 ≡ take n (s ++ replicate k 0)
+filled n m k [] e h = let i : n ≡ m = omega (arith, e) in rw i (sym (take-replicate m k 0 h))
+filled zero m k (c ∷ s) e h = absurd (omega (arith, e))
+filled (suc n) m k (c ∷ s) e h = ap (λ t. c ∷ t) (filled n m k s (omega (arith, e)) h)
+
+pub short_filled : (s : List ℕ) → length s ≤ 8 → s ++ replicate (8 - length s) 0 ≡ take 8 (s ++ replicate 8 0)
+short_filled s short = filled 8 (8 - length s) 8 s (omega arith) (omega arith)
+
+pub enough_of : (n : ℕ) (s bytes : List ℕ) → n ≤ 8 → bytes ≡ take 8 (s ++ replicate 8 0) → AllDigits (take n bytes) → n ≤ length s
+enough_of n s bytes most is digits =
+    enough_digits n 8 s (omega arith) (subst AllDigits (ap (λ t. take n t) is ∙ take_take n 8 (s ++ replicate 8 0) most) digits)
+
+pub first_of : (n : ℕ) (s bytes : List ℕ) → n ≤ 8 → bytes ≡ take 8 (s ++ replicate 8 0) → n ≤ length s → take n bytes ≡ take n s
+first_of n s bytes most is enough =
+    ap (λ t. take n t) is ∙ take_take n 8 (s ++ replicate 8 0) most ∙ take-append-le n s (replicate 8 0) enough

@@ -12,9 +12,9 @@ ghost use Rattle.time_lines.specs.Output.{IsAnswer};
 mod fast;
 
 use crate::serving::cut_tab;
+use byte_streams::{Sink, Unwritten};
 use programs_answers::formats::{Format, Target, find_format, find_target};
 use programs_answers::{Answering, Named};
-use programs_streams::{Sink, Unwritten};
 
 // The request of a line: a format, a target and a text; or else the error of the line.
 type Request<'a> = Result<(Format, Target, &'a [u8]), &'static [u8]>;

@@ -1,22 +1,22 @@
 //! Splits lines into fields, and answers all lines of an input.
 ghost use Rattle.std.specs.Prelude.{◌≡◌, Err, OnOk, IfSome};
 ghost use Rattle.time_values.specs.Calendar.{greatest_year};
-ghost use Rattle.programs_streams.specs.Faults.{HasCause};
+ghost use Rattle.byte_streams.specs.Faults.{HasCause};
 ghost use Rattle.programs_answers.specs.Output.{HasReadCause, HasWriteCause};
 ghost use Rattle.programs_answers.specs.declared.serving.Stop.TheVariants as Stop;
 ghost use Rattle.time_lines.specs.Output.{WritesAnswers, cut_at_tab};
 ghost use Rattle.std.specs.Option.{option_map};
 
 use crate::answers::Fields;
-use programs_answers::{Stop, Waiting};
-use programs_streams::{Counted, Lent, Sink, Source, Unwritten};
+use byte_streams::{BufferedSink, Counted, Lent, Sink, Source, Unwritten};
+use programs_answers::Stop;
 use std::alloc::{Allocator, Global};
 use std::io;
 use std::io::{Read, Write};
 
 // Writes the answer to each line of the input to a sink.
 #[inline(always)]
-fn run_to<W: Sink>(input: &[u8], out: &mut Waiting<W>) -> Result<(), Unwritten>
+fn run_to<W: Sink>(input: &[u8], out: &mut BufferedSink<W>) -> Result<(), Unwritten>
     ensures answers { OnOk result (WritesAnswers greatest_year (W.contents out.old.sink) (W.contents out.new.sink) input.now) }
     ensures cause { HasCause result (W.faults out.old.sink) (W.faults out.new.sink) }
     ensures through { W.through out.new.sink ≡ W.through out.old.sink }
@@ -31,10 +31,10 @@ fn run_to<W: Sink>(input: &[u8], out: &mut Waiting<W>) -> Result<(), Unwritten>
 pub fn run<W: Write>(input: &[u8], out: &mut W) -> io::Result<()>
     ensures { OnOk result (WritesAnswers greatest_year (W.contents out.old) (W.contents out.new) input.now) }
 {
-    let mut waiting = Waiting::new(Lent::new(out));
-    match run_to(input, &mut waiting) {
+    let mut buffered = BufferedSink::new(Lent::new(out));
+    match run_to(input, &mut buffered) {
         Ok(()) => Ok(()),
-        Err(_) => Err(waiting.into_sink().into_error()),
+        Err(_) => Err(buffered.into_sink().into_error()),
     }
 }
 
@@ -62,8 +62,8 @@ pub(crate) fn serve_in<R: Read, W: Write, A: Allocator>(
     ensures unread { result ≡ Err Stop.Unread → out.new ≡ out.old }
     ensures memory { result ≡ Err Stop.Memory → out.new ≡ out.old }
 {
-    let mut waiting = Waiting::new(Lent::new(out));
-    serve_to(alloc, &mut Counted::new(input), &mut waiting)
+    let mut buffered = BufferedSink::new(Lent::new(out));
+    serve_to(alloc, &mut Counted::new(input), &mut buffered)
 }
 
 /// Answers the lines of a source to a sink. Returns early only after a read or a write that failed, when memory runs
@@ -72,7 +72,7 @@ pub(crate) fn serve_in<R: Read, W: Write, A: Allocator>(
 pub(crate) fn serve_to<R: Source, W: Sink, A: Allocator>(
     alloc: A,
     input: &mut R,
-    out: &mut Waiting<W>,
+    out: &mut BufferedSink<W>,
 ) -> Result<(), Stop>
     ensures ok { OnOk result (IfSome (R.remaining input.old)
         (λ bytes. WritesAnswers greatest_year (W.contents out.old.sink) (W.contents out.new.sink) bytes)) }

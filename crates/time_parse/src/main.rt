@@ -10,8 +10,7 @@ mod request;
 mod serving;
 
 use arguments::{Command, Question, command_of, told};
-use programs_answers::Waiting;
-use programs_streams::Counted;
+use byte_streams::{BufferedSink, Counted};
 use serving::{Failure, serve};
 use std::io::Write;
 use std::process::ExitCode;
@@ -35,7 +34,7 @@ or a failed read.";
 // Answers the lines of standard input, and returns the exit status.
 fn answer(rt: &HostRuntime, question: Question<'_>) -> io::Result<u8> {
     let mut input = Counted::new(rt.reader());
-    let mut out = Waiting::new(Counted::new(io::writer(rt)));
+    let mut out = BufferedSink::new(Counted::new(io::writer(rt)));
     match serve(question, rt.alloc(), &mut input, &mut out) {
         Ok(()) => Ok(0),
         Err(Failure::Stopped(stop)) => Ok(stop.status()),

@@ -6,7 +6,7 @@ ghost use Rattle.std.specs.Option.{option_map};
 ghost use Rattle.time_values.specs.Calendar.{greatest_year};
 ghost use Rattle.time_values.specs.Refusal.{refusal_of};
 ghost use Rattle.time_parsing.specs.Outcome.{seen};
-ghost use Rattle.programs_streams.specs.Faults.{HasCause};
+ghost use Rattle.byte_streams.specs.Faults.{HasCause};
 ghost use Rattle.programs_answers.specs.Output.{Writes};
 ghost use Rattle.time_locating.specs.Located.{wants};
 ghost use Rattle.time_locating.specs.Misses.{all_bytes};
@@ -17,12 +17,12 @@ ghost use Rattle.time_parse.specs.Request.{meaning_of};
 
 use crate::arguments::shown;
 use crate::request::{Chosen, Request};
+use byte_streams::{Sink, Unwritten};
 use programs_answers::Answering;
 use programs_answers::formats::{
     Format, Target, clock_items, compound, date_items, first, fraction_items, local_items,
     second_items, unix,
 };
-use programs_streams::{Sink, Unwritten};
 use time_locating::{Expected, Locate, locate_error};
 use time_parsing::{Iso8601, Parsable, Rfc2822, Rfc3339};
 use time_record::Parsed;

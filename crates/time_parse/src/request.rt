@@ -8,15 +8,15 @@ ghost use Rattle.time_descriptions.specs.Strftime.{DescribesStrftime, IsRefusedS
 ghost use Rattle.time_components.specs.Tree.{steps_shape};
 ghost use Rattle.time_parsing.specs.Outcome.{over_record};
 ghost use Rattle.time_record.specs.Reading as description;
-ghost use Rattle.programs_streams.specs.Faults.{HasCause};
+ghost use Rattle.byte_streams.specs.Faults.{HasCause};
 ghost use Rattle.programs_answers.specs.Formats.{target_named};
 ghost use Rattle.programs_answers.specs.Output.{IsDescribed, PrintsSuch, Writes};
 ghost use Rattle.time_parse.specs.Request.{reason_of, IsAnswer, IsFault, IsFaultBy, IsFaulty, Means, MeansTree, meaning_of, number_of, writing_of};
 
 use crate::arguments::Fault;
+use byte_streams::{Sink, Unwritten};
 use programs_answers::formats::{Format, Target, find_format, find_target};
 use programs_answers::{Answering, Layout, Named, write_outcome};
-use programs_streams::{Sink, Unwritten};
 use time_descriptions::{Description, InvalidFormatDescription, parse_borrowed, parse_strftime};
 use time_parsing::Parsable;
 use time_preparing::Prepared;

@@ -13,8 +13,8 @@ ghost use Rattle.time_parse.specs.declared.serving.Failure.TheVariants as failur
 use crate::arguments::{Fault, Question};
 use crate::place::Placing;
 use crate::request::Request;
-use programs_answers::{Stop, Waiting};
-use programs_streams::{Sink, Source};
+use byte_streams::{BufferedSink, Sink, Source};
+use programs_answers::Stop;
 use std::alloc::Global;
 
 /// Why the program exits early.
@@ -32,7 +32,7 @@ fn serve_asked<R: Source, W: Sink>(
     tells_places: bool,
     alloc: Global,
     input: &mut R,
-    out: &mut Waiting<W>,
+    out: &mut BufferedSink<W>,
 ) -> Result<(), Stop>
     ensures ok { OnOk result (IfSome (R.remaining input.old)
         (λ bytes. output.WritesAnswers (IsAnswerAsked tells_places greatest_year (meaning_of request.chosen) request.target)
@@ -58,7 +58,7 @@ pub fn serve<'a, R: Source, W: Sink>(
     question: Question<'a>,
     alloc: Global,
     input: &mut R,
-    out: &mut Waiting<W>,
+    out: &mut BufferedSink<W>,
 ) -> Result<(), Failure<'a>>
     ensures ok { OnOk result (IfSome (R.remaining input.old)
         (λ bytes. WritesAnswers greatest_year question.entry.tells_places question.entry.version question.entry.format.now question.entry.target.now

@@ -139,8 +139,19 @@ obsolete_date = form_of (
     (codes "21", refl, (21, search rules, search rules, refl)) next
     (codes " ", refl, (refl, refl)) next
     (codes "Nov", refl, (November, refl, refl)) next
-    (codes " ", refl, (refl, refl)) next
-    (codes "97", refl, (false, 1997, (too_few_digits 4 4 (codes "97") (codes " 09:55:06 GMT") (search rules) (omega arith), (97, search rules, refl)), refl)) next
+    (codes " ", refl, (refl, refl)) next (
+      codes "97",
+      refl,
+      (
+        false,
+        1997,
+        (
+          too_few_digits 4 4 (codes "97") (codes " 09:55:06 GMT") (search rules) (omega arith),
+          (97, search rules, refl),
+        ),
+        refl,
+      ),
+    ) next
     (codes " ", refl, (refl, refl)) next
     (codes "09", refl, (9, search rules, refl)) next
     (codes ":", refl, (refl, refl)) next

@@ -1,6 +1,6 @@
 //! The ends of short lines, many bytes at once.
 ghost use Rattle.std.specs.Prelude.{◌≡◌, ◌∷◌, ◌+◌, ◌<◌, length, take, drop, IfSome};
-ghost use Rattle.programs_answers.specs.Output.{lines_of};
+ghost use Rattle.byte_streams.specs.Lines.{line_texts};
 
 use std::simd::prelude::*;
 
@@ -8,7 +8,7 @@ use std::simd::prelude::*;
 #[inline(always)]
 pub(super) fn line_end(text: &[u8]) -> Option<usize>
     ensures within { IfSome result (λ i. i < length text.now) }
-    ensures cut { IfSome result (λ i. lines_of text.now ≡ take i text.now ∷ lines_of (drop (i + 1) text.now)) }
+    ensures cut { IfSome result (λ i. line_texts text.now ≡ take i text.now ∷ line_texts (drop (i + 1) text.now)) }
 {
     if text.len() < 32 {
         return None;

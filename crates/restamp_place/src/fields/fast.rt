@@ -1,19 +1,19 @@
-//! Words that are passed over many bytes at a time.
+//! Skips words many bytes at a time.
 ghost use Rattle.std.specs.Prelude.{◌≡◌, ◌≤◌, ◌<◌, ◌+◌, ℕ, length, drop, IfSome};
 ghost use Rattle.restamp_place.specs.Words.{IsPassed, word_ends};
 
 use crate::texts::is_blank;
 
-/// How far a line was passed over.
+/// How far a line is skipped.
 #[derive(Clone, Copy)]
 pub(crate) struct Passed {
-    /// How many bytes were.
+    /// How many bytes are skipped.
     pub(crate) start: usize,
-    /// How many words are still to be.
+    /// How many words still have to be skipped.
     pub(crate) left: usize,
 }
 
-// How many words end with one of so many bytes, which others follow.
+// How many words end within a block of bytes that isn't the line's last.
 #[inline(always)]
 fn ends_within(line: &[u8], start: usize, block: usize) -> u8
     requires few { block ≤ 16 }
@@ -28,7 +28,7 @@ fn ends_within(line: &[u8], start: usize, block: usize) -> u8
     ends
 }
 
-// The line passed over by so many bytes at a time, as long as these end fewer words than are to be.
+// Skips blocks of bytes, as long as fewer words end in them than have to be skipped.
 #[inline(always)]
 fn pass_blocks(passed: Passed, line: &[u8], block: usize) -> Passed
     requires some { 0 < block }
@@ -49,7 +49,7 @@ fn pass_blocks(passed: Passed, line: &[u8], block: usize) -> Passed
     next
 }
 
-// The same by single bytes, up to the end of the last word that is to be.
+// Skips single bytes, up to the end of the last word that has to be skipped.
 #[inline(always)]
 fn pass_bytes(passed: Passed, line: &[u8]) -> Passed
     requires { passed.start ≤ length line.now }
@@ -64,7 +64,7 @@ fn pass_bytes(passed: Passed, line: &[u8]) -> Passed
     next
 }
 
-/// The line passed over for the word that `n` words stand before. `None` is always allowed.
+/// Skips a part of the line before the word after n others. `None` is always allowed.
 #[inline(always)]
 pub(super) fn pass_words(n: usize, line: &[u8]) -> Option<Passed>
     ensures { IfSome result (λ p. IsPassed n line.now p × (p.start ≤ length line.now)) }

@@ -1,27 +1,27 @@
-//! Bytes of a line with which no time begins, passed over sixteen at a time.
+//! Skips bytes of a line that no timestamp starts with, sixteen at a time.
 //!
-//! Each function answers what is seen of bytes alone. `None`: nothing is seen, and the formats are asked.
+//! Each function compares a few bytes, without a parse. `None` means unknown: the formats have to be tried.
 ghost use Rattle.std.specs.Prelude.{◌≡◌, ◌≤◌, ◌<◌, ◌+◌, ◌∷◌, ℕ, length, slice_index, true, false, None, IfSome, IsTrue};
 ghost use Rattle.std.specs.Char.{is_ascii_digit, is_ascii_alphanumeric};
 ghost use Rattle.time_values.specs.Calendar.{greatest_year};
 ghost use Rattle.restamp_verdict.specs.Begins as begins;
-ghost use Rattle.restamp_verdict.specs.Job.{SaysAlone, is_inside};
+ghost use Rattle.restamp_verdict.specs.Job.{MatchesAlone, is_inside};
 
 use crate::job::Job;
 use crate::reading::Reading;
 use time_components::{Component, Padding, Step};
 
-// How many places are asked at once.
+// How many places are tested at once.
 const BLOCK: usize = 16;
 
-// With which bytes besides digits texts may begin.
+// The bytes that texts may start with, besides digits.
 #[derive(Clone, Copy)]
 pub(super) struct Firsts {
-    // With `+` and `-`.
+    // `+` and `-`.
     signs: bool,
-    // With what a mail date may.
+    // The first bytes of mail dates.
     mail: bool,
-    // With any other byte.
+    // Any other byte.
     others: bool,
 }
 
@@ -49,7 +49,7 @@ const ALL: Firsts = Firsts {
     others: true,
 };
 
-// The same bytes, where spaces don't fill up to a width.
+// These bytes, or any if spaces pad the text.
 #[inline(always)]
 fn padded(padding: Padding, firsts: Firsts) -> Firsts
     ensures { result ≡ begins.padded padding firsts }
@@ -60,7 +60,7 @@ fn padded(padding: Padding, firsts: Firsts) -> Firsts
     }
 }
 
-// With which bytes a component's text may begin.
+// The bytes that a component's text may start with.
 #[inline(always)]
 fn component_firsts(component: Component) -> Firsts
     ensures { result ≡ begins.component_firsts component }
@@ -77,7 +77,7 @@ fn component_firsts(component: Component) -> Firsts
     }
 }
 
-// With which bytes a description's text may begin, by its first step.
+// The bytes that a description's text may start with, by its first step.
 #[inline(always)]
 fn steps_firsts(steps: &[Step]) -> Firsts
     ensures { result ≡ begins.steps_firsts steps.now }
@@ -91,7 +91,7 @@ fn steps_firsts(steps: &[Step]) -> Firsts
     }
 }
 
-// With which bytes a format's text may begin.
+// The bytes that a format's text may start with.
 #[inline(always)]
 fn format_firsts(reading: &Reading) -> Firsts
     ensures { result ≡ begins.format_firsts reading.now }
@@ -106,7 +106,7 @@ fn format_firsts(reading: &Reading) -> Firsts
     }
 }
 
-/// With which bytes the texts of any of the formats may begin.
+/// The bytes that the texts of any of the formats may start with.
 #[inline(always)]
 pub(super) fn all_firsts(first: &Reading, others: &[Reading]) -> Option<Firsts>
     ensures { IfSome result (λ firsts. (x : ℕ) → begins.is_in firsts x ≡ false
@@ -136,7 +136,7 @@ fn is_alphanumeric(byte: u8) -> bool
     is_digit(byte) | ((b'A' <= byte) & (byte <= b'Z')) | ((b'a' <= byte) & (byte <= b'z'))
 }
 
-// Whether blanks or a comment may begin with the byte.
+// Whether white space or a comment may start with the byte.
 #[inline(always)]
 fn is_gap(byte: u8) -> bool
     ensures { result ≡ begins.is_gap byte }
@@ -144,7 +144,7 @@ fn is_gap(byte: u8) -> bool
     (byte == b' ') | (byte == b'\t') | (byte == b'\r') | (byte == b'(')
 }
 
-// Whether the byte is that letter, which is small, in either case.
+// Whether the byte is that lower case letter in either case.
 #[inline(always)]
 fn is_letter(byte: u8, letter: u8) -> bool
     requires { 97 ≤ letter }
@@ -153,7 +153,7 @@ fn is_letter(byte: u8, letter: u8) -> bool
     (byte == letter) | (byte == letter - 32)
 }
 
-// Whether the name of a weekday may begin with the byte.
+// Whether the name of a weekday may start with the byte.
 #[inline(always)]
 fn is_weekday(byte: u8) -> bool
     ensures { result ≡ begins.is_weekday byte }
@@ -165,7 +165,7 @@ fn is_weekday(byte: u8) -> bool
         | is_letter(byte, b's')
 }
 
-// Whether it may go on with the byte.
+// Whether the byte may be the second of a weekday's name.
 #[inline(always)]
 fn is_weekday_second(byte: u8) -> bool
     ensures { result ≡ begins.is_weekday_second byte }
@@ -178,7 +178,7 @@ fn is_weekday_second(byte: u8) -> bool
         | is_letter(byte, b'a')
 }
 
-// Whether a text may begin with the byte.
+// Whether a text may start with the byte.
 #[inline(always)]
 fn is_in(firsts: Firsts, byte: u8) -> bool
     ensures { result ≡ begins.is_in firsts byte }
@@ -189,7 +189,7 @@ fn is_in(firsts: Firsts, byte: u8) -> bool
         | firsts.others
 }
 
-// Whether a text may begin at the place, which isn't the first.
+// Whether a text may start at the place, which isn't the first.
 #[inline(always)]
 fn may_begin(firsts: Firsts, line: &[u8], place: usize) -> bool
     requires some { 0 < place }
@@ -199,7 +199,7 @@ fn may_begin(firsts: Firsts, line: &[u8], place: usize) -> bool
     !(is_alphanumeric(line[place - 1]) & is_alphanumeric(line[place])) & is_in(firsts, line[place])
 }
 
-// How many of sixteen places stand before the first at which a text may begin, or all.
+// How many of sixteen places come before the first at which a text may start; 16 if there is none.
 #[inline(always)]
 fn first_within(firsts: Firsts, line: &[u8], from: usize) -> u8
     requires some { 0 < from }
@@ -219,7 +219,7 @@ fn first_within(firsts: Firsts, line: &[u8], from: usize) -> u8
     first
 }
 
-// The first of these places at which a text may begin, or where they end.
+// The first of these places at which a text may start, or their end.
 #[inline(always)]
 fn find_within(firsts: Firsts, line: &[u8], from: usize, to: usize) -> usize
     requires some { 0 < from }
@@ -237,7 +237,7 @@ fn find_within(firsts: Firsts, line: &[u8], from: usize, to: usize) -> usize
     to
 }
 
-// The first place from that one on at which a text may begin, or the end of the line.
+// The first place from that one on at which a text may start, or the end of the line.
 #[inline(always)]
 fn find_beginning(firsts: Firsts, line: &[u8], from: usize) -> usize
     requires some { 0 < from }
@@ -257,7 +257,7 @@ fn find_beginning(firsts: Firsts, line: &[u8], from: usize) -> usize
     find_within(firsts, line, at, line.len())
 }
 
-/// The first place from that one on at which a time may begin, or the end of the line.
+/// The first place from that one on at which a timestamp may start, or the end of the line.
 #[inline(always)]
 pub(super) fn next_start(firsts: Firsts, line: &[u8], from: usize) -> Option<usize>
     requires { from ≤ length line.now }
@@ -270,7 +270,7 @@ pub(super) fn next_start(firsts: Firsts, line: &[u8], from: usize) -> Option<usi
     Some(find_beginning(firsts, line, from))
 }
 
-// Whether four digits stand in front of the bytes.
+// Whether the bytes start with four digits.
 #[inline(always)]
 fn has_year(bytes: &[u8]) -> bool
     ensures { result ≡ begins.has_year bytes.now }
@@ -281,7 +281,7 @@ fn has_year(bytes: &[u8]) -> bool
     is_digit(bytes[0]) & is_digit(bytes[1]) & is_digit(bytes[2]) & is_digit(bytes[3])
 }
 
-// Whether a day or a weekday may begin with the bytes, or a comment or more blanks before them.
+// Whether a day or a weekday, a comment, or more white space may start with the bytes.
 #[inline(always)]
 fn begins_day(first: u8, second: u8) -> bool
     ensures { result ≡ begins.begins_day first second }
@@ -289,7 +289,7 @@ fn begins_day(first: u8, second: u8) -> bool
     is_digit(first) | is_gap(first) | (is_weekday(first) & is_weekday_second(second))
 }
 
-// Whether a mail date may stand in front of the bytes, as far as the first three tell.
+// Whether the bytes may start with a mail date, judged by the first three.
 #[inline(always)]
 fn may_be_mail(bytes: &[u8]) -> bool
     ensures { result ≡ false → begins.may_be_mail bytes.now ≡ false }
@@ -304,7 +304,7 @@ fn may_be_mail(bytes: &[u8]) -> bool
     }
 }
 
-// Whether a text of the format may stand in front of the bytes, as far as the first ones tell.
+// Whether the bytes may start with a text of the format, judged by the first few.
 #[inline(always)]
 fn may_be_of(reading: &Reading, bytes: &[u8]) -> bool
     requires { 0 < length bytes.now }
@@ -320,16 +320,16 @@ fn may_be_of(reading: &Reading, bytes: &[u8]) -> bool
     }
 }
 
-/// Whether the line says nothing by that format from a byte on.
+/// Whether no prefix of the line from a byte on parses by that format; `None` if unknown.
 #[inline(always)]
-pub(super) fn says_nothing(
+pub(super) fn matches_nothing(
     job: &Job<'_>,
     line: &[u8],
     start: usize,
     reading: &Reading,
 ) -> Option<()>
     requires { start ≤ length line.now }
-    ensures { IfSome result (λ _. SaysAlone greatest_year job.now line.now start reading.now None) }
+    ensures { IfSome result (λ _. MatchesAlone greatest_year job.now line.now start reading.now None) }
 {
     if start == line.len() || may_be_of(reading, &line[start..]) {
         return None;

@@ -1,4 +1,4 @@
-//! The front of an open place that a moment of RFC 3339 takes, read with no record.
+//! Parses a prefix by RFC 3339 without a record.
 ghost use Rattle.std.specs.Prelude.{◌≤◌, ◌+◌, length, true, IfSome, Ok};
 ghost use Rattle.time_values.specs.Calendar.{greatest_year};
 ghost use Rattle.time_readers.specs.Direct.{RefusesRfc3339};
@@ -6,13 +6,13 @@ ghost use Rattle.time_parsing.specs.Outcome.{direct};
 ghost use Rattle.time_parsing.specs.Rfc3339.{Reads, Refuses};
 ghost use Rattle.restamp_verdict.specs.Reading as spec;
 
-use crate::reading::Said;
+use crate::reading::Match;
 use time_parsing::{Parsable, Rfc3339};
 
 // How many bytes a moment has before its fraction.
 const SECOND: usize = 19;
 
-// Where the digits end that begin there.
+// The end of the run of digits that starts at `from`.
 #[inline(always)]
 fn digits_end(text: &[u8], from: usize) -> usize
     requires { from ≤ length text.now }
@@ -26,7 +26,7 @@ fn digits_end(text: &[u8], from: usize) -> usize
     text.len()
 }
 
-// Where a moment ends that the bytes may begin with.
+// The end of the moment that the bytes may start with.
 #[inline(always)]
 fn moment_end(text: &[u8]) -> Option<usize>
     ensures { IfSome result (λ end. end ≤ length text.now) }
@@ -47,10 +47,10 @@ fn moment_end(text: &[u8]) -> Option<usize>
     }
 }
 
-/// What a front of the bytes says.
+/// Parses a prefix of the bytes.
 #[tactic(auto, using(crate::proofs::FrontLemmas::front_said))]
 #[inline(always)]
-pub(super) fn front_3339(text: &[u8]) -> Option<Said>
+pub(super) fn front_3339(text: &[u8]) -> Option<Match>
     ensures said { IfSome result (λ said. spec.IsReadBy greatest_year true (direct (RefusesRfc3339 greatest_year))
         (Reads greatest_year) (Refuses greatest_year) text.now (Ok said)) }
     ensures within { IfSome result (λ said. said.start + said.length ≤ length text.now) }
@@ -59,7 +59,7 @@ pub(super) fn front_3339(text: &[u8]) -> Option<Said>
     let Ok(moment) = Rfc3339.parse_offset_date_time(&text[..end], None) else {
         return None;
     };
-    Some(Said {
+    Some(Match {
         moment,
         start: 0,
         length: end,

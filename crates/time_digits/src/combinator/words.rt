@@ -1,7 +1,8 @@
 //! Digits that stand in one word.
-ghost use Rattle.std.specs.Prelude.{◌≡◌, ◌≤◌, ◌<◌, ◌-◌, ◌++◌, MatchOption, length, replicate, take};
+ghost use Rattle.std.specs.Prelude.{◌≡◌, ◌≤◌, ◌-◌, ◌++◌, MatchOption, length, replicate, take};
+ghost use Rattle.std.specs.Int.{to_le_bytes, w64};
 ghost use Rattle.time_digits.specs.Digits.{AllDigits, digits_value, Finds, IsDigitRun};
-ghost use Rattle.time_digits.specs.Words.{first_bytes, Leads};
+ghost use Rattle.time_digits.specs.Words.{first_bytes};
 
 use crate::ParsedItem;
 use crate::combinator::any_digit;
@@ -13,8 +14,7 @@ pub(super) fn digits<const N: u8>(input: &[u8]) -> Option<ParsedItem<'_, u32>>
     requires most { N ≤ 8 }
     ensures { Finds (IsDigitRun N N) (λ v. v) input.now result }
 {
-    let bytes = leading_bytes::<N>(input)?;
-    let value = join_bytes(&bytes, N)?;
+    let value = join_word(leading_word(input), N)?;
     Some(ParsedItem(&input[usize::from(N)..], value))
 }
 
@@ -28,30 +28,29 @@ pub fn nine_digits(input: &[u8]) -> Option<ParsedItem<'_, u32>>
     Some(ParsedItem(ninth.0, 10 * eight.1 + u32::from(ninth.1 - b'0')))
 }
 
-// The first bytes of the input, `N` of them at least. A byte that is absent is 0, which is no digit. `None`: four or eight
-// are wanted, and there are fewer.
+// The first eight bytes of the input in one word, the first of them its lowest byte. An absent byte is 0, which is no
+// digit.
 #[inline(always)]
-fn leading_bytes<const N: u8>(input: &[u8]) -> Option<[u8; 8]>
-    requires least { 4 ≤ N }
-    requires most { N ≤ 8 }
-    ensures { MatchOption result (length input.now < N) (λ bytes. Leads N input.now bytes) }
+fn leading_word(input: &[u8]) -> u64
+    ensures { to_le_bytes w64 result ≡ take 8 (input.now ++ replicate 8 0) }
 {
-    if N == 4 {
-        return match input {
-            [a, b, c, d, ..] => Some([*a, *b, *c, *d, 0, 0, 0, 0]),
-            _ => None,
-        };
-    }
     match input.first_chunk::<8>() {
-        Some(first) => Some(*first),
-        None if N == 8 => None,
-        None => Some(with_zeros(input)),
+        Some(first) => u64::from_le_bytes(*first),
+        None => short_word(input),
     }
 }
 
-// The bytes, and a 0 for each that is absent. It is not inlined, since most inputs have eight bytes.
+// At most eight bytes in one word, as `leading_word`. It is not inlined, since most inputs have eight bytes.
 #[cold]
 #[inline(never)]
+fn short_word(bytes: &[u8]) -> u64
+    requires { length bytes.now ≤ 8 }
+    ensures { to_le_bytes w64 result ≡ bytes.now ++ replicate (8 - length bytes.now) 0 }
+{
+    u64::from_le_bytes(with_zeros(bytes))
+}
+
+// The bytes, and a 0 for each that is absent.
 fn with_zeros(bytes: &[u8]) -> [u8; 8]
     requires { length bytes.now ≤ 8 }
     ensures { result ≡ bytes.now ++ replicate (8 - length bytes.now) 0 }
@@ -88,18 +87,6 @@ fn join_word(word: u64, n: u8) -> Option<u32>
     let fours = (pairs * 100 + (pairs >> 16)) & 0x0000_ffff_0000_ffff;
     let value = (fours * 10_000 + (fours >> 32)) & 0xffff_ffff;
     Some(value as u32)
-}
-
-// Joins the first `n` of eight bytes, where all are digits.
-#[inline(always)]
-fn join_bytes(bytes: &[u8; 8], n: u8) -> Option<u32>
-    requires least { 4 ≤ n }
-    requires most { n ≤ 8 }
-    ensures { MatchOption result
-        (¬ AllDigits (take n bytes.now))
-        (λ value. AllDigits (take n bytes.now) × (value ≡ digits_value (take n bytes.now))) }
-{
-    join_word(u64::from_le_bytes(*bytes), n)
 }
 
 #[cfg(test)]

@@ -448,12 +448,12 @@ mod walks {
     use crate::tests::hostile::RANGE_ENDS;
     use crate::tests::hostile::wide_years::DESCRIBED_YEARS;
     use crate::tests::{Row, are_answered};
+    use byte_streams::{Lent, Sink, Unwritten};
     use programs_answers::formats::{
         Target, clock_items, compound, date_items, find_target, first, fraction_items, local_items,
         second_items, unix,
     };
     use programs_answers::write_value;
-    use programs_streams::{Lent, Sink, Unwritten};
     use std::alloc::Global;
     use std::process::Abort;
 

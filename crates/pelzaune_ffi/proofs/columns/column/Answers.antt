@@ -1,6 +1,6 @@
 use Rattle.std.proofs.Common.{◌≡◌, ◌+◌, ◌≤◌, ◌⊎◌, inl, inr, length, take, drop, slice_set, [], sym, ◌∙◌, arith}
 use Rattle.std.proofs.lemmas.Grind.{common_steps}
-use Rattle.programs_answers.specs.Output.{lines_of}
+use Rattle.byte_streams.specs.Lines.{line_texts}
 use Rattle.pelzaune_ffi.specs.Columns as spec
 use Rattle.pelzaune_ffi.proofs.HeldRows.{Ends, Ends-more, Ends-all, no_lines}
 use Rattle.pelzaune_ffi.proofs.columns.column.Goals as goal
@@ -11,13 +11,13 @@ loop-index-preserved g c =
     let so_far = c.loop-index.invariant in
     let handed = c.count_first-status in
     let cut = handed.ensures.1.lines in
-    let left : Ends (g.C.Count.hands c.args.counting.now) (lines_of c.args.text.now) c.args.entries.now
-    (lines_of handed.result.1.now)
+    let left : Ends (g.C.Count.hands c.args.counting.now) (line_texts c.args.text.now) c.args.entries.now
+    (line_texts handed.result.1.now)
     (drop (c.loop-index.index + 1) (slice_set c.loop-index.entries c.loop-index.index handed.new.entry))
     (take (c.loop-index.index + 1) (slice_set c.loop-index.entries c.loop-index.index handed.new.entry))
     (c.loop-index.without + spec.one_if_refused handed.result.0) =
-    Ends-more (g.C.Count.hands c.args.counting.now) (lines_of c.args.text.now) c.args.entries.now c.loop-index.entries
-    handed.ensures.0 (lines_of handed.result.1.now) c.loop-index.index handed.result.0 c.loop-index.without
+    Ends-more (g.C.Count.hands c.args.counting.now) (line_texts c.args.text.now) c.args.entries.now c.loop-index.entries
+    handed.ensures.0 (line_texts handed.result.1.now) c.loop-index.index handed.result.0 c.loop-index.without
     handed.new.entry c.loop-index-test.true handed.ensures.2 (rw cut at so_far.4) in (
       grind (arith, common_steps, c.loop-index-test.true),
       omega (arith, so_far.1, c.one_if_refused-without.ensures.bound),
@@ -28,9 +28,9 @@ loop-index-preserved g c =
 
 pub returns-clause-entries : goal.returns-clause-entries
 returns-clause-entries g c =
-    let ended : (length c.loop-index.entries ≤ c.loop-index.index) ⊎ (lines_of c.loop-index.rest.now ≡ []) = elim c.loop-index-test.branch [
+    let ended : (length c.loop-index.entries ≤ c.loop-index.index) ⊎ (line_texts c.loop-index.rest.now ≡ []) = elim c.loop-index-test.branch [
       | then-loop-index-test+else-not-is_empty w ↦ inr (no_lines c.loop-index.rest.now (sym w.is_empty.ensures ∙ w.if-not-is_empty.false))
       | else-loop-index-test w ↦ inl w.loop-index-test.false
     ] in
-    Ends-all (g.C.Count.hands c.args.counting.now) (lines_of c.args.text.now) c.args.entries.now c.loop-index.entries
-    (lines_of c.loop-index.rest.now) c.loop-index.index c.loop-index.without ended c.loop-index.invariant.4
+    Ends-all (g.C.Count.hands c.args.counting.now) (line_texts c.args.text.now) c.args.entries.now c.loop-index.entries
+    (line_texts c.loop-index.rest.now) c.loop-index.index c.loop-index.without ended c.loop-index.invariant.4

@@ -1,5 +1,5 @@
 use Rattle.std.proofs.Common.{◌∙◌, Some, Ok, Err}
-use Rattle.programs_answers.specs.Output.{lines_of}
+use Rattle.byte_streams.specs.Lines.{line_texts}
 use Rattle.time_components.specs.Tree.{steps_shape}
 use Rattle.time_descriptions.specs.Description.{shape}
 use Rattle.time_descriptions.specs.Refusal.{refusal_of}
@@ -13,11 +13,11 @@ pub returns-in-Ok-clause-entries : goal.returns-in-Ok-clause-entries
 returns-in-Ok-clause-entries c =
     IsColumn-map (by_tree (steps_shape c.new.result)) (HandsRead IsCountHanded of_moment (Some c.args.syntax) c.args.description.now)
     (λ line status old new h. (Ok (shape c.in-Ok.found), c.in-Ok.ensures.ok, rw c.new.ensures at h))
-    (lines_of c.args.text.now) c.args.entries.now c.column.new.entries c.column.new.refused c.column.ensures.entries
+    (line_texts c.args.text.now) c.args.entries.now c.column.new.entries c.column.new.refused c.column.ensures.entries
 
 pub returns-in-Err-clause-entries : goal.returns-in-Err-clause-entries
 returns-in-Err-clause-entries c =
     IsColumn-map (refusing c.fault_status.result) (HandsRead IsCountHanded of_moment (Some c.args.syntax) c.args.description.now)
     (λ line status old new h. (Err (refusal_of c.in-Err.error), c.in-Err.ensures.err, (h.0 ∙ c.fault_status.ensures, h.1)))
-    (lines_of c.args.text.now) c.args.entries.now c.column-in-Err.new.entries c.column-in-Err.new.refused
+    (line_texts c.args.text.now) c.args.entries.now c.column-in-Err.new.entries c.column-in-Err.new.refused
     c.column-in-Err.ensures.entries

@@ -1,7 +1,8 @@
 use Rattle.std.proofs.Common.{◌≡◌, ◌++◌, [], ◌∙◌, refl, subst, sym, append-nil, arith}
 use Rattle.std.proofs.KnownBytes.{Appends-trans}
 use Rattle.std.proofs.lemmas.Grind.{common_steps}
-use Rattle.programs_answers.specs.Output.{lines_of, AreAnswers}
+use Rattle.byte_streams.specs.Lines.{line_texts}
+use Rattle.programs_answers.specs.Output.{AreAnswers}
 use Rattle.programs_answers.proofs.OutputLemmas.{AreAnswers-more, append_known-none}
 use Rattle.programs_answers.proofs.serving.answer_lines.Goals as goal
 
@@ -15,8 +16,8 @@ loop-rest-preserved g c =
       (
         so_far.0 ++ more.0,
         Appends-trans _ _ _ so_far.0 more.0 so_far.1 more.2,
-        AreAnswers-more (g.A.Answering.is_answer c.args.answering.now) (lines_of c.loop-rest.rest.now)
-            (lines_of c.first_line.result.1.now) (lines_of c.args.input.now) c.first_line.result.0.now so_far.0 more.0
+        AreAnswers-more (g.A.Answering.is_answer c.args.answering.now) (line_texts c.loop-rest.rest.now)
+            (line_texts c.first_line.result.1.now) (line_texts c.args.input.now) c.first_line.result.0.now so_far.0 more.0
             c.first_line.ensures.line more.1 so_far.2,
       ),
       c.in_ok-add_line.ensures.cause ∙ c.loop-rest.invariant.1,
@@ -28,6 +29,6 @@ returns-clause-answers g c =
     let so_far = c.loop-rest.invariant.0 in
     let none : c.loop-rest.rest.now ≡ [] = grind (arith, common_steps) in (
       so_far.0 ++ [],
-      so_far.2 [] (subst (λ r. AreAnswers (g.A.Answering.is_answer c.args.answering.now) (lines_of r) []) (sym none) refl),
+      so_far.2 [] (subst (λ r. AreAnswers (g.A.Answering.is_answer c.args.answering.now) (line_texts r) []) (sym none) refl),
       rw append-nil so_far.1,
     )

@@ -1,7 +1,7 @@
 -- What is left began, before the loop, with what was read, by reads of which none failed and each gave a byte at least.
 use Rattle.std.specs.Io.KnownBytes.{Consumes}
 use Rattle.std.proofs.Common.{◌≡◌, ◌≤◌, length}
-use Rattle.programs_streams.specs.Faults.{count_more}
+use Rattle.byte_streams.specs.Faults.{count_more}
 use Rattle.programs_answers.proofs.serving.read_all.Given as goal
 
 abbrev pub invariant-loop-turn : goal.invariant-loop-turn

@@ -1,4 +1,4 @@
--- The formats before the index were added.
+-- The formats before the index are in the list.
 use Rattle.std.proofs.Common.{take, map}
 use Rattle.restamp_command.specs.Request.{AddsFormats}
 use Rattle.restamp_command.proofs.formats.add_formats.Given as goal

@@ -2,7 +2,7 @@ use Rattle.std.proofs.Common.{◌≡◌, ◌⊎◌, inl, inr, ⊎_elim, ℕ, Lis
 use Rattle.restamp_in_place.specs.Replacing.{stored, MayLead, HasSameBytes, IsNew, SafeIsOldOrNew}
 use Rattle.restamp_in_place.proofs.laws.law_old_or_new.Goals as goal
 
--- ---- A file that is safe has the old bytes or the new ones
+-- ---- A safe file has the old bytes or the new ones
 
 safe-old_or_new : SafeIsOldOrNew
 safe-old_or_new before after name old number backup new disk safe file may = ⊎_elim kept made (safe file may)

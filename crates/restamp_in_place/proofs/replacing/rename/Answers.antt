@@ -1,5 +1,5 @@
-use Rattle.restamp_in_place.specs.Phases.{Backed, LooseBacked, Put}
-use Rattle.restamp_in_place.proofs.PhaseLemmas.{loose-backed}
+use Rattle.restamp_in_place.specs.Phases.{Backed, BackupRemovable, Put}
+use Rattle.restamp_in_place.proofs.PhaseLemmas.{removable-backed}
 use Rattle.restamp_in_place.proofs.StepLemmas.{runs-ok, runs-any, did_rename, rename_failed}
 use Rattle.restamp_in_place.proofs.replacing.rename.Goals as goal
 
@@ -9,4 +9,4 @@ returns-in-Ok g c aim plan =
 
 pub returns-in-Err : goal.returns-in-Err
 returns-in-Err g c aim plan =
-    runs-any _ _ _ _ (Backed aim) (LooseBacked aim) c.in-Err.ensures (rename_failed aim _ _ plan.temporary plan.name) (loose-backed aim)
+    runs-any _ _ _ _ (Backed aim) (BackupRemovable aim) c.in-Err.ensures (rename_failed aim _ _ plan.temporary plan.name) (removable-backed aim)

@@ -1,10 +1,10 @@
-use Rattle.restamp_stream.proofs.DidLemmas.{DidFiles-done, done, why_stopped}
+use Rattle.restamp_stream.proofs.ProcessedLemmas.{ProcessedFiles-done, done, why_stopped}
 use Rattle.restamp_stream.proofs.laws.law_done.Goals as goal
 
 pub returns-clause-done : goal.returns-clause-done
 returns-clause-done g c =
     done c.serve_files.result _ _ _ _ c.serve_files.ensures.ok
-    (DidFiles-done (g.T.Rewriting.is_fate c.args.rewriting.now) (g.T.Rewriting.is_reason c.args.rewriting.now) c.args.settings
+    (ProcessedFiles-done (g.T.Rewriting.is_fate c.args.rewriting.now) (g.T.Rewriting.is_reason c.args.rewriting.now) c.args.settings
     (g.O.Opening.bytes_of c.args.opening.now) _ _ _ _ _)
 
 pub returns-clause-stopped : goal.returns-clause-stopped

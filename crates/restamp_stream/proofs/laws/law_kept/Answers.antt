@@ -1,5 +1,6 @@
 use Rattle.restamp_stream.specs.Streams.{job_of}
-use Rattle.restamp_stream.proofs.LinesLemmas.{kept_bytes, joined-lines_of}
+use Rattle.restamp_stream.proofs.LinesLemmas.{kept_bytes}
+use Rattle.byte_streams.proofs.LinesLemmas.{joined-lines_of}
 use Rattle.restamp_stream.proofs.laws.law_kept.Goals as goal
 
 pub returns : goal.returns

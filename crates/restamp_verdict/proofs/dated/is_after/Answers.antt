@@ -6,7 +6,7 @@ use Rattle.time_values.specs.Moments.{offset_instant}
 use Rattle.time_values.specs.Calendar.{greatest_year}
 use Rattle.restamp_verdict.proofs.dated.is_after.Goals as goal
 
--- whole seconds that differ tell which of two instants in nanoseconds is the later one
+-- different whole seconds decide which of two instants in nanoseconds is later
 module _ (m n s t : ℤ) (low : (s *ℤ pos 1_000_000_000) ≤ℤ m) (high : m <ℤ ((s *ℤ pos 1_000_000_000) +ℤ pos 1_000_000_000))
     (least : (t *ℤ pos 1_000_000_000) ≤ℤ n) (most : n <ℤ ((t *ℤ pos 1_000_000_000) +ℤ pos 1_000_000_000)) (differ : s ≢ t) where
   by_second : (a : Bool) → int_lt t s ≡ a → int_lt t s ≡ int_lt n m

@@ -1,18 +1,30 @@
-use Rattle.std.proofs.Common.{Ok}
+use Rattle.std.proofs.Common.{◌≡◌, List, [], drop, Ok, Err, refl, sym, subst, arith}
+use Rattle.std.proofs.Math.ListN.{drop_of_length-le}
 use Rattle.time_values.specs.Calendar.{greatest_year}
-use Rattle.restamp_verdict.specs.Reason.{seen}
-use Rattle.restamp_verdict.proofs.SayingLemmas.{tried-here, tried-later}
+use Rattle.restamp_verdict.specs.Reading.{AreTried}
+use Rattle.restamp_verdict.specs.declared.reading.Reading.{Reading}
+use Rattle.restamp_verdict.proofs.ParseLemmas.{tried-here, tried-later}
 use Rattle.restamp_verdict.proofs.dated.read_others.Goals as goal
 
 pub returns-in-Ok-clause-said : goal.returns-in-Ok-clause-said
-returns-in-Ok-clause-said c =
-    c.loop-reading.invariant (Ok c.in-Ok.said)
+returns-in-Ok-clause-said g c = λ reason of.
+    c.loop-reading.invariant reason (Ok c.in-Ok.said)
     (tried-here greatest_year c.args.readings.now c.loop-reading.reading-index c.reading-item.result c.loop-reading-test.true
-    c.reading-item.is c.args.is_open c.args.text.now c.args.defaults.now (seen c.args.reason) c.in-Ok.said c.in-Ok.ensures.said)
+    c.reading-item.is c.args.is_prefix c.args.text.now c.args.defaults.now reason c.in-Ok.said c.in-Ok.ensures.said)
 
 pub loop-reading-preserved : goal.loop-reading-preserved
-loop-reading-preserved c = λ result later.
-    c.loop-reading.invariant result
+loop-reading-preserved g c = λ reason result later.
+    let why = c.in_default.ensures.said in
+    c.loop-reading.invariant reason result
     (tried-later greatest_year c.args.readings.now c.loop-reading.reading-index c.reading-item.result c.loop-reading-test.true
-    c.reading-item.is c.args.is_open c.args.text.now c.args.defaults.now (seen c.args.reason) (seen c.in_default.field-0) result
-    c.in_default.ensures.said later)
+    c.reading-item.is c.args.is_prefix c.args.text.now c.args.defaults.now reason why.0 result why.2 later)
+
+pub returns-clause-said : goal.returns-clause-said
+returns-clause-said g c = λ reason of.
+    let none : drop c.loop-reading.reading-index c.args.readings.now ≡ [] = drop_of_length-le c.args.readings.now (omega arith) in (
+      reason,
+      of,
+      c.loop-reading.invariant reason (Err reason)
+          (subst (λ (left : List Reading). AreTried greatest_year left c.args.is_prefix c.args.text.now c.args.defaults.now reason (Err reason))
+          (sym none) refl),
+    )

@@ -2,13 +2,13 @@ use Rattle.std.proofs.Common.{drop}
 use Rattle.std.specs.Prelude.{Result}
 use Rattle.time_values.specs.Calendar.{greatest_year}
 use Rattle.restamp_verdict.specs.Reading.{AreTried}
-use Rattle.restamp_verdict.specs.Reason.{Reason, seen}
-use Rattle.restamp_verdict.specs.declared.reading.Said.{Said}
+use Rattle.restamp_verdict.specs.Reason.{Reason}
+use Rattle.restamp_verdict.specs.declared.reading.Match.{Match}
 use Rattle.restamp_verdict.proofs.dated.read_others.Given as goal
 
--- what the formats that are left answer, all of them answer
+-- the result of the remaining formats is that of all of them
 abbrev pub invariant-loop-reading : goal.invariant-loop-reading
-invariant-loop-reading l =
-    (result : Result Said Reason)
-    → AreTried greatest_year (drop l.reading-index l.readings) l.is_open l.text l.defaults (seen l.reason) result
-    → AreTried greatest_year l.readings l.is_open l.text l.defaults (seen l.reason) result
+invariant-loop-reading g l =
+    (reason : Reason) (result : Result Match Reason)
+    → AreTried greatest_year (drop l.reading-index l.readings) l.is_prefix l.text l.defaults reason result
+    → AreTried greatest_year l.readings l.is_prefix l.text l.defaults reason result

@@ -3,20 +3,24 @@ use Rattle.std.specs.Prelude.{◌+ℤ◌}
 use Rattle.std.proofs.lemmas.Int.{ints}
 use Rattle.time_values.specs.Calendar.{greatest_year}
 use Rattle.restamp_verdict.specs.Reading.{undated, AreYearsTried}
-use Rattle.restamp_verdict.specs.Reason.{seen, seen_read}
-use Rattle.restamp_verdict.proofs.SayingLemmas.{one_more, dated-none, dated-years}
+use Rattle.restamp_verdict.proofs.GivesLemmas.{gives_so}
+use Rattle.restamp_verdict.proofs.ParseLemmas.{one_more, dated-none, dated-years}
 use Rattle.restamp_verdict.proofs.dated.read_undated.Goals as goal
 
 pub returns-in_default-clause-said : goal.returns-in_default-clause-said
-returns-in_default-clause-said c =
-    dated-none greatest_year c.args.reading.now c.args.is_open c.args.text.now c.args.defaults.now (seen c.args.reason)
-    c.in_default.is c.requires
+returns-in_default-clause-said g c = (
+  c.requires.0,
+  c.requires.1,
+  dated-none greatest_year c.args.reading.now c.args.is_prefix c.args.text.now c.args.defaults.now c.requires.0 c.in_default.is c.requires.2,
+)
 
 pub returns-clause-said : goal.returns-clause-said
-returns-clause-said c =
-    let u = undated c.args.reading.now c.args.is_open c.args.text.now c.args.defaults.now.offset c.args.defaults.now.clocks c.in-Some.latest in
-    let tried = subst (λ (y : ℤ). AreYearsTried greatest_year u 10 y (seen c.args.reason) (seen_read c.read_years.result))
-    (one_more c.year.result (omega (arith, ints)) (omega (arith, ints))) c.read_years.ensures.said in
-    dated-years greatest_year c.args.reading.now c.args.is_open c.args.text.now c.args.defaults.now (seen c.args.reason)
-    c.in-Some.latest (c.year.result +ℤ pos 1) (seen_read c.read_years.result) c.in-Some.is c.requires
-    (ap (λ (y : ℤ). y +ℤ pos 1) c.year.ensures) tried
+returns-clause-said g c =
+    let u = undated c.args.reading.now c.args.is_prefix c.args.text.now c.args.defaults.now.offset c.args.defaults.now.clocks c.in-Some.latest in
+    let why = c.requires.0 in
+    gives_so g.E.FromReason.is_of c.read_years.result
+    (λ given tried. dated-years greatest_year c.args.reading.now c.args.is_prefix c.args.text.now c.args.defaults.now why
+    c.in-Some.latest (c.year.result +ℤ pos 1) given c.in-Some.is c.requires.2 (ap (λ (y : ℤ). y +ℤ pos 1) c.year.ensures)
+    (subst (λ (y : ℤ). AreYearsTried greatest_year u 10 y why given)
+    (one_more c.year.result (omega (arith, ints)) (omega (arith, ints))) tried))
+    (c.read_years.ensures.said why c.requires.1)

@@ -22,14 +22,14 @@ seconds_near : (n z : ℤ) → IsInstant greatest_year n → IsWhole 1_000_000_0
 seconds_near n z within whole =
     (omega (arith, ints, first_instant_is, last_instant_is), omega (arith, ints, first_instant_is, last_instant_is))
 
--- whole seconds, of which an instant is so many and some nanoseconds
+-- an instant is that many whole seconds and some nanoseconds
 millis : (n k z : ℤ) (ns q r : ℕ) → n ≡ k *ℤ pos 1_000_000_000 +ℤ pos ns → ns < 1_000_000_000 → ns ≡ q * 1_000_000 + r → r < 1_000_000
     → IsWhole 1_000_000_000 n z → IsWhole 1_000_000 n (z *ℤ pos 1_000 +ℤ pos q)
 millis n k z ns q r is low split small whole =
     let same : z ≡ k = omega (arith, ints) in
     rw same (omega (arith, ints), omega (arith, ints))
 
--- what is passed on as 64 bits stays
+-- 64 bits keep the number
 seconds_kept : (n z : ℤ) → IsInstant greatest_year n → IsWhole 1_000_000_000 n z → to_z w64 (of_z w64 z) ≡ z
 seconds_kept n z within whole =
     to_z-of_z w64 z (omega (arith, ints, seconds_near n z within whole))

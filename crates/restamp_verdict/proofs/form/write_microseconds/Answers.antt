@@ -4,18 +4,18 @@ use Rattle.std.specs.Int.{w128}
 use Rattle.std.proofs.lemmas.Int.{ints, to_z-of_z}
 use Rattle.time_values.specs.Instants.{IsInstant, IsWhole}
 use Rattle.time_values.specs.Calendar.{greatest_year}
-use Rattle.restamp_verdict.proofs.OneWrong.{microseconds_short}
+use Rattle.restamp_verdict.proofs.OneErrorLocation.{microseconds_short}
 use Rattle.restamp_verdict.proofs.form.write_microseconds.Goals as goal
 
 pub wide_number-requires : goal.wide_number-requires
-wide_number-requires c =
-    let stamp = c.in_ok-stamp_of in
-    microseconds_short stamp.field-0.nanoseconds c.as_microseconds.result
+wide_number-requires g c =
+    let stamp = c.in-Some in
+    microseconds_short stamp.stamp.nanoseconds c.as_microseconds.result
     (subst (IsInstant greatest_year) (sym stamp.ensures.1) stamp.ensures.0) c.as_microseconds.ensures
 
 pub returns : goal.returns
-returns c =
-    let stamp = c.in_ok-stamp_of in
+returns g c =
+    let stamp = c.in-Some in
     let kept = to_z-of_z w128 c.as_microseconds.result (omega (arith, ints)) in (
       stamp.ensures.0,
       (

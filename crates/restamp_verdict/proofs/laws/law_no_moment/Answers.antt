@@ -1,5 +1,5 @@
 use Rattle.time_values.specs.Calendar.{greatest_year}
-use Rattle.restamp_verdict.proofs.LackMoments.{says_no_moment}
+use Rattle.restamp_verdict.proofs.MissingFieldMoments.{says_no_moment}
 use Rattle.restamp_verdict.proofs.laws.law_no_moment.Goals as goal
 
 pub returns : goal.returns

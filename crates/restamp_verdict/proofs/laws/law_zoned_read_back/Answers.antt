@@ -16,35 +16,35 @@ use Rattle.time_zones.specs.declared.finding.NamedZone.{NamedZone}
 use Rattle.time_zones.specs.declared.zones.Zones.{Zones}
 use Rattle.time_zones.proofs.FolderLemmas.{goes_with_found}
 use Rattle.time_zones.proofs.NameLemmas.{written_is_suffix}
-use Rattle.restamp_verdict.specs.Zoned.{IsShown, tells_offset}
+use Rattle.restamp_verdict.specs.Zoned.{IsConverted, tells_offset}
 use Rattle.restamp_verdict.specs.Form.{IsWritten}
 use Rattle.restamp_verdict.specs.Laws.{HasZone, IsZoneOfClock, ReadsZonedBack, WritesZonedSame}
-use Rattle.restamp_verdict.specs.Reading.{Says, said}
+use Rattle.restamp_verdict.specs.Reading.{ParsesAs, said}
 use Rattle.restamp_verdict.specs.Reason.{Reason}
 use Rattle.restamp_verdict.specs.declared.clock.Clock.{Clock}
 use Rattle.restamp_verdict.specs.declared.clock.Clock.TheVariants as clock
 use Rattle.restamp_verdict.specs.declared.form.Form.{Form}
 use Rattle.restamp_verdict.specs.declared.reading.Defaults.{Defaults}
 use Rattle.restamp_verdict.specs.declared.reading.Reading.TheVariants as reading
-use Rattle.restamp_verdict.specs.declared.reading.Said.{Said}
+use Rattle.restamp_verdict.specs.declared.reading.Match.{Match}
 use Rattle.restamp_verdict.proofs.OneWriting.{one_written}
 use Rattle.restamp_verdict.proofs.WrittenAgain.{back}
 use Rattle.restamp_verdict.proofs.FrontLemmas.{reads_suffixed_back}
 use Rattle.restamp_verdict.proofs.laws.law_zoned_read_back.Goals as goal
 
--- ---- A time with the suffix of the zone on whose clock it was shown is read back, and written so again
+-- ---- A timestamp with the suffix of the zone that it was converted to parses back, and writing it again gives the same text
 
 same_offset : (own zone : ℤ) → own ≡ zone → Ok tt ≡ compared own zone
 same_offset own zone e = rw ((Decides-int_eq own zone).1 e) refl
 
-untold : (found : Option NamedZone) (m : OffsetDateTime) (zone : TimeZone) (r : Checked) → r ≡ Ok tt
+outside_zone_range : (found : Option NamedZone) (m : OffsetDateTime) (zone : TimeZone) (r : Checked) → r ≡ Ok tt
     → IsZoneIfAny found (Some zone) → MatchOption found (r ≡ Err UnknownZone) (λ z. GoesWithNamed false m z r)
-untold None m zone r e h = absurd h
-untold (Some z) m zone r e h = e
+outside_zone_range None m zone r e h = absurd h
+outside_zone_range (Some z) m zone r e h = e
 
--- a moment that is shown on a clock goes with the zone of the clock
+-- a moment that is converted to a zone's clock fits the zone
 goes : (zones : Zones) (tells : Bool) (on : Clock) (v w : OffsetDateTime) (z : Told)
-    → IsShown greatest_year on v (Some w) → IsZoneOfClock zones on z → GoesWithZone zones tells w z (Ok tt)
+    → IsConverted greatest_year on v (Some w) → IsZoneOfClock zones on z → GoesWithZone zones tells w z (Ok tt)
 goes zones tells clock.Own v w z shown its = absurd its
 goes zones true (clock.Fixed o) v w (at_offset p) shown its =
     same_offset (offset_seconds (offset_of w)) (offset_seconds p) (ap offset_seconds (shown.1 ∙ sym its))
@@ -56,17 +56,17 @@ goes zones true (clock.Zone zone) v w (named name) shown its =
       subst IsTimestampNanos (sym shown.0) shown.1,
       same_offset (offset_seconds (offset_of w)) _ (shown.2 ∙ ap (Zone.offset_at zone) (sym shown.0)),
     ))
-goes zones false (clock.Zone zone) v w (named name) shown its = untold (zone_named zones name) w zone (Ok tt) refl its
+goes zones false (clock.Zone zone) v w (named name) shown its = outside_zone_range (zone_named zones name) w zone (Ok tt) refl its
 
--- the one thing that such a text with its suffix says
+-- such a text with its suffix has exactly one match
 module _ (zones : Zones) (defaults : Defaults) (form : Form) (v : OffsetDateTime) (text name : List ℕ)
     (is : HasZone greatest_year zones defaults form v text name) where
   abbrev whole : List ℕ
   whole = text ++ bracketed false name
 
-  one : (w : OffsetDateTime) (read : Result Said Reason) → IsShown greatest_year form.clock v (Some w)
-      → Says greatest_year reading.Rfc3339 false text defaults (Ok (said w (length text)))
-      → Says greatest_year (reading.Zoned zones) false whole defaults read → read ≡ Ok (said w (length whole))
+  one : (w : OffsetDateTime) (read : Result Match Reason) → IsConverted greatest_year form.clock v (Some w)
+      → ParsesAs greatest_year reading.Rfc3339 false text defaults (Ok (said w (length text)))
+      → ParsesAs greatest_year (reading.Zoned zones) false whole defaults read → read ≡ Ok (said w (length whole))
   one w read shown says zoned =
       reads_suffixed_back zones defaults w text (bracketed false name) (Some (record { is_critical = false; zone = is.zone })) [] read
       says (written_is_suffix name is.zone is.told) (goes zones (tells_offset text) form.clock v w is.zone shown is.of_clock) zoned
@@ -74,7 +74,7 @@ module _ (zones : Zones) (defaults : Defaults) (form : Form) (v : OffsetDateTime
 reads_zoned_back : ReadsZonedBack greatest_year
 reads_zoned_back zones defaults form v text name read is says =
     let it = back reading.Rfc3339 defaults form v text is.readable in
-    subst (λ (r : Result Said Reason). IsOkAnd r (λ s. IsShown greatest_year form.clock v (Some s.moment) × (s.start ≡ 0)
+    subst (λ (r : Result Match Reason). IsOkAnd r (λ s. IsConverted greatest_year form.clock v (Some s.moment) × (s.start ≡ 0)
     × (s.length ≡ length (text ++ bracketed false name))))
     (sym (one zones defaults form v text name is it.0 read it.1.shown it.1.says says)) (it.1.shown, refl, refl)
 

@@ -6,13 +6,13 @@ use Rattle.std.proofs.lemmas.List.{length-take-le, length-drop}
 use Rattle.std.proofs.lemmas.List.Sums.{prefix_len-le-length}
 use Rattle.std.proofs.lemmas.Str.Ascii.{trim_ascii_start_is, trim_ascii_end_is}
 use Rattle.time_values.specs.declared.offset_date_time.OffsetDateTime.{OffsetDateTime}
-use Rattle.restamp_verdict.specs.Reading.{before_blanks, said_bare}
-use Rattle.restamp_verdict.specs.declared.reading.Said.{Said}
+use Rattle.restamp_verdict.specs.Reading.{before_blanks, bare_match}
+use Rattle.restamp_verdict.specs.declared.reading.Match.{Match}
 use Rattle.restamp_verdict.proofs.reading.bare.Goals as goal
 
--- ---- What a mail date says without the blanks at both ends of it
+-- ---- The match of a mail date without white space at both ends of it
 
-abbrev said_at : OffsetDateTime → ℕ → ℕ → Said
+abbrev said_at : OffsetDateTime → ℕ → ℕ → Match
 said_at v start n = record { moment = v; start = start; length = n }
 
 module _ (text front middle : List ℕ) (begins : IsTrimAsciiStart text front) (ends : IsTrimAsciiEnd front middle) where
@@ -27,7 +27,7 @@ module _ (text front middle : List ℕ) (begins : IsTrimAsciiStart text front) (
       ∙ length-take-le (before_blanks front) front (omega arith)
       ∙ ap before_blanks (trim_ascii_start_is text front begins)
 
-  pub bare_is : (v : OffsetDateTime) → said_at v (length text - length front) (length middle) ≡ said_bare v text
+  pub bare_is : (v : OffsetDateTime) → said_at v (length text - length front) (length middle) ≡ bare_match v text
   bare_is v = ap (λ (n : ℕ). said_at v n (length middle)) start_is ∙ ap (said_at v (prefix_len is_ascii_whitespace text)) length_is
 
 pub returns-clause-said : goal.returns-clause-said

@@ -1,7 +1,8 @@
 use Rattle.std.specs.Option.{option_map}
 use Rattle.std.proofs.Common.{◌≡◌, ℕ, zero, suc, ◌+◌, ◌<◌, List, [], ◌∷◌, length, get_or, take, drop, refl, ap, arith, ◌∙◌, None, Some, sym}
 use Rattle.std.proofs.lemmas.Bool.Decides.{nat_tests}
-use Rattle.programs_answers.proofs.OutputLemmas.{drop_more, tail_range}
+use Rattle.std.proofs.lemmas.List.{take_rest}
+use Rattle.byte_streams.proofs.LinesLemmas.{drop_more}
 use Rattle.time_lines.specs.Output.{cut_at_tab}
 use Rattle.time_lines.proofs.serving.cut_tab.Goals as goal
 
@@ -31,7 +32,7 @@ cut_at_tab-none (x ∷ xs) before =
 
 pub returns-then-b-eq9 : goal.returns-then-b-eq9
 returns-then-b-eq9 c =
-    rw (tail_range (c.loop-i.i + 1) c.args.bytes.now) (sym (cut_at_tab-found c.args.bytes.now c.loop-i.i (omega arith) c.if-b-eq9.true c.loop-i.invariant))
+    rw (take_rest c.args.bytes.now (c.loop-i.i + 1)) (sym (cut_at_tab-found c.args.bytes.now c.loop-i.i (omega arith) c.if-b-eq9.true c.loop-i.invariant))
 
 pub returns : goal.returns
 returns c = sym (cut_at_tab-none c.args.bytes.now (λ k below. c.loop-i.invariant k (omega arith)))

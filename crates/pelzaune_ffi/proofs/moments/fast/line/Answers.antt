@@ -1,3 +1,4 @@
+use Rattle.std.specs.Prelude.{map}
 use Rattle.std.specs.Char.{to_ascii_lowercase}
 use Rattle.std.proofs.Common.{◌≡◌, ◌≢◌, ◌≤◌, ◌+◌, ◌∙◌, ℕ, Bool, true, false, Option, Some, None, Ok, List, [], ◌∷◌, ◌++◌, length, get_or, ap, refl, sym, subst, inl, inr, arith, append_assoc, append-nil}
 use Rattle.std.proofs.lemmas.Bool.Decides.{nat_tests}
@@ -16,7 +17,7 @@ use Rattle.time_readers.specs.Direct.{IsMade, RefusesRfc3339, said_rfc3339}
 use Rattle.time_readers.proofs.Walking.{Stand-append, Stand-split}
 use Rattle.time_parsing.specs.Outcome.{direct}
 use Rattle.time_parsing.specs.Rfc3339.{Reads, Refuses}
-use Rattle.programs_answers.specs.Output.{lines_of, onto_first}
+use Rattle.byte_streams.specs.Lines.{Line, ended, unended, line_texts, lines_of, onto_first}
 use Rattle.pelzaune_ffi.specs.Columns.{EndsLine, IsFirstLine}
 use Rattle.pelzaune_ffi.specs.Handed.{of_moment}
 use Rattle.pelzaune_ffi.proofs.IsoInPlace.{outcome_of}
@@ -42,16 +43,16 @@ digits_apart (c ∷ text) all = (λ is. omega (arith, is, all.0), digits_apart t
 past_lf : (b : ℕ) (bytes : List ℕ) → b ≢ 10 → lines_of (b ∷ bytes) ≡ onto_first b (lines_of bytes)
 past_lf b bytes other = grind (arith, nat_tests)
 
-line_before : (line after : List ℕ) → NoLf line → lines_of (line ++ 10 ∷ after) ≡ line ∷ lines_of after
+line_before : (line after : List ℕ) → NoLf line → lines_of (line ++ 10 ∷ after) ≡ ended line ∷ lines_of after
 line_before [] after apart = refl
 line_before (b ∷ line) after apart =
     past_lf b (line ++ 10 ∷ after) apart.0 ∙ ap (onto_first b) (line_before line after apart.1)
 
-line_alone : (b : ℕ) (line : List ℕ) → NoLf (b ∷ line) → lines_of (b ∷ line) ≡ (b ∷ line) ∷ []
+line_alone : (b : ℕ) (line : List ℕ) → NoLf (b ∷ line) → lines_of (b ∷ line) ≡ unended (b ∷ line) ∷ []
 line_alone b [] apart = past_lf b [] apart.0
 line_alone b (c ∷ line) apart = past_lf b (c ∷ line) apart.0 ∙ ap (onto_first b) (line_alone c line apart.1)
 
-line_whole : (line : List ℕ) → NoLf line → 1 ≤ length line → lines_of line ≡ line ∷ []
+line_whole : (line : List ℕ) → NoLf line → 1 ≤ length line → lines_of line ≡ unended line ∷ []
 line_whole [] apart some = absurd (omega (arith, some))
 line_whole (b ∷ line) apart some = line_alone b line apart
 
@@ -253,13 +254,15 @@ is_first : (line text rest after : List ℕ) → text ≡ line ++ rest → NoLf 
 is_first line text rest after is apart some (inl lf) =
     let whole : text ≡ line ++ 10 ∷ after = rw lf at is in
     record {
-      lines = ap lines_of whole ∙ line_before line after apart;
+      lines = ap line_texts whole ∙ ap (map (λ (l : Line). l.text)) (line_before line after apart);
       shorter = omega (arith, ap length whole, length-append line (10 ∷ after));
     }
 is_first line text rest after is apart some (inr none) =
     let whole : text ≡ line = is ∙ ap (λ x. line ++ x) none.0 ∙ append-nil line in
     record {
-      lines = ap lines_of whole ∙ line_whole line apart (omega (arith, ap length whole, some)) ∙ ap (λ x. line ∷ lines_of x) (sym none.1);
+      lines =
+          ap line_texts whole ∙ ap (map (λ (l : Line). l.text)) (line_whole line apart (omega (arith, ap length whole, some)))
+          ∙ ap (λ x. line ∷ line_texts x) (sym none.1);
       shorter = omega (arith, ap length none.1, some);
     }
 

@@ -7,7 +7,7 @@ use Rattle.restamp_command.proofs.request.Request.new.Goals as goal
 pub returns-in-Err : goal.returns-in-Err
 returns-in-Err g c =
     fault_at greatest_year c.args.now c.args.options.now (told c.in-Err.fault)
-    (others_fault greatest_year c.args.options.now c.gives_year.result _ (told c.in-Err.fault) c.gives_year.ensures
+    (others_fault greatest_year c.args.options.now c.has_default_year.result _ (told c.in-Err.fault) c.has_default_year.ensures
     c.other_names-names.ensures c.in-Err.ensures.err)
 
 pub find_bounds-requires-clause-given : goal.find_bounds-requires-clause-given
@@ -18,7 +18,7 @@ returns g c = record {
   place = c.in_ok-place.ensures;
   formats = (
     c.in_ok-first.ensures,
-    rw (c.gives_year.ensures, c.other_names-names.ensures, c.new-others.ensures.items) at c.in_default.ensures.ok,
+    rw (c.has_default_year.ensures, c.other_names-names.ensures, c.new-others.ensures.items) at c.in_default.ensures.ok,
   );
   uses = rw c.as_slice-2.ensures.value at c.in_default-find_unused.ensures;
   given = rw c.as_slice.ensures.value at c.in-Ok.ensures;

@@ -1,18 +1,18 @@
-use Rattle.std.proofs.Common.{◌≡◌, ℕ, List, ap, ◌∙◌}
+use Rattle.std.proofs.Common.{◌≡◌, ℕ, List, ap, sym, subst, ◌∙◌}
 use Rattle.time_values.specs.Calendar.{greatest_year}
 use Rattle.restamp_stream.specs.declared.fate.Fate.{Fate}
 use Rattle.restamp_stream.specs.declared.fate.Fate.TheVariants.{Refused}
 use Rattle.restamp_stream.proofs.LinesLemmas.{OnOk-map}
-use Rattle.restamp_verdict.specs.Job.{Verdict, IsJudged, without, dropped}
+use Rattle.restamp_verdict.specs.Job.{Verdict, IsJudged, without, dropped, refused}
 use Rattle.restamp_verdict.specs.declared.job.Job.{Job}
-use Rattle.restamp_verdict.specs.Reason.{seen}
+use Rattle.restamp_verdict.specs.Reason.{Reason, seen}
 use Rattle.restamp_verdict.proofs.OneVerdict.{one_verdict}
 use Rattle.restamp_command.specs.Rewriting.{IsFate, fate_of}
 use Rattle.restamp_command.proofs.rewriting.RestampingRewriting.write_reason.Goals as goal
 
--- ---- What a refused front's verdict is
+-- ---- The verdict on a rejected front
 
--- a front's fate is that of each of its verdicts
+-- each verdict on a front has the front's fate
 fate_of-verdict : (job : Job) (front : List ℕ) (fate : Fate) (verdict : Verdict)
     → IsFate greatest_year job front fate → IsJudged greatest_year job front verdict → fate ≡ fate_of verdict
 fate_of-verdict job front fate verdict p q = p.2 ∙ ap fate_of (one_verdict job front p.0 verdict p.1 q)
@@ -34,6 +34,8 @@ returns-in-Dropped g c =
 
 pub returns-in-Refused-clause-told : goal.returns-in-Refused-clause-told
 returns-in-Refused-clause-told g c =
-    let judged = rw c.in-Refused.is at c.judge.ensures.verdict in
-    OnOk-map c.write_wrong.result _ _ c.write_wrong.ensures.told
+    let why = rw c.in-Refused.is at c.judge.ensures.verdict in
+    let judged = subst (λ (reason : Reason). IsJudged greatest_year c.args.self.now.job c.args.front.now (refused c.in-Refused.column reason))
+    (sym why.1) why.2 in
+    OnOk-map c.write_location.result _ _ c.write_location.ensures.told
     (λ told. (told.0, told.1, (c.in-Refused.column, seen c.in-Refused.reason, judged, told.2), told.3))

@@ -15,7 +15,7 @@ returns-in_default-ended-clause-ok g c =
     Continues-same job old _ _ _ _ _ _ _ _
     (GoesOn-held job old (held_out g.W.Sink.contents c.end_line.new.self) _ _ c.args.rest.now _ (ap g.L.Sink.contents c.in-Ok.ensures.log)
     c.in-Ok.ensures.tally cut.1 cut.2)
-    c.as_slice.ensures.bytes (sym cut.0) (sym c.clear.ensures)
+    c.as_slice.ensures.bytes (sym cut.0) (sym c.clear.ensures.items)
 
 pub returns-then-n-lt-LIMIT-clause-held : goal.returns-then-n-lt-LIMIT-clause-held
 returns-then-n-lt-LIMIT-clause-held g c =
@@ -54,7 +54,7 @@ returns-clause-ok g c =
     (Ends-held job old (held_out g.W.Sink.contents c.end_line.new.self) _ _ c.args.rest.now _ _ (ap g.L.Sink.contents c.in-Ok.ensures.log)
     c.in-Ok.ensures.tally cut.2) lines.2)
     (Answered-begun job _ _ _ _ begun.0 lines.0 (omega arith) begun.1 begun.2))
-    c.as_slice.ensures.bytes refl (sym c.clear-2.ensures)
+    c.as_slice.ensures.bytes refl (sym c.clear-2.ensures.items)
 
 pub returns-in_err-left-clause-err : goal.returns-in_err-left-clause-err
 returns-in_err-left-clause-err g c =
@@ -86,5 +86,5 @@ returns-in_err-rest-clause-err g c =
     (Ends-held job old (held_out g.W.Sink.contents c.end_line.new.self) _ _ c.args.rest.now _ _ (ap g.L.Sink.contents c.in-Ok.ensures.log)
     c.in-Ok.ensures.tally cut.2) lines.2)
     (Stops-long job _ _ left (lit< tt) lines.0
-    (left_fills c.as_slice.result.now left _ (EndsWith-then _ _ _ cut.1 lines.1) c.as_slice.ensures.room c.if-n-lt-LIMIT.false) q)))
+    (left_fills c.as_slice.result.now left _ (EndsWith-then _ _ _ cut.1 lines.1) c.as_slice.ensures.most c.if-n-lt-LIMIT.false) q)))
     c.in_err-rest.ensures.err)

@@ -3,7 +3,7 @@ use Rattle.restamp_stream.specs.declared.fate.Rest.TheVariants.{Absent}
 use Rattle.restamp_stream.specs.Streams.{State, Answered}
 use Rattle.restamp_stream.specs.Held.{job_at}
 use Rattle.restamp_stream.proofs.AnsweredLemmas.{Answered-line}
-use Rattle.restamp_stream.proofs.DidLemmas.{same_state}
+use Rattle.restamp_stream.proofs.ProcessedLemmas.{same_state}
 use Rattle.restamp_stream.proofs.LinesLemmas.{EndsWith-line, line_fits}
 use Rattle.restamp_stream.proofs.StoppedLemmas.{StoppedBy-map, Stops-then, Stops-line}
 use Rattle.restamp_stream.proofs.stream.Stream.answer_lines.Goals as goal

@@ -1,5 +1,6 @@
 use Rattle.std.proofs.Common.{refl}
-use Rattle.restamp_stream.proofs.AnsweredLemmas.{lines_of-text, held-none}
+use Rattle.byte_streams.proofs.LinesLemmas.{lines_of-last}
+use Rattle.restamp_stream.proofs.AnsweredLemmas.{held-none}
 use Rattle.restamp_stream.proofs.StoppedLemmas.{finished, finished-none, Stopped-last_settled}
 use Rattle.restamp_stream.specs.Held.{job_at}
 use Rattle.restamp_stream.proofs.stream.Stream.finish.Goals as goal
@@ -18,5 +19,5 @@ pub returns-in-Err-clause-err : goal.returns-in-Err-clause-err
 returns-in-Err-clause-err g c =
     Stopped-last_settled c.in-Err.stop (job_at _ _ c.args.file.now) _ _ _ _ _
     c.args.block.now.items (held-none _ _ _ _ c.requires.none)
-    (lines_of-text c.args.block.now.items (c.if-is_empty.ensures.some refl) c.requires.begun) c.as_slice.ensures.bytes c.as_slice.ensures.room
+    (lines_of-last c.args.block.now.items (c.if-is_empty.ensures.some refl) c.requires.begun) c.as_slice.ensures.bytes c.as_slice.ensures.most
     c.in-Err.ensures.err c.in-Ok.ensures.written

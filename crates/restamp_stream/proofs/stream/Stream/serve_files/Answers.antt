@@ -1,6 +1,6 @@
 use Rattle.std.proofs.Common.{rules, refl, Err, ◌≡◌, ◌∙◌, subst}
 use Rattle.restamp_stream.specs.Causes.{faults_of, IsCounted}
-use Rattle.restamp_stream.proofs.DidLemmas.{DidFiles-more, StoppedIn-at, if_refused}
+use Rattle.restamp_stream.proofs.ProcessedLemmas.{ProcessedFiles-more, StoppedIn-at, if_refused}
 use Rattle.restamp_stream.proofs.stream.Stream.serve_files.Goals as goal
 
 pub loop-name-init : goal.loop-name-init
@@ -9,7 +9,7 @@ loop-name-init g c = ((refl, refl), refl, refl)
 pub loop-name-preserved : goal.loop-name-preserved
 loop-name-preserved g c =
     let so_far = c.loop-name.invariant in (
-      DidFiles-more (g.T.Rewriting.is_fate c.args.rewriting.now) (g.T.Rewriting.is_reason c.args.rewriting.now) c.args.settings
+      ProcessedFiles-more (g.T.Rewriting.is_fate c.args.rewriting.now) (g.T.Rewriting.is_reason c.args.rewriting.now) c.args.settings
           (g.O.Opening.bytes_of c.args.opening.now) (λ name. name.now) _ _ _ _ _ _ c.args.names.now c.loop-name.name-index _ so_far.0
           (search rules) (rw so_far.1 at c.in_ok-serve_next.ensures.ok) c.in_ok-serve_next.ensures.later,
       c.in_ok-serve_next.ensures.same ∙ so_far.1,

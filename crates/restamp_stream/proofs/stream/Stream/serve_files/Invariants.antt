@@ -1,12 +1,12 @@
 -- The files before the index were answered.
 use Rattle.std.proofs.Common.{◌≡◌, take, map}
 use Rattle.restamp_stream.specs.Causes.{faults_of}
-use Rattle.restamp_stream.specs.Streams.{DidFiles, state_of}
+use Rattle.restamp_stream.specs.Streams.{ProcessedFiles, state_of}
 use Rattle.restamp_stream.proofs.stream.Stream.serve_files.Given as goal
 
 abbrev pub invariant-loop-name : goal.invariant-loop-name
 invariant-loop-name g l =
-    DidFiles (g.T.Rewriting.is_fate l.rewriting) (g.T.Rewriting.is_reason l.rewriting) l.settings (g.O.Opening.bytes_of l.initial.opening)
+    ProcessedFiles (g.T.Rewriting.is_fate l.rewriting) (g.T.Rewriting.is_reason l.rewriting) l.settings (g.O.Opening.bytes_of l.initial.opening)
     (g.O.Opening.faults l.initial.opening) (g.O.Opening.faults l.opening)
     (state_of g.W.Sink.contents g.L.Sink.contents l.initial.self) (state_of g.W.Sink.contents g.L.Sink.contents l.self)
     (map (λ name. name.now) (take l.name-index l.names))

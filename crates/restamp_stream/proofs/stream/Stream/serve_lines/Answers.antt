@@ -1,6 +1,6 @@
 use Rattle.std.proofs.Common.{ℕ, ◌+◌, ◌-◌, ◌^◌, ◌≤◌, inl, inr, refl, sym, subst, ◌∙◌, arith, lit<, ◌≡◌, Err, rules}
-use Rattle.programs_streams.specs.Faults.{Rises, IsCutOff}
-use Rattle.restamp_stream.specs.Causes.{HasCome, faults_of, HasWriteCause, IsCounted}
+use Rattle.byte_streams.specs.Faults.{Rises, IsCutOff, HasCome}
+use Rattle.restamp_stream.specs.Causes.{faults_of, HasWriteCause, IsCounted}
 use Rattle.restamp_stream.specs.Held.{HaveCome, job_at}
 use Rattle.restamp_stream.proofs.StoppedLemmas.{Served-none, Served-more, Served-all, Served-stopped, Served-stopped_at_end, IsHeld-short, HasNoLf-same}
 use Rattle.restamp_stream.proofs.stream.Stream.serve_lines.Goals as goal
@@ -31,13 +31,15 @@ HaveCome-end turns f0 f1 given all (inl p) = inr (omega (arith, all, p.1))
 HaveCome-end turns f0 f1 given all (inr p) = inl p
 
 pub loop-turn-init : goal.loop-turn-init
-loop-turn-init g c = (Served-none (job_at _ _ c.args.file.now) _ _ _ (lit< tt) c.requires.block, c.requires.waiting, refl, HaveCome-none _ _)
+loop-turn-init g c = (Served-none (job_at _ _ c.args.file.now) _ _ _ (lit< tt) c.requires.block, c.requires.buffer, refl, HaveCome-none _ _)
 
 pub fill-requires : goal.fill-requires
-fill-requires g c =
-    IsHeld-short
-    (job_at (g.T.Rewriting.is_fate c.args.rewriting.now) (g.T.Rewriting.is_reason c.args.rewriting.now) c.args.file.now)
-    c.loop-turn.rest c.loop-turn.block.items (lit< tt) c.loop-turn.invariant.0.kept
+fill-requires g c = (
+  lit< tt,
+  IsHeld-short
+      (job_at (g.T.Rewriting.is_fate c.args.rewriting.now) (g.T.Rewriting.is_reason c.args.rewriting.now) c.args.file.now)
+      c.loop-turn.rest c.loop-turn.block.items (lit< tt) c.loop-turn.invariant.0.kept,
+)
 
 pub finish-requires-clause-begun : goal.finish-requires-clause-begun
 finish-requires-clause-begun g c =

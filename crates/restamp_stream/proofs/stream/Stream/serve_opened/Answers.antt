@@ -1,5 +1,5 @@
 use Rattle.restamp_stream.specs.Streams.{job_of}
-use Rattle.restamp_stream.proofs.DidLemmas.{cut_off}
+use Rattle.restamp_stream.proofs.ProcessedLemmas.{cut_off}
 use Rattle.restamp_stream.proofs.stream.Stream.serve_opened.Goals as goal
 
 pub returns-clause-unread : goal.returns-clause-unread

@@ -1,11 +1,11 @@
 use Rattle.std.proofs.Common.{◌≤◌, ◌-◌, length}
 use Rattle.time_values.specs.Calendar.{greatest_year}
-use Rattle.restamp_verdict.specs.Job.{SaysNoneBefore}
+use Rattle.restamp_verdict.specs.Job.{MatchesNoneBefore}
 use Rattle.restamp_verdict.proofs.job.Job.find_first.Given as goal
 
--- from none of the bytes before this one on a moment is said
+-- the line has no match from any byte before this one on
 abbrev pub invariant-loop-start : goal.invariant-loop-start
-invariant-loop-start l = (l.start ≤ length l.line) × SaysNoneBefore greatest_year l.self l.line l.start
+invariant-loop-start l = (l.start ≤ length l.line) × MatchesNoneBefore greatest_year l.self l.line l.start
 
 abbrev pub decreases-loop-start : goal.decreases-loop-start
 decreases-loop-start l = length l.line - l.start

@@ -1,7 +1,7 @@
 use Rattle.std.proofs.Common.{refl, sym, ◌∙◌, Ok, Err}
 use Rattle.time_values.specs.Refusal.{refusal_of}
 use Rattle.restamp_place.specs.Cuts.{span_of}
-use Rattle.restamp_verdict.proofs.SayingLemmas.{on_some}
+use Rattle.restamp_verdict.proofs.ParseLemmas.{on_some}
 use Rattle.restamp_verdict.proofs.job.Job.find_suffix.Goals as goal
 
 pub returns-in-Ok : goal.returns-in-Ok

@@ -1,6 +1,6 @@
 use Rattle.std.proofs.Common.{Some}
 use Rattle.time_values.specs.Calendar.{greatest_year}
-use Rattle.restamp_verdict.proofs.SayingLemmas.{alone-here, alone-later}
+use Rattle.restamp_verdict.proofs.ParseLemmas.{alone-here, alone-later}
 use Rattle.restamp_verdict.proofs.job.Job.read_others.Goals as goal
 
 pub returns-in-Some-clause-said : goal.returns-in-Some-clause-said

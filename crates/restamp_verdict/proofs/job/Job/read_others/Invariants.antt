@@ -2,12 +2,12 @@ use Rattle.std.proofs.Common.{drop}
 use Rattle.std.specs.Prelude.{Option}
 use Rattle.time_values.specs.Calendar.{greatest_year}
 use Rattle.restamp_verdict.specs.Job.{AreTriedAlone}
-use Rattle.restamp_verdict.specs.declared.reading.Said.{Said}
+use Rattle.restamp_verdict.specs.declared.reading.Match.{Match}
 use Rattle.restamp_verdict.proofs.job.Job.read_others.Given as goal
 
--- what the formats that are left answer, all of them answer
+-- the result of the remaining formats is that of all of them
 abbrev pub invariant-loop-reading : goal.invariant-loop-reading
 invariant-loop-reading l =
-    (result : Option Said)
+    (result : Option Match)
     → AreTriedAlone greatest_year l.self l.line l.start (drop l.reading-index l.self.others.now) result
     → AreTriedAlone greatest_year l.self l.line l.start l.self.others.now result

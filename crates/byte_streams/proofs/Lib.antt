@@ -1,0 +1,3 @@
+pub mod BufferLemmas
+pub mod LinesLemmas
+mod StandardFacts

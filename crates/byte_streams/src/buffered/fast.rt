@@ -1,0 +1,112 @@
+//! Spliced bytes, appended at once where there is room.
+ghost use Rattle.std.specs.Prelude.{◌≡◌, ◌+◌, ◌≤◌, ◌++◌, length, take, drop, MatchOption};
+
+use super::CAPACITY;
+use crate::buffer::ArrayBuf;
+
+// Puts N to 2 N bytes from that place on, in two halves that may overlap: no call copies them.
+#[inline(always)]
+fn put_halves<const N: usize>(array: &mut [u8; CAPACITY], at: usize, bytes: &[u8])
+    requires least { N ≤ length bytes.now }
+    requires most { length bytes.now ≤ N + N }
+    requires room { at + length bytes.now ≤ CAPACITY }
+    ensures { take (at + length bytes.now) array.new ≡ take at array.old ++ bytes.now }
+{
+    let behind = bytes.len() - N;
+    let middle = at + behind;
+    array[at..at + N].copy_from_slice(&bytes[..N]);
+    array[middle..middle + N].copy_from_slice(&bytes[behind..]);
+}
+
+// Puts bytes from that place on.
+#[inline(always)]
+fn put_all(array: &mut [u8; CAPACITY], at: usize, bytes: &[u8])
+    requires { at + length bytes.now ≤ CAPACITY }
+    ensures { take (at + length bytes.now) array.new ≡ take at array.old ++ bytes.now }
+{
+    if bytes.is_empty() {
+        return;
+    }
+    array[at..at + bytes.len()].copy_from_slice(bytes);
+}
+
+// Puts a block from that place on, of which so many bytes count.
+#[inline(always)]
+fn put_block<const N: usize>(array: &mut [u8; CAPACITY], at: usize, block: [u8; N], count: usize)
+    requires few { count ≤ N }
+    requires room { at + N ≤ CAPACITY }
+    ensures { take (at + count) array.new ≡ take at array.old ++ take count block.entry }
+{
+    array[at..at + N].copy_from_slice(&block);
+}
+
+// Puts the first bytes from that place on. No call copies a few of them: a whole block is put, and what comes next overwrites
+// those that are too many.
+#[inline(always)]
+fn put_first(array: &mut [u8; CAPACITY], at: usize, bytes: &[u8], count: usize)
+    requires within { count ≤ length bytes.now }
+    requires room { at + length bytes.now ≤ CAPACITY }
+    ensures { take (at + count) array.new ≡ take at array.old ++ take count bytes.now }
+{
+    if count == 0 {
+        return;
+    }
+    if count <= 32 {
+        if let Some(block) = bytes.first_chunk::<32>() {
+            return put_block(array, at, *block, count);
+        }
+    }
+    array[at..at + count].copy_from_slice(&bytes[..count]);
+}
+
+// Puts a text that has fewer than 16 bytes or more than 32.
+#[inline(always)]
+fn put_rare(array: &mut [u8; CAPACITY], at: usize, bytes: &[u8])
+    requires { at + length bytes.now ≤ CAPACITY }
+    ensures { take (at + length bytes.now) array.new ≡ take at array.old ++ bytes.now }
+{
+    match bytes.len() {
+        8..=15 => put_halves::<8>(array, at, bytes),
+        _ => put_all(array, at, bytes),
+    }
+}
+
+// Puts a text, most often of a time.
+#[inline(always)]
+fn put_text(array: &mut [u8; CAPACITY], at: usize, bytes: &[u8])
+    requires { at + length bytes.now ≤ CAPACITY }
+    ensures { take (at + length bytes.now) array.new ≡ take at array.old ++ bytes.now }
+{
+    match bytes.len() {
+        16..=32 => put_halves::<16>(array, at, bytes),
+        _ => put_rare(array, at, bytes),
+    }
+}
+
+/// Appends bytes with a text in place of those from `begin` to before `end`, if all bytes of both fit.
+#[inline(always)]
+pub(super) fn splice(
+    buffer: &mut ArrayBuf<CAPACITY>,
+    bytes: &[u8],
+    begin: usize,
+    end: usize,
+    text: &[u8],
+) -> Option<()>
+    requires order { begin ≤ end }
+    requires within { end ≤ length bytes.now }
+    ensures { MatchOption result (buffer.new ≡ buffer.old)
+        (λ _. buffer.new.items ≡ buffer.old.items ++ (take begin bytes.now ++ (text.now ++ drop end bytes.now))) }
+{
+    let at = buffer.end;
+    let room = CAPACITY - at;
+    if room < bytes.len() || room - bytes.len() < text.len() {
+        return None;
+    }
+    let middle = at + begin;
+    let behind = middle + text.len();
+    put_first(&mut buffer.array, at, bytes, begin);
+    put_text(&mut buffer.array, middle, text);
+    put_all(&mut buffer.array, behind, &bytes[end..]);
+    buffer.end = behind + (bytes.len() - end);
+    Some(())
+}

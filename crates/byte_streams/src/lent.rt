@@ -1,0 +1,93 @@
+//! A writer of std that is lent, whose errors are counted.
+ghost use Rattle.std.specs.Prelude.{◌≡◌, None, IfSome};
+ghost use Rattle.byte_streams.specs.Faults.{Rises};
+
+use crate::sink::{Sink, Unwritten};
+use std::fmt::Display;
+use std::io;
+use std::io::{ErrorKind, Write};
+
+/// A writer of std that is lent. As [`Counted`](crate::Counted) it counts the calls that gave an error, and keeps the last
+/// one. Its owner has what was written to it.
+#[derive(Drop)]
+pub struct Lent<'a, W> {
+    inner: &'a mut W,
+    faults: u64,
+    error: Option<io::Error>,
+}
+
+impl<'a, W> Lent<'a, W> {
+    /// The same writer, of which no call has failed yet.
+    pub fn new(inner: &'a mut W) -> Lent<'a, W>
+        ensures inner { result.inner.now ≡ inner.old }
+        ensures through { result.inner.ghost_name ≡ inner.entry.ghost_name }
+        ensures faults { result.faults ≡ 0 }
+        ensures error { result.error ≡ None }
+    {
+        Lent {
+            inner,
+            faults: 0,
+            error: None,
+        }
+    }
+
+    /// The last error of a write or a flush, or one of the kind `Other` where none failed.
+    pub fn into_error(self) -> io::Error
+        ensures { IfSome self.entry.error (λ error. result ≡ error) }
+    {
+        let Lent {
+            inner: _,
+            faults: _,
+            error,
+        } = self;
+        match error {
+            Some(error) => error,
+            None => io::Error::from(ErrorKind::Other),
+        }
+    }
+
+    // Counts a call that gave an error, and keeps the error.
+    #[cold]
+    #[inline(never)]
+    fn fail(&mut self, error: io::Error) -> Unwritten
+        ensures inner { self.new.inner.now ≡ self.old.inner.now }
+        ensures through { self.new.inner.ghost_name ≡ self.old.inner.ghost_name }
+        ensures faults { Rises self.old.faults self.new.faults }
+    {
+        self.faults = self.faults.saturating_add(1);
+        self.error = Some(error);
+        Unwritten
+    }
+}
+
+impl<W: Write> Sink for Lent<'_, W> {
+    ghost contents = { λ lent. W.contents lent.inner.now };
+
+    ghost faults = { λ lent. lent.faults };
+
+    ghost through = { λ lent. lent.inner.ghost_name };
+
+    fn write_all(&mut self, bytes: &[u8]) -> Result<(), Unwritten> {
+        match self.inner.write_all(bytes) {
+            Ok(()) => Ok(()),
+            Err(error) => Err(self.fail(error)),
+        }
+    }
+
+    fn write_fmt<D: Display>(&mut self, text: D) -> Result<(), Unwritten>
+    where
+        D: Drop,
+    {
+        match self.inner.write_fmt(text) {
+            Ok(()) => Ok(()),
+            Err(error) => Err(self.fail(error)),
+        }
+    }
+
+    fn flush(&mut self) -> Result<(), Unwritten> {
+        match self.inner.flush() {
+            Ok(()) => Ok(()),
+            Err(error) => Err(self.fail(error)),
+        }
+    }
+}

@@ -1,0 +1,34 @@
+-- Results with an error that is kept of a reason.
+use Rattle.std.proofs.Common.{◌≡◌, Ok, Err, subst, sym}
+use Rattle.std.specs.Prelude.{Result}
+use Rattle.time_values.specs.Shown.{Items}
+use Rattle.restamp_verdict.specs.Job.{GivesVerdict, Verdict, without, rewritten, dropped, refused}
+use Rattle.restamp_verdict.specs.Reason.{Gives, Reason, Stores, erased_read, seen}
+use Rattle.restamp_verdict.specs.declared.job.Verdict as declared
+use Rattle.restamp_verdict.specs.declared.reading.Match.{Match}
+use Rattle.restamp_verdict.specs.declared.reason.Reason.{Reason as Whole}
+use Rattle.restamp_verdict.specs.declared.job.Verdict.TheVariants as variant
+
+-- A weaker relation holds of a result where a stronger one does.
+pub gives_so : {V E : Type 0} (IsOf : Reason → E → Type 0) {P Q : Result V Reason → Type 0} (result : Result V E)
+    → ((given : Result V Reason) → P given → Q given) → Gives IsOf P result → Gives IsOf Q result
+gives_so IsOf (Ok v) f p = f (Ok v) p
+gives_so IsOf (Err e) f p = (p.0, p.1, f (Err p.0) p.2)
+
+pub stores_so : {U E : Type 0} (IsOf : Reason → E → Type 0) {P Q : Result Items Reason → Type 0} (result : Result U E) (text : Items)
+    → ((given : Result Items Reason) → P given → Q given) → Stores IsOf P result text → Stores IsOf Q result text
+stores_so IsOf (Ok u) text f p = f (Ok text) p
+stores_so IsOf (Err e) text f p = (p.0, p.1, f (Err p.0) p.2)
+
+pub verdict_so : {E : Type 0} (IsOf : Reason → E → Type 0) {P Q : Verdict → Type 0} (result : declared.Verdict E) (text : Items)
+    → ((given : Verdict) → P given → Q given) → GivesVerdict IsOf P result text → GivesVerdict IsOf Q result text
+verdict_so IsOf variant.Without text f p = f without p
+verdict_so IsOf (variant.Rewritten start length) text f p = f (rewritten start length text.items) p
+verdict_so IsOf variant.Dropped text f p = f dropped p
+verdict_so IsOf (variant.Refused column e) text f p = (p.0, p.1, f (refused column p.0) p.2)
+
+-- Where all of a reason is kept, the relation holds of the result with its reason erased.
+pub of_reason : (P : Result Match Reason → Type 0) (result : Result Match Whole)
+    → Gives (λ reason kept. seen kept ≡ reason) P result → P (erased_read result)
+of_reason P (Ok found) p = p
+of_reason P (Err e) p = subst (λ (why : Reason). P (Err why)) (sym p.1) p.2
